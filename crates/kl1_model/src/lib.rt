@@ -1,0 +1,6 @@
+//! The definitions that every promise of the server speaks of.
+#![tactic(auto)]
+
+mod built_in;
+
+pub use built_in::BuiltIn;
