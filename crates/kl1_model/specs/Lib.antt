@@ -2,3 +2,11 @@ pub mod Text
 pub mod Name
 pub mod Term
 pub mod Unify
+pub mod Print
+pub mod Token
+pub mod Grammar
+pub mod Reader
+pub mod Numbering
+pub mod Meaning
+pub mod Goal
+pub mod Module

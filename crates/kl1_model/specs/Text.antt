@@ -1,5 +1,5 @@
 -- Names: their bytes, and the names that are built in.
-use Rattle.std.specs.Prelude.{ℕ, nat_le, ◌&&◌, Bool, true, false, List, [], ◌∷◌, length, codes, bytes_eq}
+use Rattle.std.specs.Prelude.{ℕ, nat_le, ◌&&◌, Bool, List, [], ◌∷◌, length, codes, bytes_eq}
 use Rattle.std.specs.List.{list_all, list_any}
 use Rattle.kl1_model.specs.declared.built_in.BuiltIn.{BuiltIn}
 use Rattle.kl1_model.specs.declared.built_in.BuiltIn.TheVariants.{EmptyList, ListCell, Colon, Equal, NotEqual, Assign, Less, Greater, AtMost, AtLeast, SameNumber, OtherNumber, Plus, Minus, Times, Divide, Modulo, True, Otherwise, Wait, Integer, Atom, ListTest, AtomFrom, Shoen, Execute, Module, Priority, Started, Stopped, Resumed, Exhausted, Exception, Terminated, Aborted, Failure, Overflow, IllegalInput, Exhaustion, Stop, Start, Abort, Allow}

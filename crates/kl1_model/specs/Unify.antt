@@ -1,7 +1,7 @@
 -- Unification: equations between terms, and the replacements that make their sides equal.
 use Rattle.std.specs.Prelude.{ℕ, zero, suc, ◌+◌, nat_lt, ◌==◌, ◌&&◌, if◌then◌else◌, List, [], ◌∷◌, Option, Some, None, option_map, map, bytes_eq}
 use Rattle.std.specs.Ordering.{int_eq}
-use Rattle.kl1_model.specs.Term.{Term, variable, integer, atom, structure, Terms, none, more, size, count_of, occurs, replace, Replacement}
+use Rattle.kl1_model.specs.Term.{Term, variable, integer, atom, structure, Terms, more, size, count_of, occurs, replace, Replacement}
 
 -- two terms that are to become equal
 pub record Equation : Type 0 where

@@ -2,5 +2,9 @@
 #![tactic(auto)]
 
 mod built_in;
+mod pair_form;
+mod sign;
 
 pub use built_in::BuiltIn;
+pub use pair_form::PairForm;
+pub use sign::Sign;

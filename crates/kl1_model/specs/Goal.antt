@@ -1,0 +1,68 @@
+-- Which terms are goals, heads and tests.
+use Rattle.std.specs.Prelude.{ℕ, ◌==◌, not, ◌&&◌, ◌||◌, Bool, true, false, if◌then◌else◌, List, [], ◌∷◌, codes, bytes_eq, Option, Some, None}
+use Rattle.std.specs.List.{list_any}
+use Rattle.kl1_model.specs.declared.built_in.BuiltIn.{BuiltIn}
+use Rattle.kl1_model.specs.declared.built_in.BuiltIn.TheVariants.{EmptyList, ListCell, Colon, Equal, NotEqual, Assign, Less, Greater, AtMost, AtLeast, SameNumber, OtherNumber, Plus, Minus, Times, Divide, Modulo}
+use Rattle.kl1_model.specs.Text.{text_of}
+use Rattle.kl1_model.specs.Term.{Term, atom, structure, none, more, count_of}
+use Rattle.kl1_model.specs.Meaning.{pair}
+
+-- the texts that no head and no unqualified goal has for a name: the operators, `:`, `.` and `[]`
+abbrev pub reserved_names : List BuiltIn
+reserved_names = Equal ∷ NotEqual ∷ Assign ∷ Less ∷ Greater ∷ AtMost ∷ AtLeast ∷ SameNumber ∷ OtherNumber ∷ Plus ∷ Minus ∷ Times ∷ Divide ∷ Modulo ∷ Colon ∷ ListCell ∷ EmptyList ∷ []
+
+abbrev pub is_reserved : List ℕ → Bool
+is_reserved p = list_any (λ b. bytes_eq p (text_of b)) reserved_names
+
+-- a name with so many arguments
+abbrev pub is_called : List ℕ → ℕ → List ℕ → ℕ → Bool
+is_called name count p n = bytes_eq p name && n == count
+
+-- `atom_from` with two arguments, a built-in goal that comes later
+abbrev pub is_atom_from : List ℕ → ℕ → Bool
+is_atom_from p n = is_called (codes "atom_from") 2 p n
+
+-- a head: its name isn't reserved, and it is neither `true` nor `otherwise` alone nor `atom_from` with two arguments
+abbrev pub is_head : Term → Bool
+is_head (atom p) = not (is_reserved p) && not (bytes_eq p (codes "true")) && not (bytes_eq p (codes "otherwise"))
+is_head (structure p ts) = not (is_reserved p) && not (is_atom_from p (count_of ts))
+is_head _ = false
+
+-- a built-in goal: `true`, or a unification of two terms
+abbrev pub is_built_in_goal : Term → Bool
+is_built_in_goal (atom a) = bytes_eq a (codes "true")
+is_built_in_goal (structure f ts) = is_called (codes "=") 2 f (count_of ts)
+is_built_in_goal _ = false
+
+-- what a module's name may stand before: an atom or a structure
+abbrev pub is_callee : Term → Bool
+is_callee (atom p) = true
+is_callee (structure p ts) = true
+is_callee _ = false
+
+-- `shoen:execute` with six arguments, a built-in goal that comes later
+abbrev pub is_execute : List ℕ → Term → Bool
+is_execute m (structure p ts) = bytes_eq m (codes "shoen") && is_called (codes "execute") 6 p (count_of ts)
+is_execute m _ = false
+
+-- a goal of a module that it names
+abbrev pub is_qualified_goal : Term → Bool
+is_qualified_goal (structure f (more (atom m) (more b none))) = bytes_eq f (codes ":") && is_callee b && not (is_execute m b)
+is_qualified_goal _ = false
+
+-- a goal of the module in which it stands
+abbrev pub is_unqualified_goal : Term → Bool
+is_unqualified_goal t = is_head t
+
+-- a goal that stands for itself wherever it is: a built-in goal, or one that names its module
+abbrev pub is_goal : Term → Bool
+is_goal t = is_built_in_goal t || is_qualified_goal t
+
+-- a test: `true` alone in this stage
+abbrev pub is_test : Term → Bool
+is_test (atom a) = bytes_eq a (codes "true")
+is_test _ = false
+
+-- a goal as it stands in the body of a clause of this module, with the module's name where it names none
+abbrev pub body_goal : List ℕ → Term → Option Term
+body_goal m t = if is_goal t then Some t else if is_unqualified_goal t then Some (pair (codes ":") (atom m) t) else None
