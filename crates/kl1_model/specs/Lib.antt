@@ -10,3 +10,10 @@ pub mod Numbering
 pub mod Meaning
 pub mod Goal
 pub mod Module
+pub mod Match
+pub mod Instance
+pub mod State
+pub mod Step
+pub mod Choice
+pub mod Command
+pub mod Script

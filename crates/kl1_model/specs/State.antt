@@ -1,0 +1,133 @@
+-- The state of an account.
+use Rattle.std.specs.Prelude.{ℕ, ◌==◌, not, ◌||◌, Bool, if◌then◌else◌, List, [], ◌∷◌, ◌++◌, map, filter, find, bytes_eq, Option, option_map}
+use Rattle.std.specs.List.{list_any}
+use Rattle.kl1_model.specs.Text.{is_built_in}
+use Rattle.kl1_model.specs.Term.{Term, variable, integer, atom, structure, Terms, none, more, replace, Replacement}
+use Rattle.kl1_model.specs.Module.{Clause, Module}
+
+-- what a goal does: it reads its shoen's control stream, or it is a term to be reduced
+pub data Task : Type 0 where
+  monitor : Task
+  reduces : Term → Task
+
+-- a goal: its number, its task, the number of its shoen, and its priority
+pub record Goal : Type 0 where
+  pub number : ℕ
+  pub task : Task
+  pub shoen : ℕ
+  pub priority : ℕ
+
+-- whether a shoen lives or has ended
+pub data Life : Type 0 where
+  living : Life
+  terminated : Life
+
+-- what the console keeps of a shoen that it started: the goal as started, the report stream from its beginning,
+-- and the tail of the control stream
+pub record Origin : Type 0 where
+  pub goal : Term
+  pub reports : Term
+  pub control : Term
+
+-- a shoen: its number, whether it lives, the reductions that it may be charged, its priorities from low to high,
+-- what is left of its control stream, the tail of its report stream, whether that stream is broken, and its origin at the console
+pub record Shoen : Type 0 where
+  pub number : ℕ
+  pub life : Life
+  pub allowance : ℕ
+  pub low : ℕ
+  pub high : ℕ
+  pub control : Term
+  pub tail : Term
+  pub is_broken : Bool
+  pub origin : Option Origin
+
+-- an account: its own name; its goals, shoens and modules, each by number or in order of loading; the names it has used,
+-- in order of first use; the last number of a variable, a goal and a shoen; and how many entries its journal has
+pub record State : Type 0 where
+  pub own_name : List ℕ
+  pub goals : List Goal
+  pub shoens : List Shoen
+  pub modules : List Module
+  pub names : List (List ℕ)
+  pub last_variable : ℕ
+  pub last_goal : ℕ
+  pub last_shoen : ℕ
+  pub entries : ℕ
+
+-- an account of this name in which nothing has happened
+abbrev pub fresh : List ℕ → State
+fresh name = record { own_name = name; goals = []; shoens = []; modules = []; names = []; last_variable = 0; last_goal = 0; last_shoen = 0; entries = 0 }
+
+-- the goal, and the shoen, of a number
+abbrev pub goal_at : ℕ → List Goal → Option Goal
+goal_at n goals = find (λ g. g.number == n) goals
+
+abbrev pub shoen_at : ℕ → List Shoen → Option Shoen
+shoen_at n shoens = find (λ h. h.number == n) shoens
+
+-- one variable replaced everywhere
+abbrev pub replace_in_task : ℕ → Term → Task → Task
+replace_in_task v t monitor = monitor
+replace_in_task v t (reduces u) = reduces (replace v t u)
+
+abbrev pub replace_in_goal : ℕ → Term → Goal → Goal
+replace_in_goal v t g = record g { task = replace_in_task v t g.task }
+
+abbrev pub replace_in_origin : ℕ → Term → Origin → Origin
+replace_in_origin v t o = record { goal = replace v t o.goal; reports = replace v t o.reports; control = replace v t o.control }
+
+abbrev pub replace_in_shoen : ℕ → Term → Shoen → Shoen
+replace_in_shoen v t h = record h { control = replace v t h.control; tail = replace v t h.tail; origin = option_map (replace_in_origin v t) h.origin }
+
+abbrev pub replace_in_state : ℕ → Term → State → State
+replace_in_state v t s = record s { goals = map (replace_in_goal v t) s.goals; shoens = map (replace_in_shoen v t) s.shoens }
+
+-- replacements everywhere, the first of them first
+abbrev pub replace_all : List Replacement → State → State
+replace_all [] s = s
+replace_all (r ∷ rs) s = replace_all rs (replace_in_state r.number r.by s)
+
+-- a shoen changed, and all others as they are
+abbrev pub change_shoen : ℕ → (Shoen → Shoen) → State → State
+change_shoen n change s = record s { shoens = map (λ h. if h.number == n then change h else h) s.shoens }
+
+-- without the goal of a number
+abbrev pub without_goal : ℕ → State → State
+without_goal n s = record s { goals = filter (λ g. not (g.number == n)) s.goals }
+
+-- the names of a term as they stand in its text
+abbrev mutual
+  pub names_of : Term → List (List ℕ)
+  names_of (variable n) = []
+  names_of (integer i) = []
+  names_of (atom a) = a ∷ []
+  names_of (structure f ts) = f ∷ names_in ts
+
+  pub names_in : Terms → List (List ℕ)
+  names_in none = []
+  names_in (more t ts) = names_of t ++ names_in ts
+
+abbrev pub names_of_all : List Term → List (List ℕ)
+names_of_all [] = []
+names_of_all (t ∷ ts) = names_of t ++ names_of_all ts
+
+-- the names of a clause as they stand in its text
+abbrev pub names_of_clause : Clause → List (List ℕ)
+names_of_clause c = c.name ∷ names_in c.patterns ++ names_of_all c.tests ++ names_of_all c.body
+
+abbrev pub names_of_clauses : List Clause → List (List ℕ)
+names_of_clauses [] = []
+names_of_clauses (c ∷ cs) = names_of_clause c ++ names_of_clauses cs
+
+-- the names of a module as they stand in its source
+abbrev pub names_of_module : Module → List (List ℕ)
+names_of_module m = m.name ∷ names_of_clauses m.clauses
+
+-- names used so far, with one more where it is new and not built in
+abbrev pub with_name : List (List ℕ) → List ℕ → List (List ℕ)
+with_name names a = if is_built_in a || list_any (bytes_eq a) names then names else names ++ a ∷ []
+
+abbrev pub with_names : List (List ℕ) → List (List ℕ) → List (List ℕ)
+with_names names [] = names
+with_names names (a ∷ others) = with_names (with_name names a) others
