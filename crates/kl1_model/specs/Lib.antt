@@ -17,3 +17,4 @@ pub mod Step
 pub mod Choice
 pub mod Command
 pub mod Script
+pub mod Examples
