@@ -1,0 +1,5 @@
+pub mod TermFacts
+pub mod Substitutions
+pub mod UnifyFront
+pub mod Occurrences
+pub mod UnifyRule

@@ -1,3 +1,4 @@
 pub mod Text
 pub mod Term
 pub mod Unify
+pub mod UnifyLaws
