@@ -3,3 +3,6 @@ pub mod Substitutions
 pub mod UnifyFront
 pub mod Occurrences
 pub mod UnifyRule
+pub mod EqualSides
+pub mod UnifySound
+pub mod UnifySolution

@@ -1,5 +1,5 @@
 -- Facts about terms: when two are the same, and what occurs after a replacement.
-use Rattle.std.proofs.Common.{◌≡◌, ℕ, ◌==◌, true, false, refl, sym, ap, ap₂, eqb-true, eq-eqb}
+use Rattle.std.proofs.Common.{Decides, subst, ◌≡◌, ℕ, ◌==◌, true, false, refl, sym, ap, ap₂, eqb-true, eq-eqb}
 use Rattle.std.proofs.lemmas.Bool.{false≢true, and_parts, and_from, or_parts, or_from, eqb-false, ne_eqb, cond_both}
 use Rattle.std.proofs.lemmas.Bool.Decides.{Decides-int_eq}
 use Rattle.std.proofs.lemmas.Slice.Eq.{bytes_eq-Decides}
@@ -74,3 +74,7 @@ mutual
   replace_each-absent v u (more t ts) h =
       let p = or_parts (occurs v t) (occurs_in v ts) h in
       ap₂ more (replace-absent v u t p.0) (replace_each-absent v u ts p.1)
+
+-- two terms are the same where they are equal
+pub same_term_decides : (t u : Term) → Decides (same_term t u) (t ≡ u)
+same_term_decides t u = (same_term-true t u, λ e. subst (λ x. same_term t x ≡ true) e (same_term-self t))

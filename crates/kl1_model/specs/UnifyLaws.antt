@@ -1,7 +1,7 @@
 -- What holds of unification, on its definition alone.
-use Rattle.std.specs.Prelude.{◌≡◌, ℕ, ◌<◌, ◌≤◌, List, [], ◌∷◌, Some, ⊤}
+use Rattle.std.specs.Prelude.{◌≡◌, ℕ, ◌<◌, ◌≤◌, ◌≢◌, IsTrue, IsFalse, Decides, List, [], ◌∷◌, Some, None, ⊤}
 use Rattle.std.specs.List.{AllByRecursion}
-use Rattle.kl1_model.specs.Term.{Term, variable, integer, atom, structure, Terms, none, more}
+use Rattle.kl1_model.specs.Term.{Term, variable, integer, atom, structure, Terms, none, more, same_term, occurs, Replacement, replaced}
 use Rattle.kl1_model.specs.Unify.{Equation, Front, goes_on, fails, binds, front, after, replace_in_all, solve}
 
 -- all variables of a term are numbered at most so
@@ -58,3 +58,56 @@ FrontKeepsNumbers = (last : ℕ) (e : Equation) (es : List Equation) → AllNumb
 -- any bound on the numbers gives the same solution
 abbrev pub AnyBoundServes : Type 0
 AnyBoundServes = (last other : ℕ) (es : List Equation) → AllNumberedTo last es → AllNumberedTo other es → solve last es ≡ solve other es
+
+-- an equation in front with the same tree on both sides is dropped
+abbrev pub EqualSidesAreDropped : Type 0
+EqualSidesAreDropped = (last : ℕ) (e : Equation) (es : List Equation) → IsTrue (same_term e.left e.right) → AllNumberedTo last (e ∷ es) → solve last (e ∷ es) ≡ solve last es
+
+-- whether two terms are the same tree is whether they are equal
+abbrev pub SameTermDecides : Type 0
+SameTermDecides = (t u : Term) → Decides (same_term t u) (t ≡ u)
+
+-- a function on terms makes both sides of each equation equal
+abbrev pub MakesEqual : (Term → Term) → List Equation → Type 0
+MakesEqual f es = AllByRecursion (λ e. f e.left ≡ f e.right) es
+
+-- a solution makes both sides of each equation equal
+abbrev pub SolutionsMakeEqual : Type 0
+SolutionsMakeEqual = (last : ℕ) (es : List Equation) (rs : List Replacement) → solve last es ≡ Some rs → MakesEqual (replaced rs) es
+
+-- in a solution a variable is replaced by a lower one, or by a term that is none and has not the variable in it
+abbrev pub ReplacedByLower : Type 0
+ReplacedByLower = (last : ℕ) (es : List Equation) (rs : List Replacement) → solve last es ≡ Some rs → AllByRecursion (λ r. IsFalse (occurs r.number r.by) × IsLower r.number r.by) rs
+
+-- no number that is replaced is replaced or brought in again later
+abbrev pub NeverComeBack : List Replacement → Type 0
+NeverComeBack [] = ⊤
+NeverComeBack (r ∷ rs) = AllByRecursion (λ later. (later.number ≢ r.number) × IsFalse (occurs r.number later.by)) rs × NeverComeBack rs
+
+-- in a solution no number comes back
+abbrev pub ReplacedOnce : Type 0
+ReplacedOnce = (last : ℕ) (es : List Equation) (rs : List Replacement) → solve last es ≡ Some rs → NeverComeBack rs
+
+-- after a solution none of the numbers that it replaces occurs
+abbrev pub ReplacedAreGone : Type 0
+ReplacedAreGone = (last : ℕ) (es : List Equation) (rs : List Replacement) → solve last es ≡ Some rs → (t : Term) → AllByRecursion (λ r. IsFalse (occurs r.number (replaced rs t))) rs
+
+-- a solution has no higher numbers than the equations
+abbrev pub SolutionsKeepNumbers : Type 0
+SolutionsKeepNumbers = (last : ℕ) (es : List Equation) (rs : List Replacement) → AllNumberedTo last es → solve last es ≡ Some rs → AllByRecursion (λ r. (r.number ≤ last) × NumberedTo last r.by) rs
+
+-- where there is no solution, no terms in place of variables make both sides of each equation equal
+abbrev pub FailureLeavesNone : Type 0
+FailureLeavesNone = (last : ℕ) (es : List Equation) → AllNumberedTo last es → solve last es ≡ None → (s : ℕ → Term) → MakesEqual (substituted s) es → ⊥
+
+-- nor do any replacements
+abbrev pub FailureLeavesNoReplacements : Type 0
+FailureLeavesNoReplacements = (last : ℕ) (es : List Equation) → AllNumberedTo last es → solve last es ≡ None → (rs : List Replacement) → MakesEqual (replaced rs) es → ⊥
+
+-- whatever makes both sides of each equation equal is the same after a solution
+abbrev pub SolutionsAreMostGeneral : Type 0
+SolutionsAreMostGeneral = (last : ℕ) (es : List Equation) (rs : List Replacement) → solve last es ≡ Some rs → (s : ℕ → Term) → MakesEqual (substituted s) es → (t : Term) → substituted s (replaced rs t) ≡ substituted s t
+
+-- replacements too
+abbrev pub NoReplacementsAreMoreGeneral : Type 0
+NoReplacementsAreMoreGeneral = (last : ℕ) (es : List Equation) (rs others : List Replacement) → solve last es ≡ Some rs → MakesEqual (replaced others) es → (t : Term) → replaced others (replaced rs t) ≡ replaced others t

@@ -1,5 +1,5 @@
 //! Laws of unification.
-ghost use Rattle.kl1_model.specs.UnifyLaws.{NothingIsSolved, FrontDecides, FrontKeepsNumbers, AnyBoundServes};
+ghost use Rattle.kl1_model.specs.UnifyLaws.{NothingIsSolved, FrontDecides, FrontKeepsNumbers, AnyBoundServes, SameTermDecides, EqualSidesAreDropped, SolutionsMakeEqual, ReplacedByLower, ReplacedOnce, ReplacedAreGone, SolutionsKeepNumbers, SolutionsAreMostGeneral, NoReplacementsAreMoreGeneral};
 
 /// Equations are solved by what their front equation leads to, whatever the fuel; any bound on the numbers serves.
 pub fn unification_has_no_fuel()
@@ -7,4 +7,29 @@ pub fn unification_has_no_fuel()
     ensures front { FrontDecides }
     ensures numbers { FrontKeepsNumbers }
     ensures bound { AnyBoundServes }
+{}
+
+/// An equation in front whose sides are the same tree is dropped.
+pub fn equal_sides_are_dropped()
+    ensures same { SameTermDecides }
+    ensures dropped { EqualSidesAreDropped }
+{}
+
+/// A solution makes both sides of each equation equal.
+pub fn solutions_make_sides_equal()
+    ensures { SolutionsMakeEqual }
+{}
+
+/// A variable is replaced by a lower one or by a term that is none and is without it, once, and is gone then.
+pub fn replacements_are_orderly()
+    ensures lower { ReplacedByLower }
+    ensures once { ReplacedOnce }
+    ensures gone { ReplacedAreGone }
+    ensures numbers { SolutionsKeepNumbers }
+{}
+
+/// Whatever makes both sides of each equation equal is the same after a solution.
+pub fn solutions_are_most_general()
+    ensures substitutions { SolutionsAreMostGeneral }
+    ensures replacements { NoReplacementsAreMoreGeneral }
 {}
