@@ -6,3 +6,4 @@ pub mod UnifyRule
 pub mod EqualSides
 pub mod UnifySound
 pub mod UnifySolution
+pub mod UnifyFails

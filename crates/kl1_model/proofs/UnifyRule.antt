@@ -10,7 +10,7 @@ use Rattle.kl1_model.proofs.Occurrences.{equate, numbered-replace_in_all, number
 -- ---- how many variables occur
 
 -- whether a variable occurs in some equation
-abbrev occurs_among : List Equation → ℕ → Bool
+abbrev pub occurs_among : List Equation → ℕ → Bool
 occurs_among [] v = false
 occurs_among (e ∷ es) v = (occurs v e.left || occurs v e.right) || occurs_among es v
 
@@ -25,12 +25,12 @@ test_from_absent v [] h = refl
 test_from_absent v (e ∷ es) h = or_from (occurs v e.left || occurs v e.right) (occurs_among es v) (or_from (occurs v e.left) (occurs v e.right) h.0.0 h.0.1) (test_from_absent v es h.1)
 
 -- one for a test that passes
-abbrev one_if : Bool → ℕ
+abbrev pub one_if : Bool → ℕ
 one_if true = 1
 one_if false = 0
 
 -- how many numbers below a bound pass a test
-abbrev tally : (ℕ → Bool) → ℕ → ℕ
+abbrev pub tally : (ℕ → Bool) → ℕ → ℕ
 tally p zero = 0
 tally p (suc m) = one_if (p m) + tally p m
 
@@ -71,8 +71,12 @@ tally_less p q (suc m) w h l a b =
     (cases_eq w m)
 
 -- how many variables up to the last occur in equations
-abbrev variables_in : ℕ → List Equation → ℕ
+abbrev pub variables_in : ℕ → List Equation → ℕ
 variables_in last es = tally (occurs_among es) (suc last)
+
+-- at most one more than the last
+pub variables_most : (last : ℕ) (es : List Equation) → variables_in last es ≤ suc last
+variables_most last es = tally_most (occurs_among es) (suc last)
 
 -- the equations of arguments are no larger than the arguments
 size-arguments : (ts us : Terms) (es : List Equation) → equations_size (argument_equations ts us es) ≤ sizes ts + equations_size es
@@ -82,18 +86,18 @@ size-arguments _ _ es = omega arith
 -- ---- what the front equation leads to
 
 -- equations in place of others, with no new variables, and smaller
-record Shrinks (last : ℕ) (before next : List Equation) : Type 0 where
-  numbered : AllNumberedTo last next
-  variables : variables_in last next ≤ variables_in last before
-  smaller : equations_size next < equations_size before
+pub record Shrinks (last : ℕ) (before next : List Equation) : Type 0 where
+  pub numbered : AllNumberedTo last next
+  pub variables : variables_in last next ≤ variables_in last before
+  pub smaller : equations_size next < equations_size before
 
 -- equations in place of others, with fewer variables
-record Loses (last : ℕ) (before next : List Equation) : Type 0 where
-  numbered : AllNumberedTo last next
-  variables : variables_in last next < variables_in last before
+pub record Loses (last : ℕ) (before next : List Equation) : Type 0 where
+  pub numbered : AllNumberedTo last next
+  pub variables : variables_in last next < variables_in last before
 
 -- an equation less
-shrinks_same : (last : ℕ) (t : Term) (es : List Equation) → AllNumberedTo last (equate t t ∷ es) → Shrinks last (equate t t ∷ es) es
+pub shrinks_same : (last : ℕ) (t : Term) (es : List Equation) → AllNumberedTo last (equate t t ∷ es) → Shrinks last (equate t t ∷ es) es
 shrinks_same last t es h = record {
   numbered = h.1;
   variables = tally_fewer (occurs_among (equate t t ∷ es)) (occurs_among es) (suc last) (λ v k. test_from_absent v es ((absent_from_test v (equate t t ∷ es) k).1));
@@ -101,7 +105,7 @@ shrinks_same last t es h = record {
 }
 
 -- arguments in place of structures
-shrinks_arguments : (last : ℕ) (f : List ℕ) (ts us : Terms) (es : List Equation) → AllNumberedTo last (equate (structure f ts) (structure f us) ∷ es) → Shrinks last (equate (structure f ts) (structure f us) ∷ es) (argument_equations ts us es)
+pub shrinks_arguments : (last : ℕ) (f : List ℕ) (ts us : Terms) (es : List Equation) → AllNumberedTo last (equate (structure f ts) (structure f us) ∷ es) → Shrinks last (equate (structure f ts) (structure f us) ∷ es) (argument_equations ts us es)
 shrinks_arguments last f ts us es h =
     let before = equate (structure f ts) (structure f us) ∷ es in
     let s = size-arguments ts us es in
@@ -125,6 +129,12 @@ occurs_left v t es = or_left (occurs v (variable v) || occurs v t) (occurs_among
 occurs_right : (v : ℕ) (t : Term) (es : List Equation) → occurs_among (equate t (variable v) ∷ es) v ≡ true
 occurs_right v t es = or_left (occurs v t || occurs v (variable v)) (occurs_among es v) (or_right (occurs v t) (occurs v (variable v)) (eq-eqb v v refl))
 
+pub loses_left : (last v : ℕ) (t : Term) (es : List Equation) → occurs v t ≡ false → AllNumberedTo last (equate (variable v) t ∷ es) → Loses last (equate (variable v) t ∷ es) (replace_in_all v t es)
+loses_left last v t es o h = loses_bound last v t (equate (variable v) t ∷ es) es h.0.0 h.0.1 h.1 o (occurs_left v t es) (λ x a. (a.0.1, a.1))
+
+pub loses_right : (last v : ℕ) (t : Term) (es : List Equation) → occurs v t ≡ false → AllNumberedTo last (equate t (variable v) ∷ es) → Loses last (equate t (variable v) ∷ es) (replace_in_all v t es)
+loses_right last v t es o h = loses_bound last v t (equate t (variable v) ∷ es) es h.0.1 h.0.0 h.1 o (occurs_right v t es) (λ x a. (a.0.0, a.1))
+
 -- ---- fuel that is enough
 
 -- what is done after the front equation is the same where it is on equations that shrink, and on such as lose a variable
@@ -133,8 +143,8 @@ after_agrees last e es same same' next next' h shrinks loses =
     front_cases es (λ a b r. AllNumberedTo last (equate a b ∷ es) → ((to : List Equation) → Shrinks last (equate a b ∷ es) to → same to ≡ same' to) → ((to : List Equation) → Loses last (equate a b ∷ es) to → next to ≡ next' to) → after same next r ≡ after same' next' r)
     (λ t h s l. s es (shrinks_same last t es h))
     (λ f ts us n h s l. s (argument_equations ts us es) (shrinks_arguments last f ts us es h))
-    (λ v t o w h s l. ap (option_map (λ rest. record { number = v; by = t } ∷ rest)) (l (replace_in_all v t es) (loses_bound last v t (equate (variable v) t ∷ es) es h.0.0 h.0.1 h.1 o (occurs_left v t es) (λ x a. (a.0.1, a.1)))))
-    (λ v t o w h s l. ap (option_map (λ rest. record { number = v; by = t } ∷ rest)) (l (replace_in_all v t es) (loses_bound last v t (equate t (variable v) ∷ es) es h.0.1 h.0.0 h.1 o (occurs_right v t es) (λ x a. (a.0.0, a.1)))))
+    (λ v t o w h s l. ap (option_map (λ rest. record { number = v; by = t } ∷ rest)) (l (replace_in_all v t es) (loses_left last v t es o h)))
+    (λ v t o w h s l. ap (option_map (λ rest. record { number = v; by = t } ∷ rest)) (l (replace_in_all v t es) (loses_right last v t es o h)))
     (λ a b c h s l. refl)
     e.left e.right h shrinks loses
 
@@ -176,7 +186,7 @@ nothing_solved last = refl
 pub front_decides : FrontDecides
 unfolding solve_within walk
 front_decides last e es h =
-    let most = tally_most (occurs_among (e ∷ es)) (suc last) in
+    let most = variables_most last (e ∷ es) in
     after_agrees last e es (walk (solve_within (suc last)) (equations_size (e ∷ es))) (solve last) (solve_within (suc last)) (solve last) h
     (λ to s. walk_enough last (solve_within (suc last)) (equations_size (e ∷ es)) (suc (equations_size to)) to s.numbered s.smaller (omega arith))
     (λ to s. solve_enough last (suc last) (suc (suc last)) to s.numbered (let q = s.variables in omega arith) (let q = s.variables in omega arith))
@@ -195,8 +205,8 @@ front_numbered last e es h =
 -- any bound on the numbers gives the same solution
 pub any_bound_serves : AnyBoundServes
 any_bound_serves last other es h k =
-    let l = tally_most (occurs_among es) (suc last) in
-    let o = tally_most (occurs_among es) (suc other) in
+    let l = variables_most last es in
+    let o = variables_most other es in
     ⊎_elim
     (λ (b : last < other). solve_enough last (suc (suc last)) (suc (suc other)) es h (omega arith) (omega arith))
     (λ (b : other ≤ last). solve_enough other (suc (suc last)) (suc (suc other)) es k (omega arith) (omega arith))

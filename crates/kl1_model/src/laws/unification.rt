@@ -1,5 +1,5 @@
 //! Laws of unification.
-ghost use Rattle.kl1_model.specs.UnifyLaws.{NothingIsSolved, FrontDecides, FrontKeepsNumbers, AnyBoundServes, SameTermDecides, EqualSidesAreDropped, SolutionsMakeEqual, ReplacedByLower, ReplacedOnce, ReplacedAreGone, SolutionsKeepNumbers, SolutionsAreMostGeneral, NoReplacementsAreMoreGeneral};
+ghost use Rattle.kl1_model.specs.UnifyLaws.{NothingIsSolved, FrontDecides, FrontKeepsNumbers, AnyBoundServes, SameTermDecides, EqualSidesAreDropped, SolutionsMakeEqual, ReplacedByLower, ReplacedOnce, ReplacedAreGone, SolutionsKeepNumbers, FailureLeavesNone, FailureLeavesNoReplacements, SolutionsAreMostGeneral, NoReplacementsAreMoreGeneral};
 
 /// Equations are solved by what their front equation leads to, whatever the fuel; any bound on the numbers serves.
 pub fn unification_has_no_fuel()
@@ -26,6 +26,12 @@ pub fn replacements_are_orderly()
     ensures once { ReplacedOnce }
     ensures gone { ReplacedAreGone }
     ensures numbers { SolutionsKeepNumbers }
+{}
+
+/// Where there is no solution, nothing in place of the variables makes both sides of each equation equal.
+pub fn failures_have_no_unifier()
+    ensures substitutions { FailureLeavesNone }
+    ensures replacements { FailureLeavesNoReplacements }
 {}
 
 /// Whatever makes both sides of each equation equal is the same after a solution.
