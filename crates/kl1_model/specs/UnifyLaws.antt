@@ -1,5 +1,5 @@
 -- What holds of unification, on its definition alone.
-use Rattle.std.specs.Prelude.{◌≡◌, ℕ, ◌<◌, ◌≤◌, ◌≢◌, IsTrue, IsFalse, Decides, List, [], ◌∷◌, Some, None, ⊤}
+use Rattle.std.specs.Prelude.{◌≡◌, ℕ, ◌<◌, ◌≤◌, ◌≢◌, IsTrue, IsFalse, Decides, pos, List, [], ◌∷◌, codes, Option, Some, None, ⊤}
 use Rattle.std.specs.List.{AllByRecursion}
 use Rattle.kl1_model.specs.Term.{Term, variable, integer, atom, structure, Terms, none, more, same_term, occurs, Replacement, replaced}
 use Rattle.kl1_model.specs.Unify.{Equation, Front, goes_on, fails, binds, front, after, replace_in_all, solve}
@@ -111,3 +111,57 @@ SolutionsAreMostGeneral = (last : ℕ) (es : List Equation) (rs : List Replaceme
 -- replacements too
 abbrev pub NoReplacementsAreMoreGeneral : Type 0
 NoReplacementsAreMoreGeneral = (last : ℕ) (es : List Equation) (rs others : List Replacement) → solve last es ≡ Some rs → MakesEqual (replaced others) es → (t : Term) → replaced others (replaced rs t) ≡ replaced others t
+
+-- ---- worked rows, with X and Y numbered 1 and 2
+
+abbrev pub variable_x : Term
+variable_x = variable 1
+
+abbrev pub variable_y : Term
+variable_y = variable 2
+
+abbrev pub atom_a : Term
+atom_a = atom (codes "a")
+
+abbrev pub atom_b : Term
+atom_b = atom (codes "b")
+
+-- f of two terms
+abbrev pub f_of : Term → Term → Term
+f_of t u = structure (codes "f") (more t (more u none))
+
+-- the replacements that make two terms equal
+abbrev pub solved : Term → Term → Option (List Replacement)
+solved t u = solve 2 (record { left = t; right = u } ∷ [])
+
+-- a variable replaced by a term
+abbrev pub replaces : ℕ → Term → Replacement
+replaces v t = record { number = v; by = t }
+
+-- f(X, a) and f(1, b) are never equal
+abbrev pub ConstantsClash : Type 0
+ConstantsClash = solved (f_of variable_x atom_a) (f_of (integer (pos 1)) atom_b) ≡ None
+
+-- X and f(X) are never equal
+abbrev pub NeverInItself : Type 0
+NeverInItself = solved variable_x (structure (codes "f") (more variable_x none)) ≡ None
+
+-- f(X, X) and f(Y, f(Y, a)) are never equal
+abbrev pub NeverInItselfLater : Type 0
+NeverInItselfLater = solved (f_of variable_x variable_x) (f_of variable_y (f_of variable_y atom_a)) ≡ None
+
+-- f(X, Y) and f(Y, X) are equal where Y is X
+abbrev pub HigherTakesLower : Type 0
+HigherTakesLower = solved (f_of variable_x variable_y) (f_of variable_y variable_x) ≡ Some (replaces 2 variable_x ∷ [])
+
+-- of two variables the lower stays, on whichever side it is
+abbrev pub LowerStays : Type 0
+LowerStays = (solved variable_x variable_y ≡ Some (replaces 2 variable_x ∷ [])) × (solved variable_y variable_x ≡ Some (replaces 2 variable_x ∷ []))
+
+-- f(X, b) and f(a, Y) are equal where X is a and Y is b
+abbrev pub BothSidesGive : Type 0
+BothSidesGive = solved (f_of variable_x atom_b) (f_of atom_a variable_y) ≡ Some (replaces 1 atom_a ∷ replaces 2 atom_b ∷ [])
+
+-- f(X, X) and f(Y, a) are equal where Y is X, and X is a
+abbrev pub RestIsReplaced : Type 0
+RestIsReplaced = solved (f_of variable_x variable_x) (f_of variable_y atom_a) ≡ Some (replaces 2 variable_x ∷ replaces 1 atom_a ∷ [])

@@ -1,5 +1,5 @@
 //! Laws of unification.
-ghost use Rattle.kl1_model.specs.UnifyLaws.{NothingIsSolved, FrontDecides, FrontKeepsNumbers, AnyBoundServes, SameTermDecides, EqualSidesAreDropped, SolutionsMakeEqual, ReplacedByLower, ReplacedOnce, ReplacedAreGone, SolutionsKeepNumbers, FailureLeavesNone, FailureLeavesNoReplacements, SolutionsAreMostGeneral, NoReplacementsAreMoreGeneral};
+ghost use Rattle.kl1_model.specs.UnifyLaws.{NothingIsSolved, FrontDecides, FrontKeepsNumbers, AnyBoundServes, SameTermDecides, EqualSidesAreDropped, SolutionsMakeEqual, ReplacedByLower, ReplacedOnce, ReplacedAreGone, SolutionsKeepNumbers, FailureLeavesNone, FailureLeavesNoReplacements, SolutionsAreMostGeneral, NoReplacementsAreMoreGeneral, ConstantsClash, NeverInItself, NeverInItselfLater, HigherTakesLower, LowerStays, BothSidesGive, RestIsReplaced};
 
 /// Equations are solved by what their front equation leads to, whatever the fuel; any bound on the numbers serves.
 pub fn unification_has_no_fuel()
@@ -38,4 +38,15 @@ pub fn failures_have_no_unifier()
 pub fn solutions_are_most_general()
     ensures substitutions { SolutionsAreMostGeneral }
     ensures replacements { NoReplacementsAreMoreGeneral }
+{}
+
+/// Worked rows, computed from the definition.
+pub fn worked_unifications()
+    ensures clash { ConstantsClash }
+    ensures never { NeverInItself }
+    ensures later { NeverInItselfLater }
+    ensures higher { HigherTakesLower }
+    ensures lower { LowerStays }
+    ensures both { BothSidesGive }
+    ensures rest { RestIsReplaced }
 {}
