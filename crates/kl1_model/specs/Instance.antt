@@ -1,20 +1,8 @@
 -- Body instance: the goals of a clause's body with the goal's terms in them.
 use Rattle.std.specs.Prelude.{ℕ, ◌+◌, ◌-◌, max, ◌==◌, if◌then◌else◌, List, [], ◌∷◌, map}
-use Rattle.kl1_model.specs.Term.{Term, variable, integer, atom, structure, Terms, none, more, Replacement}
+use Rattle.kl1_model.specs.Term.{Term, variable, Replacement, substituted}
 use Rattle.kl1_model.specs.Meaning.{highest, highest_in}
 use Rattle.kl1_model.specs.Module.{Clause}
-
--- a term with a term in place of each of its variables, all at once
-abbrev mutual
-  pub fill : (ℕ → Term) → Term → Term
-  fill f (variable n) = f n
-  fill f (integer i) = integer i
-  fill f (atom a) = atom a
-  fill f (structure g ts) = structure g (fill_each f ts)
-
-  pub fill_each : (ℕ → Term) → Terms → Terms
-  fill_each f none = none
-  fill_each f (more t ts) = more (fill f t) (fill_each f ts)
 
 -- how many variables the head of a clause has
 abbrev pub head_variables : Clause → ℕ
@@ -37,4 +25,4 @@ term_at (p ∷ places) v t = if p.number == v then p.by else term_at places v t
 -- the goals of a clause's body: a variable of the head is the term at its place,
 -- and the others are the next variables behind the last, in order of first occurrence
 abbrev pub body_instance : Clause → List Replacement → ℕ → List Term
-body_instance c places last = map (fill (λ v. term_at places v (variable (last + (v - head_variables c))))) c.body
+body_instance c places last = map (substituted (λ v. term_at places v (variable (last + (v - head_variables c))))) c.body

@@ -1,14 +1,14 @@
 -- The step: what each event does to an account, and the reply.
 use Rattle.std.specs.Prelude.{ℕ, suc, ◌+◌, ◌^◌, ◌==◌, nat_le, nat_lt, not, ◌&&◌, Bool, true, false, if◌then◌else◌, List, [], ◌∷◌, ◌++◌, length, filter, codes, bytes_eq, decimal, Option, Some, None, is_some, option_and_then}
 use Rattle.std.specs.List.{list_any}
-use Rattle.kl1_model.specs.Term.{Term, variable, atom, structure, none, more, occurs, Replacement}
+use Rattle.kl1_model.specs.Term.{Term, variable, atom, structure, none, more, occurs, Replacement, substituted}
 use Rattle.kl1_model.specs.Unify.{Equation, solve}
 use Rattle.kl1_model.specs.Print.{print, cut_print}
 use Rattle.kl1_model.specs.Meaning.{pair, nil, cell, highest, is_writable, is_numbered}
 use Rattle.kl1_model.specs.Goal.{is_goal}
 use Rattle.kl1_model.specs.Module.{Module, Reading, good, bad, read_module}
 use Rattle.kl1_model.specs.Match.{Call, call_of, clauses_of, Candidate, candidate_at, fails, module_of}
-use Rattle.kl1_model.specs.Instance.{fill, body_instance, fresh_variables}
+use Rattle.kl1_model.specs.Instance.{body_instance, fresh_variables}
 use Rattle.kl1_model.specs.State.{Task, monitor, reduces, Goal, Life, living, terminated, Origin, Shoen, State, goal_at, shoen_at, replace_in_state, replace_all, change_shoen, without_goal, names_of, names_of_module, with_names}
 
 -- why an account refuses an event, with the line of a bad source
@@ -266,7 +266,7 @@ opening_goals s priority goal =
 -- it reports that it has started
 abbrev pub open_shoen : State → ℕ → ℕ → ℕ → Term → State
 open_shoen s allowance low high t =
-    let goal = fill (λ v. variable (s.last_variable + v)) t in
+    let goal = substituted (λ v. variable (s.last_variable + v)) t in
     let count = s.last_variable + highest t in
     let h = opened_shoen s allowance low high goal (variable (suc count)) (variable (suc (suc count))) in
     report h.number (atom (codes "started")) (record s {

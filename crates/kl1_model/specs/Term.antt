@@ -79,6 +79,18 @@ abbrev mutual
   replace_each v u none = none
   replace_each v u (more t ts) = more (replace v u t) (replace_each v u ts)
 
+-- a term with a term in place of each of its variables, all at once
+abbrev mutual
+  pub substituted : (ℕ → Term) → Term → Term
+  substituted f (variable n) = f n
+  substituted f (integer i) = integer i
+  substituted f (atom a) = atom a
+  substituted f (structure g ts) = structure g (each_substituted f ts)
+
+  pub each_substituted : (ℕ → Term) → Terms → Terms
+  each_substituted f none = none
+  each_substituted f (more t ts) = more (substituted f t) (each_substituted f ts)
+
 -- a variable and the term that takes its place
 pub record Replacement : Type 0 where
   pub number : ℕ
