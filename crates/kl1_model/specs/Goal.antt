@@ -7,10 +7,11 @@ use Rattle.kl1_model.specs.Text.{text_of}
 use Rattle.kl1_model.specs.Term.{Term, atom, structure, none, more, count_of}
 use Rattle.kl1_model.specs.Meaning.{pair}
 
--- the texts that no head and no unqualified goal has for a name: the operators, `:`, `.` and `[]`
+-- the texts that no head and no goal of a user's predicate has for a name: the operators, `:`, `.` and `[]`
 abbrev pub reserved_names : List BuiltIn
 reserved_names = Equal ∷ NotEqual ∷ Assign ∷ Less ∷ Greater ∷ AtMost ∷ AtLeast ∷ SameNumber ∷ OtherNumber ∷ Plus ∷ Minus ∷ Times ∷ Divide ∷ Modulo ∷ Colon ∷ ListCell ∷ EmptyList ∷ []
 
+-- whether a name is one of those
 abbrev pub is_reserved : List ℕ → Bool
 is_reserved p = list_any (λ b. bytes_eq p (text_of b)) reserved_names
 
@@ -18,7 +19,7 @@ is_reserved p = list_any (λ b. bytes_eq p (text_of b)) reserved_names
 abbrev pub is_called : List ℕ → ℕ → List ℕ → ℕ → Bool
 is_called name count p n = bytes_eq p name && n == count
 
--- `atom_from` with two arguments, a built-in goal that comes later
+-- `atom_from` with two arguments, which no user's predicate is
 abbrev pub is_atom_from : List ℕ → ℕ → Bool
 is_atom_from p n = is_called (codes "atom_from") 2 p n
 
@@ -40,7 +41,7 @@ is_callee (atom p) = true
 is_callee (structure p ts) = true
 is_callee _ = false
 
--- `shoen:execute` with six arguments, a built-in goal that comes later
+-- `shoen:execute` with six arguments, which no user's predicate is
 abbrev pub is_execute : List ℕ → Term → Bool
 is_execute m (structure p ts) = bytes_eq m (codes "shoen") && is_called (codes "execute") 6 p (count_of ts)
 is_execute m _ = false
@@ -58,7 +59,7 @@ is_unqualified_goal t = is_head t
 abbrev pub is_goal : Term → Bool
 is_goal t = is_built_in_goal t || is_qualified_goal t
 
--- a test: `true` alone in this stage
+-- a test: `true` is the only one
 abbrev pub is_test : Term → Bool
 is_test (atom a) = bytes_eq a (codes "true")
 is_test _ = false

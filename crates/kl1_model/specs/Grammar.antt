@@ -80,6 +80,7 @@ pub data Head : Type 0 where
   bare_head : List ℕ → Bool → Head
   head_with : List ℕ → Bool → Series → Head
 
+-- the tokens of a head, and then these
 abbrev pub head_tokens : Head → List Numbered → List Numbered
 head_tokens (bare_head p quotes) ts = name_token p quotes false ∷ ts
 head_tokens (head_with p quotes s) ts = name_token p quotes true ∷ sign_token Open ∷ series_tokens s (sign_token Close ∷ ts)

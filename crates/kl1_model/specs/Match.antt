@@ -55,7 +55,7 @@ abbrev mutual
   match_terms (more p ps) (more t ts) = match_both (match_term p t) (match_terms ps ts)
   match_terms ps ts = with_outcome clashes
 
--- the outcome of a test: `true`, the only one in this stage, always agrees
+-- the outcome of a test: `true`, the only one, always agrees
 abbrev pub test_outcome : List Replacement → Term → Outcome
 test_outcome places test = agrees
 

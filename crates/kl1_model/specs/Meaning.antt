@@ -63,12 +63,15 @@ pub record Depth : Type 0 where
   pub whole : ℕ
   pub rest : ℕ
 
+-- a depth that is the same as what follows elements
 abbrev pub flat : ℕ → Depth
 flat d = record { whole = d; rest = d }
 
+-- the depth of a list cell, of its element and what follows it
 abbrev pub cell_depth : Depth → Depth → Depth
 cell_depth h t = record { whole = suc (max h.whole t.rest); rest = max h.whole t.rest }
 
+-- the depth of a structure of two arguments
 abbrev pub pair_depth : List ℕ → Depth → Depth → Depth
 pair_depth f a b = if bytes_eq f (codes ".") then cell_depth a b else flat (suc (max a.whole b.whole))
 
@@ -86,6 +89,7 @@ abbrev mutual
   deepest none = 0
   deepest (more t ts) = max (depths t).whole (deepest ts)
 
+-- how deep a term is
 abbrev pub depth : Term → ℕ
 depth t = (depths t).whole
 

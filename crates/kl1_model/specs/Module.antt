@@ -29,7 +29,7 @@ pub data Reading (A : Type 0) : Type 0 where
   good : A → Reading A
   bad : ℕ → Reading A
 
--- an item: the line on which it begins, and its tokens without its end, or none where it has no end or a byte that is no token
+-- an item: the line on which it begins, and its tokens without its end, or none where it has no end or something in it is no token
 pub record Item : Type 0 where
   pub line : ℕ
   pub tokens : Option (List (Token (List ℕ)))
@@ -61,7 +61,7 @@ abbrev pub named_module : List (Token (List ℕ)) → Option (List ℕ)
 named_module (sign_token Neck ∷ name_token word q a ∷ name_token name r b ∷ []) = if bytes_eq word (codes "module") && not (bytes_eq name (codes "shoen")) then Some name else None
 named_module _ = None
 
--- the terms of all elements, where each has one
+-- what a function gives for all elements, where it gives something for each
 abbrev pub each_of : {A B : Type 0} → (A → Option B) → List A → Option (List B)
 each_of f [] = Some []
 each_of f (x ∷ xs) = option_and_then (λ y. option_map (λ ys. y ∷ ys) (each_of f xs)) (f x)
@@ -75,16 +75,17 @@ abbrev pub has_repeats : List ℕ → Bool
 has_repeats [] = false
 has_repeats (n ∷ ns) = is_among n ns || has_repeats ns
 
--- the name and the arguments of a head
+-- the name of a head
 abbrev pub head_name : Head → List ℕ
 head_name (bare_head p q) = p
 head_name (head_with p q s) = p
 
+-- the arguments of a head, each a pattern
 abbrev pub head_patterns : Head → Terms
 head_patterns (bare_head p q) = none
 head_patterns (head_with p q s) = series_terms s
 
--- whether a head may stand there: it is writable, and no variable stands twice in it
+-- whether a head may stand there: it is writable, its name may be a head's, and no variable stands twice in it
 abbrev pub is_fit_head : Head → Bool
 is_fit_head h = is_writable (head_term h) && is_head (head_term h) && not (has_repeats (variables_in (head_patterns h)))
 
@@ -121,7 +122,7 @@ clause_of m ts = option_and_then (clause_of_tree m) (clause_tree (numbered_token
 abbrev pub is_of : List ℕ → ℕ → Clause → Bool
 is_of name count c = bytes_eq c.name name && count_of c.patterns == count
 
--- the clause before, where there is one
+-- the last of clauses, where there is one
 abbrev pub last_of : List Clause → Option Clause
 last_of [] = None
 last_of (c ∷ []) = Some c
@@ -135,7 +136,7 @@ most_clauses = 512
 abbrev pub may_follow : List Clause → Clause → Bool
 may_follow before c =
     nat_lt (length before) most_clauses
-    && (unwrap_or (option_map (is_of c.name (count_of c.patterns)) (last_of before)) true || not (list_any (is_of c.name (count_of c.patterns)) before))
+    && (unwrap_or (option_map (is_of c.name (count_of c.patterns)) (last_of before)) false || not (list_any (is_of c.name (count_of c.patterns)) before))
 
 -- the clauses before and this one, if it may follow
 abbrev pub with_clause : List Clause → Option Clause → Option (List Clause)
@@ -147,16 +148,17 @@ abbrev pub if_good : {A : Type 0} → ℕ → Option A → (A → Reading (List 
 if_good line None go = bad line
 if_good line (Some a) go = go a
 
--- the clauses of the items of a module, behind those before
+-- the clauses before and then those of the items, or the line of the first bad item
 abbrev pub clauses_from : List ℕ → List Clause → List Item → Reading (List Clause)
 clauses_from m before [] = good before
 clauses_from m before (item ∷ items) = if_good item.line (with_clause before (option_and_then (clause_of m) item.tokens)) (λ now. clauses_from m now items)
 
--- a module with its clauses
+-- a module with its clauses, or the line of the bad item among them
 abbrev pub module_with : List ℕ → List ℕ → Reading (List Clause) → Reading Module
 module_with name source (bad line) = bad line
 module_with name source (good clauses) = good (record { name = name; source = source; clauses = clauses })
 
+-- a module whose first item gives it this name, with the items behind
 abbrev pub module_named : List ℕ → Item → List Item → Option (List ℕ) → Reading Module
 module_named source item items None = bad item.line
 module_named source item items (Some name) = module_with name source (clauses_from name [] items)
@@ -170,7 +172,7 @@ module_of_items source (item ∷ items) = module_named source item items (option
 abbrev pub read_module : List ℕ → Reading Module
 read_module source = module_of_items source (items_of (tokens_of_text source))
 
--- a term that may be started or is bad on its line
+-- the term, where it is a goal that may be started, or else a fault on this line
 abbrev pub startable : ℕ → Option Term → Reading Term
 startable line None = bad line
 startable line (Some t) = if is_writable t && is_goal t then good t else bad line
@@ -179,7 +181,7 @@ startable line (Some t) = if is_writable t && is_goal t then good t else bad lin
 abbrev pub bare_tokens : List Placed → List (Token (List ℕ))
 bare_tokens ps = map (λ p. p.token) ps
 
--- the line of the first token, or else of the first byte that is none, or else the first
+-- the line of the first token, or else of the place where no token stands, or else the first
 abbrev pub first_line : List Placed → Option ℕ → ℕ
 first_line [] None = 1
 first_line [] (Some line) = line
@@ -189,6 +191,7 @@ first_line (p ∷ ps) broken_at = p.line
 abbrev pub term_of_tokens : List (Token (List ℕ)) → Option Term
 term_of_tokens ts = option_map expression_term (expression_tree (numbered_tokens ts))
 
+-- the goal that tokens are, all of them
 abbrev pub goal_of_tokens : Tokens → Reading Term
 goal_of_tokens ts = startable (first_line ts.placed ts.broken_at) (elim ts.broken_at [ None ↦ term_of_tokens (bare_tokens ts.placed) | Some line ↦ None ])
 

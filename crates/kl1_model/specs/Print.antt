@@ -63,7 +63,7 @@ printed_pair Qualified f p q = plain (p.whole ++ codes ":" ++ q.whole)
 printed_pair Call f p q = plain (call_text f (p ∷ q ∷ []))
 
 -- how a term is printed: `_` and its number for a variable, decimal for an integer, a list in brackets,
--- `a:b` for a name of a module, and else a name with its arguments
+-- `m:p` for a name behind its module's, and else a name with its arguments
 abbrev mutual
   pub printed : Term → Printed
   printed (variable n) = plain (codes "_" ++ decimal n)

@@ -23,31 +23,37 @@ abbrev pub if_there : {B : Type 0} → Option (List Numbered) → Option B → (
 if_there None otherwise go = otherwise
 if_there (Some ts) otherwise go = go ts
 
--- what is behind a comma in front, and so on for the other signs
+-- what is behind a comma in front
 abbrev pub behind_comma : List Numbered → Option (List Numbered)
 behind_comma (sign_token Comma ∷ ts) = Some ts
 behind_comma _ = None
 
+-- what is behind a closing parenthesis in front
 abbrev pub behind_close : List Numbered → Option (List Numbered)
 behind_close (sign_token Close ∷ ts) = Some ts
 behind_close _ = None
 
+-- what is behind an opening parenthesis in front
 abbrev pub behind_open : List Numbered → Option (List Numbered)
 behind_open (sign_token Open ∷ ts) = Some ts
 behind_open _ = None
 
+-- what is behind a closing bracket in front
 abbrev pub behind_close_list : List Numbered → Option (List Numbered)
 behind_close_list (sign_token CloseList ∷ ts) = Some ts
 behind_close_list _ = None
 
+-- what is behind a bar in front
 abbrev pub behind_bar : List Numbered → Option (List Numbered)
 behind_bar (sign_token Bar ∷ ts) = Some ts
 behind_bar _ = None
 
+-- what is behind a colon in front
 abbrev pub behind_colon : List Numbered → Option (List Numbered)
 behind_colon (sign_token Colon ∷ ts) = Some ts
 behind_colon _ = None
 
+-- what is behind `:-` in front
 abbrev pub behind_neck : List Numbered → Option (List Numbered)
 behind_neck (sign_token Neck ∷ ts) = Some ts
 behind_neck _ = None
@@ -87,6 +93,7 @@ abbrev pub negative_at : List Numbered → Answer Primary
 negative_at (digits_token n ∷ ts) = Some (negative n, ts)
 negative_at _ = None
 
+-- a primary, where one is in front
 abbrev pub primary_at : Inner → List Numbered → Answer Primary
 primary_at inner (variable_token v ∷ ts) = Some (numbered v, ts)
 primary_at inner (digits_token n ∷ ts) = if nat_lt n (2 ^ 63) then Some (positive n, ts) else None
@@ -97,6 +104,7 @@ primary_at inner (sign_token OpenList ∷ ts) = list_at inner ts
 primary_at inner (sign_token Open ∷ ts) = then_read (inner ts) (λ e us. then_skip (behind_close us) (λ vs. Some (group e, vs)))
 primary_at inner _ = None
 
+-- a part, where one is in front
 abbrev pub part_at : Inner → List Numbered → Answer Part
 part_at inner ts = then_read (primary_at inner ts) (λ p us. if_there (behind_colon us) (Some (single p, us)) (λ vs. then_read (primary_at inner vs) (λ q ws. Some (qualified p q, ws))))
 
@@ -124,6 +132,7 @@ all_read (Some (a, t ∷ ts)) = None
 abbrev pub expression_tree : List Numbered → Option Expression
 expression_tree ts = all_read (inner_of ts ts)
 
+-- a head, where one is in front
 abbrev pub head_at : Inner → List Numbered → Answer Head
 head_at inner (name_token p quotes false ∷ ts) = Some (bare_head p quotes, ts)
 head_at inner (name_token p quotes true ∷ ts) = then_read (arguments_at inner ts) (λ s us. Some (head_with p quotes s, us))
@@ -133,6 +142,7 @@ head_at inner _ = None
 abbrev pub behind_neck_at : Inner → Head → List Numbered → Answer ClauseTree
 behind_neck_at inner h ts = then_read (series_at inner ts) (λ s us. if_there (behind_bar us) (Some (rule h s, us)) (λ vs. then_read (series_at inner vs) (λ body ws. Some (guarded h s body, ws))))
 
+-- a clause, where one is in front
 abbrev pub clause_at : Inner → List Numbered → Answer ClauseTree
 clause_at inner ts = then_read (head_at inner ts) (λ h us. if_there (behind_neck us) (Some (fact h, us)) (λ vs. behind_neck_at inner h vs))
 

@@ -99,7 +99,7 @@ abbrev pub accounts_in : List (List ℕ) → Option (List (List ℕ))
 accounts_in [] = None
 accounts_in (w ∷ names) = if bytes_eq w (codes "accounts") && nat_le 1 (length names) && nat_le (length names) most_accounts && list_all is_account_name names && are_distinct names then Some names else None
 
--- whether a name is that of an account that is served; in this stage the first alone
+-- whether a name is that of an account that is served, which is the first alone
 abbrev pub is_served : List (List ℕ) → List ℕ → Bool
 is_served [] name = false
 is_served (first ∷ others) name = bytes_eq first name

@@ -170,7 +170,7 @@ abbrev pub move_by : List Module → ℕ → Term → Option Call → Option Mov
 move_by modules clause t None = if clause == 0 then built_in_move t else None
 move_by modules clause t (Some call) = call_move modules clause call
 
--- what a goal can do by the clause of a number, or nothing; nothing is sent to a monitor in this stage, so it waits
+-- what a goal can do by the clause of a number, or nothing; a monitor waits, as nothing is ever sent to it
 abbrev pub move_of : List Module → ℕ → Task → Option Move
 move_of modules clause monitor = None
 move_of modules clause (reduces t) = move_by modules clause t (call_of t)

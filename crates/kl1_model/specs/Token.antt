@@ -21,6 +21,7 @@ pub data Token (V : Type 0) : Type 0 where
 abbrev pub is_variable_start : ℕ → Bool
 is_variable_start b = nat_le 65 b && nat_le b 90 || b == 95
 
+-- a decimal digit
 abbrev pub is_digit : ℕ → Bool
 is_digit b = nat_le 48 b && nat_le b 57
 
@@ -56,8 +57,8 @@ behind_digits (b ∷ bs) = elim (is_digit b) [ true ↦ behind_digits bs | false
 abbrev pub number_of : List ℕ → ℕ
 number_of digits = fold (λ n b. 10 * n + (b - 48)) 0 digits
 
--- the text in quotes behind a quote, so far, and whether the byte before was a quote that may end it;
--- a quote in the text stands twice; with what is behind it, or none where no quote ends it
+-- the text between quotes of which these bytes have been seen, and what is behind it, or none where no quote ends it;
+-- the test tells whether the last byte was a quote, which ends the text unless another one follows
 abbrev pub quoted_from : Bool → List ℕ → List ℕ → Option (List ℕ × List ℕ)
 quoted_from true text [] = Some (text, [])
 quoted_from false text [] = None
@@ -69,7 +70,7 @@ abbrev pub behind_comment : List ℕ → Option (List ℕ)
 behind_comment [] = Some []
 behind_comment (b ∷ bs) = elim (b == 10) [ true ↦ Some (b ∷ bs) | false ↦ elim (is_source_byte b) [ true ↦ behind_comment bs | false ↦ None ] ]
 
--- the signs with their spellings, each before those that it begins with
+-- the bytes of each sign
 abbrev pub spelling_of : Sign → List ℕ
 spelling_of Neck = codes ":-"
 spelling_of Becomes = codes ":="
@@ -93,6 +94,7 @@ spelling_of Close = codes ")"
 spelling_of OpenList = codes "["
 spelling_of CloseList = codes "]"
 
+-- all signs, longer ones before those that they begin with
 abbrev pub signs : List Sign
 signs = Neck ∷ Becomes ∷ SameValue ∷ OtherValue ∷ NotOver ∷ Differs ∷ NotUnder ∷ Colon ∷ Equals ∷ Under ∷ Over ∷ Plus ∷ Star ∷ Slash ∷ At ∷ Bar ∷ Comma ∷ Open ∷ Close ∷ OpenList ∷ CloseList ∷ []
 
@@ -100,8 +102,8 @@ signs = Neck ∷ Becomes ∷ SameValue ∷ OtherValue ∷ NotOver ∷ Differs �
 abbrev pub sign_at : List ℕ → Option Sign
 sign_at bs = find (λ s. starts_with nat_eq bs (spelling_of s)) signs
 
--- what stands in front of a text: nothing, a byte or more that are no token, the end of a line, another blank or a comment, or a token;
--- with what is behind
+-- what stands in front of a text: nothing, something that is no token, the end of a line, another blank or a comment,
+-- or a token; with what is behind
 pub data Front : Type 0 where
   finished : Front
   broken : Front
@@ -109,12 +111,12 @@ pub data Front : Type 0 where
   blank : List ℕ → Front
   token : Token (List ℕ) → List ℕ → Front
 
--- whether the first byte of a text is such
+-- whether a text has a first byte, and it passes a test
 abbrev pub first_is : (ℕ → Bool) → List ℕ → Bool
 first_is test [] = false
 first_is test (b ∷ bs) = test b
 
--- a name or a variable has at most 63 bytes
+-- a name or a variable of this spelling, which has at most 63 bytes
 abbrev pub bounded : List ℕ → Token (List ℕ) → List ℕ → Front
 bounded text t rest = if nat_le (length text) most_name_bytes then token t rest else broken
 
@@ -122,6 +124,7 @@ bounded text t rest = if nat_le (length text) most_name_bytes then token t rest 
 abbrev pub name_front : Bool → List ℕ → List ℕ → Front
 name_front quotes text rest = bounded text (name_token text quotes (first_is (λ b. b == 40) rest)) rest
 
+-- a name in quotes, where a quote ends it
 abbrev pub quoted_front : Option (List ℕ × List ℕ) → Front
 quoted_front None = broken
 quoted_front (Some q) = name_front true q.0 q.1
@@ -130,6 +133,7 @@ quoted_front (Some q) = name_front true q.0 q.1
 abbrev pub digits_front : ℕ → List ℕ → Front
 digits_front n rest = if nat_le n (2 ^ 63) then token (digits_token n) rest else broken
 
+-- a comment, where it holds no byte that no text may hold
 abbrev pub comment_front : Option (List ℕ) → Front
 comment_front None = broken
 comment_front (Some rest) = blank rest
@@ -139,6 +143,7 @@ abbrev pub dot_front : List ℕ → Front
 dot_front [] = token end_token []
 dot_front (b ∷ bs) = if is_blank b || b == 37 then token end_token (b ∷ bs) else broken
 
+-- a sign, where one is in front
 abbrev pub sign_front : Option Sign → List ℕ → Front
 sign_front None bs = broken
 sign_front (Some s) bs = token (sign_token s) (drop (length (spelling_of s)) bs)
@@ -156,6 +161,7 @@ pub data Start : Type 0 where
   subtracts : Start
   signs_or_nothing : Start
 
+-- what a byte begins, where a token may begin
 abbrev pub start_of : ℕ → Start
 start_of b =
     if b == 10 then ends_line
@@ -192,7 +198,7 @@ pub record Placed : Type 0 where
   pub line : ℕ
   pub token : Token (List ℕ)
 
--- the tokens of a text up to the first byte that is none, and that byte's line where there is one
+-- the tokens of a text up to the first place where no token stands, and the line of that place where there is one
 pub record Tokens : Type 0 where
   pub placed : List Placed
   pub broken_at : Option ℕ
@@ -209,7 +215,7 @@ tokens_by next line (line_end rest) = next (suc line) rest
 tokens_by next line (blank rest) = next line rest
 tokens_by next line (token t rest) = token_first (record { line = line; token = t }) (next line rest)
 
--- the tokens of a text whose first byte is on this line, in fewer than so many steps
+-- the tokens of a text whose first byte is on this line, in fewer than so many fronts; a text has no more fronts than bytes and one
 unfoldable pub tokens_within : ℕ → ℕ → List ℕ → Tokens
 tokens_within zero line bs = record { placed = []; broken_at = Some line }
 tokens_within (suc n) line bs = tokens_by (tokens_within n) line (front_of bs)

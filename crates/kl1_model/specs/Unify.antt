@@ -38,7 +38,8 @@ front _ _ es = fails
 abbrev pub replace_in_all : ℕ → Term → List Equation → List Equation
 replace_in_all v t es = map (λ e. record { left = replace v t e.left; right = replace v t e.right }) es
 
--- what remains to be done where the front equation goes on, and where it binds
+-- the solution that the front equation leads to: that of the equations in its place, none, or one replacement and then
+-- the solution of the others after it
 abbrev pub after : (List Equation → Option (List Replacement)) → (List Equation → Option (List Replacement)) → Front → Option (List Replacement)
 after same next (goes_on es) = same es
 after same next fails = None
@@ -55,11 +56,12 @@ walk next zero es = None
 walk next (suc n) [] = Some []
 walk next (suc n) (e ∷ es) = after (walk next n) next (front e.left e.right es)
 
--- the replacements that make both sides of all equations equal, at most so many less one
+-- the replacements that make both sides of all equations equal, fewer than so many
 unfoldable pub solve_within : ℕ → List Equation → Option (List Replacement)
 solve_within zero es = None
 solve_within (suc n) es = walk (solve_within n) (suc (equations_size es)) es
 
--- the replacements for terms whose variables are numbered up to the last, or none where nothing unifies them
+-- the replacements for terms whose variables are numbered up to the last, or none where nothing unifies them;
+-- each replacement is of another variable, so these are enough
 abbrev pub solve : ℕ → List Equation → Option (List Replacement)
 solve last es = solve_within (suc (suc last)) es

@@ -5,7 +5,7 @@
 pub enum PairForm {
     /// A list cell, `[a|b]`.
     Cell,
-    /// A name of a module, `a:b`.
+    /// A name behind its module's, `m:p`.
     Qualified,
     /// Any other structure, `name(a,b)`.
     Call,
