@@ -6,4 +6,5 @@ pub mod UnifyRule
 pub mod EqualSides
 pub mod UnifySound
 pub mod UnifySolution
+pub mod UnifySteps
 pub mod UnifyFails

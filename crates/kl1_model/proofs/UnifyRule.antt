@@ -2,7 +2,7 @@
 use Rattle.std.proofs.Common.{◌≡◌, ℕ, zero, suc, ◌+◌, ◌<◌, ◌≤◌, ◌||◌, Bool, true, false, List, [], ◌∷◌, Option, option_map, refl, sym, ◌∙◌, ap, arith, eq-eqb, le_refl, le_trans, lt_of_lt_of_le, ⊎_elim}
 use Rattle.std.proofs.lemmas.Bool.{or_parts, or_from, or_left, or_right, cases_eq, cases_lt}
 use Rattle.kl1_model.specs.Term.{Term, variable, structure, Terms, more, sizes, occurs, Replacement}
-use Rattle.kl1_model.specs.Unify.{Equation, argument_equations, front, replace_in_all, after, equations_size, walk, solve_within, solve}
+use Rattle.kl1_model.specs.Unify.{Equation, Front, argument_equations, front, replace_in_all, after, equations_size, walk, solve_within, solve}
 use Rattle.kl1_model.specs.UnifyLaws.{NumberedTo, AllNumberedTo, FrontNumberedTo, FrontDecides, FrontKeepsNumbers, AnyBoundServes, NothingIsSolved}
 use Rattle.kl1_model.proofs.UnifyFront.{front_cases}
 use Rattle.kl1_model.proofs.Occurrences.{equate, numbered-replace_in_all, numbered-arguments, Absent, absent-replace_in_all, absent-replaced, absent-arguments}
@@ -190,6 +190,10 @@ front_decides last e es h =
     after_agrees last e es (walk (solve_within (suc last)) (equations_size (e ∷ es))) (solve last) (solve_within (suc last)) (solve last) h
     (λ to s. walk_enough last (solve_within (suc last)) (equations_size (e ∷ es)) (suc (equations_size to)) to s.numbered s.smaller (omega arith))
     (λ to s. solve_enough last (suc last) (suc (suc last)) to s.numbered (let q = s.variables in omega arith) (let q = s.variables in omega arith))
+
+-- a step, where it is known what the front equation leads to
+pub stepped : (last : ℕ) (t u : Term) (es : List Equation) (to : Front) → AllNumberedTo last (equate t u ∷ es) → front t u es ≡ to → solve last (equate t u ∷ es) ≡ after (solve last) (solve last) to
+stepped last t u es to h e = front_decides last (equate t u) es h ∙ ap (after (solve last) (solve last)) e
 
 -- what the front equation leads to has no higher numbers
 pub front_numbered : FrontKeepsNumbers

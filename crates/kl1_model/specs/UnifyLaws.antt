@@ -1,8 +1,8 @@
 -- What holds of unification, on its definition alone.
-use Rattle.std.specs.Prelude.{◌≡◌, ℕ, ◌<◌, ◌≤◌, ◌≢◌, IsTrue, IsFalse, Decides, pos, List, [], ◌∷◌, codes, Option, Some, None, ⊤}
+use Rattle.std.specs.Prelude.{◌≡◌, ℕ, ◌<◌, ◌≤◌, ◌≢◌, IsTrue, IsFalse, Decides, pos, List, [], ◌∷◌, codes, Option, Some, None, option_map, ⊤}
 use Rattle.std.specs.List.{AllByRecursion}
-use Rattle.kl1_model.specs.Term.{Term, variable, integer, atom, structure, Terms, none, more, same_term, occurs, Replacement, replaced}
-use Rattle.kl1_model.specs.Unify.{Equation, Front, goes_on, fails, binds, front, after, replace_in_all, solve}
+use Rattle.kl1_model.specs.Term.{Term, variable, integer, atom, structure, Terms, none, more, count_of, same_term, occurs, Replacement, replaced}
+use Rattle.kl1_model.specs.Unify.{Equation, argument_equations, Front, goes_on, fails, binds, front, after, replace_in_all, solve}
 
 -- all variables of a term are numbered at most so
 abbrev mutual
@@ -112,6 +112,26 @@ SolutionsAreMostGeneral = (last : ℕ) (es : List Equation) (rs : List Replaceme
 abbrev pub NoReplacementsAreMoreGeneral : Type 0
 NoReplacementsAreMoreGeneral = (last : ℕ) (es : List Equation) (rs others : List Replacement) → solve last es ≡ Some rs → MakesEqual (replaced others) es → (t : Term) → replaced others (replaced rs t) ≡ replaced others t
 
+-- structures of one name and length are solved as their arguments
+abbrev pub ArgumentsDecide : Type 0
+ArgumentsDecide = (last : ℕ) (f : List ℕ) (ts us : Terms) (es : List Equation) → count_of ts ≡ count_of us → AllNumberedTo last (record { left = structure f ts; right = structure f us } ∷ es) → solve last (record { left = structure f ts; right = structure f us } ∷ es) ≡ solve last (argument_equations ts us es)
+
+-- a replacement in front of those of the other equations, where the variable has been replaced
+abbrev pub bound_first : ℕ → ℕ → Term → List Equation → Option (List Replacement)
+bound_first last v t es = option_map (λ rest. record { number = v; by = t } ∷ rest) (solve last (replace_in_all v t es))
+
+-- a variable on the left takes what is lower or no variable, and is without it
+abbrev pub LeftTakesRight : Type 0
+LeftTakesRight = (last v : ℕ) (t : Term) (es : List Equation) → IsFalse (occurs v t) → IsLower v t → AllNumberedTo last (record { left = variable v; right = t } ∷ es) → solve last (record { left = variable v; right = t } ∷ es) ≡ bound_first last v t es
+
+-- and so does a variable on the right
+abbrev pub RightTakesLeft : Type 0
+RightTakesLeft = (last v : ℕ) (t : Term) (es : List Equation) → IsFalse (occurs v t) → IsLower v t → AllNumberedTo last (record { left = t; right = variable v } ∷ es) → solve last (record { left = t; right = variable v } ∷ es) ≡ bound_first last v t es
+
+-- equations that no replacements make equal have no solution
+abbrev pub NoneWhereNoneUnify : Type 0
+NoneWhereNoneUnify = (last : ℕ) (es : List Equation) → ((rs : List Replacement) → MakesEqual (replaced rs) es → ⊥) → solve last es ≡ None
+
 -- ---- worked rows, with X and Y numbered 1 and 2
 
 abbrev pub variable_x : Term
@@ -165,3 +185,19 @@ BothSidesGive = solved (f_of variable_x atom_b) (f_of atom_a variable_y) ≡ Som
 -- f(X, X) and f(Y, a) are equal where Y is X, and X is a
 abbrev pub RestIsReplaced : Type 0
 RestIsReplaced = solved (f_of variable_x variable_x) (f_of variable_y atom_a) ≡ Some (replaces 2 variable_x ∷ replaces 1 atom_a ∷ [])
+
+-- f(a, b) and g(a, b) are never equal
+abbrev pub NamesClash : Type 0
+NamesClash = solved (f_of atom_a atom_b) (structure (codes "g") (more atom_a (more atom_b none))) ≡ None
+
+-- f(a, b) and f(a) are never equal
+abbrev pub LengthsClash : Type 0
+LengthsClash = solved (f_of atom_a atom_b) (structure (codes "f") (more atom_a none)) ≡ None
+
+-- f(1, f(X, b)) and f(1, f(a, Y)) are equal where X is a and Y is b
+abbrev pub InnerArgumentsGive : Type 0
+InnerArgumentsGive = solved (f_of (integer (pos 1)) (f_of variable_x atom_b)) (f_of (integer (pos 1)) (f_of atom_a variable_y)) ≡ Some (replaces 1 atom_a ∷ replaces 2 atom_b ∷ [])
+
+-- f(f(a, b), X) and f(f(a, b), b) are equal where X is b
+abbrev pub RestFollows : Type 0
+RestFollows = solved (f_of (f_of atom_a atom_b) variable_x) (f_of (f_of atom_a atom_b) atom_b) ≡ Some (replaces 1 atom_b ∷ [])

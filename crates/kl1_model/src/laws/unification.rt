@@ -1,5 +1,5 @@
 //! Laws of unification.
-ghost use Rattle.kl1_model.specs.UnifyLaws.{NothingIsSolved, FrontDecides, FrontKeepsNumbers, AnyBoundServes, SameTermDecides, EqualSidesAreDropped, SolutionsMakeEqual, ReplacedByLower, ReplacedOnce, ReplacedAreGone, SolutionsKeepNumbers, FailureLeavesNone, FailureLeavesNoReplacements, SolutionsAreMostGeneral, NoReplacementsAreMoreGeneral, ConstantsClash, NeverInItself, NeverInItselfLater, HigherTakesLower, LowerStays, BothSidesGive, RestIsReplaced};
+ghost use Rattle.kl1_model.specs.UnifyLaws.{NothingIsSolved, FrontDecides, FrontKeepsNumbers, AnyBoundServes, SameTermDecides, EqualSidesAreDropped, SolutionsMakeEqual, ReplacedByLower, ReplacedOnce, ReplacedAreGone, SolutionsKeepNumbers, FailureLeavesNone, FailureLeavesNoReplacements, SolutionsAreMostGeneral, NoReplacementsAreMoreGeneral, ConstantsClash, NeverInItself, NeverInItselfLater, HigherTakesLower, LowerStays, BothSidesGive, RestIsReplaced, NamesClash, LengthsClash, InnerArgumentsGive, RestFollows, ArgumentsDecide, LeftTakesRight, RightTakesLeft, NoneWhereNoneUnify};
 
 /// Equations are solved by what their front equation leads to, whatever the fuel; any bound on the numbers serves.
 pub fn unification_has_no_fuel()
@@ -13,6 +13,14 @@ pub fn unification_has_no_fuel()
 pub fn equal_sides_are_dropped()
     ensures same { SameTermDecides }
     ensures dropped { EqualSidesAreDropped }
+{}
+
+/// The steps of unification: arguments for structures, a term for a variable, and none where nothing unifies.
+pub fn front_equations_step()
+    ensures arguments { ArgumentsDecide }
+    ensures left { LeftTakesRight }
+    ensures right { RightTakesLeft }
+    ensures none { NoneWhereNoneUnify }
 {}
 
 /// A solution makes both sides of each equation equal.
@@ -49,4 +57,8 @@ pub fn worked_unifications()
     ensures lower { LowerStays }
     ensures both { BothSidesGive }
     ensures rest { RestIsReplaced }
+    ensures names { NamesClash }
+    ensures lengths { LengthsClash }
+    ensures inner { InnerArgumentsGive }
+    ensures follows { RestFollows }
 {}
