@@ -53,5 +53,6 @@ failure_leaves_none last es h e s m =
     let q : is_some (solve last es) ≡ false = ap is_some e in
     cc
 
+-- nor do replacements
 pub failure_leaves_no_replacements : FailureLeavesNoReplacements
 failure_leaves_no_replacements last es h e rs m = failure_leaves_none last es h e (values_of rs) (MakesEqual-same (replaced rs) (substituted (values_of rs)) es (replaced_is rs) m)

@@ -129,9 +129,11 @@ occurs_left v t es = or_left (occurs v (variable v) || occurs v t) (occurs_among
 occurs_right : (v : ℕ) (t : Term) (es : List Equation) → occurs_among (equate t (variable v) ∷ es) v ≡ true
 occurs_right v t es = or_left (occurs v t || occurs v (variable v)) (occurs_among es v) (or_right (occurs v t) (occurs v (variable v)) (eq-eqb v v refl))
 
+-- a variable that takes the other side is lost
 pub loses_left : (last v : ℕ) (t : Term) (es : List Equation) → occurs v t ≡ false → AllNumberedTo last (equate (variable v) t ∷ es) → Loses last (equate (variable v) t ∷ es) (replace_in_all v t es)
 loses_left last v t es o h = loses_bound last v t (equate (variable v) t ∷ es) es h.0.0 h.0.1 h.1 o (occurs_left v t es) (λ x a. (a.0.1, a.1))
 
+-- on either side
 pub loses_right : (last v : ℕ) (t : Term) (es : List Equation) → occurs v t ≡ false → AllNumberedTo last (equate t (variable v) ∷ es) → Loses last (equate t (variable v) ∷ es) (replace_in_all v t es)
 loses_right last v t es o h = loses_bound last v t (equate t (variable v) ∷ es) es h.0.1 h.0.0 h.1 o (occurs_right v t es) (λ x a. (a.0.0, a.1))
 
@@ -195,7 +197,7 @@ front_decides last e es h =
 pub stepped : (last : ℕ) (t u : Term) (es : List Equation) (to : Front) → AllNumberedTo last (equate t u ∷ es) → front t u es ≡ to → solve last (equate t u ∷ es) ≡ after (solve last) (solve last) to
 stepped last t u es to h e = front_decides last (equate t u) es h ∙ ap (after (solve last) (solve last)) e
 
--- what the front equation leads to has no higher numbers
+-- what the front equation leads to brings in no higher numbers
 pub front_numbered : FrontKeepsNumbers
 front_numbered last e es h =
     front_cases es (λ a b r. AllNumberedTo last (equate a b ∷ es) → FrontNumberedTo last r)

@@ -9,6 +9,7 @@ use Rattle.kl1_model.specs.UnifyLaws.{IsLower, ArgumentsDecide, LeftTakesRight, 
 use Rattle.kl1_model.proofs.UnifyRule.{stepped}
 use Rattle.kl1_model.proofs.UnifySolution.{solutions_make_equal}
 
+-- structures of one name and length give way to their arguments
 pub arguments_decide : ArgumentsDecide
 arguments_decide last f ts us es n h =
     stepped last (structure f ts) (structure f us) es (goes_on (argument_equations ts us es)) h (cond-true (bytes_eq f f && count_of ts == count_of us) _ _ (and_from (bytes_eq f f) (count_of ts == count_of us) ((bytes_eq-Decides f f).1 refl) (eq-eqb (count_of ts) (count_of us) n)))
@@ -27,9 +28,11 @@ right_binds v (integer i) es o l = refl
 right_binds v (atom a) es o l = refl
 right_binds v (structure f ts) es o l = cond-false (occurs_in v ts) _ _ o
 
+-- a variable on the left takes the right side
 pub left_takes_right : LeftTakesRight
 left_takes_right last v t es o l h = stepped last (variable v) t es (binds v t es) h (left_binds v t es o l)
 
+-- a variable on the right takes the left side
 pub right_takes_left : RightTakesLeft
 right_takes_left last v t es o l h = stepped last t (variable v) es (binds v t es) h (right_binds v t es o l)
 
@@ -38,5 +41,6 @@ none_if_never : {A : Type 0} (o : Option A) → ((x : A) → o ≡ Some x → �
 none_if_never None h = refl
 none_if_never (Some x) h = absurd (h x refl)
 
+-- equations that no replacements make equal have no solution
 pub none_where_none_unify : NoneWhereNoneUnify
 none_where_none_unify last es h = none_if_never (solve last es) (λ rs e. h rs (solutions_make_equal last es rs e))

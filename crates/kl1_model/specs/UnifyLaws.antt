@@ -4,7 +4,7 @@ use Rattle.std.specs.List.{AllByRecursion}
 use Rattle.kl1_model.specs.Term.{Term, variable, integer, atom, structure, Terms, none, more, count_of, same_term, occurs, Replacement, replaced}
 use Rattle.kl1_model.specs.Unify.{Equation, argument_equations, Front, goes_on, fails, binds, front, after, replace_in_all, solve}
 
--- all variables of a term are numbered at most so
+-- all variables of a term are numbered up to the last
 abbrev mutual
   pub NumberedTo : ℕ → Term → Type 0
   NumberedTo last (variable n) = n ≤ last
@@ -16,7 +16,7 @@ abbrev mutual
   EachNumberedTo last none = ⊤
   EachNumberedTo last (more t ts) = NumberedTo last t × EachNumberedTo last ts
 
--- all variables of all equations are numbered at most so
+-- all variables of all equations are numbered up to the last
 abbrev pub AllNumberedTo : ℕ → List Equation → Type 0
 AllNumberedTo last es = AllByRecursion (λ e. NumberedTo last e.left × NumberedTo last e.right) es
 
@@ -32,7 +32,7 @@ abbrev mutual
   each_substituted s none = none
   each_substituted s (more t ts) = more (substituted s t) (each_substituted s ts)
 
--- where a term is a variable, it is lower than this one
+-- a term is a lower variable than this one, or no variable
 abbrev pub IsLower : ℕ → Term → Type 0
 IsLower v (variable w) = w < v
 IsLower v _ = ⊤
@@ -45,13 +45,13 @@ NothingIsSolved = (last : ℕ) → solve last [] ≡ Some []
 abbrev pub FrontDecides : Type 0
 FrontDecides = (last : ℕ) (e : Equation) (es : List Equation) → AllNumberedTo last (e ∷ es) → solve last (e ∷ es) ≡ after (solve last) (solve last) (front e.left e.right es)
 
--- the numbers of what the front equation leads to are at most so
+-- all variables of what the front equation leads to are numbered up to the last
 abbrev pub FrontNumberedTo : ℕ → Front → Type 0
 FrontNumberedTo last (goes_on es) = AllNumberedTo last es
 FrontNumberedTo last fails = ⊤
 FrontNumberedTo last (binds v t es) = (v ≤ last) × NumberedTo last t × AllNumberedTo last (replace_in_all v t es)
 
--- what the front equation leads to has no higher numbers
+-- what the front equation leads to brings in no higher numbers
 abbrev pub FrontKeepsNumbers : Type 0
 FrontKeepsNumbers = (last : ℕ) (e : Equation) (es : List Equation) → AllNumberedTo last (e ∷ es) → FrontNumberedTo last (front e.left e.right es)
 
@@ -75,11 +75,11 @@ MakesEqual f es = AllByRecursion (λ e. f e.left ≡ f e.right) es
 abbrev pub SolutionsMakeEqual : Type 0
 SolutionsMakeEqual = (last : ℕ) (es : List Equation) (rs : List Replacement) → solve last es ≡ Some rs → MakesEqual (replaced rs) es
 
--- in a solution a variable is replaced by a lower one, or by a term that is none and has not the variable in it
+-- in a solution a variable is replaced by a lower variable, or by a term that is none and in which it doesn't occur
 abbrev pub ReplacedByLower : Type 0
 ReplacedByLower = (last : ℕ) (es : List Equation) (rs : List Replacement) → solve last es ≡ Some rs → AllByRecursion (λ r. IsFalse (occurs r.number r.by) × IsLower r.number r.by) rs
 
--- no number that is replaced is replaced or brought in again later
+-- no number that is replaced is replaced again or brought in again later
 abbrev pub NeverComeBack : List Replacement → Type 0
 NeverComeBack [] = ⊤
 NeverComeBack (r ∷ rs) = AllByRecursion (λ later. (later.number ≢ r.number) × IsFalse (occurs r.number later.by)) rs × NeverComeBack rs
@@ -96,31 +96,31 @@ ReplacedAreGone = (last : ℕ) (es : List Equation) (rs : List Replacement) → 
 abbrev pub SolutionsKeepNumbers : Type 0
 SolutionsKeepNumbers = (last : ℕ) (es : List Equation) (rs : List Replacement) → AllNumberedTo last es → solve last es ≡ Some rs → AllByRecursion (λ r. (r.number ≤ last) × NumberedTo last r.by) rs
 
--- where there is no solution, no terms in place of variables make both sides of each equation equal
+-- where there is no solution, no terms in place of the variables make both sides of each equation equal
 abbrev pub FailureLeavesNone : Type 0
 FailureLeavesNone = (last : ℕ) (es : List Equation) → AllNumberedTo last es → solve last es ≡ None → (s : ℕ → Term) → MakesEqual (substituted s) es → ⊥
 
--- nor do any replacements
+-- where there is no solution, no replacements do either
 abbrev pub FailureLeavesNoReplacements : Type 0
 FailureLeavesNoReplacements = (last : ℕ) (es : List Equation) → AllNumberedTo last es → solve last es ≡ None → (rs : List Replacement) → MakesEqual (replaced rs) es → ⊥
 
--- whatever makes both sides of each equation equal is the same after a solution
+-- a solution comes before whatever makes both sides of each equation equal: done first, it changes nothing in what that gives
 abbrev pub SolutionsAreMostGeneral : Type 0
 SolutionsAreMostGeneral = (last : ℕ) (es : List Equation) (rs : List Replacement) → solve last es ≡ Some rs → (s : ℕ → Term) → MakesEqual (substituted s) es → (t : Term) → substituted s (replaced rs t) ≡ substituted s t
 
--- replacements too
+-- the same of other replacements
 abbrev pub NoReplacementsAreMoreGeneral : Type 0
 NoReplacementsAreMoreGeneral = (last : ℕ) (es : List Equation) (rs others : List Replacement) → solve last es ≡ Some rs → MakesEqual (replaced others) es → (t : Term) → replaced others (replaced rs t) ≡ replaced others t
 
--- structures of one name and length are solved as their arguments
+-- structures of one name and length give way to their arguments
 abbrev pub ArgumentsDecide : Type 0
 ArgumentsDecide = (last : ℕ) (f : List ℕ) (ts us : Terms) (es : List Equation) → count_of ts ≡ count_of us → AllNumberedTo last (record { left = structure f ts; right = structure f us } ∷ es) → solve last (record { left = structure f ts; right = structure f us } ∷ es) ≡ solve last (argument_equations ts us es)
 
--- a replacement in front of those of the other equations, where the variable has been replaced
+-- a replacement, and then those that solve the other equations after it
 abbrev pub bound_first : ℕ → ℕ → Term → List Equation → Option (List Replacement)
 bound_first last v t es = option_map (λ rest. record { number = v; by = t } ∷ rest) (solve last (replace_in_all v t es))
 
--- a variable on the left takes what is lower or no variable, and is without it
+-- a variable on the left takes a lower variable, or a term that is none and in which it doesn't occur
 abbrev pub LeftTakesRight : Type 0
 LeftTakesRight = (last v : ℕ) (t : Term) (es : List Equation) → IsFalse (occurs v t) → IsLower v t → AllNumberedTo last (record { left = variable v; right = t } ∷ es) → solve last (record { left = variable v; right = t } ∷ es) ≡ bound_first last v t es
 

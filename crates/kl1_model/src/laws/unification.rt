@@ -1,4 +1,4 @@
-//! Laws of unification.
+//! Laws of unification; `last` is the highest number that a variable of the equations may have.
 ghost use Rattle.kl1_model.specs.UnifyLaws.{NothingIsSolved, FrontDecides, FrontKeepsNumbers, AnyBoundServes, SameTermDecides, EqualSidesAreDropped, SolutionsMakeEqual, ReplacedByLower, ReplacedOnce, ReplacedAreGone, SolutionsKeepNumbers, FailureLeavesNone, FailureLeavesNoReplacements, SolutionsAreMostGeneral, NoReplacementsAreMoreGeneral, ConstantsClash, NeverInItself, NeverInItselfLater, HigherTakesLower, LowerStays, BothSidesGive, RestIsReplaced, NamesClash, LengthsClash, InnerArgumentsGive, RestFollows, ArgumentsDecide, LeftTakesRight, RightTakesLeft, NoneWhereNoneUnify};
 
 /// Equations are solved by what their front equation leads to, whatever the fuel; any bound on the numbers serves.
@@ -28,7 +28,7 @@ pub fn solutions_make_sides_equal()
     ensures { SolutionsMakeEqual }
 {}
 
-/// A variable is replaced by a lower one or by a term that is none and is without it, once, and is gone then.
+/// A variable is replaced once, by a lower one or by a term that is none and in which it doesn't occur, and is gone then.
 pub fn replacements_are_orderly()
     ensures lower { ReplacedByLower }
     ensures once { ReplacedOnce }
@@ -36,13 +36,13 @@ pub fn replacements_are_orderly()
     ensures numbers { SolutionsKeepNumbers }
 {}
 
-/// Where there is no solution, nothing in place of the variables makes both sides of each equation equal.
+/// Where there is no solution, no terms in place of the variables make both sides of each equation equal.
 pub fn failures_have_no_unifier()
     ensures substitutions { FailureLeavesNone }
     ensures replacements { FailureLeavesNoReplacements }
 {}
 
-/// Whatever makes both sides of each equation equal is the same after a solution.
+/// A solution done before whatever makes both sides of each equation equal changes nothing in what that gives.
 pub fn solutions_are_most_general()
     ensures substitutions { SolutionsAreMostGeneral }
     ensures replacements { NoReplacementsAreMoreGeneral }
