@@ -7,9 +7,9 @@ use Rattle.std.specs.Prelude.{bytes_eq}
 use Rattle.std.specs.Ordering.{int_eq}
 use Rattle.kl1_model.specs.Term.{Term, variable, integer, atom, structure, Terms, none, more}
 use Rattle.kl1_model.specs.Unify.{Equation, argument_equations, goes_on, solve}
-use Rattle.kl1_model.specs.UnifyLaws.{NumberedTo, EachNumberedTo, AllNumberedTo, EqualSidesAreDropped}
+use Rattle.kl1_model.specs.UnifyLaws.{equate, NumberedTo, EachNumberedTo, AllNumberedTo, EqualSidesAreDropped}
 use Rattle.kl1_model.proofs.TermFacts.{same_term-true}
-use Rattle.kl1_model.proofs.Occurrences.{equate, numbered-arguments}
+use Rattle.kl1_model.proofs.Occurrences.{numbered-arguments}
 use Rattle.kl1_model.proofs.UnifyRule.{stepped}
 use Rattle.kl1_model.proofs.UnifySteps.{arguments_decide}
 

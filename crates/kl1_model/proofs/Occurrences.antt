@@ -7,10 +7,6 @@ use Rattle.kl1_model.specs.Unify.{Equation, argument_equations, replace_in_all}
 use Rattle.kl1_model.specs.UnifyLaws.{NumberedTo, EachNumberedTo, AllNumberedTo}
 use Rattle.kl1_model.proofs.TermFacts.{occurs-replace, occurs-replaced}
 
--- two terms as an equation
-abbrev pub equate : Term → Term → Equation
-equate a b = record { left = a; right = b }
-
 -- ---- numbers up to the last
 
 mutual

@@ -3,9 +3,9 @@ use Rattle.std.proofs.Common.{◌≡◌, ℕ, zero, suc, ◌+◌, ◌<◌, ◌�
 use Rattle.std.proofs.lemmas.Bool.{or_parts, or_from, or_left, or_right, cases_eq, cases_lt}
 use Rattle.kl1_model.specs.Term.{Term, variable, structure, Terms, more, sizes, occurs, Replacement}
 use Rattle.kl1_model.specs.Unify.{Equation, Front, argument_equations, front, replace_in_all, after, equations_size, walk, solve_within, solve}
-use Rattle.kl1_model.specs.UnifyLaws.{NumberedTo, AllNumberedTo, FrontNumberedTo, FrontDecides, FrontKeepsNumbers, AnyBoundServes, NothingIsSolved}
+use Rattle.kl1_model.specs.UnifyLaws.{equate, NumberedTo, AllNumberedTo, FrontNumberedTo, FrontDecides, FrontKeepsNumbers, AnyBoundServes, NothingIsSolved}
 use Rattle.kl1_model.proofs.UnifyFront.{front_cases}
-use Rattle.kl1_model.proofs.Occurrences.{equate, numbered-replace_in_all, numbered-arguments, Absent, absent-replace_in_all, absent-replaced, absent-arguments}
+use Rattle.kl1_model.proofs.Occurrences.{numbered-replace_in_all, numbered-arguments, Absent, absent-replace_in_all, absent-replaced, absent-arguments}
 
 -- ---- how many variables occur
 

@@ -1,14 +1,14 @@
 -- What a solution does, case by case of what the front equations led to.
-use Rattle.std.proofs.Common.{◌≡◌, ℕ, ◌≤◌, ◌≢◌, ◌==◌, false, List, [], ◌∷◌, refl, sym, ◌∙◌, ap, eq-eqb}
+use Rattle.std.proofs.Common.{Option, Some, None, ◌≡◌, ℕ, ◌≤◌, ◌≢◌, ◌==◌, false, List, [], ◌∷◌, refl, sym, ◌∙◌, ap, eq-eqb}
 use Rattle.std.proofs.lemmas.Bool.{cond-true, eqb-false}
 use Rattle.std.specs.List.{AllByRecursion}
 use Rattle.kl1_model.specs.Term.{Term, variable, structure, Terms, count_of, occurs, replace, Replacement, replaced}
-use Rattle.kl1_model.specs.Unify.{Equation, argument_equations, replace_in_all}
-use Rattle.kl1_model.specs.UnifyLaws.{NumberedTo, AllNumberedTo, substituted, each_substituted, MakesEqual, SolutionsMakeEqual, IsLower, ReplacedByLower, NeverComeBack, ReplacedOnce, ReplacedAreGone, SolutionsKeepNumbers, SolutionsAreMostGeneral, NoReplacementsAreMoreGeneral}
+use Rattle.kl1_model.specs.Unify.{solve, Equation, argument_equations, replace_in_all}
+use Rattle.kl1_model.specs.UnifyLaws.{equate, bind, NumberedTo, AllNumberedTo, substituted, each_substituted, MakesEqual, SolutionsMakeEqual, IsLower, ReplacedByLower, NeverComeBack, ReplacedOnce, ReplacedAreGone, SolutionsKeepNumbers, SolutionsAreMostGeneral, NoReplacementsAreMoreGeneral, NoneWhereNoneUnify}
 use Rattle.kl1_model.proofs.TermFacts.{occurs-replace, occurs-replaced, replace-absent}
-use Rattle.kl1_model.proofs.Occurrences.{equate, numbered-replace_in_all, numbered-arguments, Absent, absent-replace_in_all, absent-replaced, absent-arguments}
+use Rattle.kl1_model.proofs.Occurrences.{numbered-replace_in_all, numbered-arguments, Absent, absent-replace_in_all, absent-replaced, absent-arguments}
 use Rattle.kl1_model.proofs.Substitutions.{substituted-replace, values_of, replaced_is, equal_arguments, arguments_equal, MakesEqual-same, MakesEqual-replaced, replaced-MakesEqual}
-use Rattle.kl1_model.proofs.UnifySound.{bind, HoldsInEachCase, holds_of_solution}
+use Rattle.kl1_model.proofs.UnifySound.{HoldsInEachCase, holds_of_solution}
 
 -- ---- both sides become equal
 
@@ -139,3 +139,14 @@ none_more_general last es rs others e h t =
     replaced_is others (replaced rs t)
     ∙ solutions_are_most_general last es rs e (values_of others) (MakesEqual-same (replaced others) (substituted (values_of others)) es (replaced_is others) h) t
     ∙ sym (replaced_is others t)
+
+-- ---- none
+
+-- a value is none where it can be nothing else
+none_if_never : {A : Type 0} (o : Option A) → ((x : A) → o ≡ Some x → ⊥) → o ≡ None
+none_if_never None h = refl
+none_if_never (Some x) h = absurd (h x refl)
+
+-- equations that no replacements make equal have no solution
+pub none_where_none_unify : NoneWhereNoneUnify
+none_where_none_unify last es h = none_if_never (solve last es) (λ rs e. h rs (solutions_make_equal last es rs e))

@@ -1,13 +1,12 @@
 -- The steps of unification, each from what is known of the front equation.
-use Rattle.std.proofs.Common.{◌≡◌, ℕ, ◌==◌, ◌&&◌, nat_lt, false, cond, List, Option, Some, None, refl, sym, ◌∙◌, eq-eqb, le_of_lt}
+use Rattle.std.proofs.Common.{◌≡◌, ℕ, ◌==◌, ◌&&◌, nat_lt, false, cond, List, refl, sym, ◌∙◌, eq-eqb, le_of_lt}
 use Rattle.std.proofs.lemmas.Bool.{and_from, cond-true, cond-false, le-ltb, lt-ltb, ne_eqb, eqb-false}
 use Rattle.std.proofs.lemmas.Slice.Eq.{bytes_eq-Decides}
 use Rattle.std.specs.Prelude.{bytes_eq}
 use Rattle.kl1_model.specs.Term.{Term, variable, integer, atom, structure, count_of, occurs, occurs_in}
-use Rattle.kl1_model.specs.Unify.{Equation, argument_equations, goes_on, binds, front, solve}
-use Rattle.kl1_model.specs.UnifyLaws.{IsLower, ArgumentsDecide, LeftTakesRight, RightTakesLeft, NoneWhereNoneUnify}
+use Rattle.kl1_model.specs.Unify.{Equation, argument_equations, goes_on, binds, front}
+use Rattle.kl1_model.specs.UnifyLaws.{IsLower, ArgumentsDecide, LeftTakesRight, RightTakesLeft}
 use Rattle.kl1_model.proofs.UnifyRule.{stepped}
-use Rattle.kl1_model.proofs.UnifySolution.{solutions_make_equal}
 
 -- structures of one name and length give way to their arguments
 pub arguments_decide : ArgumentsDecide
@@ -35,12 +34,3 @@ left_takes_right last v t es o l h = stepped last (variable v) t es (binds v t e
 -- a variable on the right takes the left side
 pub right_takes_left : RightTakesLeft
 right_takes_left last v t es o l h = stepped last t (variable v) es (binds v t es) h (right_binds v t es o l)
-
--- a value is none where it can be nothing else
-none_if_never : {A : Type 0} (o : Option A) → ((x : A) → o ≡ Some x → ⊥) → o ≡ None
-none_if_never None h = refl
-none_if_never (Some x) h = absurd (h x refl)
-
--- equations that no replacements make equal have no solution
-pub none_where_none_unify : NoneWhereNoneUnify
-none_where_none_unify last es h = none_if_never (solve last es) (λ rs e. h rs (solutions_make_equal last es rs e))

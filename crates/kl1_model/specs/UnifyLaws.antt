@@ -37,6 +37,14 @@ abbrev pub IsLower : ℕ → Term → Type 0
 IsLower v (variable w) = w < v
 IsLower v _ = ⊤
 
+-- two terms as an equation
+abbrev pub equate : Term → Term → Equation
+equate t u = record { left = t; right = u }
+
+-- a variable and what takes its place
+abbrev pub bind : ℕ → Term → Replacement
+bind v t = record { number = v; by = t }
+
 -- no equations are solved by no replacements
 abbrev pub NothingIsSolved : Type 0
 NothingIsSolved = (last : ℕ) → solve last [] ≡ Some []
@@ -59,13 +67,48 @@ FrontKeepsNumbers = (last : ℕ) (e : Equation) (es : List Equation) → AllNumb
 abbrev pub AnyBoundServes : Type 0
 AnyBoundServes = (last other : ℕ) (es : List Equation) → AllNumberedTo last es → AllNumberedTo other es → solve last es ≡ solve other es
 
+-- whether two terms are the same tree is whether they are equal
+abbrev pub SameTermDecides : Type 0
+SameTermDecides = (t u : Term) → Decides (same_term t u) (t ≡ u)
+
 -- an equation in front with the same tree on both sides is dropped
 abbrev pub EqualSidesAreDropped : Type 0
 EqualSidesAreDropped = (last : ℕ) (e : Equation) (es : List Equation) → IsTrue (same_term e.left e.right) → AllNumberedTo last (e ∷ es) → solve last (e ∷ es) ≡ solve last es
 
--- whether two terms are the same tree is whether they are equal
-abbrev pub SameTermDecides : Type 0
-SameTermDecides = (t u : Term) → Decides (same_term t u) (t ≡ u)
+-- structures of one name and length give way to their arguments
+abbrev pub ArgumentsDecide : Type 0
+ArgumentsDecide = (last : ℕ) (f : List ℕ) (ts us : Terms) (es : List Equation) → count_of ts ≡ count_of us → AllNumberedTo last (equate (structure f ts) (structure f us) ∷ es) → solve last (equate (structure f ts) (structure f us) ∷ es) ≡ solve last (argument_equations ts us es)
+
+-- a replacement, and then those that solve the other equations after it
+abbrev pub bound_first : ℕ → ℕ → Term → List Equation → Option (List Replacement)
+bound_first last v t es = option_map (λ rest. bind v t ∷ rest) (solve last (replace_in_all v t es))
+
+-- a variable on the left takes a lower variable, or a term that is none and in which it doesn't occur
+abbrev pub LeftTakesRight : Type 0
+LeftTakesRight = (last v : ℕ) (t : Term) (es : List Equation) → IsFalse (occurs v t) → IsLower v t → AllNumberedTo last (equate (variable v) t ∷ es) → solve last (equate (variable v) t ∷ es) ≡ bound_first last v t es
+
+-- and so does a variable on the right
+abbrev pub RightTakesLeft : Type 0
+RightTakesLeft = (last v : ℕ) (t : Term) (es : List Equation) → IsFalse (occurs v t) → IsLower v t → AllNumberedTo last (equate t (variable v) ∷ es) → solve last (equate t (variable v) ∷ es) ≡ bound_first last v t es
+
+-- how equations are solved, with no fuel: equal sides are dropped, structures give way to their arguments, a variable
+-- takes a lower variable, or a term that is none and in which it doesn't occur, and where nothing makes the front
+-- sides equal there is no solution
+pub data Solves : List Equation → Option (List Replacement) → Type 0 where
+  all_done : Solves [] (Some [])
+  same_sides : (t : Term) {es : List Equation} {o : Option (List Replacement)} → Solves es o → Solves (equate t t ∷ es) o
+  arguments : (f : List ℕ) (ts us : Terms) {es : List Equation} {o : Option (List Replacement)} → count_of ts ≡ count_of us → Solves (argument_equations ts us es) o → Solves (equate (structure f ts) (structure f us) ∷ es) o
+  left_takes : (v : ℕ) (t : Term) {es : List Equation} {o : Option (List Replacement)} → IsFalse (occurs v t) → IsLower v t → Solves (replace_in_all v t es) o → Solves (equate (variable v) t ∷ es) (option_map (λ rest. bind v t ∷ rest) o)
+  right_takes : (v : ℕ) (t : Term) {es : List Equation} {o : Option (List Replacement)} → IsFalse (occurs v t) → IsLower v t → Solves (replace_in_all v t es) o → Solves (equate t (variable v) ∷ es) (option_map (λ rest. bind v t ∷ rest) o)
+  never_equal : (t u : Term) {es : List Equation} → ((rs : List Replacement) → replaced rs t ≡ replaced rs u → ⊥) → Solves (equate t u ∷ es) None
+
+-- equations are solved so
+abbrev pub SolvedByDerivation : Type 0
+SolvedByDerivation = (last : ℕ) (es : List Equation) → AllNumberedTo last es → Solves es (solve last es)
+
+-- whichever of these steps solve equations, the answer is one
+abbrev pub DerivationsAgree : Type 0
+DerivationsAgree = (last : ℕ) (es : List Equation) (o : Option (List Replacement)) → AllNumberedTo last es → Solves es o → solve last es ≡ o
 
 -- a function on terms makes both sides of each equation equal
 abbrev pub MakesEqual : (Term → Term) → List Equation → Type 0
@@ -104,6 +147,10 @@ FailureLeavesNone = (last : ℕ) (es : List Equation) → AllNumberedTo last es 
 abbrev pub FailureLeavesNoReplacements : Type 0
 FailureLeavesNoReplacements = (last : ℕ) (es : List Equation) → AllNumberedTo last es → solve last es ≡ None → (rs : List Replacement) → MakesEqual (replaced rs) es → ⊥
 
+-- equations that no replacements make equal have no solution
+abbrev pub NoneWhereNoneUnify : Type 0
+NoneWhereNoneUnify = (last : ℕ) (es : List Equation) → ((rs : List Replacement) → MakesEqual (replaced rs) es → ⊥) → solve last es ≡ None
+
 -- a solution comes before whatever makes both sides of each equation equal: done first, it changes nothing in what that gives
 abbrev pub SolutionsAreMostGeneral : Type 0
 SolutionsAreMostGeneral = (last : ℕ) (es : List Equation) (rs : List Replacement) → solve last es ≡ Some rs → (s : ℕ → Term) → MakesEqual (substituted s) es → (t : Term) → substituted s (replaced rs t) ≡ substituted s t
@@ -111,26 +158,6 @@ SolutionsAreMostGeneral = (last : ℕ) (es : List Equation) (rs : List Replaceme
 -- the same of other replacements
 abbrev pub NoReplacementsAreMoreGeneral : Type 0
 NoReplacementsAreMoreGeneral = (last : ℕ) (es : List Equation) (rs others : List Replacement) → solve last es ≡ Some rs → MakesEqual (replaced others) es → (t : Term) → replaced others (replaced rs t) ≡ replaced others t
-
--- structures of one name and length give way to their arguments
-abbrev pub ArgumentsDecide : Type 0
-ArgumentsDecide = (last : ℕ) (f : List ℕ) (ts us : Terms) (es : List Equation) → count_of ts ≡ count_of us → AllNumberedTo last (record { left = structure f ts; right = structure f us } ∷ es) → solve last (record { left = structure f ts; right = structure f us } ∷ es) ≡ solve last (argument_equations ts us es)
-
--- a replacement, and then those that solve the other equations after it
-abbrev pub bound_first : ℕ → ℕ → Term → List Equation → Option (List Replacement)
-bound_first last v t es = option_map (λ rest. record { number = v; by = t } ∷ rest) (solve last (replace_in_all v t es))
-
--- a variable on the left takes a lower variable, or a term that is none and in which it doesn't occur
-abbrev pub LeftTakesRight : Type 0
-LeftTakesRight = (last v : ℕ) (t : Term) (es : List Equation) → IsFalse (occurs v t) → IsLower v t → AllNumberedTo last (record { left = variable v; right = t } ∷ es) → solve last (record { left = variable v; right = t } ∷ es) ≡ bound_first last v t es
-
--- and so does a variable on the right
-abbrev pub RightTakesLeft : Type 0
-RightTakesLeft = (last v : ℕ) (t : Term) (es : List Equation) → IsFalse (occurs v t) → IsLower v t → AllNumberedTo last (record { left = t; right = variable v } ∷ es) → solve last (record { left = t; right = variable v } ∷ es) ≡ bound_first last v t es
-
--- equations that no replacements make equal have no solution
-abbrev pub NoneWhereNoneUnify : Type 0
-NoneWhereNoneUnify = (last : ℕ) (es : List Equation) → ((rs : List Replacement) → MakesEqual (replaced rs) es → ⊥) → solve last es ≡ None
 
 -- ---- worked rows, with X and Y numbered 1 and 2
 
@@ -152,11 +179,7 @@ f_of t u = structure (codes "f") (more t (more u none))
 
 -- the replacements that make two terms equal
 abbrev pub solved : Term → Term → Option (List Replacement)
-solved t u = solve 2 (record { left = t; right = u } ∷ [])
-
--- a variable replaced by a term
-abbrev pub replaces : ℕ → Term → Replacement
-replaces v t = record { number = v; by = t }
+solved t u = solve 2 (equate t u ∷ [])
 
 -- f(X, a) and f(1, b) are never equal
 abbrev pub ConstantsClash : Type 0
@@ -172,19 +195,19 @@ NeverInItselfLater = solved (f_of variable_x variable_x) (f_of variable_y (f_of 
 
 -- f(X, Y) and f(Y, X) are equal where Y is X
 abbrev pub HigherTakesLower : Type 0
-HigherTakesLower = solved (f_of variable_x variable_y) (f_of variable_y variable_x) ≡ Some (replaces 2 variable_x ∷ [])
+HigherTakesLower = solved (f_of variable_x variable_y) (f_of variable_y variable_x) ≡ Some (bind 2 variable_x ∷ [])
 
 -- of two variables the lower stays, on whichever side it is
 abbrev pub LowerStays : Type 0
-LowerStays = (solved variable_x variable_y ≡ Some (replaces 2 variable_x ∷ [])) × (solved variable_y variable_x ≡ Some (replaces 2 variable_x ∷ []))
+LowerStays = (solved variable_x variable_y ≡ Some (bind 2 variable_x ∷ [])) × (solved variable_y variable_x ≡ Some (bind 2 variable_x ∷ []))
 
 -- f(X, b) and f(a, Y) are equal where X is a and Y is b
 abbrev pub BothSidesGive : Type 0
-BothSidesGive = solved (f_of variable_x atom_b) (f_of atom_a variable_y) ≡ Some (replaces 1 atom_a ∷ replaces 2 atom_b ∷ [])
+BothSidesGive = solved (f_of variable_x atom_b) (f_of atom_a variable_y) ≡ Some (bind 1 atom_a ∷ bind 2 atom_b ∷ [])
 
 -- f(X, X) and f(Y, a) are equal where Y is X, and X is a
 abbrev pub RestIsReplaced : Type 0
-RestIsReplaced = solved (f_of variable_x variable_x) (f_of variable_y atom_a) ≡ Some (replaces 2 variable_x ∷ replaces 1 atom_a ∷ [])
+RestIsReplaced = solved (f_of variable_x variable_x) (f_of variable_y atom_a) ≡ Some (bind 2 variable_x ∷ bind 1 atom_a ∷ [])
 
 -- f(a, b) and g(a, b) are never equal
 abbrev pub NamesClash : Type 0
@@ -196,8 +219,8 @@ LengthsClash = solved (f_of atom_a atom_b) (structure (codes "f") (more atom_a n
 
 -- f(1, f(X, b)) and f(1, f(a, Y)) are equal where X is a and Y is b
 abbrev pub InnerArgumentsGive : Type 0
-InnerArgumentsGive = solved (f_of (integer (pos 1)) (f_of variable_x atom_b)) (f_of (integer (pos 1)) (f_of atom_a variable_y)) ≡ Some (replaces 1 atom_a ∷ replaces 2 atom_b ∷ [])
+InnerArgumentsGive = solved (f_of (integer (pos 1)) (f_of variable_x atom_b)) (f_of (integer (pos 1)) (f_of atom_a variable_y)) ≡ Some (bind 1 atom_a ∷ bind 2 atom_b ∷ [])
 
 -- f(f(a, b), X) and f(f(a, b), b) are equal where X is b
 abbrev pub RestFollows : Type 0
-RestFollows = solved (f_of (f_of atom_a atom_b) variable_x) (f_of (f_of atom_a atom_b) atom_b) ≡ Some (replaces 1 atom_b ∷ [])
+RestFollows = solved (f_of (f_of atom_a atom_b) variable_x) (f_of (f_of atom_a atom_b) atom_b) ≡ Some (bind 1 atom_b ∷ [])

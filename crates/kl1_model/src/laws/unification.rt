@@ -1,5 +1,5 @@
 //! Laws of unification; `last` is the highest number that a variable of the equations may have.
-ghost use Rattle.kl1_model.specs.UnifyLaws.{NothingIsSolved, FrontDecides, FrontKeepsNumbers, AnyBoundServes, SameTermDecides, EqualSidesAreDropped, SolutionsMakeEqual, ReplacedByLower, ReplacedOnce, ReplacedAreGone, SolutionsKeepNumbers, FailureLeavesNone, FailureLeavesNoReplacements, SolutionsAreMostGeneral, NoReplacementsAreMoreGeneral, ConstantsClash, NeverInItself, NeverInItselfLater, HigherTakesLower, LowerStays, BothSidesGive, RestIsReplaced, NamesClash, LengthsClash, InnerArgumentsGive, RestFollows, ArgumentsDecide, LeftTakesRight, RightTakesLeft, NoneWhereNoneUnify};
+ghost use Rattle.kl1_model.specs.UnifyLaws.{NothingIsSolved, FrontDecides, FrontKeepsNumbers, AnyBoundServes, SameTermDecides, EqualSidesAreDropped, SolutionsMakeEqual, ReplacedByLower, ReplacedOnce, ReplacedAreGone, SolutionsKeepNumbers, FailureLeavesNone, FailureLeavesNoReplacements, SolutionsAreMostGeneral, NoReplacementsAreMoreGeneral, ConstantsClash, NeverInItself, NeverInItselfLater, HigherTakesLower, LowerStays, BothSidesGive, RestIsReplaced, NamesClash, LengthsClash, InnerArgumentsGive, RestFollows, ArgumentsDecide, LeftTakesRight, RightTakesLeft, NoneWhereNoneUnify, SolvedByDerivation, DerivationsAgree};
 
 /// Equations are solved by what their front equation leads to, whatever the fuel; any bound on the numbers serves.
 pub fn unification_has_no_fuel()
@@ -15,12 +15,19 @@ pub fn equal_sides_are_dropped()
     ensures dropped { EqualSidesAreDropped }
 {}
 
-/// The steps of unification: arguments for structures, a term for a variable, and none where nothing unifies.
+/// Structures of one name and length give way to their arguments, and a variable takes a lower variable or a term that
+/// is none and in which it doesn't occur.
 pub fn front_equations_step()
     ensures arguments { ArgumentsDecide }
     ensures left { LeftTakesRight }
     ensures right { RightTakesLeft }
-    ensures none { NoneWhereNoneUnify }
+{}
+
+/// Equations are solved by dropping, taking apart and replacing until none is left, and whichever of these steps are
+/// taken, the answer is one.
+pub fn derivations_give_the_answer()
+    ensures solved { SolvedByDerivation }
+    ensures one { DerivationsAgree }
 {}
 
 /// A solution makes both sides of each equation equal.
@@ -36,10 +43,11 @@ pub fn replacements_are_orderly()
     ensures numbers { SolutionsKeepNumbers }
 {}
 
-/// Where there is no solution, no terms in place of the variables make both sides of each equation equal.
+/// There is no solution just where no terms in place of the variables make both sides of each equation equal.
 pub fn failures_have_no_unifier()
     ensures substitutions { FailureLeavesNone }
     ensures replacements { FailureLeavesNoReplacements }
+    ensures none { NoneWhereNoneUnify }
 {}
 
 /// A solution done before whatever makes both sides of each equation equal changes nothing in what that gives.

@@ -1,4 +1,4 @@
-use Rattle.kl1_model.proofs.UnifySteps.{arguments_decide, left_takes_right, right_takes_left, none_where_none_unify}
+use Rattle.kl1_model.proofs.UnifySteps.{arguments_decide, left_takes_right, right_takes_left}
 use Rattle.kl1_model.proofs.laws.unification.front_equations_step.Goals as goal
 
 pub returns-clause-arguments : goal.returns-clause-arguments
@@ -9,6 +9,3 @@ returns-clause-left c = left_takes_right
 
 pub returns-clause-right : goal.returns-clause-right
 returns-clause-right c = right_takes_left
-
-pub returns-clause-none : goal.returns-clause-none
-returns-clause-none c = none_where_none_unify
