@@ -1,10 +1,13 @@
 pub mod ExampleRows
 pub mod TermFacts
+pub mod Occurrences
 pub mod Substitutions
 pub mod UnifyFront
-pub mod Occurrences
 pub mod UnifyRule
+pub mod UnifySteps
 pub mod EqualSides
 pub mod UnifySound
 pub mod UnifySolution
+pub mod UnifyAnswer
+pub mod UnifyDerivation
 pub mod UnifyFails

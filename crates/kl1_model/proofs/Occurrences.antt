@@ -1,4 +1,4 @@
--- Variables in equations: numbers at most so, and what does not occur still does not after a replacement.
+-- Variables in equations: those numbered up to the last stay so, and what does not occur still does not after a replacement.
 use Rattle.std.proofs.Common.{◌≡◌, ℕ, ◌<◌, ◌≤◌, ◌==◌, true, false, List, [], ◌∷◌, refl, arith, eq-eqb}
 use Rattle.std.proofs.lemmas.Bool.{or_parts, or_from, or_left, or_right, cond_both, ne_eqb}
 use Rattle.std.specs.List.{AllByRecursion}
@@ -7,14 +7,10 @@ use Rattle.kl1_model.specs.Unify.{Equation, argument_equations, replace_in_all}
 use Rattle.kl1_model.specs.UnifyLaws.{NumberedTo, EachNumberedTo, AllNumberedTo}
 use Rattle.kl1_model.proofs.TermFacts.{occurs-replace, occurs-replaced}
 
--- two terms as an equation
-abbrev pub equate : Term → Term → Equation
-equate a b = record { left = a; right = b }
-
--- ---- numbers at most so
+-- ---- numbers up to the last
 
 mutual
-  -- a replacement by a term with numbers at most so keeps them
+  -- a replacement by a term numbered up to the last keeps that
   pub numbered-replace : (last v : ℕ) (u t : Term) → NumberedTo last u → NumberedTo last t → NumberedTo last (replace v u t)
   numbered-replace last v u (variable n) k h = cond_both (n == v) u (variable n) (NumberedTo last) (λ _. k) (λ _. h)
   numbered-replace last v u (integer i) k h = tt
@@ -25,10 +21,12 @@ mutual
   numbered-replace_each last v u none k h = tt
   numbered-replace_each last v u (more t ts) k h = (numbered-replace last v u t k h.0, numbered-replace_each last v u ts k h.1)
 
+-- and in all equations
 pub numbered-replace_in_all : (last v : ℕ) (u : Term) (es : List Equation) → NumberedTo last u → AllNumberedTo last es → AllNumberedTo last (replace_in_all v u es)
 numbered-replace_in_all last v u [] k h = tt
 numbered-replace_in_all last v u (e ∷ es) k h = ((numbered-replace last v u e.left k h.0.0, numbered-replace last v u e.right k h.0.1), numbered-replace_in_all last v u es k h.1)
 
+-- so do arguments in place of structures
 pub numbered-arguments : (last : ℕ) (ts us : Terms) (es : List Equation) → EachNumberedTo last ts → EachNumberedTo last us → AllNumberedTo last es → AllNumberedTo last (argument_equations ts us es)
 numbered-arguments last (more t ts) (more u us) es h k r = ((h.0, k.0), numbered-arguments last ts us es h.1 k.1 r)
 numbered-arguments last _ _ es h k r = r
@@ -46,7 +44,7 @@ mutual
   absent_above_each last v (more t ts) h l = or_from (occurs v t) (occurs_in v ts) (absent_above last v t h.0 l) (absent_above_each last v ts h.1 l)
 
 mutual
-  -- numbers are at most so where each variable that occurs is
+  -- a term is numbered up to the last where each variable that occurs is
   pub numbered_if : (last : ℕ) (t : Term) → ((v : ℕ) → occurs v t ≡ true → v ≤ last) → NumberedTo last t
   numbered_if last (variable n) h = h n (eq-eqb n n refl)
   numbered_if last (integer i) h = tt
@@ -63,14 +61,17 @@ mutual
 abbrev pub Absent : ℕ → List Equation → Type 0
 Absent v es = AllByRecursion (λ e. (occurs v e.left ≡ false) × (occurs v e.right ≡ false)) es
 
+-- what occurs in no equation still does not after a replacement by a term without it
 pub absent-replace_in_all : (w v : ℕ) (u : Term) (es : List Equation) → occurs w u ≡ false → Absent w es → Absent w (replace_in_all v u es)
 absent-replace_in_all w v u [] k h = tt
 absent-replace_in_all w v u (e ∷ es) k h = ((occurs-replace w v u e.left k h.0.0, occurs-replace w v u e.right k h.0.1), absent-replace_in_all w v u es k h.1)
 
+-- a variable that is replaced by a term without it occurs in no equation
 pub absent-replaced : (v : ℕ) (u : Term) (es : List Equation) → occurs v u ≡ false → Absent v (replace_in_all v u es)
 absent-replaced v u [] k = tt
 absent-replaced v u (e ∷ es) k = ((occurs-replaced v u e.left k, occurs-replaced v u e.right k), absent-replaced v u es k)
 
+-- what occurs in neither structure occurs in none of the arguments' equations
 pub absent-arguments : (w : ℕ) (ts us : Terms) (es : List Equation) → occurs_in w ts ≡ false → occurs_in w us ≡ false → Absent w es → Absent w (argument_equations ts us es)
 absent-arguments w (more t ts) (more u us) es h k r =
     let p = or_parts (occurs w t) (occurs_in w ts) h in

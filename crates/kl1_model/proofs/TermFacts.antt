@@ -7,6 +7,7 @@ use Rattle.std.specs.Prelude.{bytes_eq}
 use Rattle.kl1_model.specs.Term.{Term, variable, integer, atom, structure, Terms, none, more, same_term, same_terms, occurs, occurs_in, replace, replace_each}
 
 mutual
+  -- terms that are the same are equal
   pub same_term-true : (t u : Term) → same_term t u ≡ true → t ≡ u
   same_term-true (variable m) (variable n) h = ap variable (eqb-true m n h)
   same_term-true (integer i) (integer j) h = ap integer ((Decides-int_eq i j).0 h)

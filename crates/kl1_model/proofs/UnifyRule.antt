@@ -2,10 +2,10 @@
 use Rattle.std.proofs.Common.{◌≡◌, ℕ, zero, suc, ◌+◌, ◌<◌, ◌≤◌, ◌||◌, Bool, true, false, List, [], ◌∷◌, Option, option_map, refl, sym, ◌∙◌, ap, arith, eq-eqb, le_refl, le_trans, lt_of_lt_of_le, ⊎_elim}
 use Rattle.std.proofs.lemmas.Bool.{or_parts, or_from, or_left, or_right, cases_eq, cases_lt}
 use Rattle.kl1_model.specs.Term.{Term, variable, structure, Terms, more, sizes, occurs, Replacement}
-use Rattle.kl1_model.specs.Unify.{Equation, argument_equations, front, replace_in_all, after, equations_size, walk, solve_within, solve}
-use Rattle.kl1_model.specs.UnifyLaws.{NumberedTo, AllNumberedTo, FrontNumberedTo, FrontDecides, FrontKeepsNumbers, AnyBoundServes, NothingIsSolved}
+use Rattle.kl1_model.specs.Unify.{Equation, Front, argument_equations, front, replace_in_all, after, equations_size, walk, solve_within, solve}
+use Rattle.kl1_model.specs.UnifyLaws.{equate, NumberedTo, AllNumberedTo, FrontNumberedTo, FrontDecides, FrontKeepsNumbers, AnyBoundServes, NothingIsSolved}
 use Rattle.kl1_model.proofs.UnifyFront.{front_cases}
-use Rattle.kl1_model.proofs.Occurrences.{equate, numbered-replace_in_all, numbered-arguments, Absent, absent-replace_in_all, absent-replaced, absent-arguments}
+use Rattle.kl1_model.proofs.Occurrences.{numbered-replace_in_all, numbered-arguments, Absent, absent-replace_in_all, absent-replaced, absent-arguments}
 
 -- ---- how many variables occur
 
@@ -129,9 +129,11 @@ occurs_left v t es = or_left (occurs v (variable v) || occurs v t) (occurs_among
 occurs_right : (v : ℕ) (t : Term) (es : List Equation) → occurs_among (equate t (variable v) ∷ es) v ≡ true
 occurs_right v t es = or_left (occurs v t || occurs v (variable v)) (occurs_among es v) (or_right (occurs v t) (occurs v (variable v)) (eq-eqb v v refl))
 
+-- a variable that takes the other side is lost
 pub loses_left : (last v : ℕ) (t : Term) (es : List Equation) → occurs v t ≡ false → AllNumberedTo last (equate (variable v) t ∷ es) → Loses last (equate (variable v) t ∷ es) (replace_in_all v t es)
 loses_left last v t es o h = loses_bound last v t (equate (variable v) t ∷ es) es h.0.0 h.0.1 h.1 o (occurs_left v t es) (λ x a. (a.0.1, a.1))
 
+-- on either side
 pub loses_right : (last v : ℕ) (t : Term) (es : List Equation) → occurs v t ≡ false → AllNumberedTo last (equate t (variable v) ∷ es) → Loses last (equate t (variable v) ∷ es) (replace_in_all v t es)
 loses_right last v t es o h = loses_bound last v t (equate t (variable v) ∷ es) es h.0.1 h.0.0 h.1 o (occurs_right v t es) (λ x a. (a.0.0, a.1))
 
@@ -191,7 +193,11 @@ front_decides last e es h =
     (λ to s. walk_enough last (solve_within (suc last)) (equations_size (e ∷ es)) (suc (equations_size to)) to s.numbered s.smaller (omega arith))
     (λ to s. solve_enough last (suc last) (suc (suc last)) to s.numbered (let q = s.variables in omega arith) (let q = s.variables in omega arith))
 
--- what the front equation leads to has no higher numbers
+-- a step, where it is known what the front equation leads to
+pub stepped : (last : ℕ) (t u : Term) (es : List Equation) (to : Front) → AllNumberedTo last (equate t u ∷ es) → front t u es ≡ to → solve last (equate t u ∷ es) ≡ after (solve last) (solve last) to
+stepped last t u es to h e = front_decides last (equate t u) es h ∙ ap (after (solve last) (solve last)) e
+
+-- what the front equation leads to brings in no higher numbers
 pub front_numbered : FrontKeepsNumbers
 front_numbered last e es h =
     front_cases es (λ a b r. AllNumberedTo last (equate a b ∷ es) → FrontNumberedTo last r)

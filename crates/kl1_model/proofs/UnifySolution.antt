@@ -1,14 +1,14 @@
 -- What a solution does, case by case of what the front equations led to.
-use Rattle.std.proofs.Common.{◌≡◌, ℕ, ◌≤◌, ◌≢◌, ◌==◌, false, List, [], ◌∷◌, refl, sym, ◌∙◌, ap, eq-eqb}
+use Rattle.std.proofs.Common.{Option, Some, None, ◌≡◌, ℕ, ◌≤◌, ◌≢◌, ◌==◌, false, List, [], ◌∷◌, refl, sym, ◌∙◌, ap, eq-eqb}
 use Rattle.std.proofs.lemmas.Bool.{cond-true, eqb-false}
 use Rattle.std.specs.List.{AllByRecursion}
 use Rattle.kl1_model.specs.Term.{Term, variable, structure, Terms, count_of, occurs, replace, Replacement, replaced, substituted, each_substituted}
-use Rattle.kl1_model.specs.Unify.{Equation, argument_equations, replace_in_all}
-use Rattle.kl1_model.specs.UnifyLaws.{NumberedTo, AllNumberedTo, MakesEqual, SolutionsMakeEqual, IsLower, ReplacedByLower, NeverComeBack, ReplacedOnce, ReplacedAreGone, SolutionsKeepNumbers, SolutionsAreMostGeneral, NoReplacementsAreMoreGeneral}
+use Rattle.kl1_model.specs.Unify.{solve, Equation, argument_equations, replace_in_all}
+use Rattle.kl1_model.specs.UnifyLaws.{equate, bind, NumberedTo, AllNumberedTo, MakesEqual, SolutionsMakeEqual, IsLower, ReplacedByLower, NeverComeBack, ReplacedOnce, ReplacedAreGone, SolutionsKeepNumbers, SolutionsAreMostGeneral, NoReplacementsAreMoreGeneral, NoneWhereNoneUnify}
 use Rattle.kl1_model.proofs.TermFacts.{occurs-replace, occurs-replaced, replace-absent}
-use Rattle.kl1_model.proofs.Occurrences.{equate, numbered-replace_in_all, numbered-arguments, Absent, absent-replace_in_all, absent-replaced, absent-arguments}
+use Rattle.kl1_model.proofs.Occurrences.{numbered-replace_in_all, numbered-arguments, Absent, absent-replace_in_all, absent-replaced, absent-arguments}
 use Rattle.kl1_model.proofs.Substitutions.{substituted-replace, values_of, replaced_is, equal_arguments, arguments_equal, MakesEqual-same, MakesEqual-replaced, replaced-MakesEqual}
-use Rattle.kl1_model.proofs.UnifySound.{bind, HoldsInEachCase, holds_of_solution}
+use Rattle.kl1_model.proofs.UnifySound.{HoldsInEachCase, holds_of_solution}
 
 -- ---- both sides become equal
 
@@ -32,6 +32,7 @@ made_equal = record {
   right = λ v t es rs o w h. (sym (bound_sides v t rs o), MakesEqual-replaced (replaced rs) v t es h);
 }
 
+-- a solution makes both sides of each equation equal
 pub solutions_make_equal : SolutionsMakeEqual
 solutions_make_equal = holds_of_solution (λ es rs. MakesEqual (replaced rs) es) made_equal
 
@@ -46,6 +47,7 @@ replaced_by_lower_cases = record {
   right = λ v t es rs o w h. ((o, w), h);
 }
 
+-- a variable is replaced by a lower one, or by a term that is none and is without it
 pub replaced_by_lower : ReplacedByLower
 replaced_by_lower = holds_of_solution (λ es rs. AllByRecursion (λ r. (occurs r.number r.by ≡ false) × IsLower r.number r.by) rs) replaced_by_lower_cases
 
@@ -72,6 +74,7 @@ orderly = record {
   right = λ v t es rs o w h. orderly_bound v t (equate t (variable v) ∷ es) es rs o (λ x a. (a.0.1, a.0.0, a.1)) h;
 }
 
+-- no number comes back
 pub replaced_once : ReplacedOnce
 replaced_once last es rs e = (holds_of_solution Orderly orderly last es rs e).1
 
@@ -84,10 +87,11 @@ all_gone : (rs : List Replacement) → AllByRecursion (λ r. (occurs r.number r.
 all_gone [] o n t = tt
 all_gone (r ∷ rs) o n t = (avoided r.number rs (replace r.number r.by t) n.0 (occurs-replaced r.number r.by t o.0.0), all_gone rs o.1 n.1 (replace r.number r.by t))
 
+-- what a solution replaces occurs no longer after it
 pub replaced_are_gone : ReplacedAreGone
 replaced_are_gone last es rs e = all_gone rs (replaced_by_lower last es rs e) (replaced_once last es rs e)
 
--- replacements with numbers at most so, where the equations have such
+-- replacements numbered up to the last, where the equations are
 abbrev KeepsNumbers : ℕ → List Equation → List Replacement → Type 0
 KeepsNumbers last es rs = AllNumberedTo last es → AllByRecursion (λ r. (r.number ≤ last) × NumberedTo last r.by) rs
 
@@ -100,6 +104,7 @@ keeps_numbers last = record {
   right = λ v t es rs o w k h. ((h.0.1, h.0.0), k (numbered-replace_in_all last v t es h.0.0 h.1));
 }
 
+-- a solution has no higher numbers than the equations
 pub solutions_keep_numbers : SolutionsKeepNumbers
 solutions_keep_numbers last es rs h e = holds_of_solution (KeepsNumbers last) (keeps_numbers last) last es rs e h
 
@@ -124,11 +129,24 @@ most_general s = record {
   right = λ v t es rs o w k h. bound_most_general s v t es rs (sym h.0) h.1 k;
 }
 
+-- what makes all sides equal is the same after a solution
 pub solutions_are_most_general : SolutionsAreMostGeneral
 solutions_are_most_general last es rs e s = holds_of_solution (MostGeneral s) (most_general s) last es rs e
 
+-- the same of replacements
 pub none_more_general : NoReplacementsAreMoreGeneral
 none_more_general last es rs others e h t =
     replaced_is others (replaced rs t)
     ∙ solutions_are_most_general last es rs e (values_of others) (MakesEqual-same (replaced others) (substituted (values_of others)) es (replaced_is others) h) t
     ∙ sym (replaced_is others t)
+
+-- ---- none
+
+-- a value is none where it can be nothing else
+none_if_never : {A : Type 0} (o : Option A) → ((x : A) → o ≡ Some x → ⊥) → o ≡ None
+none_if_never None h = refl
+none_if_never (Some x) h = absurd (h x refl)
+
+-- equations that no replacements make equal have no solution
+pub none_where_none_unify : NoneWhereNoneUnify
+none_where_none_unify last es h = none_if_never (solve last es) (λ rs e. h rs (solutions_make_equal last es rs e))

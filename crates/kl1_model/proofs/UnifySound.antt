@@ -3,13 +3,8 @@ use Rattle.std.proofs.Common.{◌≡◌, ℕ, zero, suc, false, List, [], ◌∷
 use Rattle.std.proofs.lemmas.Option.{IfSome_then}
 use Rattle.kl1_model.specs.Term.{Term, variable, structure, Terms, count_of, occurs, Replacement}
 use Rattle.kl1_model.specs.Unify.{Equation, argument_equations, replace_in_all, after, equations_size, walk, solve_within, solve}
-use Rattle.kl1_model.specs.UnifyLaws.{IsLower}
-use Rattle.kl1_model.proofs.Occurrences.{equate}
+use Rattle.kl1_model.specs.UnifyLaws.{equate, bind, IsLower}
 use Rattle.kl1_model.proofs.UnifyFront.{front_cases}
-
--- a variable and what takes its place
-abbrev pub bind : ℕ → Term → Replacement
-bind v t = record { number = v; by = t }
 
 -- what holds of equations and their solution, if it holds in each case
 pub record HoldsInEachCase (P : List Equation → List Replacement → Type 0) : Type 0 where

@@ -40,6 +40,7 @@ abbrev pub joined : Terms → Terms → Terms
 joined none us = us
 joined (more t ts) us = more t (joined ts us)
 
+-- nothing joined behind arguments changes them
 pub joined-none : (ts : Terms) → joined ts none ≡ ts
 joined-none none = refl
 joined-none (more t ts) = ap (more t) (joined-none ts)
@@ -56,13 +57,15 @@ mutual
   read_signs-each none ss ts outer = refl
   read_signs-each (more u us) ss ts outer = read_signs-each us (signs u ss) ts outer ∙ read_signs-signs u ss (joined us ts) outer
 
--- a term's signs alone, and the term that signs give
+-- a term's signs alone
 abbrev pub signs_of : Term → List Sign
 signs_of t = signs t []
 
+-- the term that signs give
 abbrev pub term_from : List Sign → Term
 term_from ss = first_of_terms (read_signs ss none [])
 
+-- a term's signs give it back
 pub term_from-signs_of : (t : Term) → term_from (signs_of t) ≡ t
 term_from-signs_of t = ap first_of_terms (read_signs-signs t [] none [])
 

@@ -1,10 +1,10 @@
 -- What holds of unification, on its definition alone.
-use Rattle.std.specs.Prelude.{◌≡◌, ℕ, ◌<◌, ◌≤◌, ◌≢◌, IsTrue, IsFalse, Decides, pos, List, [], ◌∷◌, codes, Option, Some, None, ⊤}
+use Rattle.std.specs.Prelude.{◌≡◌, ℕ, ◌<◌, ◌≤◌, ◌≢◌, IsTrue, IsFalse, Decides, pos, List, [], ◌∷◌, codes, Option, Some, None, option_map, ⊤}
 use Rattle.std.specs.List.{AllByRecursion}
-use Rattle.kl1_model.specs.Term.{Term, variable, integer, atom, structure, Terms, none, more, same_term, occurs, substituted, Replacement, replaced}
-use Rattle.kl1_model.specs.Unify.{Equation, Front, goes_on, fails, binds, front, after, replace_in_all, solve}
+use Rattle.kl1_model.specs.Term.{Term, variable, integer, atom, structure, Terms, none, more, count_of, same_term, occurs, Replacement, replaced, substituted}
+use Rattle.kl1_model.specs.Unify.{Equation, argument_equations, Front, goes_on, fails, binds, front, after, replace_in_all, solve}
 
--- all variables of a term are numbered at most so
+-- all variables of a term are numbered up to the last
 abbrev mutual
   pub NumberedTo : ℕ → Term → Type 0
   NumberedTo last (variable n) = n ≤ last
@@ -16,14 +16,22 @@ abbrev mutual
   EachNumberedTo last none = ⊤
   EachNumberedTo last (more t ts) = NumberedTo last t × EachNumberedTo last ts
 
--- all variables of all equations are numbered at most so
+-- all variables of all equations are numbered up to the last
 abbrev pub AllNumberedTo : ℕ → List Equation → Type 0
 AllNumberedTo last es = AllByRecursion (λ e. NumberedTo last e.left × NumberedTo last e.right) es
 
--- where a term is a variable, it is lower than this one
+-- a term is a lower variable than this one, or no variable
 abbrev pub IsLower : ℕ → Term → Type 0
 IsLower v (variable w) = w < v
 IsLower v _ = ⊤
+
+-- two terms as an equation
+abbrev pub equate : Term → Term → Equation
+equate t u = record { left = t; right = u }
+
+-- a variable and what takes its place
+abbrev pub bind : ℕ → Term → Replacement
+bind v t = record { number = v; by = t }
 
 -- no equations are solved by no replacements
 abbrev pub NothingIsSolved : Type 0
@@ -33,13 +41,13 @@ NothingIsSolved = (last : ℕ) → solve last [] ≡ Some []
 abbrev pub FrontDecides : Type 0
 FrontDecides = (last : ℕ) (e : Equation) (es : List Equation) → AllNumberedTo last (e ∷ es) → solve last (e ∷ es) ≡ after (solve last) (solve last) (front e.left e.right es)
 
--- the numbers of what the front equation leads to are at most so
+-- all variables of what the front equation leads to are numbered up to the last
 abbrev pub FrontNumberedTo : ℕ → Front → Type 0
 FrontNumberedTo last (goes_on es) = AllNumberedTo last es
 FrontNumberedTo last fails = ⊤
 FrontNumberedTo last (binds v t es) = (v ≤ last) × NumberedTo last t × AllNumberedTo last (replace_in_all v t es)
 
--- what the front equation leads to has no higher numbers
+-- what the front equation leads to brings in no higher numbers
 abbrev pub FrontKeepsNumbers : Type 0
 FrontKeepsNumbers = (last : ℕ) (e : Equation) (es : List Equation) → AllNumberedTo last (e ∷ es) → FrontNumberedTo last (front e.left e.right es)
 
@@ -47,13 +55,48 @@ FrontKeepsNumbers = (last : ℕ) (e : Equation) (es : List Equation) → AllNumb
 abbrev pub AnyBoundServes : Type 0
 AnyBoundServes = (last other : ℕ) (es : List Equation) → AllNumberedTo last es → AllNumberedTo other es → solve last es ≡ solve other es
 
+-- whether two terms are the same tree is whether they are equal
+abbrev pub SameTermDecides : Type 0
+SameTermDecides = (t u : Term) → Decides (same_term t u) (t ≡ u)
+
 -- an equation in front with the same tree on both sides is dropped
 abbrev pub EqualSidesAreDropped : Type 0
 EqualSidesAreDropped = (last : ℕ) (e : Equation) (es : List Equation) → IsTrue (same_term e.left e.right) → AllNumberedTo last (e ∷ es) → solve last (e ∷ es) ≡ solve last es
 
--- whether two terms are the same tree is whether they are equal
-abbrev pub SameTermDecides : Type 0
-SameTermDecides = (t u : Term) → Decides (same_term t u) (t ≡ u)
+-- structures of one name and length give way to their arguments
+abbrev pub ArgumentsDecide : Type 0
+ArgumentsDecide = (last : ℕ) (f : List ℕ) (ts us : Terms) (es : List Equation) → count_of ts ≡ count_of us → AllNumberedTo last (equate (structure f ts) (structure f us) ∷ es) → solve last (equate (structure f ts) (structure f us) ∷ es) ≡ solve last (argument_equations ts us es)
+
+-- a replacement, and then those that solve the other equations after it
+abbrev pub bound_first : ℕ → ℕ → Term → List Equation → Option (List Replacement)
+bound_first last v t es = option_map (λ rest. bind v t ∷ rest) (solve last (replace_in_all v t es))
+
+-- a variable on the left takes a lower variable, or a term that is none and in which it doesn't occur
+abbrev pub LeftTakesRight : Type 0
+LeftTakesRight = (last v : ℕ) (t : Term) (es : List Equation) → IsFalse (occurs v t) → IsLower v t → AllNumberedTo last (equate (variable v) t ∷ es) → solve last (equate (variable v) t ∷ es) ≡ bound_first last v t es
+
+-- and so does a variable on the right
+abbrev pub RightTakesLeft : Type 0
+RightTakesLeft = (last v : ℕ) (t : Term) (es : List Equation) → IsFalse (occurs v t) → IsLower v t → AllNumberedTo last (equate t (variable v) ∷ es) → solve last (equate t (variable v) ∷ es) ≡ bound_first last v t es
+
+-- how equations are solved, with no fuel: equal sides are dropped, structures give way to their arguments, a variable
+-- takes a lower variable, or a term that is none and in which it doesn't occur, and where nothing makes the front
+-- sides equal there is no solution
+pub data Solves : List Equation → Option (List Replacement) → Type 0 where
+  all_done : Solves [] (Some [])
+  same_sides : (t : Term) {es : List Equation} {o : Option (List Replacement)} → Solves es o → Solves (equate t t ∷ es) o
+  arguments : (f : List ℕ) (ts us : Terms) {es : List Equation} {o : Option (List Replacement)} → count_of ts ≡ count_of us → Solves (argument_equations ts us es) o → Solves (equate (structure f ts) (structure f us) ∷ es) o
+  left_takes : (v : ℕ) (t : Term) {es : List Equation} {o : Option (List Replacement)} → IsFalse (occurs v t) → IsLower v t → Solves (replace_in_all v t es) o → Solves (equate (variable v) t ∷ es) (option_map (λ rest. bind v t ∷ rest) o)
+  right_takes : (v : ℕ) (t : Term) {es : List Equation} {o : Option (List Replacement)} → IsFalse (occurs v t) → IsLower v t → Solves (replace_in_all v t es) o → Solves (equate t (variable v) ∷ es) (option_map (λ rest. bind v t ∷ rest) o)
+  never_equal : (t u : Term) {es : List Equation} → ((rs : List Replacement) → replaced rs t ≡ replaced rs u → ⊥) → Solves (equate t u ∷ es) None
+
+-- equations are solved so
+abbrev pub SolvedByDerivation : Type 0
+SolvedByDerivation = (last : ℕ) (es : List Equation) → AllNumberedTo last es → Solves es (solve last es)
+
+-- whichever of these steps solve equations, the answer is one
+abbrev pub DerivationsAgree : Type 0
+DerivationsAgree = (last : ℕ) (es : List Equation) (o : Option (List Replacement)) → AllNumberedTo last es → Solves es o → solve last es ≡ o
 
 -- a function on terms makes both sides of each equation equal
 abbrev pub MakesEqual : (Term → Term) → List Equation → Type 0
@@ -63,11 +106,11 @@ MakesEqual f es = AllByRecursion (λ e. f e.left ≡ f e.right) es
 abbrev pub SolutionsMakeEqual : Type 0
 SolutionsMakeEqual = (last : ℕ) (es : List Equation) (rs : List Replacement) → solve last es ≡ Some rs → MakesEqual (replaced rs) es
 
--- in a solution a variable is replaced by a lower one, or by a term that is none and has not the variable in it
+-- in a solution a variable is replaced by a lower variable, or by a term that is none and in which it doesn't occur
 abbrev pub ReplacedByLower : Type 0
 ReplacedByLower = (last : ℕ) (es : List Equation) (rs : List Replacement) → solve last es ≡ Some rs → AllByRecursion (λ r. IsFalse (occurs r.number r.by) × IsLower r.number r.by) rs
 
--- no number that is replaced is replaced or brought in again later
+-- no number that is replaced is replaced again or brought in again later
 abbrev pub NeverComeBack : List Replacement → Type 0
 NeverComeBack [] = ⊤
 NeverComeBack (r ∷ rs) = AllByRecursion (λ later. (later.number ≢ r.number) × IsFalse (occurs r.number later.by)) rs × NeverComeBack rs
@@ -84,19 +127,23 @@ ReplacedAreGone = (last : ℕ) (es : List Equation) (rs : List Replacement) → 
 abbrev pub SolutionsKeepNumbers : Type 0
 SolutionsKeepNumbers = (last : ℕ) (es : List Equation) (rs : List Replacement) → AllNumberedTo last es → solve last es ≡ Some rs → AllByRecursion (λ r. (r.number ≤ last) × NumberedTo last r.by) rs
 
--- where there is no solution, no terms in place of variables make both sides of each equation equal
+-- where there is no solution, no terms in place of the variables make both sides of each equation equal
 abbrev pub FailureLeavesNone : Type 0
 FailureLeavesNone = (last : ℕ) (es : List Equation) → AllNumberedTo last es → solve last es ≡ None → (s : ℕ → Term) → MakesEqual (substituted s) es → ⊥
 
--- nor do any replacements
+-- where there is no solution, no replacements do either
 abbrev pub FailureLeavesNoReplacements : Type 0
 FailureLeavesNoReplacements = (last : ℕ) (es : List Equation) → AllNumberedTo last es → solve last es ≡ None → (rs : List Replacement) → MakesEqual (replaced rs) es → ⊥
 
--- whatever makes both sides of each equation equal is the same after a solution
+-- equations that no replacements make equal have no solution
+abbrev pub NoneWhereNoneUnify : Type 0
+NoneWhereNoneUnify = (last : ℕ) (es : List Equation) → ((rs : List Replacement) → MakesEqual (replaced rs) es → ⊥) → solve last es ≡ None
+
+-- a solution comes before whatever makes both sides of each equation equal: done first, it changes nothing in what that gives
 abbrev pub SolutionsAreMostGeneral : Type 0
 SolutionsAreMostGeneral = (last : ℕ) (es : List Equation) (rs : List Replacement) → solve last es ≡ Some rs → (s : ℕ → Term) → MakesEqual (substituted s) es → (t : Term) → substituted s (replaced rs t) ≡ substituted s t
 
--- replacements too
+-- the same of other replacements
 abbrev pub NoReplacementsAreMoreGeneral : Type 0
 NoReplacementsAreMoreGeneral = (last : ℕ) (es : List Equation) (rs others : List Replacement) → solve last es ≡ Some rs → MakesEqual (replaced others) es → (t : Term) → replaced others (replaced rs t) ≡ replaced others t
 
@@ -120,11 +167,7 @@ f_of t u = structure (codes "f") (more t (more u none))
 
 -- the replacements that make two terms equal
 abbrev pub solved : Term → Term → Option (List Replacement)
-solved t u = solve 2 (record { left = t; right = u } ∷ [])
-
--- a variable replaced by a term
-abbrev pub replaces : ℕ → Term → Replacement
-replaces v t = record { number = v; by = t }
+solved t u = solve 2 (equate t u ∷ [])
 
 -- f(X, a) and f(1, b) are never equal
 abbrev pub ConstantsClash : Type 0
@@ -140,16 +183,32 @@ NeverInItselfLater = solved (f_of variable_x variable_x) (f_of variable_y (f_of 
 
 -- f(X, Y) and f(Y, X) are equal where Y is X
 abbrev pub HigherTakesLower : Type 0
-HigherTakesLower = solved (f_of variable_x variable_y) (f_of variable_y variable_x) ≡ Some (replaces 2 variable_x ∷ [])
+HigherTakesLower = solved (f_of variable_x variable_y) (f_of variable_y variable_x) ≡ Some (bind 2 variable_x ∷ [])
 
 -- of two variables the lower stays, on whichever side it is
 abbrev pub LowerStays : Type 0
-LowerStays = (solved variable_x variable_y ≡ Some (replaces 2 variable_x ∷ [])) × (solved variable_y variable_x ≡ Some (replaces 2 variable_x ∷ []))
+LowerStays = (solved variable_x variable_y ≡ Some (bind 2 variable_x ∷ [])) × (solved variable_y variable_x ≡ Some (bind 2 variable_x ∷ []))
 
 -- f(X, b) and f(a, Y) are equal where X is a and Y is b
 abbrev pub BothSidesGive : Type 0
-BothSidesGive = solved (f_of variable_x atom_b) (f_of atom_a variable_y) ≡ Some (replaces 1 atom_a ∷ replaces 2 atom_b ∷ [])
+BothSidesGive = solved (f_of variable_x atom_b) (f_of atom_a variable_y) ≡ Some (bind 1 atom_a ∷ bind 2 atom_b ∷ [])
 
 -- f(X, X) and f(Y, a) are equal where Y is X, and X is a
 abbrev pub RestIsReplaced : Type 0
-RestIsReplaced = solved (f_of variable_x variable_x) (f_of variable_y atom_a) ≡ Some (replaces 2 variable_x ∷ replaces 1 atom_a ∷ [])
+RestIsReplaced = solved (f_of variable_x variable_x) (f_of variable_y atom_a) ≡ Some (bind 2 variable_x ∷ bind 1 atom_a ∷ [])
+
+-- f(a, b) and g(a, b) are never equal
+abbrev pub NamesClash : Type 0
+NamesClash = solved (f_of atom_a atom_b) (structure (codes "g") (more atom_a (more atom_b none))) ≡ None
+
+-- f(a, b) and f(a) are never equal
+abbrev pub LengthsClash : Type 0
+LengthsClash = solved (f_of atom_a atom_b) (structure (codes "f") (more atom_a none)) ≡ None
+
+-- f(1, f(X, b)) and f(1, f(a, Y)) are equal where X is a and Y is b
+abbrev pub InnerArgumentsGive : Type 0
+InnerArgumentsGive = solved (f_of (integer (pos 1)) (f_of variable_x atom_b)) (f_of (integer (pos 1)) (f_of atom_a variable_y)) ≡ Some (bind 1 atom_a ∷ bind 2 atom_b ∷ [])
+
+-- f(f(a, b), X) and f(f(a, b), b) are equal where X is b
+abbrev pub RestFollows : Type 0
+RestFollows = solved (f_of (f_of atom_a atom_b) variable_x) (f_of (f_of atom_a atom_b) atom_b) ≡ Some (bind 1 atom_b ∷ [])

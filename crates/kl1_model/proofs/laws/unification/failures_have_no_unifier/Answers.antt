@@ -1,4 +1,5 @@
 use Rattle.kl1_model.proofs.UnifyFails.{failure_leaves_none, failure_leaves_no_replacements}
+use Rattle.kl1_model.proofs.UnifySolution.{none_where_none_unify}
 use Rattle.kl1_model.proofs.laws.unification.failures_have_no_unifier.Goals as goal
 
 pub returns-clause-substitutions : goal.returns-clause-substitutions
@@ -6,3 +7,6 @@ returns-clause-substitutions c = failure_leaves_none
 
 pub returns-clause-replacements : goal.returns-clause-replacements
 returns-clause-replacements c = failure_leaves_no_replacements
+
+pub returns-clause-none : goal.returns-clause-none
+returns-clause-none c = none_where_none_unify

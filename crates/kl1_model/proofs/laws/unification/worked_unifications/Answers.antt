@@ -29,3 +29,19 @@ returns-clause-both c = refl
 pub returns-clause-rest : goal.returns-clause-rest
 unfolding walk solve_within
 returns-clause-rest c = refl
+
+pub returns-clause-names : goal.returns-clause-names
+unfolding walk solve_within
+returns-clause-names c = refl
+
+pub returns-clause-lengths : goal.returns-clause-lengths
+unfolding walk solve_within
+returns-clause-lengths c = refl
+
+pub returns-clause-inner : goal.returns-clause-inner
+unfolding walk solve_within
+returns-clause-inner c = refl
+
+pub returns-clause-follows : goal.returns-clause-follows
+unfolding walk solve_within
+returns-clause-follows c = refl
