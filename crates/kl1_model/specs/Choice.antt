@@ -1,27 +1,28 @@
 -- Which goals can step, and which comes first.
-use Rattle.std.specs.Prelude.{ℕ, ◌==◌, nat_lt, not, ◌&&◌, ◌||◌, Bool, List, filter, find, Option, Some, None, is_some, option_and_then, option_map, if◌then◌else◌}
+use Rattle.std.specs.Prelude.{ℕ, ◌==◌, nat_lt, not, ◌&&◌, ◌||◌, Bool, List, [], ◌∷◌, map, filter, find, Option, Some, None, is_some, option_and_then, option_map}
 use Rattle.std.specs.List.{list_any}
-use Rattle.kl1_model.specs.Match.{call_of, Call, clauses_of, first_candidate}
+use Rattle.kl1_model.specs.Match.{call_of, Call, candidates_of}
 use Rattle.kl1_model.specs.Module.{Module}
 use Rattle.kl1_model.specs.State.{Task, monitor, reduces, Goal, State}
-use Rattle.kl1_model.specs.Step.{move_of}
+use Rattle.kl1_model.specs.Reduction.{move_of}
 
--- the least candidate of a call
-abbrev pub candidate_of : List Module → Option Call → Option ℕ
-candidate_of modules None = None
-candidate_of modules (Some call) = first_candidate 1 (clauses_of modules call) call.arguments
+-- the numbers of a call's candidates
+abbrev pub call_clauses : List Module → Option Call → List ℕ
+call_clauses modules None = []
+call_clauses modules (Some call) = map (λ k. k.number) (candidates_of modules call)
 
-abbrev pub candidate_of_task : List Module → Task → Option ℕ
-candidate_of_task modules monitor = None
-candidate_of_task modules (reduces t) = candidate_of modules (call_of t)
+-- the numbers of the clauses that a task may be tried by: 0, and those of a call's candidates
+abbrev pub task_clauses : List Module → Task → List ℕ
+task_clauses modules monitor = 0 ∷ []
+task_clauses modules (reduces t) = 0 ∷ call_clauses modules (call_of t)
 
--- the clause by which a goal can step: 0 where that is allowed, or else its least candidate
-abbrev pub clause_for : List Module → Task → Option ℕ
-clause_for modules task = if is_some (move_of modules 0 task) then Some 0 else candidate_of_task modules task
+-- the clause by which a goal can step: the least that is allowed
+abbrev pub clause_for : State → Goal → Option ℕ
+clause_for s g = find (λ clause. is_some (move_of s g clause)) (task_clauses s.modules g.task)
 
 -- whether a goal can step by some clause
 abbrev pub can_step : State → Goal → Bool
-can_step s g = is_some (clause_for s.modules g.task)
+can_step s g = is_some (clause_for s g)
 
 -- whether no goal can step
 abbrev pub quiet : State → Bool
@@ -40,6 +41,10 @@ pub record Chosen : Type 0 where
   pub goal : ℕ
   pub clause : ℕ
 
+-- a goal with the clause by which it can step
+abbrev pub chosen : State → Goal → Option Chosen
+chosen s g = option_map (λ c. record { goal = g.number; clause = c }) (clause_for s g)
+
 -- the first goal that can step, with its clause
 abbrev pub first : State → Option Chosen
-first s = option_and_then (λ g. option_map (λ c. record { goal = g.number; clause = c }) (clause_for s.modules g.task)) (first_of_goals (filter (can_step s) s.goals))
+first s = option_and_then (chosen s) (first_of_goals (filter (can_step s) s.goals))

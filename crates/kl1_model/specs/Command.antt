@@ -6,7 +6,8 @@ use Rattle.kl1_model.specs.Name.{atom_text}
 use Rattle.kl1_model.specs.Token.{is_digit, number_of}
 use Rattle.kl1_model.specs.Module.{Reading, good, bad, read_goal}
 use Rattle.kl1_model.specs.State.{State}
-use Rattle.kl1_model.specs.Step.{Event, start, reduce, read, value, Reply, loaded, opened, reduced, ran, shown, refused, Refusal, syntax, source, exists, no_shoen, step_refused, journal_full, Stepped, refuse, step, most_source_bytes, most_priority}
+use Rattle.kl1_model.specs.Event.{Refusal, syntax, source, exists, no_shoen, step_refused, journal_full, value, Event, start, reduce, read, Reply, loaded, opened, reduced, ran, shown, refused, Stepped, refuse, is_range, most_source_bytes}
+use Rattle.kl1_model.specs.Step.{step}
 use Rattle.kl1_model.specs.Choice.{Chosen, first}
 
 -- a command: an event, or a run of at most so many steps
@@ -24,21 +25,23 @@ pub data Line : Type 0 where
 abbrev pub is_space : ℕ → Bool
 is_space b = b == 32 || b == 9
 
--- the first word of a line, where blanks may stand first
+-- the first word of a line, of which these bytes have been seen; blanks may stand before it
 abbrev pub first_word : List ℕ → List ℕ → List ℕ
 first_word before [] = before
 first_word [] (b ∷ bs) = elim (is_space b) [ true ↦ first_word [] bs | false ↦ first_word (b ∷ []) bs ]
 first_word (a ∷ before) (b ∷ bs) = elim (is_space b) [ true ↦ a ∷ before | false ↦ first_word (a ∷ before ++ b ∷ []) bs ]
 
--- what is behind the first word, where such bytes of it have been seen
+-- what is behind the first word, where the test tells whether bytes of it have been seen
 abbrev pub behind_first : Bool → List ℕ → List ℕ
 behind_first begun [] = []
 behind_first false (b ∷ bs) = elim (is_space b) [ true ↦ behind_first false bs | false ↦ behind_first true bs ]
 behind_first true (b ∷ bs) = elim (is_space b) [ true ↦ b ∷ bs | false ↦ behind_first true bs ]
 
+-- the first word of a line
 abbrev pub word_in : List ℕ → List ℕ
 word_in line = first_word [] line
 
+-- what is behind the first word of a line
 abbrev pub behind_word_in : List ℕ → List ℕ
 behind_word_in line = behind_first false line
 
@@ -63,13 +66,15 @@ only_number line = if is_blank_line (behind_word_in line) then number_in (word_i
 abbrev pub most_steps : ℕ
 most_steps = 262144
 
+-- a line that is a command where something was found
 abbrev pub line_with : {A : Type 0} → (A → Line) → Option A → Line
 line_with make None = no_command
 line_with make (Some a) = make a
 
+-- a start with its goal as it was read
 abbrev pub start_with : ℕ → ℕ → ℕ → Reading Term → Option Command
 start_with allowance low high (bad line) = None
-start_with allowance low high (good t) = if nat_le low high && nat_le high most_priority then Some (does (start allowance low high t)) else None
+start_with allowance low high (good t) = if is_range low high then Some (does (start allowance low high t)) else None
 
 -- three numbers, and then a goal
 abbrev pub start_command : List ℕ → Option Command
@@ -86,6 +91,7 @@ pub data Verb : Type 0 where
   asks_value : Verb
   unknown : Verb
 
+-- the verb that a word is
 abbrev pub verb_of : List ℕ → Verb
 verb_of w =
     if bytes_eq w (codes "load") then loads
@@ -110,7 +116,7 @@ most_command_bytes = 4096
 abbrev pub parse : List ℕ → Line
 parse line = if nat_le (length line) most_command_bytes then line_by (verb_of (word_in line)) (behind_word_in line) else no_command
 
--- a run so far
+-- how a run goes on, from the steps done and the account
 abbrev pub Going : Type 0
 Going = ℕ → State → Stepped
 
@@ -124,11 +130,12 @@ abbrev pub run_on : Going → State → ℕ → State → Reply → Stepped
 run_on next before n after (refused r) = stopped_by before n r
 run_on next before n after reply = next (suc n) after
 
--- first steps, one after another, at most so many and until none can step or one is refused, behind those done before
+-- the first goal's step, where there is one, and how the run goes on
 abbrev pub run_choice : Going → State → ℕ → Option Chosen → Stepped
 run_choice next s n None = record { state = s; reply = ran n }
 run_choice next s n (Some c) = let done = step s (reduce c.goal c.clause) in run_on next s n done.state done.reply
 
+-- first steps, one after another, at most so many and until none can step or one is refused, behind those done before
 abbrev pub run_from : ℕ → ℕ → State → Stepped
 run_from zero n s = record { state = s; reply = ran n }
 run_from (suc k) n s = run_choice (run_from k) s n (first s)

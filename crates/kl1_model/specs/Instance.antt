@@ -1,23 +1,18 @@
 -- Body instance: the goals of a clause's body with the goal's terms in them.
-use Rattle.std.specs.Prelude.{ℕ, ◌+◌, ◌-◌, max, ◌==◌, if◌then◌else◌, List, [], ◌∷◌, map}
-use Rattle.kl1_model.specs.Term.{Term, variable, Replacement, substituted}
-use Rattle.kl1_model.specs.Meaning.{highest, highest_in}
+use Rattle.std.specs.Prelude.{ℕ, ◌+◌, ◌-◌, ◌==◌, if◌then◌else◌, List, [], ◌∷◌, map}
+use Rattle.kl1_model.specs.Term.{Term, variable, terms_of, Replacement, substituted}
+use Rattle.kl1_model.specs.Meaning.{highest_in}
 use Rattle.kl1_model.specs.Module.{Clause}
 
 -- how many variables the head of a clause has
 abbrev pub head_variables : Clause → ℕ
 head_variables c = highest_in c.patterns
 
--- the greatest number of a variable in goals
-abbrev pub highest_of_all : List Term → ℕ
-highest_of_all [] = 0
-highest_of_all (t ∷ ts) = max (highest t) (highest_of_all ts)
-
 -- how many variables of a clause's body stand nowhere in its head
 abbrev pub fresh_variables : Clause → ℕ
-fresh_variables c = highest_of_all c.body - head_variables c
+fresh_variables c = highest_in (terms_of c.body) - head_variables c
 
--- the term at the first place of a variable, or another where it has none
+-- the term at the first place of a variable, or a given one where it has no place
 abbrev pub term_at : List Replacement → ℕ → Term → Term
 term_at [] v t = t
 term_at (p ∷ places) v t = if p.number == v then p.by else term_at places v t

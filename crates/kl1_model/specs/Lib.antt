@@ -14,6 +14,10 @@ pub mod Module
 pub mod Match
 pub mod Instance
 pub mod State
+pub mod Event
+pub mod Report
+pub mod Reduction
+pub mod Opening
 pub mod Step
 pub mod Choice
 pub mod Command

@@ -1,5 +1,5 @@
 -- Match and verdict: whether a goal may commit to a clause, may not, or has to wait.
-use Rattle.std.specs.Prelude.{ℕ, suc, pred, ◌==◌, ◌&&◌, Bool, true, false, if◌then◌else◌, List, [], ◌∷◌, ◌++◌, bytes_eq, Option, Some, None, filter, find, codes}
+use Rattle.std.specs.Prelude.{ℕ, suc, ◌==◌, ◌&&◌, Bool, true, false, if◌then◌else◌, List, [], ◌∷◌, ◌++◌, bytes_eq, Option, Some, None, filter, find, codes}
 use Rattle.std.specs.List.{list_all}
 use Rattle.std.specs.Ordering.{int_eq}
 use Rattle.kl1_model.specs.Term.{Term, variable, integer, atom, structure, Terms, none, more, count_of, Replacement}
@@ -18,7 +18,7 @@ both clashes o = clashes
 both waits clashes = clashes
 both waits o = waits
 
--- agrees or clashes
+-- whether two constants agree or clash
 abbrev pub decided : Bool → Outcome
 decided b = if b then agrees else clashes
 
@@ -27,7 +27,7 @@ pub record Matched : Type 0 where
   pub outcome : Outcome
   pub places : List Replacement
 
--- an outcome at a place without a variable
+-- an outcome without places
 abbrev pub with_outcome : Outcome → Matched
 with_outcome o = record { outcome = o; places = [] }
 
@@ -35,8 +35,8 @@ with_outcome o = record { outcome = o; places = [] }
 abbrev pub match_both : Matched → Matched → Matched
 match_both a b = record { outcome = both a.outcome b.outcome; places = a.places ++ b.places }
 
--- a pattern beside a term: a variable takes the term; an unbound variable under anything else waits;
--- a constant wants the same constant, a structure one of the same name and number of arguments
+-- a pattern beside a term: a variable takes the term; a constant or a structure beside an unbound variable waits,
+-- and agrees with the same constant alone, or a structure of the same name and number of arguments whose arguments agree
 abbrev mutual
   pub match_term : Term → Term → Matched
   match_term (variable v) t = record { outcome = agrees; places = record { number = v; by = t } ∷ [] }
@@ -70,6 +70,7 @@ pub data Verdict : Type 0 where
   rejects : Verdict
   suspends : Verdict
 
+-- the verdict that an outcome leads to
 abbrev pub verdict_with : List Replacement → Outcome → Verdict
 verdict_with places agrees = accepts places
 verdict_with places clashes = rejects
@@ -108,29 +109,31 @@ clauses_in (Some m) call = filter (is_of call.name (count_of call.arguments)) m.
 abbrev pub clauses_of : List Module → Call → List Clause
 clauses_of modules call = clauses_in (module_of modules call.module_name) call
 
+-- whether a verdict rejects
 abbrev pub is_rejected : Verdict → Bool
 is_rejected rejects = true
 is_rejected v = false
 
--- whether a call fails: each clause rejects it, or there is none
-abbrev pub fails : List Clause → Terms → Bool
-fails cs ts = list_all (λ c. is_rejected (verdict c ts)) cs
-
--- a clause that accepts a goal, with the terms of its head's variables
+-- a clause that accepts a goal: its number in its predicate, from 1, and the terms of its head's variables
 pub record Candidate : Type 0 where
+  pub number : ℕ
   pub clause : Clause
   pub places : List Replacement
 
-abbrev pub candidate_by : Clause → Verdict → Option Candidate
-candidate_by c (accepts places) = Some (record { clause = c; places = places })
-candidate_by c v = None
+-- a clause of this number, where the verdict accepts
+abbrev pub candidate_by : ℕ → Clause → Verdict → List Candidate
+candidate_by n c (accepts places) = record { number = n; clause = c; places = places } ∷ []
+candidate_by n c v = []
 
--- the candidate of this number, from 1, where that clause is one
-abbrev pub candidate_at : List Clause → Terms → ℕ → Option Candidate
-candidate_at [] ts n = None
-candidate_at (c ∷ cs) ts n = if n == 1 then candidate_by c (verdict c ts) else candidate_at cs ts (pred n)
+-- the candidates among clauses of which the first has this number, in order
+abbrev pub candidates_from : ℕ → List Clause → Terms → List Candidate
+candidates_from n [] ts = []
+candidates_from n (c ∷ cs) ts = candidate_by n c (verdict c ts) ++ candidates_from (suc n) cs ts
 
--- the number of the first candidate, where the first of these clauses has this number
-abbrev pub first_candidate : ℕ → List Clause → Terms → Option ℕ
-first_candidate n [] ts = None
-first_candidate n (c ∷ cs) ts = elim (candidate_by c (verdict c ts)) [ Some k ↦ Some n | None ↦ first_candidate (suc n) cs ts ]
+-- the candidates of a call, in order
+abbrev pub candidates_of : List Module → Call → List Candidate
+candidates_of modules call = candidates_from 1 (clauses_of modules call) call.arguments
+
+-- whether a call fails: each clause of its predicate rejects it, or there is none
+abbrev pub fails : List Module → Call → Bool
+fails modules call = list_all (λ c. is_rejected (verdict c call.arguments)) (clauses_of modules call)

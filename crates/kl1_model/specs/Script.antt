@@ -4,14 +4,15 @@ use Rattle.std.specs.List.{list_any, list_all}
 use Rattle.kl1_model.specs.Name.{is_small_letter}
 use Rattle.kl1_model.specs.Token.{is_digit}
 use Rattle.kl1_model.specs.State.{State, fresh}
-use Rattle.kl1_model.specs.Step.{load, Reply, refused, syntax, Stepped}
+use Rattle.kl1_model.specs.Event.{load, refused, syntax, Stepped}
 use Rattle.kl1_model.specs.Command.{Command, does, Line, whole, load_of, no_command, parse, word_in, behind_word_in, is_blank_line, act, reply_lines}
 
--- the bytes up to the first line feed, and what is behind it
+-- the bytes before the first line feed
 abbrev pub before_feed : List ℕ → List ℕ
 before_feed [] = []
 before_feed (b ∷ bs) = elim (b == 10) [ true ↦ [] | false ↦ b ∷ before_feed bs ]
 
+-- what is behind the first line feed
 abbrev pub behind_feed : List ℕ → List ℕ
 behind_feed [] = []
 behind_feed (b ∷ bs) = elim (b == 10) [ true ↦ bs | false ↦ behind_feed bs ]
@@ -26,11 +27,12 @@ without_return (b ∷ c ∷ bs) = b ∷ without_return (c ∷ bs)
 abbrev pub line_in : List ℕ → List ℕ
 line_in text = without_return (before_feed text)
 
--- the bytes before the first space, and those behind it
+-- the bytes before the first space
 abbrev pub before_space : List ℕ → List ℕ
 before_space [] = []
 before_space (b ∷ bs) = elim (b == 32) [ true ↦ [] | false ↦ b ∷ before_space bs ]
 
+-- the bytes behind the first space
 abbrev pub behind_space : List ℕ → List ℕ
 behind_space [] = []
 behind_space (b ∷ bs) = elim (b == 32) [ true ↦ bs | false ↦ behind_space bs ]
@@ -45,6 +47,7 @@ pub record Records : Type 0 where
   pub list : List Record
   pub is_truncated : Bool
 
+-- one more record in front
 abbrev pub record_first : Record → Records → Records
 record_first r rs = record { list = r ∷ rs.list; is_truncated = rs.is_truncated }
 
@@ -69,6 +72,7 @@ records_within (suc n) (b ∷ bs) =
     let text = b ∷ bs in
     elim (is_blank_line (line_in text)) [ true ↦ records_within n (behind_feed text) | false ↦ records_by (records_within n) (before_space (line_in text)) (behind_feed text) (parse (behind_space (line_in text))) ]
 
+-- the records of a text
 abbrev pub records_of : List ℕ → Records
 records_of text = records_within (suc (length text)) text
 
@@ -82,6 +86,7 @@ unfoldable pub words_within : ℕ → List ℕ → List (List ℕ)
 words_within zero line = []
 words_within (suc n) line = elim (is_blank_line line) [ true ↦ [] | false ↦ word_in line ∷ words_within n (behind_word_in line) ]
 
+-- the words of a line
 abbrev pub words_of : List ℕ → List (List ℕ)
 words_of line = words_within (suc (length line)) line
 
@@ -114,14 +119,14 @@ abbrev pub done_by : State → Option Command → Stepped
 done_by s None = record { state = s; reply = refused syntax }
 done_by s (Some c) = act s c
 
--- the reply to the last of these commands, done in order in a state, and before them this one
-abbrev pub last_reply : Stepped → List (Option Command) → Reply
-last_reply before [] = before.reply
-last_reply before (c ∷ cs) = last_reply (done_by before.state c) cs
+-- an account after these commands, done in order
+abbrev pub after_all : State → List (Option Command) → State
+after_all s [] = s
+after_all s (c ∷ cs) = after_all (done_by s c).state cs
 
--- the reply to the last command of an account when these records are done alone, from the fresh account
-abbrev pub reply_alone : List ℕ → List Record → Reply
-reply_alone name records = last_reply (record { state = fresh name; reply = refused syntax }) (only name records)
+-- an account alone: the fresh account after its own commands among records
+abbrev pub alone : List ℕ → List Record → State
+alone name records = after_all (fresh name) (only name records)
 
 -- a line as it is written
 abbrev pub written_line : List ℕ → List ℕ
@@ -132,11 +137,11 @@ abbrev pub written_reply : List ℕ → List (List ℕ) → List ℕ
 written_reply name [] = []
 written_reply name (line ∷ lines) = written_line (name ++ codes " " ++ line) ++ written_reply name lines
 
--- what is written for a record, where these and it are done: the last reply of its account when its own commands alone are done
+-- what is written for a record behind others: the reply of its account alone to its command
 abbrev pub written_for : List (List ℕ) → List Record → Record → List ℕ
 written_for accounts before r =
     if is_served accounts r.name
-    then written_reply r.name (reply_lines (reply_alone r.name (before ++ r ∷ [])))
+    then written_reply r.name (reply_lines (done_by (alone r.name before) r.command).reply)
     else written_line (codes "! account")
 
 -- what is written for records behind others
@@ -148,6 +153,7 @@ written_from accounts before (r ∷ rs) = written_for accounts before r ++ writt
 abbrev pub written_records : List (List ℕ) → Records → List ℕ
 written_records accounts rs = written_from accounts [] rs.list ++ (if rs.is_truncated then written_line (codes "! truncated") else [])
 
+-- what is written for a script with these accounts and records
 abbrev pub written_script : Option (List (List ℕ)) → Records → List ℕ
 written_script None rs = written_line (codes "! accounts")
 written_script (Some accounts) rs = written_records accounts rs

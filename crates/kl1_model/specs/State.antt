@@ -1,8 +1,8 @@
 -- The state of an account.
-use Rattle.std.specs.Prelude.{ℕ, ◌==◌, not, ◌||◌, Bool, if◌then◌else◌, List, [], ◌∷◌, ◌++◌, map, filter, find, bytes_eq, Option, option_map}
+use Rattle.std.specs.Prelude.{ℕ, ◌==◌, not, ◌||◌, Bool, true, false, if◌then◌else◌, List, [], ◌∷◌, ◌++◌, map, filter, find, bytes_eq, Option, option_map}
 use Rattle.std.specs.List.{list_any}
 use Rattle.kl1_model.specs.Text.{is_built_in}
-use Rattle.kl1_model.specs.Term.{Term, variable, integer, atom, structure, Terms, none, more, replace, Replacement}
+use Rattle.kl1_model.specs.Term.{Term, variable, integer, atom, structure, Terms, none, more, terms_of, replace, Replacement}
 use Rattle.kl1_model.specs.Module.{Clause, Module}
 
 -- what a goal does: it reads its shoen's control stream, or it is a term to be reduced
@@ -59,27 +59,32 @@ pub record State : Type 0 where
 abbrev pub fresh : List ℕ → State
 fresh name = record { own_name = name; goals = []; shoens = []; modules = []; names = []; last_variable = 0; last_goal = 0; last_shoen = 0; entries = 0 }
 
--- the goal, and the shoen, of a number
+-- the goal of a number
 abbrev pub goal_at : ℕ → List Goal → Option Goal
 goal_at n goals = find (λ g. g.number == n) goals
 
+-- the shoen of a number
 abbrev pub shoen_at : ℕ → List Shoen → Option Shoen
 shoen_at n shoens = find (λ h. h.number == n) shoens
 
--- one variable replaced everywhere
+-- one variable replaced in a task
 abbrev pub replace_in_task : ℕ → Term → Task → Task
 replace_in_task v t monitor = monitor
 replace_in_task v t (reduces u) = reduces (replace v t u)
 
+-- one variable replaced in a goal
 abbrev pub replace_in_goal : ℕ → Term → Goal → Goal
 replace_in_goal v t g = record g { task = replace_in_task v t g.task }
 
+-- one variable replaced in what the console keeps
 abbrev pub replace_in_origin : ℕ → Term → Origin → Origin
 replace_in_origin v t o = record { goal = replace v t o.goal; reports = replace v t o.reports; control = replace v t o.control }
 
+-- one variable replaced in a shoen
 abbrev pub replace_in_shoen : ℕ → Term → Shoen → Shoen
 replace_in_shoen v t h = record h { control = replace v t h.control; tail = replace v t h.tail; origin = option_map (replace_in_origin v t) h.origin }
 
+-- one variable replaced everywhere
 abbrev pub replace_in_state : ℕ → Term → State → State
 replace_in_state v t s = record s { goals = map (replace_in_goal v t) s.goals; shoens = map (replace_in_shoen v t) s.shoens }
 
@@ -108,14 +113,11 @@ abbrev mutual
   names_in none = []
   names_in (more t ts) = names_of t ++ names_in ts
 
-abbrev pub names_of_all : List Term → List (List ℕ)
-names_of_all [] = []
-names_of_all (t ∷ ts) = names_of t ++ names_of_all ts
-
 -- the names of a clause as they stand in its text
 abbrev pub names_of_clause : Clause → List (List ℕ)
-names_of_clause c = c.name ∷ names_in c.patterns ++ names_of_all c.tests ++ names_of_all c.body
+names_of_clause c = c.name ∷ names_in c.patterns ++ names_in (terms_of c.tests) ++ names_in (terms_of c.body)
 
+-- the names of clauses, one after another
 abbrev pub names_of_clauses : List Clause → List (List ℕ)
 names_of_clauses [] = []
 names_of_clauses (c ∷ cs) = names_of_clause c ++ names_of_clauses cs
@@ -128,6 +130,17 @@ names_of_module m = m.name ∷ names_of_clauses m.clauses
 abbrev pub with_name : List (List ℕ) → List ℕ → List (List ℕ)
 with_name names a = if is_built_in a || list_any (bytes_eq a) names then names else names ++ a ∷ []
 
+-- names used so far, and then those of these that are new and not built in
 abbrev pub with_names : List (List ℕ) → List (List ℕ) → List (List ℕ)
 with_names names [] = names
 with_names names (a ∷ others) = with_names (with_name names a) others
+
+-- whether a task is a monitor's
+abbrev pub is_monitor : Task → Bool
+is_monitor monitor = true
+is_monitor (reduces t) = false
+
+-- whether a shoen lives
+abbrev pub is_living : Life → Bool
+is_living living = true
+is_living terminated = false

@@ -1,0 +1,76 @@
+-- Events, replies and refusals.
+use Rattle.std.specs.Prelude.{ℕ, suc, ◌^◌, nat_le, nat_lt, ◌&&◌, Bool, if◌then◌else◌, List}
+use Rattle.kl1_model.specs.Term.{Term}
+use Rattle.kl1_model.specs.State.{State}
+
+-- why an account refuses an event, with the line of a bad source
+pub data Refusal : Type 0 where
+  syntax : Refusal
+  source : ℕ → Refusal
+  exists : Refusal
+  no_shoen : Refusal
+  step_refused : Refusal
+  journal_full : Refusal
+
+-- what is asked of an account without a change: the goal of a shoen as started, with what is bound now
+pub data Query : Type 0 where
+  value : ℕ → Query
+
+-- what may be done to an account: a module loaded from its source; a goal started with an allowance and priorities from low to high;
+-- a goal reduced by the clause of a number, or 0; and a query
+pub data Event : Type 0 where
+  load : List ℕ → Event
+  start : ℕ → ℕ → ℕ → Term → Event
+  reduce : ℕ → ℕ → Event
+  read : Query → Event
+
+-- an answer: the name of the module loaded, the number of the shoen opened, a reduction done, so many steps done by a run,
+-- the printed goal, or a refusal
+pub data Reply : Type 0 where
+  loaded : List ℕ → Reply
+  opened : ℕ → Reply
+  reduced : Reply
+  ran : ℕ → Reply
+  shown : List ℕ → Reply
+  refused : Refusal → Reply
+
+-- the account after an event, and the reply
+pub record Stepped : Type 0 where
+  pub state : State
+  pub reply : Reply
+
+-- a refusal leaves the account as it was
+abbrev pub refuse : State → Refusal → Stepped
+refuse s r = record { state = s; reply = refused r }
+
+-- a number that a command may have: below 2 ^ 63
+abbrev pub is_number : ℕ → Bool
+is_number n = nat_lt n (2 ^ 63)
+
+-- the most bytes of a source
+abbrev pub most_source_bytes : ℕ
+most_source_bytes = 65536
+
+-- the most entries of a journal
+abbrev pub most_entries : ℕ
+most_entries = 262144
+
+-- the most bytes of a line of a journal
+abbrev pub most_line_bytes : ℕ
+most_line_bytes = 262144
+
+-- the greatest priority that a start may give
+abbrev pub most_priority : ℕ
+most_priority = 4095
+
+-- one entry more in the journal
+abbrev pub with_entry : State → State
+with_entry s = record s { entries = suc s.entries }
+
+-- a change that is an entry of the journal: refused where the journal is full
+abbrev pub recorded : State → Stepped → Stepped
+recorded s after = if nat_lt s.entries most_entries then after else refuse s journal_full
+
+-- whether priorities from low to high are a range
+abbrev pub is_range : ℕ → ℕ → Bool
+is_range low high = nat_le low high && nat_le high most_priority
