@@ -11,3 +11,4 @@ pub mod UnifySolution
 pub mod UnifyAnswer
 pub mod UnifyDerivation
 pub mod UnifyFails
+pub mod AccountRowProofs

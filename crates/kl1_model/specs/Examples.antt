@@ -2,11 +2,53 @@
 use Rattle.std.specs.Prelude.{◌≡◌, ℕ, List, [], ◌∷◌, ◌++◌, codes}
 use Rattle.kl1_model.specs.Script.{output}
 
+abbrev pub a_clash_outweighs_a_wait_script : List ℕ
+a_clash_outweighs_a_wait_script = codes "accounts alice bob" ++ 10 ∷ [] ++ codes "alice load 20" ++ 10 ∷ [] ++ codes ":- module t." ++ 10 ∷ [] ++ codes "q(a,b)." ++ 10 ∷ [] ++ codes "alice start 10 0 10 t:q(X,c)" ++ 10 ∷ [] ++ codes "alice run 10" ++ 10 ∷ [] ++ codes "alice value 1" ++ 10 ∷ []
+
+abbrev pub a_clash_outweighs_a_wait_output : List ℕ
+a_clash_outweighs_a_wait_output = codes "alice + loaded t" ++ 10 ∷ [] ++ codes "alice + shoen 1" ++ 10 ∷ [] ++ codes "alice + 1" ++ 10 ∷ [] ++ codes "alice + t:q(_1,c)" ++ 10 ∷ []
+
+abbrev pub a_failure_stops_nothing_else_script : List ℕ
+a_failure_stops_nothing_else_script = codes "accounts alice bob" ++ 10 ∷ [] ++ codes "alice load 42" ++ 10 ∷ [] ++ codes ":- module f." ++ 10 ∷ [] ++ codes "g(R) :- true | 1 = 2, R = ok." ++ 10 ∷ [] ++ codes "alice start 10 0 10 f:g(R)" ++ 10 ∷ [] ++ codes "alice run 10" ++ 10 ∷ [] ++ codes "alice value 1" ++ 10 ∷ []
+
+abbrev pub a_failure_stops_nothing_else_output : List ℕ
+a_failure_stops_nothing_else_output = codes "alice + loaded f" ++ 10 ∷ [] ++ codes "alice + shoen 1" ++ 10 ∷ [] ++ codes "alice + 3" ++ 10 ∷ [] ++ codes "alice + f:g(ok)" ++ 10 ∷ []
+
+abbrev pub account_name_of_16_bytes_script : List ℕ
+account_name_of_16_bytes_script = codes "accounts abcdefghijklmno1" ++ 10 ∷ [] ++ codes "abcdefghijklmno1 run 0" ++ 10 ∷ []
+
+abbrev pub account_name_of_16_bytes_output : List ℕ
+account_name_of_16_bytes_output = codes "abcdefghijklmno1 + 0" ++ 10 ∷ []
+
+abbrev pub account_name_of_17_bytes_script : List ℕ
+account_name_of_17_bytes_script = codes "accounts abcdefghijklmnopq" ++ 10 ∷ [] ++ codes "abcdefghijklmnopq run 0" ++ 10 ∷ []
+
+abbrev pub account_name_of_17_bytes_output : List ℕ
+account_name_of_17_bytes_output = codes "! accounts" ++ 10 ∷ []
+
+abbrev pub account_with_a_capital_script : List ℕ
+account_with_a_capital_script = codes "accounts Alice" ++ 10 ∷ [] ++ codes "Alice run 0" ++ 10 ∷ []
+
+abbrev pub account_with_a_capital_output : List ℕ
+account_with_a_capital_output = codes "! accounts" ++ 10 ∷ []
+
+abbrev pub accounts_alone_script : List ℕ
+accounts_alone_script = codes "accounts" ++ 10 ∷ [] ++ codes "alice run 0" ++ 10 ∷ []
+
+abbrev pub accounts_alone_output : List ℕ
+accounts_alone_output = codes "! accounts" ++ 10 ∷ []
+
 abbrev pub append_two_lists_script : List ℕ
 append_two_lists_script = codes "accounts alice bob" ++ 10 ∷ [] ++ codes "alice load 91" ++ 10 ∷ [] ++ codes ":- module app." ++ 10 ∷ [] ++ codes "app([],Y,Z) :- true | Z = Y." ++ 10 ∷ [] ++ codes "app([A|X],Y,Z) :- true | Z = [A|W], app(X,Y,W)." ++ 10 ∷ [] ++ codes "alice start 100 0 10 app:app([1],[2],R)" ++ 10 ∷ [] ++ codes "alice run 100" ++ 10 ∷ [] ++ codes "alice value 1" ++ 10 ∷ []
 
 abbrev pub append_two_lists_output : List ℕ
 append_two_lists_output = codes "alice + loaded app" ++ 10 ∷ [] ++ codes "alice + shoen 1" ++ 10 ∷ [] ++ codes "alice + 4" ++ 10 ∷ [] ++ codes "alice + app:app([1],[2],[1,2])" ++ 10 ∷ []
+
+abbrev pub bad_load_lines_script : List ℕ
+bad_load_lines_script = codes "accounts alice bob" ++ 10 ∷ [] ++ codes "alice load 65537" ++ 10 ∷ [] ++ codes "alice load" ++ 10 ∷ [] ++ codes "alice load 1 2" ++ 10 ∷ [] ++ codes "alice load 00000000000000000012" ++ 10 ∷ [] ++ codes "alice load 12                                                                                                                                                                                                                                                                                                                                                                                                                                                                                                                                                                                                                                                                                                                                                                                                                                                                                                                                                                                                                                                                                                                                                                                                                                                                                                                                                                                                                                                                                                                                                                                                                                                                                                                                                                                                                                                                                                                                                                                                                                                                                                                                                                                                                                                                                                                                                                                                                                                                                                                                                                                                                                                                                                                                                                                                                                                                                                                                                                                                                                                                                                                                                                                                                                                                                                                                                                                                                                                                                                                                                                                                                                                                                                                                                                                                                                                                                                                                                                                                                                                                                                                                                                                                                                                          " ++ 10 ∷ [] ++ codes "alice run 0" ++ 10 ∷ []
+
+abbrev pub bad_load_lines_output : List ℕ
+bad_load_lines_output = codes "alice - 1 syntax" ++ 10 ∷ [] ++ codes "alice - 1 syntax" ++ 10 ∷ [] ++ codes "alice - 1 syntax" ++ 10 ∷ [] ++ codes "alice - 1 syntax" ++ 10 ∷ [] ++ codes "alice - 1 syntax" ++ 10 ∷ [] ++ codes "alice + 0" ++ 10 ∷ []
 
 abbrev pub bad_source_script : List ℕ
 bad_source_script = codes "accounts alice" ++ 10 ∷ [] ++ codes "alice load 34" ++ 10 ∷ [] ++ codes ":- module z." ++ 10 ∷ [] ++ codes "p(X) :- Y > 0 | true." ++ 10 ∷ []
@@ -14,11 +56,77 @@ bad_source_script = codes "accounts alice" ++ 10 ∷ [] ++ codes "alice load 34"
 abbrev pub bad_source_output : List ℕ
 bad_source_output = codes "alice - 2 source 2" ++ 10 ∷ []
 
+abbrev pub blank_first_line_script : List ℕ
+blank_first_line_script = 10 ∷ [] ++ codes "accounts alice" ++ 10 ∷ []
+
+abbrev pub blank_first_line_output : List ℕ
+blank_first_line_output = codes "! accounts" ++ 10 ∷ []
+
+abbrev pub blank_lines_script : List ℕ
+blank_lines_script = codes "accounts alice bob" ++ 10 ∷ [] ++ 10 ∷ [] ++ codes "   " ++ 10 ∷ [] ++ 9 ∷ [] ++ codes " " ++ 9 ∷ [] ++ 10 ∷ [] ++ codes " " ++ 13 ∷ [] ++ 10 ∷ [] ++ 13 ∷ [] ++ 13 ∷ [] ++ 10 ∷ [] ++ codes "alice run 0" ++ 10 ∷ []
+
+abbrev pub blank_lines_output : List ℕ
+blank_lines_output = codes "! account" ++ 10 ∷ [] ++ codes "alice + 0" ++ 10 ∷ []
+
+abbrev pub blanks_between_accounts_script : List ℕ
+blanks_between_accounts_script = 9 ∷ [] ++ codes "accounts  alice" ++ 9 ∷ [] ++ codes "bob " ++ 13 ∷ [] ++ 10 ∷ [] ++ codes "alice run 0" ++ 10 ∷ []
+
+abbrev pub blanks_between_accounts_output : List ℕ
+blanks_between_accounts_output = codes "alice + 0" ++ 10 ∷ []
+
+abbrev pub bytes_behind_a_load_script : List ℕ
+bytes_behind_a_load_script = codes "accounts alice bob" ++ 10 ∷ [] ++ codes "alice load 12" ++ 10 ∷ [] ++ codes ":- module e.x" ++ 10 ∷ [] ++ codes "alice load 12" ++ 10 ∷ [] ++ codes ":- module e." ++ 13 ∷ [] ++ 13 ∷ [] ++ 10 ∷ [] ++ codes "alice load 12" ++ 10 ∷ [] ++ codes ":- module e. " ++ 10 ∷ [] ++ codes "alice load 12" ++ 13 ∷ [] ++ 10 ∷ [] ++ codes ":- module e." ++ 13 ∷ [] ++ 10 ∷ [] ++ codes "alice run 0" ++ 10 ∷ []
+
+abbrev pub bytes_behind_a_load_output : List ℕ
+bytes_behind_a_load_output = codes "alice - 1 syntax" ++ 10 ∷ [] ++ codes "alice - 1 syntax" ++ 10 ∷ [] ++ codes "alice - 1 syntax" ++ 10 ∷ [] ++ codes "alice + loaded e" ++ 10 ∷ [] ++ codes "alice + 0" ++ 10 ∷ []
+
 abbrev pub clash_outweighs_waiting_script : List ℕ
 clash_outweighs_waiting_script = codes "accounts alice" ++ 10 ∷ [] ++ codes "alice load 20" ++ 10 ∷ [] ++ codes ":- module t." ++ 10 ∷ [] ++ codes "q(a,b)." ++ 10 ∷ [] ++ codes "alice start 10 0 10 t:q(X,c)" ++ 10 ∷ [] ++ codes "alice run 10" ++ 10 ∷ [] ++ codes "alice value 1" ++ 10 ∷ []
 
 abbrev pub clash_outweighs_waiting_output : List ℕ
 clash_outweighs_waiting_output = codes "alice + loaded t" ++ 10 ∷ [] ++ codes "alice + shoen 1" ++ 10 ∷ [] ++ codes "alice + 1" ++ 10 ∷ [] ++ codes "alice + t:q(_1,c)" ++ 10 ∷ []
+
+abbrev pub commands_that_come_later_script : List ℕ
+commands_that_come_later_script = codes "accounts alice bob" ++ 10 ∷ [] ++ codes "alice quiet" ++ 10 ∷ [] ++ codes "alice modules" ++ 10 ∷ [] ++ codes "alice status 1" ++ 10 ∷ [] ++ codes "alice reduce 2 0" ++ 10 ∷ [] ++ codes "alice login" ++ 10 ∷ [] ++ codes "alice journal 1 1" ++ 10 ∷ [] ++ codes "alice RUN 1" ++ 10 ∷ []
+
+abbrev pub commands_that_come_later_output : List ℕ
+commands_that_come_later_output = codes "alice - 1 syntax" ++ 10 ∷ [] ++ codes "alice - 1 syntax" ++ 10 ∷ [] ++ codes "alice - 1 syntax" ++ 10 ∷ [] ++ codes "alice - 1 syntax" ++ 10 ∷ [] ++ codes "alice - 1 syntax" ++ 10 ∷ [] ++ codes "alice - 1 syntax" ++ 10 ∷ [] ++ codes "alice - 1 syntax" ++ 10 ∷ []
+
+abbrev pub cyclic_term_fails_script : List ℕ
+cyclic_term_fails_script = codes "accounts alice bob" ++ 10 ∷ [] ++ codes "alice start 10 0 10 X = f(X)" ++ 10 ∷ [] ++ codes "alice run 10" ++ 10 ∷ [] ++ codes "alice value 1" ++ 10 ∷ []
+
+abbrev pub cyclic_term_fails_output : List ℕ
+cyclic_term_fails_output = codes "alice + shoen 1" ++ 10 ∷ [] ++ codes "alice + 1" ++ 10 ∷ [] ++ codes "alice + '='(_1,f(_1))" ++ 10 ∷ []
+
+abbrev pub doubled_account_script : List ℕ
+doubled_account_script = codes "accounts alice bob alice" ++ 10 ∷ [] ++ codes "alice run 0" ++ 10 ∷ []
+
+abbrev pub doubled_account_output : List ℕ
+doubled_account_output = codes "! accounts" ++ 10 ∷ []
+
+abbrev pub failed_unification_binds_nothing_script : List ℕ
+failed_unification_binds_nothing_script = codes "accounts alice bob" ++ 10 ∷ [] ++ codes "alice start 10 0 10 f(X,a) = f(1,b)" ++ 10 ∷ [] ++ codes "alice run 10" ++ 10 ∷ [] ++ codes "alice value 1" ++ 10 ∷ []
+
+abbrev pub failed_unification_binds_nothing_output : List ℕ
+failed_unification_binds_nothing_output = codes "alice + shoen 1" ++ 10 ∷ [] ++ codes "alice + 1" ++ 10 ∷ [] ++ codes "alice + '='(f(_1,a),f(1,b))" ++ 10 ∷ []
+
+abbrev pub first_of_two_clauses_script : List ℕ
+first_of_two_clauses_script = codes "accounts alice bob" ++ 10 ∷ [] ++ codes "alice load 64" ++ 10 ∷ [] ++ codes ":- module m." ++ 10 ∷ [] ++ codes "m(X,R) :- true | R = one." ++ 10 ∷ [] ++ codes "m(X,R) :- true | R = two." ++ 10 ∷ [] ++ codes "alice start 10 0 10 m:m(X,R)" ++ 10 ∷ [] ++ codes "alice run 10" ++ 10 ∷ [] ++ codes "alice value 1" ++ 10 ∷ []
+
+abbrev pub first_of_two_clauses_output : List ℕ
+first_of_two_clauses_output = codes "alice + loaded m" ++ 10 ∷ [] ++ codes "alice + shoen 1" ++ 10 ∷ [] ++ codes "alice + 2" ++ 10 ∷ [] ++ codes "alice + m:m(_1,one)" ++ 10 ∷ []
+
+abbrev pub forms_that_come_later_script : List ℕ
+forms_that_come_later_script = codes "accounts alice bob" ++ 10 ∷ [] ++ codes "alice load 71" ++ 10 ∷ [] ++ codes ":- module o." ++ 10 ∷ [] ++ codes "p(a,R) :- true | R = 1." ++ 10 ∷ [] ++ codes "otherwise." ++ 10 ∷ [] ++ codes "p(X,R) :- true | R = 2." ++ 10 ∷ [] ++ codes "alice load 42" ++ 10 ∷ [] ++ codes ":- module k." ++ 10 ∷ [] ++ codes "g :- true | h(a)@priority(1)." ++ 10 ∷ [] ++ codes "alice load 20" ++ 10 ∷ [] ++ codes ":- module h." ++ 10 ∷ [] ++ codes "p(X,X)." ++ 10 ∷ [] ++ codes "alice load 34" ++ 10 ∷ [] ++ codes ":- module j." ++ 10 ∷ [] ++ codes "p(X) :- X = 1 | true." ++ 10 ∷ [] ++ codes "alice load 48" ++ 10 ∷ [] ++ codes ":- module j." ++ 10 ∷ [] ++ codes "p :- shoen:execute(true,0,1,1,C,R)." ++ 10 ∷ [] ++ codes "alice load 33" ++ 10 ∷ [] ++ codes ":- module j." ++ 10 ∷ [] ++ codes "p :- atom_from(X,Y)." ++ 10 ∷ [] ++ codes "alice load 41" ++ 10 ∷ [] ++ codes ":- module h." ++ 10 ∷ [] ++ codes "p(_,_) :- true, true | true." ++ 10 ∷ []
+
+abbrev pub forms_that_come_later_output : List ℕ
+forms_that_come_later_output = codes "alice - 2 source 3" ++ 10 ∷ [] ++ codes "alice - 2 source 2" ++ 10 ∷ [] ++ codes "alice - 2 source 2" ++ 10 ∷ [] ++ codes "alice - 2 source 2" ++ 10 ∷ [] ++ codes "alice - 2 source 2" ++ 10 ∷ [] ++ codes "alice - 2 source 2" ++ 10 ∷ [] ++ codes "alice + loaded h" ++ 10 ∷ []
+
+abbrev pub fresh_variables_script : List ℕ
+fresh_variables_script = codes "accounts alice bob" ++ 10 ∷ [] ++ codes "alice load 61" ++ 10 ∷ [] ++ codes ":- module t." ++ 10 ∷ [] ++ codes "p(R) :- true | q(B,A), R = f(A,B,C,_,_)." ++ 10 ∷ [] ++ codes "q(X,Y)." ++ 10 ∷ [] ++ codes "alice start 9 0 9 t:p(R)" ++ 10 ∷ [] ++ codes "alice run 20" ++ 10 ∷ [] ++ codes "alice value 1" ++ 10 ∷ []
+
+abbrev pub fresh_variables_output : List ℕ
+fresh_variables_output = codes "alice + loaded t" ++ 10 ∷ [] ++ codes "alice + shoen 1" ++ 10 ∷ [] ++ codes "alice + 4" ++ 10 ∷ [] ++ codes "alice + t:p(f(_6,_5,_7,_8,_9))" ++ 10 ∷ []
 
 abbrev pub goal_waits_for_ever_script : List ℕ
 goal_waits_for_ever_script = codes "accounts alice" ++ 10 ∷ [] ++ codes "alice load 91" ++ 10 ∷ [] ++ codes ":- module app." ++ 10 ∷ [] ++ codes "app([],Y,Z) :- true | Z = Y." ++ 10 ∷ [] ++ codes "app([A|X],Y,Z) :- true | Z = [A|W], app(X,Y,W)." ++ 10 ∷ [] ++ codes "alice start 100 0 10 app:app(X,[2],R)" ++ 10 ∷ [] ++ codes "alice run 100" ++ 10 ∷ [] ++ codes "alice value 1" ++ 10 ∷ []
@@ -26,11 +134,59 @@ goal_waits_for_ever_script = codes "accounts alice" ++ 10 ∷ [] ++ codes "alice
 abbrev pub goal_waits_for_ever_output : List ℕ
 goal_waits_for_ever_output = codes "alice + loaded app" ++ 10 ∷ [] ++ codes "alice + shoen 1" ++ 10 ∷ [] ++ codes "alice + 0" ++ 10 ∷ [] ++ codes "alice + app:app(_1,[2],_2)" ++ 10 ∷ []
 
+abbrev pub goals_of_a_start_script : List ℕ
+goals_of_a_start_script = codes "accounts alice bob" ++ 10 ∷ [] ++ codes "alice start 9223372036854775807 0 4095 true" ++ 10 ∷ [] ++ codes "alice start 9223372036854775808 0 1 true" ++ 10 ∷ [] ++ codes "alice start 1 0 4096 true" ++ 10 ∷ [] ++ codes "alice start 1 2 1 true" ++ 10 ∷ [] ++ codes "alice start 1 0 1" ++ 10 ∷ [] ++ codes "alice start 1 0 1 p(X)" ++ 10 ∷ [] ++ codes "alice start 1 0 1 X" ++ 10 ∷ [] ++ codes "alice start 1 0 1 true." ++ 10 ∷ [] ++ codes "alice start 1 0 1 X = -1 % a comment" ++ 10 ∷ [] ++ codes "alice start 1 0 1 X := 1" ++ 10 ∷ [] ++ codes "alice start 1 0 1 atom_from(X,Y)" ++ 10 ∷ [] ++ codes "alice start 1 0 1 shoen:execute(true,0,1,2,C,R)" ++ 10 ∷ [] ++ codes "alice start 1 0 1 shoen:execute(true)" ++ 10 ∷ [] ++ codes "alice start 1 0 1 m:[]" ++ 10 ∷ [] ++ codes "alice start 1 0 1 '='(X,1)" ++ 10 ∷ [] ++ codes "alice start 1 0 1 m:p:q" ++ 10 ∷ [] ++ codes "alice start 1 0 1 m:p@priority(1)" ++ 10 ∷ []
+
+abbrev pub goals_of_a_start_output : List ℕ
+goals_of_a_start_output = codes "alice + shoen 1" ++ 10 ∷ [] ++ codes "alice - 1 syntax" ++ 10 ∷ [] ++ codes "alice - 1 syntax" ++ 10 ∷ [] ++ codes "alice - 1 syntax" ++ 10 ∷ [] ++ codes "alice - 1 syntax" ++ 10 ∷ [] ++ codes "alice - 1 syntax" ++ 10 ∷ [] ++ codes "alice - 1 syntax" ++ 10 ∷ [] ++ codes "alice - 1 syntax" ++ 10 ∷ [] ++ codes "alice + shoen 2" ++ 10 ∷ [] ++ codes "alice - 1 syntax" ++ 10 ∷ [] ++ codes "alice - 1 syntax" ++ 10 ∷ [] ++ codes "alice - 1 syntax" ++ 10 ∷ [] ++ codes "alice + shoen 3" ++ 10 ∷ [] ++ codes "alice + shoen 4" ++ 10 ∷ [] ++ codes "alice + shoen 5" ++ 10 ∷ [] ++ codes "alice - 1 syntax" ++ 10 ∷ [] ++ codes "alice - 1 syntax" ++ 10 ∷ []
+
+abbrev pub greater_priority_then_least_number_script : List ℕ
+greater_priority_then_least_number_script = codes "accounts alice bob" ++ 10 ∷ [] ++ codes "alice start 9 0 5 X = a" ++ 10 ∷ [] ++ codes "alice start 9 0 9 X = b" ++ 10 ∷ [] ++ codes "alice start 9 0 9 X = c" ++ 10 ∷ [] ++ codes "alice run 1" ++ 10 ∷ [] ++ codes "alice value 2" ++ 10 ∷ [] ++ codes "alice run 1" ++ 10 ∷ [] ++ codes "alice value 3" ++ 10 ∷ [] ++ codes "alice value 1" ++ 10 ∷ [] ++ codes "alice run 9" ++ 10 ∷ [] ++ codes "alice value 1" ++ 10 ∷ []
+
+abbrev pub greater_priority_then_least_number_output : List ℕ
+greater_priority_then_least_number_output = codes "alice + shoen 1" ++ 10 ∷ [] ++ codes "alice + shoen 2" ++ 10 ∷ [] ++ codes "alice + shoen 3" ++ 10 ∷ [] ++ codes "alice + 1" ++ 10 ∷ [] ++ codes "alice + '='(b,b)" ++ 10 ∷ [] ++ codes "alice + 1" ++ 10 ∷ [] ++ codes "alice + '='(c,c)" ++ 10 ∷ [] ++ codes "alice + '='(_1,a)" ++ 10 ∷ [] ++ codes "alice + 1" ++ 10 ∷ [] ++ codes "alice + '='(a,a)" ++ 10 ∷ []
+
 abbrev pub higher_variable_takes_the_lower_script : List ℕ
 higher_variable_takes_the_lower_script = codes "accounts alice" ++ 10 ∷ [] ++ codes "alice start 10 0 10 f(X,Y) = f(Y,X)" ++ 10 ∷ [] ++ codes "alice run 10" ++ 10 ∷ [] ++ codes "alice value 1" ++ 10 ∷ []
 
 abbrev pub higher_variable_takes_the_lower_output : List ℕ
 higher_variable_takes_the_lower_output = codes "alice + shoen 1" ++ 10 ∷ [] ++ codes "alice + 1" ++ 10 ∷ [] ++ codes "alice + '='(f(_1,_1),f(_1,_1))" ++ 10 ∷ []
+
+abbrev pub integers_are_no_atoms_script : List ℕ
+integers_are_no_atoms_script = codes "accounts alice bob" ++ 10 ∷ [] ++ codes "alice load 62" ++ 10 ∷ [] ++ codes ":- module t." ++ 10 ∷ [] ++ codes "p(1,R) :- true | R = i." ++ 10 ∷ [] ++ codes "p('1',R) :- true | R = a." ++ 10 ∷ [] ++ codes "alice start 9 0 9 t:p('1',R)" ++ 10 ∷ [] ++ codes "alice start 9 0 9 t:p(01,R)" ++ 10 ∷ [] ++ codes "alice run 20" ++ 10 ∷ [] ++ codes "alice value 1" ++ 10 ∷ [] ++ codes "alice value 2" ++ 10 ∷ []
+
+abbrev pub integers_are_no_atoms_output : List ℕ
+integers_are_no_atoms_output = codes "alice + loaded t" ++ 10 ∷ [] ++ codes "alice + shoen 1" ++ 10 ∷ [] ++ codes "alice + shoen 2" ++ 10 ∷ [] ++ codes "alice + 4" ++ 10 ∷ [] ++ codes "alice + t:p('1',a)" ++ 10 ∷ [] ++ codes "alice + t:p(1,i)" ++ 10 ∷ []
+
+abbrev pub last_line_without_a_feed_script : List ℕ
+last_line_without_a_feed_script = codes "accounts alice bob" ++ 10 ∷ [] ++ codes "alice run 0" ++ 13 ∷ []
+
+abbrev pub last_line_without_a_feed_output : List ℕ
+last_line_without_a_feed_output = codes "alice + 0" ++ 10 ∷ []
+
+abbrev pub line_of_a_fault_script : List ℕ
+line_of_a_fault_script = codes "accounts alice bob" ++ 10 ∷ [] ++ codes "alice load 34" ++ 10 ∷ [] ++ codes ":- module z." ++ 10 ∷ [] ++ codes "p(X) :- Y > 0 | true." ++ 10 ∷ []
+
+abbrev pub line_of_a_fault_output : List ℕ
+line_of_a_fault_output = codes "alice - 2 source 2" ++ 10 ∷ []
+
+abbrev pub lines_of_4096_bytes_script : List ℕ
+lines_of_4096_bytes_script = codes "accounts alice bob" ++ 10 ∷ [] ++ codes "alice run 0                                                                                                                                                                                                                                                                                                                                                                                                                                                                                                                                                                                                                                                                                                                                                                                                                                                                                                                                                                                                                                                                                                                                                                                                                                                                                                                                                                                                                                                                                                                                                                                                                                                                                                                                                                                                                                                                                                                                                                                                                                                                                                                                                                                                                                                                                                                                                                                                                                                                                                                                                                                                                                                                                                                                                                                                                                                                                                                                                                                                                                                                                                                                                                                                                                                                                                                                                                                                                                                                                                                                                                                                                                                                                                                                                                                                                                                                                                                                                                                                                                                                                                                                                                                                                                                           " ++ 10 ∷ [] ++ codes "alice run 0                                                                                                                                                                                                                                                                                                                                                                                                                                                                                                                                                                                                                                                                                                                                                                                                                                                                                                                                                                                                                                                                                                                                                                                                                                                                                                                                                                                                                                                                                                                                                                                                                                                                                                                                                                                                                                                                                                                                                                                                                                                                                                                                                                                                                                                                                                                                                                                                                                                                                                                                                                                                                                                                                                                                                                                                                                                                                                                                                                                                                                                                                                                                                                                                                                                                                                                                                                                                                                                                                                                                                                                                                                                                                                                                                                                                                                                                                                                                                                                                                                                                                                                                                                                                                                                            " ++ 10 ∷ [] ++ codes "alice run 0                                                                                                                                                                                                                                                                                                                                                                                                                                                                                                                                                                                                                                                                                                                                                                                                                                                                                                                                                                                                                                                                                                                                                                                                                                                                                                                                                                                                                                                                                                                                                                                                                                                                                                                                                                                                                                                                                                                                                                                                                                                                                                                                                                                                                                                                                                                                                                                                                                                                                                                                                                                                                                                                                                                                                                                                                                                                                                                                                                                                                                                                                                                                                                                                                                                                                                                                                                                                                                                                                                                                                                                                                                                                                                                                                                                                                                                                                                                                                                                                                                                                                                                                                                                                                                                           " ++ 13 ∷ [] ++ 10 ∷ [] ++ codes "alice run 0                                                                                                                                                                                                                                                                                                                                                                                                                                                                                                                                                                                                                                                                                                                                                                                                                                                                                                                                                                                                                                                                                                                                                                                                                                                                                                                                                                                                                                                                                                                                                                                                                                                                                                                                                                                                                                                                                                                                                                                                                                                                                                                                                                                                                                                                                                                                                                                                                                                                                                                                                                                                                                                                                                                                                                                                                                                                                                                                                                                                                                                                                                                                                                                                                                                                                                                                                                                                                                                                                                                                                                                                                                                                                                                                                                                                                                                                                                                                                                                                                                                                                                                                                                                                                                                            " ++ 13 ∷ [] ++ 10 ∷ [] ++ codes "carol run 0                                                                                                                                                                                                                                                                                                                                                                                                                                                                                                                                                                                                                                                                                                                                                                                                                                                                                                                                                                                                                                                                                                                                                                                                                                                                                                                                                                                                                                                                                                                                                                                                                                                                                                                                                                                                                                                                                                                                                                                                                                                                                                                                                                                                                                                                                                                                                                                                                                                                                                                                                                                                                                                                                                                                                                                                                                                                                                                                                                                                                                                                                                                                                                                                                                                                                                                                                                                                                                                                                                                                                                                                                                                                                                                                                                                                                                                                                                                                                                                                                                                                                                                                                                                                                                                            " ++ 10 ∷ []
+
+abbrev pub lines_of_4096_bytes_output : List ℕ
+lines_of_4096_bytes_output = codes "alice + 0" ++ 10 ∷ [] ++ codes "alice - 1 syntax" ++ 10 ∷ [] ++ codes "alice + 0" ++ 10 ∷ [] ++ codes "alice - 1 syntax" ++ 10 ∷ [] ++ codes "! account" ++ 10 ∷ []
+
+abbrev pub load_of_no_bytes_script : List ℕ
+load_of_no_bytes_script = codes "accounts alice bob" ++ 10 ∷ [] ++ codes "alice load 0"
+
+abbrev pub load_of_no_bytes_output : List ℕ
+load_of_no_bytes_output = codes "alice - 2 source 1" ++ 10 ∷ []
+
+abbrev pub load_without_a_last_feed_script : List ℕ
+load_without_a_last_feed_script = codes "accounts alice bob" ++ 10 ∷ [] ++ codes "alice load 12" ++ 10 ∷ [] ++ codes ":- module e." ++ 13 ∷ []
+
+abbrev pub load_without_a_last_feed_output : List ℕ
+load_without_a_last_feed_output = codes "alice + loaded e" ++ 10 ∷ []
 
 abbrev pub loaded_twice_script : List ℕ
 loaded_twice_script = codes "accounts alice bob" ++ 10 ∷ [] ++ codes "alice load 91" ++ 10 ∷ [] ++ codes ":- module app." ++ 10 ∷ [] ++ codes "app([],Y,Z) :- true | Z = Y." ++ 10 ∷ [] ++ codes "app([A|X],Y,Z) :- true | Z = [A|W], app(X,Y,W)." ++ 10 ∷ [] ++ codes "alice load 91" ++ 10 ∷ [] ++ codes ":- module app." ++ 10 ∷ [] ++ codes "app([],Y,Z) :- true | Z = Y." ++ 10 ∷ [] ++ codes "app([A|X],Y,Z) :- true | Z = [A|W], app(X,Y,W)." ++ 10 ∷ []
@@ -38,17 +194,53 @@ loaded_twice_script = codes "accounts alice bob" ++ 10 ∷ [] ++ codes "alice lo
 abbrev pub loaded_twice_output : List ℕ
 loaded_twice_output = codes "alice + loaded app" ++ 10 ∷ [] ++ codes "alice - 3 exists" ++ 10 ∷ []
 
+abbrev pub loads_of_other_names_script : List ℕ
+loads_of_other_names_script = codes "accounts alice bob" ++ 10 ∷ [] ++ codes "carol load 12" ++ 10 ∷ [] ++ codes ":- module e.x" ++ 10 ∷ [] ++ codes "bob load 11" ++ 10 ∷ [] ++ codes ":- module e." ++ 10 ∷ [] ++ codes " load 4" ++ 10 ∷ [] ++ codes "xxxx" ++ 10 ∷ [] ++ codes "alice run 0" ++ 10 ∷ []
+
+abbrev pub loads_of_other_names_output : List ℕ
+loads_of_other_names_output = codes "! account" ++ 10 ∷ [] ++ codes "! account" ++ 10 ∷ [] ++ codes "! account" ++ 10 ∷ [] ++ codes "alice + 0" ++ 10 ∷ []
+
 abbrev pub loads_of_others_are_skipped_script : List ℕ
 loads_of_others_are_skipped_script = codes "accounts alice bob" ++ 10 ∷ [] ++ codes "carol load 12" ++ 10 ∷ [] ++ codes "alice run 1" ++ 10 ∷ [] ++ 10 ∷ [] ++ codes "alice run 1" ++ 10 ∷ [] ++ codes "alice load 12" ++ 10 ∷ [] ++ codes ":- module e.x" ++ 10 ∷ [] ++ codes "alice load 12" ++ 10 ∷ [] ++ codes ":- module e." ++ 13 ∷ [] ++ 10 ∷ []
 
 abbrev pub loads_of_others_are_skipped_output : List ℕ
 loads_of_others_are_skipped_output = codes "! account" ++ 10 ∷ [] ++ codes "alice + 0" ++ 10 ∷ [] ++ codes "alice - 1 syntax" ++ 10 ∷ [] ++ codes "alice + loaded e" ++ 10 ∷ []
 
+abbrev pub module_without_clauses_script : List ℕ
+module_without_clauses_script = codes "accounts alice bob" ++ 10 ∷ [] ++ codes "alice load 12" ++ 10 ∷ [] ++ codes ":- module e." ++ 10 ∷ []
+
+abbrev pub module_without_clauses_output : List ℕ
+module_without_clauses_output = codes "alice + loaded e" ++ 10 ∷ []
+
+abbrev pub modules_loaded_at_that_moment_script : List ℕ
+modules_loaded_at_that_moment_script = codes "accounts alice bob" ++ 10 ∷ [] ++ codes "alice start 10 0 10 app:app([],a,R)" ++ 10 ∷ [] ++ codes "alice run 10" ++ 10 ∷ [] ++ codes "alice start 10 0 10 app:app([],a,R)" ++ 10 ∷ [] ++ codes "alice load 91" ++ 10 ∷ [] ++ codes ":- module app." ++ 10 ∷ [] ++ codes "app([],Y,Z) :- true | Z = Y." ++ 10 ∷ [] ++ codes "app([A|X],Y,Z) :- true | Z = [A|W], app(X,Y,W)." ++ 10 ∷ [] ++ codes "alice run 10" ++ 10 ∷ [] ++ codes "alice value 1" ++ 10 ∷ [] ++ codes "alice value 2" ++ 10 ∷ []
+
+abbrev pub modules_loaded_at_that_moment_output : List ℕ
+modules_loaded_at_that_moment_output = codes "alice + shoen 1" ++ 10 ∷ [] ++ codes "alice + 1" ++ 10 ∷ [] ++ codes "alice + shoen 2" ++ 10 ∷ [] ++ codes "alice + loaded app" ++ 10 ∷ [] ++ codes "alice + 2" ++ 10 ∷ [] ++ codes "alice + app:app([],a,_1)" ++ 10 ∷ [] ++ codes "alice + app:app([],a,a)" ++ 10 ∷ []
+
+abbrev pub names_before_the_first_space_script : List ℕ
+names_before_the_first_space_script = codes "accounts alice bob" ++ 10 ∷ [] ++ codes "alice" ++ 10 ∷ [] ++ codes "alice " ++ 10 ∷ [] ++ codes "bob run 0" ++ 10 ∷ [] ++ codes "carol" ++ 10 ∷ [] ++ codes " alice run 0" ++ 10 ∷ [] ++ codes "alice" ++ 9 ∷ [] ++ codes "run 0" ++ 10 ∷ [] ++ codes "alice " ++ 9 ∷ [] ++ codes "run" ++ 9 ∷ [] ++ 9 ∷ [] ++ codes "0 " ++ 9 ∷ [] ++ 10 ∷ [] ++ codes "alice run 0" ++ 13 ∷ [] ++ 13 ∷ [] ++ 10 ∷ []
+
+abbrev pub names_before_the_first_space_output : List ℕ
+names_before_the_first_space_output = codes "alice - 1 syntax" ++ 10 ∷ [] ++ codes "alice - 1 syntax" ++ 10 ∷ [] ++ codes "! account" ++ 10 ∷ [] ++ codes "! account" ++ 10 ∷ [] ++ codes "! account" ++ 10 ∷ [] ++ codes "! account" ++ 10 ∷ [] ++ codes "alice + 0" ++ 10 ∷ [] ++ codes "alice - 1 syntax" ++ 10 ∷ []
+
 abbrev pub names_in_quotes_script : List ℕ
 names_in_quotes_script = codes "accounts alice" ++ 10 ∷ [] ++ codes "alice start 10 0 10 X = ''" ++ 10 ∷ [] ++ codes "alice start 10 0 10 X = '[]'(a)" ++ 10 ∷ [] ++ codes "alice run 2" ++ 10 ∷ [] ++ codes "alice value 1" ++ 10 ∷ [] ++ codes "alice value 2" ++ 10 ∷ []
 
 abbrev pub names_in_quotes_output : List ℕ
 names_in_quotes_output = codes "alice + shoen 1" ++ 10 ∷ [] ++ codes "alice + shoen 2" ++ 10 ∷ [] ++ codes "alice + 2" ++ 10 ∷ [] ++ codes "alice + '='('','')" ++ 10 ∷ [] ++ codes "alice + '='('[]'(a),'[]'(a))" ++ 10 ∷ []
+
+abbrev pub names_of_63_and_64_bytes_script : List ℕ
+names_of_63_and_64_bytes_script = codes "accounts alice bob" ++ 10 ∷ [] ++ codes "alice load 78" ++ 10 ∷ [] ++ codes ":- module e1." ++ 10 ∷ [] ++ codes "aaaaaaaaaaaaaaaaaaaaaaaaaaaaaaaaaaaaaaaaaaaaaaaaaaaaaaaaaaaaaaa." ++ 10 ∷ [] ++ codes "alice load 79" ++ 10 ∷ [] ++ codes ":- module e2." ++ 10 ∷ [] ++ codes "aaaaaaaaaaaaaaaaaaaaaaaaaaaaaaaaaaaaaaaaaaaaaaaaaaaaaaaaaaaaaaaa." ++ 10 ∷ []
+
+abbrev pub names_of_63_and_64_bytes_output : List ℕ
+names_of_63_and_64_bytes_output = codes "alice + loaded e1" ++ 10 ∷ [] ++ codes "alice - 2 source 2" ++ 10 ∷ []
+
+abbrev pub nested_patterns_script : List ℕ
+nested_patterns_script = codes "accounts alice bob" ++ 10 ∷ [] ++ codes "alice load 52" ++ 10 ∷ [] ++ codes ":- module t." ++ 10 ∷ [] ++ codes "p(f(X,[A|B]),R) :- true | R = g(B,A,X)." ++ 10 ∷ [] ++ codes "alice start 9 0 9 t:p(f(1,[2,3]),R)" ++ 10 ∷ [] ++ codes "alice start 9 0 9 t:p(f(1,Y),R)" ++ 10 ∷ [] ++ codes "alice start 9 0 9 t:p(f(Y,[]),R)" ++ 10 ∷ [] ++ codes "alice run 20" ++ 10 ∷ [] ++ codes "alice value 1" ++ 10 ∷ []
+
+abbrev pub nested_patterns_output : List ℕ
+nested_patterns_output = codes "alice + loaded t" ++ 10 ∷ [] ++ codes "alice + shoen 1" ++ 10 ∷ [] ++ codes "alice + shoen 2" ++ 10 ∷ [] ++ codes "alice + shoen 3" ++ 10 ∷ [] ++ codes "alice + 3" ++ 10 ∷ [] ++ codes "alice + t:p(f(1,[2,3]),g([3],2,1))" ++ 10 ∷ []
 
 abbrev pub no_accounts_script : List ℕ
 no_accounts_script = []
@@ -62,11 +254,35 @@ no_cyclic_terms_script = codes "accounts alice" ++ 10 ∷ [] ++ codes "alice sta
 abbrev pub no_cyclic_terms_output : List ℕ
 no_cyclic_terms_output = codes "alice + shoen 1" ++ 10 ∷ [] ++ codes "alice + 1" ++ 10 ∷ [] ++ codes "alice + '='(_1,f(_1))" ++ 10 ∷ []
 
+abbrev pub numbers_of_19_digits_script : List ℕ
+numbers_of_19_digits_script = codes "accounts alice bob" ++ 10 ∷ [] ++ codes "alice run 0000000000000000000" ++ 10 ∷ [] ++ codes "alice run 00000000000000000000" ++ 10 ∷ [] ++ codes "alice value 9223372036854775807" ++ 10 ∷ [] ++ codes "alice value 9223372036854775808" ++ 10 ∷ [] ++ codes "alice run 262144" ++ 10 ∷ [] ++ codes "alice run 262145" ++ 10 ∷ [] ++ codes "alice run -1" ++ 10 ∷ [] ++ codes "alice run 1 2" ++ 10 ∷ [] ++ codes "alice run" ++ 10 ∷ [] ++ codes "alice start 1 0 1 X = 00000000000000000000000000000001" ++ 10 ∷ []
+
+abbrev pub numbers_of_19_digits_output : List ℕ
+numbers_of_19_digits_output = codes "alice + 0" ++ 10 ∷ [] ++ codes "alice - 1 syntax" ++ 10 ∷ [] ++ codes "alice - 4 noshoen" ++ 10 ∷ [] ++ codes "alice - 1 syntax" ++ 10 ∷ [] ++ codes "alice + 0" ++ 10 ∷ [] ++ codes "alice - 1 syntax" ++ 10 ∷ [] ++ codes "alice - 1 syntax" ++ 10 ∷ [] ++ codes "alice - 1 syntax" ++ 10 ∷ [] ++ codes "alice - 1 syntax" ++ 10 ∷ [] ++ codes "alice + shoen 1" ++ 10 ∷ []
+
 abbrev pub producer_and_consumer_script : List ℕ
 producer_and_consumer_script = codes "accounts alice" ++ 10 ∷ [] ++ codes "alice load 277" ++ 10 ∷ [] ++ codes ":- module stream." ++ 10 ∷ [] ++ codes "make([],Out) :- true | Out = []." ++ 10 ∷ [] ++ codes "make([N|Ns],Out) :- true | Out = [item(N)|Rest], make(Ns,Rest)." ++ 10 ∷ [] ++ codes "take([],Sum) :- true | Sum = none." ++ 10 ∷ [] ++ codes "take([item(N)|Rest],Sum) :- true | Sum = some(N,More), take(Rest,More)." ++ 10 ∷ [] ++ codes "both(Ns,Sum) :- true | take(Items,Sum), make(Ns,Items)." ++ 10 ∷ [] ++ codes "alice start 100 0 10 stream:both([1,2],Sum)" ++ 10 ∷ [] ++ codes "alice run 100" ++ 10 ∷ [] ++ codes "alice value 1" ++ 10 ∷ []
 
 abbrev pub producer_and_consumer_output : List ℕ
 producer_and_consumer_output = codes "alice + loaded stream" ++ 10 ∷ [] ++ codes "alice + shoen 1" ++ 10 ∷ [] ++ codes "alice + 13" ++ 10 ∷ [] ++ codes "alice + stream:both([1,2],some(1,some(2,none)))" ++ 10 ∷ []
+
+abbrev pub second_variable_wakes_script : List ℕ
+second_variable_wakes_script = codes "accounts alice bob" ++ 10 ∷ [] ++ codes "alice load 96" ++ 10 ∷ [] ++ codes ":- module s." ++ 10 ∷ [] ++ codes "e(1,Y,R) :- true | R = l." ++ 10 ∷ [] ++ codes "e(X,1,R) :- true | R = r." ++ 10 ∷ [] ++ codes "g(R) :- true | e(X,Y,R), Y = 1." ++ 10 ∷ [] ++ codes "alice start 10 0 10 s:g(R)" ++ 10 ∷ [] ++ codes "alice run 10" ++ 10 ∷ [] ++ codes "alice value 1" ++ 10 ∷ []
+
+abbrev pub second_variable_wakes_output : List ℕ
+second_variable_wakes_output = codes "alice + loaded s" ++ 10 ∷ [] ++ codes "alice + shoen 1" ++ 10 ∷ [] ++ codes "alice + 4" ++ 10 ∷ [] ++ codes "alice + s:g(r)" ++ 10 ∷ []
+
+abbrev pub seventeen_accounts_script : List ℕ
+seventeen_accounts_script = codes "accounts a0 a1 a2 a3 a4 a5 a6 a7 a8 a9 a10 a11 a12 a13 a14 a15 b" ++ 10 ∷ [] ++ codes "a0 run 0" ++ 10 ∷ []
+
+abbrev pub seventeen_accounts_output : List ℕ
+seventeen_accounts_output = codes "! accounts" ++ 10 ∷ []
+
+abbrev pub sixteen_accounts_script : List ℕ
+sixteen_accounts_script = codes "accounts a0 a1 a2 a3 a4 a5 a6 a7 a8 a9 a10 a11 a12 a13 a14 a15" ++ 10 ∷ [] ++ codes "a0 run 0" ++ 10 ∷ [] ++ codes "a15 run 0" ++ 10 ∷ []
+
+abbrev pub sixteen_accounts_output : List ℕ
+sixteen_accounts_output = codes "a0 + 0" ++ 10 ∷ [] ++ codes "! account" ++ 10 ∷ []
 
 abbrev pub truncated_load_script : List ℕ
 truncated_load_script = codes "accounts alice" ++ 10 ∷ [] ++ codes "alice start 10 0 10 true" ++ 10 ∷ [] ++ codes "alice load 50" ++ 10 ∷ [] ++ codes "xxxxxxxxxxxxxxxxxxxxxxxxxxxxxxxxxxxxxxxxxxxxxxxxx"
@@ -74,11 +290,41 @@ truncated_load_script = codes "accounts alice" ++ 10 ∷ [] ++ codes "alice star
 abbrev pub truncated_load_output : List ℕ
 truncated_load_output = codes "alice + shoen 1" ++ 10 ∷ [] ++ codes "! truncated" ++ 10 ∷ []
 
+abbrev pub truncated_load_of_another_name_script : List ℕ
+truncated_load_of_another_name_script = codes "accounts alice bob" ++ 10 ∷ [] ++ codes "carol load 13" ++ 10 ∷ [] ++ codes ":- module e."
+
+abbrev pub truncated_load_of_another_name_output : List ℕ
+truncated_load_of_another_name_output = codes "! truncated" ++ 10 ∷ []
+
 abbrev pub unification_fails_whole_script : List ℕ
 unification_fails_whole_script = codes "accounts alice" ++ 10 ∷ [] ++ codes "alice start 10 0 10 f(X,a) = f(1,b)" ++ 10 ∷ [] ++ codes "alice run 10" ++ 10 ∷ [] ++ codes "alice value 1" ++ 10 ∷ []
 
 abbrev pub unification_fails_whole_output : List ℕ
 unification_fails_whole_output = codes "alice + shoen 1" ++ 10 ∷ [] ++ codes "alice + 1" ++ 10 ∷ [] ++ codes "alice + '='(f(_1,a),f(1,b))" ++ 10 ∷ []
+
+abbrev pub unknown_predicates_fail_script : List ℕ
+unknown_predicates_fail_script = codes "accounts alice bob" ++ 10 ∷ [] ++ codes "alice load 91" ++ 10 ∷ [] ++ codes ":- module app." ++ 10 ∷ [] ++ codes "app([],Y,Z) :- true | Z = Y." ++ 10 ∷ [] ++ codes "app([A|X],Y,Z) :- true | Z = [A|W], app(X,Y,W)." ++ 10 ∷ [] ++ codes "alice start 10 0 10 app:foo(1)" ++ 10 ∷ [] ++ codes "alice start 10 0 10 app:app(1)" ++ 10 ∷ [] ++ codes "alice start 10 0 10 app:true" ++ 10 ∷ [] ++ codes "alice run 10" ++ 10 ∷ []
+
+abbrev pub unknown_predicates_fail_output : List ℕ
+unknown_predicates_fail_output = codes "alice + loaded app" ++ 10 ∷ [] ++ codes "alice + shoen 1" ++ 10 ∷ [] ++ codes "alice + shoen 2" ++ 10 ∷ [] ++ codes "alice + shoen 3" ++ 10 ∷ [] ++ codes "alice + 3" ++ 10 ∷ []
+
+abbrev pub value_is_cut_script : List ℕ
+value_is_cut_script = codes "accounts alice bob" ++ 10 ∷ [] ++ codes "alice start 9 0 9 X = [aa,a,a,a,a,a,a,a,a,a,a,a,a,a,a,a,a,a,a,a,a,a,a,a,a,a,a,a,a,a,a,a,a,a,a,a,a,a,a,a,a,a,a,a,a,a,a,a,a,a,a,a,a,a,a,a,a,a,a,a,a,a,a,a,a,a,a,a,a,a,a,a,a,a,a,a,a,a,a,a,a,a,a,a,a,a,a,a,a,a,a,a,a,a,a,a,a,a,a,a,a,a,a,a,a,a,a,a,a,a,a,a,a,a,a,a,a,a,a,a,a,a,a,a,a,a,a,a,a,a,a,a,a,a,a,a,a,a,a,a,a,a,a,a,a,a,a,a,a,a,a,a,a,a,a,a,a,a,a,a,a,a,a,a,a,a,a,a,a,a,a,a,a,a,a,a,a,a,a,a,a,a,a,a,a,a,a,a,a,a,a,a,a,a,a,a,a,a,a,a,a,a,a,a,a,a,a,a,a,a,a,a,a,a,a,a,a,a,a,a,a,a,a,a,a,a,a,a,a,a,a,a,a,a,a,a,a,a,a,a,a,a,a,a,a,a,a,a,a,a,a,a,a,a,a,a,a,a,a,a,a,a,a,a,a,a,a,a,a,a,a,a,a,a,a,a,a,a,a,a,a,a,a,a,a,a,a,a,a,a,a,a,a,a,a,a,a,a,a,a,a,a,a,a,a,a,a,a,a,a,a,a,a,a,a,a,a,a,a,a,a,a,a,a,a,a,a,a,a,a,a,a,a,a,a,a,a,a,a,a,a,a,a,a,a,a,a,a,a,a,a,a,a,a,a,a,a,a,a,a,a,a,a,a,a,a,a,a,a,a,a,a,a,a,a,a,a,a,a,a,a,a,a,a,a,a,a,a,a,a,a,a,a,a,a,a,a,a,a,a,a,a,a,a,a,a,a,a,a,a,a,a,a,a,a,a,a,a,a,a,a,a,a,a,a,a,a,a,a,a,a,a,a,a,a,a,a,a,a,a,a,a,a,a,a,a,a,a,a,a,a,a,a,a,a,a,a,a,a,a,a,a,a,a,a,a,a,a,a,a,a,a,a,a,a,a,a,a,a,a,a,a,a,a,a,a,a,a,a,a,a,a,a,a,a,a,a,a,a,a,a,a,a,a,a,a,a,a,a,a,a,a,a,a,a,a,a,a,a,a,a,a,a,a,a,a,a,a,a,a,a,a,a,a,a,a,a,a,a,a,a,a,a,a,a,a,a,a,a,a,a,a,a,a,a,a,a,a,a,a,a,a,a,a,a,a,a,a,a,a,a,a,a,a,a,a,a,a,a,a,a,a,a,a,a,a,a,a,a,a,a,a,a,a,a,a,a,a,a,a,a,a,a,a,a,a,a,a,a,a,a,a,a,a,a,a,a,a,a,a,a,a,a,a,a,a,a,a,a,a,a,a,a,a,a,a,a,a,a,a,a,a,a,a,a,a,a,a,a,a,a,a,a,a,a,a,a,a,a,a,a,a,a,a,a,a,a,a,a,a,a,a,a,a,a,a,a,a,a,a,a,a,a,a,a,a,a,a,a,a,a,a,a,a,a,a,a,a,a,a,a,a,a,a,a,a,a,a,a,a,a,a,a,a,a,a,a,a,a,a,a,a,a,a,a,a,a,a,a,a,a,a,a,a,a,a,a,a,a,a,a,a,a,a,a,a,a,a,a,a,a,a,a,a,a,a,a,a,a,a,a,a,a,a,a,a,a,a,a,a,a,a,a,a,a,a,a,a,a,a,a,a,a,a,a,a,a,a,a,a,a,a,a,a,a,a,a,a,a,a,a,a,a,a,a,a,a,a,a,a,a,a,a,a,a,a,a,a,a,a,a,a,a,a,a,a,a,a,a,a,a,a,a,a,a,a,a,a,a,a,a,a,a,a,a,a,a,a,a,a,a,a,a,a,a,a,a,a,a,a,a,a,a,a,a,a,a,a,a,a,a,a,a,a,a,a,a,a,a,a,a,a,a,a,a,a,a,a,a,a,a,a,a,a,a,a,a,a,a,a,a,a,a,a,a,a,a,a,a,a,a,a,a,a,a,a,a,a,a,a,a,a,a,a,a,a,a,a,a,a,a,a,a,a,a,a,a,a,a,a,a,a,a,a,a,a,a,a,a,a,a,a,a,a,a,a,a,a,a,a,a,a,a,a,a,a,a,a,a,a,a,a,a,a,a,a,a,a,a,a,a,a,a,a,a,a,a,a,a,a,a,a,a,a,a,a,a,a,a,a,a,a,a,a,a,a,a,a,a,a,a,a,a,a,a,a,a,a,a,a,a,a,a,a,a,a,a,a,a,a,a,a,a,a,a,a,a,a,a,a,a,a,a,a,a,a,a,a,a,a,a,a,a,a,a,a,a,a,a,a,a,a,a,a,a,a,a,a,a,a,a,a,a,a,a,a,a,a,a,a,a,a,a,a,a,a,a,a,a,a,a,a,a,a,a,a,a,a,a,a,a,a,a,a,a,a,a,a,a,a,a,a,a,a,a,a,a,a,a,a,a,a,a,a,a,a,a,a,a,a,a,a,a,a,a,a,a,a,a,a,a,a,a,a,a,a,a,a,a,a,a,a,a,a,a,a,a,a,a,a,a,a,a,a,a,a,a,a,a,a,a,a,a,a,a,a,a,a,a,a,a,a,a,a,a,a,a,a,a,a,a,a,a,a,a,a,a,a,a,a,a,a,a,a,a,a,a,a,a,a,a,a,a,a,a,a,a,a,a,a,a,a,a,a,a,a,a,a,a,a,a,a,a,a,a,a,a,a,a,a,a,a,a,a,a,a,a,a,a,a,a,a,a,a,a,a,a,a,a,a,a,a,a,a,a,a,a,a,a,a,a,a,a,a,a,a,a,a,a,a,a,a,a,a,a,a,a,a,a,a,a,a,a,a,a,a,a,a,a,a,a,a,a,a,a,a,a,a,a,a,a,a,a,a,a,a,a,a,a,a,a,a,a,a,a,a,a,a,a,a,a,a,a,a,a,a,a,a,a,a,a,a,a,a,a,a,a,a,a,a,a,a,a,a,a,a,a,a,a,a,a,a,a,a,a,a,a,a,a,a,a,a,a,a,a,a,a,a,a,a,a,a,a,a,a,a,a,a,a,a,a,a,a,a,a,a,a,a,a,a,a,a,a,a,a,a,a,a,a,a,a,a,a,a,a,a,a,a,a,a,a,a,a,a,a,a,a,a,a,a,a,a,a,a,a,a,a,a,a,a,a,a,a,a,a,a,a,a,a,a,a,a,a,a,a,a,a,a,a,a,a,a,a,a,a,a,a,a,a,a,a,a,a,a,a,a,a,a,a,a,a,a,a,a,a,a,a,a,a,a,a,a,a,a,a,a,a,a,a,a,a,a,a,a,a,a,a,a,a,a,a,a,a,a,a,a,a,a,a,a,a,a,a,a,a,a,a,a,a,a,a,a,a,a,a,a,a,a,a,a,a,a,a,a,a,a,a,a,a,a,a,a,a,a,a,a,a,a,a,a,a,a,a,a,a,a,a,a,a,a,a,a,a,a,a,a,a,a,a,a,a,a,a,a,a,a,a,a,a,a,a,a,a,a,a,a,a,a,a,a,a,a,a,a,a,a,a,a,a,a,a,a,a,a,a,a,a,a,a,a,a,a,a,a,a,a,a,a,a,a,a,a,a,a,a,a,a,a,a,a,a,a,a,a,a,a,a,a,a,a,a,a,a,a,a,a,a,a,a,a,a,a,a,a,a,a,a,a,a,a,a,a,a,a,a,a,a,a,a,a,a,a,a,a,a,a,a,a,a,a,a,a,a,a,a,a,a,a,a,a,a,a,a,a,a,a,a,a,a,a,a,a,a,a,a,a,a,a,a,a,a,a,a,a,a,a,a,a,a,a,a,a,a,a,a,a,a,a,a,a,a,a,a,a,a,a,a,a,a,a,a,a,a,a,a,a,a,a,a,a,a,a,a,a,a,a,a,a,a,a,a,a,a,a,a,a,a,a,a,a,a,a,a,a,a,a,a,a,a,a,a,a,a,a,a,a,a,a,a,a,a,a,a,a,a,a,a,a,a,a,a,a,a,a,a,a,a,a,a,a,a,a,a,a,a,a,a,a,a,a,a,a,a,a,a,a,a,a,a,a,a,a,a,a,a,a,a,a,a,a,a,a,a,a,a,a,a,a,a,a,a,a,a,a,a,a,a,a,a,a,a,a,a,a,a,a,a,a,a,a,a,a,a,a,a,a,a,a,a,a,a,a,a,a,a,a,a,a,a,a,a,a,a,a,a,a,a,a,a,a,a,a,a,a,a,a,a,a,a,a,a,a,a,a,a,a,a,a,a,a,a,a,a,a,a,a,a,a,a,a,a,a,a,a,a,a,a,a,a,a,a,a,a,a,a,a,a,a,a,a,a,a,a,a,a,a,a,a,a,a,a,a,a,a,a,a,a,a,a,a,a,a,a,a,a,a,a,a,a,a,a,a,a,a,a]" ++ 10 ∷ [] ++ codes "alice value 1" ++ 10 ∷ [] ++ codes "alice start 9 0 9 X = [aa,aa,a,a,a,a,a,a,a,a,a,a,a,a,a,a,a,a,a,a,a,a,a,a,a,a,a,a,a,a,a,a,a,a,a,a,a,a,a,a,a,a,a,a,a,a,a,a,a,a,a,a,a,a,a,a,a,a,a,a,a,a,a,a,a,a,a,a,a,a,a,a,a,a,a,a,a,a,a,a,a,a,a,a,a,a,a,a,a,a,a,a,a,a,a,a,a,a,a,a,a,a,a,a,a,a,a,a,a,a,a,a,a,a,a,a,a,a,a,a,a,a,a,a,a,a,a,a,a,a,a,a,a,a,a,a,a,a,a,a,a,a,a,a,a,a,a,a,a,a,a,a,a,a,a,a,a,a,a,a,a,a,a,a,a,a,a,a,a,a,a,a,a,a,a,a,a,a,a,a,a,a,a,a,a,a,a,a,a,a,a,a,a,a,a,a,a,a,a,a,a,a,a,a,a,a,a,a,a,a,a,a,a,a,a,a,a,a,a,a,a,a,a,a,a,a,a,a,a,a,a,a,a,a,a,a,a,a,a,a,a,a,a,a,a,a,a,a,a,a,a,a,a,a,a,a,a,a,a,a,a,a,a,a,a,a,a,a,a,a,a,a,a,a,a,a,a,a,a,a,a,a,a,a,a,a,a,a,a,a,a,a,a,a,a,a,a,a,a,a,a,a,a,a,a,a,a,a,a,a,a,a,a,a,a,a,a,a,a,a,a,a,a,a,a,a,a,a,a,a,a,a,a,a,a,a,a,a,a,a,a,a,a,a,a,a,a,a,a,a,a,a,a,a,a,a,a,a,a,a,a,a,a,a,a,a,a,a,a,a,a,a,a,a,a,a,a,a,a,a,a,a,a,a,a,a,a,a,a,a,a,a,a,a,a,a,a,a,a,a,a,a,a,a,a,a,a,a,a,a,a,a,a,a,a,a,a,a,a,a,a,a,a,a,a,a,a,a,a,a,a,a,a,a,a,a,a,a,a,a,a,a,a,a,a,a,a,a,a,a,a,a,a,a,a,a,a,a,a,a,a,a,a,a,a,a,a,a,a,a,a,a,a,a,a,a,a,a,a,a,a,a,a,a,a,a,a,a,a,a,a,a,a,a,a,a,a,a,a,a,a,a,a,a,a,a,a,a,a,a,a,a,a,a,a,a,a,a,a,a,a,a,a,a,a,a,a,a,a,a,a,a,a,a,a,a,a,a,a,a,a,a,a,a,a,a,a,a,a,a,a,a,a,a,a,a,a,a,a,a,a,a,a,a,a,a,a,a,a,a,a,a,a,a,a,a,a,a,a,a,a,a,a,a,a,a,a,a,a,a,a,a,a,a,a,a,a,a,a,a,a,a,a,a,a,a,a,a,a,a,a,a,a,a,a,a,a,a,a,a,a,a,a,a,a,a,a,a,a,a,a,a,a,a,a,a,a,a,a,a,a,a,a,a,a,a,a,a,a,a,a,a,a,a,a,a,a,a,a,a,a,a,a,a,a,a,a,a,a,a,a,a,a,a,a,a,a,a,a,a,a,a,a,a,a,a,a,a,a,a,a,a,a,a,a,a,a,a,a,a,a,a,a,a,a,a,a,a,a,a,a,a,a,a,a,a,a,a,a,a,a,a,a,a,a,a,a,a,a,a,a,a,a,a,a,a,a,a,a,a,a,a,a,a,a,a,a,a,a,a,a,a,a,a,a,a,a,a,a,a,a,a,a,a,a,a,a,a,a,a,a,a,a,a,a,a,a,a,a,a,a,a,a,a,a,a,a,a,a,a,a,a,a,a,a,a,a,a,a,a,a,a,a,a,a,a,a,a,a,a,a,a,a,a,a,a,a,a,a,a,a,a,a,a,a,a,a,a,a,a,a,a,a,a,a,a,a,a,a,a,a,a,a,a,a,a,a,a,a,a,a,a,a,a,a,a,a,a,a,a,a,a,a,a,a,a,a,a,a,a,a,a,a,a,a,a,a,a,a,a,a,a,a,a,a,a,a,a,a,a,a,a,a,a,a,a,a,a,a,a,a,a,a,a,a,a,a,a,a,a,a,a,a,a,a,a,a,a,a,a,a,a,a,a,a,a,a,a,a,a,a,a,a,a,a,a,a,a,a,a,a,a,a,a,a,a,a,a,a,a,a,a,a,a,a,a,a,a,a,a,a,a,a,a,a,a,a,a,a,a,a,a,a,a,a,a,a,a,a,a,a,a,a,a,a,a,a,a,a,a,a,a,a,a,a,a,a,a,a,a,a,a,a,a,a,a,a,a,a,a,a,a,a,a,a,a,a,a,a,a,a,a,a,a,a,a,a,a,a,a,a,a,a,a,a,a,a,a,a,a,a,a,a,a,a,a,a,a,a,a,a,a,a,a,a,a,a,a,a,a,a,a,a,a,a,a,a,a,a,a,a,a,a,a,a,a,a,a,a,a,a,a,a,a,a,a,a,a,a,a,a,a,a,a,a,a,a,a,a,a,a,a,a,a,a,a,a,a,a,a,a,a,a,a,a,a,a,a,a,a,a,a,a,a,a,a,a,a,a,a,a,a,a,a,a,a,a,a,a,a,a,a,a,a,a,a,a,a,a,a,a,a,a,a,a,a,a,a,a,a,a,a,a,a,a,a,a,a,a,a,a,a,a,a,a,a,a,a,a,a,a,a,a,a,a,a,a,a,a,a,a,a,a,a,a,a,a,a,a,a,a,a,a,a,a,a,a,a,a,a,a,a,a,a,a,a,a,a,a,a,a,a,a,a,a,a,a,a,a,a,a,a,a,a,a,a,a,a,a,a,a,a,a,a,a,a,a,a,a,a,a,a,a,a,a,a,a,a,a,a,a,a,a,a,a,a,a,a,a,a,a,a,a,a,a,a,a,a,a,a,a,a,a,a,a,a,a,a,a,a,a,a,a,a,a,a,a,a,a,a,a,a,a,a,a,a,a,a,a,a,a,a,a,a,a,a,a,a,a,a,a,a,a,a,a,a,a,a,a,a,a,a,a,a,a,a,a,a,a,a,a,a,a,a,a,a,a,a,a,a,a,a,a,a,a,a,a,a,a,a,a,a,a,a,a,a,a,a,a,a,a,a,a,a,a,a,a,a,a,a,a,a,a,a,a,a,a,a,a,a,a,a,a,a,a,a,a,a,a,a,a,a,a,a,a,a,a,a,a,a,a,a,a,a,a,a,a,a,a,a,a,a,a,a,a,a,a,a,a,a,a,a,a,a,a,a,a,a,a,a,a,a,a,a,a,a,a,a,a,a,a,a,a,a,a,a,a,a,a,a,a,a,a,a,a,a,a,a,a,a,a,a,a,a,a,a,a,a,a,a,a,a,a,a,a,a,a,a,a,a,a,a,a,a,a,a,a,a,a,a,a,a,a,a,a,a,a,a,a,a,a,a,a,a,a,a,a,a,a,a,a,a,a,a,a,a,a,a,a,a,a,a,a,a,a,a,a,a,a,a,a,a,a,a,a,a,a,a,a,a,a,a,a,a,a,a,a,a,a,a,a,a,a,a,a,a,a,a,a,a,a,a,a,a,a,a,a,a,a,a,a,a,a,a,a,a,a,a,a,a,a,a,a,a,a,a,a,a,a,a,a,a,a,a,a,a,a,a,a,a,a,a,a,a,a,a,a,a,a,a,a,a,a,a,a,a,a,a,a,a,a,a,a,a,a,a,a,a,a,a,a,a,a,a,a,a,a,a,a,a,a,a,a,a,a,a,a,a,a,a,a,a,a,a,a,a,a,a,a,a,a,a,a,a,a,a,a,a,a,a,a,a,a,a,a,a,a,a,a,a,a,a,a,a,a,a,a,a,a,a,a,a,a,a,a,a,a,a,a,a,a,a,a,a,a,a,a,a,a,a,a,a,a,a,a,a,a,a,a,a,a,a,a,a,a,a,a,a,a,a,a,a,a,a,a,a,a,a,a,a,a,a,a,a,a,a,a,a,a,a,a,a,a,a,a,a,a,a,a,a,a,a,a,a,a,a,a,a,a,a,a,a,a,a,a,a,a,a,a,a,a,a,a,a,a,a,a,a,a,a,a,a,a,a,a,a,a,a,a,a,a,a,a,a,a,a,a,a,a,a,a,a,a,a,a,a,a,a,a,a,a,a,a,a,a,a,a,a,a,a,a,a,a,a,a,a,a,a,a,a,a,a,a,a,a,a,a,a,a,a,a,a,a,a,a,a,a,a,a,a,a,a,a,a,a,a,a,a,a,a,a,a,a,a,a,a,a,a,a,a,a,a,a,a,a,a,a,a,a,a,a,a,a,a,a,a,a,a,a,a,a,a,a,a,a,a,a,a,a,a,a,a,a,a,a,a,a,a,a,a,a,a,a,a,a,a,a,a,a,a,a,a,a,a,a,a,a,a,a,a,a,a,a,a,a,a,a,a,a,a,a,a,a,a,a,a,a,a,a,a,a,a,a,a,a,a,a,a,a,a,a,a,a,a,a,a,a,a,a,a,a,a,a,a,a]" ++ 10 ∷ [] ++ codes "alice value 2" ++ 10 ∷ []
+
+abbrev pub value_is_cut_output : List ℕ
+value_is_cut_output = codes "alice + shoen 1" ++ 10 ∷ [] ++ codes "alice + '='(_1,[aa,a,a,a,a,a,a,a,a,a,a,a,a,a,a,a,a,a,a,a,a,a,a,a,a,a,a,a,a,a,a,a,a,a,a,a,a,a,a,a,a,a,a,a,a,a,a,a,a,a,a,a,a,a,a,a,a,a,a,a,a,a,a,a,a,a,a,a,a,a,a,a,a,a,a,a,a,a,a,a,a,a,a,a,a,a,a,a,a,a,a,a,a,a,a,a,a,a,a,a,a,a,a,a,a,a,a,a,a,a,a,a,a,a,a,a,a,a,a,a,a,a,a,a,a,a,a,a,a,a,a,a,a,a,a,a,a,a,a,a,a,a,a,a,a,a,a,a,a,a,a,a,a,a,a,a,a,a,a,a,a,a,a,a,a,a,a,a,a,a,a,a,a,a,a,a,a,a,a,a,a,a,a,a,a,a,a,a,a,a,a,a,a,a,a,a,a,a,a,a,a,a,a,a,a,a,a,a,a,a,a,a,a,a,a,a,a,a,a,a,a,a,a,a,a,a,a,a,a,a,a,a,a,a,a,a,a,a,a,a,a,a,a,a,a,a,a,a,a,a,a,a,a,a,a,a,a,a,a,a,a,a,a,a,a,a,a,a,a,a,a,a,a,a,a,a,a,a,a,a,a,a,a,a,a,a,a,a,a,a,a,a,a,a,a,a,a,a,a,a,a,a,a,a,a,a,a,a,a,a,a,a,a,a,a,a,a,a,a,a,a,a,a,a,a,a,a,a,a,a,a,a,a,a,a,a,a,a,a,a,a,a,a,a,a,a,a,a,a,a,a,a,a,a,a,a,a,a,a,a,a,a,a,a,a,a,a,a,a,a,a,a,a,a,a,a,a,a,a,a,a,a,a,a,a,a,a,a,a,a,a,a,a,a,a,a,a,a,a,a,a,a,a,a,a,a,a,a,a,a,a,a,a,a,a,a,a,a,a,a,a,a,a,a,a,a,a,a,a,a,a,a,a,a,a,a,a,a,a,a,a,a,a,a,a,a,a,a,a,a,a,a,a,a,a,a,a,a,a,a,a,a,a,a,a,a,a,a,a,a,a,a,a,a,a,a,a,a,a,a,a,a,a,a,a,a,a,a,a,a,a,a,a,a,a,a,a,a,a,a,a,a,a,a,a,a,a,a,a,a,a,a,a,a,a,a,a,a,a,a,a,a,a,a,a,a,a,a,a,a,a,a,a,a,a,a,a,a,a,a,a,a,a,a,a,a,a,a,a,a,a,a,a,a,a,a,a,a,a,a,a,a,a,a,a,a,a,a,a,a,a,a,a,a,a,a,a,a,a,a,a,a,a,a,a,a,a,a,a,a,a,a,a,a,a,a,a,a,a,a,a,a,a,a,a,a,a,a,a,a,a,a,a,a,a,a,a,a,a,a,a,a,a,a,a,a,a,a,a,a,a,a,a,a,a,a,a,a,a,a,a,a,a,a,a,a,a,a,a,a,a,a,a,a,a,a,a,a,a,a,a,a,a,a,a,a,a,a,a,a,a,a,a,a,a,a,a,a,a,a,a,a,a,a,a,a,a,a,a,a,a,a,a,a,a,a,a,a,a,a,a,a,a,a,a,a,a,a,a,a,a,a,a,a,a,a,a,a,a,a,a,a,a,a,a,a,a,a,a,a,a,a,a,a,a,a,a,a,a,a,a,a,a,a,a,a,a,a,a,a,a,a,a,a,a,a,a,a,a,a,a,a,a,a,a,a,a,a,a,a,a,a,a,a,a,a,a,a,a,a,a,a,a,a,a,a,a,a,a,a,a,a,a,a,a,a,a,a,a,a,a,a,a,a,a,a,a,a,a,a,a,a,a,a,a,a,a,a,a,a,a,a,a,a,a,a,a,a,a,a,a,a,a,a,a,a,a,a,a,a,a,a,a,a,a,a,a,a,a,a,a,a,a,a,a,a,a,a,a,a,a,a,a,a,a,a,a,a,a,a,a,a,a,a,a,a,a,a,a,a,a,a,a,a,a,a,a,a,a,a,a,a,a,a,a,a,a,a,a,a,a,a,a,a,a,a,a,a,a,a,a,a,a,a,a,a,a,a,a,a,a,a,a,a,a,a,a,a,a,a,a,a,a,a,a,a,a,a,a,a,a,a,a,a,a,a,a,a,a,a,a,a,a,a,a,a,a,a,a,a,a,a,a,a,a,a,a,a,a,a,a,a,a,a,a,a,a,a,a,a,a,a,a,a,a,a,a,a,a,a,a,a,a,a,a,a,a,a,a,a,a,a,a,a,a,a,a,a,a,a,a,a,a,a,a,a,a,a,a,a,a,a,a,a,a,a,a,a,a,a,a,a,a,a,a,a,a,a,a,a,a,a,a,a,a,a,a,a,a,a,a,a,a,a,a,a,a,a,a,a,a,a,a,a,a,a,a,a,a,a,a,a,a,a,a,a,a,a,a,a,a,a,a,a,a,a,a,a,a,a,a,a,a,a,a,a,a,a,a,a,a,a,a,a,a,a,a,a,a,a,a,a,a,a,a,a,a,a,a,a,a,a,a,a,a,a,a,a,a,a,a,a,a,a,a,a,a,a,a,a,a,a,a,a,a,a,a,a,a,a,a,a,a,a,a,a,a,a,a,a,a,a,a,a,a,a,a,a,a,a,a,a,a,a,a,a,a,a,a,a,a,a,a,a,a,a,a,a,a,a,a,a,a,a,a,a,a,a,a,a,a,a,a,a,a,a,a,a,a,a,a,a,a,a,a,a,a,a,a,a,a,a,a,a,a,a,a,a,a,a,a,a,a,a,a,a,a,a,a,a,a,a,a,a,a,a,a,a,a,a,a,a,a,a,a,a,a,a,a,a,a,a,a,a,a,a,a,a,a,a,a,a,a,a,a,a,a,a,a,a,a,a,a,a,a,a,a,a,a,a,a,a,a,a,a,a,a,a,a,a,a,a,a,a,a,a,a,a,a,a,a,a,a,a,a,a,a,a,a,a,a,a,a,a,a,a,a,a,a,a,a,a,a,a,a,a,a,a,a,a,a,a,a,a,a,a,a,a,a,a,a,a,a,a,a,a,a,a,a,a,a,a,a,a,a,a,a,a,a,a,a,a,a,a,a,a,a,a,a,a,a,a,a,a,a,a,a,a,a,a,a,a,a,a,a,a,a,a,a,a,a,a,a,a,a,a,a,a,a,a,a,a,a,a,a,a,a,a,a,a,a,a,a,a,a,a,a,a,a,a,a,a,a,a,a,a,a,a,a,a,a,a,a,a,a,a,a,a,a,a,a,a,a,a,a,a,a,a,a,a,a,a,a,a,a,a,a,a,a,a,a,a,a,a,a,a,a,a,a,a,a,a,a,a,a,a,a,a,a,a,a,a,a,a,a,a,a,a,a,a,a,a,a,a,a,a,a,a,a,a,a,a,a,a,a,a,a,a,a,a,a,a,a,a,a,a,a,a,a,a,a,a,a,a,a,a,a,a,a,a,a,a,a,a,a,a,a,a,a,a,a,a,a,a,a,a,a,a,a,a,a,a,a,a,a,a,a,a,a,a,a,a,a,a,a,a,a,a,a,a,a,a,a,a,a,a,a,a,a,a,a,a,a,a,a,a,a,a,a,a,a,a,a,a,a,a,a,a,a,a,a,a,a,a,a,a,a,a,a,a,a,a,a,a,a,a,a,a,a,a,a,a,a,a,a,a,a,a,a,a,a,a,a,a,a,a,a,a,a,a,a,a,a,a,a,a,a,a,a,a,a,a,a,a,a,a,a,a,a,a,a,a,a,a,a,a,a,a,a,a,a,a,a,a,a,a,a,a,a,a,a,a,a,a,a,a,a,a,a,a,a,a,a,a,a,a,a,a,a,a,a,a,a,a,a,a,a,a,a,a,a,a,a,a,a,a,a,a,a,a,a,a,a,a,a,a,a,a,a,a,a,a,a,a,a,a,a,a,a,a,a,a,a,a,a,a,a,a,a,a,a,a,a,a,a,a,a,a,a,a,a,a,a,a,a,a,a,a,a,a,a,a,a,a,a,a,a,a,a,a,a,a,a,a,a,a,a,a,a,a,a,a,a,a,a,a,a,a,a,a,a,a,a,a,a,a,a,a,a,a,a,a,a,a,a,a,a,a,a,a,a,a,a,a,a,a,a,a,a,a,a,a,a,a,a,a,a,a,a,a,a,a,a,a,a,a,a,a,a,a,a,a,a,a,a,a,a,a,a,a,a,a,a,a,a,a,a,a,a,a,a,a,a,a,a,a,a,a,a,a,a,a,a,a,a,a,a,a,a,a,a,a,a,a,a,a,a,a,a,a,a,a,a,a,a,a,a,a,a,a,a,a,a,a,a,a,a,a,a,a,a,a,a,a,a,a,a,a,a,a,a,a,a,a,a,a,a,a,a,a,a,a,a,a,a,a,a,a,a,a,a,a,a,a,a,a,a,a,a,a,a,a,a,a,a,a,a,a,a,a,a,a,a,a,a,a,a,a,a,a,a,a,a,a,a])" ++ 10 ∷ [] ++ codes "alice + shoen 2" ++ 10 ∷ [] ++ codes "alice + '='(_5,[aa,aa,a,a,a,a,a,a,a,a,a,a,a,a,a,a,a,a,a,a,a,a,a,a,a,a,a,a,a,a,a,a,a,a,a,a,a,a,a,a,a,a,a,a,a,a,a,a,a,a,a,a,a,a,a,a,a,a,a,a,a,a,a,a,a,a,a,a,a,a,a,a,a,a,a,a,a,a,a,a,a,a,a,a,a,a,a,a,a,a,a,a,a,a,a,a,a,a,a,a,a,a,a,a,a,a,a,a,a,a,a,a,a,a,a,a,a,a,a,a,a,a,a,a,a,a,a,a,a,a,a,a,a,a,a,a,a,a,a,a,a,a,a,a,a,a,a,a,a,a,a,a,a,a,a,a,a,a,a,a,a,a,a,a,a,a,a,a,a,a,a,a,a,a,a,a,a,a,a,a,a,a,a,a,a,a,a,a,a,a,a,a,a,a,a,a,a,a,a,a,a,a,a,a,a,a,a,a,a,a,a,a,a,a,a,a,a,a,a,a,a,a,a,a,a,a,a,a,a,a,a,a,a,a,a,a,a,a,a,a,a,a,a,a,a,a,a,a,a,a,a,a,a,a,a,a,a,a,a,a,a,a,a,a,a,a,a,a,a,a,a,a,a,a,a,a,a,a,a,a,a,a,a,a,a,a,a,a,a,a,a,a,a,a,a,a,a,a,a,a,a,a,a,a,a,a,a,a,a,a,a,a,a,a,a,a,a,a,a,a,a,a,a,a,a,a,a,a,a,a,a,a,a,a,a,a,a,a,a,a,a,a,a,a,a,a,a,a,a,a,a,a,a,a,a,a,a,a,a,a,a,a,a,a,a,a,a,a,a,a,a,a,a,a,a,a,a,a,a,a,a,a,a,a,a,a,a,a,a,a,a,a,a,a,a,a,a,a,a,a,a,a,a,a,a,a,a,a,a,a,a,a,a,a,a,a,a,a,a,a,a,a,a,a,a,a,a,a,a,a,a,a,a,a,a,a,a,a,a,a,a,a,a,a,a,a,a,a,a,a,a,a,a,a,a,a,a,a,a,a,a,a,a,a,a,a,a,a,a,a,a,a,a,a,a,a,a,a,a,a,a,a,a,a,a,a,a,a,a,a,a,a,a,a,a,a,a,a,a,a,a,a,a,a,a,a,a,a,a,a,a,a,a,a,a,a,a,a,a,a,a,a,a,a,a,a,a,a,a,a,a,a,a,a,a,a,a,a,a,a,a,a,a,a,a,a,a,a,a,a,a,a,a,a,a,a,a,a,a,a,a,a,a,a,a,a,a,a,a,a,a,a,a,a,a,a,a,a,a,a,a,a,a,a,a,a,a,a,a,a,a,a,a,a,a,a,a,a,a,a,a,a,a,a,a,a,a,a,a,a,a,a,a,a,a,a,a,a,a,a,a,a,a,a,a,a,a,a,a,a,a,a,a,a,a,a,a,a,a,a,a,a,a,a,a,a,a,a,a,a,a,a,a,a,a,a,a,a,a,a,a,a,a,a,a,a,a,a,a,a,a,a,a,a,a,a,a,a,a,a,a,a,a,a,a,a,a,a,a,a,a,a,a,a,a,a,a,a,a,a,a,a,a,a,a,a,a,a,a,a,a,a,a,a,a,a,a,a,a,a,a,a,a,a,a,a,a,a,a,a,a,a,a,a,a,a,a,a,a,a,a,a,a,a,a,a,a,a,a,a,a,a,a,a,a,a,a,a,a,a,a,a,a,a,a,a,a,a,a,a,a,a,a,a,a,a,a,a,a,a,a,a,a,a,a,a,a,a,a,a,a,a,a,a,a,a,a,a,a,a,a,a,a,a,a,a,a,a,a,a,a,a,a,a,a,a,a,a,a,a,a,a,a,a,a,a,a,a,a,a,a,a,a,a,a,a,a,a,a,a,a,a,a,a,a,a,a,a,a,a,a,a,a,a,a,a,a,a,a,a,a,a,a,a,a,a,a,a,a,a,a,a,a,a,a,a,a,a,a,a,a,a,a,a,a,a,a,a,a,a,a,a,a,a,a,a,a,a,a,a,a,a,a,a,a,a,a,a,a,a,a,a,a,a,a,a,a,a,a,a,a,a,a,a,a,a,a,a,a,a,a,a,a,a,a,a,a,a,a,a,a,a,a,a,a,a,a,a,a,a,a,a,a,a,a,a,a,a,a,a,a,a,a,a,a,a,a,a,a,a,a,a,a,a,a,a,a,a,a,a,a,a,a,a,a,a,a,a,a,a,a,a,a,a,a,a,a,a,a,a,a,a,a,a,a,a,a,a,a,a,a,a,a,a,a,a,a,a,a,a,a,a,a,a,a,a,a,a,a,a,a,a,a,a,a,a,a,a,a,a,a,a,a,a,a,a,a,a,a,a,a,a,a,a,a,a,a,a,a,a,a,a,a,a,a,a,a,a,a,a,a,a,a,a,a,a,a,a,a,a,a,a,a,a,a,a,a,a,a,a,a,a,a,a,a,a,a,a,a,a,a,a,a,a,a,a,a,a,a,a,a,a,a,a,a,a,a,a,a,a,a,a,a,a,a,a,a,a,a,a,a,a,a,a,a,a,a,a,a,a,a,a,a,a,a,a,a,a,a,a,a,a,a,a,a,a,a,a,a,a,a,a,a,a,a,a,a,a,a,a,a,a,a,a,a,a,a,a,a,a,a,a,a,a,a,a,a,a,a,a,a,a,a,a,a,a,a,a,a,a,a,a,a,a,a,a,a,a,a,a,a,a,a,a,a,a,a,a,a,a,a,a,a,a,a,a,a,a,a,a,a,a,a,a,a,a,a,a,a,a,a,a,a,a,a,a,a,a,a,a,a,a,a,a,a,a,a,a,a,a,a,a,a,a,a,a,a,a,a,a,a,a,a,a,a,a,a,a,a,a,a,a,a,a,a,a,a,a,a,a,a,a,a,a,a,a,a,a,a,a,a,a,a,a,a,a,a,a,a,a,a,a,a,a,a,a,a,a,a,a,a,a,a,a,a,a,a,a,a,a,a,a,a,a,a,a,a,a,a,a,a,a,a,a,a,a,a,a,a,a,a,a,a,a,a,a,a,a,a,a,a,a,a,a,a,a,a,a,a,a,a,a,a,a,a,a,a,a,a,a,a,a,a,a,a,a,a,a,a,a,a,a,a,a,a,a,a,a,a,a,a,a,a,a,a,a,a,a,a,a,a,a,a,a,a,a,a,a,a,a,a,a,a,a,a,a,a,a,a,a,a,a,a,a,a,a,a,a,a,a,a,a,a,a,a,a,a,a,a,a,a,a,a,a,a,a,a,a,a,a,a,a,a,a,a,a,a,a,a,a,a,a,a,a,a,a,a,a,a,a,a,a,a,a,a,a,a,a,a,a,a,a,a,a,a,a,a,a,a,a,a,a,a,a,a,a,a,a,a,a,a,a,a,a,a,a,a,a,a,a,a,a,a,a,a,a,a,a,a,a,a,a,a,a,a,a,a,a,a,a,a,a,a,a,a,a,a,a,a,a,a,a,a,a,a,a,a,a,a,a,a,a,a,a,a,a,a,a,a,a,a,a,a,a,a,a,a,a,a,a,a,a,a,a,a,a,a,a,a,a,a,a,a,a,a,a,a,a,a,a,a,a,a,a,a,a,a,a,a,a,a,a,a,a,a,a,a,a,a,a,a,a,a,a,a,a,a,a,a,a,a,a,a,a,a,a,a,a,a,a,a,a,a,a,a,a,a,a,a,a,a,a,a,a,a,a,a,a,a,a,a,a,a,a,a,a,a,a,a,a,a,a,a,a,a,a,a,a,a,a,a,a,a,a,a,a,a,a,a,a,a,a,a,a,a,a,a,a,a,a,a,a,a,a,a,a,a,a,a,a,a,a,a,a,a,a,a,a,a,a,a,a,a,a,a,a,a,a,a,a,a,a,a,a,a,a,a,a,a,a,a,a,a,a,a,a,a,a,a,a,a,a,a,a,a,a,a,a,a,a,a,a,a,a,a,a,a,a,a,a,a,a,a,a,a,a,a,a,a,a,a,a,a,a,a,a,a,a,a,a,a,a,a,a,a,a,a,a,a,a,a,a,a,a,a,a,a,a,a,a,a,a,a,a,a,a,a,a,a,a,a,a,a,a,a,a,a,a,a,a,a,a,a,a,a,a,a,a,a,a,a,a,a,a,a,a,a,a,a,a,a,a,a,a,a,a,a,a,a,a,a,a,a,a,a,a,a,a,a,a,a,a,a,a,a,a,a,a,a,a,a,a,a,a,a,a,a,a,a,a,a,a,a,a,a,a,a,a,a,a,a,a,a,a,a,a,a,a,a,a,a,a,a,a,a,a,a,a,a,a,a,a,a,a,a,a,a,a,a,a,a,a,a,a,a,a,a,a,a,a,a,a,a,a,a,a,a,a,a,a,a,a,a,a,a,a,a,a,a,a,a,a,a,a,a,a,a,a,a,a,a,a,a,a,a,a,a,a,a,a,a,a,a,a,a,a,a,a,a,a,a,a,a,a,a]..." ++ 10 ∷ []
+
+abbrev pub variables_of_a_second_start_script : List ℕ
+variables_of_a_second_start_script = codes "accounts alice bob" ++ 10 ∷ [] ++ codes "alice load 20" ++ 10 ∷ [] ++ codes ":- module t." ++ 10 ∷ [] ++ codes "q(a,b)." ++ 10 ∷ [] ++ codes "alice start 10 0 10 t:q(X,c)" ++ 10 ∷ [] ++ codes "alice start 10 0 10 t:q(Y,Z)" ++ 10 ∷ [] ++ codes "alice value 2" ++ 10 ∷ [] ++ codes "alice run 10" ++ 10 ∷ [] ++ codes "alice start 10 0 10 t:q(Y,Z)" ++ 10 ∷ [] ++ codes "alice value 3" ++ 10 ∷ []
+
+abbrev pub variables_of_a_second_start_output : List ℕ
+variables_of_a_second_start_output = codes "alice + loaded t" ++ 10 ∷ [] ++ codes "alice + shoen 1" ++ 10 ∷ [] ++ codes "alice + shoen 2" ++ 10 ∷ [] ++ codes "alice + t:q(_5,_6)" ++ 10 ∷ [] ++ codes "alice + 1" ++ 10 ∷ [] ++ codes "alice + shoen 3" ++ 10 ∷ [] ++ codes "alice + t:q(_12,_13)" ++ 10 ∷ []
+
+abbrev pub waits_for_the_first_list_script : List ℕ
+waits_for_the_first_list_script = codes "accounts alice bob" ++ 10 ∷ [] ++ codes "alice load 91" ++ 10 ∷ [] ++ codes ":- module app." ++ 10 ∷ [] ++ codes "app([],Y,Z) :- true | Z = Y." ++ 10 ∷ [] ++ codes "app([A|X],Y,Z) :- true | Z = [A|W], app(X,Y,W)." ++ 10 ∷ [] ++ codes "alice start 100 0 10 app:app(X,[2],R)" ++ 10 ∷ [] ++ codes "alice run 100" ++ 10 ∷ [] ++ codes "alice value 1" ++ 10 ∷ []
+
+abbrev pub waits_for_the_first_list_output : List ℕ
+waits_for_the_first_list_output = codes "alice + loaded app" ++ 10 ∷ [] ++ codes "alice + shoen 1" ++ 10 ∷ [] ++ codes "alice + 0" ++ 10 ∷ [] ++ codes "alice + app:app(_1,[2],_2)" ++ 10 ∷ []
 
 abbrev pub words_and_line_ends_script : List ℕ
 words_and_line_ends_script = codes "  accounts" ++ 9 ∷ [] ++ codes "alice  " ++ 13 ∷ [] ++ 10 ∷ [] ++ 10 ∷ [] ++ codes "  " ++ 9 ∷ [] ++ 10 ∷ [] ++ codes "alice  run " ++ 9 ∷ [] ++ codes " 1  " ++ 13 ∷ [] ++ 10 ∷ [] ++ codes "alice" ++ 13 ∷ [] ++ 10 ∷ [] ++ codes "alice run 00000000000000000001" ++ 10 ∷ [] ++ codes "alice value 1" ++ 10 ∷ [] ++ codes "alice value x" ++ 10 ∷ [] ++ codes "carol run 1" ++ 10 ∷ [] ++ codes " alice run 1" ++ 10 ∷ [] ++ codes "alice" ++ 9 ∷ [] ++ codes "run 1" ++ 10 ∷ [] ++ codes "alice run 0"
@@ -88,17 +334,58 @@ words_and_line_ends_output = codes "alice + 0" ++ 10 ∷ [] ++ codes "alice - 1 
 
 -- each example script has the output that stands beside it
 pub record ExamplesHold : Type 0 where
+  pub a_clash_outweighs_a_wait : output a_clash_outweighs_a_wait_script ≡ a_clash_outweighs_a_wait_output
+  pub a_failure_stops_nothing_else : output a_failure_stops_nothing_else_script ≡ a_failure_stops_nothing_else_output
+  pub account_name_of_16_bytes : output account_name_of_16_bytes_script ≡ account_name_of_16_bytes_output
+  pub account_name_of_17_bytes : output account_name_of_17_bytes_script ≡ account_name_of_17_bytes_output
+  pub account_with_a_capital : output account_with_a_capital_script ≡ account_with_a_capital_output
+  pub accounts_alone : output accounts_alone_script ≡ accounts_alone_output
   pub append_two_lists : output append_two_lists_script ≡ append_two_lists_output
+  pub bad_load_lines : output bad_load_lines_script ≡ bad_load_lines_output
   pub bad_source : output bad_source_script ≡ bad_source_output
+  pub blank_first_line : output blank_first_line_script ≡ blank_first_line_output
+  pub blank_lines : output blank_lines_script ≡ blank_lines_output
+  pub blanks_between_accounts : output blanks_between_accounts_script ≡ blanks_between_accounts_output
+  pub bytes_behind_a_load : output bytes_behind_a_load_script ≡ bytes_behind_a_load_output
   pub clash_outweighs_waiting : output clash_outweighs_waiting_script ≡ clash_outweighs_waiting_output
+  pub commands_that_come_later : output commands_that_come_later_script ≡ commands_that_come_later_output
+  pub cyclic_term_fails : output cyclic_term_fails_script ≡ cyclic_term_fails_output
+  pub doubled_account : output doubled_account_script ≡ doubled_account_output
+  pub failed_unification_binds_nothing : output failed_unification_binds_nothing_script ≡ failed_unification_binds_nothing_output
+  pub first_of_two_clauses : output first_of_two_clauses_script ≡ first_of_two_clauses_output
+  pub forms_that_come_later : output forms_that_come_later_script ≡ forms_that_come_later_output
+  pub fresh_variables : output fresh_variables_script ≡ fresh_variables_output
   pub goal_waits_for_ever : output goal_waits_for_ever_script ≡ goal_waits_for_ever_output
+  pub goals_of_a_start : output goals_of_a_start_script ≡ goals_of_a_start_output
+  pub greater_priority_then_least_number : output greater_priority_then_least_number_script ≡ greater_priority_then_least_number_output
   pub higher_variable_takes_the_lower : output higher_variable_takes_the_lower_script ≡ higher_variable_takes_the_lower_output
+  pub integers_are_no_atoms : output integers_are_no_atoms_script ≡ integers_are_no_atoms_output
+  pub last_line_without_a_feed : output last_line_without_a_feed_script ≡ last_line_without_a_feed_output
+  pub line_of_a_fault : output line_of_a_fault_script ≡ line_of_a_fault_output
+  pub lines_of_4096_bytes : output lines_of_4096_bytes_script ≡ lines_of_4096_bytes_output
+  pub load_of_no_bytes : output load_of_no_bytes_script ≡ load_of_no_bytes_output
+  pub load_without_a_last_feed : output load_without_a_last_feed_script ≡ load_without_a_last_feed_output
   pub loaded_twice : output loaded_twice_script ≡ loaded_twice_output
+  pub loads_of_other_names : output loads_of_other_names_script ≡ loads_of_other_names_output
   pub loads_of_others_are_skipped : output loads_of_others_are_skipped_script ≡ loads_of_others_are_skipped_output
+  pub module_without_clauses : output module_without_clauses_script ≡ module_without_clauses_output
+  pub modules_loaded_at_that_moment : output modules_loaded_at_that_moment_script ≡ modules_loaded_at_that_moment_output
+  pub names_before_the_first_space : output names_before_the_first_space_script ≡ names_before_the_first_space_output
   pub names_in_quotes : output names_in_quotes_script ≡ names_in_quotes_output
+  pub names_of_63_and_64_bytes : output names_of_63_and_64_bytes_script ≡ names_of_63_and_64_bytes_output
+  pub nested_patterns : output nested_patterns_script ≡ nested_patterns_output
   pub no_accounts : output no_accounts_script ≡ no_accounts_output
   pub no_cyclic_terms : output no_cyclic_terms_script ≡ no_cyclic_terms_output
+  pub numbers_of_19_digits : output numbers_of_19_digits_script ≡ numbers_of_19_digits_output
   pub producer_and_consumer : output producer_and_consumer_script ≡ producer_and_consumer_output
+  pub second_variable_wakes : output second_variable_wakes_script ≡ second_variable_wakes_output
+  pub seventeen_accounts : output seventeen_accounts_script ≡ seventeen_accounts_output
+  pub sixteen_accounts : output sixteen_accounts_script ≡ sixteen_accounts_output
   pub truncated_load : output truncated_load_script ≡ truncated_load_output
+  pub truncated_load_of_another_name : output truncated_load_of_another_name_script ≡ truncated_load_of_another_name_output
   pub unification_fails_whole : output unification_fails_whole_script ≡ unification_fails_whole_output
+  pub unknown_predicates_fail : output unknown_predicates_fail_script ≡ unknown_predicates_fail_output
+  pub value_is_cut : output value_is_cut_script ≡ value_is_cut_output
+  pub variables_of_a_second_start : output variables_of_a_second_start_script ≡ variables_of_a_second_start_output
+  pub waits_for_the_first_list : output waits_for_the_first_list_script ≡ waits_for_the_first_list_output
   pub words_and_line_ends : output words_and_line_ends_script ≡ words_and_line_ends_output

@@ -24,3 +24,4 @@ pub mod Command
 pub mod Script
 pub mod Examples
 pub mod UnifyLaws
+pub mod AccountRows

@@ -60,4 +60,4 @@ start_goal s allowance low high t =
     let goal = with_next_variables s.last_variable t in
     let count = s.last_variable + highest t in
     open_shoen (started_shoen s allowance low high goal (variable (suc count)) (variable (suc (suc count)))) goal
-      (record s { names = with_names s.names (names_of t); last_variable = suc (suc count) })
+    (record s { names = with_names s.names (names_of t); last_variable = suc (suc count) })
