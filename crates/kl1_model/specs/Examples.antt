@@ -2,12 +2,6 @@
 use Rattle.std.specs.Prelude.{◌≡◌, ℕ, List, [], ◌∷◌, ◌++◌, codes}
 use Rattle.kl1_model.specs.Script.{output}
 
-abbrev pub a_clash_outweighs_a_wait_script : List ℕ
-a_clash_outweighs_a_wait_script = codes "accounts alice bob" ++ 10 ∷ [] ++ codes "alice load 20" ++ 10 ∷ [] ++ codes ":- module t." ++ 10 ∷ [] ++ codes "q(a,b)." ++ 10 ∷ [] ++ codes "alice start 10 0 10 t:q(X,c)" ++ 10 ∷ [] ++ codes "alice run 10" ++ 10 ∷ [] ++ codes "alice value 1" ++ 10 ∷ []
-
-abbrev pub a_clash_outweighs_a_wait_output : List ℕ
-a_clash_outweighs_a_wait_output = codes "alice + loaded t" ++ 10 ∷ [] ++ codes "alice + shoen 1" ++ 10 ∷ [] ++ codes "alice + 1" ++ 10 ∷ [] ++ codes "alice + t:q(_1,c)" ++ 10 ∷ []
-
 abbrev pub a_failure_stops_nothing_else_script : List ℕ
 a_failure_stops_nothing_else_script = codes "accounts alice bob" ++ 10 ∷ [] ++ codes "alice load 42" ++ 10 ∷ [] ++ codes ":- module f." ++ 10 ∷ [] ++ codes "g(R) :- true | 1 = 2, R = ok." ++ 10 ∷ [] ++ codes "alice start 10 0 10 f:g(R)" ++ 10 ∷ [] ++ codes "alice run 10" ++ 10 ∷ [] ++ codes "alice value 1" ++ 10 ∷ []
 
@@ -92,23 +86,11 @@ commands_that_come_later_script = codes "accounts alice bob" ++ 10 ∷ [] ++ cod
 abbrev pub commands_that_come_later_output : List ℕ
 commands_that_come_later_output = codes "alice - 1 syntax" ++ 10 ∷ [] ++ codes "alice - 1 syntax" ++ 10 ∷ [] ++ codes "alice - 1 syntax" ++ 10 ∷ [] ++ codes "alice - 1 syntax" ++ 10 ∷ [] ++ codes "alice - 1 syntax" ++ 10 ∷ [] ++ codes "alice - 1 syntax" ++ 10 ∷ [] ++ codes "alice - 1 syntax" ++ 10 ∷ []
 
-abbrev pub cyclic_term_fails_script : List ℕ
-cyclic_term_fails_script = codes "accounts alice bob" ++ 10 ∷ [] ++ codes "alice start 10 0 10 X = f(X)" ++ 10 ∷ [] ++ codes "alice run 10" ++ 10 ∷ [] ++ codes "alice value 1" ++ 10 ∷ []
-
-abbrev pub cyclic_term_fails_output : List ℕ
-cyclic_term_fails_output = codes "alice + shoen 1" ++ 10 ∷ [] ++ codes "alice + 1" ++ 10 ∷ [] ++ codes "alice + '='(_1,f(_1))" ++ 10 ∷ []
-
 abbrev pub doubled_account_script : List ℕ
 doubled_account_script = codes "accounts alice bob alice" ++ 10 ∷ [] ++ codes "alice run 0" ++ 10 ∷ []
 
 abbrev pub doubled_account_output : List ℕ
 doubled_account_output = codes "! accounts" ++ 10 ∷ []
-
-abbrev pub failed_unification_binds_nothing_script : List ℕ
-failed_unification_binds_nothing_script = codes "accounts alice bob" ++ 10 ∷ [] ++ codes "alice start 10 0 10 f(X,a) = f(1,b)" ++ 10 ∷ [] ++ codes "alice run 10" ++ 10 ∷ [] ++ codes "alice value 1" ++ 10 ∷ []
-
-abbrev pub failed_unification_binds_nothing_output : List ℕ
-failed_unification_binds_nothing_output = codes "alice + shoen 1" ++ 10 ∷ [] ++ codes "alice + 1" ++ 10 ∷ [] ++ codes "alice + '='(f(_1,a),f(1,b))" ++ 10 ∷ []
 
 abbrev pub first_of_two_clauses_script : List ℕ
 first_of_two_clauses_script = codes "accounts alice bob" ++ 10 ∷ [] ++ codes "alice load 64" ++ 10 ∷ [] ++ codes ":- module m." ++ 10 ∷ [] ++ codes "m(X,R) :- true | R = one." ++ 10 ∷ [] ++ codes "m(X,R) :- true | R = two." ++ 10 ∷ [] ++ codes "alice start 10 0 10 m:m(X,R)" ++ 10 ∷ [] ++ codes "alice run 10" ++ 10 ∷ [] ++ codes "alice value 1" ++ 10 ∷ []
@@ -163,12 +145,6 @@ last_line_without_a_feed_script = codes "accounts alice bob" ++ 10 ∷ [] ++ cod
 
 abbrev pub last_line_without_a_feed_output : List ℕ
 last_line_without_a_feed_output = codes "alice + 0" ++ 10 ∷ []
-
-abbrev pub line_of_a_fault_script : List ℕ
-line_of_a_fault_script = codes "accounts alice bob" ++ 10 ∷ [] ++ codes "alice load 34" ++ 10 ∷ [] ++ codes ":- module z." ++ 10 ∷ [] ++ codes "p(X) :- Y > 0 | true." ++ 10 ∷ []
-
-abbrev pub line_of_a_fault_output : List ℕ
-line_of_a_fault_output = codes "alice - 2 source 2" ++ 10 ∷ []
 
 abbrev pub lines_of_4096_bytes_script : List ℕ
 lines_of_4096_bytes_script = codes "accounts alice bob" ++ 10 ∷ [] ++ codes "alice run 0                                                                                                                                                                                                                                                                                                                                                                                                                                                                                                                                                                                                                                                                                                                                                                                                                                                                                                                                                                                                                                                                                                                                                                                                                                                                                                                                                                                                                                                                                                                                                                                                                                                                                                                                                                                                                                                                                                                                                                                                                                                                                                                                                                                                                                                                                                                                                                                                                                                                                                                                                                                                                                                                                                                                                                                                                                                                                                                                                                                                                                                                                                                                                                                                                                                                                                                                                                                                                                                                                                                                                                                                                                                                                                                                                                                                                                                                                                                                                                                                                                                                                                                                                                                                                                                           " ++ 10 ∷ [] ++ codes "alice run 0                                                                                                                                                                                                                                                                                                                                                                                                                                                                                                                                                                                                                                                                                                                                                                                                                                                                                                                                                                                                                                                                                                                                                                                                                                                                                                                                                                                                                                                                                                                                                                                                                                                                                                                                                                                                                                                                                                                                                                                                                                                                                                                                                                                                                                                                                                                                                                                                                                                                                                                                                                                                                                                                                                                                                                                                                                                                                                                                                                                                                                                                                                                                                                                                                                                                                                                                                                                                                                                                                                                                                                                                                                                                                                                                                                                                                                                                                                                                                                                                                                                                                                                                                                                                                                                            " ++ 10 ∷ [] ++ codes "alice run 0                                                                                                                                                                                                                                                                                                                                                                                                                                                                                                                                                                                                                                                                                                                                                                                                                                                                                                                                                                                                                                                                                                                                                                                                                                                                                                                                                                                                                                                                                                                                                                                                                                                                                                                                                                                                                                                                                                                                                                                                                                                                                                                                                                                                                                                                                                                                                                                                                                                                                                                                                                                                                                                                                                                                                                                                                                                                                                                                                                                                                                                                                                                                                                                                                                                                                                                                                                                                                                                                                                                                                                                                                                                                                                                                                                                                                                                                                                                                                                                                                                                                                                                                                                                                                                                           " ++ 13 ∷ [] ++ 10 ∷ [] ++ codes "alice run 0                                                                                                                                                                                                                                                                                                                                                                                                                                                                                                                                                                                                                                                                                                                                                                                                                                                                                                                                                                                                                                                                                                                                                                                                                                                                                                                                                                                                                                                                                                                                                                                                                                                                                                                                                                                                                                                                                                                                                                                                                                                                                                                                                                                                                                                                                                                                                                                                                                                                                                                                                                                                                                                                                                                                                                                                                                                                                                                                                                                                                                                                                                                                                                                                                                                                                                                                                                                                                                                                                                                                                                                                                                                                                                                                                                                                                                                                                                                                                                                                                                                                                                                                                                                                                                                            " ++ 13 ∷ [] ++ 10 ∷ [] ++ codes "carol run 0                                                                                                                                                                                                                                                                                                                                                                                                                                                                                                                                                                                                                                                                                                                                                                                                                                                                                                                                                                                                                                                                                                                                                                                                                                                                                                                                                                                                                                                                                                                                                                                                                                                                                                                                                                                                                                                                                                                                                                                                                                                                                                                                                                                                                                                                                                                                                                                                                                                                                                                                                                                                                                                                                                                                                                                                                                                                                                                                                                                                                                                                                                                                                                                                                                                                                                                                                                                                                                                                                                                                                                                                                                                                                                                                                                                                                                                                                                                                                                                                                                                                                                                                                                                                                                                            " ++ 10 ∷ []
@@ -320,12 +296,6 @@ variables_of_a_second_start_script = codes "accounts alice bob" ++ 10 ∷ [] ++ 
 abbrev pub variables_of_a_second_start_output : List ℕ
 variables_of_a_second_start_output = codes "alice + loaded t" ++ 10 ∷ [] ++ codes "alice + shoen 1" ++ 10 ∷ [] ++ codes "alice + shoen 2" ++ 10 ∷ [] ++ codes "alice + t:q(_5,_6)" ++ 10 ∷ [] ++ codes "alice + 1" ++ 10 ∷ [] ++ codes "alice + shoen 3" ++ 10 ∷ [] ++ codes "alice + t:q(_12,_13)" ++ 10 ∷ []
 
-abbrev pub waits_for_the_first_list_script : List ℕ
-waits_for_the_first_list_script = codes "accounts alice bob" ++ 10 ∷ [] ++ codes "alice load 91" ++ 10 ∷ [] ++ codes ":- module app." ++ 10 ∷ [] ++ codes "app([],Y,Z) :- true | Z = Y." ++ 10 ∷ [] ++ codes "app([A|X],Y,Z) :- true | Z = [A|W], app(X,Y,W)." ++ 10 ∷ [] ++ codes "alice start 100 0 10 app:app(X,[2],R)" ++ 10 ∷ [] ++ codes "alice run 100" ++ 10 ∷ [] ++ codes "alice value 1" ++ 10 ∷ []
-
-abbrev pub waits_for_the_first_list_output : List ℕ
-waits_for_the_first_list_output = codes "alice + loaded app" ++ 10 ∷ [] ++ codes "alice + shoen 1" ++ 10 ∷ [] ++ codes "alice + 0" ++ 10 ∷ [] ++ codes "alice + app:app(_1,[2],_2)" ++ 10 ∷ []
-
 abbrev pub words_and_line_ends_script : List ℕ
 words_and_line_ends_script = codes "  accounts" ++ 9 ∷ [] ++ codes "alice  " ++ 13 ∷ [] ++ 10 ∷ [] ++ 10 ∷ [] ++ codes "  " ++ 9 ∷ [] ++ 10 ∷ [] ++ codes "alice  run " ++ 9 ∷ [] ++ codes " 1  " ++ 13 ∷ [] ++ 10 ∷ [] ++ codes "alice" ++ 13 ∷ [] ++ 10 ∷ [] ++ codes "alice run 00000000000000000001" ++ 10 ∷ [] ++ codes "alice value 1" ++ 10 ∷ [] ++ codes "alice value x" ++ 10 ∷ [] ++ codes "carol run 1" ++ 10 ∷ [] ++ codes " alice run 1" ++ 10 ∷ [] ++ codes "alice" ++ 9 ∷ [] ++ codes "run 1" ++ 10 ∷ [] ++ codes "alice run 0"
 
@@ -334,7 +304,6 @@ words_and_line_ends_output = codes "alice + 0" ++ 10 ∷ [] ++ codes "alice - 1 
 
 -- each example script has the output that stands beside it
 pub record ExamplesHold : Type 0 where
-  pub a_clash_outweighs_a_wait : output a_clash_outweighs_a_wait_script ≡ a_clash_outweighs_a_wait_output
   pub a_failure_stops_nothing_else : output a_failure_stops_nothing_else_script ≡ a_failure_stops_nothing_else_output
   pub account_name_of_16_bytes : output account_name_of_16_bytes_script ≡ account_name_of_16_bytes_output
   pub account_name_of_17_bytes : output account_name_of_17_bytes_script ≡ account_name_of_17_bytes_output
@@ -349,9 +318,7 @@ pub record ExamplesHold : Type 0 where
   pub bytes_behind_a_load : output bytes_behind_a_load_script ≡ bytes_behind_a_load_output
   pub clash_outweighs_waiting : output clash_outweighs_waiting_script ≡ clash_outweighs_waiting_output
   pub commands_that_come_later : output commands_that_come_later_script ≡ commands_that_come_later_output
-  pub cyclic_term_fails : output cyclic_term_fails_script ≡ cyclic_term_fails_output
   pub doubled_account : output doubled_account_script ≡ doubled_account_output
-  pub failed_unification_binds_nothing : output failed_unification_binds_nothing_script ≡ failed_unification_binds_nothing_output
   pub first_of_two_clauses : output first_of_two_clauses_script ≡ first_of_two_clauses_output
   pub forms_that_come_later : output forms_that_come_later_script ≡ forms_that_come_later_output
   pub fresh_variables : output fresh_variables_script ≡ fresh_variables_output
@@ -361,7 +328,6 @@ pub record ExamplesHold : Type 0 where
   pub higher_variable_takes_the_lower : output higher_variable_takes_the_lower_script ≡ higher_variable_takes_the_lower_output
   pub integers_are_no_atoms : output integers_are_no_atoms_script ≡ integers_are_no_atoms_output
   pub last_line_without_a_feed : output last_line_without_a_feed_script ≡ last_line_without_a_feed_output
-  pub line_of_a_fault : output line_of_a_fault_script ≡ line_of_a_fault_output
   pub lines_of_4096_bytes : output lines_of_4096_bytes_script ≡ lines_of_4096_bytes_output
   pub load_of_no_bytes : output load_of_no_bytes_script ≡ load_of_no_bytes_output
   pub load_without_a_last_feed : output load_without_a_last_feed_script ≡ load_without_a_last_feed_output
@@ -387,5 +353,4 @@ pub record ExamplesHold : Type 0 where
   pub unknown_predicates_fail : output unknown_predicates_fail_script ≡ unknown_predicates_fail_output
   pub value_is_cut : output value_is_cut_script ≡ value_is_cut_output
   pub variables_of_a_second_start : output variables_of_a_second_start_script ≡ variables_of_a_second_start_output
-  pub waits_for_the_first_list : output waits_for_the_first_list_script ≡ waits_for_the_first_list_output
   pub words_and_line_ends : output words_and_line_ends_script ≡ words_and_line_ends_output
