@@ -80,11 +80,11 @@ clash_outweighs_waiting_script = codes "accounts alice" ++ 10 ∷ [] ++ codes "a
 abbrev pub clash_outweighs_waiting_output : List ℕ
 clash_outweighs_waiting_output = codes "alice + loaded t" ++ 10 ∷ [] ++ codes "alice + shoen 1" ++ 10 ∷ [] ++ codes "alice + 1" ++ 10 ∷ [] ++ codes "alice + t:q(_1,c)" ++ 10 ∷ []
 
-abbrev pub commands_that_come_later_script : List ℕ
-commands_that_come_later_script = codes "accounts alice bob" ++ 10 ∷ [] ++ codes "alice quiet" ++ 10 ∷ [] ++ codes "alice modules" ++ 10 ∷ [] ++ codes "alice status 1" ++ 10 ∷ [] ++ codes "alice reduce 2 0" ++ 10 ∷ [] ++ codes "alice login" ++ 10 ∷ [] ++ codes "alice journal 1 1" ++ 10 ∷ [] ++ codes "alice RUN 1" ++ 10 ∷ []
+abbrev pub commands_that_are_none_script : List ℕ
+commands_that_are_none_script = codes "accounts alice bob" ++ 10 ∷ [] ++ codes "alice quiet" ++ 10 ∷ [] ++ codes "alice modules" ++ 10 ∷ [] ++ codes "alice status 1" ++ 10 ∷ [] ++ codes "alice reduce 2 0" ++ 10 ∷ [] ++ codes "alice login" ++ 10 ∷ [] ++ codes "alice journal 1 1" ++ 10 ∷ [] ++ codes "alice RUN 1" ++ 10 ∷ []
 
-abbrev pub commands_that_come_later_output : List ℕ
-commands_that_come_later_output = codes "alice - 1 syntax" ++ 10 ∷ [] ++ codes "alice - 1 syntax" ++ 10 ∷ [] ++ codes "alice - 1 syntax" ++ 10 ∷ [] ++ codes "alice - 1 syntax" ++ 10 ∷ [] ++ codes "alice - 1 syntax" ++ 10 ∷ [] ++ codes "alice - 1 syntax" ++ 10 ∷ [] ++ codes "alice - 1 syntax" ++ 10 ∷ []
+abbrev pub commands_that_are_none_output : List ℕ
+commands_that_are_none_output = codes "alice - 1 syntax" ++ 10 ∷ [] ++ codes "alice - 1 syntax" ++ 10 ∷ [] ++ codes "alice - 1 syntax" ++ 10 ∷ [] ++ codes "alice - 1 syntax" ++ 10 ∷ [] ++ codes "alice - 1 syntax" ++ 10 ∷ [] ++ codes "alice - 1 syntax" ++ 10 ∷ [] ++ codes "alice - 1 syntax" ++ 10 ∷ []
 
 abbrev pub doubled_account_script : List ℕ
 doubled_account_script = codes "accounts alice bob alice" ++ 10 ∷ [] ++ codes "alice run 0" ++ 10 ∷ []
@@ -98,11 +98,11 @@ first_of_two_clauses_script = codes "accounts alice bob" ++ 10 ∷ [] ++ codes "
 abbrev pub first_of_two_clauses_output : List ℕ
 first_of_two_clauses_output = codes "alice + loaded m" ++ 10 ∷ [] ++ codes "alice + shoen 1" ++ 10 ∷ [] ++ codes "alice + 2" ++ 10 ∷ [] ++ codes "alice + m:m(_1,one)" ++ 10 ∷ []
 
-abbrev pub forms_that_come_later_script : List ℕ
-forms_that_come_later_script = codes "accounts alice bob" ++ 10 ∷ [] ++ codes "alice load 71" ++ 10 ∷ [] ++ codes ":- module o." ++ 10 ∷ [] ++ codes "p(a,R) :- true | R = 1." ++ 10 ∷ [] ++ codes "otherwise." ++ 10 ∷ [] ++ codes "p(X,R) :- true | R = 2." ++ 10 ∷ [] ++ codes "alice load 42" ++ 10 ∷ [] ++ codes ":- module k." ++ 10 ∷ [] ++ codes "g :- true | h(a)@priority(1)." ++ 10 ∷ [] ++ codes "alice load 20" ++ 10 ∷ [] ++ codes ":- module h." ++ 10 ∷ [] ++ codes "p(X,X)." ++ 10 ∷ [] ++ codes "alice load 34" ++ 10 ∷ [] ++ codes ":- module j." ++ 10 ∷ [] ++ codes "p(X) :- X = 1 | true." ++ 10 ∷ [] ++ codes "alice load 48" ++ 10 ∷ [] ++ codes ":- module j." ++ 10 ∷ [] ++ codes "p :- shoen:execute(true,0,1,1,C,R)." ++ 10 ∷ [] ++ codes "alice load 33" ++ 10 ∷ [] ++ codes ":- module j." ++ 10 ∷ [] ++ codes "p :- atom_from(X,Y)." ++ 10 ∷ [] ++ codes "alice load 41" ++ 10 ∷ [] ++ codes ":- module h." ++ 10 ∷ [] ++ codes "p(_,_) :- true, true | true." ++ 10 ∷ []
+abbrev pub forms_that_are_faults_script : List ℕ
+forms_that_are_faults_script = codes "accounts alice bob" ++ 10 ∷ [] ++ codes "alice load 71" ++ 10 ∷ [] ++ codes ":- module o." ++ 10 ∷ [] ++ codes "p(a,R) :- true | R = 1." ++ 10 ∷ [] ++ codes "otherwise." ++ 10 ∷ [] ++ codes "p(X,R) :- true | R = 2." ++ 10 ∷ [] ++ codes "alice load 42" ++ 10 ∷ [] ++ codes ":- module k." ++ 10 ∷ [] ++ codes "g :- true | h(a)@priority(1)." ++ 10 ∷ [] ++ codes "alice load 20" ++ 10 ∷ [] ++ codes ":- module h." ++ 10 ∷ [] ++ codes "p(X,X)." ++ 10 ∷ [] ++ codes "alice load 34" ++ 10 ∷ [] ++ codes ":- module j." ++ 10 ∷ [] ++ codes "p(X) :- X = 1 | true." ++ 10 ∷ [] ++ codes "alice load 48" ++ 10 ∷ [] ++ codes ":- module j." ++ 10 ∷ [] ++ codes "p :- shoen:execute(true,0,1,1,C,R)." ++ 10 ∷ [] ++ codes "alice load 33" ++ 10 ∷ [] ++ codes ":- module j." ++ 10 ∷ [] ++ codes "p :- atom_from(X,Y)." ++ 10 ∷ [] ++ codes "alice load 41" ++ 10 ∷ [] ++ codes ":- module h." ++ 10 ∷ [] ++ codes "p(_,_) :- true, true | true." ++ 10 ∷ []
 
-abbrev pub forms_that_come_later_output : List ℕ
-forms_that_come_later_output = codes "alice - 2 source 3" ++ 10 ∷ [] ++ codes "alice - 2 source 2" ++ 10 ∷ [] ++ codes "alice - 2 source 2" ++ 10 ∷ [] ++ codes "alice - 2 source 2" ++ 10 ∷ [] ++ codes "alice - 2 source 2" ++ 10 ∷ [] ++ codes "alice - 2 source 2" ++ 10 ∷ [] ++ codes "alice + loaded h" ++ 10 ∷ []
+abbrev pub forms_that_are_faults_output : List ℕ
+forms_that_are_faults_output = codes "alice - 2 source 3" ++ 10 ∷ [] ++ codes "alice - 2 source 2" ++ 10 ∷ [] ++ codes "alice - 2 source 2" ++ 10 ∷ [] ++ codes "alice - 2 source 2" ++ 10 ∷ [] ++ codes "alice - 2 source 2" ++ 10 ∷ [] ++ codes "alice - 2 source 2" ++ 10 ∷ [] ++ codes "alice + loaded h" ++ 10 ∷ []
 
 abbrev pub fresh_variables_script : List ℕ
 fresh_variables_script = codes "accounts alice bob" ++ 10 ∷ [] ++ codes "alice load 61" ++ 10 ∷ [] ++ codes ":- module t." ++ 10 ∷ [] ++ codes "p(R) :- true | q(B,A), R = f(A,B,C,_,_)." ++ 10 ∷ [] ++ codes "q(X,Y)." ++ 10 ∷ [] ++ codes "alice start 9 0 9 t:p(R)" ++ 10 ∷ [] ++ codes "alice run 20" ++ 10 ∷ [] ++ codes "alice value 1" ++ 10 ∷ []
@@ -317,10 +317,10 @@ pub record ExamplesHold : Type 0 where
   pub blanks_between_accounts : output blanks_between_accounts_script ≡ blanks_between_accounts_output
   pub bytes_behind_a_load : output bytes_behind_a_load_script ≡ bytes_behind_a_load_output
   pub clash_outweighs_waiting : output clash_outweighs_waiting_script ≡ clash_outweighs_waiting_output
-  pub commands_that_come_later : output commands_that_come_later_script ≡ commands_that_come_later_output
+  pub commands_that_are_none : output commands_that_are_none_script ≡ commands_that_are_none_output
   pub doubled_account : output doubled_account_script ≡ doubled_account_output
   pub first_of_two_clauses : output first_of_two_clauses_script ≡ first_of_two_clauses_output
-  pub forms_that_come_later : output forms_that_come_later_script ≡ forms_that_come_later_output
+  pub forms_that_are_faults : output forms_that_are_faults_script ≡ forms_that_are_faults_output
   pub fresh_variables : output fresh_variables_script ≡ fresh_variables_output
   pub goal_waits_for_ever : output goal_waits_for_ever_script ≡ goal_waits_for_ever_output
   pub goals_of_a_start : output goals_of_a_start_script ≡ goals_of_a_start_output
