@@ -1,0 +1,2 @@
+pub mod ReadSound
+pub mod ReadComplete

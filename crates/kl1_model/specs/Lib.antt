@@ -10,3 +10,4 @@ pub mod Numbering
 pub mod Meaning
 pub mod Goal
 pub mod Module
+pub mod ReadLaws

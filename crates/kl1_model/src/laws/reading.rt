@@ -1,0 +1,12 @@
+// What reading and printing keep.
+
+ghost use Rattle.kl1_model.specs.ReadLaws.{ExpressionsAreSound, ExpressionsAreComplete, ClausesAreSound, ClausesAreComplete};
+
+/// The reader reads what the grammar writes, and nothing else: the tokens that it reads as a tree are that tree's,
+/// and each tree is read from its tokens.
+pub fn reader_reads_the_grammar()
+    ensures expressions_sound { ExpressionsAreSound }
+    ensures expressions_complete { ExpressionsAreComplete }
+    ensures clauses_sound { ClausesAreSound }
+    ensures clauses_complete { ClausesAreComplete }
+{}
