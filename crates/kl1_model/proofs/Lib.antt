@@ -1,2 +1,3 @@
 pub mod ReadSound
 pub mod ReadComplete
+pub mod LexSteps

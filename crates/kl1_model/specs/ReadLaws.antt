@@ -1,5 +1,6 @@
 -- The laws of reading: the reader is the grammar, and a text has one row of tokens.
-use Rattle.std.specs.Prelude.{◌≡◌, ◌^◌, nat_lt, ◌&&◌, Bool, true, IsTrue, List, [], Some}
+use Rattle.std.specs.Prelude.{◌≡◌, ℕ, suc, ◌^◌, ◌<◌, nat_lt, ◌&&◌, Bool, true, IsTrue, List, [], length, Some}
+use Rattle.kl1_model.specs.Token.{Front, finished, broken, line_end, blank, token, front_of, Tokens, tokens_by, tokens_within}
 use Rattle.kl1_model.specs.Grammar.{Numbered, Expression, alone, related, Part, single, qualified, Primary, numbered, positive, negative, constant, call, empty_list, list, group, Series, last, another, Rest, closed, tail, Head, bare_head, head_with, ClauseTree, fact, rule, guarded, expression_tokens, clause_tokens}
 use Rattle.kl1_model.specs.Reader.{expression_tree, clause_tree}
 
@@ -57,3 +58,27 @@ ClausesAreSound = (ts : List Numbered) (c : ClauseTree) → clause_tree ts ≡ S
 -- the tokens of a clause's tree are read as that tree
 abbrev pub ClausesAreComplete : Type 0
 ClausesAreComplete = (c : ClauseTree) → IsTrue (is_sound_clause c) → clause_tree (clause_tokens c) ≡ Some c
+
+-- the tokens of a text whose first byte is on this line
+abbrev pub tokens_at : ℕ → List ℕ → Tokens
+tokens_at line bs = tokens_within (suc (length bs)) line bs
+
+-- what is behind the front of a text has fewer bytes than these
+abbrev pub LeavesLess : ℕ → Front → Type 0
+LeavesLess most finished = Unit {0}
+LeavesLess most broken = Unit {0}
+LeavesLess most (line_end rest) = length rest < most
+LeavesLess most (blank rest) = length rest < most
+LeavesLess most (token t rest) = length rest < most
+
+-- whatever stands in front of a text, less than the text is behind it
+abbrev pub FrontsLeaveLess : Type 0
+FrontsLeaveLess = (bs : List ℕ) → LeavesLess (length bs) (front_of bs)
+
+-- more steps than there are bytes give the same tokens, however many they are
+abbrev pub StepsAreEnough : Type 0
+StepsAreEnough = (m n line : ℕ) (bs : List ℕ) → length bs < m → length bs < n → tokens_within m line bs ≡ tokens_within n line bs
+
+-- the tokens of a text are what its front makes of those behind it
+abbrev pub TokensGoOn : Type 0
+TokensGoOn = (line : ℕ) (bs : List ℕ) → tokens_at line bs ≡ tokens_by tokens_at line (front_of bs)
