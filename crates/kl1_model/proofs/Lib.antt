@@ -1,3 +1,10 @@
 pub mod ReadSound
 pub mod ReadComplete
 pub mod LexSteps
+pub mod LexWords
+pub mod LexFronts
+pub mod ReadPlanted
+pub mod ReadAgrees
+pub mod ReadTerms
+pub mod ReadNumbers
+pub mod ReadBack

@@ -1,8 +1,13 @@
--- The laws of reading: the reader is the grammar, and a text has one row of tokens.
-use Rattle.std.specs.Prelude.{◌≡◌, ℕ, suc, ◌^◌, ◌<◌, nat_lt, ◌&&◌, Bool, true, IsTrue, List, [], length, Some}
-use Rattle.kl1_model.specs.Token.{Front, finished, broken, line_end, blank, token, front_of, Tokens, tokens_by, tokens_within}
+-- The laws of reading: the reader is the grammar, a text has one row of tokens, and a printed goal reads back.
+use Rattle.std.specs.Prelude.{◌≡◌, ℕ, suc, ◌^◌, ◌<◌, nat_lt, ◌&&◌, Bool, true, IsTrue, List, [], length, Some, None}
+use Rattle.kl1_model.specs.Term.{Term}
+use Rattle.kl1_model.specs.Token.{Front, finished, broken, line_end, blank, token, front_of, Tokens, tokens_by, tokens_within, tokens_of_text}
 use Rattle.kl1_model.specs.Grammar.{Numbered, Expression, alone, related, Part, single, qualified, Primary, numbered, positive, negative, constant, call, empty_list, list, group, Series, last, another, Rest, closed, tail, Head, bare_head, head_with, ClauseTree, fact, rule, guarded, expression_tokens, clause_tokens}
 use Rattle.kl1_model.specs.Reader.{expression_tree, clause_tree}
+use Rattle.kl1_model.specs.Meaning.{is_writable, is_numbered, highest}
+use Rattle.kl1_model.specs.Goal.{is_goal}
+use Rattle.kl1_model.specs.Print.{print}
+use Rattle.kl1_model.specs.Module.{good, bare_tokens, term_of_tokens, read_goal}
 
 -- whether each integer of a tree that stands without `-` is below 2 ^ 63
 abbrev mutual
@@ -82,3 +87,24 @@ StepsAreEnough = (m n line : ℕ) (bs : List ℕ) → length bs < m → length b
 -- the tokens of a text are what its front makes of those behind it
 abbrev pub TokensGoOn : Type 0
 TokensGoOn = (line : ℕ) (bs : List ℕ) → tokens_at line bs ≡ tokens_by tokens_at line (front_of bs)
+
+-- whether a term can be read from its print: a text can write it, its variables are numbered from 1 by first occurrence,
+-- and there are fewer than 2 ^ 63 of them
+abbrev pub is_printable : Term → Bool
+is_printable t = is_writable t && is_numbered t && nat_lt (highest t) (2 ^ 63)
+
+-- the print of a printable term holds no byte that is no token
+abbrev pub PrintsAreTokens : Type 0
+PrintsAreTokens = (t : Term) → IsTrue (is_printable t) → (tokens_of_text (print t)).broken_at ≡ None
+
+-- the tokens of a printable term's print are the term
+abbrev pub PrintsAreTerms : Type 0
+PrintsAreTerms = (t : Term) → IsTrue (is_printable t) → term_of_tokens (bare_tokens (tokens_of_text (print t)).placed) ≡ Some t
+
+-- a printed goal reads back
+abbrev pub PrintedGoalsReadBack : Type 0
+PrintedGoalsReadBack = (t : Term) → IsTrue (is_printable t) → IsTrue (is_goal t) → read_goal (print t) ≡ good t
+
+-- two printable terms with one print are one term
+abbrev pub PrintingIsOneToOne : Type 0
+PrintingIsOneToOne = (t u : Term) → IsTrue (is_printable t) → IsTrue (is_printable u) → print t ≡ print u → t ≡ u

@@ -1,6 +1,6 @@
 // What reading and printing keep.
 
-ghost use Rattle.kl1_model.specs.ReadLaws.{ExpressionsAreSound, ExpressionsAreComplete, ClausesAreSound, ClausesAreComplete, FrontsLeaveLess, StepsAreEnough, TokensGoOn};
+ghost use Rattle.kl1_model.specs.ReadLaws.{ExpressionsAreSound, ExpressionsAreComplete, ClausesAreSound, ClausesAreComplete, FrontsLeaveLess, StepsAreEnough, TokensGoOn, PrintsAreTokens, PrintsAreTerms, PrintedGoalsReadBack, PrintingIsOneToOne};
 
 /// The reader reads what the grammar writes, and nothing else: the tokens that it reads as a tree are that tree's,
 /// and each tree is read from its tokens.
@@ -17,4 +17,13 @@ pub fn tokens_go_on()
     ensures less { FrontsLeaveLess }
     ensures enough { StepsAreEnough }
     ensures step { TokensGoOn }
+{}
+
+/// A printed goal reads back as the goal that was printed, with the same numbers of variables; the print of any printable
+/// term reads as that term, and so no two of them have one print.
+pub fn printed_goal_reads_back()
+    ensures tokens { PrintsAreTokens }
+    ensures terms { PrintsAreTerms }
+    ensures goals { PrintedGoalsReadBack }
+    ensures one_to_one { PrintingIsOneToOne }
 {}
