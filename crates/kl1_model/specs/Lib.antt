@@ -11,3 +11,4 @@ pub mod Meaning
 pub mod Goal
 pub mod Module
 pub mod ReadLaws
+pub mod ReadRows

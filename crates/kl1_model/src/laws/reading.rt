@@ -1,6 +1,7 @@
 // What reading and printing keep.
 
 ghost use Rattle.kl1_model.specs.ReadLaws.{ExpressionsAreSound, ExpressionsAreComplete, ClausesAreSound, ClausesAreComplete, FrontsLeaveLess, StepsAreEnough, TokensGoOn, PrintsAreTokens, PrintsAreTerms, PrintedGoalsReadBack, PrintingIsOneToOne};
+ghost use Rattle.kl1_model.specs.ReadRows.{AppIsRead, TestIsBad, LongNameIsRead, LongerNameIsBad, DotInsideIsBad, CommentsAreBad, GoalIsRead, LeastIsRead, TooLargeIsBad, LooseMinusIsBad};
 
 /// The reader reads what the grammar writes, and nothing else: the tokens that it reads as a tree are that tree's,
 /// and each tree is read from its tokens.
@@ -26,4 +27,18 @@ pub fn printed_goal_reads_back()
     ensures terms { PrintsAreTerms }
     ensures goals { PrintedGoalsReadBack }
     ensures one_to_one { PrintingIsOneToOne }
+{}
+
+/// Some texts with what they are, computed from the definitions.
+pub fn worked_texts()
+    ensures app { AppIsRead }
+    ensures test { TestIsBad }
+    ensures long_name { LongNameIsRead }
+    ensures longer_name { LongerNameIsBad }
+    ensures dot { DotInsideIsBad }
+    ensures comments { CommentsAreBad }
+    ensures goal { GoalIsRead }
+    ensures least { LeastIsRead }
+    ensures too_large { TooLargeIsBad }
+    ensures loose_minus { LooseMinusIsBad }
 {}
