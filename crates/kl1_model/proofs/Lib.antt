@@ -8,3 +8,6 @@ pub mod ReadAgrees
 pub mod ReadTerms
 pub mod ReadNumbers
 pub mod ReadBack
+pub mod ReadCounts
+pub mod ReadMeans
+pub mod ReadStrict

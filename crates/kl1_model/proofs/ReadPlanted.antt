@@ -144,7 +144,7 @@ pub call_bears : (f : List ℕ) (quotes : Bool) (ts : Terms) (s : Series) → Be
 call_bears f quotes ts s h = record { means = ap (structure f) h.means; numbers = λ us. h.numbers (sign_token Close ∷ us); sound = h.sound }
 
 -- the variables of a pair, in front of others
-two_variables : (f : List ℕ) (a b : Term) (ns : List ℕ) → variables_of (pair f a b) ++ ns ≡ variables_of a ++ (variables_of b ++ ns)
+pub two_variables : (f : List ℕ) (a b : Term) (ns : List ℕ) → variables_of (pair f a b) ++ ns ≡ variables_of a ++ (variables_of b ++ ns)
 two_variables f a b ns = ap (λ x. (variables_of a ++ x) ++ ns) (append-nil (variables_of b)) ∙ append_assoc (variables_of a) (variables_of b) ns
 
 pub qualified_bears : (a b : Term) (p q : Primary) → Bears a (single p) → Bears b (single q) → Bears (pair (codes ":") a b) (qualified p q)

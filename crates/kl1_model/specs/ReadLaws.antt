@@ -1,5 +1,5 @@
 -- The laws of reading: the reader is the grammar, a text has one row of tokens, and a printed goal reads back.
-use Rattle.std.specs.Prelude.{◌≡◌, ℕ, suc, ◌^◌, ◌<◌, nat_lt, ◌&&◌, Bool, true, IsTrue, List, [], length, Some, None}
+use Rattle.std.specs.Prelude.{◌≡◌, ℕ, suc, ◌^◌, ◌<◌, ◌↔◌, nat_lt, ◌&&◌, Bool, true, IsTrue, if◌then◌else◌, List, [], length, Option, Some, None, bytes_eq}
 use Rattle.kl1_model.specs.Term.{Term}
 use Rattle.kl1_model.specs.Token.{Front, finished, broken, line_end, blank, token, front_of, Tokens, tokens_by, tokens_within, tokens_of_text}
 use Rattle.kl1_model.specs.Grammar.{Numbered, Expression, alone, related, Part, single, qualified, Primary, numbered, positive, negative, constant, call, empty_list, list, group, Series, last, another, Rest, closed, tail, Head, bare_head, head_with, ClauseTree, fact, rule, guarded, expression_tokens, clause_tokens}
@@ -7,7 +7,7 @@ use Rattle.kl1_model.specs.Reader.{expression_tree, clause_tree}
 use Rattle.kl1_model.specs.Meaning.{is_writable, is_numbered, highest}
 use Rattle.kl1_model.specs.Goal.{is_goal}
 use Rattle.kl1_model.specs.Print.{print}
-use Rattle.kl1_model.specs.Module.{good, bare_tokens, term_of_tokens, read_goal}
+use Rattle.kl1_model.specs.Module.{Reading, good, bad, bare_tokens, term_of_tokens, read_goal}
 
 -- whether each integer of a tree that stands without `-` is below 2 ^ 63
 abbrev mutual
@@ -108,3 +108,20 @@ PrintedGoalsReadBack = (t : Term) → IsTrue (is_printable t) → IsTrue (is_goa
 -- two printable terms with one print are one term
 abbrev pub PrintingIsOneToOne : Type 0
 PrintingIsOneToOne = (t u : Term) → IsTrue (is_printable t) → IsTrue (is_printable u) → print t ≡ print u → t ≡ u
+
+-- the goal that a text is where the text is the goal's print
+abbrev pub strict_by : List ℕ → Reading Term → Option Term
+strict_by bs (good t) = if bytes_eq (print t) bs then Some t else None
+strict_by bs (bad line) = None
+
+-- the strict form of a goal: read, and printed as it stood
+abbrev pub strict_goal : List ℕ → Option Term
+strict_goal bs = strict_by bs (read_goal bs)
+
+-- each goal that is read is one that can be read from its print
+abbrev pub GoalsReadArePrintable : Type 0
+GoalsReadArePrintable = (bs : List ℕ) (t : Term) → length bs < 2 ^ 63 → read_goal bs ≡ good t → IsTrue (is_printable t) × IsTrue (is_goal t)
+
+-- a text is of the strict form exactly where it is the print of a goal that can be read from it, and is that goal
+abbrev pub StrictTextsArePrints : Type 0
+StrictTextsArePrints = (bs : List ℕ) (t : Term) → length bs < 2 ^ 63 → ((strict_goal bs ≡ Some t) ↔ (IsTrue (is_printable t) × IsTrue (is_goal t) × (print t ≡ bs)))

@@ -1,6 +1,6 @@
 // What reading and printing keep.
 
-ghost use Rattle.kl1_model.specs.ReadLaws.{ExpressionsAreSound, ExpressionsAreComplete, ClausesAreSound, ClausesAreComplete, FrontsLeaveLess, StepsAreEnough, TokensGoOn, PrintsAreTokens, PrintsAreTerms, PrintedGoalsReadBack, PrintingIsOneToOne};
+ghost use Rattle.kl1_model.specs.ReadLaws.{ExpressionsAreSound, ExpressionsAreComplete, ClausesAreSound, ClausesAreComplete, FrontsLeaveLess, StepsAreEnough, TokensGoOn, PrintsAreTokens, PrintsAreTerms, PrintedGoalsReadBack, PrintingIsOneToOne, GoalsReadArePrintable, StrictTextsArePrints};
 ghost use Rattle.kl1_model.specs.ReadRows.{AppIsRead, TestIsBad, LongNameIsRead, LongerNameIsBad, DotInsideIsBad, CommentsAreBad, GoalIsRead, LeastIsRead, TooLargeIsBad, LooseMinusIsBad};
 
 /// The reader reads what the grammar writes, and nothing else: the tokens that it reads as a tree are that tree's,
@@ -27,6 +27,13 @@ pub fn printed_goal_reads_back()
     ensures terms { PrintsAreTerms }
     ensures goals { PrintedGoalsReadBack }
     ensures one_to_one { PrintingIsOneToOne }
+{}
+
+/// A goal that was read has its variables numbered by first occurrence, so it can be read from its print; a text is of the
+/// strict form exactly where it is such a print.
+pub fn strict_texts_are_prints()
+    ensures read { GoalsReadArePrintable }
+    ensures strict { StrictTextsArePrints }
 {}
 
 /// Some texts with what they are, computed from the definitions.
