@@ -52,22 +52,22 @@ plain_agrees t text p h whole =
 
 pub variable_agrees : (v : ℕ) → v < 2 ^ 63 → Agrees (variable v) (plain (codes "_" ++ decimal v)) (planted_plain (single (numbered v)))
 variable_agrees v few =
-    plain_agrees (variable v) (codes "_" ++ decimal v) (single (numbered v)) (record { means = refl; numbers = λ ts. refl; sound = refl })
+    plain_agrees (variable v) (codes "_" ++ decimal v) (single (numbered v)) (record { means = refl; sound = refl })
     (λ bs ts calm behind. lexes_variable v bs ts few calm.no_word behind)
 
 pub integer_agrees : (i : ℤ) → is_word i ≡ true → Agrees (integer i) (plain (signed_decimal i)) (planted_plain (single (planted_integer i)))
 integer_agrees (pos n) few =
-    plain_agrees (integer (pos n)) (decimal n) (single (positive n)) (record { means = refl; numbers = λ ts. refl; sound = few })
+    plain_agrees (integer (pos n)) (decimal n) (single (positive n)) (record { means = refl; sound = few })
     (λ bs ts calm behind. lexes_digits n bs ts (omega (arith, ltb-true n (2 ^ 63) few)) (no_word_no_digit bs calm.no_word) behind)
 integer_agrees (negsuc n) few =
-    plain_agrees (integer (negsuc n)) (45 ∷ decimal (suc n)) (single (negative (suc n))) (record { means = refl; numbers = λ ts. refl; sound = refl })
+    plain_agrees (integer (negsuc n)) (45 ∷ decimal (suc n)) (single (negative (suc n))) (record { means = refl; sound = refl })
     (λ bs ts calm behind. lexes_negative (suc n) bs ts (omega (arith, ltb-true n (2 ^ 63) few)) (no_word_no_digit bs calm.no_word) behind)
 
 nil_agrees : Agrees (atom (codes "[]")) (printed_atom (codes "[]")) (planted_atom (codes "[]"))
 nil_agrees =
     record {
-      bears = record { means = refl; numbers = λ ts. refl; sound = refl };
-      behind = record { means = λ e. refl; numbers = λ ts. refl; sound = refl };
+      bears = record { means = refl; sound = refl };
+      behind = record { means = λ e. refl; sound = refl };
       whole = λ bs ts calm behind. lexes_token (sign_token OpenList) refl (closing bs ts behind);
       rest = λ bs ts behind. closing bs ts behind;
       calm = λ bs. record { no_word = refl; no_quote = refl; no_open = refl };
@@ -75,7 +75,7 @@ nil_agrees =
 
 constant_agrees : (a : List ℕ) → is_text a ≡ true → Agrees (atom a) (plain (name_text a)) (planted_plain (single (constant a (not (is_bare a)))))
 constant_agrees a fine =
-    plain_agrees (atom a) (name_text a) (single (constant a (not (is_bare a)))) (record { means = refl; numbers = λ ts. refl; sound = refl })
+    plain_agrees (atom a) (name_text a) (single (constant a (not (is_bare a)))) (record { means = refl; sound = refl })
     (λ bs ts calm behind. lexes_name a bs ts fine calm behind)
 
 pub atom_agrees : (x : Bool) (a : List ℕ) → bytes_eq a (codes "[]") ≡ x → is_text a ≡ true → Agrees (atom a) (printed_atom a) (planted_atom a)

@@ -8,14 +8,15 @@ use Rattle.kl1_model.specs.Term.{Term}
 use Rattle.kl1_model.specs.Token.{Token, Placed, Tokens, tokens_of_text}
 use Rattle.kl1_model.specs.Grammar.{Numbered, alone, part_tokens}
 use Rattle.kl1_model.specs.Reader.{expression_tree}
-use Rattle.kl1_model.specs.Meaning.{expression_term, depth, is_narrow, is_writable, variables_of, is_numbered, highest, numbered_after}
+use Rattle.kl1_model.specs.Meaning.{expression_term, part_term, depth, is_narrow, is_writable, variables_of, is_numbered, highest, numbered_after}
 use Rattle.kl1_model.specs.Goal.{is_goal}
 use Rattle.kl1_model.specs.Print.{print}
 use Rattle.kl1_model.specs.Module.{Reading, good, bad, startable, bare_tokens, first_line, term_of_tokens, goal_of_tokens, read_goal}
 use Rattle.kl1_model.specs.ReadLaws.{tokens_at, is_printable}
 use Rattle.kl1_model.proofs.ReadComplete.{expression_trees_complete}
 use Rattle.kl1_model.proofs.LexFronts.{spelled, on_first_line, lexes_nothing}
-use Rattle.kl1_model.proofs.ReadPlanted.{planted, numbers_of}
+use Rattle.kl1_model.proofs.ReadPlanted.{planted}
+use Rattle.kl1_model.proofs.ReadMeans.{numbers_of, part_variables}
 use Rattle.kl1_model.proofs.ReadTerms.{agrees}
 use Rattle.kl1_model.proofs.ReadNumbers.{are_few, numbered_again, few_variables}
 
@@ -59,7 +60,7 @@ term_is : (t : Term) → is_printable t ≡ true → term_of_tokens (bare_tokens
 term_is t h =
     let p = printable t h in
     let a = agrees t p.narrow p.few in
-    let variables : numbers_of (tree_tokens t) ≡ variables_of t = a.bears.numbers [] ∙ append-nil (variables_of t) in
+    let variables : numbers_of (tree_tokens t) ≡ variables_of t = part_variables (planted t).whole [] ∙ append-nil (variables_of (part_term (planted t).whole)) ∙ ap variables_of a.bears.means in
     ap term_of_tokens (bare_again (spelled (tree_tokens t)))
     ∙ ap (λ ts. option_map expression_term (expression_tree ts))
     (numbered_again (tree_tokens t) 0 (ap (numbered_after 0) variables ∙ p.numbered) (ap are_few variables ∙ few_variables t p.few) (omega arith))

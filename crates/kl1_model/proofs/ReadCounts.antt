@@ -12,7 +12,7 @@ use Rattle.kl1_model.specs.Numbering.{place_of, variable_number, seen_after, num
 use Rattle.kl1_model.specs.Meaning.{variables_of, variables_in, highest, highest_in, numbered_after}
 use Rattle.kl1_model.specs.ReadLaws.{LeavesLess}
 use Rattle.kl1_model.proofs.LexSteps.{fronts_leave_less}
-use Rattle.kl1_model.proofs.ReadPlanted.{numbers_of}
+use Rattle.kl1_model.proofs.ReadMeans.{numbers_of}
 
 -- a number that is the next one at most, from 1
 record IsNext (seen n : ℕ) : Type 0 where

@@ -1,13 +1,22 @@
 -- The variables of a tree's tokens are those of the term that the tree means.
-use Rattle.std.specs.Prelude.{◌≡◌, ℕ, List, ◌∷◌, ◌++◌, codes}
+use Rattle.std.specs.Prelude.{◌≡◌, ℕ, List, [], ◌∷◌, ◌++◌, codes}
 use Rattle.std.proofs.Common.{refl, ap, sym, ◌∙◌}
 use Rattle.std.proofs.lemmas.List.{append_assoc, append-nil}
 use Rattle.kl1_model.specs.declared.sign.Sign.TheVariants.{Equals, Colon, Comma, Close, CloseList}
 use Rattle.kl1_model.specs.Term.{Term, Terms, none, more}
-use Rattle.kl1_model.specs.Token.{sign_token}
+use Rattle.kl1_model.specs.Token.{sign_token, variable_token}
 use Rattle.kl1_model.specs.Grammar.{Numbered, equality, Expression, alone, related, Part, single, qualified, Primary, numbered, positive, negative, constant, call, empty_list, list, group, Series, last, another, Rest, closed, tail, expression_tokens, part_tokens, primary_tokens, series_tokens, rest_tokens}
-use Rattle.kl1_model.specs.Meaning.{cells, expression_term, part_term, primary_term, series_terms, rest_term, variables_of, variables_in}
-use Rattle.kl1_model.proofs.ReadPlanted.{numbers_of, two_variables}
+use Rattle.kl1_model.specs.Meaning.{pair, cells, expression_term, part_term, primary_term, series_terms, rest_term, variables_of, variables_in}
+
+-- the numbers of the variables among tokens
+abbrev pub numbers_of : List Numbered → List ℕ
+numbers_of [] = []
+numbers_of (variable_token v ∷ ts) = v ∷ numbers_of ts
+numbers_of (_ ∷ ts) = numbers_of ts
+
+-- the variables of a pair, in front of others
+two_variables : (f : List ℕ) (a b : Term) (ns : List ℕ) → variables_of (pair f a b) ++ ns ≡ variables_of a ++ (variables_of b ++ ns)
+two_variables f a b ns = ap (λ x. (variables_of a ++ x) ++ ns) (append-nil (variables_of b)) ∙ append_assoc (variables_of a) (variables_of b) ns
 
 -- the variables of cells are those of the elements and of what is behind them
 cells_variables : (es : Terms) (t : Term) (ns : List ℕ) → variables_of (cells es t) ++ ns ≡ variables_in es ++ (variables_of t ++ ns)
@@ -25,7 +34,7 @@ mutual
       ∙ ap (λ x. variables_of (part_term p) ++ x) (part_variables q ts)
       ∙ sym (two_variables (codes "=") (part_term p) (part_term q) (numbers_of ts))
 
-  part_variables : (p : Part) (ts : List Numbered) → numbers_of (part_tokens p ts) ≡ variables_of (part_term p) ++ numbers_of ts
+  pub part_variables : (p : Part) (ts : List Numbered) → numbers_of (part_tokens p ts) ≡ variables_of (part_term p) ++ numbers_of ts
   part_variables (single p) ts = primary_variables p ts
   part_variables (qualified p q) ts =
       primary_variables p (sign_token Colon ∷ primary_tokens q ts)

@@ -1,16 +1,15 @@
 -- The tree of a printed term, in the shape in which terms are printed, and what the tree's parts are.
-use Rattle.std.specs.Prelude.{◌≡◌, ℕ, suc, not, ◌&&◌, Bool, true, if◌then◌else◌, ℤ, pos, negsuc, List, [], ◌∷◌, ◌++◌, Option, Some, None, codes, bytes_eq}
-use Rattle.std.proofs.Common.{refl, ap, sym, ◌∙◌}
+use Rattle.std.specs.Prelude.{◌≡◌, ℕ, suc, not, ◌&&◌, Bool, true, if◌then◌else◌, ℤ, pos, negsuc, List, [], ◌∷◌, Option, Some, None, codes, bytes_eq}
+use Rattle.std.proofs.Common.{refl, ap, ◌∙◌}
 use Rattle.std.proofs.lemmas.Bool.{and_parts, and_from}
-use Rattle.std.proofs.lemmas.List.{append_assoc, append-nil}
 use Rattle.kl1_model.specs.declared.pair_form.PairForm.{PairForm}
 use Rattle.kl1_model.specs.declared.pair_form.PairForm.TheVariants.{Cell, Qualified, Call}
-use Rattle.kl1_model.specs.declared.sign.Sign.TheVariants.{Colon, Comma, Close, CloseList}
+use Rattle.kl1_model.specs.declared.sign.Sign.TheVariants.{Comma, CloseList}
 use Rattle.kl1_model.specs.Name.{is_bare}
 use Rattle.kl1_model.specs.Term.{Term, variable, integer, atom, structure, Terms, none, more}
-use Rattle.kl1_model.specs.Token.{variable_token, sign_token}
-use Rattle.kl1_model.specs.Grammar.{Numbered, Expression, alone, Part, single, qualified, Primary, numbered, positive, negative, constant, call, empty_list, list, group, Series, last, another, Rest, closed, tail, expression_tokens, part_tokens, primary_tokens, series_tokens, rest_tokens}
-use Rattle.kl1_model.specs.Meaning.{pair, cell, cells, expression_term, part_term, primary_term, series_terms, rest_term, variables_of, variables_in}
+use Rattle.kl1_model.specs.Token.{sign_token}
+use Rattle.kl1_model.specs.Grammar.{Numbered, Expression, alone, Part, single, qualified, Primary, numbered, positive, negative, constant, call, empty_list, list, group, Series, last, another, Rest, closed, tail, expression_tokens, series_tokens, rest_tokens}
+use Rattle.kl1_model.specs.Meaning.{pair, cell, cells, expression_term, part_term, primary_term, series_terms, rest_term}
 use Rattle.kl1_model.specs.Print.{form_of}
 use Rattle.kl1_model.specs.ReadLaws.{is_sound_expression, is_sound_part, is_sound_series, is_sound_rest}
 
@@ -81,12 +80,6 @@ pub series_row : (e : Expression) (following : Option Series) (ts : List Numbere
 series_row e None ts = refl
 series_row e (Some s) ts = refl
 
--- the numbers of the variables among tokens
-abbrev pub numbers_of : List Numbered → List ℕ
-numbers_of [] = []
-numbers_of (variable_token v ∷ ts) = v ∷ numbers_of ts
-numbers_of (_ ∷ ts) = numbers_of ts
-
 -- whether the integers of elements that follow another are sound
 abbrev pub is_sound_following : Option Series → Bool
 is_sound_following None = true
@@ -101,26 +94,22 @@ series_of_sound e (Some s) r first behind =
 -- what a part's tree means, apart from any text
 pub record Bears (t : Term) (p : Part) : Type 0 where
   pub means : part_term p ≡ t
-  pub numbers : (ts : List Numbered) → numbers_of (part_tokens p ts) ≡ variables_of t ++ numbers_of ts
   pub sound : is_sound_part p ≡ true
 
 -- the same of what a term is behind an element of a list
 pub record BearsBehind (t : Term) (q : Planted) : Type 0 where
   pub means : (e : Expression) → cells (series_terms (series_of e q.following)) (rest_term q.ending) ≡ cell (expression_term e) t
-  pub numbers : (ts : List Numbered) → numbers_of (rest_row q ts) ≡ variables_of t ++ numbers_of ts
   pub sound : (is_sound_following q.following && is_sound_rest q.ending) ≡ true
 
 -- the same of arguments
 pub record BearsEach (ts : Terms) (s : Series) : Type 0 where
   pub means : series_terms s ≡ ts
-  pub numbers : (us : List Numbered) → numbers_of (series_tokens s us) ≡ variables_in ts ++ numbers_of us
   pub sound : is_sound_series s ≡ true
 
 pub plain_behind : (t : Term) (p : Part) → Bears t p → BearsBehind t (planted_plain p)
 plain_behind t p h =
     record {
       means = λ e. ap (cell (expression_term e)) h.means;
-      numbers = λ ts. h.numbers (sign_token CloseList ∷ ts);
       sound = h.sound;
     }
 
@@ -128,7 +117,6 @@ pub last_bears : (t : Term) (p : Part) → Bears t p → BearsEach (more t none)
 last_bears t p h =
     record {
       means = ap (λ x. more x none) h.means;
-      numbers = λ us. h.numbers us ∙ ap (λ x. x ++ numbers_of us) (sym (append-nil (variables_of t)));
       sound = h.sound;
     }
 
@@ -136,33 +124,20 @@ pub another_bears : (t : Term) (p : Part) (ts : Terms) (s : Series) → Bears t 
 another_bears t p ts s h j =
     record {
       means = ap (λ x. more x (series_terms s)) h.means ∙ ap (more t) j.means;
-      numbers = λ us. h.numbers (sign_token Comma ∷ series_tokens s us) ∙ ap (λ x. variables_of t ++ x) (j.numbers us) ∙ sym (append_assoc (variables_of t) (variables_in ts) (numbers_of us));
       sound = and_from (is_sound_part p) (is_sound_series s) h.sound j.sound;
     }
 
 pub call_bears : (f : List ℕ) (quotes : Bool) (ts : Terms) (s : Series) → BearsEach ts s → Bears (structure f ts) (single (call f quotes s))
-call_bears f quotes ts s h = record { means = ap (structure f) h.means; numbers = λ us. h.numbers (sign_token Close ∷ us); sound = h.sound }
-
--- the variables of a pair, in front of others
-pub two_variables : (f : List ℕ) (a b : Term) (ns : List ℕ) → variables_of (pair f a b) ++ ns ≡ variables_of a ++ (variables_of b ++ ns)
-two_variables f a b ns = ap (λ x. (variables_of a ++ x) ++ ns) (append-nil (variables_of b)) ∙ append_assoc (variables_of a) (variables_of b) ns
+call_bears f quotes ts s h = record { means = ap (structure f) h.means; sound = h.sound }
 
 pub qualified_bears : (a b : Term) (p q : Primary) → Bears a (single p) → Bears b (single q) → Bears (pair (codes ":") a b) (qualified p q)
 qualified_bears a b p q h j =
     record {
       means = ap (λ x. pair (codes ":") x (primary_term q)) h.means ∙ ap (pair (codes ":") a) j.means;
-      numbers = λ us. h.numbers (sign_token Colon ∷ primary_tokens q us) ∙ ap (λ x. variables_of a ++ x) (j.numbers us) ∙ sym (two_variables (codes ":") a b (numbers_of us));
       sound = and_from (is_sound_part (single p)) (is_sound_part (single q)) h.sound j.sound;
     }
 
 module _ (a b : Term) (p q : Planted) (h : Bears a p.whole) (j : BearsBehind b q) where
-  elements : (ts : List Numbered) → numbers_of (series_tokens (series_of (alone p.whole) q.following) (rest_tokens q.ending (sign_token CloseList ∷ ts))) ≡ variables_of (cell a b) ++ numbers_of ts
-  elements ts =
-      ap numbers_of (series_row (alone p.whole) q.following (rest_tokens q.ending (sign_token CloseList ∷ ts)))
-      ∙ h.numbers (rest_row q ts)
-      ∙ ap (λ x. variables_of a ++ x) (j.numbers ts)
-      ∙ sym (two_variables (codes ".") a b (numbers_of ts))
-
   cell_means : cells (series_terms (series_of (alone p.whole) q.following)) (rest_term q.ending) ≡ cell a b
   cell_means = j.means (alone p.whole) ∙ ap (λ x. cell x b) h.means
 
@@ -170,7 +145,7 @@ module _ (a b : Term) (p q : Planted) (h : Bears a p.whole) (j : BearsBehind b q
   cell_sound = series_of_sound (alone p.whole) q.following q.ending h.sound j.sound
 
   pub cell_bears : Bears (cell a b) (planted_cell p q).whole
-  cell_bears = record { means = cell_means; numbers = elements; sound = cell_sound }
+  cell_bears = record { means = cell_means; sound = cell_sound }
 
   pub cell_behind : BearsBehind (cell a b) (planted_cell p q)
-  cell_behind = record { means = λ e. ap (cell (expression_term e)) cell_means; numbers = elements; sound = cell_sound }
+  cell_behind = record { means = λ e. ap (cell (expression_term e)) cell_means; sound = cell_sound }
