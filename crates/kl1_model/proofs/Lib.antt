@@ -11,3 +11,4 @@ pub mod ReadBack
 pub mod ReadCounts
 pub mod ReadMeans
 pub mod ReadStrict
+pub mod ReadSteps

@@ -42,11 +42,11 @@ mutual
   steps_of_few (alone p) ts = omega (arith, part_steps_few p ts)
   steps_of_few (related p equality q) ts = omega (arith, part_steps_few p (sign_token Equals ∷ part_tokens q ts), part_steps_few q ts)
 
-  part_steps_few : (p : Part) (ts : List Numbered) → suc (part_steps p + length ts) ≤ length (part_tokens p ts)
+  pub part_steps_few : (p : Part) (ts : List Numbered) → suc (part_steps p + length ts) ≤ length (part_tokens p ts)
   part_steps_few (single p) ts = primary_steps_few p ts
   part_steps_few (qualified p q) ts = omega (arith, primary_steps_few p (sign_token Colon ∷ primary_tokens q ts), primary_steps_few q ts)
 
-  primary_steps_few : (p : Primary) (ts : List Numbered) → suc (primary_steps p + length ts) ≤ length (primary_tokens p ts)
+  pub primary_steps_few : (p : Primary) (ts : List Numbered) → suc (primary_steps p + length ts) ≤ length (primary_tokens p ts)
   primary_steps_few (numbered v) ts = omega arith
   primary_steps_few (positive n) ts = omega arith
   primary_steps_few (negative n) ts = omega arith
@@ -77,7 +77,7 @@ then_read_is x a us go h = ap (λ y. then_read y go) h
 not_there : {B : Type 0} (x : Option (List Numbered)) (otherwise : Option B) (go : List Numbered → Option B) → x ≡ None → if_there x otherwise go ≡ otherwise
 not_there x otherwise go h = ap (λ y. if_there y otherwise go) h
 
-some_steps : (e : Expression) → 1 ≤ steps_of e
+pub some_steps : (e : Expression) → 1 ≤ steps_of e
 some_steps (alone p) = omega arith
 some_steps (related p r q) = omega arith
 
@@ -178,11 +178,11 @@ whole_series : (s : Series) (n : ℕ) (ts : List Numbered) → series_steps s �
 whole_series s n ts few sound ends no_comma = series_complete s n (suc (length (series_tokens s ts))) ts few (omega (arith, series_steps_few s ts)) sound ends no_comma
 
 -- how many steps a head takes at most
-abbrev head_steps : Head → ℕ
+abbrev pub head_steps : Head → ℕ
 head_steps (bare_head p quotes) = 0
 head_steps (head_with p quotes s) = series_steps s
 
-head_steps_few : (h : Head) (ts : List Numbered) → head_steps h + length ts ≤ length (head_tokens h ts)
+pub head_steps_few : (h : Head) (ts : List Numbered) → head_steps h + length ts ≤ length (head_tokens h ts)
 head_steps_few (bare_head p quotes) ts = omega arith
 head_steps_few (head_with p quotes s) ts = omega (arith, series_steps_few s (sign_token Close ∷ ts))
 

@@ -26,35 +26,35 @@ if_there_some (Some us) otherwise go b h j k = k us refl h
 pub answered : {A : Type 0} (f : A → List Numbered → List Numbered) (a x : A) (us vs : List Numbered) → ◌≡◌ {A = Answer A} (Some (a, us)) (Some (x, vs)) → f x vs ≡ f a us
 answered f a x us vs e = let p = some_pair_parts a x us vs e in cc (p.0, p.1)
 
-comma_is : (ts us : List Numbered) → behind_comma ts ≡ Some us → sign_token Comma ∷ us ≡ ts
+pub comma_is : (ts us : List Numbered) → behind_comma ts ≡ Some us → sign_token Comma ∷ us ≡ ts
 comma_is (sign_token Comma ∷ ts) us h = cc
 comma_is _ us h = absurd (none-some us h)
 
-close_is : (ts us : List Numbered) → behind_close ts ≡ Some us → sign_token Close ∷ us ≡ ts
+pub close_is : (ts us : List Numbered) → behind_close ts ≡ Some us → sign_token Close ∷ us ≡ ts
 close_is (sign_token Close ∷ ts) us h = cc
 close_is _ us h = absurd (none-some us h)
 
-open_is : (ts us : List Numbered) → behind_open ts ≡ Some us → sign_token Open ∷ us ≡ ts
+pub open_is : (ts us : List Numbered) → behind_open ts ≡ Some us → sign_token Open ∷ us ≡ ts
 open_is (sign_token Open ∷ ts) us h = cc
 open_is _ us h = absurd (none-some us h)
 
-close_list_is : (ts us : List Numbered) → behind_close_list ts ≡ Some us → sign_token CloseList ∷ us ≡ ts
+pub close_list_is : (ts us : List Numbered) → behind_close_list ts ≡ Some us → sign_token CloseList ∷ us ≡ ts
 close_list_is (sign_token CloseList ∷ ts) us h = cc
 close_list_is _ us h = absurd (none-some us h)
 
-bar_is : (ts us : List Numbered) → behind_bar ts ≡ Some us → sign_token Bar ∷ us ≡ ts
+pub bar_is : (ts us : List Numbered) → behind_bar ts ≡ Some us → sign_token Bar ∷ us ≡ ts
 bar_is (sign_token Bar ∷ ts) us h = cc
 bar_is _ us h = absurd (none-some us h)
 
-colon_is : (ts us : List Numbered) → behind_colon ts ≡ Some us → sign_token Colon ∷ us ≡ ts
+pub colon_is : (ts us : List Numbered) → behind_colon ts ≡ Some us → sign_token Colon ∷ us ≡ ts
 colon_is (sign_token Colon ∷ ts) us h = cc
 colon_is _ us h = absurd (none-some us h)
 
-neck_is : (ts us : List Numbered) → behind_neck ts ≡ Some us → sign_token Neck ∷ us ≡ ts
+pub neck_is : (ts us : List Numbered) → behind_neck ts ≡ Some us → sign_token Neck ∷ us ≡ ts
 neck_is (sign_token Neck ∷ ts) us h = cc
 neck_is _ us h = absurd (none-some us h)
 
-relation_is : (ts us : List Numbered) (r : Relation) → relation_in_front ts ≡ Some (r, us) → relation_token r ∷ us ≡ ts
+pub relation_is : (ts us : List Numbered) (r : Relation) → relation_in_front ts ≡ Some (r, us) → relation_token r ∷ us ≡ ts
 relation_is (sign_token Equals ∷ ts) us r h = answered (λ r us. relation_token r ∷ us) equality r ts us h
 relation_is _ us r h = absurd (none-some (r, us) h)
 
@@ -130,7 +130,7 @@ module _ (inner : Inner) (sound : IsSound inner) where
       ∙ ap (λ w. sign_token Open ∷ expression_tokens e w) (close_is vs ws end)
       ∙ ap (λ w. sign_token Open ∷ w) (sound ts e vs read)))
 
-  primary_sound : (ts : List Numbered) (p : Primary) (us : List Numbered) → primary_at inner ts ≡ Some (p, us) → primary_tokens p us ≡ ts
+  pub primary_sound : (ts : List Numbered) (p : Primary) (us : List Numbered) → primary_at inner ts ≡ Some (p, us) → primary_tokens p us ≡ ts
   primary_sound (variable_token v ∷ ts) p us h = answered primary_tokens (numbered v) p ts us h
   primary_sound (digits_token n ∷ ts) p us h = positive_sound n ts (nat_lt n (2 ^ 63)) p us h
   primary_sound (minus_token true ∷ ts) p us h = negative_sound ts p us h
@@ -140,7 +140,7 @@ module _ (inner : Inner) (sound : IsSound inner) where
   primary_sound (sign_token Open ∷ ts) p us h = group_sound ts p us h
   primary_sound _ p us h = absurd (none-some (p, us) h)
 
-  part_sound : (ts : List Numbered) (p : Part) (us : List Numbered) → part_at inner ts ≡ Some (p, us) → part_tokens p us ≡ ts
+  pub part_sound : (ts : List Numbered) (p : Part) (us : List Numbered) → part_at inner ts ≡ Some (p, us) → part_tokens p us ≡ ts
   part_sound ts p us h =
       then_read_some (primary_at inner ts) _ (p, us) h (λ a vs read after.
       if_there_some (behind_colon vs) _ _ (p, us) after
@@ -159,7 +159,7 @@ module _ (inner : Inner) (sound : IsSound inner) where
       ∙ ap (λ w. part_tokens p (relation_token r.0 ∷ w)) (part_sound r.1 q vs read)
       ∙ ap (part_tokens p) (relation_is ts r.1 r.0 (sym found)))
 
-  head_sound : (ts : List Numbered) (h : Head) (us : List Numbered) → head_at inner ts ≡ Some (h, us) → head_tokens h us ≡ ts
+  pub head_sound : (ts : List Numbered) (h : Head) (us : List Numbered) → head_at inner ts ≡ Some (h, us) → head_tokens h us ≡ ts
   head_sound (name_token p quotes false ∷ ts) h us is = answered head_tokens (bare_head p quotes) h ts us is
   head_sound (name_token p quotes true ∷ ts) h us is =
       then_read_some (arguments_at inner ts) _ (h, us) is (λ s vs read here.

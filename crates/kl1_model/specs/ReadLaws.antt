@@ -3,7 +3,7 @@ use Rattle.std.specs.Prelude.{◌≡◌, ℕ, suc, ◌^◌, ◌<◌, ◌↔◌, 
 use Rattle.kl1_model.specs.Term.{Term}
 use Rattle.kl1_model.specs.Token.{Front, finished, broken, line_end, blank, token, front_of, Tokens, tokens_by, tokens_within, tokens_of_text}
 use Rattle.kl1_model.specs.Grammar.{Numbered, Expression, alone, related, Part, single, qualified, Primary, numbered, positive, negative, constant, call, empty_list, list, group, Series, last, another, Rest, closed, tail, Head, bare_head, head_with, ClauseTree, fact, rule, guarded, expression_tokens, clause_tokens}
-use Rattle.kl1_model.specs.Reader.{expression_tree, clause_tree}
+use Rattle.kl1_model.specs.Reader.{Inner, then_read, if_there, behind_comma, relation_in_front, series_at, part_at, related_at, expression_at, all_read, expression_tree, clause_at, clause_tree}
 use Rattle.kl1_model.specs.Meaning.{is_writable, is_numbered, highest}
 use Rattle.kl1_model.specs.Goal.{is_goal}
 use Rattle.kl1_model.specs.Print.{print}
@@ -87,6 +87,30 @@ StepsAreEnough = (m n line : ℕ) (bs : List ℕ) → length bs < m → length b
 -- the tokens of a text are what its front makes of those behind it
 abbrev pub TokensGoOn : Type 0
 TokensGoOn = (line : ℕ) (bs : List ℕ) → tokens_at line bs ≡ tokens_by tokens_at line (front_of bs)
+
+-- the expression in front of tokens
+abbrev pub whole_expression : Inner
+whole_expression ts = expression_at (suc (length ts)) ts
+
+-- more steps than there are tokens read the same expression, however many they are
+abbrev pub ReaderStepsAreEnough : Type 0
+ReaderStepsAreEnough = (m n : ℕ) (ts : List Numbered) → length ts < m → length ts < n → expression_at m ts ≡ expression_at n ts
+
+-- fewer tokens are behind an expression
+abbrev pub ExpressionsLeaveLess : Type 0
+ExpressionsLeaveLess = (ts : List Numbered) (e : Expression) (us : List Numbered) → whole_expression ts ≡ Some (e, us) → length us < length ts
+
+-- an expression is its first part, and what is behind it
+abbrev pub ExpressionsGoOn : Type 0
+ExpressionsGoOn = (ts : List Numbered) → whole_expression ts ≡ then_read (part_at whole_expression ts) (λ p us. related_at whole_expression p us (relation_in_front us))
+
+-- expressions parted by commas are the first and, behind a comma, the others
+abbrev pub SeriesGoOn : Type 0
+SeriesGoOn = (ts : List Numbered) → series_at whole_expression ts ≡ then_read (whole_expression ts) (λ e us. if_there (behind_comma us) (Some (last e, us)) (λ vs. then_read (series_at whole_expression vs) (λ s ws. Some (another e s, ws))))
+
+-- a clause is read with whole expressions inside it
+abbrev pub ClausesGoOn : Type 0
+ClausesGoOn = (ts : List Numbered) → clause_tree ts ≡ all_read (clause_at whole_expression ts)
 
 -- whether a term can be read from its print: a text can write it, its variables are numbered from 1 by first occurrence,
 -- and there are fewer than 2 ^ 63 of them

@@ -1,6 +1,6 @@
 // What reading and printing keep.
 
-ghost use Rattle.kl1_model.specs.ReadLaws.{ExpressionsAreSound, ExpressionsAreComplete, ClausesAreSound, ClausesAreComplete, FrontsLeaveLess, StepsAreEnough, TokensGoOn, PrintsAreTokens, PrintsAreTerms, PrintedGoalsReadBack, PrintingIsOneToOne, GoalsReadArePrintable, StrictTextsArePrints};
+ghost use Rattle.kl1_model.specs.ReadLaws.{ExpressionsAreSound, ExpressionsAreComplete, ClausesAreSound, ClausesAreComplete, FrontsLeaveLess, StepsAreEnough, TokensGoOn, ReaderStepsAreEnough, ExpressionsLeaveLess, ExpressionsGoOn, SeriesGoOn, ClausesGoOn, PrintsAreTokens, PrintsAreTerms, PrintedGoalsReadBack, PrintingIsOneToOne, GoalsReadArePrintable, StrictTextsArePrints};
 ghost use Rattle.kl1_model.specs.ReadRows.{AppIsRead, TestIsBad, LongNameIsRead, LongerNameIsBad, DotInsideIsBad, CommentsAreBad, GoalIsRead, LeastIsRead, TooLargeIsBad, LooseMinusIsBad};
 
 /// The reader reads what the grammar writes, and nothing else: the tokens that it reads as a tree are that tree's,
@@ -18,6 +18,16 @@ pub fn tokens_go_on()
     ensures less { FrontsLeaveLess }
     ensures enough { StepsAreEnough }
     ensures step { TokensGoOn }
+{}
+
+/// The reader needs no count of steps: an expression leaves fewer tokens, more steps than tokens read the same, and so
+/// expressions, series and clauses are read from whole expressions inside them.
+pub fn expressions_go_on()
+    ensures enough { ReaderStepsAreEnough }
+    ensures less { ExpressionsLeaveLess }
+    ensures expression { ExpressionsGoOn }
+    ensures series { SeriesGoOn }
+    ensures clause { ClausesGoOn }
 {}
 
 /// A printed goal reads back as the goal that was printed, with the same numbers of variables; the print of any printable
