@@ -12,3 +12,4 @@ pub mod ReadCounts
 pub mod ReadMeans
 pub mod ReadStrict
 pub mod ReadSteps
+pub mod ReadClauses

@@ -1,13 +1,14 @@
 -- The laws of reading: the reader is the grammar, a text has one row of tokens, and a printed goal reads back.
-use Rattle.std.specs.Prelude.{◌≡◌, ℕ, suc, ◌^◌, ◌<◌, ◌↔◌, nat_lt, ◌&&◌, Bool, true, IsTrue, if◌then◌else◌, List, [], length, Option, Some, None, bytes_eq}
+use Rattle.std.specs.Prelude.{◌≡◌, ℕ, suc, ◌^◌, ◌<◌, ◌↔◌, nat_lt, ◌&&◌, Bool, true, IsTrue, if◌then◌else◌, List, [], ◌∷◌, ◌++◌, length, Option, Some, None, bytes_eq}
+use Rattle.std.specs.List.{list_all}
 use Rattle.kl1_model.specs.Term.{Term}
 use Rattle.kl1_model.specs.Token.{Front, finished, broken, line_end, blank, token, front_of, Tokens, tokens_by, tokens_within, tokens_of_text}
 use Rattle.kl1_model.specs.Grammar.{Numbered, Expression, alone, related, Part, single, qualified, Primary, numbered, positive, negative, constant, call, empty_list, list, group, Series, last, another, Rest, closed, tail, Head, bare_head, head_with, ClauseTree, fact, rule, guarded, expression_tokens, clause_tokens}
 use Rattle.kl1_model.specs.Reader.{Inner, then_read, if_there, behind_comma, relation_in_front, series_at, part_at, related_at, expression_at, all_read, expression_tree, clause_at, clause_tree}
-use Rattle.kl1_model.specs.Meaning.{is_writable, is_numbered, highest}
+use Rattle.kl1_model.specs.Meaning.{is_writable, variables_of, variables_in, numbered_after, is_numbered, highest}
 use Rattle.kl1_model.specs.Goal.{is_goal}
 use Rattle.kl1_model.specs.Print.{print}
-use Rattle.kl1_model.specs.Module.{Reading, good, bad, bare_tokens, term_of_tokens, read_goal}
+use Rattle.kl1_model.specs.Module.{Clause, Module, Reading, good, bad, bare_tokens, term_of_tokens, read_module, read_goal}
 
 -- whether each integer of a tree that stands without `-` is below 2 ^ 63
 abbrev mutual
@@ -56,6 +57,10 @@ ExpressionsAreSound = (ts : List Numbered) (e : Expression) → expression_tree 
 abbrev pub ExpressionsAreComplete : Type 0
 ExpressionsAreComplete = (e : Expression) → IsTrue (is_sound_expression e) → expression_tree (expression_tokens e []) ≡ Some e
 
+-- two trees with one row of tokens are one tree
+abbrev pub ExpressionsAreUnambiguous : Type 0
+ExpressionsAreUnambiguous = (d e : Expression) → IsTrue (is_sound_expression d) → IsTrue (is_sound_expression e) → expression_tokens d [] ≡ expression_tokens e [] → d ≡ e
+
 -- tokens that are read as a clause are the tokens of that tree
 abbrev pub ClausesAreSound : Type 0
 ClausesAreSound = (ts : List Numbered) (c : ClauseTree) → clause_tree ts ≡ Some c → clause_tokens c ≡ ts
@@ -63,6 +68,10 @@ ClausesAreSound = (ts : List Numbered) (c : ClauseTree) → clause_tree ts ≡ S
 -- the tokens of a clause's tree are read as that tree
 abbrev pub ClausesAreComplete : Type 0
 ClausesAreComplete = (c : ClauseTree) → IsTrue (is_sound_clause c) → clause_tree (clause_tokens c) ≡ Some c
+
+-- two trees of clauses with one row of tokens are one tree
+abbrev pub ClausesAreUnambiguous : Type 0
+ClausesAreUnambiguous = (c d : ClauseTree) → IsTrue (is_sound_clause c) → IsTrue (is_sound_clause d) → clause_tokens c ≡ clause_tokens d → c ≡ d
 
 -- the tokens of a text whose first byte is on this line
 abbrev pub tokens_at : ℕ → List ℕ → Tokens
@@ -149,3 +158,20 @@ GoalsReadArePrintable = (bs : List ℕ) (t : Term) → length bs < 2 ^ 63 → re
 -- a text is of the strict form exactly where it is the print of a goal that can be read from it, and is that goal
 abbrev pub StrictTextsArePrints : Type 0
 StrictTextsArePrints = (bs : List ℕ) (t : Term) → length bs < 2 ^ 63 → ((strict_goal bs ≡ Some t) ↔ (IsTrue (is_printable t) × IsTrue (is_goal t) × (print t ≡ bs)))
+
+-- the variables of terms as they stand in their texts, one after another
+abbrev pub variables_of_each : List Term → List ℕ
+variables_of_each [] = []
+variables_of_each (t ∷ ts) = variables_of t ++ variables_of_each ts
+
+-- the variables of a clause as they stand in its text
+abbrev pub clause_variables : Clause → List ℕ
+clause_variables c = variables_in c.patterns ++ variables_of_each c.tests ++ variables_of_each c.body
+
+-- whether a clause's variables are numbered from 1 by first occurrence
+abbrev pub is_numbered_clause : Clause → Bool
+is_numbered_clause c = numbered_after 0 (clause_variables c)
+
+-- the variables of each clause that is read are numbered from 1 by first occurrence, those of the head first
+abbrev pub ClausesAreNumbered : Type 0
+ClausesAreNumbered = (source : List ℕ) (m : Module) → read_module source ≡ good m → IsTrue (list_all is_numbered_clause m.clauses)

@@ -1,6 +1,6 @@
 // What reading and printing keep.
 
-ghost use Rattle.kl1_model.specs.ReadLaws.{ExpressionsAreSound, ExpressionsAreComplete, ClausesAreSound, ClausesAreComplete, FrontsLeaveLess, StepsAreEnough, TokensGoOn, ReaderStepsAreEnough, ExpressionsLeaveLess, ExpressionsGoOn, SeriesGoOn, ClausesGoOn, PrintsAreTokens, PrintsAreTerms, PrintedGoalsReadBack, PrintingIsOneToOne, GoalsReadArePrintable, StrictTextsArePrints};
+ghost use Rattle.kl1_model.specs.ReadLaws.{ExpressionsAreSound, ExpressionsAreComplete, ExpressionsAreUnambiguous, ClausesAreSound, ClausesAreComplete, ClausesAreUnambiguous, FrontsLeaveLess, StepsAreEnough, TokensGoOn, ReaderStepsAreEnough, ExpressionsLeaveLess, ExpressionsGoOn, SeriesGoOn, ClausesGoOn, PrintsAreTokens, PrintsAreTerms, PrintedGoalsReadBack, PrintingIsOneToOne, GoalsReadArePrintable, StrictTextsArePrints, ClausesAreNumbered};
 ghost use Rattle.kl1_model.specs.ReadRows.{AppIsRead, TestIsBad, LongNameIsRead, LongerNameIsBad, DotInsideIsBad, CommentsAreBad, GoalIsRead, LeastIsRead, TooLargeIsBad, LooseMinusIsBad};
 
 /// The reader reads what the grammar writes, and nothing else: the tokens that it reads as a tree are that tree's,
@@ -8,8 +8,10 @@ ghost use Rattle.kl1_model.specs.ReadRows.{AppIsRead, TestIsBad, LongNameIsRead,
 pub fn reader_reads_the_grammar()
     ensures expressions_sound { ExpressionsAreSound }
     ensures expressions_complete { ExpressionsAreComplete }
+    ensures expressions_unambiguous { ExpressionsAreUnambiguous }
     ensures clauses_sound { ClausesAreSound }
     ensures clauses_complete { ClausesAreComplete }
+    ensures clauses_unambiguous { ClausesAreUnambiguous }
 {}
 
 /// The tokens of a text need no count of steps: each front leaves less of the text, more steps than bytes give the same
@@ -44,6 +46,11 @@ pub fn printed_goal_reads_back()
 pub fn strict_texts_are_prints()
     ensures read { GoalsReadArePrintable }
     ensures strict { StrictTextsArePrints }
+{}
+
+/// The variables of each clause of a module that was read are numbered from 1 by first occurrence, those of the head first.
+pub fn clauses_are_numbered()
+    ensures { ClausesAreNumbered }
 {}
 
 /// Some texts with what they are, computed from the definitions.
