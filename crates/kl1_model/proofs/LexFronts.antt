@@ -39,6 +39,7 @@ on_first_line t = record { line = 1; token = t }
 pub record Lexes (bs : List ℕ) (ts : List Numbered) : Type 0 where
   pub are : tokens_at 1 bs ≡ record { placed = map on_first_line (spelled ts); broken_at = None }
 
+-- no text has no tokens
 pub lexes_nothing : Lexes [] []
 lexes_nothing = record { are = tokens_go_on 1 [] }
 

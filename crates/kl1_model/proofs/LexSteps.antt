@@ -18,7 +18,7 @@ word_case : (x : Bool) (b : ℕ) (bs : List ℕ) → length (behind_word bs) ≤
 word_case true b bs h = omega arith
 word_case false b bs h = omega arith
 
-pub behind_word_less : (bs : List ℕ) → length (behind_word bs) ≤ length bs
+behind_word_less : (bs : List ℕ) → length (behind_word bs) ≤ length bs
 behind_word_less [] = omega arith
 behind_word_less (b ∷ bs) = word_case (is_word_byte b) b bs (behind_word_less bs)
 
@@ -26,7 +26,7 @@ digits_case : (x : Bool) (b : ℕ) (bs : List ℕ) → length (behind_digits bs)
 digits_case true b bs h = omega arith
 digits_case false b bs h = omega arith
 
-pub behind_digits_less : (bs : List ℕ) → length (behind_digits bs) ≤ length bs
+behind_digits_less : (bs : List ℕ) → length (behind_digits bs) ≤ length bs
 behind_digits_less [] = omega arith
 behind_digits_less (b ∷ bs) = digits_case (is_digit b) b bs (behind_digits_less bs)
 

@@ -17,6 +17,7 @@ word_stops (w ∷ ws) rest all none =
     let both = and_parts (is_word_byte w) (list_all is_word_byte ws) all in
     rw (both.0, word_of) (ap (λ x. w ∷ x) (word_stops ws rest both.1 none))
 
+-- behind a word stands what is no part of it
 pub behind_word_is : (ws rest : List ℕ) → list_all is_word_byte ws ≡ true → first_is is_word_byte rest ≡ false → behind_word (ws ++ rest) ≡ rest
 behind_word_is [] [] all none = refl
 behind_word_is [] (b ∷ bs) all none = rw (none, behind_word)
@@ -32,6 +33,7 @@ digits_stop (d ∷ ds) rest all none =
     let both = and_parts (is_digit d) (list_all is_digit ds) all in
     rw (both.0, digits_of) (ap (λ x. d ∷ x) (digits_stop ds rest both.1 none))
 
+-- behind digits stands what is none
 pub behind_digits_is : (ds rest : List ℕ) → list_all is_digit ds ≡ true → first_is is_digit rest ≡ false → behind_digits (ds ++ rest) ≡ rest
 behind_digits_is [] [] all none = refl
 behind_digits_is [] (b ∷ bs) all none = rw (none, behind_digits)
@@ -43,6 +45,7 @@ behind_digits_is (d ∷ ds) rest all none =
 digit_is_word : (b : ℕ) → is_digit b ≡ true → is_word_byte b ≡ true
 digit_is_word b digit = or_left _ (b == 95) (or_right (is_small_letter b || nat_le 65 b && nat_le b 90) (is_digit b) digit)
 
+-- digits are bytes of a word
 pub digits_are_words : (ds : List ℕ) → list_all is_digit ds ≡ true → list_all is_word_byte ds ≡ true
 digits_are_words [] all = refl
 digits_are_words (d ∷ ds) all =
@@ -116,5 +119,6 @@ more_digits n ds large front =
       some = omega (arith, length-append ds (d ∷ []));
     }
 
+-- decimal digits write their number
 pub decimal_writes : (n : ℕ) → n < 2 ^ 64 → Writes n (decimal n)
 decimal_writes = decimal_by_steps Writes one_digit more_digits

@@ -37,6 +37,7 @@ pub record Agrees (t : Term) (p : Printed) (q : Planted) : Type 0 where
 closing : (bs : List ℕ) (ts : List Numbered) → Lexes bs ts → Lexes (93 ∷ bs) (sign_token CloseList ∷ ts)
 closing bs ts behind = lexes_token (sign_token CloseList) refl behind
 
+-- a term that is no list, with its text behind a bar
 pub plain_agrees : (t : Term) (text : List ℕ) (p : Part) → Bears t p → IsText text p → Agrees t (plain text) (planted_plain p)
 plain_agrees t text p h whole =
     record {
@@ -50,11 +51,13 @@ plain_agrees t text p h whole =
       calm = λ bs. record { no_word = refl; no_quote = refl; no_open = refl };
     }
 
+-- a variable
 pub variable_agrees : (v : ℕ) → v < 2 ^ 63 → Agrees (variable v) (plain (codes "_" ++ decimal v)) (planted_plain (single (numbered v)))
 variable_agrees v few =
     plain_agrees (variable v) (codes "_" ++ decimal v) (single (numbered v)) (record { means = refl; sound = refl })
     (λ bs ts calm behind. lexes_variable v bs ts few calm.no_word behind)
 
+-- an integer
 pub integer_agrees : (i : ℤ) → is_word i ≡ true → Agrees (integer i) (plain (signed_decimal i)) (planted_plain (single (planted_integer i)))
 integer_agrees (pos n) few =
     plain_agrees (integer (pos n)) (decimal n) (single (positive n)) (record { means = refl; sound = few })
@@ -78,10 +81,12 @@ constant_agrees a fine =
     plain_agrees (atom a) (name_text a) (single (constant a (not (is_bare a)))) (record { means = refl; sound = refl })
     (λ bs ts calm behind. lexes_name a bs ts fine calm behind)
 
+-- an atom, `[]` or another
 pub atom_agrees : (x : Bool) (a : List ℕ) → bytes_eq a (codes "[]") ≡ x → is_text a ≡ true → Agrees (atom a) (printed_atom a) (planted_atom a)
 atom_agrees true a is fine = subst (λ b. Agrees (atom b) (printed_atom b) (planted_atom b)) (sym ((bytes_eq-Decides a (codes "[]")).0 is)) nil_agrees
 atom_agrees false a is fine = rw (is, printed_atom, planted_atom, atom_text) (constant_agrees a fine)
 
+-- a list cell, from its element and what is behind it
 pub cell_agrees : (a b : Term) (pa pb : Printed) (qa qb : Planted) → Agrees a pa qa → Agrees b pb qb → Agrees (cell a b) (printed_cell pa pb) (planted_cell qa qb)
 cell_agrees a b pa pb qa qb h j =
     let s = series_of (alone qa.whole) qb.following in
@@ -131,6 +136,7 @@ each_text (more u us) t h hs bs ws calm behind =
     (h.whole (44 ∷ (text ++ bs)) (sign_token Comma ∷ series_tokens s ws) (record { no_word = refl; no_quote = refl; no_open = refl })
     (lexes_token (sign_token Comma) refl (each_text us u hs.0 hs.1 bs ws calm behind)))
 
+-- a name with its arguments
 pub arguments_agree : (f : List ℕ) (t : Term) (ts : Terms) → is_text f ≡ true → Agrees t (printed t) (planted t) → EachAgrees ts → Agrees (structure f (more t ts)) (plain (call_text f (printed t ∷ printed_each ts))) (planted_call f (planted t ∷ planted_each ts))
 arguments_agree f t ts fine h hs =
     call_agrees f (more t ts) (commas (printed t ∷ printed_each ts)) (planted_series (planted t) (planted_each ts)) fine (each_bears ts t h hs) (each_text ts t h hs)

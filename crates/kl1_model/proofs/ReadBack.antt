@@ -21,13 +21,13 @@ use Rattle.kl1_model.proofs.ReadTerms.{agrees}
 use Rattle.kl1_model.proofs.ReadNumbers.{are_few, numbered_again, few_variables}
 
 -- what is known of a printable term
-pub record Printable (t : Term) : Type 0 where
+record Printable (t : Term) : Type 0 where
   pub writable : is_writable t ≡ true
   pub narrow : is_narrow t ≡ true
   pub numbered : is_numbered t ≡ true
   pub few : highest t < 2 ^ 63
 
-pub printable : (t : Term) → is_printable t ≡ true → Printable t
+printable : (t : Term) → is_printable t ≡ true → Printable t
 printable t h =
     let front = and_parts (is_writable t && is_numbered t) (nat_lt (highest t) (2 ^ 63)) h in
     let both = and_parts (is_writable t) (is_numbered t) front.0 in
@@ -67,12 +67,15 @@ term_is t h =
     ∙ ap (option_map expression_term) (expression_trees_complete (alone (planted t).whole) a.bears.sound)
     ∙ ap Some a.bears.means
 
+-- the print of a printable term holds no byte that is no token
 pub prints_are_tokens : (t : Term) → is_printable t ≡ true → (tokens_of_text (print t)).broken_at ≡ None
 prints_are_tokens t h = ap (λ (ts : Tokens). ts.broken_at) (tokens_are t h)
 
+-- the tokens of a printable term's print are the term
 pub prints_are_terms : (t : Term) → is_printable t ≡ true → term_of_tokens (bare_tokens (tokens_of_text (print t)).placed) ≡ Some t
 prints_are_terms t h = ap (λ (ts : Tokens). term_of_tokens (bare_tokens ts.placed)) (tokens_are t h) ∙ term_is t h
 
+-- a printed goal reads back
 pub printed_goals_read_back : (t : Term) → is_printable t ≡ true → is_goal t ≡ true → read_goal (print t) ≡ good t
 printed_goals_read_back t h goal =
     let line = first_line (printed_tokens t) None in
@@ -80,6 +83,7 @@ printed_goals_read_back t h goal =
     ∙ ap (startable line) (term_is t h)
     ∙ ap (λ x. if◌then◌else◌ {A = Reading Term} x (good t) (bad line)) (and_from (is_writable t) (is_goal t) (printable t h).writable goal)
 
+-- two printable terms with one print are one term
 pub printing_is_one_to_one : (t u : Term) → is_printable t ≡ true → is_printable u ≡ true → print t ≡ print u → t ≡ u
 printing_is_one_to_one t u h j same =
     same_Some t u (sym (prints_are_terms t h) ∙ ap (λ bs. term_of_tokens (bare_tokens (tokens_of_text bs).placed)) same ∙ prints_are_terms u j)

@@ -77,6 +77,7 @@ then_read_is x a us go h = ap (λ y. then_read y go) h
 not_there : {B : Type 0} (x : Option (List Numbered)) (otherwise : Option B) (go : List Numbered → Option B) → x ≡ None → if_there x otherwise go ≡ otherwise
 not_there x otherwise go h = ap (λ y. if_there y otherwise go) h
 
+-- each expression takes a step
 pub some_steps : (e : Expression) → 1 ≤ steps_of e
 some_steps (alone p) = omega arith
 some_steps (related p r q) = omega arith
@@ -165,6 +166,7 @@ mutual
   rest_complete (tail e) n ts few sound =
       then_read_is _ e (sign_token CloseList ∷ ts) _ (expression_complete e n (sign_token CloseList ∷ ts) few sound (record { no_colon = refl; no_relation = refl }))
 
+-- the tokens of a tree are read as that tree
 pub expression_trees_complete : (e : Expression) → is_sound_expression e ≡ true → expression_tree (expression_tokens e []) ≡ Some e
 expression_trees_complete e sound = ap all_read (expression_complete e (suc (length (expression_tokens e []))) [] (omega (arith, steps_of_few e [])) sound (record { no_colon = refl; no_relation = refl }))
 
@@ -182,6 +184,7 @@ abbrev pub head_steps : Head → ℕ
 head_steps (bare_head p quotes) = 0
 head_steps (head_with p quotes s) = series_steps s
 
+-- no head takes more steps than it has tokens
 pub head_steps_few : (h : Head) (ts : List Numbered) → head_steps h + length ts ≤ length (head_tokens h ts)
 head_steps_few (bare_head p quotes) ts = omega arith
 head_steps_few (head_with p quotes s) ts = omega (arith, series_steps_few s (sign_token Close ∷ ts))
@@ -201,6 +204,7 @@ guarded_complete h tests body n few less least sound well right =
     ∙ then_read_is _ tests (sign_token Bar ∷ series_tokens body []) _ (whole_series tests n _ less well (record { no_colon = refl; no_relation = refl }) refl)
     ∙ then_read_is _ body [] _ (whole_series body n [] least right (record { no_colon = refl; no_relation = refl }) refl)
 
+-- the tokens of a clause's tree are read as that tree
 pub clause_trees_complete : (c : ClauseTree) → is_sound_clause c ≡ true → clause_tree (clause_tokens c) ≡ Some c
 clause_trees_complete (fact h) sound =
     ap all_read (then_read_is _ h [] _ (head_complete h (suc (length (head_tokens h []))) [] (omega (arith, head_steps_few h [])) sound))

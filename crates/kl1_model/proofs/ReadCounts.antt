@@ -85,6 +85,7 @@ numbered_upto (v ∷ vs) k most h within =
     let last = leb-true v (suc k) (and_parts (nat_le 1 v) (nat_le v (suc k)) here.0).1 in
     and_from (nat_le v most) (are_upto most vs) (le-leb v most (omega arith)) (numbered_upto vs (max k v) most here.1 (omega arith))
 
+-- where each variable has a number of at most so much, the greatest has
 mutual
   pub highest_upto : (t : Term) (most : ℕ) → are_upto most (variables_of t) ≡ true → highest t ≤ most
   highest_upto (variable n) most h = leb-true n most (and_parts (nat_le n most) true h).0

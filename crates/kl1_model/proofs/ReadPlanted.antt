@@ -24,16 +24,20 @@ abbrev pub series_of : Expression → Option Series → Series
 series_of e None = last e
 series_of e (Some s) = another e s
 
+-- a term that is no list
 abbrev pub planted_plain : Part → Planted
 planted_plain p = record { whole = p; following = None; ending = tail (alone p) }
 
+-- an atom: the empty list ends a list
 abbrev pub planted_atom : List ℕ → Planted
 planted_atom a = if bytes_eq a (codes "[]") then record { whole = single empty_list; following = None; ending = closed } else planted_plain (single (constant a (not (is_bare a))))
 
+-- an integer, with its digits behind `-` where it is negative
 abbrev pub planted_integer : ℤ → Primary
 planted_integer (pos n) = positive n
 planted_integer (negsuc n) = negative (suc n)
 
+-- a list cell, one list with the elements behind it
 abbrev pub planted_cell : Planted → Planted → Planted
 planted_cell h t = let s = series_of (alone h.whole) t.following in record { whole = single (list s t.ending); following = Some s; ending = t.ending }
 
@@ -42,14 +46,17 @@ abbrev pub primary_of : Part → Primary
 primary_of (single p) = p
 primary_of (qualified p q) = group (alone (qualified p q))
 
+-- arguments, of which there is one at least
 abbrev pub planted_series : Planted → List Planted → Series
 planted_series p [] = last (alone p.whole)
 planted_series p (q ∷ qs) = another (alone p.whole) (planted_series q qs)
 
+-- a name with arguments
 abbrev pub planted_call : List ℕ → List Planted → Planted
 planted_call f [] = planted_plain (single (constant f (not (is_bare f))))
 planted_call f (p ∷ ps) = planted_plain (single (call f (not (is_bare f)) (planted_series p ps)))
 
+-- a structure of two arguments in its form
 abbrev pub planted_pair : PairForm → List ℕ → Planted → Planted → Planted
 planted_pair Cell f p q = planted_cell p q
 planted_pair Qualified f p q = planted_plain (qualified (primary_of p.whole) (primary_of q.whole))
@@ -76,6 +83,7 @@ following_row (Some s) ts = sign_token Comma ∷ series_tokens s ts
 abbrev pub rest_row : Planted → List Numbered → List Numbered
 rest_row q ts = following_row q.following (rest_tokens q.ending (sign_token CloseList ∷ ts))
 
+-- the tokens of an element and those that follow
 pub series_row : (e : Expression) (following : Option Series) (ts : List Numbered) → series_tokens (series_of e following) ts ≡ expression_tokens e (following_row following ts)
 series_row e None ts = refl
 series_row e (Some s) ts = refl
@@ -85,6 +93,7 @@ abbrev pub is_sound_following : Option Series → Bool
 is_sound_following None = true
 is_sound_following (Some s) = is_sound_series s
 
+-- an element and those that follow are sound where they are
 pub series_of_sound : (e : Expression) (following : Option Series) (r : Rest) → is_sound_expression e ≡ true → (is_sound_following following && is_sound_rest r) ≡ true → (is_sound_series (series_of e following) && is_sound_rest r) ≡ true
 series_of_sound e None r first behind = and_from (is_sound_expression e) (is_sound_rest r) first behind
 series_of_sound e (Some s) r first behind =
@@ -106,6 +115,7 @@ pub record BearsEach (ts : Terms) (s : Series) : Type 0 where
   pub means : series_terms s ≡ ts
   pub sound : is_sound_series s ≡ true
 
+-- a term that is no list, behind an element
 pub plain_behind : (t : Term) (p : Part) → Bears t p → BearsBehind t (planted_plain p)
 plain_behind t p h =
     record {
@@ -113,6 +123,7 @@ plain_behind t p h =
       sound = h.sound;
     }
 
+-- one argument
 pub last_bears : (t : Term) (p : Part) → Bears t p → BearsEach (more t none) (last (alone p))
 last_bears t p h =
     record {
@@ -120,6 +131,7 @@ last_bears t p h =
       sound = h.sound;
     }
 
+-- one more argument
 pub another_bears : (t : Term) (p : Part) (ts : Terms) (s : Series) → Bears t p → BearsEach ts s → BearsEach (more t ts) (another (alone p) s)
 another_bears t p ts s h j =
     record {
@@ -127,9 +139,11 @@ another_bears t p ts s h j =
       sound = and_from (is_sound_part p) (is_sound_series s) h.sound j.sound;
     }
 
+-- a name with arguments
 pub call_bears : (f : List ℕ) (quotes : Bool) (ts : Terms) (s : Series) → BearsEach ts s → Bears (structure f ts) (single (call f quotes s))
 call_bears f quotes ts s h = record { means = ap (structure f) h.means; sound = h.sound }
 
+-- a name of a module
 pub qualified_bears : (a b : Term) (p q : Primary) → Bears a (single p) → Bears b (single q) → Bears (pair (codes ":") a b) (qualified p q)
 qualified_bears a b p q h j =
     record {
@@ -144,8 +158,10 @@ module _ (a b : Term) (p q : Planted) (h : Bears a p.whole) (j : BearsBehind b q
   cell_sound : (is_sound_series (series_of (alone p.whole) q.following) && is_sound_rest q.ending) ≡ true
   cell_sound = series_of_sound (alone p.whole) q.following q.ending h.sound j.sound
 
+  -- a list cell
   pub cell_bears : Bears (cell a b) (planted_cell p q).whole
   cell_bears = record { means = cell_means; sound = cell_sound }
 
+  -- a list cell behind an element
   pub cell_behind : BearsBehind (cell a b) (planted_cell p q)
   cell_behind = record { means = λ e. ap (cell (expression_term e)) cell_means; sound = cell_sound }

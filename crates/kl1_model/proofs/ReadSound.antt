@@ -26,6 +26,7 @@ if_there_some (Some us) otherwise go b h j k = k us refl h
 pub answered : {A : Type 0} (f : A → List Numbered → List Numbered) (a x : A) (us vs : List Numbered) → ◌≡◌ {A = Answer A} (Some (a, us)) (Some (x, vs)) → f x vs ≡ f a us
 answered f a x us vs e = let p = some_pair_parts a x us vs e in cc (p.0, p.1)
 
+-- what a sign in front is, with what is behind it
 pub comma_is : (ts us : List Numbered) → behind_comma ts ≡ Some us → sign_token Comma ∷ us ≡ ts
 comma_is (sign_token Comma ∷ ts) us h = cc
 comma_is _ us h = absurd (none-some us h)
@@ -63,6 +64,7 @@ abbrev pub IsSound : Inner → Type 0
 IsSound inner = (ts : List Numbered) (e : Expression) (us : List Numbered) → inner ts ≡ Some (e, us) → expression_tokens e us ≡ ts
 
 module _ (inner : Inner) (sound : IsSound inner) where
+  -- a series that is read from tokens has them
   pub series_sound : (m : ℕ) (ts : List Numbered) (s : Series) (us : List Numbered) → series_by inner m ts ≡ Some (s, us) → series_tokens s us ≡ ts
   unfolding series_by
   series_sound zero ts s us h = absurd (none-some (s, us) h)
@@ -180,6 +182,7 @@ all_read_some None a h = absurd (none-some a h)
 all_read_some (Some (b, [])) a h = cc
 all_read_some (Some (b, t ∷ ts)) a h = absurd (none-some a h)
 
+-- tokens that are read as an expression are those of its tree
 pub expression_trees_sound : (ts : List Numbered) (e : Expression) → expression_tree ts ≡ Some e → expression_tokens e [] ≡ ts
 expression_trees_sound ts e h = expressions_sound (suc (length ts)) ts e [] (all_read_some (inner_of ts ts) e h)
 
@@ -189,6 +192,7 @@ clause_row (fact h) ts = head_tokens h ts
 clause_row (rule h body) ts = head_tokens h (sign_token Neck ∷ series_tokens body ts)
 clause_row (guarded h tests body) ts = head_tokens h (sign_token Neck ∷ series_tokens tests (sign_token Bar ∷ series_tokens body ts))
 
+-- the tokens of a clause with none behind them
 pub clause_row_alone : (c : ClauseTree) → clause_row c [] ≡ clause_tokens c
 clause_row_alone (fact h) = refl
 clause_row_alone (rule h body) = refl
@@ -216,5 +220,6 @@ module _ (inner : Inner) (sound : IsSound inner) where
       (λ ws neck rest.
       behind_neck_sound h ws c us rest ∙ ap (head_tokens h) (neck_is vs ws neck) ∙ head_sound inner sound ts h vs read))
 
+-- tokens that are read as a clause are those of its tree
 pub clause_trees_sound : (ts : List Numbered) (c : ClauseTree) → clause_tree ts ≡ Some c → clause_tokens c ≡ ts
 clause_trees_sound ts c h = sym (clause_row_alone c) ∙ clause_sound (inner_of ts) (expressions_sound (suc (length ts))) ts c [] (all_read_some (clause_at (inner_of ts) ts) c h)

@@ -117,9 +117,11 @@ reader_steps_are_enough (suc m) zero ts h j = absurd (omega arith)
 reader_steps_are_enough (suc m) (suc n) ts h j =
     expression_same (expression_at m) (expression_at n) (expressions_sound m) (length ts) (λ us less. reader_steps_are_enough m n us (omega arith) (omega arith)) ts (omega arith)
 
+-- whole expressions are read from their tokens
 pub whole_sound : IsSound whole_expression
 whole_sound ts e us read = expressions_sound (suc (length ts)) ts e us read
 
+-- fewer tokens are behind an expression
 pub expressions_leave_less : (ts : List Numbered) (e : Expression) (us : List Numbered) → whole_expression ts ≡ Some (e, us) → length us < length ts
 expressions_leave_less ts e us read = behind_expression whole_expression whole_sound ts us e read
 

@@ -64,6 +64,7 @@ goal_read : (ts : List Placed) (broken_at : Option ℕ) (t : Term) → goal_of_t
 goal_read ts None t h = started (first_line ts None) (term_of_tokens (bare_tokens ts)) t h
 goal_read ts (Some line) t h = absurd (none-some t (started (first_line ts (Some line)) None t h).found)
 
+-- a goal that was read can be read from its print
 pub goals_read_are_printable : (bs : List ℕ) (t : Term) → length bs < 2 ^ 63 → read_goal bs ≡ good t → (is_printable t ≡ true) × (is_goal t ≡ true)
 goals_read_are_printable bs t short h =
     let ts = tokens_of_text bs in
@@ -82,6 +83,7 @@ strict_read : (x : Reading Term) (bs : List ℕ) (t : Term) → strict_by bs x �
 strict_read (good u) bs t h = strict_case (bytes_eq (print u) bs) bs u t refl h
 strict_read (bad line) bs t h = absurd (none-some t h)
 
+-- a text is of the strict form exactly where it is the print of such a goal
 pub strict_texts_are_prints : (bs : List ℕ) (t : Term) → length bs < 2 ^ 63 → ((strict_goal bs ≡ Some t) ↔ ((is_printable t ≡ true) × (is_goal t ≡ true) × (print t ≡ bs)))
 strict_texts_are_prints bs t short = (
   λ h.

@@ -80,6 +80,7 @@ structure_behind f (more a (more b none)) h =
     true≢false (sym there.0 ∙ not-true (bytes_eq f (codes ":")) h))
 structure_behind f (more a (more b (more c ts))) h = record { tight = call_tight f (printed_each (more a (more b (more c ts)))); one = refl }
 
+-- what may stand behind a colon does
 pub behind_colon : (t : Term) → is_behind_colon t ≡ true → StandsBehind (printed t) (planted t)
 behind_colon (atom a) h = atom_behind (bytes_eq a (codes "[]")) a refl
 behind_colon (structure f ts) h = structure_behind f ts h
