@@ -12,3 +12,4 @@ pub mod Goal
 pub mod Module
 pub mod ReadLaws
 pub mod ReadRows
+pub mod ReadFaults

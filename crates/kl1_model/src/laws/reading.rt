@@ -2,6 +2,7 @@
 
 ghost use Rattle.kl1_model.specs.ReadLaws.{ExpressionsAreSound, ExpressionsAreComplete, ExpressionsAreUnambiguous, ClausesAreSound, ClausesAreComplete, ClausesAreUnambiguous, FrontsLeaveLess, StepsAreEnough, TokensGoOn, ReaderStepsAreEnough, ExpressionsLeaveLess, ExpressionsGoOn, SeriesGoOn, ClausesGoOn, PrintsAreTokens, PrintsAreTerms, PrintedGoalsReadBack, PrintingIsOneToOne, GoalsReadArePrintable, StrictTextsArePrints, ClausesAreNumbered};
 ghost use Rattle.kl1_model.specs.ReadRows.{AppIsRead, TestIsBad, LongNameIsRead, LongerNameIsBad, DotInsideIsBad, CommentsAreBad, GoalIsRead, LeastIsRead, TooLargeIsBad, LooseMinusIsBad};
+ghost use Rattle.kl1_model.specs.ReadFaults.{FirstLineOfItem, EndIsMissing, ByteIsBroken, CommentIsBroken, QuoteIsOpen, HeadRepeats, HeadIsOperator, HeadIsTrue, ClausesStandApart, ModuleIsShoen, ModuleIsEmpty, GoalIsUnqualified, GoalIsQualified, UnderscoresDiffer, SpellingsAreOne, ArgumentsAreTooMany, DepthIsRead, DepthIsTooLarge, ClausesAreRead, ClausesAreTooMany};
 
 /// The reader reads what the grammar writes, and nothing else: the tokens that it reads as a tree are that tree's,
 /// and each tree is read from its tokens.
@@ -65,4 +66,28 @@ pub fn worked_texts()
     ensures least { LeastIsRead }
     ensures too_large { TooLargeIsBad }
     ensures loose_minus { LooseMinusIsBad }
+{}
+
+/// Some texts that are bad, and the good ones next to them, computed from the definitions.
+pub fn worked_faults()
+    ensures line { FirstLineOfItem }
+    ensures end { EndIsMissing }
+    ensures byte { ByteIsBroken }
+    ensures comment { CommentIsBroken }
+    ensures quote { QuoteIsOpen }
+    ensures repeats { HeadRepeats }
+    ensures operator { HeadIsOperator }
+    ensures head_true { HeadIsTrue }
+    ensures apart { ClausesStandApart }
+    ensures shoen { ModuleIsShoen }
+    ensures empty { ModuleIsEmpty }
+    ensures unqualified { GoalIsUnqualified }
+    ensures qualified { GoalIsQualified }
+    ensures underscores { UnderscoresDiffer }
+    ensures spellings { SpellingsAreOne }
+    ensures arguments { ArgumentsAreTooMany }
+    ensures deep { DepthIsRead }
+    ensures deeper { DepthIsTooLarge }
+    ensures clauses { ClausesAreRead }
+    ensures more_clauses { ClausesAreTooMany }
 {}
