@@ -1,5 +1,5 @@
 -- Worked texts, with what each of them is.
-use Rattle.std.specs.Prelude.{◌≡◌, ℕ, ◌++◌, List, [], ◌∷◌, pos, negsuc, codes, replicate}
+use Rattle.std.specs.Prelude.{◌≡◌, ℕ, ◌++◌, List, [], ◌∷◌, length, pos, negsuc, codes, replicate}
 use Rattle.kl1_model.specs.Term.{variable, integer, atom, structure, none, more}
 use Rattle.kl1_model.specs.Meaning.{pair, nil, cell}
 use Rattle.kl1_model.specs.Module.{Clause, good, bad, true_goal, read_module, read_goal}
@@ -7,6 +7,10 @@ use Rattle.kl1_model.specs.Module.{Clause, good, bad, true_goal, read_module, re
 -- the clauses that join two lists, with no last line feed
 abbrev pub app_text : List ℕ
 app_text = codes ":- module app.\napp([],Y,Z) :- true | Z = Y.\napp([A|X],Y,Z) :- true | Z = [A|W], app(X,Y,W)."
+
+-- its length
+abbrev pub AppHasBytes : Type 0
+AppHasBytes = length app_text ≡ 91
 
 -- the empty list in front
 abbrev pub app_of_none : Clause

@@ -1,7 +1,7 @@
 // What reading and printing keep.
 
 ghost use Rattle.kl1_model.specs.ReadLaws.{ExpressionsAreSound, ExpressionsAreComplete, ExpressionsAreUnambiguous, ClausesAreSound, ClausesAreComplete, ClausesAreUnambiguous, FrontsLeaveLess, StepsAreEnough, TokensGoOn, ReaderStepsAreEnough, ExpressionsLeaveLess, ExpressionsGoOn, SeriesGoOn, ClausesGoOn, PrintsAreTokens, PrintsAreTerms, PrintedGoalsReadBack, PrintingIsOneToOne, GoalsReadArePrintable, StrictTextsArePrints, ClausesAreNumbered};
-ghost use Rattle.kl1_model.specs.ReadRows.{AppIsRead, TestIsBad, LongNameIsRead, LongerNameIsBad, DotInsideIsBad, CommentsAreBad, GoalIsRead, LeastIsRead, TooLargeIsBad, LooseMinusIsBad};
+ghost use Rattle.kl1_model.specs.ReadRows.{AppHasBytes, AppIsRead, TestIsBad, LongNameIsRead, LongerNameIsBad, DotInsideIsBad, CommentsAreBad, GoalIsRead, LeastIsRead, TooLargeIsBad, LooseMinusIsBad};
 ghost use Rattle.kl1_model.specs.ReadFaults.{FirstLineOfItem, EndIsMissing, ByteIsBroken, CommentIsBroken, QuoteIsOpen, HeadRepeats, HeadIsOperator, HeadIsTrue, ClausesStandApart, ModuleIsShoen, ModuleIsEmpty, GoalIsUnqualified, GoalIsQualified, UnderscoresDiffer, SpellingsAreOne, ArgumentsAreTooMany, DepthIsRead, DepthIsTooLarge, ClausesAreRead, ClausesAreTooMany};
 
 /// The reader reads what the grammar writes, and nothing else: the tokens that it reads as a tree are that tree's,
@@ -56,6 +56,7 @@ pub fn clauses_are_numbered()
 
 /// Some texts with what they are, computed from the definitions.
 pub fn worked_texts()
+    ensures bytes { AppHasBytes }
     ensures app { AppIsRead }
     ensures test { TestIsBad }
     ensures long_name { LongNameIsRead }

@@ -4,6 +4,9 @@ use Rattle.kl1_model.specs.Token.{tokens_within}
 use Rattle.kl1_model.specs.Reader.{expression_at, series_by}
 use Rattle.kl1_model.proofs.laws.reading.worked_texts.Goals as goal
 
+pub returns-clause-bytes : goal.returns-clause-bytes
+returns-clause-bytes c = refl
+
 pub returns-clause-app : goal.returns-clause-app
 unfolding tokens_within expression_at series_by
 returns-clause-app c = refl
