@@ -13,3 +13,4 @@ pub mod ReadMeans
 pub mod ReadStrict
 pub mod ReadSteps
 pub mod ReadClauses
+pub mod ReadPlain

@@ -1,11 +1,12 @@
 -- The laws of reading: the reader is the grammar, a text has one row of tokens, and a printed goal reads back.
 use Rattle.std.specs.Prelude.{◌≡◌, ℕ, suc, ◌^◌, ◌<◌, ◌↔◌, nat_lt, ◌&&◌, Bool, true, IsTrue, if◌then◌else◌, List, [], ◌∷◌, ◌++◌, length, Option, Some, None, bytes_eq}
 use Rattle.std.specs.List.{list_all}
+use Rattle.kl1_model.specs.Text.{is_name_byte}
 use Rattle.kl1_model.specs.Term.{Term}
 use Rattle.kl1_model.specs.Token.{Front, finished, broken, line_end, blank, token, front_of, Tokens, tokens_by, tokens_within, tokens_of_text}
 use Rattle.kl1_model.specs.Grammar.{Numbered, Expression, alone, related, Part, single, qualified, Primary, numbered, positive, negative, constant, call, empty_list, list, group, Series, last, another, Rest, closed, tail, Head, bare_head, head_with, ClauseTree, fact, rule, guarded, expression_tokens, clause_tokens}
 use Rattle.kl1_model.specs.Reader.{Inner, then_read, if_there, behind_comma, relation_in_front, series_at, part_at, related_at, expression_at, all_read, expression_tree, clause_at, clause_tree}
-use Rattle.kl1_model.specs.Meaning.{is_writable, variables_of, variables_in, numbered_after, is_numbered, highest}
+use Rattle.kl1_model.specs.Meaning.{is_narrow, is_writable, variables_of, variables_in, numbered_after, is_numbered, highest}
 use Rattle.kl1_model.specs.Goal.{is_goal}
 use Rattle.kl1_model.specs.Print.{print}
 use Rattle.kl1_model.specs.Module.{Clause, Module, Reading, good, bad, bare_tokens, term_of_tokens, read_module, read_goal}
@@ -125,6 +126,10 @@ ClausesGoOn = (ts : List Numbered) → clause_tree ts ≡ all_read (clause_at wh
 -- and there are fewer than 2 ^ 63 of them
 abbrev pub is_printable : Term → Bool
 is_printable t = is_writable t && is_numbered t && nat_lt (highest t) (2 ^ 63)
+
+-- a printed term is printable ASCII, and so it stands on one line
+abbrev pub PrintsArePlain : Type 0
+PrintsArePlain = (t : Term) → IsTrue (is_narrow t) → highest t < 2 ^ 63 → IsTrue (list_all is_name_byte (print t))
 
 -- the print of a printable term holds no byte that is no token
 abbrev pub PrintsAreTokens : Type 0

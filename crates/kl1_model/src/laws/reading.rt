@@ -1,6 +1,6 @@
 // What reading and printing keep.
 
-ghost use Rattle.kl1_model.specs.ReadLaws.{ExpressionsAreSound, ExpressionsAreComplete, ExpressionsAreUnambiguous, ClausesAreSound, ClausesAreComplete, ClausesAreUnambiguous, FrontsLeaveLess, StepsAreEnough, TokensGoOn, ReaderStepsAreEnough, ExpressionsLeaveLess, ExpressionsGoOn, SeriesGoOn, ClausesGoOn, PrintsAreTokens, PrintsAreTerms, PrintedGoalsReadBack, PrintingIsOneToOne, GoalsReadArePrintable, StrictTextsArePrints, ClausesAreNumbered};
+ghost use Rattle.kl1_model.specs.ReadLaws.{ExpressionsAreSound, ExpressionsAreComplete, ExpressionsAreUnambiguous, ClausesAreSound, ClausesAreComplete, ClausesAreUnambiguous, FrontsLeaveLess, StepsAreEnough, TokensGoOn, ReaderStepsAreEnough, ExpressionsLeaveLess, ExpressionsGoOn, SeriesGoOn, ClausesGoOn, PrintsArePlain, PrintsAreTokens, PrintsAreTerms, PrintedGoalsReadBack, PrintingIsOneToOne, GoalsReadArePrintable, StrictTextsArePrints, ClausesAreNumbered};
 ghost use Rattle.kl1_model.specs.ReadRows.{AppHasBytes, AppIsRead, TestIsBad, LongNameIsRead, LongerNameIsBad, DotInsideIsBad, CommentsAreBad, GoalIsRead, LeastIsRead, TooLargeIsBad, LooseMinusIsBad};
 ghost use Rattle.kl1_model.specs.ReadFaults.{FirstLineOfItem, EndIsMissing, ByteIsBroken, CommentIsBroken, QuoteIsOpen, HeadRepeats, HeadIsOperator, HeadIsTrue, ClausesStandApart, ModuleIsShoen, ModuleIsEmpty, GoalIsUnqualified, GoalIsQualified, UnderscoresDiffer, SpellingsAreOne, ArgumentsAreTooMany, DepthIsRead, DepthIsTooLarge, ClausesAreRead, ClausesAreTooMany};
 
@@ -34,8 +34,9 @@ pub fn expressions_go_on()
 {}
 
 /// A printed goal reads back as the goal that was printed, with the same numbers of variables; the print of any printable
-/// term reads as that term, and so no two of them have one print.
+/// term stands on one line and reads as that term, and so no two of them have one print.
 pub fn printed_goal_reads_back()
+    ensures plain { PrintsArePlain }
     ensures tokens { PrintsAreTokens }
     ensures terms { PrintsAreTerms }
     ensures goals { PrintedGoalsReadBack }
