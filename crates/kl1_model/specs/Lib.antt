@@ -25,3 +25,6 @@ pub mod Script
 pub mod Examples
 pub mod UnifyLaws
 pub mod AccountRows
+pub mod ReadLaws
+pub mod ReadRows
+pub mod ReadFaults
