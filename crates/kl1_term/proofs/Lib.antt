@@ -1,0 +1,4 @@
+pub mod Frames
+pub mod Openings
+pub mod Pages
+pub mod Texts
