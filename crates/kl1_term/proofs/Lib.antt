@@ -1,3 +1,4 @@
+pub mod Balance
 pub mod Frames
 pub mod Openings
 pub mod Pages

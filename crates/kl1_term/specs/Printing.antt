@@ -1,5 +1,5 @@
 -- What a printer has still to print.
-use Rattle.std.specs.Prelude.{ℕ, zero, suc, ◌+◌, List, [], ◌∷◌, ◌++◌, codes, reverse}
+use Rattle.std.specs.Prelude.{◌≡◌, ℕ, zero, suc, ◌+◌, List, [], ◌∷◌, ◌++◌, codes, reverse}
 use Rattle.kl1_model.specs.Term.{Term, atom}
 use Rattle.kl1_model.specs.TermCode.{first_term, behind_first, behind}
 use Rattle.kl1_model.specs.Print.{printed, printed_pair, form_of}
@@ -55,3 +55,11 @@ waits_in Done fs = 0
 
 abbrev pub waits_of : Printer → ℕ
 waits_of p = waits_in p.mode (reverse p.frames.items)
+
+-- the text that a printer has made, where nothing more comes
+abbrev pub written : Printer → List ℕ
+written p = page_text p.page []
+
+-- whether what a printer has made is all, whatever comes
+abbrev pub IsSettled : Printer → Type 0
+IsSettled p = (ts : List Term) → text_of p ts ≡ written p

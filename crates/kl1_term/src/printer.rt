@@ -1,13 +1,13 @@
 // Printing a term node by node.
 
-ghost use Rattle.std.specs.Prelude.{◌≡◌, ℕ, ◌+◌, ◌<◌, List, [], ◌∷◌, ◌++◌, reverse, OnOk, codes};
+ghost use Rattle.std.specs.Prelude.{◌≡◌, ℕ, ◌+◌, ◌<◌, List, [], ◌∷◌, ◌++◌, map, reverse, OnOk, IfOk, IsTrue, codes};
 ghost use Rattle.kl1_model.specs.Name.{atom_text};
 ghost use Rattle.kl1_model.specs.Term.{Term as TermSpec};
 ghost use Rattle.kl1_model.specs.Print.{print, printed_atom};
-ghost use Rattle.kl1_term.specs.Nodes.{with_node, count_in};
+ghost use Rattle.kl1_term.specs.Nodes.{code_of, with_node, with_nodes, count_in, left_after};
 ghost use Rattle.kl1_term.specs.Page.{page_text, limited};
 ghost use Rattle.kl1_term.specs.Openings.{opening_of};
-ghost use Rattle.kl1_term.specs.Printing.{text_of, text_in, behind_text, waits_of, waits_in, waits_behind};
+ghost use Rattle.kl1_term.specs.Printing.{text_of, text_in, behind_text, waits_of, waits_in, waits_behind, written, IsSettled};
 ghost use Rattle.kl1_term.specs.declared.frame.Frame.TheVariants.{Arguments, Tail, Bracket};
 ghost use Rattle.kl1_term.specs.declared.mode.Mode.TheVariants.{Whole, Rest, Colon, Behind};
 ghost use Rattle.kl1_term.specs.declared.node.Node.TheVariants.{Structure};
@@ -41,6 +41,44 @@ impl Printer {
             mode: Mode::Whole,
             frames: Vec::new(alloc),
         }
+    }
+
+    /// Whether what is printed is all, whatever comes.
+    pub fn is_done(&self) -> bool
+        ensures { IsTrue result → IsSettled self.now }
+    {
+        if self.page.is_full() {
+            return true;
+        }
+        match self.mode {
+            Mode::Done => true,
+            _ => false,
+        }
+    }
+
+    /// Prints nodes, up to where the text is whole or too long.
+    #[tactic(auto, using(crate::proofs::Balance::left_step, crate::proofs::Balance::nothing_left))]
+    pub fn put_all(&mut self, nodes: &[Node]) -> Result<(), AllocError>
+        ensures text { OnOk result ((ts : List TermSpec) → text_of self.new ts ≡ text_of self.old (with_nodes nodes.now ts)) }
+        ensures settled { OnOk result (left_after (map code_of nodes.now) (waits_of self.old) ≡ 0 → IsSettled self.new) }
+    {
+        let mut nodes = nodes;
+        while let [first, rest @ ..] = nodes {
+            if self.is_done() {
+                return Ok(());
+            }
+            self.put(*first)?;
+            nodes = rest;
+        }
+        Ok(())
+    }
+
+    /// The text.
+    pub fn into_text(self) -> Result<Vec<u8>, AllocError>
+        ensures { IfOk result (λ text. text.items ≡ written self) }
+    {
+        let Printer { page, .. } = self;
+        page.into_text()
     }
 
     /// Prints the next node.
