@@ -1,7 +1,7 @@
 -- The nodes of terms as the code has them.
-use Rattle.std.specs.Prelude.{◌≡◌, ℕ, zero, suc, ◌+◌, List, [], ◌∷◌, map}
+use Rattle.std.specs.Prelude.{◌≡◌, ℕ, zero, suc, ◌+◌, List, [], ◌∷◌, ◌++◌, map, codes}
 use Rattle.std.proofs.Common.{inl, inr}
-use Rattle.kl1_model.specs.Term.{Term}
+use Rattle.kl1_model.specs.Term.{Term, Terms, none, more}
 use Rattle.kl1_model.specs.TermCode.{NodeCode, read_node, read_nodes, nodes_of, term_from}
 use Rattle.kl1_term.specs.declared.node.Node.{Node}
 use Rattle.kl1_term.specs.declared.node.Node.TheVariants.{Variable, Integer, Atom, Structure}
@@ -47,3 +47,8 @@ term_in nodes = term_from (map code_of nodes)
 -- whether nodes are those of a term
 abbrev pub IsTerm : List Node → Type 0
 IsTerm nodes = map code_of nodes ≡ nodes_of (term_in nodes)
+
+-- for each term the node of a list cell, and the nodes of the term
+abbrev pub cell_nodes : Terms → List NodeCode
+cell_nodes none = []
+cell_nodes (more t ts) = inr (inr (codes ".", 2)) ∷ (nodes_of t ++ cell_nodes ts)

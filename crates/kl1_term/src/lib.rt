@@ -6,7 +6,11 @@ mod mode;
 mod node;
 mod opening;
 mod page;
+mod print;
 mod printer;
+mod term;
 
 pub use node::Node;
+pub use print::{print_cut, print_whole, put_cut, put_whole};
 pub use printer::Printer;
+pub use term::Term;
