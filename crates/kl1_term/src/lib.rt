@@ -9,6 +9,8 @@ mod page;
 mod print;
 mod printer;
 mod term;
+#[cfg(test)]
+mod tests;
 
 pub use node::Node;
 pub use print::{print_cut, print_whole, put_cut, put_whole};
