@@ -4,9 +4,12 @@ ghost use Rattle.std.specs.Prelude.{◌≡◌, ℕ, ◌≤◌, List, ◌++◌, l
 ghost use Rattle.kl1_model.specs.Term.{Term as TermSpec, variable, integer, atom, structure, terms_of};
 ghost use Rattle.kl1_model.specs.TermCode.{nodes_of, nodes_of_all};
 ghost use Rattle.kl1_model.specs.Meaning.{cells};
+ghost use Rattle.kl1_term.specs.Views.{term_by};
 ghost use Rattle.kl1_term.specs.Nodes.{code_of, term_in, IsTerm, cell_nodes};
 
 use crate::node::Node;
+use crate::part::{part_of, view_of, Part};
+use crate::view::View;
 use kl1_text::AtomText;
 use std::alloc::{AllocError, Global};
 use std::marker::Model;
@@ -67,13 +70,27 @@ impl Term {
         &self.nodes
     }
 
-    /// The same term once more.
-    pub fn clone_in(&self, alloc: Global) -> Result<Self, AllocError>
-        ensures { IfOk result (λ t. t ≡ self.now) }
+    /// What the term is.
+    pub fn view(&self) -> View<'_>
+        ensures { term_by result ≡ self.now }
     {
-        Ok(Term {
-            nodes: Vec::from_slice(alloc, &self.nodes)?,
-        })
+        view_of(&self.nodes)
+    }
+
+    /// The term, lent as a part of itself.
+    pub fn as_part(&self) -> Part<'_>
+        ensures { result ≡ self.now }
+    {
+        part_of(&self.nodes)
+    }
+
+    /// A term like a part of another.
+    #[tactic(auto, using(crate::proofs::Rows::is_term))]
+    pub fn of_part(alloc: Global, part: &Part<'_>) -> Result<Self, AllocError>
+        ensures { IfOk result (λ t. t ≡ part.now) }
+    {
+        let nodes = Vec::from_slice(alloc, part.nodes())?;
+        Ok(term_of(nodes))
     }
 
     /// The structure of a name and arguments.
@@ -98,6 +115,16 @@ impl Term {
         put_cells(&mut nodes, elements)?;
         nodes.extend_from_slice(tail.nodes())?;
         Ok(term_of(nodes))
+    }
+}
+
+impl Clone for Term {
+    ghost is_clone = { λ t u. u ≡ t };
+
+    fn clone(&self) -> Result<Self, AllocError> {
+        Ok(Term {
+            nodes: Vec::from_slice(*self.nodes.allocator(), &self.nodes)?,
+        })
     }
 }
 
