@@ -10,6 +10,7 @@ mod part;
 mod parts;
 mod print;
 mod printer;
+mod sameness;
 mod term;
 #[cfg(test)]
 mod tests;
