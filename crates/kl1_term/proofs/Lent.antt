@@ -1,14 +1,14 @@
 -- Terms within rows of nodes.
-use Rattle.std.proofs.Common.{◌≡◌, ℕ, suc, zero, ◌+◌, ◌-◌, ◌<◌, List, [], ◌∷◌, ◌++◌, map, length, take, drop, append_assoc, append-nil, refl, ap, sym, ◌∙◌, arith, inl, inr, length-append}
+use Rattle.std.proofs.Common.{◌≡◌, ℕ, suc, zero, ◌+◌, ◌-◌, ◌<◌, List, [], ◌∷◌, ◌++◌, map, length, take, drop, append_assoc, append-nil, refl, ap, sym, ◌∙◌, arith, length-append}
 use Rattle.std.proofs.lemmas.List.{take-map, drop-map, length-map}
 use Rattle.std.proofs.Math.Seq.{take-append_seam, drop-append_seam}
 use Rattle.kl1_model.specs.Term.{Term, variable, integer, atom, structure, Terms, none, more, count_of, terms_of, list_of}
-use Rattle.kl1_model.specs.TermCode.{NodeCode, nodes_of, nodes_of_all, read_nodes, read_node, term_from, front_of, all-read-back, reads-back, first_term}
-use Rattle.kl1_term.specs.Nodes.{code_of, count_in, count_of_code, term_in, terms_in, IsTerm, IsRow, end_in}
+use Rattle.kl1_model.specs.TermCode.{NodeCode, nodes_of, nodes_of_all, read_nodes, front_of, all-read-back}
+use Rattle.kl1_term.specs.Nodes.{code_of, count_in, term_in, terms_in, IsTerm, IsRow, end_in}
 use Rattle.kl1_term.proofs.Balance.{count_is}
 use Rattle.kl1_term.proofs.Rows.{term_is, is_term}
 use Rattle.kl1_term.specs.declared.node.Node.{Node}
-use Rattle.kl1_term.specs.declared.node.Node.TheVariants.{Variable, Integer, Atom, Structure}
+use Rattle.kl1_term.specs.declared.node.Node.TheVariants.{Structure}
 
 -- terms as arguments and back
 pub terms_of-list_of : (ts : Terms) → terms_of (list_of ts) ≡ ts
@@ -71,9 +71,10 @@ end_step node cs (suc w) later some is = ap (λ (m : ℕ). suc (end_in cs m)) (o
 pub split_at : (nodes : List Node) (end : ℕ) (t : Term) (ts : Terms) → map code_of nodes ≡ nodes_of_all (more t ts) → end ≡ end_in (map code_of nodes) 1 → (map code_of (take end nodes) ≡ nodes_of t) × (map code_of (drop end nodes) ≡ nodes_of_all ts)
 split_at nodes end t ts e is =
     let ends : end_in (nodes_of_all (more t ts)) 1 ≡ length (nodes_of t) = end_one t (nodes_of_all ts) 0 ∙ omega (arith, end_zero (nodes_of_all ts)) in
-    let length_is : end ≡ length (nodes_of t) = is ∙ (ap (λ (x : List NodeCode). end_in x 1) e ∙ ends) in
-    (sym (take-map code_of end nodes) ∙ (rw (e, length_is) (take-append_seam (nodes_of t) (nodes_of_all ts))),
-    sym (drop-map code_of end nodes) ∙ (rw (e, length_is) (drop-append_seam (nodes_of t) (nodes_of_all ts))))
+    let length_is : end ≡ length (nodes_of t) = is ∙ (ap (λ (x : List NodeCode). end_in x 1) e ∙ ends) in (
+      sym (take-map code_of end nodes) ∙ (rw (e, length_is) (take-append_seam (nodes_of t) (nodes_of_all ts))),
+      sym (drop-map code_of end nodes) ∙ (rw (e, length_is) (drop-append_seam (nodes_of t) (nodes_of_all ts))),
+    )
 
 -- a row of terms, cut behind the first
 pub record IsCut (nodes : List Node) (end : ℕ) : Type 0 where
@@ -88,7 +89,7 @@ cut_by nodes end (t ∷ ts) same e some is =
     record {
       first = is_term (take end nodes) t parts.0;
       others = is_row (map code_of (drop end nodes)) (terms_of ts) parts.1;
-      all = same ∙ (ap (λ (x : Term). x ∷ ts) (sym (term_is (take end nodes) t parts.0)) ∙ ap (λ (x : List Term). term_in (take end nodes) ∷ x) (sym (row_is (map code_of (drop end nodes)) (terms_of ts) parts.1 ∙ list_of-terms_of ts)))
+      all = same ∙ (ap (λ (x : Term). x ∷ ts) (sym (term_is (take end nodes) t parts.0)) ∙ ap (λ (x : List Term). term_in (take end nodes) ∷ x) (sym (row_is (map code_of (drop end nodes)) (terms_of ts) parts.1 ∙ list_of-terms_of ts)));
     }
 
 pub is_cut : (nodes : List Node) (end : ℕ) → IsRow nodes → 0 < length nodes → end ≡ end_in (map code_of nodes) 1 → IsCut nodes end

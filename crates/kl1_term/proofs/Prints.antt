@@ -1,5 +1,5 @@
 -- A printer that got the nodes of a term has made its text.
-use Rattle.std.proofs.Common.{◌≡◌, ℕ, List, [], ◌∷◌, ◌++◌, map, append-nil, refl, ap, sym, ◌∙◌, Option}
+use Rattle.std.proofs.Common.{◌≡◌, ℕ, List, [], map, append-nil, ap, ◌∙◌, Option}
 use Rattle.kl1_model.specs.Term.{Term}
 use Rattle.kl1_model.specs.TermCode.{NodeCode, read_nodes, nodes_of, reads-back}
 use Rattle.kl1_model.specs.Print.{print}

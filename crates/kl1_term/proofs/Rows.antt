@@ -1,9 +1,9 @@
 -- Rows of nodes and the terms that they make.
-use Rattle.std.proofs.Common.{Bool, Decides, ◌≡◌, ℕ, suc, zero, List, [], ◌∷◌, ◌++◌, map, length, codes, append_assoc, append-nil, refl, ap, sym, ◌∙◌, inl, inr}
+use Rattle.std.proofs.Common.{Bool, Decides, ◌≡◌, ℕ, suc, List, [], ◌∷◌, ◌++◌, map, length, codes, append_assoc, append-nil, refl, ap, sym, ◌∙◌, inr}
 use Rattle.std.proofs.lemmas.List.{map-append}
 use Rattle.kl1_model.specs.Term.{Term, structure, Terms, none, more, count_of, terms_of}
 use Rattle.kl1_model.specs.TermCode.{NodeCode, nodes_of, nodes_of_all, term_from, term_from-nodes_of}
-use Rattle.kl1_model.specs.Meaning.{cell, cells}
+use Rattle.kl1_model.specs.Meaning.{cells}
 use Rattle.kl1_term.specs.Nodes.{code_of, term_in, IsTerm, cell_nodes}
 use Rattle.kl1_term.specs.declared.node.Node.{Node}
 use Rattle.kl1_term.specs.declared.node.Node.TheVariants.{Variable, Integer, Atom, Structure}
@@ -69,6 +69,7 @@ codes_once (m ∷ ms) (n ∷ ns) h =
 
 -- terms are the same where their nodes are
 pub same_terms : (ms ns : List Node) (t u : Term) (r : Bool) → map code_of ms ≡ nodes_of t → map code_of ns ≡ nodes_of u → Decides r (ms ≡ ns) → Decides r (t ≡ u)
-same_terms ms ns t u r e i d =
-    (λ yes. sym (term_is ms t e) ∙ (ap term_in (d.0 yes) ∙ term_is ns u i),
-    λ same. d.1 (codes_once ms ns (e ∙ (ap nodes_of same ∙ sym i))))
+same_terms ms ns t u r e i d = (
+  λ yes. sym (term_is ms t e) ∙ (ap term_in (d.0 yes) ∙ term_is ns u i),
+  λ same. d.1 (codes_once ms ns (e ∙ (ap nodes_of same ∙ sym i))),
+)

@@ -1,11 +1,9 @@
 -- The variables of a term are those of its nodes.
-use Rattle.std.proofs.Common.{◌≡◌, ℕ, max, List, [], ◌∷◌, ◌++◌, map, append_assoc, append-nil, refl, ap, sym, ◌∙◌, arith, inl, inr}
+use Rattle.std.proofs.Common.{◌≡◌, ℕ, max, List, [], ◌++◌, append_assoc, append-nil, refl, ap, sym, ◌∙◌, arith}
 use Rattle.kl1_model.specs.Term.{Term, variable, integer, atom, structure, Terms, none, more}
 use Rattle.kl1_model.specs.TermCode.{NodeCode, nodes_of, nodes_of_all}
 use Rattle.kl1_model.specs.Meaning.{highest, highest_in as highest_of_all, variables_of, variables_in as variables_of_all, numbered_after, is_numbered}
-use Rattle.kl1_term.specs.Nodes.{code_of}
 use Rattle.kl1_term.specs.Variables.{highest_in, variables_in}
-use Rattle.kl1_term.specs.declared.node.Node.{Node}
 
 mutual
   pub variables_one : (t : Term) (cs : List NodeCode) → variables_in (nodes_of t ++ cs) ≡ variables_of t ++ variables_in cs

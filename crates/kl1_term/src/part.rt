@@ -8,7 +8,7 @@ ghost use Rattle.kl1_term.specs.Nodes.{code_of, term_in, IsTerm};
 ghost use Rattle.kl1_term.specs.Views.{term_by};
 
 use crate::node::Node;
-use crate::parts::{parts_of, Parts};
+use crate::parts::{Parts, parts_of};
 use crate::view::View;
 use kl1_text::AtomText;
 use std::marker::Model;
@@ -70,7 +70,10 @@ pub fn view_of<'a>(nodes: &'a [Node]) -> View<'a>
             Node::Variable(number) => View::Variable(*number),
             Node::Integer(number) => View::Integer(*number),
             Node::Atom(name) => View::Atom(*name),
-            Node::Structure(name, count) => View::Structure(*name, arguments_in(*name, *count, rest)),
+            Node::Structure(name, count) => View::Structure(
+                *name,
+                arguments_in(*name, *count, rest),
+            ),
         },
     }
 }

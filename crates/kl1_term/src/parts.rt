@@ -5,7 +5,7 @@ ghost use Rattle.kl1_model.specs.TermCode.{nodes_of_all};
 ghost use Rattle.kl1_term.specs.Nodes.{code_of, count_in, term_in, terms_in, IsTerm, IsRow, end_in};
 
 use crate::node::Node;
-use crate::part::{part_of, Part};
+use crate::part::{Part, part_of};
 use std::marker::Model;
 
 /// Terms lent from within a term, as the arguments of a structure are.

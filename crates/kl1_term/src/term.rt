@@ -8,7 +8,7 @@ ghost use Rattle.kl1_term.specs.Views.{term_by};
 ghost use Rattle.kl1_term.specs.Nodes.{code_of, term_in, IsTerm, cell_nodes};
 
 use crate::node::Node;
-use crate::part::{part_of, view_of, Part};
+use crate::part::{Part, part_of, view_of};
 use crate::view::View;
 use kl1_text::AtomText;
 use std::alloc::{AllocError, Global};

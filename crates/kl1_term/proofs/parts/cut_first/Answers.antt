@@ -1,5 +1,4 @@
-use Rattle.std.proofs.Common.{◌≡◌}
-use Rattle.kl1_term.proofs.Lent.{IsCut, is_cut}
+use Rattle.kl1_term.proofs.Lent.{is_cut}
 use Rattle.kl1_term.proofs.parts.cut_first.Goals as goal
 
 pub returns-clause-others : goal.returns-clause-others
