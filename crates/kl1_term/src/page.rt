@@ -1,7 +1,7 @@
 // A text that is cut where it grows too long.
 
 ghost use Rattle.std.specs.Prelude.{◌≡◌, ℕ, List, [], ◌++◌, OnOk, IfOk, IsTrue};
-ghost use Rattle.kl1_term.specs.Page.{page_text, limited};
+ghost use Rattle.kl1_term.specs.Page.{page_text, limited, is_over};
 
 use std::alloc::{AllocError, Global};
 
@@ -26,7 +26,8 @@ impl Page {
     /// Whether the text is too long already, so that what follows doesn't matter.
     #[tactic(auto, using(crate::proofs::Pages::full_anyway))]
     pub fn is_full(&self) -> bool
-        ensures { IsTrue result → (rest more : List ℕ) → page_text self.now rest ≡ page_text self.now more }
+        ensures settled { IsTrue result → (rest more : List ℕ) → page_text self.now rest ≡ page_text self.now more }
+        ensures full { IsTrue (is_over self.now) → IsTrue result }
     {
         match self.most {
             None => false,

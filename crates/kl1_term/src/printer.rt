@@ -5,7 +5,7 @@ ghost use Rattle.kl1_model.specs.Name.{atom_text};
 ghost use Rattle.kl1_model.specs.Term.{Term as TermSpec};
 ghost use Rattle.kl1_model.specs.Print.{print, printed_atom};
 ghost use Rattle.kl1_term.specs.Nodes.{code_of, with_node, with_nodes, count_in, left_after};
-ghost use Rattle.kl1_term.specs.Page.{page_text, limited};
+ghost use Rattle.kl1_term.specs.Page.{page_text, limited, is_over};
 ghost use Rattle.kl1_term.specs.Openings.{opening_of};
 ghost use Rattle.kl1_term.specs.Printing.{text_of, text_in, behind_text, waits_of, waits_in, waits_behind, written, IsSettled};
 ghost use Rattle.kl1_term.specs.declared.frame.Frame.TheVariants.{Arguments, Tail, Bracket};
@@ -45,7 +45,9 @@ impl Printer {
 
     /// Whether what is printed is all, whatever comes.
     pub fn is_done(&self) -> bool
-        ensures { IsTrue result → IsSettled self.now }
+        ensures settled { IsTrue result → IsSettled self.now }
+        ensures whole { waits_of self.now ≡ 0 → IsTrue result }
+        ensures cut { IsTrue (is_over self.now.page) → IsTrue result }
     {
         if self.page.is_full() {
             return true;

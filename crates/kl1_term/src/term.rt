@@ -70,6 +70,15 @@ impl Term {
         &self.nodes
     }
 
+    /// The term of nodes in the order of reading.
+    #[tactic(auto, using(crate::proofs::Rows::term_is, crate::proofs::Rows::one_term))]
+    pub fn of_nodes(nodes: Vec<Node>) -> Self
+        requires { (t : TermSpec) × (map code_of nodes.items ≡ nodes_of t) }
+        ensures { (t : TermSpec) → map code_of nodes.items ≡ nodes_of t → result ≡ t }
+    {
+        Term { nodes }
+    }
+
     /// What the term is.
     pub fn view(&self) -> View<'_>
         ensures { term_by result ≡ self.now }
@@ -85,16 +94,14 @@ impl Term {
     }
 
     /// A term like a part of another.
-    #[tactic(auto, using(crate::proofs::Rows::is_term))]
     pub fn of_part(alloc: Global, part: &Part<'_>) -> Result<Self, AllocError>
         ensures { IfOk result (λ t. t ≡ part.now) }
     {
         let nodes = Vec::from_slice(alloc, part.nodes())?;
-        Ok(term_of(nodes))
+        Ok(Term::of_nodes(nodes))
     }
 
     /// The structure of a name and arguments.
-    #[tactic(auto, using(crate::proofs::Rows::structure_nodes, crate::proofs::Rows::is_term))]
     pub fn structure(alloc: Global, name: AtomText, arguments: &[Term]) -> Result<Self, AllocError>
         requires few { 1 ≤ length arguments.now }
         requires many { length arguments.now ≤ 8 }
@@ -103,18 +110,17 @@ impl Term {
         let mut nodes = Vec::new(alloc);
         nodes.push(Node::Structure(name, arguments.len()))?;
         put_each(&mut nodes, arguments)?;
-        Ok(term_of(nodes))
+        Ok(Term::of_nodes(nodes))
     }
 
     /// The list of elements with a tail behind them.
-    #[tactic(auto, using(crate::proofs::Rows::list_nodes, crate::proofs::Rows::is_term))]
     pub fn list(alloc: Global, elements: &[Term], tail: &Term) -> Result<Self, AllocError>
         ensures { IfOk result (λ t. t ≡ cells (terms_of elements.now) tail.now) }
     {
         let mut nodes = Vec::new(alloc);
         put_cells(&mut nodes, elements)?;
         nodes.extend_from_slice(tail.nodes())?;
-        Ok(term_of(nodes))
+        Ok(Term::of_nodes(nodes))
     }
 }
 
@@ -126,15 +132,6 @@ impl Clone for Term {
             nodes: Vec::from_slice(*self.nodes.allocator(), &self.nodes)?,
         })
     }
-}
-
-/// The term of nodes.
-#[tactic(auto, using(crate::proofs::Rows::term_is))]
-pub(crate) fn term_of(nodes: Vec<Node>) -> Term
-    requires { IsTerm nodes.items }
-    ensures { (t : TermSpec) → map code_of nodes.items ≡ nodes_of t → result ≡ t }
-{
-    Term { nodes }
 }
 
 /// Puts the nodes of each term behind the others.
