@@ -35,11 +35,6 @@ count_is (Integer i) = refl
 count_is (Atom a) = refl
 count_is (Structure f n) = refl
 
--- a node comes only where a term is to come
-pub some_waits : (node : Node) (cs : List NodeCode) (w : ℕ) → left_after (code_of node ∷ cs) w ≡ 0 → 0 < w
-some_waits node cs zero h = cc
-some_waits node cs (suc w) h = omega arith
-
 -- a node takes one of the terms to come, and its arguments are to come
 pub left_step : (node : Node) (cs : List NodeCode) (w later : ℕ) → left_after (code_of node ∷ cs) w ≡ 0 → (0 < w → later + 1 ≡ count_in node + w) → left_after cs later ≡ 0
 left_step node cs zero later h step = cc
