@@ -1,0 +1,6 @@
+pub mod Replacing
+pub mod Meanings
+pub mod Growing
+pub mod Terms
+pub mod Laid
+pub mod Lists

@@ -1,0 +1,4 @@
+pub mod Held
+pub mod Meaning
+pub mod Sound
+pub mod Inside

@@ -1,0 +1,14 @@
+//! Terms as cells that share parts, variables bound once: unification, passive equality, and taking back.
+#![tactic(auto)]
+
+mod binding;
+mod cell;
+mod cells;
+mod head;
+mod mark;
+mod node;
+
+pub use cell::Cell;
+pub use cells::Cells;
+pub use head::Head;
+pub use mark::Mark;
