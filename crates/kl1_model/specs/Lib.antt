@@ -1,3 +1,5 @@
 pub mod Text
 pub mod Term
+pub mod TermCode
 pub mod Unify
+pub mod UnifyLaws

@@ -2,5 +2,6 @@
 #![tactic(auto)]
 
 mod built_in;
+pub mod laws;
 
 pub use built_in::BuiltIn;

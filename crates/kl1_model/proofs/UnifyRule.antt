@@ -1,0 +1,213 @@
+-- The rule of unification without fuel.
+use Rattle.std.proofs.Common.{◌≡◌, ℕ, zero, suc, ◌+◌, ◌<◌, ◌≤◌, ◌||◌, Bool, true, false, List, [], ◌∷◌, Option, option_map, refl, sym, ◌∙◌, ap, arith, eq-eqb, le_refl, le_trans, lt_of_lt_of_le, ⊎_elim}
+use Rattle.std.proofs.lemmas.Bool.{or_parts, or_from, or_left, or_right, cases_eq, cases_lt}
+use Rattle.kl1_model.specs.Term.{Term, variable, structure, Terms, more, sizes, occurs, Replacement}
+use Rattle.kl1_model.specs.Unify.{Equation, argument_equations, front, replace_in_all, after, equations_size, walk, solve_within, solve}
+use Rattle.kl1_model.specs.UnifyLaws.{NumberedTo, AllNumberedTo, FrontNumberedTo, FrontDecides, FrontKeepsNumbers, AnyBoundServes, NothingIsSolved}
+use Rattle.kl1_model.proofs.UnifyFront.{front_cases}
+use Rattle.kl1_model.proofs.Occurrences.{equate, numbered-replace_in_all, numbered-arguments, Absent, absent-replace_in_all, absent-replaced, absent-arguments}
+
+-- ---- how many variables occur
+
+-- whether a variable occurs in some equation
+abbrev pub occurs_among : List Equation → ℕ → Bool
+occurs_among [] v = false
+occurs_among (e ∷ es) v = (occurs v e.left || occurs v e.right) || occurs_among es v
+
+absent_from_test : (v : ℕ) (es : List Equation) → occurs_among es v ≡ false → Absent v es
+absent_from_test v [] h = tt
+absent_from_test v (e ∷ es) h =
+    let p = or_parts (occurs v e.left || occurs v e.right) (occurs_among es v) h in
+    (or_parts (occurs v e.left) (occurs v e.right) p.0, absent_from_test v es p.1)
+
+test_from_absent : (v : ℕ) (es : List Equation) → Absent v es → occurs_among es v ≡ false
+test_from_absent v [] h = refl
+test_from_absent v (e ∷ es) h = or_from (occurs v e.left || occurs v e.right) (occurs_among es v) (or_from (occurs v e.left) (occurs v e.right) h.0.0 h.0.1) (test_from_absent v es h.1)
+
+-- one for a test that passes
+abbrev pub one_if : Bool → ℕ
+one_if true = 1
+one_if false = 0
+
+-- how many numbers below a bound pass a test
+abbrev pub tally : (ℕ → Bool) → ℕ → ℕ
+tally p zero = 0
+tally p (suc m) = one_if (p m) + tally p m
+
+one_if_most : (b : Bool) → one_if b ≤ 1
+one_if_most true = omega arith
+one_if_most false = omega arith
+
+one_if_fewer : (b c : Bool) → (b ≡ false → c ≡ false) → one_if c ≤ one_if b
+one_if_fewer true c h = one_if_most c
+one_if_fewer false c h = let e = ap one_if (h refl) in omega arith
+
+tally_most : (p : ℕ → Bool) (m : ℕ) → tally p m ≤ m
+tally_most p zero = omega arith
+tally_most p (suc m) = let h = tally_most p m in let k = one_if_most (p m) in omega arith
+
+-- a test that fails wherever another fails passes at no more numbers
+tally_fewer : (p q : ℕ → Bool) (m : ℕ) → ((v : ℕ) → p v ≡ false → q v ≡ false) → tally q m ≤ tally p m
+tally_fewer p q zero h = omega arith
+tally_fewer p q (suc m) h =
+    let k = tally_fewer p q m h in
+    let o = one_if_fewer (p m) (q m) (h m) in
+    omega arith
+
+-- and at fewer, where it fails at one more
+tally_less : (p q : ℕ → Bool) (m w : ℕ) → ((v : ℕ) → p v ≡ false → q v ≡ false) → w < m → p w ≡ true → q w ≡ false → tally q m < tally p m
+tally_less p q zero w h l a b = absurd (omega arith)
+tally_less p q (suc m) w h l a b =
+    ⊎_elim
+    (λ (e : w ≡ m).
+    let k = tally_fewer p q m h in
+    let x = ap (λ n. one_if (p n)) (sym e) ∙ ap one_if a in
+    let y = ap (λ n. one_if (q n)) (sym e) ∙ ap one_if b in
+    omega arith)
+    (λ (e : w ≡ m → ⊥).
+    let k = tally_less p q m w h (omega arith) a b in
+    let o = one_if_fewer (p m) (q m) (h m) in
+    omega arith)
+    (cases_eq w m)
+
+-- how many variables up to the last occur in equations
+abbrev pub variables_in : ℕ → List Equation → ℕ
+variables_in last es = tally (occurs_among es) (suc last)
+
+-- at most one more than the last
+pub variables_most : (last : ℕ) (es : List Equation) → variables_in last es ≤ suc last
+variables_most last es = tally_most (occurs_among es) (suc last)
+
+-- the equations of arguments are no larger than the arguments
+size-arguments : (ts us : Terms) (es : List Equation) → equations_size (argument_equations ts us es) ≤ sizes ts + equations_size es
+size-arguments (more t ts) (more u us) es = let h = size-arguments ts us es in omega arith
+size-arguments _ _ es = omega arith
+
+-- ---- what the front equation leads to
+
+-- equations in place of others, with no new variables, and smaller
+pub record Shrinks (last : ℕ) (before next : List Equation) : Type 0 where
+  pub numbered : AllNumberedTo last next
+  pub variables : variables_in last next ≤ variables_in last before
+  pub smaller : equations_size next < equations_size before
+
+-- equations in place of others, with fewer variables
+pub record Loses (last : ℕ) (before next : List Equation) : Type 0 where
+  pub numbered : AllNumberedTo last next
+  pub variables : variables_in last next < variables_in last before
+
+-- an equation less
+pub shrinks_same : (last : ℕ) (t : Term) (es : List Equation) → AllNumberedTo last (equate t t ∷ es) → Shrinks last (equate t t ∷ es) es
+shrinks_same last t es h = record {
+  numbered = h.1;
+  variables = tally_fewer (occurs_among (equate t t ∷ es)) (occurs_among es) (suc last) (λ v k. test_from_absent v es ((absent_from_test v (equate t t ∷ es) k).1));
+  smaller = omega arith;
+}
+
+-- arguments in place of structures
+pub shrinks_arguments : (last : ℕ) (f : List ℕ) (ts us : Terms) (es : List Equation) → AllNumberedTo last (equate (structure f ts) (structure f us) ∷ es) → Shrinks last (equate (structure f ts) (structure f us) ∷ es) (argument_equations ts us es)
+shrinks_arguments last f ts us es h =
+    let before = equate (structure f ts) (structure f us) ∷ es in
+    let s = size-arguments ts us es in
+    record {
+      numbered = numbered-arguments last ts us es h.0.0 h.0.1 h.1;
+      variables = tally_fewer (occurs_among before) (occurs_among (argument_equations ts us es)) (suc last) (λ v k. let a = absent_from_test v before k in test_from_absent v (argument_equations ts us es) (absent-arguments v ts us es a.0.0 a.0.1 a.1));
+      smaller = omega arith;
+    }
+
+-- a replacement in all equations
+loses_bound : (last v : ℕ) (t : Term) (before es : List Equation) → v ≤ last → NumberedTo last t → AllNumberedTo last es → occurs v t ≡ false → occurs_among before v ≡ true → ((w : ℕ) → Absent w before → (occurs w t ≡ false) × Absent w es) → Loses last before (replace_in_all v t es)
+loses_bound last v t before es l k h o b a = record {
+  numbered = numbered-replace_in_all last v t es k h;
+  variables = tally_less (occurs_among before) (occurs_among (replace_in_all v t es)) (suc last) v (λ w c. let d = a w (absent_from_test w before c) in test_from_absent w (replace_in_all v t es) (absent-replace_in_all w v t es d.0 d.1)) (omega arith) b (test_from_absent v (replace_in_all v t es) (absent-replaced v t es o));
+}
+
+-- a variable occurs in an equation with it on a side
+occurs_left : (v : ℕ) (t : Term) (es : List Equation) → occurs_among (equate (variable v) t ∷ es) v ≡ true
+occurs_left v t es = or_left (occurs v (variable v) || occurs v t) (occurs_among es v) (or_left (occurs v (variable v)) (occurs v t) (eq-eqb v v refl))
+
+occurs_right : (v : ℕ) (t : Term) (es : List Equation) → occurs_among (equate t (variable v) ∷ es) v ≡ true
+occurs_right v t es = or_left (occurs v t || occurs v (variable v)) (occurs_among es v) (or_right (occurs v t) (occurs v (variable v)) (eq-eqb v v refl))
+
+pub loses_left : (last v : ℕ) (t : Term) (es : List Equation) → occurs v t ≡ false → AllNumberedTo last (equate (variable v) t ∷ es) → Loses last (equate (variable v) t ∷ es) (replace_in_all v t es)
+loses_left last v t es o h = loses_bound last v t (equate (variable v) t ∷ es) es h.0.0 h.0.1 h.1 o (occurs_left v t es) (λ x a. (a.0.1, a.1))
+
+pub loses_right : (last v : ℕ) (t : Term) (es : List Equation) → occurs v t ≡ false → AllNumberedTo last (equate t (variable v) ∷ es) → Loses last (equate t (variable v) ∷ es) (replace_in_all v t es)
+loses_right last v t es o h = loses_bound last v t (equate t (variable v) ∷ es) es h.0.1 h.0.0 h.1 o (occurs_right v t es) (λ x a. (a.0.0, a.1))
+
+-- ---- fuel that is enough
+
+-- what is done after the front equation is the same where it is on equations that shrink, and on such as lose a variable
+after_agrees : (last : ℕ) (e : Equation) (es : List Equation) (same same' next next' : List Equation → Option (List Replacement)) → AllNumberedTo last (e ∷ es) → ((to : List Equation) → Shrinks last (e ∷ es) to → same to ≡ same' to) → ((to : List Equation) → Loses last (e ∷ es) to → next to ≡ next' to) → after same next (front e.left e.right es) ≡ after same' next' (front e.left e.right es)
+after_agrees last e es same same' next next' h shrinks loses =
+    front_cases es (λ a b r. AllNumberedTo last (equate a b ∷ es) → ((to : List Equation) → Shrinks last (equate a b ∷ es) to → same to ≡ same' to) → ((to : List Equation) → Loses last (equate a b ∷ es) to → next to ≡ next' to) → after same next r ≡ after same' next' r)
+    (λ t h s l. s es (shrinks_same last t es h))
+    (λ f ts us n h s l. s (argument_equations ts us es) (shrinks_arguments last f ts us es h))
+    (λ v t o w h s l. ap (option_map (λ rest. record { number = v; by = t } ∷ rest)) (l (replace_in_all v t es) (loses_left last v t es o h)))
+    (λ v t o w h s l. ap (option_map (λ rest. record { number = v; by = t } ∷ rest)) (l (replace_in_all v t es) (loses_right last v t es o h)))
+    (λ a b c h s l. refl)
+    e.left e.right h shrinks loses
+
+-- a walk is the same whatever its fuel, if it is enough
+walk_enough : (last : ℕ) (next : List Equation → Option (List Replacement)) (m n : ℕ) (es : List Equation) → AllNumberedTo last es → equations_size es < m → equations_size es < n → walk next m es ≡ walk next n es
+unfolding walk
+walk_enough last next zero n es h l k = absurd (omega arith)
+walk_enough last next (suc m) zero es h l k = absurd (omega arith)
+walk_enough last next (suc m) (suc n) [] h l k = refl
+walk_enough last next (suc m) (suc n) (e ∷ es) h l k =
+    after_agrees last e es (walk next m) (walk next n) next next h
+    (λ to s. walk_enough last next m n to s.numbered (let q = s.smaller in omega arith) (let q = s.smaller in omega arith))
+    (λ to s. refl)
+
+-- a walk is the same with another continuation that agrees on equations with fewer variables
+walk_agrees : (last most : ℕ) (next next' : List Equation → Option (List Replacement)) → ((to : List Equation) → AllNumberedTo last to → variables_in last to < most → next to ≡ next' to) → (n : ℕ) (es : List Equation) → AllNumberedTo last es → variables_in last es ≤ most → walk next n es ≡ walk next' n es
+unfolding walk
+walk_agrees last most next next' agree zero es h l = refl
+walk_agrees last most next next' agree (suc n) [] h l = refl
+walk_agrees last most next next' agree (suc n) (e ∷ es) h l =
+    after_agrees last e es (walk next n) (walk next' n) next next' h
+    (λ to s. walk_agrees last most next next' agree n to s.numbered (le_trans s.variables l))
+    (λ to s. agree to s.numbered (lt_of_lt_of_le s.variables l))
+
+-- a solution is the same whatever its fuel, if it is more than the variables that occur
+pub solve_enough : (last m n : ℕ) (es : List Equation) → AllNumberedTo last es → variables_in last es < m → variables_in last es < n → solve_within m es ≡ solve_within n es
+unfolding solve_within
+solve_enough last zero n es h l k = absurd (omega arith)
+solve_enough last (suc m) zero es h l k = absurd (omega arith)
+solve_enough last (suc m) (suc n) es h l k =
+    walk_agrees last (variables_in last es) (solve_within m) (solve_within n) (λ to t s. solve_enough last m n to t (omega arith) (omega arith)) (suc (equations_size es)) es h (le_refl (variables_in last es))
+
+-- no equations are solved by no replacements
+pub nothing_solved : NothingIsSolved
+unfolding solve_within walk
+nothing_solved last = refl
+
+-- equations are solved by what their front equation leads to
+pub front_decides : FrontDecides
+unfolding solve_within walk
+front_decides last e es h =
+    let most = variables_most last (e ∷ es) in
+    after_agrees last e es (walk (solve_within (suc last)) (equations_size (e ∷ es))) (solve last) (solve_within (suc last)) (solve last) h
+    (λ to s. walk_enough last (solve_within (suc last)) (equations_size (e ∷ es)) (suc (equations_size to)) to s.numbered s.smaller (omega arith))
+    (λ to s. solve_enough last (suc last) (suc (suc last)) to s.numbered (let q = s.variables in omega arith) (let q = s.variables in omega arith))
+
+-- what the front equation leads to has no higher numbers
+pub front_numbered : FrontKeepsNumbers
+front_numbered last e es h =
+    front_cases es (λ a b r. AllNumberedTo last (equate a b ∷ es) → FrontNumberedTo last r)
+    (λ t h. h.1)
+    (λ f ts us n h. numbered-arguments last ts us es h.0.0 h.0.1 h.1)
+    (λ v t o w h. (h.0.0, h.0.1, numbered-replace_in_all last v t es h.0.1 h.1))
+    (λ v t o w h. (h.0.1, h.0.0, numbered-replace_in_all last v t es h.0.0 h.1))
+    (λ a b c h. tt)
+    e.left e.right h
+
+-- any bound on the numbers gives the same solution
+pub any_bound_serves : AnyBoundServes
+any_bound_serves last other es h k =
+    let l = variables_most last es in
+    let o = variables_most other es in
+    ⊎_elim
+    (λ (b : last < other). solve_enough last (suc (suc last)) (suc (suc other)) es h (omega arith) (omega arith))
+    (λ (b : other ≤ last). solve_enough other (suc (suc last)) (suc (suc other)) es k (omega arith) (omega arith))
+    (cases_lt last other)

@@ -1,0 +1,3 @@
+//! What holds of the definitions alone: each law is the contract of a function that does nothing.
+
+pub mod unification;
