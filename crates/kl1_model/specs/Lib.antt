@@ -1,4 +1,5 @@
 pub mod Text
+pub mod Name
 pub mod Term
 pub mod TermCode
 pub mod Unify
