@@ -4,3 +4,4 @@ pub mod Growing
 pub mod Terms
 pub mod Laid
 pub mod Lists
+pub mod Walking

@@ -1,20 +1,22 @@
 -- The lists of a store after each growth.
-use Rattle.std.proofs.Common.{◌≡◌, ℕ, zero, suc, ◌+◌, ◌-◌, ◌^◌, ◌<◌, ◌≤◌, ◌==◌, Bool, true, false, if◌then◌else◌, List, [], ◌∷◌, ◌++◌, length, get_or, set, take, drop, refl, sym, ap, ◌∙◌, ◌⊎◌, inl, inr, arith, subst, length-append, length-drop, length-set, get_or-set_same, get_or-set_other}
+use Rattle.std.proofs.Common.{◌≡◌, ℕ, zero, suc, ◌+◌, ◌-◌, ◌^◌, ◌<◌, ◌≤◌, ◌==◌, Bool, true, false, if◌then◌else◌, List, [], ◌∷◌, ◌++◌, length, get_or, set, take, drop, refl, sym, ap, ◌∙◌, ◌⊎◌, inl, inr, arith, subst, append_assoc, length-append, length-drop, length-set, get_or-set_same, get_or-set_other}
 use Rattle.std.specs.Prelude.{Option, Some, None, slice_get}
 use Rattle.std.proofs.lemmas.Bool.{cases_eq, ne_eqb, eq-eqb, eqb-true, eqb-false, or_parts, or_from, cases_Bool, cases_lt}
-use Rattle.std.proofs.lemmas.List.{get_or_append_left, get_or_at, get_or_default, length-take-le}
+use Rattle.std.proofs.lemmas.List.{get_or_append_left, get_or_at, get_or_default, length-take-le, append-nil, take_all, get_or-take}
 use Rattle.kl1_model.specs.Term.{occurs}
 use Rattle.kl1_store.specs.declared.cell.Cell.{Cell}
 use Rattle.kl1_store.specs.declared.cell.Cell.TheVariants.{Variable}
 use Rattle.kl1_store.specs.declared.binding.Binding.{Binding}
 use Rattle.kl1_store.specs.declared.node.Node.{Node}
-use Rattle.kl1_store.specs.Held.{Shape, Held, Stored, with_variable, with_structure, with_binding, is_bound, found, IsWithin, AreWithin, IsIn, AreIn, IsLower, arguments_of, shape_arguments}
+use Rattle.kl1_store.specs.declared.mark.Mark.{Mark}
+use Rattle.kl1_store.specs.Held.{Shape, Held, Stored, with_variable, with_structure, with_binding, is_bound, found, IsWithin, AreWithin, IsIn, AreIn, IsLower, arguments_of, shape_arguments, sizes_of}
 use Rattle.kl1_store.specs.Meaning.{term_of}
-use Rattle.kl1_store.specs.Sound.{Built, Bound, FitsNext, IsFormed}
+use Rattle.kl1_store.specs.Sound.{Built, Bound, FitsNext, IsFormed, Grown}
+use Rattle.kl1_store.specs.Slots.{AreSlotted, AreOnce}
 use Rattle.kl1_store.specs.Inside.{shapes_in, AreLaid, held_in, IsInside, most}
 use Rattle.kl1_store.proofs.Meanings.{if_same, if_other}
 use Rattle.kl1_store.proofs.Growing.{IsFormed-variable, IsFormed-structure, IsFormed-binding}
-use Rattle.kl1_store.proofs.Laid.{length-shapes_in, slice_get-part, shapes_in-push, shapes_in-more, AreLaid-push, StandsAt, shape_stands}
+use Rattle.kl1_store.proofs.Laid.{length-shapes_in, slice_get-part, shapes_in-push, shapes_in-more, shapes_in-take, AreLaid-push, StandsAt, shape_stands}
 
 -- a variable that is not there is unbound
 unbound_past : {N : Type 0} (vs : ℕ) (ss : List (Shape N)) (before bs : List (Binding N)) (v : ℕ) → vs ≤ v → Bound vs ss before bs → is_bound v bs ≡ false
@@ -167,3 +169,122 @@ pub argument_read : {N : Type 0} (h : Held N) (arguments : List (Cell N)) (i k :
     ReadAt h arguments i n → k < length (arguments_of h i) → x ≡ get_or arguments (n.start + k) x → slice_get (arguments_of h i) k ≡ Some x
 argument_read h arguments i k n x at lt e =
     ap (λ l. slice_get l k) at.are ∙ slice_get-part arguments n.start n.count k x (omega (arith, at.count)) at.fits e
+
+-- ---- taking back the newest binding
+
+AreOnce-pop : {N : Type 0} (n : ℕ) (before bs : List (Binding N)) (b : Binding N) → AreOnce n before (bs ++ b ∷ []) → AreOnce n before bs × (suc b.variable ≤ n) × (is_bound b.variable (before ++ bs) ≡ false)
+AreOnce-pop {N = N} n before [] b h = let P : List (Binding N) → Type 0 = λ l. is_bound b.variable l ≡ false in (tt, h.0, subst P (sym (append-nil before)) h.1)
+AreOnce-pop {N = N} n before (x ∷ bs) b h =
+    let r = AreOnce-pop n (before ++ x ∷ []) bs b h.2 in
+    let P : List (Binding N) → Type 0 = λ l. is_bound b.variable l ≡ false in
+    ((h.0, h.1, r.0), r.1, subst P (append_assoc before (x ∷ []) bs) r.2)
+
+pub AreOnce-bound : {N : Type 0} (vs : ℕ) (ss : List (Shape N)) (before bs : List (Binding N)) → Bound vs ss before bs → AreOnce vs before bs
+AreOnce-bound vs ss before [] h = tt
+AreOnce-bound vs ss before (b ∷ bs) h = (h.0.inside, h.0.unbound, AreOnce-bound vs ss (before ++ b ∷ []) bs h.1)
+
+-- the slots and bindings with the newest binding taken back
+pub record TakesBack {N : Type 0} (slots : List (Cell N)) (bs : List (Binding N)) : Type 0 where
+  pub slotted : AreSlotted slots bs
+  pub once : AreOnce (length slots) [] bs
+
+pub take_back : {N : Type 0} (slots : List (Cell N)) (all bs : List (Binding N)) (b : Binding N) → AreSlotted slots all → AreOnce (length slots) [] all → all ≡ bs ++ b ∷ [] →
+    (suc b.variable ≤ length slots) × TakesBack (set slots b.variable (Variable b.variable)) bs
+take_back {N = N} slots all bs b h once e =
+    let P : List (Binding N) → Type 0 = λ l. AreOnce (length slots) [] l in
+    let Q : ℕ → Type 0 = λ n. AreOnce n [] bs in
+    let r = AreOnce-pop (length slots) [] bs b (subst P e once) in (
+      r.1,
+      record {
+        slotted = λ v le. slotted v (cases_eq b.variable v) (omega (arith, length-set slots b.variable (Variable b.variable)));
+        once = subst Q (sym (length-set slots b.variable (Variable b.variable))) r.0;
+      },
+    )
+  where
+    slotted : (v : ℕ) → (b.variable ≡ v) ⊎ (b.variable ≡ v → ⊥) → suc v ≤ length slots → get_or (set slots b.variable (Variable b.variable)) v (Variable v) ≡ found v bs
+    slotted v (inl p) le =
+        let L : List (Binding N) → Type 0 = λ l. AreOnce (length slots) [] l in
+        let r = AreOnce-pop (length slots) [] bs b (subst L e once) in
+        let P : ℕ → Type 0 = λ m. get_or (set slots b.variable (Variable b.variable)) m (Variable m) ≡ found m bs in
+        subst P p (get_or-set_same slots b.variable (Variable b.variable) (Variable b.variable) r.1 ∙ sym (found_unbound b.variable bs r.2))
+    slotted v (inr ne) le =
+        get_or-set_other slots b.variable v (Variable b.variable) (Variable v) (λ q. ne (sym q)) ∙ h v le ∙ ap (found v) e ∙ found-push_other v bs b ne
+
+-- the lists of a store that is taken back to what it held
+pub record IsBack {N : Type 0} (slots : List (Cell N)) (nodes : List (Node N)) (arguments : List (Cell N)) (bindings : List (Binding N)) (h : Held N) : Type 0 where
+  pub inside : IsInside slots nodes arguments bindings
+  pub held : held_in slots nodes arguments bindings ≡ h
+
+pub record CutTo {N : Type 0} (nodes : List (Node N)) (arguments : List (Cell N)) (n : ℕ) (cut : List (Node N)) (rest : List (Cell N)) : Type 0 where
+  pub shapes : shapes_in rest cut ≡ take n (shapes_in arguments nodes)
+  pub laid : AreLaid 0 cut (length rest)
+  pub nodes_fit : length cut ≤ length nodes
+  pub arguments_fit : length rest ≤ length arguments
+
+pub not_cut : {N : Type 0} (slots : List (Cell N)) (nodes : List (Node N)) (arguments : List (Cell N)) (bindings : List (Binding N)) (n : ℕ) →
+    IsInside slots nodes arguments bindings → length nodes ≤ n → CutTo nodes arguments n nodes arguments
+not_cut slots nodes arguments bindings n inside le = record {
+  shapes = sym (take_all n (shapes_in arguments nodes) (omega (arith, length-shapes_in arguments nodes)));
+  laid = inside.laid;
+  nodes_fit = omega arith;
+  arguments_fit = omega arith;
+}
+
+pub cut_at : {N : Type 0} (slots : List (Cell N)) (nodes cut : List (Node N)) (arguments rest : List (Cell N)) (bindings : List (Binding N)) (n : ℕ) (node : Node N) →
+    IsInside slots nodes arguments bindings → n < length nodes → node ≡ get_or nodes n node → cut ≡ take n nodes → rest ≡ take node.start arguments → CutTo nodes arguments n cut rest
+cut_at {N = N} slots nodes cut arguments rest bindings n node inside lt is e a =
+    let L : ℕ → Type 0 = λ m. AreLaid 0 nodes m in
+    let r = shapes_in-take 0 nodes arguments n node (subst L (omega arith) inside.laid) lt is in
+    let at = stands slots nodes arguments bindings n node inside lt is in
+    let start : node.start - 0 ≡ node.start = omega arith in
+    let long : length (take node.start arguments) ≡ node.start = length-take-le node.start arguments (omega (arith, at.fits)) in
+    let P : ℕ → Type 0 = λ m. shapes_in (take m arguments) (take n nodes) ≡ take n (shapes_in arguments nodes) in
+    let Q : ℕ → Type 0 = λ m. AreLaid 0 (take n nodes) m in
+    let S : List (Node N) → Type 0 = λ l. CutTo nodes arguments n l rest in
+    let T : List (Cell N) → Type 0 = λ l. CutTo nodes arguments n (take n nodes) l in
+    subst S (sym e) (subst T (sym a) (record {
+      shapes = subst P start r.0;
+      laid = subst Q (sym long) r.1;
+      nodes_fit = omega (arith, length-take-le n nodes (omega arith));
+      arguments_fit = omega (arith, long, at.fits);
+    }))
+
+pub taken_back : {N : Type 0} (slots unbound kept : List (Cell N)) (nodes cut : List (Node N)) (arguments rest : List (Cell N)) (bindings left : List (Binding N)) (old h : Held N) (m : Mark) →
+    IsInside slots nodes arguments bindings → held_in slots nodes arguments bindings ≡ old → m ≡ sizes_of h → IsFormed h → Grown h old →
+    AreSlotted unbound left → length unbound ≡ length slots → left ≡ take m.bindings bindings → kept ≡ take m.variables unbound → CutTo nodes arguments m.structures cut rest →
+    IsBack kept cut rest left h
+taken_back {N = N} slots unbound kept nodes cut arguments rest bindings left old h m inside e sizes formed grown slotted long are keeps cuts =
+    let variables : m.variables ≡ h.variables = ap (λ (k : Mark). k.variables) sizes in
+    let structures : m.structures ≡ length h.structures = ap (λ (k : Mark). k.structures) sizes in
+    let bound : m.bindings ≡ length h.bindings = ap (λ (k : Mark). k.bindings) sizes in
+    let many : length slots ≡ old.variables = ap (λ (k : Held N). k.variables) e in
+    let size : length kept ≡ h.variables = ap length keeps ∙ length-take-le m.variables unbound (omega (arith, grown.variables)) ∙ variables in
+    let shapes : shapes_in rest cut ≡ h.structures =
+    cuts.shapes ∙ ap (λ k. take k (shapes_in arguments nodes)) structures ∙ ap (λ (k : Held N). take (length h.structures) k.structures) e ∙ grown.structures in
+    let bs : left ≡ h.bindings = are ∙ ap (λ k. take k bindings) bound ∙ ap (λ (k : Held N). take (length h.bindings) k.bindings) e ∙ grown.bindings in
+    let held : held_in kept cut rest left ≡ h =
+    ap (λ k. record (held_in kept cut rest left) { variables = k }) size
+    ∙ ap (λ (k : List (Shape N)). record { variables = h.variables; structures = k; bindings = left }) shapes
+    ∙ ap (λ (k : List (Binding N)). record { variables = h.variables; structures = h.structures; bindings = k }) bs in
+    let F : Held N → Type 0 = λ k. IsFormed k in
+    let K : List (Cell N) → Type 0 = λ l. (v : ℕ) → suc v ≤ m.variables → get_or l v (Variable v) ≡ found v left in
+    record {
+      inside = record {
+        formed = subst F (sym held) formed;
+        laid = cuts.laid;
+        slotted = λ v le. subst K (sym keeps) (λ w lt. get_or-take m.variables unbound w (Variable w) lt ∙ slotted w (omega (arith, grown.variables))) v (omega arith);
+        variables_fit = omega (arith, inside.variables_fit, grown.variables);
+        structures_fit = omega (arith, inside.structures_fit, cuts.nodes_fit);
+        arguments_fit = omega (arith, inside.arguments_fit, cuts.arguments_fit);
+      };
+      held = held;
+    }
+
+-- contents of one size, from which the same has grown, are the same
+pub same_held : {N : Type 0} (a b now : Held N) → sizes_of a ≡ sizes_of b → Grown a now → Grown b now → a ≡ b
+same_held {N = N} a b now e p q =
+    let structures : a.structures ≡ b.structures = sym p.structures ∙ ap (λ (k : Mark). take k.structures now.structures) e ∙ q.structures in
+    let bindings : a.bindings ≡ b.bindings = sym p.bindings ∙ ap (λ (k : Mark). take k.bindings now.bindings) e ∙ q.bindings in
+    ap (λ (k : Mark). record { variables = k.variables; structures = a.structures; bindings = a.bindings }) e
+    ∙ ap (λ (k : List (Shape N)). record { variables = b.variables; structures = k; bindings = a.bindings }) structures
+    ∙ ap (λ (k : List (Binding N)). record { variables = b.variables; structures = b.structures; bindings = k }) bindings

@@ -2,9 +2,10 @@
 use Rattle.std.specs.Prelude.{◌≡◌, ℕ, suc, ◌≤◌, false, List, [], ◌∷◌, ◌++◌, length, take}
 use Rattle.kl1_model.specs.Term.{occurs, replaced}
 use Rattle.kl1_store.specs.declared.cell.Cell.{Cell}
+use Rattle.kl1_store.specs.declared.cell.Cell.TheVariants.{Variable}
 use Rattle.kl1_store.specs.declared.binding.Binding.{Binding}
-use Rattle.kl1_store.specs.Held.{Shape, Held, is_bound, IsWithin, AreWithin, IsLower}
-use Rattle.kl1_store.specs.Meaning.{mean, shapes_from, replacements_from}
+use Rattle.kl1_store.specs.Held.{Shape, Held, is_bound, IsWithin, AreWithin, IsIn, IsLower}
+use Rattle.kl1_store.specs.Meaning.{mean, shapes_from, replacements_from, term_of}
 
 -- structures from number k on, each of whose arguments are there before it
 abbrev pub Built : {N : Type 0} → ℕ → ℕ → List (Shape N) → Type 0
@@ -33,3 +34,9 @@ pub record Grown {N : Type 0} (old new : Held N) : Type 0 where
   pub variables : old.variables ≤ new.variables
   pub structures : take (length old.structures) new.structures ≡ old.structures
   pub bindings : take (length old.bindings) new.bindings ≡ old.bindings
+
+-- a variable that was bound means this cell, which is lower
+pub record IsBoundTo {N : Type 0} (h : Held N) (v : ℕ) (x : Cell N) : Type 0 where
+  pub inside : IsIn h x
+  pub lower : IsLower v x
+  pub means : (f : N → List ℕ) → term_of f h x ≡ term_of f h (Variable v)

@@ -1,10 +1,11 @@
 // The lists of a store, and what each growth does to them.
 
-ghost use Rattle.std.specs.Prelude.{◌≡◌, ℕ, suc, false, ◌+◌, ◌<◌, ◌≤◌, List, Some, length, take, IfOk, OnOk, OnErr, IsOk, slice_get};
+ghost use Rattle.std.specs.Prelude.{◌≡◌, ℕ, suc, false, ◌+◌, ◌<◌, ◌≤◌, List, [], Some, length, take, MatchOption, IfOk, OnOk, OnErr, IsOk, slice_get};
 ghost use Rattle.kl1_model.specs.Term.{occurs};
 ghost use Rattle.kl1_store.specs.Held.{Held, nothing_held, with_variable, with_structure, with_binding, is_bound, found, arguments_of, IsIn, AreIn, IsLower, IsWalked, sizes_of};
 ghost use Rattle.kl1_store.specs.Meaning.{term_of};
-ghost use Rattle.kl1_store.specs.Sound.{IsFormed, Grown};
+ghost use Rattle.kl1_store.specs.Sound.{IsFormed, Grown, IsBoundTo};
+ghost use Rattle.kl1_store.specs.Slots.{AreSlotted, AreOnce};
 
 use crate::binding::Binding;
 use crate::cell::Cell;
@@ -147,6 +148,35 @@ impl<N: NameValue> Cells<N> {
         self.arguments[node.start as usize + index as usize]
     }
 
+    /// What a variable was bound to.
+    pub fn bound(&self, variable: u32) -> Option<Cell<N>>
+        requires { variable < self.now.held.variables }
+        ensures cases { MatchOption result (is_bound variable self.now.held.bindings ≡ false) (IsBoundTo self.now.held variable) }
+    {
+        let next = self.slot(variable);
+        if next.is_variable(variable) {
+            return None;
+        }
+        Some(next)
+    }
+
+    /// The cell that a cell stands for: what its variable was bound to, and so on.
+    pub fn walk(&self, cell: Cell<N>) -> Cell<N>
+        requires { IsIn self.now.held cell }
+        ensures inside { IsIn self.now.held result }
+        ensures walked { IsWalked self.now.held result }
+        ensures means { (f : N → List ℕ) → term_of f self.now.held result ≡ term_of f self.now.held cell }
+    {
+        let mut at = cell;
+        while let Cell::Variable(variable) = at {
+            match self.bound(variable) {
+                None => return at,
+                Some(next) => at = next,
+            }
+        }
+        at
+    }
+
     /// How much is held now.
     pub fn mark(&self) -> Mark
         ensures sizes { result ≡ sizes_of self.now.held }
@@ -156,6 +186,36 @@ impl<N: NameValue> Cells<N> {
             variables: self.slots.len() as u32,
             structures: self.nodes.len() as u32,
             bindings: self.bindings.len(),
+        }
+    }
+
+    /// Takes back all that was done since `mark`.
+    pub fn back(&mut self, mark: Mark)
+        requires { (h : Held N) × ((mark ≡ sizes_of h) × (IsFormed h × Grown h self.old.held)) }
+        ensures { (h : Held N) → mark ≡ sizes_of h → Grown h self.old.held → self.new.held ≡ h }
+    {
+        unbind(&mut self.slots, &mut self.bindings, mark.bindings);
+        self.slots.truncate(mark.variables as usize);
+        let structures = mark.structures as usize;
+        if structures < self.nodes.len() {
+            let start = self.nodes[structures].start;
+            self.arguments.truncate(start as usize);
+            self.nodes.truncate(structures);
+        }
+    }
+}
+
+/// Takes back the bindings after the first `keep`.
+fn unbind<N: NameValue>(slots: &mut Vec<Cell<N>>, bindings: &mut Vec<Binding<N>>, keep: usize)
+    requires slotted { AreSlotted slots.old.items bindings.old.items }
+    requires once { AreOnce (length slots.old.items) [] bindings.old.items }
+    ensures slotted { AreSlotted slots.new.items bindings.new.items }
+    ensures bindings { bindings.new.items ≡ take keep bindings.old.items }
+    ensures slots { length slots.new.items ≡ length slots.old.items }
+{
+    while bindings.len() > keep {
+        if let Some(binding) = bindings.pop() {
+            slots[binding.variable as usize] = Cell::Variable(binding.variable);
         }
     }
 }

@@ -4,8 +4,11 @@
 mod binding;
 mod cell;
 mod cells;
+mod frame;
 mod head;
 mod mark;
+mod meeting;
+mod meets;
 mod node;
 
 pub use cell::Cell;
