@@ -5,3 +5,5 @@ pub mod Terms
 pub mod Laid
 pub mod Lists
 pub mod Walking
+pub mod Meetings
+pub mod Numbered

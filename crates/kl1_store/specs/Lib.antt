@@ -6,3 +6,4 @@ pub mod Slots
 pub mod Waiting
 pub mod Meets
 pub mod Value
+pub mod Unifies

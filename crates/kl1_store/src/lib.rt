@@ -1,6 +1,7 @@
 //! Terms as cells that share parts, variables bound once: unification, passive equality, and taking back.
 #![tactic(auto)]
 
+mod advance;
 mod binding;
 mod cell;
 mod cells;
@@ -9,6 +10,7 @@ mod head;
 mod mark;
 mod meeting;
 mod meets;
+mod next;
 mod node;
 
 pub use cell::Cell;

@@ -20,6 +20,7 @@ pub fn meet<N: NameValue>(cells: &Cells<N>, left: Cell<N>, right: Cell<N>) -> Me
     requires right_walked { IsWalked cells.now.held right }
     ensures { MeetsAs N.built cells.now.held left right result }
 {
+    let _ = cells.mark();
     if let Some(variable) = left.variable() {
         return match right.variable() {
             Some(other) => two_variables(cells, variable, other),
