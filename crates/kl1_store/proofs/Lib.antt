@@ -7,3 +7,4 @@ pub mod Lists
 pub mod Walking
 pub mod Meetings
 pub mod Numbered
+pub mod Advancing

@@ -17,13 +17,13 @@ use Rattle.kl1_store.proofs.Meanings.{term_at, replacement_of}
 use Rattle.kl1_store.proofs.Replacing.{replaced-append}
 use Rattle.kl1_store.proofs.Terms.{arguments_in}
 
-choose : {P : Term → Type 0} (c : Bool) (x y : Term) → P x → P y → P (if c then x else y)
-choose true x y p q = p
-choose false x y p q = q
+choose : (P : Term → Type 0) (c : Bool) (x y : Term) → P x → P y → P (if c then x else y)
+choose P true x y p q = p
+choose P false x y p q = q
 
 mutual
   numbered-replace : (last v : ℕ) (u t : Term) → NumberedTo last u → NumberedTo last t → NumberedTo last (replace v u t)
-  numbered-replace last v u (variable n) p q = let P : Term → Type 0 = λ x. NumberedTo last x in choose {P = P} (n == v) u (variable n) p q
+  numbered-replace last v u (variable n) p q = let P : Term → Type 0 = λ x. NumberedTo last x in choose P (n == v) u (variable n) p q
   numbered-replace last v u (integer i) p q = q
   numbered-replace last v u (atom a) p q = q
   numbered-replace last v u (structure a ts) p q = numbered-replace_each last v u ts p q
@@ -73,7 +73,7 @@ unfolding replacements_from
 keeps-replacements_from f last vs ss ts rs before [] le p q h = q
 keeps-replacements_from f last vs ss ts rs before (b ∷ bs) le p q h =
     keeps-replacements_from f last vs ss ts (rs ++ replacement_of f ts rs b ∷ []) (before ++ b ∷ []) bs le p
-        (keeps-push last rs (replacement_of f ts rs b) q (q (mean f ts b.value) (numbered-mean f last vs (length ss) ts b.value le p h.0.value_inside))) h.1
+    (keeps-push last rs (replacement_of f ts rs b) q (q (mean f ts b.value) (numbered-mean f last vs (length ss) ts b.value le p h.0.value_inside))) h.1
 
 pub numbered-term_of : {N : Type 0} (f : N → List ℕ) (last : ℕ) (h : Held N) (x : Cell N) → h.variables ≤ suc last → IsFormed h → IsIn h x → NumberedTo last (term_of f h x)
 unfolding term_of
@@ -81,7 +81,7 @@ numbered-term_of f last h x le p inside =
     let ts = shapes_from f [] h.structures in
     let all : AllNumbered last ts = numbered-shapes_from f last h.variables 0 [] h.structures le (λ i. tt) p.built in
     keeps-replacements_from f last h.variables h.structures ts [] [] h.bindings le all (λ t n. n) p.bound (mean f ts x)
-        (numbered-mean f last h.variables (length h.structures) ts x le all inside)
+    (numbered-mean f last h.variables (length h.structures) ts x le all inside)
 
 numbered-terms_of : {N : Type 0} (f : N → List ℕ) (last : ℕ) (h : Held N) (xs : List (Cell N)) → h.variables ≤ suc last → IsFormed h → AreIn h xs → EachNumberedTo last (terms_of f h xs)
 unfolding terms_of
@@ -96,8 +96,8 @@ in-drop h (suc n) (x ∷ xs) p = in-drop h n xs p.1
 pub numbered-rest_of : {N : Type 0} (f : N → List ℕ) (last : ℕ) (h : Held N) (p : Frame) (es : List Equation) → h.variables ≤ suc last → IsFormed h → AllNumberedTo last es → AllNumberedTo last (rest_of f h p es)
 numbered-rest_of f last h p es le formed n =
     numbered-arguments last (terms_of f h (drop p.next (arguments_of h p.left))) (terms_of f h (drop p.next (arguments_of h p.right))) es
-        (numbered-terms_of f last h (drop p.next (arguments_of h p.left)) le formed (in-drop h p.next (arguments_of h p.left) (arguments_in h p.left formed)))
-        (numbered-terms_of f last h (drop p.next (arguments_of h p.right)) le formed (in-drop h p.next (arguments_of h p.right) (arguments_in h p.right formed))) n
+    (numbered-terms_of f last h (drop p.next (arguments_of h p.left)) le formed (in-drop h p.next (arguments_of h p.left) (arguments_in h p.left formed)))
+    (numbered-terms_of f last h (drop p.next (arguments_of h p.right)) le formed (in-drop h p.next (arguments_of h p.right) (arguments_in h p.right formed))) n
 
 pub numbered-waiting : {N : Type 0} (f : N → List ℕ) (last : ℕ) (h : Held N) (es : List Equation) (ps : List Frame) → h.variables ≤ suc last → IsFormed h → AllNumberedTo last es → AllNumberedTo last (waiting f h es ps)
 unfolding waiting

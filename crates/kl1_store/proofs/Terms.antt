@@ -11,7 +11,7 @@ use Rattle.kl1_store.specs.Held.{Shape, Held, with_variable, with_structure, wit
 use Rattle.kl1_store.specs.Meaning.{mean, means, shapes, shapes_from, replacements, replacements_from, term_of, terms_of}
 use Rattle.kl1_store.specs.Sound.{Built, Bound, FitsNext, IsFormed}
 use Rattle.kl1_store.proofs.Replacing.{replaced_each, replaced-append, replaced-structure, replaced-integer, replaced-atom, replaced_each-none, replaced_each-more, replace_free, occurs_replaced}
-use Rattle.kl1_store.proofs.Meanings.{term_at, replacement_of, shapes_from-push, get_or-shapes_from, replacements_from-push, unbound_stays, found_means, if_same, if_other}
+use Rattle.kl1_store.proofs.Meanings.{term_at, replacement_of, shapes_from-push, get_or-shapes_from, replacements_from-push, unbound_stays, found_means, if_same, if_other, some-same}
 use Rattle.kl1_store.proofs.Growing.{many_shapes, mean-structure, replacements_from-structure, AreWithin-more, IsWithin-more}
 
 pub term_of-variable : {N : Type 0} (f : N → List ℕ) (h : Held N) (x : Cell N) → term_of f (with_variable h) x ≡ term_of f h x
@@ -103,3 +103,8 @@ found_within vs ss before (b ∷ bs) v h p = choose (b.variable == v) b.value (f
 
 pub found_in : {N : Type 0} (h : Held N) (v : ℕ) → IsFormed h → suc v ≤ h.variables → IsIn h (found v h.bindings)
 found_in h v p inside = found_within h.variables h.structures [] h.bindings v inside p.bound
+
+pub within_at : {N : Type 0} (h : Held N) (xs : List (Cell N)) (i : ℕ) (x : Cell N) → AreIn h xs → slice_get xs i ≡ Some x → IsIn h x
+within_at h [] i x p e = absurd (cc)
+within_at {N = N} h (y ∷ xs) zero x p e = let P : Cell N → Type 0 = λ z. IsIn h z in subst P (some-same e) p.0
+within_at h (y ∷ xs) (suc i) x p e = within_at h xs i x p.1 e

@@ -7,3 +7,6 @@ pub mod Waiting
 pub mod Meets
 pub mod Value
 pub mod Unifies
+pub mod Onward
+pub mod SpotOnward
+pub mod Spots

@@ -12,6 +12,9 @@ mod meeting;
 mod meets;
 mod next;
 mod node;
+mod occurs;
+mod sides;
+mod spot;
 
 pub use cell::Cell;
 pub use cells::Cells;
