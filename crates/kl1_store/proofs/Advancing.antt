@@ -42,7 +42,7 @@ ArePairs-pop h (q ∷ ps) p a = let r = ArePairs-pop h ps p a.1 in ((a.0, r.0), 
 pub onward_pair : {N : Type 0} (h : Held N) (p : Frame) → IsPair h p → suc p.next ≤ p.count → IsPair h (onward p)
 onward_pair h p q le = record { left = q.left; right = q.right; left_count = q.left_count; right_count = q.right_count; next = omega arith }
 
-drop_here : {X : Type 0} (xs : List X) (i : ℕ) (x : X) → slice_get xs i ≡ Some x → drop i xs ≡ x ∷ drop (i + 1) xs
+pub drop_here : {X : Type 0} (xs : List X) (i : ℕ) (x : X) → slice_get xs i ≡ Some x → drop i xs ≡ x ∷ drop (i + 1) xs
 drop_here {X = X} xs i x e =
     let within : i < length xs = slice_get_within xs i x e in
     let P : ℕ → Type 0 = λ n. drop i xs ≡ get_or xs i x ∷ drop n xs in

@@ -8,3 +8,4 @@ pub mod Walking
 pub mod Meetings
 pub mod Numbered
 pub mod Advancing
+pub mod Searching

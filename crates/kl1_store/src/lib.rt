@@ -13,6 +13,7 @@ mod meets;
 mod next;
 mod node;
 mod occurs;
+mod settle;
 mod sides;
 mod spot;
 
