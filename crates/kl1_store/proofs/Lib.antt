@@ -9,3 +9,4 @@ pub mod Meetings
 pub mod Numbered
 pub mod Advancing
 pub mod Searching
+pub mod Settling

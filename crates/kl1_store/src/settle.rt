@@ -76,16 +76,24 @@ pub fn unify_cells<N: NameValue>(
     ensures grown { OnlyBound cells.old.held cells.new.held }
     ensures room { cells.new.room ≡ cells.old.room }
 {
+    let _ = cells.mark();
     frames.clear();
     let first = cells.walk(left);
     let second = cells.walk(right);
     match meet(cells, first, second) {
         Meeting::Same => Ok(true),
         Meeting::Clash => Ok(false),
-        Meeting::Bind(variable, value) => bind_new(cells, spots, variable, value),
+        Meeting::Bind(variable, value) => {
+            let taken = bind_new(cells, spots, variable, value)?;
+            if taken {
+                return Ok(true);
+            }
+            Ok(false)
+        }
         Meeting::Open(frame) => {
             frames.push(frame)?;
-            settle(cells, frames, spots)
+            let settled = settle(cells, frames, spots)?;
+            Ok(settled)
         }
     }
 }
