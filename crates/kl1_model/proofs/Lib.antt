@@ -7,3 +7,4 @@ pub mod EqualSides
 pub mod UnifySound
 pub mod UnifySolution
 pub mod UnifyFails
+pub mod Clashes

@@ -4,3 +4,4 @@ pub mod Term
 pub mod TermCode
 pub mod Unify
 pub mod UnifyLaws
+pub mod Same

@@ -10,3 +10,4 @@ pub mod Numbered
 pub mod Advancing
 pub mod Searching
 pub mod Settling
+pub mod Unifying

@@ -161,10 +161,10 @@ leads_nowhere f old now start last v x before ps l next there =
 
 pub leads_end : {N : Type 0} (f : N → List ℕ) (old now : Held N) (start current : Option (List Replacement)) → Leads f old now start current → current ≡ Some [] → Made f old now start
 leads_end f old now start current l e = record {
-    made = l.made;
-    solves = l.leads ∙ ap (λ o. option_map (λ rest. l.made ++ rest) o) e ∙ ap Some (append-nil l.made);
-    replacements = l.replacements;
-  }
+  made = l.made;
+  solves = l.leads ∙ ap (λ o. option_map (λ rest. l.made ++ rest) o) e ∙ ap Some (append-nil l.made);
+  replacements = l.replacements;
+}
 
 pub leads_none : {N : Type 0} (f : N → List ℕ) (old now : Held N) (start current : Option (List Replacement)) → Leads f old now start current → current ≡ None → start ≡ None
 leads_none f old now start current l e = l.leads ∙ ap (λ o. option_map (λ rest. l.made ++ rest) o) e
@@ -207,11 +207,14 @@ pub settling_on : {N : Type 0} (built : BuiltIn → N) (old now new : Held N) (s
     Settling built old new start ps × (unbound_below new.variables new.bindings < unbound_below now.variables now.bindings)
 settling_on {N = N} built old now new start before ps v x s n b =
     let P : Held N → Type 0 = λ h. Settling built old h start ps × (unbound_below h.variables h.bindings < unbound_below now.variables now.bindings) in
-    subst P (sym b.0) (record {
-      pairs = ArePairs-binding now v x ps n.pairs;
-      bound = OnlyBound-binding old now v x s.bound;
-      leads = λ f reads last le. leads_on f old now (solve last (waiting f old [] start)) last v x before ps (s.leads f reads last le) (n.next f reads last (at_most s.bound.variables le)) (b.1 f);
-    }, fewer_unbound now.variables now.bindings (record { variable = v; value = x }) n.can.inside n.can.unbound)
+    subst P (sym b.0) (
+      record {
+        pairs = ArePairs-binding now v x ps n.pairs;
+        bound = OnlyBound-binding old now v x s.bound;
+        leads = λ f reads last le. leads_on f old now (solve last (waiting f old [] start)) last v x before ps (s.leads f reads last le) (n.next f reads last (at_most s.bound.variables le)) (b.1 f);
+      },
+      fewer_unbound now.variables now.bindings (record { variable = v; value = x }) n.can.inside n.can.unbound,
+    )
 
 pub settling_stops : {N : Type 0} (built : BuiltIn → N) (old now new : Held N) (start before ps : List Frame) (v : ℕ) (x : Cell N) → Settling built old now start before →
     NextBinding built now before ps v x → BindsAs now new v x false → SettlesAs built old new (λ f. waiting f old [] start) false
@@ -254,14 +257,14 @@ one_decides f last h l r x y one le =
 
 pub one_same : {N : Type 0} (built : BuiltIn → N) (h : Held N) (l r x y : Cell N) → OneEquation h l r x y → Stands h x y → SettlesAs built h h (λ f. equation_of f h l r) true
 one_same built h l r x y one same = λ f reads last le. record {
-    made = [];
-    solves =
-        ap (solve last) (sym (same_equation f h l r x y one.left_means one.right_means))
-        ∙ equal_sides_dropped last (record { left = term_of f h x; right = term_of f h y }) [] ((same_term_decides (term_of f h x) (term_of f h y)).1 (same f))
-            ((numbered-term_of f last h x le one.formed one.left_in, numbered-term_of f last h y le one.formed one.right_in), tt)
-        ∙ nothing_solved last;
-    replacements = sym (append-nil (replacements f h));
-  }
+  made = [];
+  solves =
+      ap (solve last) (sym (same_equation f h l r x y one.left_means one.right_means))
+      ∙ equal_sides_dropped last (record { left = term_of f h x; right = term_of f h y }) [] ((same_term_decides (term_of f h x) (term_of f h y)).1 (same f))
+      ((numbered-term_of f last h x le one.formed one.left_in, numbered-term_of f last h y le one.formed one.right_in), tt)
+      ∙ nothing_solved last;
+  replacements = sym (append-nil (replacements f h));
+}
 
 pub one_clash : {N : Type 0} (built : BuiltIn → N) (h : Held N) (l r x y : Cell N) → OneEquation h l r x y → MeetsAs built h x y Clash → SettlesAs built h h (λ f. equation_of f h l r) false
 one_clash built h l r x y one clash = λ f reads last le. one_decides f last h l r x y one le ∙ ap (after (solve last) (solve last)) (clash f reads [])
@@ -270,13 +273,16 @@ pub one_binds : {N : Type 0} (built : BuiltIn → N) (h new : Held N) (l r x y :
     SettlesAs built h new (λ f. equation_of f h l r) true × OnlyBound h new
 one_binds {N = N} built h new l r x y v z one takes b =
     let P : Held N → Type 0 = λ k. SettlesAs built h k (λ f. equation_of f h l r) true × OnlyBound h k in
-    subst P (sym b.0) ((λ f reads last le. record {
-      made = record { number = v; by = term_of f h z } ∷ [];
-      solves =
-          one_decides f last h l r x y one le ∙ ap (after (solve last) (solve last)) (takes.leads f [] ∙ bound_binds v (term_of f h z) [] (b.1 f))
-          ∙ ap (option_map (λ rest. record { number = v; by = term_of f h z } ∷ rest)) (nothing_solved last);
-      replacements = replacements-binding f h v z;
-    }), OnlyBound-binding h h v z (OnlyBound-same h))
+    subst P (sym b.0) (
+      (λ f reads last le. record {
+        made = record { number = v; by = term_of f h z } ∷ [];
+        solves =
+            one_decides f last h l r x y one le ∙ ap (after (solve last) (solve last)) (takes.leads f [] ∙ bound_binds v (term_of f h z) [] (b.1 f))
+            ∙ ap (option_map (λ rest. record { number = v; by = term_of f h z } ∷ rest)) (nothing_solved last);
+        replacements = replacements-binding f h v z;
+      }),
+      OnlyBound-binding h h v z (OnlyBound-same h),
+    )
 
 pub one_cycle : {N : Type 0} (built : BuiltIn → N) (h new : Held N) (l r x y : Cell N) (v : ℕ) (z : Cell N) → OneEquation h l r x y → Takes h x y v z → BindsAs h new v z false →
     SettlesAs built h new (λ f. equation_of f h l r) false

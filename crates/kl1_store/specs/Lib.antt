@@ -10,3 +10,4 @@ pub mod Unifies
 pub mod Onward
 pub mod SpotOnward
 pub mod Spots
+pub mod Unification

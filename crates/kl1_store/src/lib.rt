@@ -16,8 +16,11 @@ mod occurs;
 mod settle;
 mod sides;
 mod spot;
+mod store;
+mod unified;
 
 pub use cell::Cell;
-pub use cells::Cells;
 pub use head::Head;
 pub use mark::Mark;
+pub use store::Store;
+pub use unified::Unified;
