@@ -101,7 +101,7 @@ clashes_on_paths t u = (path_of t u, λ d. clash_at d.0 t u d.1)
 
 -- a term does not clash with itself
 mutual
-  no_clash : (t : Term) → clash t t ≡ false
+  pub no_clash : (t : Term) → clash t t ≡ false
   no_clash (variable v) = refl
   no_clash (integer i) = ap not ((Decides-int_eq i i).1 refl)
   no_clash (atom a) = ap not ((bytes_eq-Decides a a).1 refl)
@@ -110,7 +110,7 @@ mutual
       (and_from (bytes_eq f f) (count_of ts == count_of ts) ((bytes_eq-Decides f f).1 refl) (eq-eqb (count_of ts) (count_of ts) refl))
       ∙ no_clashes ts
 
-  no_clashes : (ts : Terms) → any_clash ts ts ≡ false
+  pub no_clashes : (ts : Terms) → any_clash ts ts ≡ false
   no_clashes none = refl
   no_clashes (more t ts) = or_from (clash t t) (any_clash ts ts) (no_clash t) (no_clashes ts)
 

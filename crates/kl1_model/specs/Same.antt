@@ -61,6 +61,40 @@ abbrev mutual
   all_awaited (more t ts) none = []
   all_awaited (more t ts) (more u us) = awaited t u ++ all_awaited ts us
 
+-- ---- each two of a list of terms
+
+-- whether a term is the same as all of these
+abbrev pub same_as_all : Term → List Term → Bool
+same_as_all t us = list_all (λ u. same_term t u) us
+
+-- whether each two of the terms are the same
+abbrev pub all_same : List Term → Bool
+all_same [] = true
+all_same (t ∷ ts) = same_as_all t ts && all_same ts
+
+-- whether a term clashes with some of these
+abbrev pub clashes_with_some : Term → List Term → Bool
+clashes_with_some t us = list_any (λ u. clash t u) us
+
+-- whether some two of the terms clash
+abbrev pub some_clash : List Term → Bool
+some_clash [] = false
+some_clash (t ∷ ts) = clashes_with_some t ts || some_clash ts
+
+-- the variables for which a term and these wait
+abbrev pub awaited_with : Term → List Term → List ℕ
+awaited_with t [] = []
+awaited_with t (u ∷ us) = awaited t u ++ awaited_with t us
+
+-- the variables for which each two of the terms wait
+abbrev pub awaited_by : List Term → List ℕ
+awaited_by [] = []
+awaited_by (t ∷ ts) = awaited_with t ts ++ awaited_by ts
+
+-- passive equality of a list of terms: all the same, or some two clash, or neither
+abbrev pub passive_each : List Term → Passive
+passive_each ts = if all_same ts then same else if some_clash ts then differs else unknown
+
 -- ---- the law: clashes are found by paths
 
 -- an argument by its number, from 0

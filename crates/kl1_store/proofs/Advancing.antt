@@ -20,6 +20,7 @@ use Rattle.kl1_store.specs.Meaning.{term_of, terms_of}
 use Rattle.kl1_store.specs.Sound.{IsFormed}
 use Rattle.kl1_store.specs.Waiting.{rest_of, waiting, IsPair, ArePairs, Turn, IsTurn}
 use Rattle.kl1_store.specs.Onward.{onward}
+use Rattle.kl1_store.specs.Spots.{unread}
 use Rattle.kl1_store.specs.Meets.{MeetsAs, CanTake, Takes, Opens}
 use Rattle.kl1_store.specs.Unifies.{ForEachReading}
 use Rattle.kl1_store.proofs.Terms.{term_of-Structure, arguments_in}
@@ -74,7 +75,7 @@ rest_turn {N = N} f h p l r x y es turn =
     ∙ ap (λ t. equation t (term_of f h r)) (sym (turn.left_means f)) ∙ ap (equation (term_of f h x)) (sym (turn.right_means f))
 
 -- the front equation of a turn, in front of what waits
-turn_waiting : {N : Type 0} (f : N → List ℕ) (h : Held N) (ps : List Frame) (p : Frame) (l r x y : Cell N) → Turn h p l r x y →
+pub turn_waiting : {N : Type 0} (f : N → List ℕ) (h : Held N) (ps : List Frame) (p : Frame) (l r x y : Cell N) → Turn h p l r x y →
     waiting f h [] (ps ++ p ∷ []) ≡ record { left = term_of f h x; right = term_of f h y } ∷ waiting f h [] (ps ++ onward p ∷ [])
 turn_waiting f h ps p l r x y turn =
     let equation : List Equation → List Equation = λ es. record { left = term_of f h x; right = term_of f h y } ∷ es in
@@ -95,9 +96,6 @@ turn_decides f last h ps p l r x y turn le =
     ∙ front_decides last (record { left = term_of f h x; right = term_of f h y }) (waiting f h [] (ps ++ onward p ∷ [])) (turn_numbered f last h ps p l r x y turn le)
 
 -- how much work waits
-abbrev pub unread : {N : Type 0} → N → List ℕ
-unread n = []
-
 abbrev pub work : {N : Type 0} → Held N → List Frame → ℕ
 work h ps = equations_size (waiting unread h [] ps) + length ps
 
@@ -135,7 +133,7 @@ dropped built h ps p l r x y pairs turn equal = record {
   less = omega (arith, turn_size unread h ps p l r x y turn, length-append ps (p ∷ []), length-append ps (onward p ∷ []));
 }
 
-arguments_size : (ts us : Terms) (es : List Equation) → equations_size (argument_equations ts us es) ≤ sizes ts + equations_size es
+pub arguments_size : (ts us : Terms) (es : List Equation) → equations_size (argument_equations ts us es) ≤ sizes ts + equations_size es
 arguments_size none us es = omega arith
 arguments_size (more t ts) none es = omega arith
 arguments_size (more t ts) (more u us) es = let r = arguments_size ts us es in omega (arith, r)
@@ -227,3 +225,15 @@ taken_at built h before ps now p q x y v z pairs e are is turn takes =
           ap (λ l. solve last (waiting f h [] l)) e ∙ taken built h ps p turn.left turn.right x y v z turn.turn takes f reads last le
           ∙ ap (λ l. after (solve last) (solve last) (bound_to v (term_of f h z) (waiting f h [] l))) (sym same),
     )
+
+-- nothing of a pair at its end waits
+pub closed_waiting : {N : Type 0} (h : Held N) (before ps : List Frame) (p : Frame) → ArePairs h before → before ≡ ps ++ p ∷ [] → p.count ≤ p.next → (f : N → List ℕ) → waiting f h [] before ≡ waiting f h [] ps
+closed_waiting h before ps p pairs e le = λ f.
+    let pair = pair_popped h before ps p pairs e in
+    ap (waiting f h []) e ∙ waiting-push f h [] ps p ∙ rest_done f h p (waiting f h [] ps) pair (omega (arith, pair.next))
+
+pub onward_pushed : {N : Type 0} (h : Held N) (before ps now : List Frame) (p q : Frame) → ArePairs h before → before ≡ ps ++ p ∷ [] → now ≡ ps ++ q ∷ [] → q ≡ onward p → suc p.next ≤ p.count → ArePairs h now
+onward_pushed h before ps now p q pairs e are is le =
+    let P : List Frame → Type 0 = λ l. ArePairs h l in
+    let r = popped h before ps p pairs e in
+    subst P (sym (pushed ps now p q are is)) (ArePairs-push h ps (onward p) r.0 (onward_pair h p r.1 le))

@@ -11,3 +11,4 @@ pub mod Advancing
 pub mod Searching
 pub mod Settling
 pub mod Unifying
+pub mod Comparing

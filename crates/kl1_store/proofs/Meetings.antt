@@ -52,7 +52,7 @@ kind_kept f h (Integer i) p inside value = ap term_kind (term_of-Integer f h i)
 kind_kept f h (Atom a) p inside value = ap term_kind (term_of-Atom f h a)
 kind_kept f h (Structure s) p inside value = let r = named h s inside in ap term_kind (term_of-Structure f h s r.0 p r.1)
 
-no_variable : {N : Type 0} (x : Cell N) → IsNoVariable x → 0 < kind x
+pub no_variable : {N : Type 0} (x : Cell N) → IsNoVariable x → 0 < kind x
 no_variable (Variable v) value = absurd value
 no_variable (Integer i) value = omega arith
 no_variable (Atom a) value = omega arith
@@ -101,7 +101,8 @@ lower_than v (Structure s) value = tt
 pub takes_left : {N : Type 0} (h : Held N) (v : ℕ) (r : Cell N) → IsFormed h → suc v ≤ h.variables → is_bound v h.bindings ≡ false → IsIn h r → IsNoVariable r → Takes h (Variable v) r v r
 takes_left h v r p inside unbound known value = record {
   can = record { inside = inside; unbound = unbound; known = known; lower = lower_than v r value };
-  leads = λ f es.
+  one = λ p q. p;
+    leads = λ f es.
       ap (λ t. front t (term_of f h r) es) (term_of-unbound f h v unbound)
       ∙ front-left v (term_of f h r) es (let k = kind_kept f h r p known value in omega (arith, no_variable r value));
 }
@@ -109,7 +110,8 @@ takes_left h v r p inside unbound known value = record {
 pub takes_right : {N : Type 0} (h : Held N) (v : ℕ) (l : Cell N) → IsFormed h → suc v ≤ h.variables → is_bound v h.bindings ≡ false → IsIn h l → IsNoVariable l → Takes h l (Variable v) v l
 takes_right h v l p inside unbound known value = record {
   can = record { inside = inside; unbound = unbound; known = known; lower = lower_than v l value };
-  leads = λ f es.
+  one = λ p q. q;
+    leads = λ f es.
       ap (λ t. front (term_of f h l) t es) (term_of-unbound f h v unbound)
       ∙ front-right v (term_of f h l) es (let k = kind_kept f h l p known value in omega (arith, no_variable l value));
 }
@@ -134,13 +136,15 @@ both_unbound f h v w es p q = ap (λ t. front t (term_of f h (Variable w)) es) (
 pub takes_lower : {N : Type 0} (h : Held N) (v w : ℕ) → suc w ≤ h.variables → is_bound v h.bindings ≡ false → is_bound w h.bindings ≡ false → v < w → Takes h (Variable v) (Variable w) w (Variable v)
 takes_lower h v w inside p q lt = record {
   can = record { inside = inside; unbound = q; known = omega arith; lower = lt };
-  leads = λ f es. both_unbound f h v w es p q ∙ front-lower v w es lt ∙ ap (λ t. bound_to w t es) (sym (term_of-unbound f h v p));
+  one = λ p q. p;
+    leads = λ f es. both_unbound f h v w es p q ∙ front-lower v w es lt ∙ ap (λ t. bound_to w t es) (sym (term_of-unbound f h v p));
 }
 
 pub takes_higher : {N : Type 0} (h : Held N) (v w : ℕ) → suc v ≤ h.variables → is_bound v h.bindings ≡ false → is_bound w h.bindings ≡ false → w < v → Takes h (Variable v) (Variable w) v (Variable w)
 takes_higher h v w inside p q lt = record {
   can = record { inside = inside; unbound = p; known = omega arith; lower = lt };
-  leads = λ f es. both_unbound f h v w es p q ∙ front-higher v w es lt ∙ ap (λ t. bound_to v t es) (sym (term_of-unbound f h w q));
+  one = λ p q. p;
+    leads = λ f es. both_unbound f h v w es p q ∙ front-higher v w es lt ∙ ap (λ t. bound_to v t es) (sym (term_of-unbound f h w q));
 }
 
 pub integers_clash : {N : Type 0} (built : BuiltIn → N) (h : Held N) (i j : ℤ) → (i ≡ j → ⊥) → MeetsAs built h (Integer i) (Integer j) Clash

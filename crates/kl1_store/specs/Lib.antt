@@ -11,3 +11,4 @@ pub mod Onward
 pub mod SpotOnward
 pub mod Spots
 pub mod Unification
+pub mod Compares

@@ -10,6 +10,7 @@ use Rattle.kl1_store.specs.declared.meeting.Meeting.{Meeting}
 use Rattle.kl1_store.specs.declared.meeting.Meeting.TheVariants.{Same, Clash, Bind, Open}
 use Rattle.kl1_store.specs.Held.{Held, is_bound, IsIn, IsLower}
 use Rattle.kl1_store.specs.Meaning.{term_of}
+use Rattle.kl1_store.specs.Value.{IsNoVariable}
 use Rattle.kl1_store.specs.Waiting.{rest_of, IsPair}
 
 -- a variable that may take a cell, if it isn't in it
@@ -21,6 +22,7 @@ pub record CanTake {N : Type 0} (h : Held N) (v : ℕ) (x : Cell N) : Type 0 whe
 
 pub record Takes {N : Type 0} (h : Held N) (l r : Cell N) (v : ℕ) (x : Cell N) : Type 0 where
   pub can : CanTake h v x
+  pub one : IsNoVariable l → IsNoVariable r → ⊥
   pub leads : (f : N → List ℕ) (es : List Equation) → front (term_of f h l) (term_of f h r) es ≡ bound_to v (term_of f h x) es
 
 pub record Opens {N : Type 0} (h : Held N) (l r : Cell N) (p : Frame) : Type 0 where

@@ -5,6 +5,7 @@ mod advance;
 mod binding;
 mod cell;
 mod cells;
+mod compare;
 mod frame;
 mod head;
 mod mark;
