@@ -8,3 +8,4 @@ pub mod UnifySound
 pub mod UnifySolution
 pub mod UnifyFails
 pub mod Clashes
+pub mod SameEach

@@ -60,21 +60,21 @@ pub looked : {N : Type 0} (built : BuiltIn → N) (h : Held N) (x y : Cell N) (p
     ((f : N → List ℕ) → clash (term_of f h x) (term_of f h y) ≡ false) → ((f : N → List ℕ) → awaited (term_of f h x) (term_of f h y) ≡ ws) → longer ≡ waits ++ ws →
     Compares built h x y ps ps waits longer
 looked built h x y ps waits longer ws pairs clashes awaits e = record {
-    pairs = pairs;
-    clash = λ f reads. ap (λ b. b || clash_among (waiting f h [] ps)) (sym (clashes f));
-    awaited = λ f reads.
-        ap (λ l. l ++ awaited_among (waiting f h [] ps)) e
-        ∙ append_assoc waits ws (awaited_among (waiting f h [] ps))
-        ∙ ap (λ l. waits ++ (l ++ awaited_among (waiting f h [] ps))) (sym (awaits f));
-    less = omega arith;
-  }
+  pairs = pairs;
+  clash = λ f reads. ap (λ b. b || clash_among (waiting f h [] ps)) (sym (clashes f));
+  awaited = λ f reads.
+      ap (λ l. l ++ awaited_among (waiting f h [] ps)) e
+      ∙ append_assoc waits ws (awaited_among (waiting f h [] ps))
+      ∙ ap (λ l. waits ++ (l ++ awaited_among (waiting f h [] ps))) (sym (awaits f));
+  less = omega arith;
+}
 
 pub looked_same : {N : Type 0} (built : BuiltIn → N) (h : Held N) (x y : Cell N) (ps : List Frame) (waits : List ℕ) → ArePairs h ps →
     ((f : N → List ℕ) → term_of f h x ≡ term_of f h y) → Compares built h x y ps ps waits waits
 looked_same built h x y ps waits pairs equal =
     looked built h x y ps waits waits [] pairs
-        (λ f. ap (λ t. clash t (term_of f h y)) (equal f) ∙ no_clash (term_of f h y))
-        (λ f. ap (λ t. awaited t (term_of f h y)) (equal f) ∙ awaited_self (term_of f h y)) (sym (append-nil waits))
+    (λ f. ap (λ t. clash t (term_of f h y)) (equal f) ∙ no_clash (term_of f h y))
+    (λ f. ap (λ t. awaited t (term_of f h y)) (equal f) ∙ awaited_self (term_of f h y)) (sym (append-nil waits))
 
 stands_for : {N : Type 0} (f : N → List ℕ) (h : Held N) (x : Cell N) (v : ℕ) → x ≡ Variable v → IsWalked h x → term_of f h x ≡ variable v
 stands_for {N = N} f h x v e walked = let W : Cell N → Type 0 = λ c. IsWalked h c in ap (term_of f h) e ∙ term_of-unbound f h v (subst W e walked)
@@ -101,9 +101,9 @@ pub looked_two : {N : Type 0} (built : BuiltIn → N) (h : Held N) (x y : Cell N
     x ≡ Variable v → y ≡ Variable w → IsWalked h x → IsWalked h y → (v ≡ w → ⊥) → one ≡ waits ++ v ∷ [] → two ≡ one ++ w ∷ [] → Compares built h x y ps ps waits two
 looked_two built h x y v w ps waits one two pairs ex ey wx wy ne e1 e2 =
     looked built h x y ps waits two (v ∷ w ∷ []) pairs
-        (λ f. ap (λ t. clash t (term_of f h y)) (stands_for f h x v ex wx))
-        (λ f. ap (λ t. awaited t (term_of f h y)) (stands_for f h x v ex wx) ∙ ap (awaited (variable v)) (stands_for f h y w ey wy) ∙ cond-false (v == w) [] (v ∷ w ∷ []) (ne_eqb v w ne))
-        (e2 ∙ ap (λ l. l ++ w ∷ []) e1 ∙ append_assoc waits (v ∷ []) (w ∷ []))
+    (λ f. ap (λ t. clash t (term_of f h y)) (stands_for f h x v ex wx))
+    (λ f. ap (λ t. awaited t (term_of f h y)) (stands_for f h x v ex wx) ∙ ap (awaited (variable v)) (stands_for f h y w ey wy) ∙ cond-false (v == w) [] (v ∷ w ∷ []) (ne_eqb v w ne))
+    (e2 ∙ ap (λ l. l ++ w ∷ []) e1 ∙ append_assoc waits (v ∷ []) (w ∷ []))
 
 pub looked_one_variable : {N : Type 0} (built : BuiltIn → N) (h : Held N) (x y : Cell N) (v w : ℕ) (ps : List Frame) (waits : List ℕ) → ArePairs h ps →
     x ≡ Variable v → y ≡ Variable w → v ≡ w → Compares built h x y ps ps waits waits
@@ -117,15 +117,15 @@ pub looked_left : {N : Type 0} (built : BuiltIn → N) (h : Held N) (x y : Cell 
     x ≡ Variable v → IsWalked h x → IsIn h y → IsNoVariable y → longer ≡ waits ++ v ∷ [] → Compares built h x y ps ps waits longer
 looked_left built h x y v ps waits longer p pairs ex wx inside value e =
     looked built h x y ps waits longer (v ∷ []) pairs
-        (λ f. ap (λ t. clash t (term_of f h y)) (stands_for f h x v ex wx))
-        (λ f. ap (λ t. awaited t (term_of f h y)) (stands_for f h x v ex wx) ∙ awaited-left v (term_of f h y) (positive f h y p inside value)) e
+    (λ f. ap (λ t. clash t (term_of f h y)) (stands_for f h x v ex wx))
+    (λ f. ap (λ t. awaited t (term_of f h y)) (stands_for f h x v ex wx) ∙ awaited-left v (term_of f h y) (positive f h y p inside value)) e
 
 pub looked_right : {N : Type 0} (built : BuiltIn → N) (h : Held N) (x y : Cell N) (v : ℕ) (ps : List Frame) (waits longer : List ℕ) → IsFormed h → ArePairs h ps →
     y ≡ Variable v → IsWalked h y → IsIn h x → IsNoVariable x → longer ≡ waits ++ v ∷ [] → Compares built h x y ps ps waits longer
 looked_right built h x y v ps waits longer p pairs ey wy inside value e =
     looked built h x y ps waits longer (v ∷ []) pairs
-        (λ f. ap (clash (term_of f h x)) (stands_for f h y v ey wy) ∙ clash-right (term_of f h x) v)
-        (λ f. ap (awaited (term_of f h x)) (stands_for f h y v ey wy) ∙ awaited-right v (term_of f h x) (positive f h x p inside value)) e
+    (λ f. ap (clash (term_of f h x)) (stands_for f h y v ey wy) ∙ clash-right (term_of f h x) v)
+    (λ f. ap (awaited (term_of f h x)) (stands_for f h y v ey wy) ∙ awaited-right v (term_of f h x) (positive f h x p inside value)) e
 
 fails_if : (c : Bool) (l : List Equation) → (if c then goes_on l else fails) ≡ fails → c ≡ false
 fails_if true l e = absurd (cc)
@@ -175,9 +175,12 @@ opened_structures {N = N} f h x y p formed opens =
     let r = ap (term_of f h) opens.right ∙ term_of-Structure f h p.right b.0 formed b.1 in
     let P : ℕ → Type 0 = λ n. Structures (term_of f h x) (term_of f h y) (terms_of f h (drop n (arguments_of h p.left))) (terms_of f h (drop n (arguments_of h p.right))) in
     let leads : front (structure (f a.0) ts) (structure (f b.0) us) [] ≡ goes_on (rest_of f h p []) =
-        ap (λ t. front t (structure (f b.0) us) []) (sym l) ∙ ap (λ u. front (term_of f h x) u []) (sym r) ∙ opens.leads f [] in
+    ap (λ t. front t (structure (f b.0) us) []) (sym l) ∙ ap (λ u. front (term_of f h x) u []) (sym r) ∙ opens.leads f [] in
     subst P (sym opens.start) (record {
-      left_name = f a.0; right_name = f b.0; left = l; right = r;
+      left_name = f a.0;
+      right_name = f b.0;
+      left = l;
+      right = r;
       one = goes_if (bytes_eq (f a.0) (f b.0) && count_of ts == count_of us) (argument_equations ts us []) (rest_of f h p []) leads;
     })
 
@@ -204,8 +207,8 @@ looked_open {N = N} built h x y p ps now waits formed pairs opens e =
           ∙ ap (λ b. b || clash_among (waiting f h [] ps)) (sym (clash-structures (term_of f h x) (term_of f h y) _ _ (opened_structures f h x y p formed opens)));
       awaited = λ f reads.
           ap (λ l. waits ++ l)
-              (ap awaited_among (waiting-push f h [] ps p) ∙ awaited_among-arguments (terms_of f h (drop p.next (arguments_of h p.left))) (terms_of f h (drop p.next (arguments_of h p.right))) (waiting f h [] ps)
-               ∙ ap (λ l. l ++ awaited_among (waiting f h [] ps)) (sym (awaited-structures (term_of f h x) (term_of f h y) _ _ (opened_structures f h x y p formed opens))));
+          (ap awaited_among (waiting-push f h [] ps p) ∙ awaited_among-arguments (terms_of f h (drop p.next (arguments_of h p.left))) (terms_of f h (drop p.next (arguments_of h p.right))) (waiting f h [] ps)
+          ∙ ap (λ l. l ++ awaited_among (waiting f h [] ps)) (sym (awaited-structures (term_of f h x) (term_of f h y) _ _ (opened_structures f h x y p formed opens))));
       less = omega (arith, w, big, small, length-append ps (p ∷ []));
     })
 
@@ -257,30 +260,30 @@ pub left_start : {N : Type 0} (built : BuiltIn → N) (h : Held N) (l r x y : Ce
     ((f : N → List ℕ) → term_of f h x ≡ term_of f h l) → ((f : N → List ℕ) → term_of f h y ≡ term_of f h r) → Compares built h x y before now waits longer → IsLeft built h l r waits longer now
 unfolding waiting
 left_start built h l r x y before now waits longer e p q c = record {
-    pairs = c.pairs;
-    clash = λ f reads.
-        c.clash f reads ∙ ap (λ ps. clash (term_of f h x) (term_of f h y) || clash_among (waiting f h [] ps)) e ∙ or-nothing (clash (term_of f h x) (term_of f h y))
-        ∙ ap (λ t. clash t (term_of f h y)) (p f) ∙ ap (clash (term_of f h l)) (q f);
-    awaited = λ f reads.
-        c.awaited f reads ∙ ap (λ ps. waits ++ (awaited (term_of f h x) (term_of f h y) ++ awaited_among (waiting f h [] ps))) e
-        ∙ ap (λ ws. waits ++ ws) (append-nil (awaited (term_of f h x) (term_of f h y)) ∙ ap (λ t. awaited t (term_of f h y)) (p f) ∙ ap (awaited (term_of f h l)) (q f));
-  }
+  pairs = c.pairs;
+  clash = λ f reads.
+      c.clash f reads ∙ ap (λ ps. clash (term_of f h x) (term_of f h y) || clash_among (waiting f h [] ps)) e ∙ or-nothing (clash (term_of f h x) (term_of f h y))
+      ∙ ap (λ t. clash t (term_of f h y)) (p f) ∙ ap (clash (term_of f h l)) (q f);
+  awaited = λ f reads.
+      c.awaited f reads ∙ ap (λ ps. waits ++ (awaited (term_of f h x) (term_of f h y) ++ awaited_among (waiting f h [] ps))) e
+      ∙ ap (λ ws. waits ++ ws) (append-nil (awaited (term_of f h x) (term_of f h y)) ∙ ap (λ t. awaited t (term_of f h y)) (p f) ∙ ap (awaited (term_of f h l)) (q f));
+}
 
 pub left_step : {N : Type 0} (built : BuiltIn → N) (h : Held N) (l r : Cell N) (start waits longer : List ℕ) (before now : List Frame) → IsLeft built h l r start waits before →
     Reduces built h before now waits longer → IsLeft built h l r start longer now
 left_step built h l r start waits longer before now i s = record {
-    pairs = s.pairs;
-    clash = λ f reads. s.clash f reads ∙ i.clash f reads;
-    awaited = λ f reads. s.awaited f reads ∙ i.awaited f reads;
-  }
+  pairs = s.pairs;
+  clash = λ f reads. s.clash f reads ∙ i.clash f reads;
+  awaited = λ f reads. s.awaited f reads ∙ i.awaited f reads;
+}
 
 pub left_end : {N : Type 0} (built : BuiltIn → N) (h : Held N) (l r : Cell N) (start longer : List ℕ) (now : List Frame) → IsLeft built h l r start longer now → now ≡ [] →
     (f : N → List ℕ) → Reads built f → Compared f h l r start longer
 unfolding waiting
 left_end built h l r start longer now i e = λ f reads. record {
-    clash = sym (i.clash f reads) ∙ ap (λ ps. clash_among (waiting f h [] ps)) e;
-    awaited = sym (append-nil longer) ∙ ap (λ ps. longer ++ awaited_among (waiting f h [] ps)) (sym e) ∙ i.awaited f reads;
-  }
+  clash = sym (i.clash f reads) ∙ ap (λ ps. clash_among (waiting f h [] ps)) e;
+  awaited = sym (append-nil longer) ∙ ap (λ ps. longer ++ awaited_among (waiting f h [] ps)) (sym e) ∙ i.awaited f reads;
+}
 
 pub left_clash : {N : Type 0} (built : BuiltIn → N) (h : Held N) (l r : Cell N) (start longer : List ℕ) (now : List Frame) → IsLeft built h l r start longer now →
     ((f : N → List ℕ) → Reads built f → clash_among (waiting f h [] now) ≡ true) → (f : N → List ℕ) → Reads built f → clash (term_of f h l) (term_of f h r) ≡ true

@@ -12,3 +12,4 @@ pub mod Searching
 pub mod Settling
 pub mod Unifying
 pub mod Comparing
+pub mod ComparingEach

@@ -102,7 +102,7 @@ pub takes_left : {N : Type 0} (h : Held N) (v : ℕ) (r : Cell N) → IsFormed h
 takes_left h v r p inside unbound known value = record {
   can = record { inside = inside; unbound = unbound; known = known; lower = lower_than v r value };
   one = λ p q. p;
-    leads = λ f es.
+  leads = λ f es.
       ap (λ t. front t (term_of f h r) es) (term_of-unbound f h v unbound)
       ∙ front-left v (term_of f h r) es (let k = kind_kept f h r p known value in omega (arith, no_variable r value));
 }
@@ -111,7 +111,7 @@ pub takes_right : {N : Type 0} (h : Held N) (v : ℕ) (l : Cell N) → IsFormed 
 takes_right h v l p inside unbound known value = record {
   can = record { inside = inside; unbound = unbound; known = known; lower = lower_than v l value };
   one = λ p q. q;
-    leads = λ f es.
+  leads = λ f es.
       ap (λ t. front (term_of f h l) t es) (term_of-unbound f h v unbound)
       ∙ front-right v (term_of f h l) es (let k = kind_kept f h l p known value in omega (arith, no_variable l value));
 }
@@ -137,14 +137,14 @@ pub takes_lower : {N : Type 0} (h : Held N) (v w : ℕ) → suc w ≤ h.variable
 takes_lower h v w inside p q lt = record {
   can = record { inside = inside; unbound = q; known = omega arith; lower = lt };
   one = λ p q. p;
-    leads = λ f es. both_unbound f h v w es p q ∙ front-lower v w es lt ∙ ap (λ t. bound_to w t es) (sym (term_of-unbound f h v p));
+  leads = λ f es. both_unbound f h v w es p q ∙ front-lower v w es lt ∙ ap (λ t. bound_to w t es) (sym (term_of-unbound f h v p));
 }
 
 pub takes_higher : {N : Type 0} (h : Held N) (v w : ℕ) → suc v ≤ h.variables → is_bound v h.bindings ≡ false → is_bound w h.bindings ≡ false → w < v → Takes h (Variable v) (Variable w) v (Variable w)
 takes_higher h v w inside p q lt = record {
   can = record { inside = inside; unbound = p; known = omega arith; lower = lt };
   one = λ p q. p;
-    leads = λ f es. both_unbound f h v w es p q ∙ front-higher v w es lt ∙ ap (λ t. bound_to v t es) (sym (term_of-unbound f h w q));
+  leads = λ f es. both_unbound f h v w es p q ∙ front-higher v w es lt ∙ ap (λ t. bound_to v t es) (sym (term_of-unbound f h w q));
 }
 
 pub integers_clash : {N : Type 0} (built : BuiltIn → N) (h : Held N) (i j : ℤ) → (i ≡ j → ⊥) → MeetsAs built h (Integer i) (Integer j) Clash

@@ -12,3 +12,4 @@ pub mod SpotOnward
 pub mod Spots
 pub mod Unification
 pub mod Compares
+pub mod ComparesEach

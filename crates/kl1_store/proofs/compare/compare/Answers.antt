@@ -17,7 +17,7 @@ pub loop-frame-init : goal.loop-frame-init
 loop-frame-init g c =
     let P : Bool → Type 0 = λ b. ComparesAs g.N.NameValue.built c.args.cells.now.held c.walk-first.result c.walk-second.result c.clear.new.self.items c.compare_sides.new.frames.items c.args.waits.now.items c.compare_sides.new.waits.items b in
     left_start g.N.NameValue.built c.args.cells.now.held c.args.left c.args.right c.walk-first.result c.walk-second.result c.clear.new.self.items c.compare_sides.new.frames.items c.args.waits.now.items c.compare_sides.new.waits.items
-        c.clear.ensures.items c.walk-first.ensures.means c.walk-second.ensures.means (subst P c.if-not-branch.false c.in_ok-compare_sides.ensures)
+    c.clear.ensures.items c.walk-first.ensures.means c.walk-second.ensures.means (subst P c.if-not-branch.false c.in_ok-compare_sides.ensures)
 
 pub loop-frame-smaller-then-frame : goal.loop-frame-smaller-then-frame
 loop-frame-smaller-then-frame g c = (pair_closed g.N.NameValue.built c.args.cells.now.held c.loop-frame.frames.items c.pop.new.self.items c.in-Some.frame c.loop-frame.waits.items c.loop-frame.invariant.pairs c.in-Some.ensures.items c.if-frame.true).less
@@ -37,20 +37,20 @@ pub returns-then-not-branch-2 : goal.returns-then-not-branch-2
 returns-then-not-branch-2 g c =
     let P : Bool → Type 0 = λ b. ComparesAs g.N.NameValue.built c.args.cells.now.held c.turn-sides.result.left c.turn-sides.result.right c.push.new.self.items c.compare_sides-in-Some.new.frames.items c.loop-frame.waits.items c.compare_sides-in-Some.new.waits.items b in
     left_clash g.N.NameValue.built c.args.cells.now.held c.args.left c.args.right c.args.waits.now.items c.loop-frame.waits.items c.loop-frame.frames.items c.loop-frame.invariant
-        (pair_clashes g.N.NameValue.built c.args.cells.now.held c.loop-frame.frames.items c.pop.new.self.items c.in-Some.frame c.turn-sides.result.left c.turn-sides.result.right c.in-Some.ensures.items c.turn-sides.ensures (subst P c.if-not-branch-2.true c.in_ok-compare_sides-2.ensures))
+    (pair_clashes g.N.NameValue.built c.args.cells.now.held c.loop-frame.frames.items c.pop.new.self.items c.in-Some.frame c.turn-sides.result.left c.turn-sides.result.right c.in-Some.ensures.items c.turn-sides.ensures (subst P c.if-not-branch-2.true c.in_ok-compare_sides-2.ensures))
 
 pub loop-frame-smaller : goal.loop-frame-smaller
 loop-frame-smaller g c =
     let P : Bool → Type 0 = λ b. ComparesAs g.N.NameValue.built c.args.cells.now.held c.turn-sides.result.left c.turn-sides.result.right c.push.new.self.items c.compare_sides-in-Some.new.frames.items c.loop-frame.waits.items c.compare_sides-in-Some.new.waits.items b in
     let s = pair_compared g.N.NameValue.built c.args.cells.now.held c.loop-frame.frames.items c.pop.new.self.items c.push.new.self.items c.compare_sides-in-Some.new.frames.items c.in-Some.frame c.onward.result c.turn-sides.result.left c.turn-sides.result.right c.loop-frame.waits.items c.compare_sides-in-Some.new.waits.items
-        c.in-Some.ensures.items c.in_ok-push.ensures.items c.onward.ensures c.turn-sides.ensures (subst P c.if-not-branch-2.false c.in_ok-compare_sides-2.ensures) in
+    c.in-Some.ensures.items c.in_ok-push.ensures.items c.onward.ensures c.turn-sides.ensures (subst P c.if-not-branch-2.false c.in_ok-compare_sides-2.ensures) in
     s.less
 
 pub loop-frame-preserved : goal.loop-frame-preserved
 loop-frame-preserved g c =
     let P : Bool → Type 0 = λ b. ComparesAs g.N.NameValue.built c.args.cells.now.held c.turn-sides.result.left c.turn-sides.result.right c.push.new.self.items c.compare_sides-in-Some.new.frames.items c.loop-frame.waits.items c.compare_sides-in-Some.new.waits.items b in
     let s = pair_compared g.N.NameValue.built c.args.cells.now.held c.loop-frame.frames.items c.pop.new.self.items c.push.new.self.items c.compare_sides-in-Some.new.frames.items c.in-Some.frame c.onward.result c.turn-sides.result.left c.turn-sides.result.right c.loop-frame.waits.items c.compare_sides-in-Some.new.waits.items
-        c.in-Some.ensures.items c.in_ok-push.ensures.items c.onward.ensures c.turn-sides.ensures (subst P c.if-not-branch-2.false c.in_ok-compare_sides-2.ensures) in
+    c.in-Some.ensures.items c.in_ok-push.ensures.items c.onward.ensures c.turn-sides.ensures (subst P c.if-not-branch-2.false c.in_ok-compare_sides-2.ensures) in
     left_step g.N.NameValue.built c.args.cells.now.held c.args.left c.args.right c.args.waits.now.items c.loop-frame.waits.items c.compare_sides-in-Some.new.waits.items c.loop-frame.frames.items c.compare_sides-in-Some.new.frames.items c.loop-frame.invariant s
 
 pub returns : goal.returns

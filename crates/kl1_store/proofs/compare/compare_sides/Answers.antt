@@ -5,7 +5,7 @@ use Rattle.kl1_store.proofs.compare.compare_sides.Goals as goal
 pub returns-then-variable-other : goal.returns-then-variable-other
 returns-then-variable-other g c =
     looked_two g.N.NameValue.built c.args.cells.now.held c.args.left c.args.right c.in-Some.variable c.in-Some-variable.other c.args.frames.now.items c.args.waits.now.items c.push.new.self.items c.push-then-variable-other.new.self.items
-        c.requires.pairs c.in-Some.ensures c.in-Some-variable.ensures c.requires.left_walked c.requires.right_walked c.if-variable-other.true c.in_ok-push-in-Some-variable.ensures.items c.in_ok-push-in-Some-variable-2.ensures.items
+    c.requires.pairs c.in-Some.ensures c.in-Some-variable.ensures c.requires.left_walked c.requires.right_walked c.if-variable-other.true c.in_ok-push-in-Some-variable.ensures.items c.in_ok-push-in-Some-variable-2.ensures.items
 
 pub returns-in-Some-variable : goal.returns-in-Some-variable
 returns-in-Some-variable g c =
