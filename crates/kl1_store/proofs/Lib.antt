@@ -13,3 +13,4 @@ pub mod Settling
 pub mod Unifying
 pub mod Comparing
 pub mod ComparingEach
+pub mod Answering

@@ -107,3 +107,9 @@ IsWalked h (Structure s) = Unit {0}
 -- how much is held
 abbrev pub sizes_of : {N : Type 0} → Held N → Mark
 sizes_of h = record { variables = h.variables; structures = length h.structures; bindings = length h.bindings }
+
+-- room for so many more
+pub record HasRoom (room : Room) (vs ss xs : ℕ) : Type 0 where
+  pub variables : vs ≤ room.variables
+  pub structures : ss ≤ room.structures
+  pub arguments : xs ≤ room.arguments

@@ -13,3 +13,4 @@ pub mod Spots
 pub mod Unification
 pub mod Compares
 pub mod ComparesEach
+pub mod Sameness

@@ -2,7 +2,7 @@
 
 ghost use Rattle.std.specs.Prelude.{◌≡◌, ℕ, suc, false, ◌+◌, ◌<◌, ◌≤◌, List, [], Some, length, take, MatchOption, IfOk, OnOk, OnErr, IsOk, slice_get};
 ghost use Rattle.kl1_model.specs.Term.{occurs};
-ghost use Rattle.kl1_store.specs.Held.{Held, nothing_held, with_variable, with_structure, with_binding, is_bound, found, arguments_of, IsIn, AreIn, IsLower, IsWalked, sizes_of};
+ghost use Rattle.kl1_store.specs.Held.{Held, nothing_held, with_variable, with_structure, with_binding, is_bound, found, arguments_of, IsIn, AreIn, IsLower, IsWalked, sizes_of, HasRoom};
 ghost use Rattle.kl1_store.specs.Meaning.{term_of};
 ghost use Rattle.kl1_store.specs.Sound.{IsFormed, Grown, IsBoundTo};
 ghost use Rattle.kl1_store.specs.Slots.{AreSlotted, AreOnce};
@@ -96,6 +96,28 @@ impl<N: NameValue> Cells<N> {
             count: count as u32,
         });
         Ok(number as u32)
+    }
+
+    /// Makes room for so many more variables, structures and arguments.
+    pub fn reserve(
+        &mut self,
+        variables: usize,
+        structures: usize,
+        arguments: usize,
+    ) -> Result<(), AllocError>
+        ensures room { OnOk result (HasRoom self.new.room variables structures arguments) }
+        ensures same { self.new.held ≡ self.old.held }
+    {
+        if variables > MOST - self.slots.len()
+            || structures > MOST - self.nodes.len()
+            || arguments > MOST - self.arguments.len()
+        {
+            return Err(AllocError);
+        }
+        self.slots.reserve(variables)?;
+        self.nodes.reserve(structures)?;
+        self.arguments.reserve(arguments)?;
+        Ok(())
     }
 
     /// The variable `variable` is replaced by `value` everywhere.

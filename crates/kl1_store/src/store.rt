@@ -1,16 +1,19 @@
 // The store: cells, and the scratch of its calls.
 
-ghost use Rattle.std.specs.Prelude.{◌≡◌, ℕ, ◌<◌, ◌≤◌, List, Some, length, IfOk, OnErr, IsOk, slice_get};
-ghost use Rattle.kl1_store.specs.Held.{Held, nothing_held, with_variable, with_structure, arguments_of, IsIn, AreIn, IsWalked, sizes_of};
+ghost use Rattle.std.specs.Prelude.{◌≡◌, ℕ, ◌<◌, ◌≤◌, List, Some, length, IfOk, OnOk, OnErr, IsOk, slice_get};
+ghost use Rattle.kl1_store.specs.Held.{Held, nothing_held, with_variable, with_structure, arguments_of, IsIn, AreIn, IsWalked, sizes_of, HasRoom};
 ghost use Rattle.kl1_store.specs.Meaning.{term_of};
 ghost use Rattle.kl1_store.specs.Sound.{IsFormed, Grown};
 ghost use Rattle.kl1_store.specs.Unification.{UnifiesAs};
+ghost use Rattle.kl1_store.specs.Sameness.{SameAs};
 
 use crate::cell::Cell;
 use crate::cells::Cells;
+use crate::compare_each::compare_each;
 use crate::frame::Frame;
 use crate::head::Head;
 use crate::mark::Mark;
+use crate::same::Same;
 use crate::settle::unify_cells;
 use crate::spot::Spot;
 use crate::unified::Unified;
@@ -27,6 +30,7 @@ pub struct Store<N: NameValue> {
     cells: Cells<N>,
     frames: Vec<Frame>,
     spots: Vec<Spot>,
+    alloc: Global,
 }
 
 impl<N: NameValue> Model for Store<N> {
@@ -46,6 +50,7 @@ impl<N: NameValue> Store<N> {
             cells: Cells::new(alloc),
             frames: Vec::new(alloc),
             spots: Vec::new(alloc),
+            alloc,
         }
     }
 
@@ -121,6 +126,35 @@ impl<N: NameValue> Store<N> {
                 Err(error)
             }
         }
+    }
+
+    /// Whether cells mean the same terms, each two of them, as far as their variables let it be seen; nothing is bound.
+    pub fn same(&mut self, terms: &[Cell<N>]) -> Result<Same, AllocError>
+        requires { AreIn self.old.held terms.now }
+        ensures ok { IfOk result (SameAs N.built self.old.held terms.now) }
+        ensures same { self.new.held ≡ self.old.held }
+    {
+        let mut waits = Vec::new(self.alloc);
+        if !compare_each(&self.cells, &mut self.frames, &mut waits, terms)? {
+            return Ok(Same::No);
+        }
+        if waits.is_empty() {
+            return Ok(Same::Yes);
+        }
+        Ok(Same::Wait(waits))
+    }
+
+    /// Makes room for so many more variables, structures and arguments: these can't be refused then.
+    pub fn reserve(
+        &mut self,
+        variables: usize,
+        structures: usize,
+        arguments: usize,
+    ) -> Result<(), AllocError>
+        ensures room { OnOk result (HasRoom self.new.room variables structures arguments) }
+        ensures same { self.new.held ≡ self.old.held }
+    {
+        self.cells.reserve(variables, structures, arguments)
     }
 
     /// How much is held now.
