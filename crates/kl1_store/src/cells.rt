@@ -1,6 +1,6 @@
 // The lists of a store, and what each growth does to them.
 
-ghost use Rattle.std.specs.Prelude.{◌≡◌, ℕ, suc, false, ◌+◌, ◌<◌, ◌≤◌, List, [], Some, length, take, MatchOption, IfOk, OnOk, OnErr, IsOk, slice_get};
+ghost use Rattle.std.specs.Prelude.{◌≡◌, ℕ, suc, false, ◌+◌, ◌<◌, ◌≤◌, List, [], Some, length, take, MatchOption, IfOk, OnOk, OnErr, IsOk, IsTrue, slice_get};
 ghost use Rattle.kl1_model.specs.Term.{occurs};
 ghost use Rattle.kl1_store.specs.Held.{Held, nothing_held, with_variable, with_structure, with_binding, is_bound, found, arguments_of, IsIn, AreIn, IsLower, IsWalked, sizes_of, HasRoom};
 ghost use Rattle.kl1_store.specs.Meaning.{term_of};
@@ -197,6 +197,20 @@ impl<N: NameValue> Cells<N> {
             }
         }
         at
+    }
+
+    /// Whether a cell is of this store.
+    pub fn holds(&self, cell: Cell<N>) -> bool
+        ensures { IsTrue result → IsIn self.now.held cell }
+    {
+        let variables = self.slots.len();
+        let structures = self.nodes.len();
+        match cell {
+            Cell::Variable(variable) => (variable as usize) < variables,
+            Cell::Integer(_) => true,
+            Cell::Atom(_) => true,
+            Cell::Structure(structure) => (structure as usize) < structures,
+        }
     }
 
     /// How much is held now.

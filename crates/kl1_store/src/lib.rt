@@ -28,3 +28,6 @@ pub use mark::Mark;
 pub use same::Same;
 pub use store::Store;
 pub use unified::Unified;
+
+#[cfg(test)]
+mod tests;

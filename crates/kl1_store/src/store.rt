@@ -1,6 +1,6 @@
 // The store: cells, and the scratch of its calls.
 
-ghost use Rattle.std.specs.Prelude.{◌≡◌, ℕ, ◌<◌, ◌≤◌, List, Some, length, IfOk, OnOk, OnErr, IsOk, slice_get};
+ghost use Rattle.std.specs.Prelude.{◌≡◌, ℕ, ◌<◌, ◌≤◌, List, Some, length, IfOk, OnOk, OnErr, IsOk, IsTrue, slice_get};
 ghost use Rattle.kl1_store.specs.Held.{Held, nothing_held, with_variable, with_structure, arguments_of, IsIn, AreIn, IsWalked, sizes_of, HasRoom};
 ghost use Rattle.kl1_store.specs.Meaning.{term_of};
 ghost use Rattle.kl1_store.specs.Sound.{IsFormed, Grown};
@@ -155,6 +155,27 @@ impl<N: NameValue> Store<N> {
         ensures same { self.new.held ≡ self.old.held }
     {
         self.cells.reserve(variables, structures, arguments)
+    }
+
+    /// Whether a cell is of this store.
+    pub fn holds(&self, cell: Cell<N>) -> bool
+        ensures { IsTrue result → IsIn self.now.held cell }
+    {
+        self.cells.holds(cell)
+    }
+
+    /// Whether cells are of this store.
+    pub fn holds_all(&self, terms: &[Cell<N>]) -> bool
+        ensures { IsTrue result → AreIn self.now.held terms.now }
+    {
+        let mut rest = terms;
+        while let [first, more @ ..] = rest {
+            if !self.cells.holds(*first) {
+                return false;
+            }
+            rest = more;
+        }
+        true
     }
 
     /// How much is held now.
