@@ -14,3 +14,4 @@ pub mod Unification
 pub mod Compares
 pub mod ComparesEach
 pub mod Sameness
+pub mod Hooks

@@ -1,6 +1,6 @@
 // The lists of a store, and what each growth does to them.
 
-ghost use Rattle.std.specs.Prelude.{◌≡◌, ℕ, suc, false, ◌+◌, ◌<◌, ◌≤◌, List, [], Some, length, take, MatchOption, IfOk, OnOk, OnErr, IsOk, IsTrue, slice_get};
+ghost use Rattle.std.specs.Prelude.{◌≡◌, ℕ, suc, false, ◌+◌, ◌<◌, ◌≤◌, List, [], Some, length, take, drop, MatchOption, IfOk, OnOk, OnErr, IsOk, IsTrue, slice_get};
 ghost use Rattle.kl1_model.specs.Term.{occurs};
 ghost use Rattle.kl1_store.specs.Held.{Held, nothing_held, with_variable, with_structure, with_binding, is_bound, found, arguments_of, IsIn, AreIn, IsLower, IsWalked, sizes_of, HasRoom};
 ghost use Rattle.kl1_store.specs.Meaning.{term_of};
@@ -197,6 +197,14 @@ impl<N: NameValue> Cells<N> {
             }
         }
         at
+    }
+
+    /// The bindings after the first `from`.
+    pub fn bindings_from(&self, from: usize) -> &[Binding<N>]
+        requires { from ≤ length self.now.held.bindings }
+        ensures { result.now ≡ drop from self.now.held.bindings }
+    {
+        &self.bindings[from..]
     }
 
     /// Whether a cell is of this store.

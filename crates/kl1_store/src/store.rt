@@ -1,21 +1,24 @@
 // The store: cells, and the scratch of its calls.
 
-ghost use Rattle.std.specs.Prelude.{◌≡◌, ℕ, ◌<◌, ◌≤◌, List, Some, length, IfOk, OnOk, OnErr, IsOk, IsTrue, slice_get};
-ghost use Rattle.kl1_store.specs.Held.{Held, nothing_held, with_variable, with_structure, arguments_of, IsIn, AreIn, IsWalked, sizes_of, HasRoom};
+ghost use Rattle.std.specs.Prelude.{◌≡◌, ℕ, ◌<◌, ◌≤◌, List, [], ◌∷◌, ◌++◌, Some, length, drop, IfOk, OnOk, OnErr, IsOk, IsTrue, slice_get};
+ghost use Rattle.kl1_store.specs.Held.{Held, nothing_held, with_variable, with_structure, arguments_of, IsIn, AreIn, IsWalked, HasRoom};
 ghost use Rattle.kl1_store.specs.Meaning.{term_of};
-ghost use Rattle.kl1_store.specs.Sound.{IsFormed, Grown};
+ghost use Rattle.kl1_store.specs.Sound.{IsFormed};
 ghost use Rattle.kl1_store.specs.Unification.{UnifiesAs};
 ghost use Rattle.kl1_store.specs.Sameness.{SameAs};
+ghost use Rattle.kl1_store.specs.Hooks.{Kept, told_by, point_of, HasGrown};
 
 use crate::cell::Cell;
 use crate::cells::Cells;
 use crate::compare_each::compare_each;
 use crate::frame::Frame;
 use crate::head::Head;
-use crate::mark::Mark;
+use crate::hook::Hook;
+use crate::point::Point;
 use crate::same::Same;
 use crate::settle::unify_cells;
 use crate::spot::Spot;
+use crate::tell::tell_all;
 use crate::unified::Unified;
 use kl1_text::NameValue;
 use std::alloc::{AllocError, Global};
@@ -30,26 +33,29 @@ pub struct Store<N: NameValue> {
     cells: Cells<N>,
     frames: Vec<Frame>,
     spots: Vec<Spot>,
+    hooks: Vec<Hook>,
     alloc: Global,
 }
 
 impl<N: NameValue> Model for Store<N> {
-    ghost use Rattle.kl1_store.specs.Held.{Stored};
+    ghost use Rattle.kl1_store.specs.Hooks.{Kept};
 
-    ghost Value = { Stored N };
+    ghost Value = { Kept N };
 
-    ghost view = { λ s. s.cells };
+    ghost view = { λ s. record { held = s.cells.held; hooks = s.hooks.items; room = s.cells.room } };
 }
 
 impl<N: NameValue> Store<N> {
     /// A store that holds nothing.
     pub fn new(alloc: Global) -> Self
-        ensures { result.held ≡ nothing_held }
+        ensures held { result.held ≡ nothing_held }
+        ensures hooks { result.hooks ≡ [] }
     {
         Store {
             cells: Cells::new(alloc),
             frames: Vec::new(alloc),
             spots: Vec::new(alloc),
+            hooks: Vec::new(alloc),
             alloc,
         }
     }
@@ -59,6 +65,7 @@ impl<N: NameValue> Store<N> {
         ensures ok { IfOk result (λ v. (v ≡ self.old.held.variables) × (self.new.held ≡ with_variable self.old.held)) }
         ensures err { OnErr result (self.new.held ≡ self.old.held) }
         ensures room { 0 < self.old.room.variables → IsOk result }
+        ensures hooks { self.new.hooks ≡ self.old.hooks }
     {
         self.cells.fresh()
     }
@@ -69,6 +76,7 @@ impl<N: NameValue> Store<N> {
         ensures ok { IfOk result (λ s. (s ≡ length self.old.held.structures) × (self.new.held ≡ with_structure self.old.held name arguments.now)) }
         ensures err { OnErr result (self.new.held ≡ self.old.held) }
         ensures room { 0 < self.old.room.structures → length arguments.now ≤ self.old.room.arguments → IsOk result }
+        ensures hooks { self.new.hooks ≡ self.old.hooks }
     {
         self.cells.build(name, arguments)
     }
@@ -107,6 +115,7 @@ impl<N: NameValue> Store<N> {
         requires right_in { IsIn self.old.held right }
         ensures ok { IfOk result (UnifiesAs N.built self.old.held self.new.held left right) }
         ensures err { OnErr result (self.new.held ≡ self.old.held) }
+        ensures hooks { self.new.hooks ≡ self.old.hooks }
     {
         let mark = self.cells.mark();
         match unify_cells(
@@ -133,6 +142,7 @@ impl<N: NameValue> Store<N> {
         requires { AreIn self.old.held terms.now }
         ensures ok { IfOk result (SameAs N.built self.old.held terms.now) }
         ensures same { self.new.held ≡ self.old.held }
+        ensures hooks { self.new.hooks ≡ self.old.hooks }
     {
         let mut waits = Vec::new(self.alloc);
         if !compare_each(&self.cells, &mut self.frames, &mut waits, terms)? {
@@ -153,6 +163,7 @@ impl<N: NameValue> Store<N> {
     ) -> Result<(), AllocError>
         ensures room { OnOk result (HasRoom self.new.room variables structures arguments) }
         ensures same { self.new.held ≡ self.old.held }
+        ensures hooks { self.new.hooks ≡ self.old.hooks }
     {
         self.cells.reserve(variables, structures, arguments)
     }
@@ -178,19 +189,45 @@ impl<N: NameValue> Store<N> {
         true
     }
 
-    /// How much is held now.
-    pub fn mark(&self) -> Mark
-        ensures sizes { result ≡ sizes_of self.now.held }
+    /// Hangs a number on a variable.
+    pub fn hang(&mut self, variable: u32, number: u32) -> Result<(), AllocError>
+        requires { variable < self.old.held.variables }
+        ensures ok { OnOk result (self.new.hooks ≡ self.old.hooks ++ record { variable = variable; number = number } ∷ []) }
+        ensures err { OnErr result (self.new.hooks ≡ self.old.hooks) }
+        ensures same { self.new.held ≡ self.old.held }
+    {
+        self.hooks.push(Hook { variable, number })?;
+        Ok(())
+    }
+
+    /// Adds the numbers that hang on the variables that were bound since a point, in the order of the bindings.
+    pub fn tell(&self, since: Point, told: &mut Vec<u32>) -> Result<(), AllocError>
+        requires { since.sizes.bindings ≤ length self.now.held.bindings }
+        ensures { OnOk result (told.new.items ≡ told.old.items ++ told_by (drop since.sizes.bindings self.now.held.bindings) self.now.hooks) }
+    {
+        let bindings = self.cells.bindings_from(since.sizes.bindings);
+        tell_all(bindings, self.hooks.as_slice(), told)?;
+        Ok(())
+    }
+
+    /// How much is kept now.
+    pub fn mark(&self) -> Point
+        ensures point { result ≡ point_of self.now }
         ensures formed { IsFormed self.now.held }
     {
-        self.cells.mark()
+        Point {
+            sizes: self.cells.mark(),
+            hooks: self.hooks.len(),
+        }
     }
 
     /// Takes back all that was done since `mark`, without memory.
-    pub fn back(&mut self, mark: Mark)
-        requires { (h : Held N) × ((mark ≡ sizes_of h) × (IsFormed h × Grown h self.old.held)) }
-        ensures { (h : Held N) → mark ≡ sizes_of h → Grown h self.old.held → self.new.held ≡ h }
+    pub fn back(&mut self, mark: Point)
+        requires { (k : Kept N) × ((mark ≡ point_of k) × (IsFormed k.held × HasGrown k self.old)) }
+        ensures held { (k : Kept N) → mark ≡ point_of k → HasGrown k self.old → self.new.held ≡ k.held }
+        ensures hooks { (k : Kept N) → mark ≡ point_of k → HasGrown k self.old → self.new.hooks ≡ k.hooks }
     {
-        self.cells.back(mark)
+        self.cells.back(mark.sizes);
+        self.hooks.truncate(mark.hooks);
     }
 }
