@@ -14,3 +14,4 @@ pub mod Unifying
 pub mod Comparing
 pub mod ComparingEach
 pub mod Answering
+pub mod Grows

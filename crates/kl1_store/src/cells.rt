@@ -200,11 +200,12 @@ impl<N: NameValue> Cells<N> {
     }
 
     /// The bindings after the first `from`.
+    #[tactic(auto, using(std::proofs::lemmas::List::drop_min))]
     pub fn bindings_from(&self, from: usize) -> &[Binding<N>]
-        requires { from ≤ length self.now.held.bindings }
         ensures { result.now ≡ drop from self.now.held.bindings }
     {
-        &self.bindings[from..]
+        let first = from.min(self.bindings.len());
+        &self.bindings[first..]
     }
 
     /// Whether a cell is of this store.

@@ -202,7 +202,6 @@ impl<N: NameValue> Store<N> {
 
     /// Adds the numbers that hang on the variables that were bound since a point, in the order of the bindings.
     pub fn tell(&self, since: Point, told: &mut Vec<u32>) -> Result<(), AllocError>
-        requires { since.sizes.bindings ≤ length self.now.held.bindings }
         ensures { OnOk result (told.new.items ≡ told.old.items ++ told_by (drop since.sizes.bindings self.now.held.bindings) self.now.hooks) }
     {
         let bindings = self.cells.bindings_from(since.sizes.bindings);

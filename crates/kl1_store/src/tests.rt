@@ -107,3 +107,18 @@ fn lists_of_100000_elements(rt: HostRuntime) -> Result<(), Fail> {
     assert_eq!(rt; compared(&rt, rt.alloc(), &mut store, left, right)?, 0);
     Ok(())
 }
+
+#[test]
+fn what_hangs_on_a_variable_is_told(rt: HostRuntime) -> Result<(), Fail> {
+    let mut store = Store::new(rt.alloc());
+    let number = store.fresh()?;
+    store.hang(number, 7)?;
+    store.hang(number, 9)?;
+    let before = store.mark();
+    let x = Cell::Variable(number);
+    assert_eq!(rt; unified(&rt, &mut store, x, ONE)?, Unified::Bound);
+    let mut told = Vec::new(rt.alloc());
+    store.tell(before, &mut told)?;
+    assert_eq!(rt; told.as_slice(), [7, 9].as_slice());
+    Ok(())
+}
