@@ -28,3 +28,5 @@ pub mod ReadStrict
 pub mod ReadSteps
 pub mod ReadClauses
 pub mod ReadPlain
+pub mod Clashes
+pub mod SameEach

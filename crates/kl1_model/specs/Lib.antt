@@ -28,3 +28,4 @@ pub mod AccountRows
 pub mod ReadLaws
 pub mod ReadRows
 pub mod ReadFaults
+pub mod Same

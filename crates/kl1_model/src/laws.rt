@@ -2,4 +2,5 @@
 
 pub mod examples;
 pub mod reading;
+pub mod same;
 pub mod unification;

@@ -1,0 +1,17 @@
+pub mod Replacing
+pub mod Meanings
+pub mod Growing
+pub mod Terms
+pub mod Laid
+pub mod Lists
+pub mod Walking
+pub mod Meetings
+pub mod Numbered
+pub mod Advancing
+pub mod Searching
+pub mod Settling
+pub mod Unifying
+pub mod Comparing
+pub mod ComparingEach
+pub mod Answering
+pub mod Grows

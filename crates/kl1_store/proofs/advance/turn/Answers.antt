@@ -1,0 +1,25 @@
+use Rattle.std.proofs.Common.{◌≡◌, ℕ, suc, ◌+◌, ◌<◌, ◌≤◌, List, [], ◌∷◌, ◌++◌, length, refl, sym, ap, ◌∙◌, arith, subst}
+use Rattle.std.specs.Prelude.{Some, slice_get}
+use Rattle.kl1_model.specs.Unify.{solve}
+use Rattle.kl1_store.specs.declared.cell.Cell.{Cell}
+use Rattle.kl1_store.specs.declared.frame.Frame.{Frame}
+use Rattle.kl1_store.specs.Held.{Held, IsIn, IsWithin, arguments_of}
+use Rattle.kl1_store.specs.Waiting.{waiting, ArePairs, IsPair, Turn, IsTurn}
+use Rattle.kl1_store.specs.Unifies.{ForEachReading}
+use Rattle.kl1_store.specs.Onward.{onward}
+use Rattle.kl1_store.proofs.Terms.{arguments_in, within_at}
+use Rattle.kl1_store.proofs.Advancing.{work, Reaches, pair_popped, closed_at, dropped_at, opened_at, never_at, taken_at, nothing_waits}
+use Rattle.kl1_store.proofs.advance.turn.Goals as goal
+
+pub argument-left-requires : goal.argument-left-requires
+argument-left-requires g c = let p = c.requires.pair in record { structure = p.left; index = omega (arith, p.left_count, c.requires.more) }
+
+pub walk-left-requires : goal.walk-left-requires
+walk-left-requires g c =
+    let h = c.args.cells.now.held in
+    within_at h (arguments_of h c.args.frame.left) c.args.frame.next c.argument-left.result (arguments_in h c.args.frame.left c.argument-left.ensures.formed) c.argument-left.ensures.is
+
+pub walk-right-requires : goal.walk-right-requires
+walk-right-requires g c =
+    let h = c.args.cells.now.held in
+    within_at h (arguments_of h c.args.frame.right) c.args.frame.next c.argument-right.result (arguments_in h c.args.frame.right c.argument-right.ensures.formed) c.argument-right.ensures.is

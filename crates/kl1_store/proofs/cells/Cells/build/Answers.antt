@@ -1,0 +1,29 @@
+use Rattle.std.proofs.Common.{rules, ◌≡◌, ℕ, suc, false, ◌+◌, ◌<◌, ◌≤◌, List, length, get_or, ◌-◌, ◌^◌, [], ◌∷◌, ◌++◌, refl, sym, ap, ◌∙◌, arith, subst, take, drop}
+use Rattle.std.specs.Prelude.{Some, slice_get}
+use Rattle.kl1_store.specs.Held.{Shape, Held, Stored, arguments_of, shape_arguments, AreWithin, IsWithin, sizes_of, with_structure}
+use Rattle.kl1_store.specs.Inside.{shapes_in, held_in, IsInside, most}
+use Rattle.kl1_store.specs.Sound.{IsFormed}
+use Rattle.kl1_store.proofs.Laid.{length-shapes_in}
+use Rattle.kl1_store.proofs.Lists.{IsInside-variable, bound_at, built_at, ReadAt, read_at, argument_read}
+use Rattle.kl1_store.proofs.cells.Cells.build.Goals as goal
+
+-- the lists after the growth
+grown : (g : _) (c : goal.After-push_reserved g) →
+    IsInside c.self.inside.slots.items c.push_reserved.new.self.items c.extend_from_slice.new.self.items c.self.inside.bindings.items
+    × (held_in c.self.inside.slots.items c.push_reserved.new.self.items c.extend_from_slice.new.self.items c.self.inside.bindings.items ≡ with_structure c.args.self.now.held c.args.name c.args.arguments.now)
+grown g c =
+    let s = c.self.inside in
+    let e = ap (λ (v : Stored g.row.N.Denot). v.held) c.self.view_is in
+    built_at s.slots.items s.nodes.items c.push_reserved.new.self.items s.arguments.items c.extend_from_slice.new.self.items s.bindings.items
+    (record { name = c.args.name; start = c.len-start.result; count = length c.args.arguments.now }) c.args.arguments.now c.args.self.now.held
+    c.self.invariant e (c.push_reserved.ensures.items ∙ ap (λ l. l ++ record { name = c.args.name; start = c.len-start.result; count = length c.args.arguments.now } ∷ []) c.in_ok-reserve.ensures.items) c.in_ok-extend_from_slice.ensures.items c.requires
+    (c.len-start.ensures ∙ s.arguments.ok.0) refl (omega arith) (omega arith)
+
+pub invariant_of-self-2 : goal.invariant_of-self-2
+invariant_of-self-2 g c = (grown g c).0
+
+pub returns-clause-ok : goal.returns-clause-ok
+returns-clause-ok g c =
+    let s = c.self.inside in
+    let e = ap (λ (v : Stored g.row.N.Denot). length v.held.structures) c.self.view_is in
+    (omega (arith, e, length-shapes_in s.arguments.items s.nodes.items, s.nodes.ok.0), (grown g c).1)

@@ -1,0 +1,39 @@
+use Rattle.std.proofs.Common.{◌≡◌, ℕ, suc, ◌<◌, length, refl, sym, ap, ◌∙◌, arith, subst, ℤ}
+use Rattle.std.proofs.lemmas.Bool.{false≢true}
+use mir.Val.{of_z, SFits}
+use Rattle.std.proofs.Common.{rules}
+use Rattle.std.proofs.lemmas.Int.{to_z-of_z}
+use mir.Syntax.{w64}
+use Rattle.kl1_store.specs.declared.cell.Cell.{Cell}
+use Rattle.kl1_store.specs.declared.cell.Cell.TheVariants.{Variable, Integer, Atom, Structure}
+use Rattle.kl1_store.specs.declared.meeting.Meeting.TheVariants.{Same, Clash, Bind, Open}
+use Rattle.kl1_store.specs.Meets.{MeetsAs, Takes}
+use Rattle.kl1_store.proofs.Meetings.{kind, kinds_clash, takes_left_at, takes_right_at, takes_lower, takes_higher, integers_clash, atoms_clash, AreRead, counts_clash, names_clash, structures_open}
+use Rattle.kl1_store.proofs.meets.meet.Goals as goal
+
+pub returns-in-None : goal.returns-in-None
+returns-in-None g c =
+    let r = c.requires in
+    takes_left_at c.args.cells.now.held c.args.left c.args.right c.in-Some.variable c.in-Some.ensures c.mark.ensures.formed r.left_in r.left_walked r.right_in c.in-None.ensures
+
+pub returns-in-Some-variable-2 : goal.returns-in-Some-variable-2
+returns-in-Some-variable-2 g c =
+    let r = c.requires in
+    takes_right_at c.args.cells.now.held c.args.left c.args.right c.in-Some-variable-2.variable c.in-Some-variable-2.ensures c.mark.ensures.formed r.right_in r.right_walked r.left_in c.in_default.ensures
+
+pub returns-in-Atom : goal.returns-in-Atom
+returns-in-Atom g c =
+    let P : Cell g.row.N.Denot → Type 0 = λ x. MeetsAs g.N.NameValue.built c.args.cells.now.held x c.args.right c.meet_atom.result in
+    subst P (sym c.in-Atom.is) c.meet_atom.ensures
+
+pub returns-in-Structure : goal.returns-in-Structure
+returns-in-Structure g c =
+    let P : Cell g.row.N.Denot → Type 0 = λ x. MeetsAs g.N.NameValue.built c.args.cells.now.held x c.args.right c.meet_structure.result in
+    subst P (sym c.in-Structure.is) c.meet_structure.ensures
+
+pub returns-in-Integer : goal.returns-in-Integer
+returns-in-Integer g c =
+    let P : Cell g.row.N.Denot → Type 0 = λ x. MeetsAs g.N.NameValue.built c.args.cells.now.held x c.args.right c.meet_integer.result in
+    let Q : ℤ → Type 0 = λ i. MeetsAs g.N.NameValue.built c.args.cells.now.held (Integer i) c.args.right c.meet_integer.result in
+    let fits : SFits w64 c.in-Integer.integer = search rules in
+    subst P (sym c.in-Integer.is) (subst Q (to_z-of_z w64 c.in-Integer.integer fits) c.meet_integer.ensures)

@@ -1,0 +1,25 @@
+use Rattle.std.proofs.Common.{◌≡◌, ℕ, suc, ◌<◌, length, refl, sym, ap, ◌∙◌, arith, subst, ℤ}
+use Rattle.std.proofs.lemmas.Bool.{false≢true}
+use mir.Val.{of_z}
+use mir.Syntax.{w64}
+use Rattle.kl1_store.specs.declared.cell.Cell.{Cell}
+use Rattle.kl1_store.specs.declared.cell.Cell.TheVariants.{Variable, Integer, Atom, Structure}
+use Rattle.kl1_store.specs.declared.meeting.Meeting.TheVariants.{Same, Clash, Bind, Open}
+use Rattle.kl1_store.specs.Meets.{MeetsAs, Takes}
+use Rattle.kl1_store.proofs.Meetings.{kind, kinds_clash, takes_left, takes_right, takes_lower, takes_higher, integers_clash, atoms_clash, AreRead, counts_clash, names_clash, structures_open}
+use Rattle.kl1_store.proofs.meets.meet_atom.Goals as goal
+
+pub returns-in-Integer : goal.returns-in-Integer
+returns-in-Integer g c =
+    let k = ap kind c.in-Integer.is in
+    kinds_clash g.N.NameValue.built c.args.cells.now.held (Atom c.args.left) c.args.right c.mark.ensures.formed tt c.requires.right_in tt c.requires.value (λ e. omega (arith, e, k))
+
+pub returns-else-same : goal.returns-else-same
+returns-else-same g c =
+    let P : Cell g.row.N.Denot → Type 0 = λ x. MeetsAs g.N.NameValue.built c.args.cells.now.held (Atom c.args.left) x Clash in
+    subst P (sym c.in-Atom.is) (atoms_clash g.N.NameValue.built c.args.cells.now.held c.args.left c.in-Atom.other (λ e. false≢true (sym c.if-same.false ∙ c.same.ensures.1 e)))
+
+pub returns-in-Structure : goal.returns-in-Structure
+returns-in-Structure g c =
+    let k = ap kind c.in-Structure.is in
+    kinds_clash g.N.NameValue.built c.args.cells.now.held (Atom c.args.left) c.args.right c.mark.ensures.formed tt c.requires.right_in tt c.requires.value (λ e. omega (arith, e, k))

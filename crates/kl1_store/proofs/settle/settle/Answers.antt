@@ -1,0 +1,50 @@
+use Rattle.std.proofs.Common.{◌≡◌, ℕ, Bool, true, false, suc, ◌+◌, ◌<◌, ◌≤◌, List, [], ◌∷◌, ◌++◌, length, refl, sym, ap, ◌∙◌, arith, subst}
+use Rattle.kl1_model.specs.Unify.{solve}
+use Rattle.kl1_store.specs.declared.cell.Cell.{Cell}
+use Rattle.kl1_store.specs.declared.frame.Frame.{Frame}
+use Rattle.kl1_store.specs.Held.{Held, IsIn}
+use Rattle.kl1_store.specs.Meaning.{term_of}
+use Rattle.kl1_store.specs.Waiting.{waiting, ArePairs, IsPair}
+use Rattle.kl1_store.specs.declared.next.Next.{Next}
+use Rattle.kl1_store.specs.Unifies.{ComesTo, ForEachReading, OnlyBound, SettlesAs, BindsAs, equation_of, Made}
+use Rattle.kl1_store.proofs.Settling.{Settling, NextBinding, settling_start, settling_on, settling_stops, settling_ends, settling_fails, OnlyBound-same, OneEquation, one_same, one_clash, one_binds, one_cycle, one_opens, unbound_below, settled_at}
+use Rattle.kl1_store.proofs.settle.settle.Goals as goal
+
+pub loop-variable-init : goal.loop-variable-init
+loop-variable-init g c = record { settling = settling_start g.N.NameValue.built c.args.cells.now.held c.args.frames.now.items c.requires; room = refl }
+
+pub returns-in-Finished-clause-settled : goal.returns-in-Finished-clause-settled
+returns-in-Finished-clause-settled g c =
+    let P : Next g.row.N.Denot → Type 0 = λ n. ComesTo g.N.NameValue.built c.loop-variable.cells.held c.loop-variable.frames.items c.advance.new.frames.items n in
+    let to = subst P c.in-Finished.is c.in_ok-advance.ensures in
+    settling_ends g.N.NameValue.built c.args.cells.now.held c.loop-variable.cells.held c.args.frames.now.items c.loop-variable.frames.items c.loop-variable.invariant.settling to
+
+pub returns-in-Never-clause-settled : goal.returns-in-Never-clause-settled
+returns-in-Never-clause-settled g c =
+    let P : Next g.row.N.Denot → Type 0 = λ n. ComesTo g.N.NameValue.built c.loop-variable.cells.held c.loop-variable.frames.items c.advance.new.frames.items n in
+    let to = subst P c.in-Never.is c.in_ok-advance.ensures in
+    settling_fails g.N.NameValue.built c.args.cells.now.held c.loop-variable.cells.held c.args.frames.now.items c.loop-variable.frames.items c.loop-variable.invariant.settling to
+
+pub returns-then-not-branch-clause-settled : goal.returns-then-not-branch-clause-settled
+returns-then-not-branch-clause-settled g c =
+    let P : Next g.row.N.Denot → Type 0 = λ n. ComesTo g.N.NameValue.built c.loop-variable.cells.held c.loop-variable.frames.items c.advance.new.frames.items n in
+    let to = subst P c.in-Binds.is c.in_ok-advance.ensures in
+    let next : NextBinding g.N.NameValue.built c.loop-variable.cells.held c.loop-variable.frames.items c.advance.new.frames.items c.in-Binds.variable c.in-Binds.value = record { can = to.0; pairs = to.1; next = to.2 } in
+    let Q : Bool → Type 0 = λ b. BindsAs c.loop-variable.cells.held c.bind_new.new.cells.held c.in-Binds.variable c.in-Binds.value b in
+    settling_stops g.N.NameValue.built c.args.cells.now.held c.loop-variable.cells.held c.bind_new.new.cells.held c.args.frames.now.items c.loop-variable.frames.items c.advance.new.frames.items c.in-Binds.variable c.in-Binds.value c.loop-variable.invariant.settling next (subst Q c.if-not-branch.true c.in_ok-bind_new-in-Binds.ensures.ok)
+
+pub loop-variable-smaller : goal.loop-variable-smaller
+loop-variable-smaller g c =
+    let P : Next g.row.N.Denot → Type 0 = λ n. ComesTo g.N.NameValue.built c.loop-variable.cells.held c.loop-variable.frames.items c.advance.new.frames.items n in
+    let to = subst P c.in-Binds.is c.in_ok-advance.ensures in
+    let next : NextBinding g.N.NameValue.built c.loop-variable.cells.held c.loop-variable.frames.items c.advance.new.frames.items c.in-Binds.variable c.in-Binds.value = record { can = to.0; pairs = to.1; next = to.2 } in
+    let Q : Bool → Type 0 = λ b. BindsAs c.loop-variable.cells.held c.bind_new.new.cells.held c.in-Binds.variable c.in-Binds.value b in
+    (settling_on g.N.NameValue.built c.args.cells.now.held c.loop-variable.cells.held c.bind_new.new.cells.held c.args.frames.now.items c.loop-variable.frames.items c.advance.new.frames.items c.in-Binds.variable c.in-Binds.value c.loop-variable.invariant.settling next (subst Q c.if-not-branch.false c.in_ok-bind_new-in-Binds.ensures.ok)).1
+
+pub loop-variable-preserved : goal.loop-variable-preserved
+loop-variable-preserved g c =
+    let P : Next g.row.N.Denot → Type 0 = λ n. ComesTo g.N.NameValue.built c.loop-variable.cells.held c.loop-variable.frames.items c.advance.new.frames.items n in
+    let to = subst P c.in-Binds.is c.in_ok-advance.ensures in
+    let next : NextBinding g.N.NameValue.built c.loop-variable.cells.held c.loop-variable.frames.items c.advance.new.frames.items c.in-Binds.variable c.in-Binds.value = record { can = to.0; pairs = to.1; next = to.2 } in
+    let Q : Bool → Type 0 = λ b. BindsAs c.loop-variable.cells.held c.bind_new.new.cells.held c.in-Binds.variable c.in-Binds.value b in
+    record { settling = (settling_on g.N.NameValue.built c.args.cells.now.held c.loop-variable.cells.held c.bind_new.new.cells.held c.args.frames.now.items c.loop-variable.frames.items c.advance.new.frames.items c.in-Binds.variable c.in-Binds.value c.loop-variable.invariant.settling next (subst Q c.if-not-branch.false c.in_ok-bind_new-in-Binds.ensures.ok)).0; room = c.in_ok-bind_new-in-Binds.ensures.room ∙ c.loop-variable.invariant.room }

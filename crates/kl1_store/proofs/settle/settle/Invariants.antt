@@ -1,0 +1,13 @@
+use Rattle.std.proofs.Common.{◌≡◌}
+use Rattle.kl1_store.proofs.Settling.{Settling, unbound_below}
+use Rattle.kl1_store.proofs.settle.settle.Given as goal
+
+-- the replacements so far, and the solution of what waits, are the solution of all
+abbrev pub invariant-loop-variable : goal.invariant-loop-variable
+invariant-loop-variable g l = record {
+  settling : Settling g.N.NameValue.built l.fn.cells.held l.cells.held l.fn.frames.items l.frames.items;
+  room : l.cells.room ≡ l.fn.cells.room;
+}
+
+abbrev pub decreases-loop-variable : goal.decreases-loop-variable
+decreases-loop-variable g l = unbound_below l.cells.held.variables l.cells.held.bindings

@@ -1,0 +1,32 @@
+-- What hangs on variables, and who is told that a variable was bound.
+use Rattle.std.specs.Prelude.{◌≡◌, ℕ, ◌+◌, ◌==◌, ◌≤◌, if◌then◌else◌, List, [], ◌∷◌, ◌++◌, length, take}
+use Rattle.kl1_store.specs.declared.binding.Binding.{Binding}
+use Rattle.kl1_store.specs.declared.hook.Hook.{Hook}
+use Rattle.kl1_store.specs.declared.point.Point.{Point}
+use Rattle.kl1_store.specs.Held.{Held, Room, sizes_of}
+use Rattle.kl1_store.specs.Sound.{Grown}
+
+-- what a store holds, what hangs on its variables, and its room for more
+pub record Kept (N : Type 0) : Type 0 where
+  pub held : Held N
+  pub hooks : List Hook
+  pub room : Room
+
+-- the numbers that hang on a variable, the oldest first
+abbrev pub hanging_on : ℕ → List Hook → List ℕ
+hanging_on v [] = []
+hanging_on v (k ∷ ks) = if k.variable == v then k.number ∷ hanging_on v ks else hanging_on v ks
+
+-- the numbers that hang on the variables of these bindings
+abbrev pub told_by : {N : Type 0} → List (Binding N) → List Hook → List ℕ
+told_by [] ks = []
+told_by (b ∷ bs) ks = hanging_on b.variable ks ++ told_by bs ks
+
+-- how much is kept
+abbrev pub point_of : {N : Type 0} → Kept N → Point
+point_of k = record { sizes = sizes_of k.held; hooks = length k.hooks }
+
+-- later contents, with the earlier ones still in place
+pub record HasGrown {N : Type 0} (old new : Kept N) : Type 0 where
+  pub held : Grown old.held new.held
+  pub hooks : take (length old.hooks) new.hooks ≡ old.hooks

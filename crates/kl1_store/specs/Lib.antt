@@ -1,0 +1,17 @@
+pub mod Held
+pub mod Meaning
+pub mod Sound
+pub mod Inside
+pub mod Slots
+pub mod Waiting
+pub mod Meets
+pub mod Value
+pub mod Unifies
+pub mod Onward
+pub mod SpotOnward
+pub mod Spots
+pub mod Unification
+pub mod Compares
+pub mod ComparesEach
+pub mod Sameness
+pub mod Hooks

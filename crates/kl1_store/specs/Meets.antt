@@ -1,0 +1,40 @@
+-- What an equation of two cells leads to, by the definition of unification.
+use Rattle.std.specs.Prelude.{◌≡◌, ℕ, suc, ◌≤◌, false, List}
+use Rattle.kl1_model.specs.declared.built_in.BuiltIn.{BuiltIn}
+use Rattle.kl1_model.specs.Unify.{Equation, Front, goes_on, fails, bound_to, front}
+use Rattle.kl1_text.specs.Reading.{Reads}
+use Rattle.kl1_store.specs.declared.cell.Cell.{Cell}
+use Rattle.kl1_store.specs.declared.cell.Cell.TheVariants.{Variable, Integer, Atom, Structure}
+use Rattle.kl1_store.specs.declared.frame.Frame.{Frame}
+use Rattle.kl1_store.specs.declared.meeting.Meeting.{Meeting}
+use Rattle.kl1_store.specs.declared.meeting.Meeting.TheVariants.{Same, Clash, Bind, Open}
+use Rattle.kl1_store.specs.Held.{Held, is_bound, IsIn, IsLower}
+use Rattle.kl1_store.specs.Meaning.{term_of}
+use Rattle.kl1_store.specs.Value.{IsNoVariable}
+use Rattle.kl1_store.specs.Waiting.{rest_of, IsPair}
+
+-- a variable that may take a cell, if it isn't in it
+pub record CanTake {N : Type 0} (h : Held N) (v : ℕ) (x : Cell N) : Type 0 where
+  pub inside : suc v ≤ h.variables
+  pub unbound : is_bound v h.bindings ≡ false
+  pub known : IsIn h x
+  pub lower : IsLower v x
+
+pub record Takes {N : Type 0} (h : Held N) (l r : Cell N) (v : ℕ) (x : Cell N) : Type 0 where
+  pub can : CanTake h v x
+  pub one : IsNoVariable l → IsNoVariable r → ⊥
+  pub leads : (f : N → List ℕ) (es : List Equation) → front (term_of f h l) (term_of f h r) es ≡ bound_to v (term_of f h x) es
+
+pub record Opens {N : Type 0} (h : Held N) (l r : Cell N) (p : Frame) : Type 0 where
+  pub left : l ≡ Structure p.left
+  pub right : r ≡ Structure p.right
+  pub start : p.next ≡ 0
+  pub is : IsPair h p
+  pub leads : (f : N → List ℕ) (es : List Equation) → front (term_of f h l) (term_of f h r) es ≡ goes_on (rest_of f h p es)
+
+-- what a meeting promises
+abbrev pub MeetsAs : {N : Type 0} → (BuiltIn → N) → Held N → Cell N → Cell N → Meeting N → Type 0
+MeetsAs built h l r Same = (f : _) → term_of f h l ≡ term_of f h r
+MeetsAs built h l r Clash = (f : _) → Reads built f → (es : List Equation) → front (term_of f h l) (term_of f h r) es ≡ fails
+MeetsAs built h l r (Bind v x) = Takes h l r v x
+MeetsAs built h l r (Open p) = Opens h l r p

@@ -1,0 +1,266 @@
+// The lists of a store, and what each growth does to them.
+
+ghost use Rattle.std.specs.Prelude.{◌≡◌, ℕ, suc, false, ◌+◌, ◌<◌, ◌≤◌, List, [], Some, length, take, drop, MatchOption, IfOk, OnOk, OnErr, IsOk, IsTrue, slice_get};
+ghost use Rattle.kl1_model.specs.Term.{occurs};
+ghost use Rattle.kl1_store.specs.Held.{Held, nothing_held, with_variable, with_structure, with_binding, is_bound, found, arguments_of, IsIn, AreIn, IsLower, IsWalked, sizes_of, HasRoom};
+ghost use Rattle.kl1_store.specs.Meaning.{term_of};
+ghost use Rattle.kl1_store.specs.Sound.{IsFormed, Grown, IsBoundTo};
+ghost use Rattle.kl1_store.specs.Slots.{AreSlotted, AreOnce};
+
+use crate::binding::Binding;
+use crate::cell::Cell;
+use crate::head::Head;
+use crate::mark::Mark;
+use crate::node::Node;
+use kl1_text::NameValue;
+use std::alloc::{AllocError, Global};
+use std::marker::Model;
+
+const MOST: usize = 0xffff_ffff;
+
+/// Variables, structures and bindings, all numbered from 0.
+#[derive(Drop)]
+pub struct Cells<N: NameValue> {
+    slots: Vec<Cell<N>>,
+    nodes: Vec<Node<N>>,
+    arguments: Vec<Cell<N>>,
+    bindings: Vec<Binding<N>>,
+}
+
+impl<N: NameValue> Model for Cells<N> {
+    ghost use Rattle.std.specs.Prelude.{◌≡◌, ℕ, vec_len, vec_capacity, length};
+    ghost use Rattle.kl1_store.specs.Held.{Stored};
+
+    ghost Value = { Stored N };
+
+    ghost use Rattle.kl1_store.specs.Inside.{shapes_in, room_in, IsInside};
+
+    ghost view = { λ s. record {
+      held = record { variables = length s.slots.items; structures = shapes_in s.arguments.items s.nodes.items; bindings = s.bindings.items };
+      room = record {
+        variables = room_in (vec_capacity s.slots) (vec_len s.slots);
+        structures = room_in (vec_capacity s.nodes) (vec_len s.nodes);
+        arguments = room_in (vec_capacity s.arguments) (vec_len s.arguments);
+      };
+    } };
+
+    ghost invariant = { λ s. IsInside s.slots.items s.nodes.items s.arguments.items s.bindings.items };
+}
+
+impl<N: NameValue> Cells<N> {
+    /// A store without variables and structures.
+    pub fn new(alloc: Global) -> Self
+        ensures { result.held ≡ nothing_held }
+    {
+        Cells {
+            slots: Vec::new(alloc),
+            nodes: Vec::new(alloc),
+            arguments: Vec::new(alloc),
+            bindings: Vec::new(alloc),
+        }
+    }
+
+    /// A new variable, unbound.
+    pub fn fresh(&mut self) -> Result<u32, AllocError>
+        ensures ok { IfOk result (λ v. (v ≡ self.old.held.variables) × (self.new.held ≡ with_variable self.old.held)) }
+        ensures err { OnErr result (self.new.held ≡ self.old.held) }
+        ensures room { 0 < self.old.room.variables → IsOk result }
+    {
+        let number = self.slots.len();
+        if number >= MOST {
+            return Err(AllocError);
+        }
+        let number = number as u32;
+        self.slots.push(Cell::Variable(number))?;
+        Ok(number)
+    }
+
+    /// A new structure.
+    pub fn build(&mut self, name: N, arguments: &[Cell<N>]) -> Result<u32, AllocError>
+        requires { AreIn self.old.held arguments.now }
+        ensures ok { IfOk result (λ s. (s ≡ length self.old.held.structures) × (self.new.held ≡ with_structure self.old.held name arguments.now)) }
+        ensures err { OnErr result (self.new.held ≡ self.old.held) }
+        ensures room { 0 < self.old.room.structures → length arguments.now ≤ self.old.room.arguments → IsOk result }
+    {
+        let number = self.nodes.len();
+        let start = self.arguments.len();
+        let count = arguments.len();
+        if number >= MOST || count > MOST || start > MOST - count {
+            return Err(AllocError);
+        }
+        self.nodes.reserve(1)?;
+        self.arguments.extend_from_slice(arguments)?;
+        self.nodes.push_reserved(Node {
+            name,
+            start: start as u32,
+            count: count as u32,
+        });
+        Ok(number as u32)
+    }
+
+    /// Makes room for so many more variables, structures and arguments.
+    pub fn reserve(
+        &mut self,
+        variables: usize,
+        structures: usize,
+        arguments: usize,
+    ) -> Result<(), AllocError>
+        ensures room { OnOk result (HasRoom self.new.room variables structures arguments) }
+        ensures same { self.new.held ≡ self.old.held }
+    {
+        if variables > MOST - self.slots.len()
+            || structures > MOST - self.nodes.len()
+            || arguments > MOST - self.arguments.len()
+        {
+            return Err(AllocError);
+        }
+        self.slots.reserve(variables)?;
+        self.nodes.reserve(structures)?;
+        self.arguments.reserve(arguments)?;
+        Ok(())
+    }
+
+    /// The variable `variable` is replaced by `value` everywhere.
+    pub fn bind(&mut self, variable: u32, value: Cell<N>) -> Result<(), AllocError>
+        requires inside { variable < self.old.held.variables }
+        requires known { IsIn self.old.held value }
+        requires unbound { is_bound variable self.old.held.bindings ≡ false }
+        requires lower { IsLower variable value }
+        requires free { (f : N → List ℕ) → occurs variable (term_of f self.old.held value) ≡ false }
+        ensures ok { OnOk result (self.new.held ≡ with_binding self.old.held variable value) }
+        ensures err { OnErr result (self.new.held ≡ self.old.held) }
+        ensures room { self.new.room ≡ self.old.room }
+    {
+        self.bindings.push(Binding { variable, value })?;
+        self.slots[variable as usize] = value;
+        Ok(())
+    }
+
+    /// What a variable is bound to, or the variable itself.
+    pub fn slot(&self, variable: u32) -> Cell<N>
+        requires { variable < self.now.held.variables }
+        ensures found { result ≡ found variable self.now.held.bindings }
+        ensures formed { IsFormed self.now.held }
+    {
+        self.slots[variable as usize]
+    }
+
+    /// The name of a structure, and how many arguments it has.
+    pub fn head(&self, structure: u32) -> Head<N>
+        requires { structure < length self.now.held.structures }
+        ensures name { slice_get self.now.held.structures structure ≡ Some (record { name = result.name; arguments = arguments_of self.now.held structure }) }
+        ensures count { result.count ≡ length (arguments_of self.now.held structure) }
+        ensures formed { IsFormed self.now.held }
+    {
+        let node = self.nodes[structure as usize];
+        Head {
+            name: node.name,
+            count: node.count,
+        }
+    }
+
+    /// An argument of a structure, counted from 0.
+    pub fn argument(&self, structure: u32, index: u32) -> Cell<N>
+        requires structure { structure < length self.now.held.structures }
+        requires index { index < length (arguments_of self.now.held structure) }
+        ensures is { slice_get (arguments_of self.now.held structure) index ≡ Some result }
+        ensures formed { IsFormed self.now.held }
+    {
+        let node = self.nodes[structure as usize];
+        self.arguments[node.start as usize + index as usize]
+    }
+
+    /// What a variable was bound to.
+    pub fn bound(&self, variable: u32) -> Option<Cell<N>>
+        requires { variable < self.now.held.variables }
+        ensures cases { MatchOption result (is_bound variable self.now.held.bindings ≡ false) (IsBoundTo self.now.held variable) }
+    {
+        let next = self.slot(variable);
+        if next.is_variable(variable) {
+            return None;
+        }
+        Some(next)
+    }
+
+    /// The cell that a cell stands for: what its variable was bound to, and so on.
+    pub fn walk(&self, cell: Cell<N>) -> Cell<N>
+        requires { IsIn self.now.held cell }
+        ensures inside { IsIn self.now.held result }
+        ensures walked { IsWalked self.now.held result }
+        ensures means { (f : N → List ℕ) → term_of f self.now.held result ≡ term_of f self.now.held cell }
+    {
+        let mut at = cell;
+        while let Cell::Variable(variable) = at {
+            match self.bound(variable) {
+                None => return at,
+                Some(next) => at = next,
+            }
+        }
+        at
+    }
+
+    /// The bindings after the first `from`.
+    #[tactic(auto, using(std::proofs::lemmas::List::drop_min))]
+    pub fn bindings_from(&self, from: usize) -> &[Binding<N>]
+        ensures { result.now ≡ drop from self.now.held.bindings }
+    {
+        let first = from.min(self.bindings.len());
+        &self.bindings[first..]
+    }
+
+    /// Whether a cell is of this store.
+    pub fn holds(&self, cell: Cell<N>) -> bool
+        ensures { IsTrue result → IsIn self.now.held cell }
+    {
+        let variables = self.slots.len();
+        let structures = self.nodes.len();
+        match cell {
+            Cell::Variable(variable) => (variable as usize) < variables,
+            Cell::Integer(_) => true,
+            Cell::Atom(_) => true,
+            Cell::Structure(structure) => (structure as usize) < structures,
+        }
+    }
+
+    /// How much is held now.
+    pub fn mark(&self) -> Mark
+        ensures sizes { result ≡ sizes_of self.now.held }
+        ensures formed { IsFormed self.now.held }
+    {
+        Mark {
+            variables: self.slots.len() as u32,
+            structures: self.nodes.len() as u32,
+            bindings: self.bindings.len(),
+        }
+    }
+
+    /// Takes back all that was done since `mark`.
+    pub fn back(&mut self, mark: Mark)
+        requires { (h : Held N) × ((mark ≡ sizes_of h) × (IsFormed h × Grown h self.old.held)) }
+        ensures { (h : Held N) → mark ≡ sizes_of h → Grown h self.old.held → self.new.held ≡ h }
+    {
+        unbind(&mut self.slots, &mut self.bindings, mark.bindings);
+        self.slots.truncate(mark.variables as usize);
+        let structures = mark.structures as usize;
+        if structures < self.nodes.len() {
+            let start = self.nodes[structures].start;
+            self.arguments.truncate(start as usize);
+            self.nodes.truncate(structures);
+        }
+    }
+}
+
+/// Takes back the bindings after the first `keep`.
+fn unbind<N: NameValue>(slots: &mut Vec<Cell<N>>, bindings: &mut Vec<Binding<N>>, keep: usize)
+    requires slotted { AreSlotted slots.old.items bindings.old.items }
+    requires once { AreOnce (length slots.old.items) [] bindings.old.items }
+    ensures slotted { AreSlotted slots.new.items bindings.new.items }
+    ensures bindings { bindings.new.items ≡ take keep bindings.old.items }
+    ensures slots { length slots.new.items ≡ length slots.old.items }
+{
+    while bindings.len() > keep {
+        if let Some(binding) = bindings.pop() {
+            slots[binding.variable as usize] = Cell::Variable(binding.variable);
+        }
+    }
+}

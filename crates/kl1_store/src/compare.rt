@@ -1,0 +1,93 @@
+// Two cells side by side, without binding anything.
+
+ghost use Rattle.std.specs.Prelude.{◌≡◌, ℕ, List, IfOk};
+ghost use Rattle.kl1_store.specs.Held.{Held, IsIn, IsWalked};
+ghost use Rattle.kl1_store.specs.Waiting.{ArePairs};
+ghost use Rattle.kl1_store.specs.Compares.{ComparesAs, ComparedAs};
+
+use crate::advance::turn;
+use crate::cell::Cell;
+use crate::cells::Cells;
+use crate::frame::Frame;
+use crate::meeting::Meeting;
+use crate::meets::meet;
+use kl1_text::NameValue;
+use std::alloc::AllocError;
+
+/// Looks at two cells that stand for themselves: false where they clash at once.
+fn compare_sides<N: NameValue>(
+    cells: &Cells<N>,
+    frames: &mut Vec<Frame>,
+    waits: &mut Vec<u32>,
+    left: Cell<N>,
+    right: Cell<N>,
+) -> Result<bool, AllocError>
+    requires left_in { IsIn cells.now.held left }
+    requires right_in { IsIn cells.now.held right }
+    requires left_walked { IsWalked cells.now.held left }
+    requires right_walked { IsWalked cells.now.held right }
+    requires pairs { ArePairs cells.now.held frames.old.items }
+    ensures { IfOk result (ComparesAs N.built cells.now.held left right frames.old.items frames.new.items waits.old.items waits.new.items) }
+{
+    let _ = cells.mark();
+    if let Some(variable) = left.variable() {
+        match right.variable() {
+            Some(other) => {
+                if variable != other {
+                    waits.push(variable)?;
+                    waits.push(other)?;
+                    return Ok(true);
+                }
+                return Ok(true);
+            }
+            None => {
+                waits.push(variable)?;
+                return Ok(true);
+            }
+        }
+    }
+    if let Some(variable) = right.variable() {
+        waits.push(variable)?;
+        return Ok(true);
+    }
+    match meet(cells, left, right) {
+        Meeting::Same => Ok(true),
+        Meeting::Clash => Ok(false),
+        Meeting::Bind(_, _) => Ok(false),
+        Meeting::Open(frame) => {
+            frames.push(frame)?;
+            Ok(true)
+        }
+    }
+}
+
+/// Compares two cells: false where they clash; `waits` gets the variables for which they wait, `frames` is scratch.
+pub fn compare<N: NameValue>(
+    cells: &Cells<N>,
+    frames: &mut Vec<Frame>,
+    waits: &mut Vec<u32>,
+    left: Cell<N>,
+    right: Cell<N>,
+) -> Result<bool, AllocError>
+    requires left_in { IsIn cells.now.held left }
+    requires right_in { IsIn cells.now.held right }
+    ensures { IfOk result (ComparedAs N.built cells.now.held left right waits.old.items waits.new.items) }
+{
+    frames.clear();
+    let first = cells.walk(left);
+    let second = cells.walk(right);
+    if !compare_sides(cells, frames, waits, first, second)? {
+        return Ok(false);
+    }
+    while let Some(frame) = frames.pop() {
+        if frame.next >= frame.count {
+            continue;
+        }
+        let sides = turn(cells, frame);
+        frames.push(frame.onward())?;
+        if !compare_sides(cells, frames, waits, sides.left, sides.right)? {
+            return Ok(false);
+        }
+    }
+    Ok(true)
+}

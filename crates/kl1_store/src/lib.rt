@@ -1,0 +1,36 @@
+//! Terms as cells that share parts, variables bound once: unification, passive equality, and taking back.
+#![tactic(auto)]
+
+mod advance;
+mod binding;
+mod cell;
+mod cells;
+mod compare;
+mod compare_each;
+mod frame;
+mod head;
+mod hook;
+mod mark;
+mod meeting;
+mod meets;
+mod next;
+mod node;
+mod occurs;
+mod point;
+mod same;
+mod settle;
+mod sides;
+mod spot;
+mod store;
+mod tell;
+mod unified;
+
+pub use cell::Cell;
+pub use head::Head;
+pub use point::Point;
+pub use same::Same;
+pub use store::Store;
+pub use unified::Unified;
+
+#[cfg(test)]
+mod tests;

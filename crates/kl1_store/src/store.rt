@@ -1,0 +1,232 @@
+// The store: cells, and the scratch of its calls.
+
+ghost use Rattle.std.specs.Prelude.{◌≡◌, ℕ, ◌<◌, ◌≤◌, List, [], ◌∷◌, ◌++◌, Some, length, drop, IfOk, OnOk, OnErr, IsOk, IsTrue, slice_get};
+ghost use Rattle.kl1_store.specs.Held.{Held, nothing_held, with_variable, with_structure, arguments_of, IsIn, AreIn, IsWalked, HasRoom};
+ghost use Rattle.kl1_store.specs.Meaning.{term_of};
+ghost use Rattle.kl1_store.specs.Sound.{IsFormed};
+ghost use Rattle.kl1_store.specs.Unification.{UnifiesAs};
+ghost use Rattle.kl1_store.specs.Sameness.{SameAs};
+ghost use Rattle.kl1_store.specs.Hooks.{Kept, told_by, point_of, HasGrown};
+
+use crate::cell::Cell;
+use crate::cells::Cells;
+use crate::compare_each::compare_each;
+use crate::frame::Frame;
+use crate::head::Head;
+use crate::hook::Hook;
+use crate::point::Point;
+use crate::same::Same;
+use crate::settle::unify_cells;
+use crate::spot::Spot;
+use crate::tell::tell_all;
+use crate::unified::Unified;
+use kl1_text::NameValue;
+use std::alloc::{AllocError, Global};
+use std::marker::Model;
+
+/// Terms as cells that share parts: variables and structures by number, each variable bound at most once.
+///
+/// It holds at most 4,294,967,295 variables, as many structures and as many arguments; a growth beyond is refused as for
+/// want of memory.
+#[derive(Drop)]
+pub struct Store<N: NameValue> {
+    cells: Cells<N>,
+    frames: Vec<Frame>,
+    spots: Vec<Spot>,
+    hooks: Vec<Hook>,
+    alloc: Global,
+}
+
+impl<N: NameValue> Model for Store<N> {
+    ghost use Rattle.kl1_store.specs.Hooks.{Kept};
+
+    ghost Value = { Kept N };
+
+    ghost view = { λ s. record { held = s.cells.held; hooks = s.hooks.items; room = s.cells.room } };
+}
+
+impl<N: NameValue> Store<N> {
+    /// A store that holds nothing.
+    pub fn new(alloc: Global) -> Self
+        ensures held { result.held ≡ nothing_held }
+        ensures hooks { result.hooks ≡ [] }
+    {
+        Store {
+            cells: Cells::new(alloc),
+            frames: Vec::new(alloc),
+            spots: Vec::new(alloc),
+            hooks: Vec::new(alloc),
+            alloc,
+        }
+    }
+
+    /// A new variable, unbound: its number.
+    pub fn fresh(&mut self) -> Result<u32, AllocError>
+        ensures ok { IfOk result (λ v. (v ≡ self.old.held.variables) × (self.new.held ≡ with_variable self.old.held)) }
+        ensures err { OnErr result (self.new.held ≡ self.old.held) }
+        ensures room { 0 < self.old.room.variables → IsOk result }
+        ensures hooks { self.new.hooks ≡ self.old.hooks }
+    {
+        self.cells.fresh()
+    }
+
+    /// A new structure: its number.
+    pub fn build(&mut self, name: N, arguments: &[Cell<N>]) -> Result<u32, AllocError>
+        requires { AreIn self.old.held arguments.now }
+        ensures ok { IfOk result (λ s. (s ≡ length self.old.held.structures) × (self.new.held ≡ with_structure self.old.held name arguments.now)) }
+        ensures err { OnErr result (self.new.held ≡ self.old.held) }
+        ensures room { 0 < self.old.room.structures → length arguments.now ≤ self.old.room.arguments → IsOk result }
+        ensures hooks { self.new.hooks ≡ self.old.hooks }
+    {
+        self.cells.build(name, arguments)
+    }
+
+    /// The cell that a cell stands for: what its variable was bound to, and so on.
+    pub fn walk(&self, cell: Cell<N>) -> Cell<N>
+        requires { IsIn self.now.held cell }
+        ensures inside { IsIn self.now.held result }
+        ensures walked { IsWalked self.now.held result }
+        ensures means { (f : N → List ℕ) → term_of f self.now.held result ≡ term_of f self.now.held cell }
+    {
+        self.cells.walk(cell)
+    }
+
+    /// The name of a structure, and how many arguments it has.
+    pub fn look(&self, structure: u32) -> Head<N>
+        requires { structure < length self.now.held.structures }
+        ensures name { slice_get self.now.held.structures structure ≡ Some (record { name = result.name; arguments = arguments_of self.now.held structure }) }
+        ensures count { result.count ≡ length (arguments_of self.now.held structure) }
+    {
+        self.cells.head(structure)
+    }
+
+    /// An argument of a structure, counted from 0.
+    pub fn argument(&self, structure: u32, index: u32) -> Cell<N>
+        requires structure { structure < length self.now.held.structures }
+        requires index { index < length (arguments_of self.now.held structure) }
+        ensures { slice_get (arguments_of self.now.held structure) index ≡ Some result }
+    {
+        self.cells.argument(structure, index)
+    }
+
+    /// Makes two cells mean the same term, if that can be, by as few replacements as serve.
+    pub fn unify(&mut self, left: Cell<N>, right: Cell<N>) -> Result<Unified, AllocError>
+        requires left_in { IsIn self.old.held left }
+        requires right_in { IsIn self.old.held right }
+        ensures ok { IfOk result (UnifiesAs N.built self.old.held self.new.held left right) }
+        ensures err { OnErr result (self.new.held ≡ self.old.held) }
+        ensures hooks { self.new.hooks ≡ self.old.hooks }
+    {
+        let mark = self.cells.mark();
+        match unify_cells(
+            &mut self.cells,
+            &mut self.frames,
+            &mut self.spots,
+            left,
+            right,
+        ) {
+            Ok(true) => Ok(Unified::Bound),
+            Ok(false) => {
+                self.cells.back(mark);
+                Ok(Unified::Clash)
+            }
+            Err(error) => {
+                self.cells.back(mark);
+                Err(error)
+            }
+        }
+    }
+
+    /// Whether cells mean the same terms, each two of them, as far as their variables let it be seen; nothing is bound.
+    pub fn same(&mut self, terms: &[Cell<N>]) -> Result<Same, AllocError>
+        requires { AreIn self.old.held terms.now }
+        ensures ok { IfOk result (SameAs N.built self.old.held terms.now) }
+        ensures same { self.new.held ≡ self.old.held }
+        ensures hooks { self.new.hooks ≡ self.old.hooks }
+    {
+        let mut waits = Vec::new(self.alloc);
+        if !compare_each(&self.cells, &mut self.frames, &mut waits, terms)? {
+            return Ok(Same::No);
+        }
+        if waits.is_empty() {
+            return Ok(Same::Yes);
+        }
+        Ok(Same::Wait(waits))
+    }
+
+    /// Makes room for so many more variables, structures and arguments: these can't be refused then.
+    pub fn reserve(
+        &mut self,
+        variables: usize,
+        structures: usize,
+        arguments: usize,
+    ) -> Result<(), AllocError>
+        ensures room { OnOk result (HasRoom self.new.room variables structures arguments) }
+        ensures same { self.new.held ≡ self.old.held }
+        ensures hooks { self.new.hooks ≡ self.old.hooks }
+    {
+        self.cells.reserve(variables, structures, arguments)
+    }
+
+    /// Whether a cell is of this store.
+    pub fn holds(&self, cell: Cell<N>) -> bool
+        ensures { IsTrue result → IsIn self.now.held cell }
+    {
+        self.cells.holds(cell)
+    }
+
+    /// Whether cells are of this store.
+    pub fn holds_all(&self, terms: &[Cell<N>]) -> bool
+        ensures { IsTrue result → AreIn self.now.held terms.now }
+    {
+        let mut rest = terms;
+        while let [first, more @ ..] = rest {
+            if !self.cells.holds(*first) {
+                return false;
+            }
+            rest = more;
+        }
+        true
+    }
+
+    /// Hangs a number on a variable.
+    pub fn hang(&mut self, variable: u32, number: u32) -> Result<(), AllocError>
+        requires { variable < self.old.held.variables }
+        ensures ok { OnOk result (self.new.hooks ≡ self.old.hooks ++ record { variable = variable; number = number } ∷ []) }
+        ensures err { OnErr result (self.new.hooks ≡ self.old.hooks) }
+        ensures same { self.new.held ≡ self.old.held }
+    {
+        self.hooks.push(Hook { variable, number })?;
+        Ok(())
+    }
+
+    /// Adds the numbers that hang on the variables that were bound since a point, in the order of the bindings.
+    pub fn tell(&self, since: Point, told: &mut Vec<u32>) -> Result<(), AllocError>
+        ensures { OnOk result (told.new.items ≡ told.old.items ++ told_by (drop since.sizes.bindings self.now.held.bindings) self.now.hooks) }
+    {
+        let bindings = self.cells.bindings_from(since.sizes.bindings);
+        tell_all(bindings, self.hooks.as_slice(), told)?;
+        Ok(())
+    }
+
+    /// How much is kept now.
+    pub fn mark(&self) -> Point
+        ensures point { result ≡ point_of self.now }
+        ensures formed { IsFormed self.now.held }
+    {
+        Point {
+            sizes: self.cells.mark(),
+            hooks: self.hooks.len(),
+        }
+    }
+
+    /// Takes back all that was done since `mark`, without memory.
+    pub fn back(&mut self, mark: Point)
+        requires { (k : Kept N) × ((mark ≡ point_of k) × (IsFormed k.held × HasGrown k self.old)) }
+        ensures held { (k : Kept N) → mark ≡ point_of k → HasGrown k self.old → self.new.held ≡ k.held }
+        ensures hooks { (k : Kept N) → mark ≡ point_of k → HasGrown k self.old → self.new.hooks ≡ k.hooks }
+    {
+        self.cells.back(mark.sizes);
+        self.hooks.truncate(mark.hooks);
+    }
+}
