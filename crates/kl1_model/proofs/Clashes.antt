@@ -1,12 +1,12 @@
 -- Clashes, and the paths that lead to them.
-use Rattle.std.proofs.Common.{◌≡◌, ℕ, zero, suc, ◌==◌, ◌&&◌, ◌||◌, not, Bool, true, false, if◌then◌else◌, List, [], ◌∷◌, refl, sym, ap, ◌∙◌, ◌⊎◌, inl, inr, Decides, subst}
-use Rattle.std.specs.Prelude.{Option, Some, None, bytes_eq, ◌↔◌}
+use Rattle.std.proofs.Common.{◌≡◌, ℕ, zero, suc, ◌==◌, ◌&&◌, ◌||◌, not, Bool, true, false, if◌then◌else◌, List, [], ◌∷◌, refl, sym, ap, ◌∙◌}
+use Rattle.std.specs.Prelude.{Some, None, bytes_eq}
 use Rattle.std.specs.Ordering.{int_eq}
-use Rattle.std.proofs.lemmas.Bool.{and_from, eq-eqb, not-true, cond-true, cond-false, false≢true, and_parts, eqb-true, or_from, or_left, or_right, or_cases, cases_Bool, not_from_false, false_from_ne_true}
+use Rattle.std.proofs.lemmas.Bool.{and_from, eq-eqb, not-true, cond-true, cond-false, false≢true, and_parts, eqb-true, or_from, or_left, or_right, not_from_false, false_from_ne_true}
 use Rattle.std.proofs.lemmas.Bool.Decides.{Decides-int_eq}
 use Rattle.std.proofs.lemmas.Slice.Eq.{bytes_eq-Decides}
 use Rattle.kl1_model.specs.Term.{Term, variable, integer, atom, structure, Terms, none, more, count_of, same_term}
-use Rattle.kl1_model.specs.Same.{clash, any_clash, Passive, same, differs, unknown, passive, argument_at, IsOther, child, DiffersAt, ClashesAreOnPaths, SameIsEqual, DiffersIsOnPath}
+use Rattle.kl1_model.specs.Same.{clash, any_clash, same, differs, unknown, argument_at, IsOther, child, DiffersAt, ClashesAreOnPaths, SameIsEqual, DiffersIsOnPath}
 use Rattle.kl1_model.proofs.TermFacts.{same_term_decides}
 
 -- arguments of one number that differ somewhere

@@ -1,11 +1,10 @@
 -- Passive equality of a list of terms, from its clashes and the variables that it waits for.
-use Rattle.std.proofs.Common.{◌≡◌, ℕ, zero, suc, ◌==◌, ◌&&◌, ◌||◌, not, Bool, true, false, if◌then◌else◌, List, [], ◌∷◌, ◌++◌, refl, sym, ap, ◌∙◌, arith, subst}
+use Rattle.std.proofs.Common.{◌≡◌, ℕ, ◌==◌, ◌&&◌, Bool, true, false, if◌then◌else◌, List, [], ◌∷◌, ◌++◌, refl, sym, ap, ◌∙◌, arith}
 use Rattle.std.specs.Prelude.{bytes_eq}
-use Rattle.std.specs.List.{list_all, list_any}
 use Rattle.std.specs.Ordering.{int_eq}
 use Rattle.std.proofs.lemmas.Bool.{and_from, and_parts, or_parts, or_from, eqb-true, not-false, cond-true, cond-false, false≢true, eq-eqb, false_from_ne_true}
 use Rattle.kl1_model.specs.Term.{Term, variable, integer, atom, structure, Terms, none, more, count_of, same_term, same_terms}
-use Rattle.kl1_model.specs.Same.{clash, any_clash, awaited, all_awaited, Passive, same, differs, unknown, same_as_all, all_same, clashes_with_some, some_clash, awaited_with, awaited_by, passive_each}
+use Rattle.kl1_model.specs.Same.{clash, any_clash, awaited, all_awaited, same, differs, unknown, same_as_all, all_same, clashes_with_some, some_clash, awaited_with, awaited_by, passive_each}
 use Rattle.kl1_model.proofs.TermFacts.{same_term_decides}
 use Rattle.kl1_model.proofs.Clashes.{no_clash}
 
@@ -90,9 +89,10 @@ quiet_with t [] h = (refl, refl)
 quiet_with t (u ∷ us) h =
     let p = and_parts (same_term t u) (same_as_all t us) h in
     let e = (same_term_decides t u).0 p.0 in
-    let r = quiet_with t us p.1 in
-    (or_from (clash t u) (clashes_with_some t us) (ap (λ x. clash x u) e ∙ no_clash u) r.0,
-     ap (λ l. l ++ awaited_with t us) (ap (λ x. awaited x u) e ∙ awaited_self u) ∙ r.1)
+    let r = quiet_with t us p.1 in (
+      or_from (clash t u) (clashes_with_some t us) (ap (λ x. clash x u) e ∙ no_clash u) r.0,
+      ap (λ l. l ++ awaited_with t us) (ap (λ x. awaited x u) e ∙ awaited_self u) ∙ r.1,
+    )
 
 quiet_each : (ts : List Term) → all_same ts ≡ true → (some_clash ts ≡ false) × (awaited_by ts ≡ [])
 quiet_each [] h = (refl, refl)
@@ -108,13 +108,13 @@ each_is_same ts c a = cond-true (all_same ts) same (if some_clash ts then differ
 pub each_differs : (ts : List Term) → some_clash ts ≡ true → passive_each ts ≡ differs
 each_differs ts c =
     cond-false (all_same ts) same (if some_clash ts then differs else unknown)
-        (false_from_ne_true (all_same ts) (λ h. false≢true (sym (quiet_each ts h).0 ∙ c)))
+    (false_from_ne_true (all_same ts) (λ h. false≢true (sym (quiet_each ts h).0 ∙ c)))
     ∙ cond-true (some_clash ts) differs unknown c
 
 pub each_is_unknown : (ts : List Term) (w : ℕ) (ws : List ℕ) → some_clash ts ≡ false → awaited_by ts ≡ w ∷ ws → passive_each ts ≡ unknown
 each_is_unknown ts w ws c a =
     cond-false (all_same ts) same (if some_clash ts then differs else unknown)
-        (false_from_ne_true (all_same ts) (λ h. never (sym (quiet_each ts h).1 ∙ a)))
+    (false_from_ne_true (all_same ts) (λ h. never (sym (quiet_each ts h).1 ∙ a)))
     ∙ cond-false (some_clash ts) differs unknown c
   where
     never : [] ≡ w ∷ ws → ⊥

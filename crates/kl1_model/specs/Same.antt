@@ -1,5 +1,5 @@
 -- Passive equality: whether terms are the same, can't become the same, or may become the same.
-use Rattle.std.specs.Prelude.{◌≡◌, ℕ, zero, suc, ◌==◌, ◌&&◌, ◌||◌, not, Bool, true, false, if◌then◌else◌, IsTrue, Decides, ◌↔◌, List, [], ◌∷◌, ◌++◌, Option, Some, None, bytes_eq, ⊤}
+use Rattle.std.specs.Prelude.{◌≡◌, ℕ, zero, suc, ◌==◌, ◌&&◌, ◌||◌, not, Bool, true, false, if◌then◌else◌, Decides, ◌↔◌, List, [], ◌∷◌, ◌++◌, Option, Some, None, bytes_eq, ⊤}
 use Rattle.std.specs.List.{list_all, list_any}
 use Rattle.std.specs.Ordering.{int_eq}
 use Rattle.kl1_model.specs.Term.{Term, variable, integer, atom, structure, Terms, none, more, count_of, same_term}

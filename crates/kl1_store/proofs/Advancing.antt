@@ -1,29 +1,28 @@
 -- One turn of the waiting equations after another.
-use Rattle.std.proofs.Common.{◌≡◌, ℕ, zero, suc, ◌+◌, ◌<◌, ◌≤◌, List, [], ◌∷◌, ◌++◌, length, get_or, drop, refl, sym, ap, ◌∙◌, arith, subst, length-append, drop-cons}
-use Rattle.std.specs.Prelude.{Option, Some, None, slice_get, IsTrue}
+use Rattle.std.proofs.Common.{◌≡◌, ℕ, suc, ◌+◌, ◌<◌, ◌≤◌, List, [], ◌∷◌, ◌++◌, length, get_or, drop, refl, sym, ap, ◌∙◌, arith, subst, length-append, drop-cons}
+use Rattle.std.specs.Prelude.{Some, None, slice_get}
 use Rattle.std.proofs.lemmas.List.{drop_all}
 use Rattle.std.proofs.lemmas.Option.{get_or_from_slice_get, slice_get_within}
 use Rattle.kl1_model.specs.declared.built_in.BuiltIn.{BuiltIn}
-use Rattle.kl1_model.specs.Term.{Term, variable, integer, atom, structure, Terms, none, more, size, sizes, same_term}
-use Rattle.kl1_model.specs.Unify.{Equation, Front, goes_on, fails, front, after, bound_to, solve, argument_equations, equations_size}
-use Rattle.kl1_model.specs.UnifyLaws.{NumberedTo, AllNumberedTo}
+use Rattle.kl1_model.specs.Term.{Term, Terms, none, more, size, sizes}
+use Rattle.kl1_model.specs.Unify.{Equation, front, after, bound_to, solve, argument_equations, equations_size}
+use Rattle.kl1_model.specs.UnifyLaws.{AllNumberedTo}
 use Rattle.kl1_model.proofs.UnifyRule.{front_decides}
 use Rattle.kl1_model.proofs.EqualSides.{equal_sides_dropped}
 use Rattle.kl1_model.proofs.TermFacts.{same_term_decides}
-use Rattle.kl1_text.specs.Reading.{Reads}
 use Rattle.kl1_store.specs.declared.cell.Cell.{Cell}
-use Rattle.kl1_store.specs.declared.cell.Cell.TheVariants.{Variable, Integer, Atom, Structure}
+use Rattle.kl1_store.specs.declared.cell.Cell.TheVariants.{Structure}
 use Rattle.kl1_store.specs.declared.frame.Frame.{Frame}
-use Rattle.kl1_store.specs.declared.meeting.Meeting.TheVariants.{Same, Clash, Bind, Open}
-use Rattle.kl1_store.specs.Held.{Held, IsIn, arguments_of}
+use Rattle.kl1_store.specs.declared.meeting.Meeting.TheVariants.{Clash}
+use Rattle.kl1_store.specs.Held.{Held, arguments_of}
 use Rattle.kl1_store.specs.Meaning.{term_of, terms_of}
 use Rattle.kl1_store.specs.Sound.{IsFormed}
 use Rattle.kl1_store.specs.Waiting.{rest_of, waiting, IsPair, ArePairs, Turn, IsTurn}
 use Rattle.kl1_store.specs.Onward.{onward}
 use Rattle.kl1_store.specs.Spots.{unread}
-use Rattle.kl1_store.specs.Meets.{MeetsAs, CanTake, Takes, Opens}
+use Rattle.kl1_store.specs.Meets.{MeetsAs, Takes, Opens}
 use Rattle.kl1_store.specs.Unifies.{ForEachReading}
-use Rattle.kl1_store.proofs.Terms.{term_of-Structure, arguments_in}
+use Rattle.kl1_store.proofs.Terms.{term_of-Structure}
 use Rattle.kl1_store.proofs.Meetings.{named}
 use Rattle.kl1_store.proofs.Numbered.{numbered-term_of, numbered-waiting}
 

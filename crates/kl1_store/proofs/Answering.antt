@@ -1,11 +1,8 @@
 -- From what was compared to the answer of passive equality.
 use Rattle.std.proofs.Common.{◌≡◌, ℕ, true, List, [], ◌∷◌, ◌++◌, length, ◌<◌, refl, sym, ap, ◌∙◌, arith, subst}
 use Rattle.std.specs.Prelude.{Contains, ◌↔◌}
-use Rattle.kl1_model.specs.declared.built_in.BuiltIn.{BuiltIn}
-use Rattle.kl1_model.specs.Term.{Term}
 use Rattle.kl1_model.specs.Same.{some_clash, awaited_by, passive_each, same, differs, unknown}
 use Rattle.kl1_model.proofs.SameEach.{each_is_same, each_differs, each_is_unknown}
-use Rattle.kl1_text.specs.Reading.{Reads}
 use Rattle.kl1_store.specs.declared.cell.Cell.{Cell}
 use Rattle.kl1_store.specs.Held.{Held}
 use Rattle.kl1_store.specs.ComparesEach.{term_list, ComparedEach}

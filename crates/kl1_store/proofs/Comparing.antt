@@ -1,30 +1,30 @@
 -- Comparing two cells, one turn after another.
-use Rattle.std.proofs.Common.{◌≡◌, ℕ, zero, suc, ◌+◌, ◌<◌, ◌≤◌, ◌==◌, ◌&&◌, ◌||◌, not, Bool, true, false, if◌then◌else◌, List, [], ◌∷◌, ◌++◌, length, drop, refl, sym, ap, ◌∙◌, arith, subst, append_assoc, length-append}
-use Rattle.std.specs.Prelude.{Some, slice_get, bytes_eq}
+use Rattle.std.proofs.Common.{◌≡◌, ℕ, ◌<◌, ◌≤◌, ◌==◌, ◌&&◌, ◌||◌, Bool, true, false, if◌then◌else◌, List, [], ◌∷◌, ◌++◌, length, drop, refl, sym, ap, ◌∙◌, arith, subst, append_assoc, length-append}
+use Rattle.std.specs.Prelude.{bytes_eq}
 use Rattle.std.specs.Ordering.{int_eq}
 use Rattle.std.proofs.lemmas.List.{append-nil}
-use Rattle.std.proofs.lemmas.Bool.{cond-true, cond-false, ne_eqb, eq-eqb, not_from_false, false≢true, cases_Bool}
+use Rattle.std.proofs.lemmas.Bool.{cond-true, cond-false, ne_eqb, eq-eqb, not_from_false}
 use Rattle.kl1_model.specs.declared.built_in.BuiltIn.{BuiltIn}
-use Rattle.kl1_model.specs.Term.{Term, variable, integer, atom, structure, Terms, none, more, count_of, size, sizes}
-use Rattle.kl1_model.specs.Unify.{Equation, Front, goes_on, fails, front, argument_equations, equations_size}
+use Rattle.kl1_model.specs.Term.{Term, variable, integer, atom, structure, Terms, none, more, count_of, size}
+use Rattle.kl1_model.specs.Unify.{Equation, goes_on, fails, front, argument_equations, equations_size}
 use Rattle.kl1_model.specs.Same.{clash, any_clash, awaited, all_awaited}
 use Rattle.kl1_model.proofs.Clashes.{no_clash}
 use Rattle.kl1_text.specs.Reading.{Reads}
 use Rattle.kl1_store.specs.declared.cell.Cell.{Cell}
-use Rattle.kl1_store.specs.declared.cell.Cell.TheVariants.{Variable, Integer, Atom, Structure}
+use Rattle.kl1_store.specs.declared.cell.Cell.TheVariants.{Variable}
 use Rattle.kl1_store.specs.declared.frame.Frame.{Frame}
-use Rattle.kl1_store.specs.declared.meeting.Meeting.TheVariants.{Same, Clash, Bind, Open}
-use Rattle.kl1_store.specs.Held.{Held, IsIn, IsWalked, is_bound, arguments_of}
+use Rattle.kl1_store.specs.declared.meeting.Meeting.TheVariants.{Clash}
+use Rattle.kl1_store.specs.Held.{Held, IsIn, IsWalked, arguments_of}
 use Rattle.kl1_store.specs.Meaning.{term_of, terms_of}
 use Rattle.kl1_store.specs.Sound.{IsFormed}
 use Rattle.kl1_store.specs.Value.{IsNoVariable}
 use Rattle.kl1_store.specs.Spots.{unread}
-use Rattle.kl1_store.specs.Waiting.{rest_of, waiting, IsPair, ArePairs, Turn, IsTurn}
+use Rattle.kl1_store.specs.Waiting.{rest_of, waiting, ArePairs, IsTurn}
 use Rattle.kl1_store.specs.Onward.{onward}
 use Rattle.kl1_store.specs.Meets.{MeetsAs, Opens}
 use Rattle.kl1_store.specs.Compares.{clash_among, awaited_among, Compares, Compared}
 use Rattle.kl1_store.proofs.Terms.{term_of-Structure, term_of-unbound}
-use Rattle.kl1_store.proofs.Meetings.{named, term_kind, kind_kept, kind, no_variable}
+use Rattle.kl1_store.proofs.Meetings.{named, term_kind, kind_kept, no_variable}
 use Rattle.kl1_store.proofs.Advancing.{work, waiting-push, ArePairs-push, turn_waiting, arguments_size, closed_at, closed_waiting}
 
 mutual

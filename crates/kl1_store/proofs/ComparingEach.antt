@@ -1,9 +1,7 @@
 -- Comparing a list of cells, one after another.
-use Rattle.std.proofs.Common.{◌≡◌, ℕ, ◌||◌, Bool, true, false, List, [], ◌∷◌, ◌++◌, refl, sym, ap, ◌∙◌, subst, append_assoc}
+use Rattle.std.proofs.Common.{◌≡◌, ℕ, ◌||◌, true, List, [], ◌∷◌, ◌++◌, refl, sym, ap, ◌∙◌, append_assoc}
 use Rattle.std.proofs.lemmas.List.{append-nil}
-use Rattle.std.proofs.lemmas.Bool.{or_right}
 use Rattle.kl1_model.specs.declared.built_in.BuiltIn.{BuiltIn}
-use Rattle.kl1_model.specs.Term.{Term}
 use Rattle.kl1_model.specs.Same.{clash, awaited, clashes_with_some, some_clash, awaited_with, awaited_by}
 use Rattle.kl1_text.specs.Reading.{Reads}
 use Rattle.kl1_store.specs.declared.cell.Cell.{Cell}

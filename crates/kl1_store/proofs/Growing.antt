@@ -1,15 +1,14 @@
 -- What always holds of a store's contents is kept at each growth.
-use Rattle.std.proofs.Common.{◌≡◌, ℕ, zero, suc, ◌+◌, ◌<◌, ◌≤◌, ◌==◌, Bool, true, false, ◌||◌, if◌then◌else◌, List, [], ◌∷◌, ◌++◌, length, get_or, refl, sym, ap, ◌∙◌, ◌⊎◌, inl, inr, arith, subst, append_assoc, length-append, add-one}
-use Rattle.std.specs.Prelude.{Option, Some, None, slice_get}
+use Rattle.std.proofs.Common.{◌≡◌, ℕ, suc, ◌+◌, ◌≤◌, false, List, [], ◌∷◌, ◌++◌, length, sym, ap, ◌∙◌, arith, subst, append_assoc, length-append}
 use Rattle.std.proofs.lemmas.List.{append-nil}
-use Rattle.kl1_model.specs.Term.{Term, occurs, replaced, Replacement}
+use Rattle.kl1_model.specs.Term.{occurs, replaced}
 use Rattle.kl1_store.specs.declared.cell.Cell.{Cell}
 use Rattle.kl1_store.specs.declared.cell.Cell.TheVariants.{Variable, Integer, Atom, Structure}
 use Rattle.kl1_store.specs.declared.binding.Binding.{Binding}
-use Rattle.kl1_store.specs.Held.{Shape, Held, with_variable, with_structure, with_binding, is_bound, found, IsWithin, AreWithin, IsIn, AreIn, IsLower, arguments_of, shape_arguments}
-use Rattle.kl1_store.specs.Meaning.{mean, means, shapes_from, replacements_from, term_of, terms_of}
+use Rattle.kl1_store.specs.Held.{Shape, Held, with_variable, with_structure, with_binding, is_bound, IsWithin, AreWithin, IsIn, AreIn, IsLower}
+use Rattle.kl1_store.specs.Meaning.{mean, shapes_from, replacements_from, term_of}
 use Rattle.kl1_store.specs.Sound.{Built, Bound, FitsNext, IsFormed}
-use Rattle.kl1_store.proofs.Meanings.{term_at, replacement_of, shapes_from-push, length-shapes_from, mean-more, replacements_from-more, some-same}
+use Rattle.kl1_store.proofs.Meanings.{term_at, shapes_from-push, length-shapes_from, mean-more, replacements_from-more}
 
 pub IsWithin-more : {N : Type 0} (vs ss ws us : ℕ) (x : Cell N) → vs ≤ ws → ss ≤ us → IsWithin vs ss x → IsWithin ws us x
 IsWithin-more vs ss ws us (Variable v) p q h = omega arith

@@ -1,22 +1,22 @@
 -- The lists of a store after each growth.
-use Rattle.std.proofs.Common.{◌≡◌, ℕ, zero, suc, ◌+◌, ◌-◌, ◌^◌, ◌<◌, ◌≤◌, ◌==◌, Bool, true, false, if◌then◌else◌, List, [], ◌∷◌, ◌++◌, length, get_or, set, take, drop, refl, sym, ap, ◌∙◌, ◌⊎◌, inl, inr, arith, subst, append_assoc, length-append, length-drop, length-set, get_or-set_same, get_or-set_other}
-use Rattle.std.specs.Prelude.{Option, Some, None, slice_get}
-use Rattle.std.proofs.lemmas.Bool.{cases_eq, ne_eqb, eq-eqb, eqb-true, eqb-false, or_parts, or_from, cases_Bool, cases_lt}
-use Rattle.std.proofs.lemmas.List.{get_or_append_left, get_or_at, get_or_default, length-take-le, append-nil, take_all, get_or-take}
+use Rattle.std.proofs.Common.{◌≡◌, ℕ, suc, ◌+◌, ◌-◌, ◌<◌, ◌≤◌, ◌==◌, false, if◌then◌else◌, List, [], ◌∷◌, ◌++◌, length, get_or, set, take, drop, refl, sym, ap, ◌∙◌, ◌⊎◌, inl, inr, arith, subst, append_assoc, length-append, length-drop, length-set, get_or-set_same, get_or-set_other}
+use Rattle.std.specs.Prelude.{Option, Some, slice_get}
+use Rattle.std.proofs.lemmas.Bool.{cases_eq, ne_eqb, eqb-false, or_parts, or_from, cases_lt}
+use Rattle.std.proofs.lemmas.List.{get_or_append_left, get_or_at, length-take-le, append-nil, take_all, get_or-take}
 use Rattle.kl1_model.specs.Term.{occurs}
 use Rattle.kl1_store.specs.declared.cell.Cell.{Cell}
 use Rattle.kl1_store.specs.declared.cell.Cell.TheVariants.{Variable}
 use Rattle.kl1_store.specs.declared.binding.Binding.{Binding}
 use Rattle.kl1_store.specs.declared.node.Node.{Node}
 use Rattle.kl1_store.specs.declared.mark.Mark.{Mark}
-use Rattle.kl1_store.specs.Held.{Shape, Held, Stored, with_variable, with_structure, with_binding, is_bound, found, IsWithin, AreWithin, IsIn, AreIn, IsLower, arguments_of, shape_arguments, sizes_of}
+use Rattle.kl1_store.specs.Held.{Shape, Held, with_structure, with_binding, is_bound, found, IsIn, AreIn, IsLower, arguments_of, shape_arguments, sizes_of}
 use Rattle.kl1_store.specs.Meaning.{term_of}
-use Rattle.kl1_store.specs.Sound.{Built, Bound, FitsNext, IsFormed, Grown}
+use Rattle.kl1_store.specs.Sound.{Bound, IsFormed, Grown}
 use Rattle.kl1_store.specs.Slots.{AreSlotted, AreOnce}
 use Rattle.kl1_store.specs.Inside.{shapes_in, AreLaid, held_in, IsInside, most}
 use Rattle.kl1_store.proofs.Meanings.{if_same, if_other}
 use Rattle.kl1_store.proofs.Growing.{IsFormed-variable, IsFormed-structure, IsFormed-binding}
-use Rattle.kl1_store.proofs.Laid.{length-shapes_in, slice_get-part, shapes_in-push, shapes_in-more, shapes_in-take, AreLaid-push, StandsAt, shape_stands}
+use Rattle.kl1_store.proofs.Laid.{length-shapes_in, slice_get-part, shapes_in-push, shapes_in-take, AreLaid-push, StandsAt, shape_stands}
 
 -- a variable that is not there is unbound
 unbound_past : {N : Type 0} (vs : ℕ) (ss : List (Shape N)) (before bs : List (Binding N)) (v : ℕ) → vs ≤ v → Bound vs ss before bs → is_bound v bs ≡ false

@@ -1,16 +1,16 @@
 -- What the structures and the bindings of a store mean, a growth at a time.
-use Rattle.std.proofs.Common.{◌≡◌, ℕ, zero, suc, ◌+◌, ◌<◌, ◌≤◌, ◌==◌, Bool, true, false, ◌||◌, if◌then◌else◌, List, [], ◌∷◌, ◌++◌, length, get_or, refl, sym, ap, ◌∙◌, ◌⊎◌, inl, inr, arith, subst, append_assoc, length-append, add-one}
-use Rattle.std.specs.Prelude.{Option, Some, None, slice_get}
-use Rattle.std.proofs.lemmas.Bool.{cases_eq, ne_eqb, eq-eqb, eqb-true, eqb-false, or_parts, or_from, cases_Bool, cond-true, cond-false}
+use Rattle.std.proofs.Common.{◌≡◌, ℕ, zero, suc, ◌+◌, ◌==◌, false, if◌then◌else◌, List, [], ◌∷◌, ◌++◌, length, get_or, refl, sym, ap, ◌∙◌, ◌⊎◌, inl, inr, arith, subst, append_assoc, length-append}
+use Rattle.std.specs.Prelude.{Some, slice_get}
+use Rattle.std.proofs.lemmas.Bool.{cases_eq, ne_eqb, eq-eqb, eqb-false, or_parts, or_from, cond-true, cond-false}
 use Rattle.std.proofs.lemmas.List.{append-nil, get_or_append_left, get_or_at}
-use Rattle.kl1_model.specs.Term.{Term, variable, integer, atom, structure, Terms, none, more, occurs, occurs_in, replace, Replacement, replaced}
+use Rattle.kl1_model.specs.Term.{Term, variable, atom, structure, more, occurs, replace, Replacement, replaced}
 use Rattle.kl1_store.specs.declared.cell.Cell.{Cell}
 use Rattle.kl1_store.specs.declared.cell.Cell.TheVariants.{Variable, Integer, Atom, Structure}
 use Rattle.kl1_store.specs.declared.binding.Binding.{Binding}
-use Rattle.kl1_store.specs.Held.{Shape, Held, is_bound, found, IsWithin, AreWithin, IsLower}
-use Rattle.kl1_store.specs.Meaning.{mean, means, shapes_from, replacements_from, term_of, terms_of}
-use Rattle.kl1_store.specs.Sound.{Built, Bound, FitsNext, IsFormed}
-use Rattle.kl1_store.proofs.Replacing.{replaced_each, replaced-append, replaced-structure, replaced_each-none, replaced_each-more, replace_free}
+use Rattle.kl1_store.specs.Held.{Shape, is_bound, found, IsWithin, AreWithin}
+use Rattle.kl1_store.specs.Meaning.{mean, means, shapes_from, replacements_from}
+use Rattle.kl1_store.specs.Sound.{Built, Bound, FitsNext}
+use Rattle.kl1_store.proofs.Replacing.{replaced-append, replace_free}
 
 -- the term of a structure, from those of the structures before it
 abbrev pub term_at : {N : Type 0} → (N → List ℕ) → List Term → Shape N → Term

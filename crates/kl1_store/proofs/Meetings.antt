@@ -1,24 +1,22 @@
 -- What the front equation leads to, for each two kinds of cells.
-use Rattle.std.proofs.Common.{◌≡◌, ℕ, zero, suc, ◌+◌, ◌<◌, ◌≤◌, ◌==◌, Bool, true, false, ◌&&◌, if◌then◌else◌, List, [], ◌∷◌, length, drop, refl, sym, ap, ◌∙◌, ◌⊎◌, inl, inr, arith, subst, ℤ, Decides}
-use Rattle.std.specs.Prelude.{Option, Some, None, slice_get, bytes_eq, nat_lt}
+use Rattle.std.proofs.Common.{◌≡◌, ℕ, zero, suc, ◌<◌, ◌≤◌, ◌==◌, false, ◌&&◌, if◌then◌else◌, List, [], ◌∷◌, length, refl, sym, ap, ◌∙◌, arith, subst, ℤ}
+use Rattle.std.specs.Prelude.{Option, Some, slice_get, bytes_eq, nat_lt}
 use Rattle.std.specs.Ordering.{int_eq}
 use Rattle.std.proofs.lemmas.Slice.Eq.{bytes_eq-Decides}
-use Rattle.std.proofs.lemmas.Bool.{cases_eq, ne_eqb, eq-eqb, lt-ltb, le-ltb, cond-true, cond-false, false_from_ne_true, and_left, and_right, and_from}
+use Rattle.std.proofs.lemmas.Bool.{ne_eqb, eq-eqb, lt-ltb, le-ltb, cond-true, cond-false, false_from_ne_true, and_left, and_right, and_from}
 use Rattle.std.proofs.lemmas.Bool.Decides.{Decides-int_eq}
 use Rattle.kl1_model.specs.declared.built_in.BuiltIn.{BuiltIn}
-use Rattle.kl1_model.specs.Term.{Term, variable, integer, atom, structure, Terms, none, more, occurs, count_of}
-use Rattle.kl1_model.specs.Unify.{Equation, Front, goes_on, fails, binds, bound_to, front, argument_equations}
+use Rattle.kl1_model.specs.Term.{Term, variable, integer, atom, structure, count_of}
+use Rattle.kl1_model.specs.Unify.{Equation, goes_on, fails, binds, bound_to, front, argument_equations}
 use Rattle.kl1_text.specs.Reading.{Reads}
 use Rattle.kl1_store.specs.declared.cell.Cell.{Cell}
 use Rattle.kl1_store.specs.declared.cell.Cell.TheVariants.{Variable, Integer, Atom, Structure}
-use Rattle.kl1_store.specs.declared.frame.Frame.{Frame}
-use Rattle.kl1_store.specs.declared.meeting.Meeting.TheVariants.{Same, Clash, Bind, Open}
+use Rattle.kl1_store.specs.declared.meeting.Meeting.TheVariants.{Clash}
 use Rattle.kl1_store.specs.Held.{Shape, Held, is_bound, IsIn, IsLower, IsWalked, arguments_of, shape_arguments}
 use Rattle.kl1_store.specs.Meaning.{term_of, terms_of}
 use Rattle.kl1_store.specs.Sound.{IsFormed}
 use Rattle.kl1_store.specs.Value.{IsNoVariable}
-use Rattle.kl1_store.specs.Waiting.{rest_of, IsPair}
-use Rattle.kl1_store.specs.Meets.{MeetsAs, CanTake, Takes, Opens}
+use Rattle.kl1_store.specs.Meets.{MeetsAs, Takes, Opens}
 use Rattle.kl1_store.proofs.Terms.{term_of-Integer, term_of-Atom, term_of-Structure, term_of-unbound}
 
 -- the kinds of cells and of terms

@@ -1,8 +1,7 @@
 -- The variables of the terms of a store have the numbers of its variables.
-use Rattle.std.proofs.Common.{◌≡◌, ℕ, zero, suc, ◌+◌, ◌<◌, ◌≤◌, ◌==◌, Bool, true, false, if◌then◌else◌, List, [], ◌∷◌, ◌++◌, length, get_or, drop, refl, sym, ap, ◌∙◌, ◌⊎◌, inl, inr, arith, subst}
-use Rattle.std.specs.Prelude.{slice_get}
+use Rattle.std.proofs.Common.{ℕ, zero, suc, ◌≤◌, ◌==◌, Bool, true, false, if◌then◌else◌, List, [], ◌∷◌, ◌++◌, length, get_or, drop, sym, arith, subst}
 use Rattle.kl1_model.specs.Term.{Term, variable, integer, atom, structure, Terms, none, more, replace, replace_each, Replacement, replaced}
-use Rattle.kl1_model.specs.Unify.{Equation, argument_equations}
+use Rattle.kl1_model.specs.Unify.{Equation}
 use Rattle.kl1_model.specs.UnifyLaws.{NumberedTo, EachNumberedTo, AllNumberedTo}
 use Rattle.kl1_model.proofs.Occurrences.{numbered-arguments}
 use Rattle.kl1_store.specs.declared.cell.Cell.{Cell}
@@ -11,8 +10,8 @@ use Rattle.kl1_store.specs.declared.binding.Binding.{Binding}
 use Rattle.kl1_store.specs.declared.frame.Frame.{Frame}
 use Rattle.kl1_store.specs.Held.{Shape, Held, IsWithin, AreWithin, IsIn, AreIn, arguments_of}
 use Rattle.kl1_store.specs.Meaning.{mean, means, shapes_from, replacements_from, term_of, terms_of}
-use Rattle.kl1_store.specs.Sound.{Built, Bound, FitsNext, IsFormed}
-use Rattle.kl1_store.specs.Waiting.{rest_of, waiting, IsPair, ArePairs}
+use Rattle.kl1_store.specs.Sound.{Built, Bound, IsFormed}
+use Rattle.kl1_store.specs.Waiting.{rest_of, waiting}
 use Rattle.kl1_store.proofs.Meanings.{term_at, replacement_of}
 use Rattle.kl1_store.proofs.Replacing.{replaced-append}
 use Rattle.kl1_store.proofs.Terms.{arguments_in}

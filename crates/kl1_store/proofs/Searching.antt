@@ -1,14 +1,13 @@
 -- Searching a term for a variable.
-use Rattle.std.proofs.Common.{◌≡◌, ℕ, zero, suc, ◌+◌, ◌<◌, ◌≤◌, ◌==◌, Bool, true, false, ◌||◌, List, [], ◌∷◌, ◌++◌, length, get_or, drop, refl, sym, ap, ◌∙◌, arith, subst, length-append, drop-cons}
+use Rattle.std.proofs.Common.{◌≡◌, ℕ, suc, ◌+◌, ◌<◌, ◌≤◌, Bool, true, false, ◌||◌, List, [], ◌∷◌, ◌++◌, length, refl, sym, ap, ◌∙◌, arith, subst}
 use Rattle.std.specs.Prelude.{Some, slice_get}
 use Rattle.std.proofs.lemmas.Bool.{eq-eqb, ne_eqb}
 use Rattle.std.proofs.lemmas.List.{drop_all}
-use Rattle.std.proofs.lemmas.Option.{get_or_from_slice_get, slice_get_within}
-use Rattle.kl1_model.specs.Term.{Term, variable, integer, atom, structure, Terms, none, more, occurs, occurs_in, size, sizes}
+use Rattle.kl1_model.specs.Term.{Term, variable, integer, atom, structure, none, more, occurs, occurs_in, size, sizes}
 use Rattle.kl1_store.specs.declared.cell.Cell.{Cell}
 use Rattle.kl1_store.specs.declared.cell.Cell.TheVariants.{Variable, Integer, Atom, Structure}
 use Rattle.kl1_store.specs.declared.spot.Spot.{Spot}
-use Rattle.kl1_store.specs.Held.{Held, IsIn, is_bound, arguments_of}
+use Rattle.kl1_store.specs.Held.{Held, is_bound, arguments_of}
 use Rattle.kl1_store.specs.Meaning.{term_of, terms_of}
 use Rattle.kl1_store.specs.Sound.{IsFormed}
 use Rattle.kl1_store.specs.Spots.{left_of, is_left, weight, IsSpot, AreSpots, unread, Visits}

@@ -1,11 +1,11 @@
 -- Waiting equations, one binding after another.
-use Rattle.std.proofs.Common.{◌≡◌, ℕ, zero, suc, ◌+◌, ◌<◌, ◌≤◌, ◌==◌, Bool, true, false, ◌||◌, if◌then◌else◌, List, [], ◌∷◌, ◌++◌, length, drop, map, refl, sym, ap, ◌∙◌, ◌⊎◌, inl, inr, arith, subst, append_assoc}
-use Rattle.std.specs.Prelude.{Option, Some, None, option_map, slice_get}
+use Rattle.std.proofs.Common.{◌≡◌, ℕ, zero, suc, ◌+◌, ◌<◌, ◌≤◌, ◌==◌, Bool, true, false, ◌||◌, List, [], ◌∷◌, ◌++◌, drop, refl, sym, ap, ◌∙◌, ◌⊎◌, inl, inr, arith, subst, append_assoc}
+use Rattle.std.specs.Prelude.{Option, Some, None, option_map}
 use Rattle.std.proofs.lemmas.List.{append-nil}
-use Rattle.std.proofs.lemmas.Bool.{cases_eq, eq-eqb, ne_eqb, cond-true, cond-false}
+use Rattle.std.proofs.lemmas.Bool.{cases_eq, eq-eqb, cond-true, cond-false}
 use Rattle.kl1_model.specs.declared.built_in.BuiltIn.{BuiltIn}
-use Rattle.kl1_model.specs.Term.{Term, Terms, none, more, occurs, replace, replace_each, Replacement, replaced}
-use Rattle.kl1_model.specs.Unify.{Equation, Front, goes_on, fails, binds, front, after, bound_to, solve, argument_equations, replace_in_all}
+use Rattle.kl1_model.specs.Term.{Term, Terms, none, more, occurs, replace, replace_each, Replacement}
+use Rattle.kl1_model.specs.Unify.{Equation, fails, binds, front, after, bound_to, solve, argument_equations, replace_in_all}
 use Rattle.kl1_model.proofs.UnifyRule.{front_decides, nothing_solved}
 use Rattle.kl1_model.proofs.EqualSides.{equal_sides_dropped}
 use Rattle.kl1_model.proofs.TermFacts.{same_term_decides}
@@ -13,18 +13,15 @@ use Rattle.kl1_text.specs.Reading.{Reads}
 use Rattle.kl1_store.specs.declared.cell.Cell.{Cell}
 use Rattle.kl1_store.specs.declared.binding.Binding.{Binding}
 use Rattle.kl1_store.specs.declared.frame.Frame.{Frame}
-use Rattle.kl1_store.specs.declared.meeting.Meeting.TheVariants.{Same, Clash, Bind, Open}
-use Rattle.kl1_store.specs.Held.{Shape, Held, with_binding, is_bound, IsIn, arguments_of}
-use Rattle.kl1_store.specs.Meaning.{mean, shapes, replacements, term_of, terms_of}
+use Rattle.kl1_store.specs.declared.meeting.Meeting.TheVariants.{Clash}
+use Rattle.kl1_store.specs.Held.{Held, with_binding, is_bound, IsIn, arguments_of}
+use Rattle.kl1_store.specs.Meaning.{replacements, term_of, terms_of}
 use Rattle.kl1_store.specs.Sound.{IsFormed}
-use Rattle.kl1_store.specs.Waiting.{rest_of, waiting, IsPair, ArePairs}
+use Rattle.kl1_store.specs.Waiting.{rest_of, waiting, ArePairs}
 use Rattle.kl1_store.specs.Meets.{MeetsAs, CanTake, Takes, Opens}
 use Rattle.kl1_store.specs.Unifies.{ForEachReading, OnlyBound, Made, SettlesAs, BindsAs, equation_of}
-use Rattle.kl1_store.proofs.Replacing.{replaced-append}
-use Rattle.kl1_store.proofs.Meanings.{is_bound-push}
-use Rattle.kl1_store.proofs.Terms.{replacements-binding, term_of-binding, terms_of-binding}
+use Rattle.kl1_store.proofs.Terms.{replacements-binding, terms_of-binding}
 use Rattle.kl1_store.proofs.Numbered.{numbered-term_of}
-use Rattle.kl1_store.proofs.Advancing.{waiting-push}
 
 -- ---- how many variables are unbound
 

@@ -1,18 +1,16 @@
 -- What cells mean after each growth, and what walking and looking at them finds.
-use Rattle.std.proofs.Common.{◌≡◌, ℕ, zero, suc, ◌+◌, ◌<◌, ◌≤◌, ◌==◌, Bool, true, false, ◌||◌, if◌then◌else◌, List, [], ◌∷◌, ◌++◌, length, get_or, refl, sym, ap, ◌∙◌, ◌⊎◌, inl, inr, arith, subst, append_assoc, length-append, add-one, ℤ}
-use Rattle.std.specs.Prelude.{Option, Some, None, slice_get}
-use Rattle.std.proofs.lemmas.List.{append-nil, get_or_past, get_or_at}
-use Rattle.std.proofs.lemmas.Bool.{cases_eq, ne_eqb, eq-eqb, eqb-true, eqb-false, or_parts, or_from, cases_Bool, cond-true, cond-false}
-use Rattle.kl1_model.specs.Term.{Term, variable, integer, atom, structure, Terms, none, more, occurs, occurs_in, replace, replace_each, Replacement, replaced}
+use Rattle.std.proofs.Common.{◌≡◌, ℕ, zero, suc, ◌+◌, ◌≤◌, ◌==◌, Bool, true, false, if◌then◌else◌, List, [], ◌∷◌, ◌++◌, length, get_or, refl, ap, ◌∙◌, arith, subst, ℤ}
+use Rattle.std.specs.Prelude.{Some, slice_get}
+use Rattle.kl1_model.specs.Term.{variable, integer, atom, structure, more, replace, replace_each, replaced}
 use Rattle.kl1_store.specs.declared.cell.Cell.{Cell}
 use Rattle.kl1_store.specs.declared.cell.Cell.TheVariants.{Variable, Integer, Atom, Structure}
 use Rattle.kl1_store.specs.declared.binding.Binding.{Binding}
-use Rattle.kl1_store.specs.Held.{Shape, Held, with_variable, with_structure, with_binding, is_bound, found, IsWithin, AreWithin, IsIn, AreIn, IsLower, arguments_of, shape_arguments}
+use Rattle.kl1_store.specs.Held.{Shape, Held, with_variable, with_structure, with_binding, is_bound, found, IsWithin, AreWithin, IsIn, AreIn, arguments_of, shape_arguments}
 use Rattle.kl1_store.specs.Meaning.{mean, means, shapes, shapes_from, replacements, replacements_from, term_of, terms_of}
-use Rattle.kl1_store.specs.Sound.{Built, Bound, FitsNext, IsFormed}
-use Rattle.kl1_store.proofs.Replacing.{replaced_each, replaced-append, replaced-structure, replaced-integer, replaced-atom, replaced_each-none, replaced_each-more, replace_free, occurs_replaced}
-use Rattle.kl1_store.proofs.Meanings.{term_at, replacement_of, shapes_from-push, get_or-shapes_from, replacements_from-push, unbound_stays, found_means, if_same, if_other, some-same}
-use Rattle.kl1_store.proofs.Growing.{many_shapes, mean-structure, replacements_from-structure, AreWithin-more, IsWithin-more}
+use Rattle.kl1_store.specs.Sound.{Built, Bound, IsFormed}
+use Rattle.kl1_store.proofs.Replacing.{replaced_each, replaced-append, replaced-structure, replaced-integer, replaced-atom, replaced_each-none, replaced_each-more}
+use Rattle.kl1_store.proofs.Meanings.{term_at, get_or-shapes_from, replacements_from-push, unbound_stays, found_means, some-same}
+use Rattle.kl1_store.proofs.Growing.{mean-structure, replacements_from-structure, AreWithin-more}
 
 pub term_of-variable : {N : Type 0} (f : N → List ℕ) (h : Held N) (x : Cell N) → term_of f (with_variable h) x ≡ term_of f h x
 unfolding term_of

@@ -1,16 +1,15 @@
 -- From the replacements that were made to what each cell means.
-use Rattle.std.proofs.Common.{◌≡◌, ℕ, true, ◌≤◌, List, [], ◌∷◌, ◌++◌, length, take, refl, sym, ap, ◌∙◌, arith, subst}
+use Rattle.std.proofs.Common.{◌≡◌, ℕ, true, List, [], ◌++◌, length, take, refl, ap, ◌∙◌, arith}
 use Rattle.std.proofs.lemmas.List.{take_all, take_at}
 use Rattle.kl1_model.specs.declared.built_in.BuiltIn.{BuiltIn}
 use Rattle.kl1_model.specs.Term.{Replacement, replaced}
 use Rattle.kl1_store.specs.declared.cell.Cell.{Cell}
-use Rattle.kl1_store.specs.declared.binding.Binding.{Binding}
-use Rattle.kl1_store.specs.declared.unified.Unified.TheVariants.{Bound, Clash}
-use Rattle.kl1_store.specs.Held.{Shape, Held}
+use Rattle.kl1_store.specs.declared.unified.Unified.TheVariants.{Bound}
+use Rattle.kl1_store.specs.Held.{Held}
 use Rattle.kl1_store.specs.Meaning.{mean, shapes, shapes_from, replacements, term_of}
 use Rattle.kl1_store.specs.Sound.{Grown}
-use Rattle.kl1_store.specs.Unifies.{ForEachReading, OnlyBound, SettlesAs, equation_of}
-use Rattle.kl1_store.specs.Unification.{IsSolved, UnifiesAs}
+use Rattle.kl1_store.specs.Unifies.{OnlyBound, SettlesAs, equation_of}
+use Rattle.kl1_store.specs.Unification.{UnifiesAs}
 use Rattle.kl1_store.proofs.Replacing.{replaced-append}
 
 made_everywhere : {N : Type 0} (f : N → List ℕ) (old new : Held N) (rs : List Replacement) (x : Cell N) → OnlyBound old new → replacements f new ≡ replacements f old ++ rs →

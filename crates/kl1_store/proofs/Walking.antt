@@ -1,12 +1,12 @@
 -- Walking from a variable to what it was bound to.
-use Rattle.std.proofs.Common.{◌≡◌, ℕ, zero, suc, ◌+◌, ◌<◌, ◌≤◌, ◌==◌, Bool, true, false, ◌||◌, if◌then◌else◌, List, [], ◌∷◌, ◌++◌, length, refl, sym, ap, ◌∙◌, ◌⊎◌, inl, inr, arith, subst}
-use Rattle.std.proofs.lemmas.Bool.{cases_eq, ne_eqb, or_parts, or_from, eqb-false}
+use Rattle.std.proofs.Common.{◌≡◌, ℕ, suc, ◌≤◌, ◌==◌, false, List, [], ◌∷◌, ◌++◌, refl, sym, ap, ◌∙◌, ◌⊎◌, inl, inr, arith, subst}
+use Rattle.std.proofs.lemmas.Bool.{cases_eq, ne_eqb, or_from}
 use Rattle.kl1_store.specs.declared.cell.Cell.{Cell}
 use Rattle.kl1_store.specs.declared.cell.Cell.TheVariants.{Variable, Integer, Atom, Structure}
 use Rattle.kl1_store.specs.declared.binding.Binding.{Binding}
-use Rattle.kl1_store.specs.Held.{Shape, Held, is_bound, found, IsIn, IsLower, IsWalked}
+use Rattle.kl1_store.specs.Held.{Shape, Held, is_bound, found, IsIn, IsLower}
 use Rattle.kl1_store.specs.Meaning.{term_of}
-use Rattle.kl1_store.specs.Sound.{Bound, FitsNext, IsFormed, IsBoundTo}
+use Rattle.kl1_store.specs.Sound.{Bound, IsFormed, IsBoundTo}
 use Rattle.kl1_store.proofs.Meanings.{if_same, if_other}
 use Rattle.kl1_store.proofs.Lists.{found_unbound}
 use Rattle.kl1_store.proofs.Terms.{term_of-found, found_in}

@@ -1,7 +1,7 @@
 -- What comparing two cells promises, by the definition of passive equality.
 use Rattle.std.specs.Prelude.{◌≡◌, ℕ, ◌+◌, ◌≤◌, Bool, true, false, ◌||◌, List, [], ◌∷◌, ◌++◌, length}
 use Rattle.kl1_model.specs.declared.built_in.BuiltIn.{BuiltIn}
-use Rattle.kl1_model.specs.Term.{Term, size}
+use Rattle.kl1_model.specs.Term.{size}
 use Rattle.kl1_model.specs.Unify.{Equation, equations_size}
 use Rattle.kl1_model.specs.Same.{clash, awaited}
 use Rattle.kl1_text.specs.Reading.{Reads}

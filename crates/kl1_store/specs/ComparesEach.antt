@@ -1,5 +1,5 @@
 -- What comparing a list of cells promises, by the definition of passive equality.
-use Rattle.std.specs.Prelude.{◌≡◌, ℕ, Bool, true, false, List, [], ◌∷◌, ◌++◌, map}
+use Rattle.std.specs.Prelude.{◌≡◌, ℕ, Bool, true, false, List, [], ◌∷◌, ◌++◌}
 use Rattle.kl1_model.specs.declared.built_in.BuiltIn.{BuiltIn}
 use Rattle.kl1_model.specs.Term.{Term}
 use Rattle.kl1_model.specs.Same.{clashes_with_some, some_clash, awaited_with, awaited_by}

@@ -1,5 +1,5 @@
 -- Unification on a store, by the definition of unification on terms.
-use Rattle.std.specs.Prelude.{◌≡◌, ℕ, suc, ◌≤◌, List, Some, None}
+use Rattle.std.specs.Prelude.{◌≡◌, ℕ, List, Some, None}
 use Rattle.kl1_model.specs.declared.built_in.BuiltIn.{BuiltIn}
 use Rattle.kl1_model.specs.Term.{Replacement, replaced}
 use Rattle.kl1_model.specs.Unify.{solve}

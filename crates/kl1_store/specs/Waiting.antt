@@ -1,5 +1,5 @@
 -- The equations that wait, as pairs of structures stand for them.
-use Rattle.std.specs.Prelude.{◌≡◌, ℕ, suc, ◌+◌, ◌≤◌, List, [], ◌∷◌, length, drop, Some, slice_get}
+use Rattle.std.specs.Prelude.{◌≡◌, ℕ, suc, ◌≤◌, List, [], ◌∷◌, length, drop, Some, slice_get}
 use Rattle.kl1_model.specs.Unify.{Equation, argument_equations}
 use Rattle.kl1_store.specs.declared.frame.Frame.{Frame}
 use Rattle.kl1_store.specs.Held.{Held, IsIn, IsWalked, arguments_of}

@@ -1,14 +1,6 @@
-use Rattle.std.proofs.Common.{◌≡◌, ℕ, suc, ◌+◌, ◌<◌, ◌≤◌, List, [], ◌∷◌, ◌++◌, length, refl, sym, ap, ◌∙◌, arith, subst}
-use Rattle.std.specs.Prelude.{Some, slice_get}
-use Rattle.kl1_model.specs.Unify.{solve}
-use Rattle.kl1_store.specs.declared.cell.Cell.{Cell}
-use Rattle.kl1_store.specs.declared.frame.Frame.{Frame}
-use Rattle.kl1_store.specs.Held.{Held, IsIn, IsWithin, arguments_of}
-use Rattle.kl1_store.specs.Waiting.{waiting, ArePairs, IsPair, Turn, IsTurn}
-use Rattle.kl1_store.specs.Unifies.{ForEachReading}
-use Rattle.kl1_store.specs.Onward.{onward}
+use Rattle.std.proofs.Common.{arith}
+use Rattle.kl1_store.specs.Held.{arguments_of}
 use Rattle.kl1_store.proofs.Terms.{arguments_in, within_at}
-use Rattle.kl1_store.proofs.Advancing.{work, Reaches, pair_popped, closed_at, dropped_at, opened_at, never_at, taken_at, nothing_waits}
 use Rattle.kl1_store.proofs.advance.turn.Goals as goal
 
 pub argument-left-requires : goal.argument-left-requires

@@ -1,11 +1,5 @@
-use Rattle.std.proofs.Common.{rules, ◌≡◌, ℕ, suc, false, ◌+◌, ◌<◌, ◌≤◌, List, length, get_or, ◌-◌, ◌^◌, [], ◌∷◌, ◌++◌, refl, sym, ap, ◌∙◌, arith, subst, take, drop, length-set, length-append}
-use Rattle.std.specs.Prelude.{Some, slice_get}
+use Rattle.std.proofs.Common.{◌≡◌, ◌+◌, length, [], ◌∷◌, sym, ap, ◌∙◌, arith, take, length-set, length-append}
 use Rattle.std.proofs.lemmas.List.{take-append-le}
-use Rattle.kl1_store.specs.declared.binding.Binding.{Binding}
-use Rattle.kl1_store.specs.Held.{Shape, Held, Stored, arguments_of, shape_arguments, AreWithin, IsWithin, sizes_of, with_structure}
-use Rattle.kl1_store.specs.Inside.{shapes_in, held_in, IsInside, most}
-use Rattle.kl1_store.specs.Sound.{IsFormed, Grown}
-use Rattle.kl1_store.proofs.Laid.{length-shapes_in}
 use Rattle.kl1_store.proofs.cells.unbind.Goals as goal
 use Rattle.kl1_store.proofs.Lists.{take_back}
 

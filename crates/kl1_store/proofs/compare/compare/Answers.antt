@@ -1,11 +1,8 @@
-use Rattle.std.proofs.Common.{◌≡◌, ℕ, Bool, true, false, List, [], ◌∷◌, ◌++◌, refl, sym, ap, ◌∙◌, arith, subst}
+use Rattle.std.proofs.Common.{◌≡◌, Bool, [], arith, subst}
 use Rattle.std.proofs.lemmas.List.{nil_from_length}
-use Rattle.kl1_store.specs.declared.frame.Frame.{Frame}
-use Rattle.kl1_store.specs.Waiting.{ArePairs, IsPair, IsTurn}
-use Rattle.kl1_store.specs.Onward.{onward}
 use Rattle.kl1_store.specs.Compares.{ComparesAs}
 use Rattle.kl1_store.proofs.Advancing.{pair_popped, onward_pushed}
-use Rattle.kl1_store.proofs.Comparing.{IsLeft, left_start, left_step, left_end, left_clash, first_clash, pair_closed, pair_compared, pair_clashes}
+use Rattle.kl1_store.proofs.Comparing.{left_start, left_step, left_end, left_clash, first_clash, pair_closed, pair_compared, pair_clashes}
 use Rattle.kl1_store.proofs.compare.compare.Goals as goal
 
 pub returns-then-not-branch : goal.returns-then-not-branch

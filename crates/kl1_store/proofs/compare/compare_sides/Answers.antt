@@ -1,4 +1,3 @@
-use Rattle.std.proofs.Common.{◌≡◌, sym, ap, ◌∙◌}
 use Rattle.kl1_store.proofs.Comparing.{looked_same, looked_two, looked_one_variable, looked_left, looked_right, looked_clash, looked_open}
 use Rattle.kl1_store.proofs.compare.compare_sides.Goals as goal
 

@@ -1,14 +1,12 @@
-use Rattle.std.proofs.Common.{◌≡◌, ℕ, suc, ◌<◌, length, refl, sym, ap, ◌∙◌, arith, subst, ℤ}
-use Rattle.std.proofs.lemmas.Bool.{false≢true}
-use mir.Val.{of_z, SFits}
+use Rattle.std.proofs.Common.{sym, subst, ℤ}
+use mir.Val.{SFits}
 use Rattle.std.proofs.Common.{rules}
 use Rattle.std.proofs.lemmas.Int.{to_z-of_z}
 use mir.Syntax.{w64}
 use Rattle.kl1_store.specs.declared.cell.Cell.{Cell}
-use Rattle.kl1_store.specs.declared.cell.Cell.TheVariants.{Variable, Integer, Atom, Structure}
-use Rattle.kl1_store.specs.declared.meeting.Meeting.TheVariants.{Same, Clash, Bind, Open}
-use Rattle.kl1_store.specs.Meets.{MeetsAs, Takes}
-use Rattle.kl1_store.proofs.Meetings.{kind, kinds_clash, takes_left_at, takes_right_at, takes_lower, takes_higher, integers_clash, atoms_clash, AreRead, counts_clash, names_clash, structures_open}
+use Rattle.kl1_store.specs.declared.cell.Cell.TheVariants.{Integer}
+use Rattle.kl1_store.specs.Meets.{MeetsAs}
+use Rattle.kl1_store.proofs.Meetings.{takes_left_at, takes_right_at}
 use Rattle.kl1_store.proofs.meets.meet.Goals as goal
 
 pub returns-in-None : goal.returns-in-None

@@ -1,12 +1,11 @@
-use Rattle.std.proofs.Common.{◌≡◌, ℕ, suc, ◌<◌, length, refl, sym, ap, ◌∙◌, arith, subst, ℤ}
-use Rattle.std.proofs.lemmas.Bool.{false≢true}
+use Rattle.std.proofs.Common.{sym, ap, arith, subst}
 use mir.Val.{of_z}
 use mir.Syntax.{w64}
 use Rattle.kl1_store.specs.declared.cell.Cell.{Cell}
-use Rattle.kl1_store.specs.declared.cell.Cell.TheVariants.{Variable, Integer, Atom, Structure}
-use Rattle.kl1_store.specs.declared.meeting.Meeting.TheVariants.{Same, Clash, Bind, Open}
-use Rattle.kl1_store.specs.Meets.{MeetsAs, Takes}
-use Rattle.kl1_store.proofs.Meetings.{kind, kinds_clash, takes_left, takes_right, takes_lower, takes_higher, integers_clash, atoms_clash, AreRead, counts_clash, names_clash, structures_open}
+use Rattle.kl1_store.specs.declared.cell.Cell.TheVariants.{Integer}
+use Rattle.kl1_store.specs.declared.meeting.Meeting.TheVariants.{Clash}
+use Rattle.kl1_store.specs.Meets.{MeetsAs}
+use Rattle.kl1_store.proofs.Meetings.{kind, kinds_clash, integers_clash}
 use Rattle.kl1_store.proofs.meets.meet_integer.Goals as goal
 
 pub returns-else-left-other : goal.returns-else-left-other

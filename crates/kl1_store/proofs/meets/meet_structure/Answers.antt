@@ -1,12 +1,6 @@
-use Rattle.std.proofs.Common.{◌≡◌, ℕ, suc, ◌<◌, length, refl, sym, ap, ◌∙◌, arith, subst, ℤ}
-use Rattle.std.proofs.lemmas.Bool.{false≢true}
-use mir.Val.{of_z}
-use mir.Syntax.{w64}
-use Rattle.kl1_store.specs.declared.cell.Cell.{Cell}
-use Rattle.kl1_store.specs.declared.cell.Cell.TheVariants.{Variable, Integer, Atom, Structure}
-use Rattle.kl1_store.specs.declared.meeting.Meeting.TheVariants.{Same, Clash, Bind, Open}
-use Rattle.kl1_store.specs.Meets.{MeetsAs, Takes}
-use Rattle.kl1_store.proofs.Meetings.{kind, kinds_clash, takes_left, takes_right, takes_lower, takes_higher, integers_clash, atoms_clash, AreRead, counts_clash, names_clash, structures_open}
+use Rattle.std.proofs.Common.{ap, arith}
+use Rattle.kl1_store.specs.declared.cell.Cell.TheVariants.{Structure}
+use Rattle.kl1_store.proofs.Meetings.{kind, kinds_clash}
 use Rattle.kl1_store.proofs.meets.meet_structure.Goals as goal
 
 pub returns-in-Integer : goal.returns-in-Integer

@@ -1,16 +1,13 @@
-use Rattle.std.proofs.Common.{◌≡◌, ℕ, Bool, true, false, ◌||◌, suc, ◌+◌, ◌<◌, ◌≤◌, List, [], ◌∷◌, ◌++◌, length, refl, sym, ap, ◌∙◌, arith, subst}
-use Rattle.std.specs.Prelude.{Some, slice_get}
+use Rattle.std.proofs.Common.{◌≡◌, ℕ, Bool, true, ◌||◌, List, [], ◌∷◌, ◌++◌, sym, ap, ◌∙◌, arith, subst}
 use Rattle.kl1_model.specs.Term.{occurs}
 use Rattle.kl1_store.specs.Meaning.{term_of}
 use Rattle.kl1_store.specs.declared.spot.Spot.{Spot}
 use Rattle.kl1_store.specs.SpotOnward.{spot_onward}
-use Rattle.kl1_store.specs.declared.cell.Cell.{Cell}
-use Rattle.kl1_store.specs.declared.cell.Cell.TheVariants.{Variable, Integer, Atom, Structure}
-use Rattle.kl1_store.specs.Held.{Held, IsIn, IsWithin, IsWalked, arguments_of}
+use Rattle.kl1_store.specs.Held.{arguments_of}
 use Rattle.std.proofs.lemmas.List.{nil_from_length}
-use Rattle.kl1_store.specs.Spots.{Visits, VisitsAs, is_left, weight, AreSpots, unread}
+use Rattle.kl1_store.specs.Spots.{Visits, VisitsAs, is_left, AreSpots}
 use Rattle.kl1_store.proofs.Terms.{arguments_in, within_at}
-use Rattle.kl1_store.proofs.Searching.{sees_itself, other_variable, no_integer, no_atom, sees_nothing, sees_structure, spots_popped, spot_closed, onward_spot, spot_visited, spot_seen, AreSpots-push, or-nothing}
+use Rattle.kl1_store.proofs.Searching.{spots_popped, spot_closed, onward_spot, spot_visited, spot_seen, AreSpots-push, or-nothing}
 use Rattle.kl1_store.proofs.occurs.occurs_in_term.Goals as goal
 
 pub loop-spot-init : goal.loop-spot-init

@@ -1,11 +1,7 @@
-use Rattle.std.proofs.Common.{◌≡◌, ℕ, suc, ◌+◌, ◌<◌, ◌≤◌, List, [], ◌∷◌, ◌++◌, length, refl, sym, ap, ◌∙◌, arith, subst}
-use Rattle.std.specs.Prelude.{Some, slice_get}
+use Rattle.std.proofs.Common.{subst}
 use Rattle.kl1_store.specs.declared.cell.Cell.{Cell}
-use Rattle.kl1_store.specs.declared.cell.Cell.TheVariants.{Variable, Integer, Atom, Structure}
-use Rattle.kl1_store.specs.Held.{Held, IsIn, IsWithin, IsWalked, arguments_of}
-use Rattle.kl1_store.specs.Spots.{is_left, weight, AreSpots, unread}
-use Rattle.kl1_store.proofs.Terms.{arguments_in, within_at}
-use Rattle.kl1_store.proofs.Searching.{sees_itself, other_variable, no_integer, no_atom, sees_nothing, sees_structure, spots_popped, spot_closed, onward_spot, spot_visited, spot_seen, AreSpots-push}
+use Rattle.kl1_store.specs.Held.{IsIn, IsWalked}
+use Rattle.kl1_store.proofs.Searching.{sees_itself, other_variable, no_integer, no_atom, sees_nothing, sees_structure}
 use Rattle.kl1_store.proofs.occurs.visit.Goals as goal
 
 pub returns-then-number-variable : goal.returns-then-number-variable

@@ -1,13 +1,7 @@
-use Rattle.std.proofs.Common.{◌≡◌, ℕ, Bool, true, false, suc, ◌+◌, ◌<◌, ◌≤◌, List, [], ◌∷◌, ◌++◌, length, refl, sym, ap, ◌∙◌, arith, subst}
-use Rattle.kl1_model.specs.Unify.{solve}
-use Rattle.kl1_store.specs.declared.cell.Cell.{Cell}
-use Rattle.kl1_store.specs.declared.frame.Frame.{Frame}
-use Rattle.kl1_store.specs.Held.{Held, IsIn}
-use Rattle.kl1_store.specs.Meaning.{term_of}
-use Rattle.kl1_store.specs.Waiting.{waiting, ArePairs, IsPair}
+use Rattle.std.proofs.Common.{Bool, refl, ◌∙◌, subst}
 use Rattle.kl1_store.specs.declared.next.Next.{Next}
-use Rattle.kl1_store.specs.Unifies.{ComesTo, ForEachReading, OnlyBound, SettlesAs, BindsAs, equation_of, Made}
-use Rattle.kl1_store.proofs.Settling.{Settling, NextBinding, settling_start, settling_on, settling_stops, settling_ends, settling_fails, OnlyBound-same, OneEquation, one_same, one_clash, one_binds, one_cycle, one_opens, unbound_below, settled_at}
+use Rattle.kl1_store.specs.Unifies.{ComesTo, BindsAs}
+use Rattle.kl1_store.proofs.Settling.{NextBinding, settling_start, settling_on, settling_stops, settling_ends, settling_fails}
 use Rattle.kl1_store.proofs.settle.settle.Goals as goal
 
 pub loop-variable-init : goal.loop-variable-init

@@ -1,12 +1,6 @@
-use Rattle.std.proofs.Common.{◌≡◌, ℕ, Bool, true, false, suc, ◌+◌, ◌<◌, ◌≤◌, List, [], ◌∷◌, ◌++◌, length, refl, sym, ap, ◌∙◌, arith, subst}
-use Rattle.kl1_model.specs.Unify.{solve}
-use Rattle.kl1_store.specs.declared.cell.Cell.{Cell}
-use Rattle.kl1_store.specs.declared.frame.Frame.{Frame}
-use Rattle.kl1_store.specs.Held.{Held, IsIn}
-use Rattle.kl1_store.specs.Meaning.{term_of}
-use Rattle.kl1_store.specs.Waiting.{waiting, ArePairs, IsPair}
-use Rattle.kl1_store.specs.Unifies.{ForEachReading, OnlyBound, SettlesAs, BindsAs, equation_of, Made}
-use Rattle.kl1_store.proofs.Settling.{Settling, NextBinding, settling_start, settling_on, settling_stops, settling_ends, settling_fails, OnlyBound-same, OneEquation, one_same, one_clash, one_binds, one_cycle, one_opens, unbound_below, settled_at}
+use Rattle.std.proofs.Common.{◌≡◌, Bool, [], ◌∷◌, ◌++◌, ap, ◌∙◌, subst}
+use Rattle.kl1_store.specs.Unifies.{BindsAs}
+use Rattle.kl1_store.proofs.Settling.{OneEquation, one_same, one_clash, one_binds, one_cycle, settled_at}
 use Rattle.kl1_store.proofs.settle.unify_cells.Goals as goal
 
 pub returns-in-Same-clause-settled : goal.returns-in-Same-clause-settled

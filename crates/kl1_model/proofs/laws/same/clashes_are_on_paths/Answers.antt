@@ -1,4 +1,4 @@
-use Rattle.kl1_model.proofs.Clashes.{clashes_on_paths, same_is_equal, differs_on_path}
+use Rattle.kl1_model.proofs.Clashes.{clashes_on_paths}
 use Rattle.kl1_model.proofs.laws.same.clashes_are_on_paths.Goals as goal
 
 pub returns : goal.returns

@@ -1,4 +1,4 @@
-use Rattle.kl1_model.proofs.Clashes.{clashes_on_paths, same_is_equal, differs_on_path}
+use Rattle.kl1_model.proofs.Clashes.{same_is_equal, differs_on_path}
 use Rattle.kl1_model.proofs.laws.same.passive_equality_is_by_paths.Goals as goal
 
 pub returns : goal.returns

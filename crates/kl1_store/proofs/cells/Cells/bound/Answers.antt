@@ -1,9 +1,4 @@
-use Rattle.std.proofs.Common.{rules, ◌≡◌, ℕ, suc, false, ◌+◌, ◌<◌, ◌≤◌, List, length, get_or, ◌-◌, ◌^◌, [], ◌∷◌, ◌++◌, refl, sym, ap, ◌∙◌, arith, subst, take, drop}
-use Rattle.std.specs.Prelude.{Some, slice_get}
-use Rattle.kl1_store.specs.Held.{Shape, Held, Stored, arguments_of, shape_arguments, AreWithin, IsWithin, sizes_of, with_structure}
-use Rattle.kl1_store.specs.Inside.{shapes_in, held_in, IsInside, most}
-use Rattle.kl1_store.specs.Sound.{IsFormed}
-use Rattle.kl1_store.proofs.Laid.{length-shapes_in}
+use Rattle.std.proofs.Common.{sym, ◌∙◌}
 use Rattle.kl1_store.proofs.cells.Cells.bound.Goals as goal
 use Rattle.std.proofs.lemmas.Bool.{false≢true}
 use Rattle.kl1_store.proofs.Walking.{bound_at, found_itself}

@@ -1,10 +1,8 @@
-use Rattle.std.proofs.Common.{rules, ◌≡◌, ℕ, suc, false, ◌+◌, ◌<◌, ◌≤◌, List, length, get_or, ◌-◌, ◌^◌, [], ◌∷◌, ◌++◌, refl, sym, ap, ◌∙◌, arith, subst, take, drop}
-use Rattle.std.specs.Prelude.{Some, slice_get}
-use Rattle.kl1_store.specs.Held.{Shape, Held, Stored, arguments_of, shape_arguments, AreWithin, IsWithin, sizes_of, with_structure}
-use Rattle.kl1_store.specs.Inside.{shapes_in, held_in, IsInside, most}
-use Rattle.kl1_store.specs.Sound.{IsFormed}
+use Rattle.std.proofs.Common.{◌≡◌, length, [], ◌∷◌, ◌++◌, refl, ap, ◌∙◌, arith}
+use Rattle.kl1_store.specs.Held.{Stored, with_structure}
+use Rattle.kl1_store.specs.Inside.{held_in, IsInside}
 use Rattle.kl1_store.proofs.Laid.{length-shapes_in}
-use Rattle.kl1_store.proofs.Lists.{IsInside-variable, bound_at, built_at, ReadAt, read_at, argument_read}
+use Rattle.kl1_store.proofs.Lists.{built_at}
 use Rattle.kl1_store.proofs.cells.Cells.build.Goals as goal
 
 -- the lists after the growth

@@ -1,7 +1,6 @@
-use Rattle.std.proofs.Common.{◌≡◌, ℕ, suc, List}
-use Rattle.kl1_store.specs.Held.{Held, IsIn}
+use Rattle.std.proofs.Common.{◌≡◌, ℕ, List}
+use Rattle.kl1_store.specs.Held.{IsIn}
 use Rattle.kl1_store.specs.Meaning.{term_of}
-use Rattle.kl1_store.specs.Sound.{IsFormed}
 use Rattle.kl1_store.proofs.Walking.{height}
 use Rattle.kl1_store.proofs.cells.Cells.walk.Given as goal
 

@@ -1,8 +1,7 @@
-use Rattle.std.proofs.Common.{◌≡◌, ◌<◌, ℕ, Bool, true, false, List, [], length, refl, sym, ap, ◌∙◌, arith, subst}
+use Rattle.std.proofs.Common.{◌≡◌, ◌<◌, Bool, [], length, sym, ◌∙◌, arith, subst}
 use Rattle.std.proofs.lemmas.List.{nil_from_length}
 use Rattle.std.proofs.lemmas.Bool.{eqb-true, eqb-false}
 use Rattle.kl1_store.specs.declared.same.Same.TheVariants.{Yes, No, Wait}
-use Rattle.kl1_store.specs.Held.{Held}
 use Rattle.kl1_store.specs.Hooks.{Kept}
 use Rattle.kl1_store.specs.ComparesEach.{ComparedEachAs}
 use Rattle.kl1_store.specs.Sameness.{SameAs}

@@ -1,8 +1,7 @@
-use Rattle.std.proofs.Common.{◌≡◌, Bool, true, sym, ap, ◌∙◌, subst}
+use Rattle.std.proofs.Common.{Bool, subst}
 use Rattle.kl1_store.specs.declared.unified.Unified.TheVariants.{Bound}
-use Rattle.kl1_store.specs.Held.{Held}
 use Rattle.kl1_store.specs.Hooks.{Kept}
-use Rattle.kl1_store.specs.Unifies.{SettlesAs, OnlyBound, equation_of}
+use Rattle.kl1_store.specs.Unifies.{SettlesAs, equation_of}
 use Rattle.kl1_store.specs.Unification.{UnifiesAs}
 use Rattle.kl1_store.proofs.Unifying.{unifies}
 use Rattle.kl1_store.proofs.store.Store.unify.Goals as goal
