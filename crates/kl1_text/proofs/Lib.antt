@@ -1,0 +1,2 @@
+pub mod BuiltInLaws
+pub mod Words

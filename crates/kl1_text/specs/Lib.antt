@@ -1,1 +1,4 @@
+pub mod BuiltIns
+pub mod Laws
 pub mod Reading
+pub mod Words

@@ -1,6 +1,22 @@
 //! The names of the language as values: texts of at most 63 bytes, and what may stand in their place.
 #![tactic(auto)]
 
+mod atom_no;
+mod atom_text;
+mod built_ins;
+mod laws;
+mod literals;
 mod name_value;
+mod packing;
+mod printing;
+mod short_bytes;
+#[cfg(test)]
+mod tests;
 
+pub use atom_no::AtomNo;
+pub use atom_text::AtomText;
+pub use built_ins::built_in_at;
+pub use laws::built_ins_differ;
 pub use name_value::NameValue;
+pub use printing::{put_atom, put_int, put_name};
+pub use short_bytes::ShortBytes;

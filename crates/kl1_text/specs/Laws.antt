@@ -1,0 +1,22 @@
+-- What holds of the built-in names.
+use Rattle.std.specs.Prelude.{◌≡◌, ℕ, ◌<◌, List, Some, IsTrue}
+use Rattle.kl1_model.specs.declared.built_in.BuiltIn.{BuiltIn}
+use Rattle.kl1_model.specs.Text.{text_of, is_text}
+use Rattle.kl1_text.specs.BuiltIns.{place_of, built_in_at, built_in_of}
+use Rattle.kl1_text.specs.Reading.{Reads}
+
+-- each built-in name is a name, and is found by its text and by its place, which is below 64
+pub record IsKnown (b : BuiltIn) : Type 0 where
+  pub name : IsTrue (is_text (text_of b))
+  pub by_text : built_in_of (text_of b) ≡ Some b
+  pub by_place : built_in_at (place_of b) ≡ Some b
+  pub below : place_of b < 64
+
+-- built-in names differ in text and in place
+pub record Differ : Type 0 where
+  pub texts : (b c : BuiltIn) → text_of b ≡ text_of c → b ≡ c
+  pub places : (b c : BuiltIn) → place_of b ≡ place_of c → b ≡ c
+
+-- texts read as themselves are a reading of names
+abbrev pub TextsRead : Type 0
+TextsRead = Reads {N = List ℕ} text_of (λ a. a)

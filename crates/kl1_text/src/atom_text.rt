@@ -1,0 +1,150 @@
+// A name as a value.
+
+ghost use Rattle.std.specs.Prelude.{◌≡◌, ℕ, ◌≤◌, List, [], IsTrue, IfSome, IfOk, is_some, length, bytes_eq, ◌↔◌};
+ghost use Rattle.kl1_model.specs.Text.{is_text, text_of};
+ghost use Rattle.kl1_model.specs.Name.{name_text, atom_text};
+ghost use Rattle.kl1_model.specs.declared.built_in.BuiltIn.{BuiltIn};
+ghost use Rattle.kl1_text.specs.BuiltIns.{built_in_of};
+
+use crate::built_ins::find_built_in;
+use crate::literals::bytes_of;
+use crate::name_value::NameValue;
+use crate::packing::{is_text, words_of};
+use crate::printing::{is_bare, quoted};
+use crate::short_bytes::ShortBytes;
+use kl1_model::BuiltIn;
+use std::alloc::{AllocError, Global};
+use std::marker::Model;
+
+/// A name: at most 63 bytes of printable ASCII, the blank among them. The empty name is one.
+#[derive(Clone, Copy, PartialEq, Eq)]
+pub struct AtomText {
+    words: [u64; 8],
+}
+
+impl Model for AtomText {
+    ghost use Rattle.std.specs.Prelude.{◌≡◌, ℕ, List, IsTrue};
+    ghost use Rattle.std.proofs.Common.{ap, sym};
+    ghost use Rattle.kl1_model.specs.Text.{is_text};
+    ghost use Rattle.kl1_text.specs.Words.{words_of, bytes_of};
+
+    ghost Value = { List ℕ };
+
+    ghost view = { λ a. bytes_of a.words };
+
+    ghost invariant = { λ a. (a.words ≡ words_of 8 (bytes_of a.words)) × IsTrue (is_text (bytes_of a.words)) };
+
+    ghost inverse = { λ t. record { words = words_of 8 t } };
+
+    ghost inverse_ok = { λ a h. ap (λ w. record { words = w }) (sym h.0) };
+}
+
+impl AtomText {
+    /// The name of these bytes.
+    pub fn of(bytes: &[u8]) -> Self
+        requires { IsTrue (is_text bytes.now) }
+        ensures { result ≡ bytes.now }
+    {
+        AtomText {
+            words: words_of(bytes),
+        }
+    }
+
+    /// The name of these bytes, where they are one.
+    pub fn read(bytes: &[u8]) -> Option<Self>
+        ensures value { IfSome result (λ name. name ≡ bytes.now) }
+        ensures variant { is_some result ≡ is_text bytes.now }
+    {
+        if !is_text(bytes) {
+            return None;
+        }
+        Some(AtomText::of(bytes))
+    }
+
+    /// Whether two names are one.
+    pub fn is(&self, other: &AtomText) -> bool
+        ensures iff { IsTrue result ↔ (self.now ≡ other.now) }
+        ensures value { result ≡ bytes_eq self.now other.now }
+    {
+        let _ = &self.words;
+        let _ = &other.words;
+        self == other
+    }
+
+    /// The name of a built-in.
+    pub fn of_built_in(built_in: BuiltIn) -> Self
+        ensures { result ≡ text_of built_in }
+    {
+        AtomText::of(bytes_of(built_in))
+    }
+
+    /// The bytes of the name.
+    pub fn unpacked(&self) -> ShortBytes
+        ensures value { result ≡ self.now }
+        ensures short { length result ≤ 63 }
+        ensures text { IsTrue (is_text result) }
+    {
+        let mut out = ShortBytes::new();
+        for word in &self.words {
+            out.put_number(*word, 8);
+        }
+        out
+    }
+
+    /// The built-in name that this is, where it is one.
+    pub fn built_in(&self) -> Option<BuiltIn>
+        ensures { result ≡ built_in_of self.now }
+    {
+        find_built_in(self.unpacked().as_slice())
+    }
+
+    /// How many bytes the name has.
+    pub fn len(&self) -> usize
+        ensures value { result ≡ length self.now }
+        ensures short { result ≤ 63 }
+    {
+        self.unpacked().len()
+    }
+
+    /// The bytes of the name, in a vector of their own.
+    pub fn bytes_of(&self, alloc: Global) -> Result<Vec<u8>, AllocError>
+        ensures { IfOk result (λ bytes. bytes.items ≡ self.now) }
+    {
+        Vec::from_slice(alloc, self.unpacked().as_slice())
+    }
+
+    /// The name as it is printed where it names a structure.
+    pub fn printed_as_name(&self) -> ShortBytes
+        ensures { result ≡ name_text self.now }
+    {
+        let bytes = self.unpacked();
+        if is_bare(bytes.as_slice()) {
+            bytes
+        } else {
+            quoted(bytes.as_slice())
+        }
+    }
+
+    /// The name as it is printed where it stands alone.
+    pub fn printed_as_atom(&self) -> ShortBytes
+        ensures { result ≡ atom_text self.now }
+    {
+        if self.is(&AtomText::of(b"[]")) {
+            self.unpacked()
+        } else {
+            self.printed_as_name()
+        }
+    }
+}
+
+impl NameValue for AtomText {
+    ghost built = { text_of };
+
+    fn of(built_in: BuiltIn) -> Self {
+        AtomText::of_built_in(built_in)
+    }
+
+    fn same(&self, other: &Self) -> bool {
+        self.is(other)
+    }
+}

@@ -1,0 +1,76 @@
+// How bytes lie in words.
+
+ghost use Rattle.std.specs.Prelude.{◌≡◌, ◌^◌, ◌<◌, ◌≤◌, drop, IsTrue};
+ghost use Rattle.std.specs.List.{list_all};
+ghost use Rattle.kl1_model.specs.Text.{is_name_byte, is_text};
+ghost use Rattle.kl1_text.specs.Words.{number_of, words_of};
+
+/// Whether a byte may stand in a name.
+pub fn is_name_byte(byte: u8) -> bool
+    ensures { result ≡ is_name_byte byte }
+{
+    32 <= byte && byte <= 126
+}
+
+/// Whether bytes are a name.
+pub fn is_text(bytes: &[u8]) -> bool
+    ensures { result ≡ is_text bytes.now }
+{
+    bytes.len() <= 63 && are_name_bytes(bytes)
+}
+
+/// Whether each byte may stand in a name.
+fn are_name_bytes(bytes: &[u8]) -> bool
+    ensures { result ≡ list_all is_name_byte bytes.now }
+{
+    bytes.iter().all(|byte| is_name_byte(*byte))
+}
+
+/// The eight words that hold the bytes of a name.
+pub fn words_of(bytes: &[u8]) -> [u64; 8]
+    requires { IsTrue (list_all is_name_byte bytes.now) }
+    ensures { result ≡ words_of 8 bytes.now }
+{
+    let b = behind(bytes);
+    let c = behind(b);
+    let d = behind(c);
+    let e = behind(d);
+    let f = behind(e);
+    let g = behind(f);
+    let h = behind(g);
+    [
+        number_of(bytes, 8),
+        number_of(b, 8),
+        number_of(c, 8),
+        number_of(d, 8),
+        number_of(e, 8),
+        number_of(f, 8),
+        number_of(g, 8),
+        number_of(h, 8),
+    ]
+}
+
+/// At most `count` bytes as a number, the first in the lowest place.
+pub fn number_of(bytes: &[u8], count: usize) -> u64
+    requires names { IsTrue (list_all is_name_byte bytes.now) }
+    requires few { count ≤ 8 }
+    ensures value { result ≡ number_of count bytes.now }
+    ensures below { result < 256 ^ count }
+{
+    if count == 0 {
+        return 0;
+    }
+    match bytes {
+        [] => 0,
+        [first, rest @ ..] => u64::from(*first) + 256 * number_of(rest, count - 1),
+    }
+}
+
+/// The bytes behind the first eight.
+pub fn behind(bytes: &[u8]) -> &[u8]
+    requires { IsTrue (list_all is_name_byte bytes.now) }
+    ensures value { result.now ≡ drop 8 bytes.now }
+    ensures names { IsTrue (list_all is_name_byte result.now) }
+{
+    if bytes.len() < 8 { &[] } else { &bytes[8..] }
+}
