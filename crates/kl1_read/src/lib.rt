@@ -1,0 +1,10 @@
+//! Texts as modules and goals: what a text means, or the line of its first bad item.
+#![tactic(auto)]
+
+mod bytes;
+mod front;
+mod numbered;
+mod quotes;
+mod signs;
+mod spelled;
+mod words;
