@@ -1,0 +1,3 @@
+pub mod ReadSound
+pub mod ReadComplete
+pub mod LexSteps

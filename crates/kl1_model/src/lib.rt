@@ -2,6 +2,7 @@
 #![tactic(auto)]
 
 mod built_in;
+mod laws;
 mod pair_form;
 mod sign;
 

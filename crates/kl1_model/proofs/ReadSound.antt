@@ -1,0 +1,220 @@
+-- What the reader reads are the tokens of the tree that it gives.
+use Rattle.std.specs.Prelude.{◌≡◌, ℕ, zero, suc, ◌^◌, nat_lt, Bool, true, false, if◌then◌else◌, List, [], ◌∷◌, length, Option, Some, None}
+use Rattle.std.proofs.Common.{refl, ap, sym, ◌∙◌}
+use Rattle.std.proofs.lemmas.Option.{none-some, some_pair_parts}
+use Rattle.kl1_model.specs.declared.sign.Sign.TheVariants.{Neck, Colon, Equals, Bar, Comma, Open, Close, OpenList, CloseList}
+use Rattle.kl1_model.specs.Token.{name_token, variable_token, digits_token, minus_token, sign_token}
+use Rattle.kl1_model.specs.Grammar.{Numbered, Relation, equality, relation_token, Expression, alone, related, Part, single, qualified, Primary, numbered, positive, negative, constant, call, empty_list, list, group, Series, last, another, Rest, closed, tail, Head, bare_head, head_with, ClauseTree, fact, rule, guarded, expression_tokens, part_tokens, primary_tokens, series_tokens, rest_tokens, head_tokens, clause_tokens}
+use Rattle.kl1_model.specs.Reader.{Answer, Inner, then_read, then_skip, if_there, behind_comma, behind_close, behind_open, behind_close_list, behind_bar, behind_colon, behind_neck, relation_in_front, series_by, series_at, rest_at, list_at, arguments_at, negative_at, primary_at, part_at, related_at, expression_at, inner_of, all_read, expression_tree, head_at, behind_neck_at, clause_at, clause_tree}
+
+-- an answer that came from going on behind another
+pub then_read_some : {A B P : Type 0} (x : Answer A) (go : A → List Numbered → Option B) (b : B) → then_read x go ≡ Some b → ((a : A) (us : List Numbered) → x ≡ Some (a, us) → go a us ≡ Some b → P) → P
+then_read_some None go b h k = absurd (none-some b h)
+then_read_some (Some r) go b h k = k r.0 r.1 refl h
+
+-- an answer that came from going on behind a token
+pub then_skip_some : {B P : Type 0} (x : Option (List Numbered)) (go : List Numbered → Option B) (b : B) → then_skip x go ≡ Some b → ((us : List Numbered) → x ≡ Some us → go us ≡ Some b → P) → P
+then_skip_some None go b h k = absurd (none-some b h)
+then_skip_some (Some us) go b h k = k us refl h
+
+-- an answer that came in one of two ways
+pub if_there_some : {B P : Type 0} (x : Option (List Numbered)) (otherwise : Option B) (go : List Numbered → Option B) (b : B) → if_there x otherwise go ≡ Some b → (otherwise ≡ Some b → P) → ((us : List Numbered) → x ≡ Some us → go us ≡ Some b → P) → P
+if_there_some None otherwise go b h j k = j h
+if_there_some (Some us) otherwise go b h j k = k us refl h
+
+-- one answer, under a function of what was read and of what is behind it
+pub answered : {A : Type 0} (f : A → List Numbered → List Numbered) (a x : A) (us vs : List Numbered) → ◌≡◌ {A = Answer A} (Some (a, us)) (Some (x, vs)) → f x vs ≡ f a us
+answered f a x us vs e = let p = some_pair_parts a x us vs e in cc (p.0, p.1)
+
+comma_is : (ts us : List Numbered) → behind_comma ts ≡ Some us → sign_token Comma ∷ us ≡ ts
+comma_is (sign_token Comma ∷ ts) us h = cc
+comma_is _ us h = absurd (none-some us h)
+
+close_is : (ts us : List Numbered) → behind_close ts ≡ Some us → sign_token Close ∷ us ≡ ts
+close_is (sign_token Close ∷ ts) us h = cc
+close_is _ us h = absurd (none-some us h)
+
+open_is : (ts us : List Numbered) → behind_open ts ≡ Some us → sign_token Open ∷ us ≡ ts
+open_is (sign_token Open ∷ ts) us h = cc
+open_is _ us h = absurd (none-some us h)
+
+close_list_is : (ts us : List Numbered) → behind_close_list ts ≡ Some us → sign_token CloseList ∷ us ≡ ts
+close_list_is (sign_token CloseList ∷ ts) us h = cc
+close_list_is _ us h = absurd (none-some us h)
+
+bar_is : (ts us : List Numbered) → behind_bar ts ≡ Some us → sign_token Bar ∷ us ≡ ts
+bar_is (sign_token Bar ∷ ts) us h = cc
+bar_is _ us h = absurd (none-some us h)
+
+colon_is : (ts us : List Numbered) → behind_colon ts ≡ Some us → sign_token Colon ∷ us ≡ ts
+colon_is (sign_token Colon ∷ ts) us h = cc
+colon_is _ us h = absurd (none-some us h)
+
+neck_is : (ts us : List Numbered) → behind_neck ts ≡ Some us → sign_token Neck ∷ us ≡ ts
+neck_is (sign_token Neck ∷ ts) us h = cc
+neck_is _ us h = absurd (none-some us h)
+
+relation_is : (ts us : List Numbered) (r : Relation) → relation_in_front ts ≡ Some (r, us) → relation_token r ∷ us ≡ ts
+relation_is (sign_token Equals ∷ ts) us r h = answered (λ r us. relation_token r ∷ us) equality r ts us h
+relation_is _ us r h = absurd (none-some (r, us) h)
+
+-- what inner expressions are read from are their tokens
+abbrev pub IsSound : Inner → Type 0
+IsSound inner = (ts : List Numbered) (e : Expression) (us : List Numbered) → inner ts ≡ Some (e, us) → expression_tokens e us ≡ ts
+
+module _ (inner : Inner) (sound : IsSound inner) where
+  pub series_sound : (m : ℕ) (ts : List Numbered) (s : Series) (us : List Numbered) → series_by inner m ts ≡ Some (s, us) → series_tokens s us ≡ ts
+  unfolding series_by
+  series_sound zero ts s us h = absurd (none-some (s, us) h)
+  series_sound (suc m) ts s us h =
+      then_read_some (inner ts) _ (s, us) h (λ e vs read after.
+      if_there_some (behind_comma vs) _ _ (s, us) after
+      (λ alone_is. answered series_tokens (last e) s vs us alone_is ∙ sound ts e vs read)
+      (λ ws comma rest.
+      then_read_some (series_by inner m ws) _ (s, us) rest (λ t xs more_read is.
+      answered series_tokens (another e t) s xs us is
+      ∙ ap (λ w. expression_tokens e (sign_token Comma ∷ w)) (series_sound m ws t xs more_read)
+      ∙ ap (expression_tokens e) (comma_is vs ws comma)
+      ∙ sound ts e vs read)))
+
+  rest_sound : (ts : List Numbered) (r : Rest) (us : List Numbered) → rest_at inner ts ≡ Some (r, us) → rest_tokens r (sign_token CloseList ∷ us) ≡ ts
+  rest_sound ts r us h =
+      if_there_some (behind_bar ts) _ _ (r, us) h
+      (λ no_bar. then_skip_some (behind_close_list ts) _ (r, us) no_bar (λ vs end is.
+      answered (λ r us. rest_tokens r (sign_token CloseList ∷ us)) closed r vs us is ∙ close_list_is ts vs end))
+      (λ vs bar after. then_read_some (inner vs) _ (r, us) after (λ e ws read behind.
+      then_skip_some (behind_close_list ws) _ (r, us) behind (λ xs end is.
+      answered (λ r us. rest_tokens r (sign_token CloseList ∷ us)) (tail e) r xs us is
+      ∙ ap (λ w. sign_token Bar ∷ expression_tokens e w) (close_list_is ws xs end)
+      ∙ ap (λ w. sign_token Bar ∷ w) (sound vs e ws read)
+      ∙ bar_is ts vs bar)))
+
+  list_sound : (ts : List Numbered) (p : Primary) (us : List Numbered) → list_at inner ts ≡ Some (p, us) → primary_tokens p us ≡ sign_token OpenList ∷ ts
+  list_sound ts p us h =
+      if_there_some (behind_close_list ts) _ _ (p, us) h
+      (λ not_empty. then_read_some (series_at inner ts) _ (p, us) not_empty (λ s vs read after.
+      then_read_some (rest_at inner vs) _ (p, us) after (λ r ws rest is.
+      answered primary_tokens (list s r) p ws us is
+      ∙ ap (λ w. sign_token OpenList ∷ series_tokens s w) (rest_sound vs r ws rest)
+      ∙ ap (λ w. sign_token OpenList ∷ w) (series_sound _ ts s vs read))))
+      (λ vs end is. answered primary_tokens empty_list p vs us is ∙ ap (λ w. sign_token OpenList ∷ w) (close_list_is ts vs end))
+
+  arguments_sound : (ts : List Numbered) (s : Series) (us : List Numbered) → arguments_at inner ts ≡ Some (s, us) → sign_token Open ∷ series_tokens s (sign_token Close ∷ us) ≡ ts
+  arguments_sound ts s us h =
+      then_skip_some (behind_open ts) _ (s, us) h (λ vs open_there inside.
+      then_read_some (series_at inner vs) _ (s, us) inside (λ t ws read after.
+      then_skip_some (behind_close ws) _ (s, us) after (λ xs end is.
+      answered (λ t us. sign_token Open ∷ series_tokens t (sign_token Close ∷ us)) t s xs us is
+      ∙ ap (λ w. sign_token Open ∷ series_tokens t w) (close_is ws xs end)
+      ∙ ap (λ w. sign_token Open ∷ w) (series_sound _ vs t ws read)
+      ∙ open_is ts vs open_there)))
+
+  positive_sound : (n : ℕ) (ts : List Numbered) (b : Bool) (p : Primary) (us : List Numbered) → if◌then◌else◌ {A = Answer Primary} b (Some (positive n, ts)) None ≡ Some (p, us) → primary_tokens p us ≡ digits_token n ∷ ts
+  positive_sound n ts true p us h = answered primary_tokens (positive n) p ts us h
+  positive_sound n ts false p us h = absurd (none-some (p, us) h)
+
+  negative_sound : (ts : List Numbered) (p : Primary) (us : List Numbered) → negative_at ts ≡ Some (p, us) → primary_tokens p us ≡ minus_token true ∷ ts
+  negative_sound (digits_token n ∷ ts) p us h = answered primary_tokens (negative n) p ts us h
+  negative_sound _ p us h = absurd (none-some (p, us) h)
+
+  call_sound : (f : List ℕ) (quotes : Bool) (ts : List Numbered) (p : Primary) (us : List Numbered) → primary_at inner (name_token f quotes true ∷ ts) ≡ Some (p, us) → primary_tokens p us ≡ name_token f quotes true ∷ ts
+  call_sound f quotes ts p us h =
+      then_read_some (arguments_at inner ts) _ (p, us) h (λ s vs read is.
+      answered primary_tokens (call f quotes s) p vs us is ∙ ap (λ w. name_token f quotes true ∷ w) (arguments_sound ts s vs read))
+
+  group_sound : (ts : List Numbered) (p : Primary) (us : List Numbered) → primary_at inner (sign_token Open ∷ ts) ≡ Some (p, us) → primary_tokens p us ≡ sign_token Open ∷ ts
+  group_sound ts p us h =
+      then_read_some (inner ts) _ (p, us) h (λ e vs read after.
+      then_skip_some (behind_close vs) _ (p, us) after (λ ws end is.
+      answered primary_tokens (group e) p ws us is
+      ∙ ap (λ w. sign_token Open ∷ expression_tokens e w) (close_is vs ws end)
+      ∙ ap (λ w. sign_token Open ∷ w) (sound ts e vs read)))
+
+  primary_sound : (ts : List Numbered) (p : Primary) (us : List Numbered) → primary_at inner ts ≡ Some (p, us) → primary_tokens p us ≡ ts
+  primary_sound (variable_token v ∷ ts) p us h = answered primary_tokens (numbered v) p ts us h
+  primary_sound (digits_token n ∷ ts) p us h = positive_sound n ts (nat_lt n (2 ^ 63)) p us h
+  primary_sound (minus_token true ∷ ts) p us h = negative_sound ts p us h
+  primary_sound (name_token a quotes false ∷ ts) p us h = answered primary_tokens (constant a quotes) p ts us h
+  primary_sound (name_token f quotes true ∷ ts) p us h = call_sound f quotes ts p us h
+  primary_sound (sign_token OpenList ∷ ts) p us h = list_sound ts p us h
+  primary_sound (sign_token Open ∷ ts) p us h = group_sound ts p us h
+  primary_sound _ p us h = absurd (none-some (p, us) h)
+
+  part_sound : (ts : List Numbered) (p : Part) (us : List Numbered) → part_at inner ts ≡ Some (p, us) → part_tokens p us ≡ ts
+  part_sound ts p us h =
+      then_read_some (primary_at inner ts) _ (p, us) h (λ a vs read after.
+      if_there_some (behind_colon vs) _ _ (p, us) after
+      (λ is. answered part_tokens (single a) p vs us is ∙ primary_sound ts a vs read)
+      (λ ws colon rest. then_read_some (primary_at inner ws) _ (p, us) rest (λ b xs more_read is.
+      answered part_tokens (qualified a b) p xs us is
+      ∙ ap (λ w. primary_tokens a (sign_token Colon ∷ w)) (primary_sound ws b xs more_read)
+      ∙ ap (primary_tokens a) (colon_is vs ws colon)
+      ∙ primary_sound ts a vs read)))
+
+  related_sound : (p : Part) (ts : List Numbered) (x : Answer Relation) → x ≡ relation_in_front ts → (e : Expression) (us : List Numbered) → related_at inner p ts x ≡ Some (e, us) → expression_tokens e us ≡ part_tokens p ts
+  related_sound p ts None found e us h = answered expression_tokens (alone p) e ts us h
+  related_sound p ts (Some r) found e us h =
+      then_read_some (part_at inner r.1) _ (e, us) h (λ q vs read is.
+      answered expression_tokens (related p r.0 q) e vs us is
+      ∙ ap (λ w. part_tokens p (relation_token r.0 ∷ w)) (part_sound r.1 q vs read)
+      ∙ ap (part_tokens p) (relation_is ts r.1 r.0 (sym found)))
+
+  head_sound : (ts : List Numbered) (h : Head) (us : List Numbered) → head_at inner ts ≡ Some (h, us) → head_tokens h us ≡ ts
+  head_sound (name_token p quotes false ∷ ts) h us is = answered head_tokens (bare_head p quotes) h ts us is
+  head_sound (name_token p quotes true ∷ ts) h us is =
+      then_read_some (arguments_at inner ts) _ (h, us) is (λ s vs read here.
+      answered head_tokens (head_with p quotes s) h vs us here ∙ ap (λ w. name_token p quotes true ∷ w) (arguments_sound ts s vs read))
+  head_sound _ h us is = absurd (none-some (h, us) is)
+
+-- expressions nested to any depth are read from their tokens
+pub expressions_sound : (n : ℕ) → IsSound (expression_at n)
+unfolding expression_at
+expressions_sound zero ts e us h = absurd (none-some (e, us) h)
+expressions_sound (suc n) ts e us h =
+    then_read_some (part_at (expression_at n) ts) _ (e, us) h (λ p vs read after.
+    related_sound (expression_at n) (expressions_sound n) p vs (relation_in_front vs) refl e us after ∙ part_sound (expression_at n) (expressions_sound n) ts p vs read)
+
+-- what was read with nothing behind it
+pub all_read_some : {A : Type 0} (x : Answer A) (a : A) → all_read x ≡ Some a → x ≡ Some (a, [])
+all_read_some None a h = absurd (none-some a h)
+all_read_some (Some (b, [])) a h = cc
+all_read_some (Some (b, t ∷ ts)) a h = absurd (none-some a h)
+
+pub expression_trees_sound : (ts : List Numbered) (e : Expression) → expression_tree ts ≡ Some e → expression_tokens e [] ≡ ts
+expression_trees_sound ts e h = expressions_sound (suc (length ts)) ts e [] (all_read_some (inner_of ts ts) e h)
+
+-- the tokens of a clause, and then these
+abbrev pub clause_row : ClauseTree → List Numbered → List Numbered
+clause_row (fact h) ts = head_tokens h ts
+clause_row (rule h body) ts = head_tokens h (sign_token Neck ∷ series_tokens body ts)
+clause_row (guarded h tests body) ts = head_tokens h (sign_token Neck ∷ series_tokens tests (sign_token Bar ∷ series_tokens body ts))
+
+pub clause_row_alone : (c : ClauseTree) → clause_row c [] ≡ clause_tokens c
+clause_row_alone (fact h) = refl
+clause_row_alone (rule h body) = refl
+clause_row_alone (guarded h tests body) = refl
+
+module _ (inner : Inner) (sound : IsSound inner) where
+  behind_neck_sound : (h : Head) (ts : List Numbered) (c : ClauseTree) (us : List Numbered) → behind_neck_at inner h ts ≡ Some (c, us) → clause_row c us ≡ head_tokens h (sign_token Neck ∷ ts)
+  behind_neck_sound h ts c us is =
+      then_read_some (series_at inner ts) _ (c, us) is (λ s vs read after.
+      if_there_some (behind_bar vs) _ _ (c, us) after
+      (λ here.
+      answered clause_row (rule h s) c vs us here
+      ∙ ap (λ w. head_tokens h (sign_token Neck ∷ w)) (series_sound inner sound _ ts s vs read))
+      (λ ws bar rest. then_read_some (series_at inner ws) _ (c, us) rest (λ body xs more_read here.
+      answered clause_row (guarded h s body) c xs us here
+      ∙ ap (λ w. head_tokens h (sign_token Neck ∷ series_tokens s (sign_token Bar ∷ w))) (series_sound inner sound _ ws body xs more_read)
+      ∙ ap (λ w. head_tokens h (sign_token Neck ∷ series_tokens s w)) (bar_is vs ws bar)
+      ∙ ap (λ w. head_tokens h (sign_token Neck ∷ w)) (series_sound inner sound _ ts s vs read))))
+
+  clause_sound : (ts : List Numbered) (c : ClauseTree) (us : List Numbered) → clause_at inner ts ≡ Some (c, us) → clause_row c us ≡ ts
+  clause_sound ts c us is =
+      then_read_some (head_at inner ts) _ (c, us) is (λ h vs read after.
+      if_there_some (behind_neck vs) _ _ (c, us) after
+      (λ here. answered clause_row (fact h) c vs us here ∙ head_sound inner sound ts h vs read)
+      (λ ws neck rest.
+      behind_neck_sound h ws c us rest ∙ ap (head_tokens h) (neck_is vs ws neck) ∙ head_sound inner sound ts h vs read))
+
+pub clause_trees_sound : (ts : List Numbered) (c : ClauseTree) → clause_tree ts ≡ Some c → clause_tokens c ≡ ts
+clause_trees_sound ts c h = sym (clause_row_alone c) ∙ clause_sound (inner_of ts) (expressions_sound (suc (length ts))) ts c [] (all_read_some (clause_at (inner_of ts) ts) c h)
