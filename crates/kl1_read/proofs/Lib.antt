@@ -1,2 +1,3 @@
+pub mod ItemSteps
 pub mod Numbers
 pub mod WordLemmas

@@ -1,2 +1,3 @@
 pub mod Views
 pub mod Quotes
+pub mod Items

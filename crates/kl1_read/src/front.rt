@@ -1,9 +1,10 @@
 // What stands in front of a text.
 
-ghost use Rattle.std.specs.Prelude.{◌≡◌, ◌∷◌, [], false, drop, IsTrue};
+ghost use Rattle.std.specs.Prelude.{◌≡◌, ◌∷◌, [], false, length, drop, IsTrue};
 ghost use Rattle.kl1_model.specs.Text.{is_name_byte};
 ghost use Rattle.kl1_model.specs.Token.{front_of, word_of, behind_word, bounded, variable_token, name_front, digits_front, digits_of, behind_digits, quoted_front, quoted_from, comment_front, behind_comment, dot_front, sign_front, sign_at};
 ghost use Rattle.kl1_model.specs.Token as model;
+ghost use Rattle.kl1_model.specs.ReadLaws.{LeavesLess};
 ghost use Rattle.kl1_read.specs.Views.{front_view};
 
 use crate::bytes::{
@@ -32,6 +33,14 @@ pub(crate) enum Front<'a> {
 
 /// What stands in front of a text.
 pub(crate) fn front_of(bytes: &[u8]) -> Front<'_>
+    ensures value { front_view result ≡ front_of bytes.now }
+    ensures less { LeavesLess (length bytes.now) (front_view result) }
+{
+    begun_front(bytes)
+}
+
+/// What stands in front of a text.
+fn begun_front(bytes: &[u8]) -> Front<'_>
     ensures { front_view result ≡ front_of bytes.now }
 {
     match bytes {

@@ -3,6 +3,7 @@
 
 mod bytes;
 mod front;
+mod item;
 mod numbered;
 mod quotes;
 mod signs;

@@ -1,5 +1,8 @@
 // Tokens as a text spells them.
 
+ghost use Rattle.std.specs.Prelude.{◌≡◌};
+ghost use Rattle.kl1_model.specs.Module.{is_end};
+
 use kl1_model::Sign;
 use kl1_text::AtomText;
 
@@ -18,4 +21,22 @@ pub(crate) enum Spelled {
     Sign(Sign),
     /// The end of an item.
     End,
+}
+
+impl Spelled {
+    ghost use Rattle.kl1_read.specs.Views.{spelled_token};
+
+    /// Whether this ends an item.
+    pub(crate) fn is_end(&self) -> bool
+        ensures { result ≡ is_end (spelled_token self.now) }
+    {
+        match self {
+            Spelled::Name(_, _, _) => false,
+            Spelled::Variable(_) => false,
+            Spelled::Digits(_) => false,
+            Spelled::Minus(_) => false,
+            Spelled::Sign(_) => false,
+            Spelled::End => true,
+        }
+    }
 }
