@@ -5,6 +5,7 @@ mod bytes;
 mod front;
 mod item;
 mod numbered;
+mod numbering;
 mod quotes;
 mod signs;
 mod spelled;
