@@ -1,3 +1,4 @@
+pub mod FuelFree
 pub mod ItemSteps
 pub mod Numbers
 pub mod WordLemmas
