@@ -1,0 +1,4 @@
+pub mod Nodes
+pub mod Openings
+pub mod Page
+pub mod Printing
