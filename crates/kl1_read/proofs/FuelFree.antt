@@ -4,6 +4,7 @@ use Rattle.kl1_model.specs.declared.sign.Sign.TheVariants.{Neck, Colon, Equals, 
 use Rattle.kl1_model.specs.Token.{Token, name_token, variable_token, digits_token, minus_token, sign_token}
 use Rattle.kl1_model.specs.Grammar.{Numbered, Relation, Expression, Part, Primary, positive, Series, last, another, Rest, list, group, closed, tail, call, empty_list, single, qualified, related}
 use Rattle.kl1_model.specs.Reader.{Answer, Inner, then_read, then_skip, if_there, behind_comma, behind_close, behind_open, behind_close_list, behind_bar, behind_colon, relation_in_front, series_by, series_at, rest_at, list_at, arguments_at, negative_at, primary_at, part_at, related_at, expression_at, inner_of}
+use Rattle.kl1_read.specs.Meanings.{reading}
 
 -- fewer tokens than these are left behind what was read
 abbrev pub Left : {A : Type 0} → ℕ → Answer A → Type 0
@@ -219,10 +220,6 @@ steps_enough zero n ts less more = absurd (omega arith)
 steps_enough (suc m) zero ts less more = absurd (omega arith)
 steps_enough (suc m) (suc n) ts less more =
     step_same (expression_at m) (expression_at n) (expression_left m) (length ts) ts (λ us fewer. steps_enough m n us (omega arith) (omega arith)) (omega arith)
-
--- an expression in front of tokens, read with as many steps as it needs
-abbrev pub reading : Inner
-reading ts = inner_of ts ts
 
 pub reading_left : Shrinks reading
 reading_left ts = expression_left (suc (length ts)) ts

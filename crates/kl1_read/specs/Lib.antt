@@ -1,3 +1,6 @@
+pub mod Meanings
 pub mod Views
 pub mod Quotes
 pub mod Items
+pub mod PieceView
+pub mod Pieces

@@ -2,10 +2,14 @@
 #![tactic(auto)]
 
 mod bytes;
+mod frame;
 mod front;
 mod item;
+mod left;
 mod numbered;
 mod numbering;
+mod opened;
+mod piece;
 mod quotes;
 mod signs;
 mod spelled;
