@@ -2,6 +2,7 @@ pub mod Doomed
 pub mod FuelFree
 pub mod Goings
 pub mod ItemSteps
+pub mod Nodes
 pub mod Numbers
 pub mod Primaries
 pub mod Unwritable

@@ -1,8 +1,10 @@
 // A term that is being read.
 
-ghost use Rattle.std.specs.Prelude.{◌≡◌, ◌≤◌, pos, neg_ℤ, IfOk, List, ℕ};
+ghost use Rattle.std.specs.Prelude.{◌≡◌, ℕ, ◌≤◌, List, ◌++◌, map, reverse, IfOk, OnOk, IsTrue};
 ghost use Rattle.kl1_model.specs.Term.{variable, integer, atom, structure, terms_of};
-ghost use Rattle.kl1_model.specs.Meaning.{pair, cells};
+ghost use Rattle.kl1_model.specs.TermCode.{nodes_of};
+ghost use Rattle.kl1_model.specs.Meaning.{Depth, pair, cells, depth, is_narrow, pair_depth};
+ghost use Rattle.kl1_term.specs.Nodes.{code_of};
 ghost use Rattle.kl1_read.specs.Pieces.{writable};
 
 use kl1_term::Node;
@@ -75,5 +77,67 @@ impl Piece {
             whole: 1,
             rest: 1,
         })
+    }
+
+    /// The structure of two arguments with this name, where a text can write it.
+    pub(crate) fn pair(
+        name: AtomText,
+        first: Piece,
+        second: Piece,
+    ) -> Result<Option<Self>, AllocError>
+        ensures { IfOk result (λ piece. piece ≡ writable (pair name first second)) }
+    {
+        let _bytes = name.unpacked();
+        let Piece {
+            nodes: front,
+            whole: first_whole,
+            rest: _first_rest,
+        } = first;
+        let Piece {
+            nodes: behind,
+            whole: second_whole,
+            rest: second_rest,
+        } = second;
+        let (whole, rest) = pair_depth(name, first_whole, second_whole, second_rest);
+        if whole > 256 {
+            return Ok(None);
+        }
+        let mut nodes = behind;
+        nodes.extend_from_slice(front.as_slice())?;
+        nodes.push(Node::Structure(name, 2))?;
+        Ok(Some(Piece { nodes, whole, rest }))
+    }
+
+    /// Puts the nodes behind others, which come before them in the order of reading; gives the depth.
+    fn spill(self, nodes: &mut Vec<Node>) -> Result<u64, AllocError>
+        ensures nodes { OnOk result (map code_of (reverse nodes.new.items) ≡ nodes_of self ++ map code_of (reverse nodes.old.items)) }
+        ensures depth { IfOk result (λ whole. whole ≡ depth self) }
+        ensures narrow { IsTrue (is_narrow self) }
+        ensures low { depth self ≤ 256 }
+    {
+        let Piece {
+            nodes: own,
+            whole,
+            rest: _rest,
+        } = self;
+        nodes.extend_from_slice(own.as_slice())?;
+        Ok(whole)
+    }
+}
+
+/// The depth of a structure of two arguments, and its depth as what follows the elements of a list.
+fn pair_depth(name: AtomText, first: u64, second: u64, second_rest: u64) -> (u64, u64)
+    requires first_low { first ≤ 256 }
+    requires second_low { second ≤ 256 }
+    requires rest_low { second_rest ≤ 256 }
+    ensures rest_low { result.1 ≤ result.0 }
+    ensures value { (first_rest : ℕ) → record { whole = result.0; rest = result.1 } ≡ pair_depth name (record { whole = first; rest = first_rest }) (record { whole = second; rest = second_rest }) }
+{
+    if name.is(&AtomText::of(b".")) {
+        let deepest = first.max(second_rest);
+        (deepest + 1, deepest)
+    } else {
+        let deepest = first.max(second);
+        (deepest + 1, deepest + 1)
     }
 }
