@@ -1,3 +1,4 @@
+pub mod Arguments
 pub mod Doomed
 pub mod FuelFree
 pub mod Goings

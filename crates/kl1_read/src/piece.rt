@@ -1,6 +1,6 @@
 // A term that is being read.
 
-ghost use Rattle.std.specs.Prelude.{◌≡◌, ℕ, ◌≤◌, List, ◌++◌, map, reverse, IfOk, OnOk, IsTrue};
+ghost use Rattle.std.specs.Prelude.{◌≡◌, ◌≢◌, ℕ, ◌≤◌, List, ◌++◌, map, reverse, vec_len, IfOk, OnOk, IsTrue};
 ghost use Rattle.kl1_model.specs.Term.{variable, integer, atom, structure, terms_of};
 ghost use Rattle.kl1_model.specs.TermCode.{nodes_of};
 ghost use Rattle.kl1_model.specs.Meaning.{Depth, pair, cells, depth, is_narrow, pair_depth};
@@ -122,6 +122,84 @@ impl Piece {
         } = self;
         nodes.extend_from_slice(own.as_slice())?;
         Ok(whole)
+    }
+
+    /// A list of these elements with this behind them, where a text can write it.
+    pub(crate) fn cells(elements: Vec<Piece>, tail: Piece) -> Result<Option<Self>, AllocError>
+        ensures { IfOk result (λ piece. piece ≡ writable (cells (terms_of elements.items) tail)) }
+    {
+        let mut elements = elements;
+        let mut list = tail;
+        while let Some(element) = elements.pop() {
+            match Piece::pair(AtomText::of(b"."), element, list)? {
+                None => return Ok(None),
+                Some(longer) => list = longer,
+            }
+        }
+        let _nodes = &list.nodes;
+        Ok(Some(list))
+    }
+
+    /// The structure of these arguments with this name, where a text can write it.
+    pub(crate) fn structure(
+        alloc: Global,
+        name: AtomText,
+        arguments: Vec<Piece>,
+    ) -> Result<Option<Self>, AllocError>
+        ensures { IfOk result (λ piece. piece ≡ writable (structure name (terms_of arguments.items))) }
+    {
+        if arguments.len() == 0 {
+            return Ok(None);
+        }
+        if arguments.len() > 8 {
+            return Ok(None);
+        }
+        if arguments.len() == 2 {
+            return Piece::of_two(name, arguments);
+        }
+        Piece::of_many(alloc, name, arguments)
+    }
+
+    /// The structure of two arguments.
+    fn of_two(name: AtomText, arguments: Vec<Piece>) -> Result<Option<Self>, AllocError>
+        requires { vec_len arguments ≡ 2 }
+        ensures { IfOk result (λ piece. piece ≡ writable (structure name (terms_of arguments.items))) }
+    {
+        let mut arguments = arguments;
+        let second = arguments.pop().unwrap();
+        let first = arguments.pop().unwrap();
+        Piece::pair(name, first, second)
+    }
+
+    /// The structure of one argument, or of more than two.
+    fn of_many(
+        alloc: Global,
+        name: AtomText,
+        arguments: Vec<Piece>,
+    ) -> Result<Option<Self>, AllocError>
+        requires some { 1 ≤ vec_len arguments }
+        requires few { vec_len arguments ≤ 8 }
+        requires other { vec_len arguments ≢ 2 }
+        ensures { IfOk result (λ piece. piece ≡ writable (structure name (terms_of arguments.items))) }
+    {
+        let _bytes = name.unpacked();
+        let count = arguments.len();
+        let mut arguments = arguments;
+        let mut nodes = Vec::new(alloc);
+        let mut deepest = 0;
+        while let Some(argument) = arguments.pop() {
+            let depth = argument.spill(&mut nodes)?;
+            deepest = depth.max(deepest);
+        }
+        if deepest >= 256 {
+            return Ok(None);
+        }
+        nodes.push(Node::Structure(name, count))?;
+        Ok(Some(Piece {
+            nodes,
+            whole: deepest + 1,
+            rest: deepest + 1,
+        }))
     }
 }
 
