@@ -3,6 +3,7 @@ pub mod Doomed
 pub mod FuelFree
 pub mod Goings
 pub mod ItemSteps
+pub mod MarkSteps
 pub mod Nodes
 pub mod Numbers
 pub mod Primaries

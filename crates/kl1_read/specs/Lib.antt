@@ -4,3 +4,4 @@ pub mod Quotes
 pub mod Items
 pub mod PieceView
 pub mod Pieces
+pub mod Marks

@@ -6,6 +6,7 @@ mod frame;
 mod front;
 mod item;
 mod left;
+mod mark;
 mod numbered;
 mod numbering;
 mod opened;
