@@ -6,6 +6,8 @@ pub mod ItemSteps
 pub mod MarkSteps
 pub mod Nodes
 pub mod Numbers
+pub mod PartSteps
 pub mod Primaries
+pub mod PrimarySteps
 pub mod Unwritable
 pub mod WordLemmas

@@ -5,3 +5,5 @@ pub mod Items
 pub mod PieceView
 pub mod Pieces
 pub mod Marks
+pub mod Beginnings
+pub mod Joins

@@ -1,10 +1,13 @@
 //! Texts as modules and goals: what a text means, or the line of its first bad item.
 #![tactic(auto)]
 
+mod begun;
 mod bytes;
+mod closed;
 mod frame;
 mod front;
 mod item;
+mod joined;
 mod left;
 mod mark;
 mod numbered;

@@ -38,7 +38,7 @@ fn sign_of(mark: Mark) -> Sign
 }
 
 /// Whether a token is this sign.
-fn is_sign(token: &Numbered, sign: Sign) -> bool
+pub(crate) fn is_sign(token: &Numbered, sign: Sign) -> bool
     ensures { IsTrue result ↔ (numbered_token token.now ≡ sign_token sign) }
 {
     match token {
