@@ -9,5 +9,6 @@ pub mod Numbers
 pub mod PartSteps
 pub mod Primaries
 pub mod PrimarySteps
+pub mod Steps
 pub mod Unwritable
 pub mod WordLemmas

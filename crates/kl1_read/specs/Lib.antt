@@ -7,3 +7,5 @@ pub mod Pieces
 pub mod Marks
 pub mod Beginnings
 pub mod Joins
+pub mod States
+pub mod Series

@@ -15,6 +15,8 @@ mod numbering;
 mod opened;
 mod piece;
 mod quotes;
+mod series;
 mod signs;
 mod spelled;
+mod state;
 mod words;

@@ -1,0 +1,13 @@
+-- Terms that were read.
+use Rattle.std.specs.Prelude.{List, Option, Some, None, Vec, map}
+use Rattle.std.specs.Borrow.{Bor}
+use Rattle.std.specs.declared.alloc.Global.{Global}
+use Rattle.kl1_model.specs.Term.{Term}
+use Rattle.kl1_model.specs.Reader.{Answer}
+use Rattle.kl1_read.specs.declared.numbered.Numbered.{Numbered}
+use Rattle.kl1_read.specs.Views.{numbered_token}
+
+-- terms with what is behind them
+abbrev pub series_view : Option (Vec Term Global × Bor (List Numbered)) → Answer (List Term)
+series_view None = None
+series_view (Some r) = Some (r.0.items, map numbered_token r.1.now)
