@@ -1,5 +1,9 @@
 -- One step of reading.
-use Rattle.std.proofs.Common.{◌≡◌, List, [], ◌∷◌, ◌++◌, reverse, Option, Some, None, refl, ap, sym, ◌∙◌}
+use Rattle.std.proofs.Common.{◌≡◌, List, [], ◌∷◌, ◌++◌, reverse, Option, Some, None, IsTrue, if◌then◌else◌, refl, ap, sym, ◌∙◌}
+use Rattle.std.specs.List.{list_all}
+use Rattle.std.proofs.lemmas.Bool.{and_from}
+use Rattle.std.proofs.lemmas.List.Folds.{list_all-append}
+use Rattle.kl1_model.specs.Meaning.{is_writable}
 use Rattle.std.proofs.lemmas.List.{reverse-append}
 use Rattle.kl1_model.specs.Term.{Term}
 use Rattle.kl1_model.specs.Grammar.{Numbered}
@@ -61,3 +65,11 @@ joined_on b c left fs done p ts e h =
 pub closed_on : (b c : Closed) (opened : Opened) (left : Left) (fs : List Frame) (done : List Term) (e : Term) (ts : List Numbered) → b ≡ c → Closes opened e ts b → fit (closed_then c (after_primary left (after_expression fs done))) ≡ fit (after_opened opened (after_primary left (after_expression fs done)) e ts)
 closed_on b c opened left fs done e ts i h =
     ap (λ x. fit (closed_then x (after_primary left (after_expression fs done)))) (sym i) ∙ h (after_primary left (after_expression fs done)) (primary_dooms left (after_expression fs done) (expression_dooms fs done))
+
+-- terms that can be written are there
+pub finished_fits : (done : List Term) (ts : List Numbered) → IsTrue (list_all is_writable done) → ◌≡◌ {A = Answer (List Term)} (Some (done, ts)) (fit (Some (done, ts)))
+finished_fits done ts h = sym (ap (λ b. if◌then◌else◌ {A = Answer (List Term)} b (Some (done, ts)) None) h)
+
+-- one more term that can be written
+pub done_grows : (done : List Term) (t : Term) → IsTrue (list_all is_writable done) → IsTrue (is_writable t) → IsTrue (list_all is_writable (done ++ t ∷ []))
+done_grows done t h k = rw list_all-append (and_from _ _ h (and_from _ _ k refl))

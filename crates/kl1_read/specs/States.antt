@@ -1,5 +1,7 @@
 -- What reading still gives.
-use Rattle.std.specs.Prelude.{ℕ, ◌<◌, List, length, reverse, map, Option, Some, None}
+use Rattle.std.specs.Prelude.{ℕ, ◌<◌, List, length, reverse, map, Option, Some, None, IsTrue}
+use Rattle.std.specs.List.{list_all}
+use Rattle.kl1_model.specs.Meaning.{is_writable}
 use Rattle.kl1_model.specs.Term.{Term}
 use Rattle.kl1_model.specs.Grammar as grammar
 use Rattle.kl1_model.specs.Reader.{Answer}
@@ -30,3 +32,9 @@ abbrev pub StepLess : ℕ → Step → Type 0
 StepLess n Bad = Unit {0}
 StepLess n (On s) = length s.rest.now < n
 StepLess n (Finished done rest) = Unit {0}
+
+-- the terms that are done can be written
+abbrev pub DoneFits : Step → Type 0
+DoneFits Bad = Unit {0}
+DoneFits (On s) = IsTrue (list_all is_writable s.done.items)
+DoneFits (Finished done rest) = IsTrue (list_all is_writable done.items)

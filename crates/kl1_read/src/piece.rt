@@ -3,7 +3,7 @@
 ghost use Rattle.std.specs.Prelude.{◌≡◌, ◌≢◌, ℕ, ◌≤◌, List, ◌++◌, map, reverse, vec_len, IfOk, OnOk, IsTrue};
 ghost use Rattle.kl1_model.specs.Term.{variable, integer, atom, structure, terms_of};
 ghost use Rattle.kl1_model.specs.TermCode.{nodes_of};
-ghost use Rattle.kl1_model.specs.Meaning.{Depth, pair, cells, depth, is_narrow, pair_depth};
+ghost use Rattle.kl1_model.specs.Meaning.{Depth, pair, cells, depth, is_narrow, is_writable, pair_depth};
 ghost use Rattle.kl1_term.specs.Nodes.{code_of};
 ghost use Rattle.kl1_read.specs.Pieces.{writable};
 
@@ -106,6 +106,13 @@ impl Piece {
         nodes.extend_from_slice(front.as_slice())?;
         nodes.push(Node::Structure(name, 2))?;
         Ok(Some(Piece { nodes, whole, rest }))
+    }
+
+    /// A text can write the term.
+    pub(crate) fn is_written(&self)
+        ensures { IsTrue (is_writable self.now) }
+    {
+        let _nodes = &self.nodes;
     }
 
     /// Puts the nodes behind others, which come before them in the order of reading; gives the depth.

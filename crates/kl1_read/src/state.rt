@@ -1,9 +1,11 @@
 // Terms that are being read.
 
-ghost use Rattle.std.specs.Prelude.{◌≡◌, ◌∷◌, map, reverse, length, IfOk};
+ghost use Rattle.std.specs.Prelude.{◌≡◌, ◌∷◌, map, reverse, length, IsTrue, IfOk};
+ghost use Rattle.std.specs.List.{list_all};
+ghost use Rattle.kl1_model.specs.Meaning.{is_writable};
 ghost use Rattle.kl1_read.specs.Views.{numbered_token};
 ghost use Rattle.kl1_read.specs.Meanings.{fit, primary_then, after_primary, after_expression, after_last};
-ghost use Rattle.kl1_read.specs.States.{state_answer, step_answer, StepLess};
+ghost use Rattle.kl1_read.specs.States.{state_answer, step_answer, StepLess, DoneFits};
 
 use crate::begun::{Begun, begin};
 use crate::closed::{Closed, close};
@@ -39,6 +41,8 @@ pub(crate) enum Step<'a> {
 
 /// One step of reading.
 pub(crate) fn one_step<'a>(alloc: Global, state: State<'a>) -> Result<Step<'a>, AllocError>
+    requires { IsTrue (list_all is_writable state.done.items) }
+    ensures fits { IfOk result DoneFits }
     ensures value { IfOk result (λ s. fit (step_answer s) ≡ fit (state_answer state.entry)) }
     ensures less { IfOk result (StepLess (length state.entry.rest.now)) }
 {
@@ -63,6 +67,8 @@ fn step_in<'a>(
     done: Vec<Piece>,
     rest: &'a [Numbered],
 ) -> Result<Step<'a>, AllocError>
+    requires { IsTrue (list_all is_writable done.items) }
+    ensures fits { IfOk result DoneFits }
     ensures value { IfOk result (λ s. fit (step_answer s) ≡ fit (primary_then left (after_expression (reverse frames.items) done.items) (map numbered_token rest.now))) }
     ensures less { IfOk result (StepLess (length rest.now)) }
 {
@@ -98,6 +104,8 @@ fn step_behind<'a>(
     piece: Piece,
     rest: &'a [Numbered],
 ) -> Result<Step<'a>, AllocError>
+    requires { IsTrue (list_all is_writable done.items) }
+    ensures fits { IfOk result DoneFits }
     ensures value { IfOk result (λ s. fit (step_answer s) ≡ fit (after_primary left (after_expression (reverse frames.items) done.items) piece (map numbered_token rest.now))) }
     ensures less { IfOk result (StepLess (length rest.now)) }
 {
@@ -122,6 +130,8 @@ fn step_out<'a>(
     piece: Piece,
     rest: &'a [Numbered],
 ) -> Result<Step<'a>, AllocError>
+    requires { IsTrue (list_all is_writable done.items) }
+    ensures fits { IfOk result DoneFits }
     ensures value { IfOk result (λ s. fit (step_answer s) ≡ fit (after_expression (reverse frames.items) done.items piece (map numbered_token rest.now))) }
     ensures less { IfOk result (StepLess (length rest.now)) }
 {
@@ -141,6 +151,8 @@ fn step_closed<'a>(
     piece: Piece,
     rest: &'a [Numbered],
 ) -> Result<Step<'a>, AllocError>
+    requires { IsTrue (list_all is_writable done.items) }
+    ensures fits { IfOk result DoneFits }
     ensures value { IfOk result (λ s. fit (step_answer s) ≡ fit (after_expression (frame ∷ reverse frames.items) done.items piece (map numbered_token rest.now))) }
     ensures less { IfOk result (StepLess (length rest.now)) }
 {
@@ -169,15 +181,19 @@ fn step_closed<'a>(
 }
 
 /// A step behind an expression where nothing is open.
+#[tactic(auto, using(crate::proofs::Steps::done_grows))]
 fn step_last<'a>(
     alloc: Global,
     done: Vec<Piece>,
     piece: Piece,
     rest: &'a [Numbered],
 ) -> Result<Step<'a>, AllocError>
+    requires { IsTrue (list_all is_writable done.items) }
+    ensures fits { IfOk result DoneFits }
     ensures value { IfOk result (λ s. fit (step_answer s) ≡ fit (after_last done.items piece (map numbered_token rest.now))) }
     ensures less { IfOk result (StepLess (length rest.now)) }
 {
+    piece.is_written();
     let mut done = done;
     done.push(piece)?;
     match behind_mark(Mark::Comma, rest) {
