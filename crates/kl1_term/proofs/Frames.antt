@@ -1,5 +1,5 @@
 -- What frames leave to print.
-use Rattle.std.proofs.Common.{◌≡◌, ℕ, suc, zero, ◌-◌, List, ◌∷◌, ◌++◌, codes, append_assoc, ◌<◌, refl, arith}
+use Rattle.std.proofs.Common.{◌≡◌, ℕ, suc, zero, ◌-◌, List, ◌∷◌, ◌++◌, codes, append_assoc, ◌<◌, arith}
 use Rattle.kl1_model.specs.Term.{Term}
 use Rattle.kl1_model.specs.TermCode.{first_term, behind_first}
 use Rattle.kl1_model.specs.Print.{printed}

@@ -1,20 +1,18 @@
 -- How the text of a node begins, from the definition of printing.
-use Rattle.std.proofs.Common.{◌≡◌, ℕ, suc, zero, ◌==◌, ◌&&◌, Bool, true, false, not, if◌then◌else◌, List, [], ◌∷◌, ◌++◌, codes, bytes_eq, append_assoc, append-nil, refl, ap, sym, ◌∙◌, arith}
+use Rattle.std.proofs.Common.{◌≡◌, ℕ, suc, zero, ◌==◌, ◌&&◌, Bool, true, false, not, if◌then◌else◌, List, [], ◌∷◌, codes, bytes_eq, refl, ap, arith}
 use Rattle.std.proofs.lemmas.Bool.{ne_eqb}
 use Rattle.std.proofs.lemmas.Slice.Eq.{bytes_eq-Decides}
 use Rattle.kl1_model.specs.declared.pair_form.PairForm.TheVariants.{Cell as Pair, Qualified, Call as Plain}
-use Rattle.kl1_model.specs.Name.{name_text, atom_text}
-use Rattle.kl1_model.specs.Term.{Term, variable, integer, structure, atom, Terms, none, more}
+use Rattle.kl1_model.specs.Name.{atom_text}
+use Rattle.kl1_model.specs.Term.{Term, structure}
 use Rattle.kl1_model.specs.TermCode.{first_term, behind_first, front_of, behind}
-use Rattle.kl1_model.specs.Print.{Printed, printed, printed_each, printed_atom, printed_cell, printed_pair, form_of, plain, call_text, commas, is_colon_pair, is_before_colon, is_behind_colon}
+use Rattle.kl1_model.specs.Print.{Printed, printed, printed_each, printed_cell, printed_pair, plain, call_text, is_before_colon, is_behind_colon}
 use Rattle.kl1_term.specs.Nodes.{with_node, count_in}
 use Rattle.kl1_term.specs.declared.node.Node.{Node}
 use Rattle.kl1_term.specs.declared.node.Node.TheVariants.{Variable, Integer, Atom, Structure}
-use Rattle.kl1_term.specs.Printing.{colon_text}
 use Rattle.kl1_term.specs.Openings.{opening_of, rest_by, rest_form_of, is_behind_by}
 use Rattle.kl1_term.specs.declared.opening.Opening.{Opening}
 use Rattle.kl1_term.specs.declared.opening.Opening.TheVariants.{Cell, Colon, Call}
-use Rattle.kl1_term.specs.declared.opening.RestForm.{RestForm}
 use Rattle.kl1_term.specs.declared.opening.RestForm.TheVariants.{End, Element, Bar}
 
 -- three or more arguments aren't two

@@ -1,5 +1,5 @@
 -- What is cut doesn't depend on what would follow.
-use Rattle.std.proofs.Common.{◌≡◌, ℕ, suc, ◌+◌, ◌<◌, ◌≤◌, nat_le, List, [], ◌++◌, length, take, codes, true, false, arith, length-append, append_assoc, append-nil, sym, ◌∙◌, ap, Option, None, Some, Bool, if◌then◌else◌, refl}
+use Rattle.std.proofs.Common.{◌≡◌, ℕ, ◌<◌, ◌≤◌, nat_le, List, [], ◌++◌, length, take, codes, false, arith, length-append, append_assoc, sym, ◌∙◌, Option}
 use Rattle.std.proofs.lemmas.List.{take-append-le}
 use Rattle.kl1_model.specs.Print.{cut_text}
 use Rattle.kl1_term.specs.Page.{limited}

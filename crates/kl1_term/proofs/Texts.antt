@@ -2,15 +2,14 @@
 use Rattle.std.proofs.Common.{◌≡◌, ℕ, suc, zero, ◌-◌, ◌<◌, Bool, true, false, if◌then◌else◌, ◌&&◌, List, [], ◌∷◌, ◌++◌, codes, bytes_eq, append_assoc, append-nil, refl, ap, sym, ◌∙◌, arith}
 use Rattle.std.proofs.lemmas.Slice.Eq.{bytes_eq-Decides}
 use Rattle.kl1_model.specs.Name.{name_text, atom_text}
-use Rattle.kl1_model.specs.Term.{Term, variable, integer, structure, atom, Terms, none, more}
+use Rattle.kl1_model.specs.Term.{Term, atom}
 use Rattle.kl1_model.specs.TermCode.{first_term, behind_first, front_of, behind}
-use Rattle.kl1_model.specs.Print.{Printed, printed, printed_each, printed_atom, printed_cell, printed_pair, form_of, plain, call_text, commas, is_before_colon, is_behind_colon}
-use Rattle.kl1_term.specs.Nodes.{with_node, count_in}
-use Rattle.kl1_term.specs.Printing.{text_in, behind_text, after_commas, colon_text}
+use Rattle.kl1_model.specs.Print.{Printed, printed, printed_each, printed_atom, printed_cell, printed_pair, plain, call_text, commas, is_before_colon, is_behind_colon}
+use Rattle.kl1_term.specs.Nodes.{with_node}
+use Rattle.kl1_term.specs.Printing.{text_in, behind_text, after_commas}
 use Rattle.kl1_term.specs.Openings.{opening_of, rest_form_of}
 use Rattle.kl1_term.specs.declared.node.Node.{Node}
-use Rattle.kl1_term.specs.declared.node.Node.TheVariants.{Variable, Integer, Atom, Structure}
-use Rattle.kl1_term.specs.declared.mode.Mode.{Mode}
+use Rattle.kl1_term.specs.declared.node.Node.TheVariants.{Structure}
 use Rattle.kl1_term.specs.declared.mode.Mode.TheVariants.{Whole, Rest, Colon, Behind}
 use Rattle.kl1_term.specs.declared.frame.Frame.{Frame}
 use Rattle.kl1_term.specs.declared.frame.Frame.TheVariants.{Arguments, Tail, Bracket}

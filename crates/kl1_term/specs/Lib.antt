@@ -2,3 +2,5 @@ pub mod Nodes
 pub mod Openings
 pub mod Page
 pub mod Printing
+pub mod Variables
+pub mod Views

@@ -16,7 +16,7 @@ ghost use Rattle.kl1_term.specs.declared.opening.Opening.TheVariants.{Call};
 use crate::frame::Frame;
 use crate::mode::Mode;
 use crate::node::Node;
-use crate::opening::{find_atom, find_opening, rest_form, stands_behind_colon, Opening, RestForm};
+use crate::opening::{Opening, RestForm, find_atom, find_opening, rest_form, stands_behind_colon};
 use crate::page::Page;
 use itoa::Buffer;
 use kl1_text::AtomText;

@@ -1,5 +1,5 @@
 -- of the frames left, the page and these make the same text, and wait for as many terms
-use Rattle.std.proofs.Common.{◌≡◌, List, reverse, length, vec_len}
+use Rattle.std.proofs.Common.{◌≡◌, List, reverse, vec_len}
 use Rattle.kl1_model.specs.Term.{Term}
 use Rattle.kl1_term.specs.Page.{page_text}
 use Rattle.kl1_term.specs.Printing.{behind_text, waits_behind}
