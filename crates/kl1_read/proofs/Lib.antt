@@ -9,6 +9,7 @@ pub mod Numbers
 pub mod PartSteps
 pub mod Primaries
 pub mod PrimarySteps
+pub mod Singles
 pub mod Steps
 pub mod Unwritable
 pub mod WordLemmas

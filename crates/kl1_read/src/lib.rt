@@ -4,6 +4,7 @@
 mod begun;
 mod bytes;
 mod closed;
+mod expression;
 mod frame;
 mod front;
 mod item;
