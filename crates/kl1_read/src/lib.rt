@@ -20,4 +20,6 @@ mod series;
 mod signs;
 mod spelled;
 mod state;
+#[cfg(test)]
+mod tests;
 mod words;
