@@ -1,12 +1,12 @@
 -- Arguments and elements, from the last one on.
-use Rattle.std.proofs.Common.{◌≡◌, ◌≢◌, ℕ, suc, max, ◌≤◌, ◌<◌, ◌+◌, nat_le, ◌&&◌, Bool, true, false, List, [], ◌∷◌, ◌++◌, length, map, reverse, codes, IsTrue, Option, Some, None, if◌then◌else◌, refl, ap, sym, ◌∙◌, arith, append_assoc, length-append}
-use Rattle.std.proofs.lemmas.Bool.{and_parts, and_from, le-leb, lt-leb, and_left, and_right, true≢false}
+use Rattle.std.proofs.Common.{◌≡◌, ◌≢◌, ℕ, suc, max, ◌≤◌, ◌<◌, nat_le, ◌&&◌, Bool, true, false, List, [], ◌∷◌, ◌++◌, length, map, reverse, IsTrue, Option, Some, None, if◌then◌else◌, refl, ap, sym, ◌∙◌, arith, append_assoc, length-append}
+use Rattle.std.proofs.lemmas.Bool.{and_from, le-leb, lt-leb, and_left, and_right}
 use Rattle.std.proofs.lemmas.Option.{none-some}
 use Rattle.std.proofs.lemmas.List.{reverse-append, append-nil}
-use Rattle.kl1_model.specs.Term.{Term, structure, Terms, none, more, terms_of, count_of}
+use Rattle.kl1_model.specs.Term.{Term, structure, none, terms_of, count_of}
 use Rattle.kl1_model.specs.Text.{is_text}
 use Rattle.kl1_model.specs.TermCode.{NodeCode, nodes_of, nodes_of_all}
-use Rattle.kl1_model.specs.Meaning.{pair, cell, cells, Depth, depths, depth, deepest, flat, is_narrow, are_narrow, is_writable, most_arguments}
+use Rattle.kl1_model.specs.Meaning.{cell, cells, Depth, depths, depth, deepest, flat, is_narrow, are_narrow, is_writable}
 use Rattle.kl1_term.specs.declared.node.Node.{Node}
 use Rattle.kl1_term.specs.declared.node.Node.TheVariants.{Structure}
 use Rattle.kl1_term.specs.Nodes.{code_of}

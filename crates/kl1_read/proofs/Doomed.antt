@@ -1,5 +1,5 @@
 -- Nothing comes of a term that no text can write, whatever goes on behind it.
-use Rattle.std.proofs.Common.{◌≡◌, ℕ, Bool, true, false, if◌then◌else◌, List, [], ◌∷◌, ◌++◌, codes, Option, Some, None, refl, ap, ◌∙◌}
+use Rattle.std.proofs.Common.{◌≡◌, ℕ, false, if◌then◌else◌, List, [], ◌∷◌, ◌++◌, codes, Option, Some, None, refl, ap}
 use Rattle.std.specs.List.{list_all}
 use Rattle.kl1_model.specs.Term.{Term, structure, terms_of}
 use Rattle.kl1_model.specs.Grammar.{Numbered, Relation}

@@ -1,9 +1,9 @@
 -- The reader without a count of steps.
-use Rattle.std.proofs.Common.{◌≡◌, ℕ, zero, suc, ◌<◌, ◌≤◌, ◌^◌, nat_lt, Bool, true, false, if◌then◌else◌, List, [], ◌∷◌, length, Option, Some, None, refl, ap, sym, ◌∙◌, arith}
-use Rattle.kl1_model.specs.declared.sign.Sign.TheVariants.{Neck, Colon, Equals, Bar, Comma, Open, Close, OpenList, CloseList}
-use Rattle.kl1_model.specs.Token.{Token, name_token, variable_token, digits_token, minus_token, sign_token}
-use Rattle.kl1_model.specs.Grammar.{Numbered, Relation, Expression, Part, Primary, positive, Series, last, another, Rest, list, group, closed, tail, call, empty_list, single, qualified, related}
-use Rattle.kl1_model.specs.Reader.{Answer, Inner, then_read, then_skip, if_there, behind_comma, behind_close, behind_open, behind_close_list, behind_bar, behind_colon, relation_in_front, series_by, series_at, rest_at, list_at, arguments_at, negative_at, primary_at, part_at, related_at, expression_at, inner_of}
+use Rattle.std.proofs.Common.{◌≡◌, ℕ, zero, suc, ◌<◌, ◌≤◌, ◌^◌, nat_lt, Bool, true, false, if◌then◌else◌, List, ◌∷◌, length, Option, Some, None, refl, ap, ◌∙◌, arith}
+use Rattle.kl1_model.specs.declared.sign.Sign.TheVariants.{Colon, Equals, Bar, Comma, Open, Close, OpenList, CloseList}
+use Rattle.kl1_model.specs.Token.{name_token, variable_token, digits_token, minus_token, sign_token}
+use Rattle.kl1_model.specs.Grammar.{Numbered, Relation, Part, Primary, positive, last, another, call}
+use Rattle.kl1_model.specs.Reader.{Answer, Inner, then_read, then_skip, if_there, behind_comma, behind_close, behind_open, behind_close_list, behind_bar, behind_colon, relation_in_front, series_by, series_at, rest_at, list_at, arguments_at, negative_at, primary_at, part_at, related_at, expression_at}
 use Rattle.kl1_read.specs.Meanings.{reading}
 
 -- fewer tokens than these are left behind what was read

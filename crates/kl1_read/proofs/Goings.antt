@@ -1,20 +1,11 @@
 -- What goes on behind a term: by what stands in front, and that nothing comes of a term that no text can write.
-use Rattle.std.proofs.Common.{◌≡◌, ℕ, ◌^◌, nat_lt, Bool, true, false, if◌then◌else◌, List, [], ◌∷◌, ◌++◌, codes, Option, Some, None, Vec, ℤ, pos, neg_ℤ, refl, ap, sym, ◌∙◌, append_assoc}
-use Rattle.std.specs.List.{list_all}
-use Rattle.std.specs.declared.alloc.Global.{Global}
-use Rattle.kl1_model.specs.declared.sign.Sign.TheVariants.{Open, OpenList}
-use Rattle.kl1_model.specs.Token.{name_token, variable_token, digits_token, minus_token, sign_token}
-use Rattle.kl1_model.specs.Term.{Term, variable, integer, atom, structure, Terms, none, more, terms_of, list_of}
-use Rattle.kl1_model.specs.Grammar.{Numbered, Relation, Expression, alone, related, Part, single, qualified, Primary, positive, negative, call, list, group, Series, last, another}
-use Rattle.kl1_model.specs.Meaning.{pair, nil, cells, relation_name, expression_term, part_term, primary_term, series_terms, is_writable}
-use Rattle.kl1_model.specs.Reader.{Answer, then_read, then_skip, if_there, behind_comma, behind_close, behind_open, behind_close_list, behind_bar, behind_colon, relation_in_front, series_at, rest_at, arguments_at, primary_at, part_at, related_at}
-use Rattle.kl1_read.specs.declared.opened.Opened.{Opened}
-use Rattle.kl1_read.specs.declared.opened.Opened.TheVariants.{Group, Arguments, Elements, Tail}
-use Rattle.kl1_read.specs.declared.left.Left.{Left}
-use Rattle.kl1_read.specs.declared.frame.Frame.{Frame}
-use Rattle.kl1_read.specs.Meanings.{reading, answer_map, expression_read, part_read, primary_read, series_read, Going, after_relation, after_part, after_colon, after_primary, after_elements, after_arguments, after_opened, after_last, after_expression, open_then, primary_then, fit, Dooms}
+use Rattle.std.proofs.Common.{◌≡◌, List, [], ◌∷◌, ◌++◌, codes, Option, Some, None, refl, ap, sym, ◌∙◌, append_assoc}
+use Rattle.kl1_model.specs.Term.{Term, Terms, none, more, terms_of, list_of}
+use Rattle.kl1_model.specs.Grammar.{Numbered, Relation, Expression, Part, single, qualified, Primary, last, another}
+use Rattle.kl1_model.specs.Meaning.{pair, expression_term, part_term, primary_term, series_terms}
+use Rattle.kl1_model.specs.Reader.{Answer, then_read, if_there, behind_comma, behind_colon, relation_in_front, series_at, primary_at, part_at, related_at}
+use Rattle.kl1_read.specs.Meanings.{reading, answer_map, expression_read, part_read, primary_read, series_read, Going, after_relation, after_part, after_colon, primary_then}
 use Rattle.kl1_read.proofs.FuelFree.{reading_step, series_step}
-use Rattle.kl1_read.proofs.Unwritable.{structure_unwritable, first_unwritable, second_unwritable, tail_unwritable, element_unwritable, list_unwritable}
 
 -- the arguments as a list are the arguments
 pub list_back : (ts : Terms) → terms_of (list_of ts) ≡ ts

@@ -12,4 +12,5 @@ pub mod PrimarySteps
 pub mod Singles
 pub mod Steps
 pub mod Unwritable
+pub mod WholeSteps
 pub mod WordLemmas

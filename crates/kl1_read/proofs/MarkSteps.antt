@@ -1,7 +1,7 @@
 -- Marks in front of tokens.
-use Rattle.std.proofs.Common.{◌≡◌, Bool, true, false, List, [], ◌∷◌, Option, Some, None, IsTrue, option_map, refl, ap, sym, ◌∙◌}
+use Rattle.std.proofs.Common.{◌≡◌, List, [], ◌∷◌, Some, None, option_map, refl, ap, sym, ◌∙◌}
 use Rattle.kl1_model.specs.declared.sign.Sign.TheVariants as sign
-use Rattle.kl1_model.specs.Token.{Token, sign_token}
+use Rattle.kl1_model.specs.Token.{sign_token}
 use Rattle.kl1_model.specs.Grammar.{Numbered, equality}
 use Rattle.kl1_model.specs.Reader.{relation_in_front}
 use Rattle.kl1_read.specs.declared.mark.Mark.{Mark}

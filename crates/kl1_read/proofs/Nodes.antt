@@ -1,11 +1,11 @@
 -- The nodes of terms that are put together.
-use Rattle.std.proofs.Common.{◌≡◌, ℕ, suc, max, ◌≤◌, ◌<◌, nat_le, ◌&&◌, Bool, true, false, List, [], ◌∷◌, ◌++◌, map, reverse, codes, IsTrue, Option, Some, None, if◌then◌else◌, refl, ap, sym, ◌∙◌, arith, append_assoc}
+use Rattle.std.proofs.Common.{◌≡◌, ℕ, ◌≤◌, ◌<◌, nat_le, List, [], ◌∷◌, ◌++◌, map, reverse, IsTrue, Option, Some, None, if◌then◌else◌, refl, ap, sym, ◌∙◌, arith}
 use Rattle.std.proofs.lemmas.List.{map-append, reverse-append, append-nil}
 use Rattle.std.proofs.lemmas.Bool.{and_parts, and_from, leb-true, le-leb, lt-leb, and_right}
-use Rattle.kl1_model.specs.Term.{Term, structure, Terms, none, more, terms_of, count_of}
+use Rattle.kl1_model.specs.Term.{Term}
 use Rattle.kl1_model.specs.Text.{is_text}
-use Rattle.kl1_model.specs.TermCode.{nodes_of, nodes_of_all, term_from, term_from-nodes_of}
-use Rattle.kl1_model.specs.Meaning.{pair, Depth, depths, depth, deepest, flat, pair_depth, is_narrow, are_narrow, is_writable}
+use Rattle.kl1_model.specs.TermCode.{nodes_of, term_from, term_from-nodes_of}
+use Rattle.kl1_model.specs.Meaning.{pair, Depth, depths, depth, pair_depth, is_narrow, is_writable}
 use Rattle.kl1_term.specs.declared.node.Node.{Node}
 use Rattle.kl1_term.specs.declared.node.Node.TheVariants.{Structure}
 use Rattle.kl1_term.specs.Nodes.{code_of, term_in, IsTerm}

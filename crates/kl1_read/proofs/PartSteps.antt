@@ -1,17 +1,16 @@
 -- What follows a part, arguments, elements and a tail.
-use Rattle.std.proofs.Common.{◌≡◌, ℕ, List, [], ◌∷◌, ◌++◌, codes, Option, Some, None, Vec, option_map, refl, ap, sym, ◌∙◌}
+use Rattle.std.proofs.Common.{◌≡◌, ℕ, List, [], ◌∷◌, ◌++◌, codes, Some, None, Vec, option_map, ap, sym, ◌∙◌}
 use Rattle.std.specs.declared.alloc.Global.{Global}
 use Rattle.kl1_model.specs.Term.{Term, structure, terms_of}
-use Rattle.kl1_model.specs.Grammar.{Numbered, Relation, equality}
-use Rattle.kl1_model.specs.Meaning.{pair, cells, is_writable}
-use Rattle.kl1_model.specs.Reader.{Answer, then_read, then_skip, if_there, behind_comma, behind_close, behind_close_list, relation_in_front}
-use Rattle.kl1_read.specs.declared.left.Left.{Left}
+use Rattle.kl1_model.specs.Grammar.{Numbered, equality}
+use Rattle.kl1_model.specs.Meaning.{pair, cells}
+use Rattle.kl1_model.specs.Reader.{Answer, then_read, then_skip, if_there, behind_comma, behind_close, behind_close_list}
 use Rattle.kl1_read.specs.declared.mark.Mark.TheVariants.{Equals}
-use Rattle.kl1_read.specs.declared.opened.Opened.TheVariants.{Arguments, Elements, Tail}
+use Rattle.kl1_read.specs.declared.opened.Opened.TheVariants.{Arguments, Elements}
 use Rattle.kl1_read.specs.Marks.{behind_mark}
 use Rattle.kl1_read.specs.Pieces.{writable}
-use Rattle.kl1_read.specs.Meanings.{part_read, series_read, Going, Dooms, fit, after_relation, after_part, after_arguments, after_elements, open_then, primary_then}
-use Rattle.kl1_read.proofs.Goings.{part_goes, then_along}
+use Rattle.kl1_read.specs.Meanings.{series_read, Going, Dooms, fit, after_relation, after_part, after_arguments, after_elements, open_then, primary_then}
+use Rattle.kl1_read.proofs.Goings.{part_goes}
 use Rattle.kl1_read.proofs.Primaries.{arguments_more, elements_more}
 use Rattle.kl1_read.proofs.Arguments.{writable_is, unwritable_is}
 use Rattle.kl1_read.proofs.MarkSteps.{relation_here}

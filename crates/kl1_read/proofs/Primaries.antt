@@ -1,15 +1,15 @@
 -- The primary in front of tokens, by its first token.
-use Rattle.std.proofs.Common.{◌≡◌, ℕ, ◌^◌, nat_lt, Bool, true, false, if◌then◌else◌, List, [], ◌∷◌, ◌++◌, codes, Option, Some, None, Vec, pos, neg_ℤ, refl, ap, sym, ◌∙◌}
+use Rattle.std.proofs.Common.{◌≡◌, ℕ, ◌^◌, nat_lt, Bool, true, false, if◌then◌else◌, List, [], ◌∷◌, ◌++◌, Option, Some, None, Vec, pos, neg_ℤ, refl, ap, sym, ◌∙◌}
 use Rattle.std.specs.declared.alloc.Global.{Global}
 use Rattle.kl1_model.specs.declared.sign.Sign.TheVariants.{Open, OpenList}
 use Rattle.kl1_model.specs.Token.{name_token, variable_token, digits_token, minus_token, sign_token}
-use Rattle.kl1_model.specs.Term.{Term, variable, integer, atom, structure, Terms, none, more, terms_of, list_of}
-use Rattle.kl1_model.specs.Grammar.{Numbered, Expression, Primary, positive, call, list, group, empty_list, Series, Rest, closed, tail}
-use Rattle.kl1_model.specs.Meaning.{nil, cells, expression_term, primary_term, series_terms, rest_term}
-use Rattle.kl1_model.specs.Reader.{Answer, then_read, then_skip, if_there, behind_comma, behind_close, behind_open, behind_close_list, behind_bar, series_at, rest_at, list_at, arguments_at, primary_at}
+use Rattle.kl1_model.specs.Term.{Term, variable, integer, atom, structure, Terms, terms_of, list_of}
+use Rattle.kl1_model.specs.Grammar.{Numbered, Expression, Primary, positive, call, list, group, empty_list, Series, closed, tail}
+use Rattle.kl1_model.specs.Meaning.{nil, cells, expression_term, primary_term, series_terms}
+use Rattle.kl1_model.specs.Reader.{Answer, then_read, then_skip, if_there, behind_comma, behind_close, behind_open, behind_close_list, behind_bar, series_at, rest_at}
 use Rattle.kl1_read.specs.declared.opened.Opened.TheVariants.{Group, Arguments, Elements, Tail}
 use Rattle.kl1_read.specs.Meanings.{reading, answer_map, expression_read, primary_read, series_read, Going, after_elements, after_arguments, open_then}
-use Rattle.kl1_read.proofs.Goings.{series_goes, then_along, list_back, series_behind, one_more}
+use Rattle.kl1_read.proofs.Goings.{list_back, series_behind, one_more}
 
 pub variable_reads : (v : ℕ) (ts : List Numbered) → primary_read (variable_token v ∷ ts) ≡ Some (variable v, ts)
 unfolding primary_read

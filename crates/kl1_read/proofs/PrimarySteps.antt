@@ -1,11 +1,11 @@
 -- The front of a primary, by its first token, and what goes on behind it.
-use Rattle.std.proofs.Common.{◌≡◌, ℕ, zero, suc, ◌<◌, ◌≤◌, ◌^◌, nat_lt, Bool, true, false, if◌then◌else◌, List, [], ◌∷◌, length, map, Option, Some, None, Vec, pos, neg_ℤ, refl, ap, sym, ◌∙◌, arith}
+use Rattle.std.proofs.Common.{◌≡◌, ℕ, zero, suc, ◌<◌, ◌≤◌, ◌^◌, nat_lt, Bool, true, false, if◌then◌else◌, List, [], ◌∷◌, length, map, Some, None, Vec, pos, neg_ℤ, refl, ap, sym, ◌∙◌, arith}
 use Rattle.std.specs.declared.alloc.Global.{Global}
 use Rattle.std.proofs.lemmas.Bool.{lt-ltb, le-ltb, and_left}
 use Rattle.kl1_model.specs.declared.sign.Sign.{Sign}
 use Rattle.kl1_model.specs.declared.sign.Sign.TheVariants.{Open, OpenList}
-use Rattle.kl1_model.specs.Token.{name_token, variable_token, digits_token, minus_token, sign_token, end_token}
-use Rattle.kl1_model.specs.Term.{Term, integer, atom}
+use Rattle.kl1_model.specs.Token.{name_token, digits_token, minus_token, sign_token}
+use Rattle.kl1_model.specs.Term.{Term, integer}
 use Rattle.kl1_model.specs.Grammar as grammar
 use Rattle.kl1_model.specs.Grammar.{call, list, empty_list}
 use Rattle.kl1_model.specs.Meaning.{nil, primary_term, is_writable}

@@ -1,12 +1,11 @@
 -- One expression is a series of one.
-use Rattle.std.proofs.Common.{◌≡◌, ◌&&◌, Bool, true, false, List, [], ◌∷◌, length, ◌<◌, Option, Some, None, option_map, option_and_then, if◌then◌else◌, refl, ap, sym, ◌∙◌, arith}
-use Rattle.std.specs.List.{list_all}
-use Rattle.kl1_model.specs.Term.{Term, none, more, list_of}
+use Rattle.std.proofs.Common.{◌≡◌, ◌&&◌, Bool, true, false, List, [], ◌∷◌, Option, Some, None, option_map, option_and_then, if◌then◌else◌, refl, ap, ◌∙◌}
+use Rattle.kl1_model.specs.Term.{Term, list_of}
 use Rattle.kl1_model.specs.Grammar.{Numbered, Expression, Series, last, another}
 use Rattle.kl1_model.specs.Meaning.{expression_term, series_terms, is_writable}
 use Rattle.kl1_model.specs.Reader.{Answer, then_read, if_there, behind_comma, series_at, all_read, expression_tree}
 use Rattle.kl1_read.specs.Pieces.{writable}
-use Rattle.kl1_read.specs.Series.{only, single}
+use Rattle.kl1_read.specs.Series.{single}
 use Rattle.kl1_read.specs.Meanings.{reading, answer_map, series_read, fit}
 use Rattle.kl1_read.proofs.FuelFree.{series_step}
 

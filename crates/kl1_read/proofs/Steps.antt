@@ -1,5 +1,5 @@
 -- One step of reading.
-use Rattle.std.proofs.Common.{◌≡◌, List, [], ◌∷◌, ◌++◌, reverse, Option, Some, None, IsTrue, if◌then◌else◌, refl, ap, sym, ◌∙◌}
+use Rattle.std.proofs.Common.{◌≡◌, List, [], ◌∷◌, ◌++◌, reverse, Some, None, IsTrue, if◌then◌else◌, refl, ap, sym, ◌∙◌}
 use Rattle.std.specs.List.{list_all}
 use Rattle.std.proofs.lemmas.Bool.{and_from}
 use Rattle.std.proofs.lemmas.List.Folds.{list_all-append}
@@ -16,7 +16,7 @@ use Rattle.kl1_read.specs.declared.joined.Joined.{Joined}
 use Rattle.kl1_read.specs.declared.closed.Closed.{Closed}
 use Rattle.kl1_read.specs.Beginnings.{begun_then, Begins}
 use Rattle.kl1_read.specs.Joins.{joined_then, Joins, closed_then, Closes}
-use Rattle.kl1_read.specs.Meanings.{series_read, expression_read, Going, after_primary, after_opened, after_last, after_expression, open_then, primary_then, fit}
+use Rattle.kl1_read.specs.Meanings.{series_read, after_primary, after_opened, after_last, after_expression, open_then, primary_then, fit}
 use Rattle.kl1_read.proofs.Doomed.{primary_dooms, expression_dooms}
 use Rattle.kl1_read.proofs.Goings.{expression_goes, series_behind, one_more}
 

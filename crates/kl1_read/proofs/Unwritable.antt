@@ -1,10 +1,10 @@
 -- A term that holds one that no text can write is none itself.
-use Rattle.std.proofs.Common.{◌≡◌, ℕ, suc, max, ◌≤◌, nat_le, ◌&&◌, Bool, true, false, List, [], ◌∷◌, ◌++◌, codes, bytes_eq, if◌then◌else◌, refl, ap, sym, ◌∙◌, arith}
+use Rattle.std.proofs.Common.{◌≡◌, ℕ, suc, max, ◌≤◌, nat_le, ◌&&◌, Bool, true, false, List, [], ◌∷◌, ◌++◌, codes, bytes_eq, if◌then◌else◌, refl, ap, arith}
 use Rattle.std.specs.List.{list_all}
-use Rattle.std.proofs.lemmas.Bool.{and_parts, and_from, lt-leb, leb-true, le-leb, cases_Bool, both_ways}
-use Rattle.kl1_model.specs.Term.{Term, variable, integer, atom, structure, Terms, none, more, terms_of, list_of, count_of}
+use Rattle.std.proofs.lemmas.Bool.{and_parts, and_from, leb-true, le-leb, both_ways}
+use Rattle.kl1_model.specs.Term.{Term, variable, integer, atom, structure, Terms, none, more, terms_of, count_of}
 use Rattle.kl1_model.specs.Text.{is_text}
-use Rattle.kl1_model.specs.Meaning.{pair, cell, cells, Depth, depths, depth, deepest, flat, pair_depth, cell_depth, is_narrow, are_narrow, is_writable, most_arguments}
+use Rattle.kl1_model.specs.Meaning.{pair, cells, Depth, depths, depth, deepest, flat, pair_depth, cell_depth, is_narrow, are_narrow, is_writable, most_arguments}
 
 -- a truth that would make a falsehood true is false
 not_so : (a b : Bool) → (b ≡ true → a ≡ true) → a ≡ false → b ≡ false

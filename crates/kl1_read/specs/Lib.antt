@@ -9,3 +9,4 @@ pub mod Beginnings
 pub mod Joins
 pub mod States
 pub mod Series
+pub mod WholeTexts

@@ -1,7 +1,7 @@
 -- What is still to be read: expressions as their terms, and what waits for them.
 use Rattle.std.specs.Prelude.{◌≡◌, ℕ, List, [], ◌∷◌, ◌++◌, codes, false, if◌then◌else◌, Option, Some, None}
 use Rattle.std.specs.List.{list_all}
-use Rattle.kl1_model.specs.Term.{Term, structure, Terms, terms_of, list_of}
+use Rattle.kl1_model.specs.Term.{Term, structure, terms_of, list_of}
 use Rattle.kl1_model.specs.Grammar as grammar
 use Rattle.kl1_model.specs.Grammar.{Relation}
 use Rattle.kl1_model.specs.Meaning.{pair, nil, cells, relation_name, expression_term, part_term, primary_term, series_terms, is_writable}

@@ -1,6 +1,6 @@
 -- What holds of the nodes of a term that is being read.
 use Rattle.std.specs.Prelude.{◌≡◌, ℕ, ◌≤◌, List, IsTrue}
-use Rattle.kl1_model.specs.Meaning.{Depth, depths, is_writable}
+use Rattle.kl1_model.specs.Meaning.{depths, is_writable}
 use Rattle.kl1_term.specs.declared.node.Node.{Node}
 use Rattle.kl1_term.specs.Nodes.{term_in, IsTerm}
 

@@ -22,4 +22,5 @@ mod spelled;
 mod state;
 #[cfg(test)]
 mod tests;
+mod whole_text;
 mod words;

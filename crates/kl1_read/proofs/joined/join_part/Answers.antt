@@ -1,6 +1,5 @@
 use Rattle.std.proofs.Common.{map}
 use Rattle.kl1_read.specs.Views.{numbered_token}
-use Rattle.kl1_read.specs.Meanings.{after_part, fit}
 use Rattle.kl1_read.proofs.PartSteps.{relation_follows}
 use Rattle.kl1_read.proofs.joined.join_part.Goals as goal
 

@@ -1,11 +1,6 @@
-use Rattle.std.proofs.Common.{◌≡◌, map, ap, ◌∙◌, refl, sym, Some, None, IsTrue, if◌then◌else◌, List}
-use Rattle.std.specs.List.{list_all}
-use Rattle.kl1_model.specs.Term.{Term}
-use Rattle.kl1_model.specs.Reader.{Answer}
+use Rattle.std.proofs.Common.{map, ap, ◌∙◌, refl}
 use Rattle.kl1_read.specs.Views.{numbered_token}
-use Rattle.kl1_read.specs.declared.state.Step.TheVariants.{Finished}
 use Rattle.kl1_read.specs.Meanings.{fit}
-use Rattle.kl1_read.specs.States.{step_answer, DoneFits}
 use Rattle.kl1_read.proofs.Steps.{terms_begin, finished_fits}
 use Rattle.kl1_read.proofs.series.read_series.Goals as goal
 

@@ -1,4 +1,4 @@
-use Rattle.std.proofs.Common.{◌≡◌, ◌∷◌, [], ◌++◌, codes, Some, None}
+use Rattle.std.proofs.Common.{◌≡◌, Some, None}
 use Rattle.kl1_model.specs.Meaning.{cell}
 use Rattle.kl1_read.specs.Pieces.{writable}
 use Rattle.kl1_read.proofs.Arguments.{cells_gone, cells_longer}

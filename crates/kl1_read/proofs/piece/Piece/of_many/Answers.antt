@@ -1,8 +1,5 @@
-use Rattle.std.proofs.Common.{◌≡◌, ◌≢◌, ◌≤◌, ◌<◌, ℕ, ◌+◌, suc, ◌∷◌, [], ◌++◌, List, map, reverse, length, IsTrue, ap, sym, ◌∙◌, refl, arith, add-one}
-use Rattle.kl1_model.specs.Term.{Term, structure, terms_of}
-use Rattle.kl1_model.specs.TermCode.{nodes_of_all}
-use Rattle.kl1_model.specs.Meaning.{deepest, are_narrow}
-use Rattle.kl1_model.specs.Text.{is_text}
+use Rattle.std.proofs.Common.{◌≡◌, ◌≢◌, suc, ◌∷◌, [], ◌++◌, length, ap, ◌∙◌, arith, add-one}
+use Rattle.kl1_model.specs.Term.{structure, terms_of}
 use Rattle.kl1_term.specs.declared.node.Node.TheVariants.{Structure}
 use Rattle.kl1_read.proofs.Nodes.{Made}
 use Rattle.kl1_read.proofs.Arguments.{nodes_go, deep_goes, narrow_goes, many_made, many_too_deep, end_nodes, end_deep, end_narrow}

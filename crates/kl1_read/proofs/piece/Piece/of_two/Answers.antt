@@ -1,5 +1,5 @@
-use Rattle.std.proofs.Common.{◌≡◌, ◌∷◌, [], ◌++◌, subst, sym, IfOk, List, option_to_list, arith, ap, ◌∙◌, length}
-use Rattle.kl1_model.specs.Term.{Term, structure, terms_of}
+use Rattle.std.proofs.Common.{◌≡◌, ◌∷◌, [], ◌++◌, subst, sym, IfOk, option_to_list, arith, ap, ◌∙◌}
+use Rattle.kl1_model.specs.Term.{structure, terms_of}
 use Rattle.kl1_read.specs.Pieces.{writable}
 use Rattle.kl1_read.proofs.Arguments.{two_of}
 use Rattle.kl1_read.proofs.piece.Piece.of_two.Goals as goal
