@@ -1,0 +1,78 @@
+-- Nothing comes of a term that no text can write, whatever goes on behind it.
+use Rattle.std.proofs.Common.{◌≡◌, ℕ, false, if◌then◌else◌, List, [], ◌∷◌, ◌++◌, codes, Option, Some, None, refl, ap}
+use Rattle.std.specs.List.{list_all}
+use Rattle.kl1_model.specs.Term.{Term, structure, terms_of}
+use Rattle.kl1_model.specs.Grammar.{Numbered, Relation}
+use Rattle.kl1_model.specs.Meaning.{pair, nil, cells, relation_name, is_writable}
+use Rattle.kl1_model.specs.Reader.{Answer, then_read, then_skip, if_there, behind_comma, behind_close, behind_close_list, behind_bar, behind_colon, relation_in_front}
+use Rattle.kl1_read.specs.declared.opened.Opened.{Opened}
+use Rattle.kl1_read.specs.declared.opened.Opened.TheVariants.{Group, Arguments, Elements, Tail}
+use Rattle.kl1_read.specs.declared.left.Left.{Left}
+use Rattle.kl1_read.specs.declared.frame.Frame.{Frame}
+use Rattle.kl1_read.specs.Meanings.{expression_read, part_read, primary_read, series_read, Going, after_relation, after_part, after_colon, after_primary, after_elements, after_arguments, after_opened, after_last, after_expression, fit, Dooms}
+use Rattle.kl1_read.proofs.Unwritable.{structure_unwritable, first_unwritable, second_unwritable, tail_unwritable, element_unwritable, list_unwritable}
+
+doomed_read : {A : Type 0} (x : Answer A) (go : A → List Numbered → Answer (List Term)) → ((a : A) (us : List Numbered) → fit (go a us) ≡ None) → fit (then_read x go) ≡ None
+doomed_read None go h = refl
+doomed_read (Some r) go h = h r.0 r.1
+
+doomed_skip : (x : Option (List Numbered)) (go : List Numbered → Answer (List Term)) → ((us : List Numbered) → fit (go us) ≡ None) → fit (then_skip x go) ≡ None
+doomed_skip None go h = refl
+doomed_skip (Some us) go h = h us
+
+doomed_there : (x : Option (List Numbered)) (otherwise : Answer (List Term)) (go : List Numbered → Answer (List Term)) → fit otherwise ≡ None → ((us : List Numbered) → fit (go us) ≡ None) → fit (if_there x otherwise go) ≡ None
+doomed_there None otherwise go o h = o
+doomed_there (Some us) otherwise go o h = h us
+
+module _ (k : Going) (dooms : Dooms k) where
+  relation_dooms : (t : Term) (ts : List Numbered) (x : Answer Relation) → is_writable t ≡ false → fit (after_relation k t ts x) ≡ None
+  relation_dooms t ts None h = dooms t ts h
+  relation_dooms t ts (Some r) h =
+      doomed_read (part_read r.1) _ (λ q us. dooms (pair (relation_name r.0) t q) us (first_unwritable (relation_name r.0) t q h))
+
+  pub part_dooms : (left : Option Term) → Dooms (after_part left k)
+  part_dooms None t ts h = relation_dooms t ts (relation_in_front ts) h
+  part_dooms (Some a) t ts h = dooms (pair (codes "=") a t) ts (second_unwritable (codes "=") a t h)
+
+  pub colon_dooms : (left : Option Term) → Dooms (after_colon left k)
+  colon_dooms None t ts h =
+      doomed_there (behind_colon ts) _ _ (dooms t ts h) (λ us.
+      doomed_read (primary_read us) _ (λ q vs. dooms (pair (codes ":") t q) vs (first_unwritable (codes ":") t q h)))
+  colon_dooms (Some m) t ts h = dooms (pair (codes ":") m t) ts (second_unwritable (codes ":") m t h)
+
+  arguments_doom : (f : List ℕ) (before : List Term) (t : Term) (s : List Term) (ts : List Numbered) → is_writable t ≡ false → fit (after_arguments f k (before ++ t ∷ s) ts) ≡ None
+  arguments_doom f before t s ts h =
+      doomed_skip (behind_close ts) _ (λ us. dooms (structure f (terms_of (before ++ t ∷ s))) us (structure_unwritable f before t s h))
+
+  elements_doom : (before : List Term) (t : Term) (s : List Term) (ts : List Numbered) → is_writable t ≡ false → fit (after_elements k (before ++ t ∷ s) ts) ≡ None
+  elements_doom before t s ts h =
+      doomed_there (behind_bar ts) _ _
+      (doomed_skip (behind_close_list ts) _ (λ us. dooms (cells (terms_of (before ++ t ∷ s)) nil) us (element_unwritable before t s nil h)))
+      (λ us. doomed_read (expression_read us) _ (λ u vs. doomed_skip (behind_close_list vs) _ (λ ws. dooms (cells (terms_of (before ++ t ∷ s)) u) ws (element_unwritable before t s u h))))
+
+  pub opened_dooms : (opened : Opened) → Dooms (after_opened opened k)
+  opened_dooms Group t ts h = doomed_skip (behind_close ts) _ (λ us. dooms t us h)
+  opened_dooms (Arguments f before) t ts h =
+      doomed_there (behind_comma ts) _ _ (arguments_doom f before.items t [] ts h) (λ us.
+      doomed_read (series_read us) _ (λ s vs. arguments_doom f before.items t s vs h))
+  opened_dooms (Elements before) t ts h =
+      doomed_there (behind_comma ts) _ _ (elements_doom before.items t [] ts h) (λ us.
+      doomed_read (series_read us) _ (λ s vs. elements_doom before.items t s vs h))
+  opened_dooms (Tail elements) t ts h =
+      doomed_skip (behind_close_list ts) _ (λ us. dooms (cells (terms_of elements.items) t) us (tail_unwritable elements.items t h))
+
+pub primary_dooms : (left : Left) (k : Going) → Dooms k → Dooms (after_primary left k)
+primary_dooms left k dooms = colon_dooms (after_part left.relation k) (part_dooms k dooms left.relation) left.colon
+
+unfit : (es : List Term) (us : List Numbered) → list_all is_writable es ≡ false → fit (Some (es, us)) ≡ None
+unfit es us h = ap (λ b. if◌then◌else◌ {A = Answer (List Term)} b (Some (es, us)) None) h
+
+pub last_dooms : (done : List Term) → Dooms (after_last done)
+last_dooms done t ts h =
+    doomed_there (behind_comma ts) _ _ (unfit (done ++ t ∷ []) ts (list_unwritable done t [] h)) (λ us.
+    doomed_read (series_read us) _ (λ s vs. unfit (done ++ t ∷ s) vs (list_unwritable done t s h)))
+
+pub expression_dooms : (frames : List Frame) (done : List Term) → Dooms (after_expression frames done)
+expression_dooms [] done = last_dooms done
+expression_dooms (f ∷ fs) done =
+    opened_dooms (after_primary f.left (after_expression fs done)) (primary_dooms f.left (after_expression fs done) (expression_dooms fs done)) f.opened

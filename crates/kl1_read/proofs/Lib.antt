@@ -1,0 +1,16 @@
+pub mod Arguments
+pub mod Doomed
+pub mod FuelFree
+pub mod Goings
+pub mod ItemSteps
+pub mod MarkSteps
+pub mod Nodes
+pub mod Numbers
+pub mod PartSteps
+pub mod Primaries
+pub mod PrimarySteps
+pub mod Singles
+pub mod Steps
+pub mod Unwritable
+pub mod WholeSteps
+pub mod WordLemmas

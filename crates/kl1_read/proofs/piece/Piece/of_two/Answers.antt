@@ -1,0 +1,10 @@
+use Rattle.std.proofs.Common.{◌≡◌, ◌∷◌, [], ◌++◌, subst, sym, IfOk, option_to_list, arith, ap, ◌∙◌}
+use Rattle.kl1_model.specs.Term.{structure, terms_of}
+use Rattle.kl1_read.specs.Pieces.{writable}
+use Rattle.kl1_read.proofs.Arguments.{two_of}
+use Rattle.kl1_read.proofs.piece.Piece.of_two.Goals as goal
+
+pub returns : goal.returns
+returns c =
+    let two : c.args.arguments.items ≡ c.unwrap-first.result ∷ c.unwrap-second.result ∷ [] = two_of c.args.arguments.items c.pop.new.self.items c.pop-2.new.self.items c.unwrap-first.result c.unwrap-second.result (c.pop.ensures.items ∙ ap (λ o. c.pop.new.self.items ++ option_to_list o) c.unwrap-second.ensures) (c.pop-2.ensures.items ∙ ap (λ o. c.pop-2.new.self.items ++ option_to_list o) c.unwrap-first.ensures) (omega (arith, c.args.arguments.ok.0)) in
+    subst (λ es. IfOk c.pair.result (λ piece. piece ≡ writable (structure c.args.name (terms_of es)))) (sym two) c.pair.ensures

@@ -1,0 +1,12 @@
+pub mod Meanings
+pub mod Views
+pub mod Quotes
+pub mod Items
+pub mod PieceView
+pub mod Pieces
+pub mod Marks
+pub mod Beginnings
+pub mod Joins
+pub mod States
+pub mod Series
+pub mod WholeTexts

@@ -1,0 +1,96 @@
+-- What is still to be read: expressions as their terms, and what waits for them.
+use Rattle.std.specs.Prelude.{◌≡◌, ℕ, List, [], ◌∷◌, ◌++◌, codes, false, if◌then◌else◌, Option, Some, None}
+use Rattle.std.specs.List.{list_all}
+use Rattle.kl1_model.specs.Term.{Term, structure, terms_of, list_of}
+use Rattle.kl1_model.specs.Grammar as grammar
+use Rattle.kl1_model.specs.Grammar.{Relation}
+use Rattle.kl1_model.specs.Meaning.{pair, nil, cells, relation_name, expression_term, part_term, primary_term, series_terms, is_writable}
+use Rattle.kl1_model.specs.Reader.{Answer, Inner, then_read, then_skip, if_there, behind_comma, behind_close, behind_close_list, behind_bar, behind_colon, relation_in_front, series_at, primary_at, part_at, inner_of}
+use Rattle.kl1_read.specs.declared.opened.Opened.{Opened}
+use Rattle.kl1_read.specs.declared.opened.Opened.TheVariants.{Group, Arguments, Elements, Tail}
+use Rattle.kl1_read.specs.declared.left.Left.{Left}
+use Rattle.kl1_read.specs.declared.frame.Frame.{Frame}
+
+-- an expression in front of tokens, read with as many steps as it needs
+abbrev pub reading : Inner
+reading ts = inner_of ts ts
+
+-- what was read, changed
+abbrev pub answer_map : {A B : Type 0} → (A → B) → Answer A → Answer B
+answer_map f None = None
+answer_map f (Some r) = Some (f r.0, r.1)
+
+-- the terms in front of tokens: of an expression, a part, a primary, or expressions parted by commas
+unfoldable pub expression_read : List grammar.Numbered → Answer Term
+expression_read ts = answer_map expression_term (reading ts)
+
+unfoldable pub part_read : List grammar.Numbered → Answer Term
+part_read ts = answer_map part_term (part_at reading ts)
+
+unfoldable pub primary_read : List grammar.Numbered → Answer Term
+primary_read ts = answer_map primary_term (primary_at reading ts)
+
+unfoldable pub series_read : List grammar.Numbered → Answer (List Term)
+series_read ts = answer_map (λ s. list_of (series_terms s)) (series_at reading ts)
+
+-- what goes on with a term that was read, and with the tokens behind it
+abbrev pub Going : Type 0
+Going = Term → List grammar.Numbered → Answer (List Term)
+
+-- goes on with a part behind what stands to the left of a relation, or perhaps with a relation
+abbrev pub after_relation : Going → Term → List grammar.Numbered → Answer Relation → Answer (List Term)
+after_relation k p ts None = k p ts
+after_relation k p ts (Some r) = then_read (part_read r.1) (λ q us. k (pair (relation_name r.0) p q) us)
+
+abbrev pub after_part : Option Term → Going → Going
+after_part None k p ts = after_relation k p ts (relation_in_front ts)
+after_part (Some a) k p ts = k (pair (codes "=") a p) ts
+
+-- goes on with a primary behind what stands to the left of a colon, or perhaps with a colon
+abbrev pub after_colon : Option Term → Going → Going
+after_colon None k p ts = if_there (behind_colon ts) (k p ts) (λ us. then_read (primary_read us) (λ q vs. k (pair (codes ":") p q) vs))
+after_colon (Some m) k p ts = k (pair (codes ":") m p) ts
+
+abbrev pub after_primary : Left → Going → Going
+after_primary left k = after_colon left.colon (after_part left.relation k)
+
+-- goes on behind the elements of a list
+abbrev pub after_elements : Going → List Term → List grammar.Numbered → Answer (List Term)
+after_elements k es ts = if_there (behind_bar ts) (then_skip (behind_close_list ts) (λ us. k (cells (terms_of es) nil) us)) (λ us. then_read (expression_read us) (λ t vs. then_skip (behind_close_list vs) (λ ws. k (cells (terms_of es) t) ws)))
+
+-- goes on behind arguments
+abbrev pub after_arguments : List ℕ → Going → List Term → List grammar.Numbered → Answer (List Term)
+after_arguments f k es ts = then_skip (behind_close ts) (λ us. k (structure f (terms_of es)) us)
+
+-- goes on behind an expression in what was opened
+abbrev pub after_opened : Opened → Going → Going
+after_opened Group k e ts = then_skip (behind_close ts) (λ us. k e us)
+after_opened (Arguments f before) k e ts = if_there (behind_comma ts) (after_arguments f k (before.items ++ e ∷ []) ts) (λ us. then_read (series_read us) (λ s vs. after_arguments f k (before.items ++ e ∷ s) vs))
+after_opened (Elements before) k e ts = if_there (behind_comma ts) (after_elements k (before.items ++ e ∷ []) ts) (λ us. then_read (series_read us) (λ s vs. after_elements k (before.items ++ e ∷ s) vs))
+after_opened (Tail elements) k e ts = then_skip (behind_close_list ts) (λ us. k (cells (terms_of elements.items) e) us)
+
+-- goes on behind an expression among others that are parted by commas, behind these
+abbrev pub after_last : List Term → Going
+after_last done e ts = if_there (behind_comma ts) (Some (done ++ e ∷ [], ts)) (λ us. then_read (series_read us) (λ s vs. Some (done ++ e ∷ s, vs)))
+
+-- goes on behind an expression, where these were opened, the last one first
+abbrev pub after_expression : List Frame → List Term → Going
+after_expression [] done = after_last done
+after_expression (f ∷ fs) done = after_opened f.opened (after_primary f.left (after_expression fs done))
+
+-- reads an expression in what was opened, and goes on
+abbrev pub open_then : Opened → Going → List grammar.Numbered → Answer (List Term)
+open_then opened k ts = then_read (expression_read ts) (after_opened opened k)
+
+-- reads a primary, and goes on
+abbrev pub primary_then : Left → Going → List grammar.Numbered → Answer (List Term)
+primary_then left k ts = then_read (primary_read ts) (after_primary left k)
+
+-- terms that a text can write, with what is behind them
+abbrev pub fit : Answer (List Term) → Answer (List Term)
+fit None = None
+fit (Some r) = if list_all is_writable r.0 then Some r else None
+
+-- nothing comes of a term that no text can write
+abbrev pub Dooms : Going → Type 0
+Dooms k = (t : Term) (ts : List grammar.Numbered) → is_writable t ≡ false → fit (k t ts) ≡ None

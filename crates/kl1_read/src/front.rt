@@ -1,0 +1,169 @@
+// What stands in front of a text.
+
+ghost use Rattle.std.specs.Prelude.{◌≡◌, ◌∷◌, [], false, length, drop, IsTrue};
+ghost use Rattle.kl1_model.specs.Text.{is_name_byte};
+ghost use Rattle.kl1_model.specs.Token.{front_of, word_of, behind_word, bounded, variable_token, name_front, digits_front, digits_of, behind_digits, quoted_front, quoted_from, comment_front, behind_comment, dot_front, sign_front, sign_at};
+ghost use Rattle.kl1_model.specs.Token as model;
+ghost use Rattle.kl1_model.specs.ReadLaws.{LeavesLess};
+ghost use Rattle.kl1_read.specs.Views.{front_view};
+
+use crate::bytes::{
+    is_blank, is_digit, is_digit_next, is_open_next, is_small_letter, is_variable_start,
+};
+use crate::quotes::quoted;
+use crate::signs::{sign_at, spelling_of};
+use crate::spelled::Spelled;
+use crate::words::{
+    behind_comment, behind_digits, behind_word, digits_of, number_of, short_name, word_of,
+};
+
+/// What stands in front of a text, with what is behind it.
+pub(crate) enum Front<'a> {
+    /// The text is at its end.
+    Finished,
+    /// A byte or more that are no token.
+    Broken,
+    /// The end of a line.
+    LineEnd(&'a [u8]),
+    /// Another blank, or a comment.
+    Blank(&'a [u8]),
+    /// A token.
+    Token(Spelled, &'a [u8]),
+}
+
+/// What stands in front of a text.
+pub(crate) fn front_of(bytes: &[u8]) -> Front<'_>
+    ensures value { front_view result ≡ front_of bytes.now }
+    ensures less { LeavesLess (length bytes.now) (front_view result) }
+{
+    begun_front(bytes)
+}
+
+/// What stands in front of a text.
+fn begun_front(bytes: &[u8]) -> Front<'_>
+    ensures { front_view result ≡ front_of bytes.now }
+{
+    match bytes {
+        [] => Front::Finished,
+        [first, rest @ ..] => {
+            if *first == b'\n' {
+                Front::LineEnd(rest)
+            } else if is_blank(*first) {
+                Front::Blank(rest)
+            } else if *first == b'%' {
+                comment_front(rest)
+            } else if is_small_letter(*first) {
+                name_front(*first, bytes, rest)
+            } else if is_variable_start(*first) {
+                variable_front(*first, bytes, rest)
+            } else if is_digit(*first) {
+                digits_front(*first, bytes, rest)
+            } else if *first == b'\'' {
+                quoted_front(rest)
+            } else if *first == b'.' {
+                dot_front(rest)
+            } else if *first == b'-' {
+                Front::Token(Spelled::Minus(is_digit_next(rest)), rest)
+            } else {
+                sign_front(bytes)
+            }
+        }
+    }
+}
+
+/// A name without quotes, in a text that begins with `first`.
+fn name_front<'a>(first: u8, bytes: &'a [u8], rest: &'a [u8]) -> Front<'a>
+    requires begins { bytes.now ≡ first ∷ rest.now }
+    requires name { IsTrue (is_name_byte first) }
+    ensures { front_view result ≡ name_front false (first ∷ word_of rest.now) (behind_word rest.now) }
+{
+    let behind = behind_word(rest);
+    match short_name(word_of(first, bytes, rest)) {
+        None => Front::Broken,
+        Some(text) => Front::Token(Spelled::Name(text, false, is_open_next(behind)), behind),
+    }
+}
+
+/// A variable, in a text that begins with `first`.
+fn variable_front<'a>(first: u8, bytes: &'a [u8], rest: &'a [u8]) -> Front<'a>
+    requires begins { bytes.now ≡ first ∷ rest.now }
+    requires name { IsTrue (is_name_byte first) }
+    ensures { front_view result ≡ bounded (first ∷ word_of rest.now) (variable_token (first ∷ word_of rest.now)) (behind_word rest.now) }
+{
+    let behind = behind_word(rest);
+    match short_name(word_of(first, bytes, rest)) {
+        None => Front::Broken,
+        Some(text) => Front::Token(Spelled::Variable(text), behind),
+    }
+}
+
+/// Digits, in a text that begins with `first`.
+fn digits_front<'a>(first: u8, bytes: &'a [u8], rest: &'a [u8]) -> Front<'a>
+    requires begins { bytes.now ≡ first ∷ rest.now }
+    ensures { front_view result ≡ digits_front (model.number_of (first ∷ digits_of rest.now)) (behind_digits rest.now) }
+{
+    let behind = behind_digits(rest);
+    match number_of(digits_of(first, bytes, rest)) {
+        None => Front::Broken,
+        Some(number) => Front::Token(Spelled::Digits(number), behind),
+    }
+}
+
+/// A name in quotes, behind its first quote.
+fn quoted_front(rest: &[u8]) -> Front<'_>
+    ensures { front_view result ≡ quoted_front (quoted_from false [] rest.now) }
+{
+    match quoted(rest) {
+        None => Front::Broken,
+        Some((text, behind)) => {
+            Front::Token(Spelled::Name(text, true, is_open_next(behind)), behind)
+        }
+    }
+}
+
+/// A comment, behind its `%`.
+fn comment_front(rest: &[u8]) -> Front<'_>
+    ensures { front_view result ≡ comment_front (behind_comment rest.now) }
+{
+    match behind_comment(rest) {
+        None => Front::Broken,
+        Some(behind) => Front::Blank(behind),
+    }
+}
+
+/// A dot, which ends an item before a blank, a comment or the end of the text.
+fn dot_front(rest: &[u8]) -> Front<'_>
+    ensures { front_view result ≡ dot_front rest.now }
+{
+    match rest {
+        [] => Front::Token(Spelled::End, rest),
+        [first, _others @ ..] => {
+            if is_blank(*first) || *first == b'%' {
+                Front::Token(Spelled::End, rest)
+            } else {
+                Front::Broken
+            }
+        }
+    }
+}
+
+/// A sign.
+fn sign_front(bytes: &[u8]) -> Front<'_>
+    ensures { front_view result ≡ sign_front (sign_at bytes.now) bytes.now }
+{
+    match sign_at(bytes) {
+        None => Front::Broken,
+        Some(sign) => Front::Token(Spelled::Sign(sign), behind(bytes, spelling_of(sign).len())),
+    }
+}
+
+/// What is behind so many bytes.
+fn behind(bytes: &[u8], count: usize) -> &[u8]
+    ensures { result.now ≡ drop count bytes.now }
+{
+    if count < bytes.len() {
+        &bytes[count..]
+    } else {
+        &[]
+    }
+}

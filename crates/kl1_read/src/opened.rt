@@ -1,0 +1,17 @@
+// What a bracket opened.
+
+use crate::piece::Piece;
+use kl1_text::AtomText;
+
+/// What a bracket opened and nothing has closed yet.
+#[derive(Drop)]
+pub(crate) enum Opened {
+    /// An expression in parentheses.
+    Group,
+    /// The arguments of a name, those that are read.
+    Arguments(AtomText, Vec<Piece>),
+    /// The elements of a list, those that are read.
+    Elements(Vec<Piece>),
+    /// What follows the elements of a list behind a bar.
+    Tail(Vec<Piece>),
+}

@@ -1,0 +1,228 @@
+// A term that is being read.
+
+ghost use Rattle.std.specs.Prelude.{◌≡◌, ◌≢◌, ℕ, ◌≤◌, List, ◌++◌, map, reverse, vec_len, IfOk, OnOk, IsTrue};
+ghost use Rattle.kl1_model.specs.Term.{variable, integer, atom, structure, terms_of};
+ghost use Rattle.kl1_model.specs.TermCode.{nodes_of};
+ghost use Rattle.kl1_model.specs.Meaning.{Depth, pair, cells, depth, is_narrow, is_writable, pair_depth};
+ghost use Rattle.kl1_term.specs.Nodes.{code_of};
+ghost use Rattle.kl1_read.specs.Pieces.{writable};
+
+use kl1_term::Node;
+use kl1_text::AtomText;
+use std::alloc::{AllocError, Global};
+use std::marker::Model;
+
+/// A term that a text can write, with its depth, and its depth as what follows the elements of a list.
+#[derive(Drop)]
+pub(crate) struct Piece {
+    /// The nodes, the last one first.
+    nodes: Vec<Node>,
+    whole: u64,
+    rest: u64,
+}
+
+impl Model for Piece {
+    ghost use Rattle.std.specs.Prelude.{reverse};
+    ghost use Rattle.kl1_model.specs.Term.{Term as TermSpec};
+    ghost use Rattle.kl1_model.specs.TermCode.{term_code};
+    ghost use Rattle.kl1_term.specs.Nodes.{term_in};
+
+    ghost Value = { TermSpec };
+
+    ghost coded = { term_code };
+
+    ghost use Rattle.kl1_read.specs.PieceView.{IsPiece};
+
+    ghost view = { λ a. term_in (reverse a.nodes.items) };
+
+    ghost invariant = { λ a. IsPiece (reverse a.nodes.items) a.whole a.rest };
+}
+
+impl Piece {
+    /// A variable by its number.
+    pub(crate) fn variable(alloc: Global, number: u64) -> Result<Self, AllocError>
+        ensures { IfOk result (λ piece. piece ≡ variable number) }
+    {
+        let mut nodes = Vec::new(alloc);
+        nodes.push(Node::Variable(number))?;
+        Ok(Piece {
+            nodes,
+            whole: 1,
+            rest: 1,
+        })
+    }
+
+    /// An integer.
+    pub(crate) fn integer(alloc: Global, number: i64) -> Result<Self, AllocError>
+        ensures { IfOk result (λ piece. piece ≡ integer number) }
+    {
+        let mut nodes = Vec::new(alloc);
+        nodes.push(Node::Integer(number))?;
+        Ok(Piece {
+            nodes,
+            whole: 1,
+            rest: 1,
+        })
+    }
+
+    /// An atom.
+    pub(crate) fn atom(alloc: Global, text: AtomText) -> Result<Self, AllocError>
+        ensures { IfOk result (λ piece. piece ≡ atom text) }
+    {
+        let _bytes = text.unpacked();
+        let mut nodes = Vec::new(alloc);
+        nodes.push(Node::Atom(text))?;
+        Ok(Piece {
+            nodes,
+            whole: 1,
+            rest: 1,
+        })
+    }
+
+    /// The structure of two arguments with this name, where a text can write it.
+    pub(crate) fn pair(
+        name: AtomText,
+        first: Piece,
+        second: Piece,
+    ) -> Result<Option<Self>, AllocError>
+        ensures { IfOk result (λ piece. piece ≡ writable (pair name first second)) }
+    {
+        let _bytes = name.unpacked();
+        let Piece {
+            nodes: front,
+            whole: first_whole,
+            rest: _first_rest,
+        } = first;
+        let Piece {
+            nodes: behind,
+            whole: second_whole,
+            rest: second_rest,
+        } = second;
+        let (whole, rest) = pair_depth(name, first_whole, second_whole, second_rest);
+        if whole > 256 {
+            return Ok(None);
+        }
+        let mut nodes = behind;
+        nodes.extend_from_slice(front.as_slice())?;
+        nodes.push(Node::Structure(name, 2))?;
+        Ok(Some(Piece { nodes, whole, rest }))
+    }
+
+    /// A text can write the term.
+    pub(crate) fn is_written(&self)
+        ensures { IsTrue (is_writable self.now) }
+    {
+        let _nodes = &self.nodes;
+    }
+
+    /// Puts the nodes behind others, which come before them in the order of reading; gives the depth.
+    fn spill(self, nodes: &mut Vec<Node>) -> Result<u64, AllocError>
+        ensures nodes { OnOk result (map code_of (reverse nodes.new.items) ≡ nodes_of self ++ map code_of (reverse nodes.old.items)) }
+        ensures depth { IfOk result (λ whole. whole ≡ depth self) }
+        ensures narrow { IsTrue (is_narrow self) }
+        ensures low { depth self ≤ 256 }
+    {
+        let Piece {
+            nodes: own,
+            whole,
+            rest: _rest,
+        } = self;
+        nodes.extend_from_slice(own.as_slice())?;
+        Ok(whole)
+    }
+
+    /// A list of these elements with this behind them, where a text can write it.
+    pub(crate) fn cells(elements: Vec<Piece>, tail: Piece) -> Result<Option<Self>, AllocError>
+        ensures { IfOk result (λ piece. piece ≡ writable (cells (terms_of elements.items) tail)) }
+    {
+        let mut elements = elements;
+        let mut list = tail;
+        while let Some(element) = elements.pop() {
+            match Piece::pair(AtomText::of(b"."), element, list)? {
+                None => return Ok(None),
+                Some(longer) => list = longer,
+            }
+        }
+        let _nodes = &list.nodes;
+        Ok(Some(list))
+    }
+
+    /// The structure of these arguments with this name, where a text can write it.
+    pub(crate) fn structure(
+        alloc: Global,
+        name: AtomText,
+        arguments: Vec<Piece>,
+    ) -> Result<Option<Self>, AllocError>
+        ensures { IfOk result (λ piece. piece ≡ writable (structure name (terms_of arguments.items))) }
+    {
+        if arguments.len() == 0 {
+            return Ok(None);
+        }
+        if arguments.len() > 8 {
+            return Ok(None);
+        }
+        if arguments.len() == 2 {
+            return Piece::of_two(name, arguments);
+        }
+        Piece::of_many(alloc, name, arguments)
+    }
+
+    /// The structure of two arguments.
+    fn of_two(name: AtomText, arguments: Vec<Piece>) -> Result<Option<Self>, AllocError>
+        requires { vec_len arguments ≡ 2 }
+        ensures { IfOk result (λ piece. piece ≡ writable (structure name (terms_of arguments.items))) }
+    {
+        let mut arguments = arguments;
+        let second = arguments.pop().unwrap();
+        let first = arguments.pop().unwrap();
+        Piece::pair(name, first, second)
+    }
+
+    /// The structure of one argument, or of more than two.
+    fn of_many(
+        alloc: Global,
+        name: AtomText,
+        arguments: Vec<Piece>,
+    ) -> Result<Option<Self>, AllocError>
+        requires some { 1 ≤ vec_len arguments }
+        requires few { vec_len arguments ≤ 8 }
+        requires other { vec_len arguments ≢ 2 }
+        ensures { IfOk result (λ piece. piece ≡ writable (structure name (terms_of arguments.items))) }
+    {
+        let _bytes = name.unpacked();
+        let count = arguments.len();
+        let mut arguments = arguments;
+        let mut nodes = Vec::new(alloc);
+        let mut deepest = 0;
+        while let Some(argument) = arguments.pop() {
+            let depth = argument.spill(&mut nodes)?;
+            deepest = depth.max(deepest);
+        }
+        if deepest >= 256 {
+            return Ok(None);
+        }
+        nodes.push(Node::Structure(name, count))?;
+        Ok(Some(Piece {
+            nodes,
+            whole: deepest + 1,
+            rest: deepest + 1,
+        }))
+    }
+}
+
+/// The depth of a structure of two arguments, and its depth as what follows the elements of a list.
+fn pair_depth(name: AtomText, first: u64, second: u64, second_rest: u64) -> (u64, u64)
+    requires first_low { first ≤ 256 }
+    requires second_low { second ≤ 256 }
+    requires rest_low { second_rest ≤ 256 }
+    ensures rest_low { result.1 ≤ result.0 }
+    ensures value { (first_rest : ℕ) → record { whole = result.0; rest = result.1 } ≡ pair_depth name (record { whole = first; rest = first_rest }) (record { whole = second; rest = second_rest }) }
+{
+    if name.is(&AtomText::of(b".")) {
+        let deepest = first.max(second_rest);
+        (deepest + 1, deepest)
+    } else {
+        let deepest = first.max(second);
+        (deepest + 1, deepest + 1)
+    }
+}

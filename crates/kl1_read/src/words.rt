@@ -1,0 +1,113 @@
+// Words, digits and comments in front of a text.
+
+ghost use Rattle.std.specs.Prelude.{◌≡◌, ◌^◌, ◌∷◌, ◌-◌, take, nat_le, length, IsTrue, Some, None, if◌then◌else◌, option_map};
+ghost use Rattle.std.specs.List.{list_all};
+ghost use Rattle.kl1_model.specs.Token.{word_of, behind_word, digits_of, behind_digits, behind_comment, number_of};
+ghost use Rattle.kl1_model.specs.Text.{is_name_byte, most_name_bytes};
+
+use crate::bytes::{is_digit, is_source_byte, is_word_byte};
+use kl1_text::AtomText;
+
+/// What is behind the word in front.
+pub(crate) fn behind_word(bytes: &[u8]) -> &[u8]
+    ensures { result.now ≡ behind_word bytes.now }
+{
+    let mut rest = bytes;
+    while let [first, others @ ..] = rest {
+        if !is_word_byte(*first) {
+            return rest;
+        }
+        rest = others;
+    }
+    rest
+}
+
+/// What is behind the digits in front.
+pub(crate) fn behind_digits(bytes: &[u8]) -> &[u8]
+    ensures { result.now ≡ behind_digits bytes.now }
+{
+    let mut rest = bytes;
+    while let [first, others @ ..] = rest {
+        if !is_digit(*first) {
+            return rest;
+        }
+        rest = others;
+    }
+    rest
+}
+
+/// What is behind a comment, from the end of its line.
+pub(crate) fn behind_comment(bytes: &[u8]) -> Option<&[u8]>
+    ensures { option_map (λ rest. rest.now) result ≡ behind_comment bytes.now }
+{
+    let mut rest = bytes;
+    while let [first, others @ ..] = rest {
+        if *first == b'\n' {
+            return Some(rest);
+        }
+        if !is_source_byte(*first) {
+            return None;
+        }
+        rest = others;
+    }
+    Some(rest)
+}
+
+/// The most that digits may write.
+const MOST: u64 = 1 << 63;
+
+/// The number that digits write, where it is at most 2^63.
+pub(crate) fn number_of(digits: &[u8]) -> Option<u64>
+    ensures { result ≡ (if nat_le (number_of digits.now) (2 ^ 63) then Some (number_of digits.now) else None) }
+{
+    let mut number = 0u64;
+    let mut rest = digits;
+    while let [first, others @ ..] = rest {
+        if number > MOST / 10 {
+            return None;
+        }
+        number = 10 * number + u64::from(first.saturating_sub(b'0'));
+        if number > MOST {
+            return None;
+        }
+        rest = others;
+    }
+    Some(number)
+}
+
+/// The word that begins with `first`, which stands before `rest`.
+pub(crate) fn word_of<'a>(first: u8, bytes: &'a [u8], rest: &[u8]) -> &'a [u8]
+    requires begins { bytes.now ≡ first ∷ rest.now }
+    requires name { IsTrue (is_name_byte first) }
+    ensures value { result.now ≡ first ∷ word_of rest.now }
+    ensures names { IsTrue (list_all is_name_byte result.now) }
+{
+    front_part(bytes, behind_word(rest).len())
+}
+
+/// The digits that begin with `first`, which stands before `rest`.
+pub(crate) fn digits_of<'a>(first: u8, bytes: &'a [u8], rest: &[u8]) -> &'a [u8]
+    requires { bytes.now ≡ first ∷ rest.now }
+    ensures { result.now ≡ first ∷ digits_of rest.now }
+{
+    front_part(bytes, behind_digits(rest).len())
+}
+
+/// A text without so many of its last bytes.
+fn front_part(bytes: &[u8], last: usize) -> &[u8]
+    ensures { result.now ≡ take (length bytes.now - last) bytes.now }
+{
+    if last < bytes.len() {
+        &bytes[..bytes.len() - last]
+    } else {
+        &[]
+    }
+}
+
+/// The name of these bytes, where there are at most 63 of them.
+pub(crate) fn short_name(bytes: &[u8]) -> Option<AtomText>
+    requires { IsTrue (list_all is_name_byte bytes.now) }
+    ensures { result ≡ (if nat_le (length bytes.now) most_name_bytes then Some bytes.now else None) }
+{
+    AtomText::read(bytes)
+}
