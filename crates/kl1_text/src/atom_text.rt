@@ -91,6 +91,13 @@ impl AtomText {
         out
     }
 
+    /// Tells a caller's proof that these bytes are a name. It does nothing.
+    pub fn shows_text(&self)
+        ensures { IsTrue (is_text self.now) }
+    {
+        let _ = &self.words;
+    }
+
     /// The built-in name that this is, where it is one.
     pub fn built_in(&self) -> Option<BuiltIn>
         ensures { result ≡ built_in_of self.now }

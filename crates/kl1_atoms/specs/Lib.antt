@@ -1,0 +1,3 @@
+pub mod Names
+pub mod Knowing
+pub mod Plain
