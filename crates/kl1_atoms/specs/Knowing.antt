@@ -67,7 +67,7 @@ one_more_number (x ∷ ks) k t n e = elim (cases_Bool (x.number.number == n)) [
 ]
 
 -- an option is empty or holds something
-option_cases : {X : Type 0} (o : Option X) → (o ≡ None) ⊎ ((x : X) × (o ≡ Some x))
+pub option_cases : {X : Type 0} (o : Option X) → (o ≡ None) ⊎ ((x : X) × (o ≡ Some x))
 option_cases None = inl refl
 option_cases (Some x) = inr (x, refl)
 
@@ -118,7 +118,7 @@ pub stand_on : (at by : ℕ → List ℕ → Type 0) (ks : List Known) → ((t :
 stand_on at by ks more stand = record { by_text = λ t n e. more t n (stand.by_text t n e); by_number = λ t n e. more t n (stand.by_number t n e) }
 
 -- a text that isn't among names is found as the last pair
-number_in-last : (ks : List Known) (k : Known) → number_in ks k.text ≡ None → number_in (ks ++ k ∷ []) k.text ≡ Some k.number.number
+pub number_in-last : (ks : List Known) (k : Known) → number_in ks k.text ≡ None → number_in (ks ++ k ∷ []) k.text ≡ Some k.number.number
 number_in-last [] k e = rw ((bytes_eq-Decides k.text k.text).1 refl) refl
 number_in-last (x ∷ ks) k e = elim (cases_Bool (bytes_eq x.text k.text)) [
   | inl same ↦ let some : Some x.number.number ≡ None = rw same at e in cc
@@ -179,3 +179,17 @@ few_more old t a new adds = elim (cases_Bool (is_some (number_by old t))) [
 -- a number that a look-up answered is known
 pub number_known : (old : List Known) (t : List ℕ) (a : AtomNo) (new : List Known) → AreNames new → Adds old t a new → IsSome (text_by new a.number)
 number_known old t a new names adds = rw (names.back t a.number adds.number) refl
+
+-- no names are one to one
+pub no_names : AreNames []
+no_names =
+    let nowhere : ℕ → List ℕ → Type 0 = λ n t. ⊥ in
+    are_names nowhere []
+      (let table : IsTable nowhere = record {
+        names = λ t n at. absurd at;
+        not_built_in = λ t n at. absurd at;
+        from_64 = λ t n at. absurd at;
+        one_text = λ t u n at by. absurd at;
+        one_number = λ t m n at by. absurd at;
+      } in table)
+      (let stand : StandIn nowhere [] = record { by_text = λ t n e. cc; by_number = λ t n e. cc } in stand)

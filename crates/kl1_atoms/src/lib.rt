@@ -2,13 +2,23 @@
 #![tactic(auto)]
 
 mod atom_source;
+mod atom_seat;
+mod atom_table;
+mod face;
 mod known;
+mod law;
+mod looking_up;
 mod plain_seat;
 mod plain_table;
+mod round;
+mod walking;
 #[cfg(test)]
 mod tests;
 
 pub use atom_source::AtomSource;
+pub use atom_seat::AtomSeat;
+pub use atom_table::AtomTable;
+pub use face::{Face, Heard, View};
 pub use known::Known;
 pub use plain_seat::PlainSeat;
 pub use plain_table::{MOST_NAMES, PlainTable};
