@@ -11,10 +11,10 @@ use Rattle.atomic_table.proofs.Lists.{one_turn}
 use Rattle.kl1_atoms.specs.declared.known.Known.{Known}
 use Rattle.kl1_atoms.specs.declared.face.Face.{Face}
 use Rattle.kl1_atoms.specs.declared.face.Heard.{Heard}
-use Rattle.kl1_atoms.specs.Names.{number_in, IsTable, StandIn, AreNames}
+use Rattle.kl1_atoms.specs.Names.{number_in, IsTable, StandIn}
 use Rattle.kl1_atoms.specs.Knowing.{are_names}
 use Rattle.kl1_atoms.specs.Way.{start, further}
-use Rattle.kl1_atoms.specs.Rule.{word_place, Shows, Stands, At, Others, Reaches, Sound, AllStand, Fits}
+use Rattle.kl1_atoms.specs.Rule.{word_place, Shows, Stands, At, Others, Reaches, Sound, AllStand, Fits, Listed}
 use Rattle.kl1_atoms.specs.Plays.{In, Passed}
 
 -- lists of one length with the same elements are one
@@ -65,15 +65,15 @@ no_text_twice n ws i j e d t sound st su =
     let r = reached n ws i e t sound st in
     let q = reached n ws j d t sound su in
     elim (cases_order r.0 q.0) [
-        inl same ↦ r.1 ∙ ap (further n t) same ∙ sym q.1
+      | inl same ↦ r.1 ∙ ap (further n t) same ∙ sym q.1
       | inr other ↦ elim other [
-            inl before ↦
-              let o = q.2 r.0 before in
-              absurd (o.3 (sym (one_text_at n ws i e o.0 t o.1 st (subst (λ x. Stands n ws x o.0 o.1) (sym r.1) o.2))))
-          | inr after ↦
-              let o = r.2 q.0 after in
-              absurd (o.3 (sym (one_text_at n ws j d o.0 t o.1 su (subst (λ x. Stands n ws x o.0 o.1) (sym q.1) o.2))))
-        ]
+        | inl before ↦
+            let o = q.2 r.0 before in
+            absurd (o.3 (sym (one_text_at n ws i e o.0 t o.1 st (subst (λ x. Stands n ws x o.0 o.1) (sym r.1) o.2))))
+        | inr after ↦
+            let o = r.2 q.0 after in
+            absurd (o.3 (sym (one_text_at n ws j d o.0 t o.1 su (subst (λ x. Stands n ws x o.0 o.1) (sym q.1) o.2))))
+      ]
     ]
 
 -- the words show a table of names
@@ -83,16 +83,21 @@ is_table n ws sound = record {
   not_built_in = λ t m at. at.3.own;
   from_64 = λ t m at. let e = at.2 in omega arith;
   one_text = λ t u m at by.
-    let same : at.0 ≡ by.0 = (let e = at.2 in let d = by.2 in omega arith) in
-    one_text_of n ws at.1 by.1 at.0 t u at.3 (subst (λ x. Stands n ws by.1 x u) (sym same) by.3);
+      let same : at.0 ≡ by.0 = (let e = at.2 in let d = by.2 in omega arith) in
+      one_text_of n ws at.1 by.1 at.0 t u at.3 (subst (λ x. Stands n ws by.1 x u) (sym same) by.3);
   one_number = λ t l m at by.
-    let same = no_text_twice n ws at.1 by.1 at.0 by.0 t sound at.3 by.3 in
-    at.2 ∙ ap (λ x. 64 + x) (one_entry_of n ws by.1 at.0 by.0 t t (subst (λ x. Stands n ws x at.0 t) same at.3) by.3) ∙ sym by.2;
+      let same = no_text_twice n ws at.1 by.1 at.0 by.0 t sound at.3 by.3 in
+      at.2 ∙ ap (λ x. 64 + x) (one_entry_of n ws by.1 at.0 by.0 t t (subst (λ x. Stands n ws x at.0 t) same at.3) by.3) ∙ sym by.2;
 }
 
 -- what an account knows is one to one
-pub knows_names : (n : ℕ) (ws : List ℕ) (f : Face) → Sound n ws → Fits n ws f → AreNames f.knows
-knows_names n ws f sound fits = are_names (At n ws) f.knows (is_table n ws sound) fits.known
+pub knows_names : (n : ℕ) (ws : List ℕ) (f : Face) → Sound n ws → Fits n ws f → Listed f.accounts f.knows
+knows_names n ws f sound fits = record {
+  names = are_names (At n ws) f.knows (is_table n ws sound) fits.known;
+  entries = λ t m e.
+      let a = fits.known.by_number t m e in
+      ((let q = a.2 in omega arith), subst (λ k. m < 64 + 1024 * k) (sym fits.accounts) (let q = a.2 in let r = a.3.entry in omega arith));
+}
 
 -- a sighting is so
 pub seen_stands : (n : ℕ) (ws : List ℕ) (hs : List Heard) (h : Heard) → AllStand n ws hs → In hs h → Stands n ws h.bucket h.entry h.text
@@ -112,22 +117,22 @@ not_known n ws f t i d sound fits free way others = none_of (number_in f.knows t
     let at = fits.known.by_text t m e in
     let r = reached n ws at.1 at.0 t sound at.3 in
     elim (cases_order d r.0) [
-        inl same ↦
+      | inl same ↦
           let p : slice_index ws i ≡ suc at.0 = subst (λ x. slice_index ws x ≡ suc at.0) (r.1 ∙ ap (further n t) (sym same) ∙ sym way) at.3.points in
           absurd (omega arith)
       | inr other ↦ elim other [
-            inl before ↦
-              let o = r.2 d before in
-              let p : slice_index ws i ≡ suc o.0 = subst (λ x. slice_index ws x ≡ suc o.0) (sym way) o.2.points in
-              absurd (omega arith)
-          | inr after ↦
-              let o = others r.0 after in
-              absurd (o.3 (sym (one_text_at n ws at.1 at.0 o.0 t o.1 at.3 (subst (λ x. Stands n ws x o.0 o.1) (sym r.1) o.2))))
-        ]
+        | inl before ↦
+            let o = r.2 d before in
+            let p : slice_index ws i ≡ suc o.0 = subst (λ x. slice_index ws x ≡ suc o.0) (sym way) o.2.points in
+            absurd (omega arith)
+        | inr after ↦
+            let o = others r.0 after in
+            absurd (o.3 (sym (one_text_at n ws at.1 at.0 o.0 t o.1 at.3 (subst (λ x. Stands n ws x o.0 o.1) (sym r.1) o.2))))
+      ]
     ]) where
-  none_of : (o : Option ℕ) → ((m : ℕ) → o ≡ Some m → ⊥) → o ≡ None
-  none_of None never = refl
-  none_of (Some m) never = absurd (never m refl)
+      none_of : (o : Option ℕ) → ((m : ℕ) → o ≡ Some m → ⊥) → o ≡ None
+      none_of None never = refl
+      none_of (Some m) never = absurd (never m refl)
 
 -- the first values of a function, the last in front
 values : (ℕ → ℕ) → ℕ → List ℕ
@@ -143,7 +148,7 @@ values_below : (e : ℕ → ℕ) (m d : ℕ) → ((c : ℕ) → c < d → e c < 
 unfolding values
 values_below e m zero below q any = cc
 values_below e m (suc d) below q any = elim (or_cases (eqb q (e d)) (list_any (eqb q) (values e d)) any) [
-    inl here ↦ let is : q ≡ e d = eqb-true q (e d) here in let b : e d < m = below d (omega arith) in omega arith
+  | inl here ↦ let is : q ≡ e d = eqb-true q (e d) here in let b : e d < m = below d (omega arith) in omega arith
   | inr there ↦ values_below e m d (λ c h. below c (omega arith)) q there
 ]
 
@@ -165,11 +170,11 @@ at_most e m d below differ = subst (λ l. l ≤ m) (length-values e d) (length-l
 pub few_others : (n : ℕ) (ws : List ℕ) (t : List ℕ) (d : ℕ) → Sound n ws → d ≤ 2048 * n → Others n ws t d → d ≤ 1024 * n
 few_others n ws t d sound within others =
     at_most (λ c. slice_index ws (further n t c) - 1) (1024 * n) d
-      (λ c h. let o = others c h in let p : slice_index ws (further n t c) ≡ suc o.0 = o.2.points in let q = o.2.entry in omega arith)
-      (λ b c before h e.
-        let o = others b (omega arith) in
-        let p = others c h in
-        let same : o.0 ≡ p.0 = (let x : slice_index ws (further n t b) ≡ suc o.0 = o.2.points in let y : slice_index ws (further n t c) ≡ suc p.0 = p.2.points in omega arith) in
-        let place = sound.once (further n t b) (further n t c) o.0 o.2.bucket p.2.bucket o.2.points (p.2.points ∙ ap suc (sym same)) in
-        let turn : start n t + b ≡ start n t + c = one_turn (start n t + b) (start n t + c) (2048 * n) (omega arith) (omega arith) place in
-        absurd (omega arith))
+    (λ c h. let o = others c h in let p : slice_index ws (further n t c) ≡ suc o.0 = o.2.points in let q = o.2.entry in omega arith)
+    (λ b c before h e.
+    let o = others b (omega arith) in
+    let p = others c h in
+    let same : o.0 ≡ p.0 = (let x : slice_index ws (further n t b) ≡ suc o.0 = o.2.points in let y : slice_index ws (further n t c) ≡ suc p.0 = p.2.points in omega arith) in
+    let place = sound.once (further n t b) (further n t c) o.0 o.2.bucket p.2.bucket o.2.points (p.2.points ∙ ap suc (sym same)) in
+    let turn : start n t + b ≡ start n t + c = one_turn (start n t + b) (start n t + c) (2048 * n) (omega arith) (omega arith) place in
+    absurd (omega arith))

@@ -69,10 +69,10 @@ module _ (views : List View) (id : ℕ) (f f' : Face) (fs : List Face) (at : get
 
   mine_after : (j k : ℕ) (g : Face) → Mine (slice_set views id record { faces = f' ∷ fs }) j k g → ((j ≡ id) × (k ≡ 0) × (f' ≡ g)) ⊎ (Mine views j k g × ((j ≡ id) → (k ≡ 0) → ⊥))
   mine_after j k g mine = elim (at_set views id j record { faces = f' ∷ fs } mine.0 mine.1) [
-      inl here ↦
+    | inl here ↦
         let e : get_elem? (f' ∷ fs) k ≡ some g = subst (λ (v : View). get_elem? v.faces k ≡ some g) (sym here.1) mine.2 in
         elim (first_or_other k g e) [
-            inl first ↦ inl (here.0, first.0, first.1)
+          | inl first ↦ inl (here.0, first.0, first.1)
           | inr other ↦ inr ((record { faces = f ∷ fs }, (subst (λ i. get_elem? views i ≡ some record { faces = f ∷ fs }) (sym here.0) at), other.1), (λ same z. other.0 z))
         ]
     | inr there ↦ inr ((mine.0, there.1, mine.2), (λ same z. there.0 same))
@@ -86,20 +86,20 @@ module _ (views : List View) (id : ℕ) (f f' : Face) (fs : List Face) (at : get
   step_kept n ws vs sound fits apart same keeps own homes = record {
     sound = sound;
     fits = λ j k g mine. elim (mine_after j k g mine) [
-        inl first ↦ subst (λ (h : Face). Fits n vs h) first.2 own
+      | inl first ↦ subst (λ (h : Face). Fits n vs h) first.2 own
       | inr other ↦ keeps g (λ e. let p = apart j id k 0 g f other.0 first_was e in other.1 p.0 p.1) (fits j k g other.0)
     ];
     apart = λ i j k l g h mine its e. elim (mine_after i k g mine) [
-        inl first ↦ elim (mine_after j l h its) [
-            inl second ↦ (first.0 ∙ sym second.0, first.1 ∙ sym second.1)
-          | inr other ↦
-              let p = apart id j 0 l f h first_was other.0 (sym same ∙ ap (λ (x : Face). x.account) first.2 ∙ e) in (first.0 ∙ p.0, first.1 ∙ p.1)
-        ]
+      | inl first ↦ elim (mine_after j l h its) [
+        | inl second ↦ (first.0 ∙ sym second.0, first.1 ∙ sym second.1)
+        | inr other ↦
+            let p = apart id j 0 l f h first_was other.0 (sym same ∙ ap (λ (x : Face). x.account) first.2 ∙ e) in (first.0 ∙ p.0, first.1 ∙ p.1)
+      ]
       | inr one ↦ elim (mine_after j l h its) [
-            inl second ↦
-              let p = apart i id k 0 g f one.0 first_was (e ∙ sym (ap (λ (x : Face). x.account) second.2) ∙ same) in (p.0 ∙ sym second.0, p.1 ∙ sym second.1)
-          | inr other ↦ apart i j k l g h one.0 other.0 e
-        ]
+        | inl second ↦
+            let p = apart i id k 0 g f one.0 first_was (e ∙ sym (ap (λ (x : Face). x.account) second.2) ∙ same) in (p.0 ∙ sym second.0, p.1 ∙ sym second.1)
+        | inr other ↦ apart i j k l g h one.0 other.0 e
+      ]
     ];
   }
 
@@ -124,8 +124,8 @@ module _ (n : ℕ) (ws : List ℕ) (f : Face) (k v : ℕ) (sound : Sound n ws) (
   sound_store = record {
     size = length-set ws (word_place n (own_entry f) k) v ∙ sound.size;
     stands = λ i e h points.
-      let was = sound.stands i e h (sym (bucket_same i h) ∙ points) in
-      (was.0, stands_on n ws (slice_set ws (word_place n (own_entry f) k) v) i e was.0 grows_store was.1, reaches_on n ws (slice_set ws (word_place n (own_entry f) k) v) was.0 i grows_store was.2);
+        let was = sound.stands i e h (sym (bucket_same i h) ∙ points) in
+        (was.0, stands_on n ws (slice_set ws (word_place n (own_entry f) k) v) i e was.0 grows_store was.1, reaches_on n ws (slice_set ws (word_place n (own_entry f) k) v) was.0 i grows_store was.2);
     once = λ i j e h l points point. sound.once i j e h l (sym (bucket_same i h) ∙ points) (sym (bucket_same j l) ∙ point);
   }
 
@@ -138,9 +138,9 @@ module _ (n : ℕ) (ws : List ℕ) (f : Face) (k v : ℕ) (sound : Sound n ws) (
     known = stand_on (At n ws) (At n (slice_set ws (word_place n (own_entry f) k) v)) g.knows (at_on n ws (slice_set ws (word_place n (own_entry f) k) v) grows_store) its.known;
     heard = all_on n ws (slice_set ws (word_place n (own_entry f) k) v) g.heard grows_store its.heard;
     drafted = λ l h.
-      let d = its.drafted l h in
-      let apart : own_entry g ≡ own_entry f → ⊥ = λ same. (let r = room in let q = d.1 in differ (omega arith)) in
-      (d.0, d.1, word_same (own_entry g) l d.0 apart ∙ d.2);
+        let d = its.drafted l h in
+        let apart : own_entry g ≡ own_entry f → ⊥ = λ same. (let r = room in let q = d.1 in differ (omega arith)) in
+        (d.0, d.1, word_same (own_entry g) l d.0 apart ∙ d.2);
   }
 
   pub fits_store_own : k ≡ length f.draft → Fits n (slice_set ws (word_place n (own_entry f) k) v) record f { draft = f.draft ++ v ∷ [] }
@@ -152,7 +152,7 @@ module _ (n : ℕ) (ws : List ℕ) (f : Face) (k v : ℕ) (sound : Sound n ws) (
     known = stand_on (At n ws) (At n (slice_set ws (word_place n (own_entry f) k) v)) f.knows (at_on n ws (slice_set ws (word_place n (own_entry f) k) v) grows_store) fits.known;
     heard = all_on n ws (slice_set ws (word_place n (own_entry f) k) v) f.heard grows_store fits.heard;
     drafted = λ l h. elim (cases_eq l k) [
-        inl same ↦
+      | inl same ↦
           let inside : word_place n (own_entry f) k < length ws = (let s = sound.size in let a = fits.account in omega arith) in
           ((omega arith), room, rw same (get_or-set_same ws (word_place n (own_entry f) k) v 0 inside ∙ sym (last_is f.draft v k next)))
       | inr other ↦

@@ -58,7 +58,7 @@ module _ (n : ℕ) (ws : List ℕ) (f : Face) (i : ℕ) (t : List ℕ) (sound : 
   -- a bucket that points somewhere did so before, or is the one written
   points_before : (j e : ℕ) → slice_index (slice_set ws i (suc (own_entry f))) j ≡ suc e → ((j ≡ i) × (own_entry f ≡ e)) ⊎ (slice_index ws j ≡ suc e)
   points_before j e points = elim (cases_eq j i) [
-      inl same ↦ inl (same, (let p : suc (own_entry f) ≡ suc e = sym here ∙ subst (λ l. slice_index (slice_set ws i (suc (own_entry f))) l ≡ suc e) same points in omega arith))
+    | inl same ↦ inl (same, (let p : suc (own_entry f) ≡ suc e = sym here ∙ subst (λ l. slice_index (slice_set ws i (suc (own_entry f))) l ≡ suc e) same points in omega arith))
     | inr other ↦ inr (sym (there j other) ∙ points)
   ]
 
@@ -66,24 +66,24 @@ module _ (n : ℕ) (ws : List ℕ) (f : Face) (i : ℕ) (t : List ℕ) (sound : 
   sound_publish = record {
     size = length-set ws i (suc (own_entry f)) ∙ sound.size;
     stands = λ j e h points. elim (points_before j e points) [
-        inl is ↦ (
-          t,
-          subst (λ l. Stands n (slice_set ws i (suc (own_entry f))) l e t) (sym is.0) (subst (λ x. Stands n (slice_set ws i (suc (own_entry f))) i x t) is.1 own_stands),
-          subst (λ l. Reaches n (slice_set ws i (suc (own_entry f))) t l) (sym is.0) (d, way, others_on n ws (slice_set ws i (suc (own_entry f))) t d grows_publish others),
-        )
+      | inl is ↦ (
+        t,
+        subst (λ l. Stands n (slice_set ws i (suc (own_entry f))) l e t) (sym is.0) (subst (λ x. Stands n (slice_set ws i (suc (own_entry f))) i x t) is.1 own_stands),
+        subst (λ l. Reaches n (slice_set ws i (suc (own_entry f))) t l) (sym is.0) (d, way, others_on n ws (slice_set ws i (suc (own_entry f))) t d grows_publish others),
+      )
       | inr was ↦
           let old = sound.stands j e h was in
           (old.0, stands_on n ws (slice_set ws i (suc (own_entry f))) j e old.0 grows_publish old.1, reaches_on n ws (slice_set ws i (suc (own_entry f))) old.0 j grows_publish old.2)
     ];
     once = λ j l e h g points point. elim (points_before j e points) [
-        inl is ↦ elim (points_before l e point) [
-            inl are ↦ is.0 ∙ sym are.0
-          | inr was ↦ absurd (fits.free f.used (omega arith) room l g (was ∙ ap suc (sym is.1)))
-        ]
+      | inl is ↦ elim (points_before l e point) [
+        | inl are ↦ is.0 ∙ sym are.0
+        | inr was ↦ absurd (fits.free f.used (omega arith) room l g (was ∙ ap suc (sym is.1)))
+      ]
       | inr was ↦ elim (points_before l e point) [
-            inl are ↦ absurd (fits.free f.used (omega arith) room j h (was ∙ ap suc (sym are.1)))
-          | inr were ↦ sound.once j l e h g was were
-        ]
+        | inl are ↦ absurd (fits.free f.used (omega arith) room j h (was ∙ ap suc (sym are.1)))
+        | inr were ↦ sound.once j l e h g was were
+      ]
     ];
   }
 
@@ -93,7 +93,7 @@ module _ (n : ℕ) (ws : List ℕ) (f : Face) (i : ℕ) (t : List ℕ) (sound : 
     account = its.account;
     used_up = its.used_up;
     free = λ j low high l h points. elim (points_before l (1024 * g.account + j) points) [
-        inl is ↦ let e = is.1 in let r = room in differ (omega arith)
+      | inl is ↦ let e = is.1 in let r = room in differ (omega arith)
       | inr was ↦ its.free j low high l h was
     ];
     known = stand_on (At n ws) (At n (slice_set ws i (suc (own_entry f)))) g.knows (at_on n ws (slice_set ws i (suc (own_entry f))) grows_publish) its.known;
@@ -107,11 +107,11 @@ module _ (n : ℕ) (ws : List ℕ) (f : Face) (i : ℕ) (t : List ℕ) (sound : 
     account = fits.account;
     used_up = rw (length-append f.knows (published f t ∷ [])) (let u = fits.used_up in omega arith);
     free = λ j low high l h points. elim (points_before l (1024 * f.account + j) points) [
-        inl is ↦ let e = is.1 in absurd (omega arith)
+      | inl is ↦ let e = is.1 in absurd (omega arith)
       | inr was ↦ fits.free j (omega arith) high l h was
     ];
     known =
-      stand_more (At n (slice_set ws i (suc (own_entry f)))) f.knows (published f t)
+        stand_more (At n (slice_set ws i (suc (own_entry f)))) f.knows (published f t)
         (stand_on (At n ws) (At n (slice_set ws i (suc (own_entry f)))) f.knows (at_on n ws (slice_set ws i (suc (own_entry f))) grows_publish) fits.known)
         (own_entry f, i, refl, own_stands);
     heard = tt;

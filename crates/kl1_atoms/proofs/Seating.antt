@@ -31,9 +31,9 @@ kept_first n ws size zeros = record {
     once = λ i j e h l points point. let z = zeros i in absurd (omega arith);
   };
   fits = λ id k f mine.
-    let o = only_view (all_faces n) mine.0 id mine.1 in
-    let r = face_at n 0 n k f (subst (λ (v : View). get_elem? v.faces k ≡ some f) (sym o.1) mine.2) in
-    subst (λ (g : Face). Fits n ws g) (sym r.0)
+      let o = only_view (all_faces n) mine.0 id mine.1 in
+      let r = face_at n 0 n k f (subst (λ (v : View). get_elem? v.faces k ≡ some f) (sym o.1) mine.2) in
+      subst (λ (g : Face). Fits n ws g) (sym r.0)
       (let new : Fits n ws (new_face n (0 + k)) = record {
         accounts = refl;
         account = (let h = r.1 in omega arith);
@@ -44,13 +44,13 @@ kept_first n ws size zeros = record {
         drafted = λ l h. absurd (omega arith);
       } in new);
   apart = λ id other k l f g mine its e.
-    let o = only_view (all_faces n) mine.0 id mine.1 in
-    let p = only_view (all_faces n) its.0 other its.1 in
-    let r = face_at n 0 n k f (subst (λ (v : View). get_elem? v.faces k ≡ some f) (sym o.1) mine.2) in
-    let q = face_at n 0 n l g (subst (λ (v : View). get_elem? v.faces l ≡ some g) (sym p.1) its.2) in
-    let a : 0 + k ≡ f.account = ap (λ (x : Face). x.account) (sym r.0) in
-    let b : 0 + l ≡ g.account = ap (λ (x : Face). x.account) (sym q.0) in
-    (o.0 ∙ sym p.0, omega arith);
+      let o = only_view (all_faces n) mine.0 id mine.1 in
+      let p = only_view (all_faces n) its.0 other its.1 in
+      let r = face_at n 0 n k f (subst (λ (v : View). get_elem? v.faces k ≡ some f) (sym o.1) mine.2) in
+      let q = face_at n 0 n l g (subst (λ (v : View). get_elem? v.faces l ≡ some g) (sym p.1) its.2) in
+      let a : 0 + k ≡ f.account = ap (λ (x : Face). x.account) (sym r.0) in
+      let b : 0 + l ≡ g.account = ap (λ (x : Face). x.account) (sym q.0) in
+      (o.0 ∙ sym p.0, omega arith);
 }
 
 -- an element of a list with one more behind it
@@ -78,12 +78,12 @@ data Was (views : List View) (id last j k : ℕ) (f : Face) : Type 0 where
 
 was_mine : (views : List View) (id j k : ℕ) (v : View) (f : Face) → get_elem? views id ≡ some v → Mine (slice_set views id (own_part v) ++ other_part v ∷ []) j k f → Was views id (length (slice_set views id (own_part v))) j k f
 was_mine views id j k v f at mine = elim (at_end (slice_set views id (own_part v)) (other_part v) mine.0 j mine.1) [
-    inl before ↦ elim (at_set views id j (own_part v) mine.0 before) [
-        inl here ↦
-          let p = first_part v.faces k f (subst (λ (w : View). get_elem? w.faces k ≡ some f) (sym here.1) mine.2) in
-          stays here.0 p.0 (v, at, p.1)
-      | inr there ↦ apart_from there.0 (mine.0, there.1, mine.2)
-    ]
+  | inl before ↦ elim (at_set views id j (own_part v) mine.0 before) [
+    | inl here ↦
+        let p = first_part v.faces k f (subst (λ (w : View). get_elem? w.faces k ≡ some f) (sym here.1) mine.2) in
+        stays here.0 p.0 (v, at, p.1)
+    | inr there ↦ apart_from there.0 (mine.0, there.1, mine.2)
+  ]
   | inr new ↦ moves new.0 (v, at, later_part v.faces k f (subst (λ (w : View). get_elem? w.faces k ≡ some f) (sym new.1) mine.2))
 ]
 
@@ -92,26 +92,26 @@ pub splits : (n id : ℕ) (v : View) → Splits {S = Unit {0}} {V = View} (Kept 
 splits n id v s kept at = record {
   sound = kept.sound;
   fits = λ j k f mine. elim (was_mine s.views id j k v f at mine) [
-      stays same z old ↦ kept.fits id 0 f old
+    | stays same z old ↦ kept.fits id 0 f old
     | moves last old ↦ kept.fits id (suc k) f old
     | apart_from other old ↦ kept.fits j k f old
   ];
   apart = λ i j k l f g mine its e. elim (was_mine s.views id i k v f at mine) [
-      stays same z old ↦ elim (was_mine s.views id j l v g at its) [
-          stays same2 z2 old2 ↦ (same ∙ sym same2, z ∙ sym z2)
-        | moves last old2 ↦ let p = kept.apart id id 0 (suc l) f g old old2 e in absurd (let q = p.1 in omega arith)
-        | apart_from other old2 ↦ let p = kept.apart id j 0 l f g old old2 e in absurd (other (sym p.0))
-      ]
+    | stays same z old ↦ elim (was_mine s.views id j l v g at its) [
+      | stays same2 z2 old2 ↦ (same ∙ sym same2, z ∙ sym z2)
+      | moves last old2 ↦ let p = kept.apart id id 0 (suc l) f g old old2 e in absurd (let q = p.1 in omega arith)
+      | apart_from other old2 ↦ let p = kept.apart id j 0 l f g old old2 e in absurd (other (sym p.0))
+    ]
     | moves last old ↦ elim (was_mine s.views id j l v g at its) [
-          stays same z old2 ↦ let p = kept.apart id id (suc k) 0 f g old old2 e in absurd (let q = p.1 in omega arith)
-        | moves last2 old2 ↦ let p = kept.apart id id (suc k) (suc l) f g old old2 e in (last ∙ sym last2, (let q = p.1 in omega arith))
-        | apart_from other old2 ↦ let p = kept.apart id j (suc k) l f g old old2 e in absurd (other (sym p.0))
-      ]
+      | stays same z old2 ↦ let p = kept.apart id id (suc k) 0 f g old old2 e in absurd (let q = p.1 in omega arith)
+      | moves last2 old2 ↦ let p = kept.apart id id (suc k) (suc l) f g old old2 e in (last ∙ sym last2, (let q = p.1 in omega arith))
+      | apart_from other old2 ↦ let p = kept.apart id j (suc k) l f g old old2 e in absurd (other (sym p.0))
+    ]
     | apart_from other old ↦ elim (was_mine s.views id j l v g at its) [
-          stays same z old2 ↦ let p = kept.apart i id k 0 f g old old2 e in absurd (other p.0)
-        | moves last old2 ↦ let p = kept.apart i id k (suc l) f g old old2 e in absurd (other p.0)
-        | apart_from other2 old2 ↦ kept.apart i j k l f g old old2 e
-      ]
+      | stays same z old2 ↦ let p = kept.apart i id k 0 f g old old2 e in absurd (other p.0)
+      | moves last old2 ↦ let p = kept.apart i id k (suc l) f g old old2 e in absurd (other p.0)
+      | apart_from other2 old2 ↦ kept.apart i j k l f g old old2 e
+    ]
   ];
 }
 

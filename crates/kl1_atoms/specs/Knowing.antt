@@ -172,7 +172,7 @@ is_reading mark ks low names =
 -- a look-up adds one name at most
 pub few_more : (old : List Known) (t : List ℕ) (a : AtomNo) (new : List Known) → Adds old t a new → length new ≤ length old + 1
 few_more old t a new adds = elim (cases_Bool (is_some (number_by old t))) [
-    inl known ↦ rw (adds.known, known) (omega arith)
+  | inl known ↦ rw (adds.known, known) (omega arith)
   | inr other ↦ rw (adds.known, other) (simp length-append (omega arith))
 ]
 
@@ -185,11 +185,11 @@ pub no_names : AreNames []
 no_names =
     let nowhere : ℕ → List ℕ → Type 0 = λ n t. ⊥ in
     are_names nowhere []
-      (let table : IsTable nowhere = record {
-        names = λ t n at. absurd at;
-        not_built_in = λ t n at. absurd at;
-        from_64 = λ t n at. absurd at;
-        one_text = λ t u n at by. absurd at;
-        one_number = λ t m n at by. absurd at;
-      } in table)
-      (let stand : StandIn nowhere [] = record { by_text = λ t n e. cc; by_number = λ t n e. cc } in stand)
+    (let table : IsTable nowhere = record {
+      names = λ t n at. absurd at;
+      not_built_in = λ t n at. absurd at;
+      from_64 = λ t n at. absurd at;
+      one_text = λ t u n at by. absurd at;
+      one_number = λ t m n at by. absurd at;
+    } in table)
+    (let stand : StandIn nowhere [] = record { by_text = λ t n e. cc; by_number = λ t n e. cc } in stand)

@@ -8,9 +8,9 @@ use Rattle.kl1_atoms.specs.declared.known.Known.{Known}
 use Rattle.kl1_atoms.specs.declared.face.Face.{Face}
 use Rattle.kl1_atoms.specs.declared.face.Heard.{Heard}
 use Rattle.kl1_atoms.specs.declared.face.View.{View}
-use Rattle.kl1_atoms.specs.Names.{number_by, number_in, text_in, added, AreNames}
+use Rattle.kl1_atoms.specs.Names.{number_by, number_in, text_in, added}
 use Rattle.kl1_atoms.specs.Way.{further}
-use Rattle.kl1_atoms.specs.Rule.{word_place, own_entry}
+use Rattle.kl1_atoms.specs.Rule.{word_place, own_entry, Listed}
 
 -- no account's face
 abbrev pub no_face : Face
@@ -55,7 +55,7 @@ Sees f g i found = (h : Heard) × (found ≡ suc h.entry) × (h.bucket ≡ i) ×
 -- a look at a bucket: what is known is one to one, no more buckets were passed than there are entries, a free bucket at the end of
 -- a text's way shows that the text isn't known, and another bucket is seen
 pub record Looks (f g : Face) (i found : ℕ) : Type 0 where
-  pub names : AreNames f.knows
+  pub names : Listed f.accounts f.knows
   pub few : (t : List ℕ) (d : ℕ) → d ≤ 2048 * f.accounts → Passed f t d → d ≤ 1024 * f.accounts
   pub unknown : found ≡ 0 → (t : List ℕ) (d : ℕ) → i ≡ further f.accounts t d → Passed f t d → number_in f.knows t ≡ None
   pub change : ((found ≡ 0) × (g ≡ f)) ⊎ Sees f g i found
@@ -89,7 +89,7 @@ published_by f = record { accounts = f.accounts; account = f.account; used = f.u
 
 -- an exchange of a free bucket for one's own entry: it published the entry, or the bucket's winner is seen
 abbrev pub Publishes : Face → Face → ℕ → ℕ → Type 0
-Publishes f g i found = ((found ≡ 0) × (g ≡ published_by f) × AreNames g.knows) ⊎ Sees f g i found
+Publishes f g i found = ((found ≡ 0) × (g ≡ published_by f) × Listed g.accounts g.knows) ⊎ Sees f g i found
 
 -- a face that knows one text more, by the number of the entry where it was seen
 abbrev pub learned : Face → Heard → Face
@@ -97,7 +97,7 @@ learned f h = record { accounts = f.accounts; account = f.account; used = f.used
 
 -- a look at a bucket that was seen: the seat knows its text from then on
 pub record Learns (f g : Face) (i : ℕ) : Type 0 where
-  pub names : AreNames g.knows
+  pub names : Listed g.accounts g.knows
   pub change : (h : Heard) → In f.heard h → h.bucket ≡ i → g ≡ learned f h
   pub number : (h : Heard) → In f.heard h → h.bucket ≡ i → number_by g.knows h.text ≡ Some (64 + h.entry)
 

@@ -8,8 +8,8 @@ use Rattle.kl1_atoms.specs.declared.face.Face.{Face}
 use Rattle.kl1_atoms.specs.declared.face.Heard.{Heard}
 use Rattle.kl1_atoms.specs.declared.round.Round.{Round}
 use Rattle.kl1_atoms.specs.declared.round.Round.TheVariants.{Found, Made, Other}
-use Rattle.kl1_atoms.specs.Names.{HasRoom, Adds, AreNames}
-use Rattle.kl1_atoms.specs.Rule.{own_entry}
+use Rattle.kl1_atoms.specs.Names.{HasRoom, Adds}
+use Rattle.kl1_atoms.specs.Rule.{own_entry, Listed}
 use Rattle.kl1_atoms.specs.Plays.{In, Passed}
 
 -- the words that are drafted, if any are
@@ -43,7 +43,7 @@ pub record Drafts (f g : Face) (ws : List ℕ) : Type 0 where
 pub record Ends (f g : Face) (t : List ℕ) (e : ℕ) : Type 0 where
   pub same : SameAccount f g
   pub adds : Adds f.knows t record { number = 64 + e } g.knows
-  pub names : AreNames g.knows
+  pub names : Listed g.accounts g.knows
   pub used_up : g.used ≤ length g.knows
   pub draft : g.draft ≡ []
 

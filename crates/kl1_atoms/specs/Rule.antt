@@ -9,7 +9,8 @@ use Rattle.atomic_table.specs.Table.{State}
 use Rattle.kl1_atoms.specs.declared.face.Face.{Face}
 use Rattle.kl1_atoms.specs.declared.face.Heard.{Heard}
 use Rattle.kl1_atoms.specs.declared.face.View.{View}
-use Rattle.kl1_atoms.specs.Names.{StandIn}
+use Rattle.kl1_atoms.specs.declared.known.Known.{Known}
+use Rattle.kl1_atoms.specs.Names.{text_in, StandIn, AreNames}
 use Rattle.kl1_atoms.specs.Way.{start, further}
 
 -- the place of an entry's word
@@ -73,6 +74,11 @@ pub record Fits (n : ℕ) (ws : List ℕ) (f : Face) : Type 0 where
 -- a face is one of a seat's
 abbrev pub Mine : List View → ℕ → ℕ → Face → Type 0
 Mine views id k f = (v : View) × (get_elem? views id ≡ some v) × (get_elem? v.faces k ≡ some f)
+
+-- what an account knows is one to one, and each number is an entry's
+pub record Listed (n : ℕ) (ks : List Known) : Type 0 where
+  pub names : AreNames ks
+  pub entries : (t : List ℕ) (m : ℕ) → text_in ks m ≡ Some t → (64 ≤ m) × (m < 64 + 1024 * n)
 
 -- the rule: the words are sound, what each account knows is so, and each account has one face
 pub record Kept (n : ℕ) (s : State (Unit {0}) View) : Type 0 where

@@ -1,7 +1,7 @@
 // What one account knows of the shared table.
 
 ghost use Rattle.std.specs.Prelude.{◌≡◌, ◌≤◌, [], length};
-ghost use Rattle.kl1_atoms.specs.Names.{AreNames};
+ghost use Rattle.kl1_atoms.specs.Rule.{Listed};
 ghost use Rattle.kl1_atoms.specs.Seats.{face_in, resting};
 
 use crate::face::View;
@@ -19,5 +19,5 @@ pub struct AtomSeat {
     pub ghost used_up: { used ≤ length (face_in badge.views).knows },
     pub ghost bound: { used ≤ 1024 },
     pub ghost draft: { (face_in badge.views).draft ≡ [] },
-    pub ghost names: { AreNames (face_in badge.views).knows },
+    pub ghost names: { Listed (face_in badge.views).accounts (face_in badge.views).knows },
 }

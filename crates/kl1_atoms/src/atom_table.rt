@@ -62,7 +62,9 @@ impl AtomTable {
         ensures tells { Steps seat.old.me seat.new.me (λ f g. g ≡ drafted_more f value) }
     {
         let place = 2048 * self.accounts + 8 * entry + word;
-        self.table.shared.store::<Draft>(seat, place as usize, value);
+        self.table
+            .shared
+            .store::<Draft>(seat, place as usize, value);
     }
 
     /// Publishes the seat's own entry in a free bucket, or finds who was first.
@@ -76,7 +78,9 @@ impl AtomTable {
         ensures of { seat.new.table_id ≡ seat.old.table_id }
         ensures tells { Steps seat.old.me seat.new.me (λ f g. Publishes f g bucket result) }
     {
-        self.table.shared.compare_exchange::<Publish>(seat, bucket as usize, 0, entry + 1)
+        self.table
+            .shared
+            .compare_exchange::<Publish>(seat, bucket as usize, 0, entry + 1)
     }
 
     /// Looks at a bucket that was seen, so that its text is known.

@@ -1,7 +1,9 @@
 // Making the shared table, and its public look-ups.
 
-ghost use Rattle.std.specs.Prelude.{◌≡◌, ℕ, ◌+◌, ◌-◌, ◌*◌, ◌<◌, ◌≤◌, List, [], ◌∷◌, Some, IfOk, slice_get, vec_len};
-ghost use Rattle.kl1_atoms.specs.Names.{HasRoom, Adds};
+ghost use Rattle.std.specs.Prelude.{◌≡◌, ℕ, ◌+◌, ◌-◌, ◌*◌, ◌<◌, ◌≤◌, List, [], ◌∷◌, Some, IsSome, IsTrue, IfOk, slice_get, vec_len};
+ghost use Rattle.kl1_atoms.specs.Names.{text_in, text_by, HasRoom, Adds};
+ghost use Rattle.kl1_text.specs.Words.{words_of};
+ghost use Rattle.kl1_atoms.specs.Plays.{own, has_first};
 ghost use Rattle.kl1_atoms.specs.Seats.{all_faces, own_part, other_part, face_in, IsSharedSeat, IsNewSharedSeat, new_face, faces_from};
 ghost use Rattle.kl1_atoms.specs.declared.atom_seat.AtomSeat.{AtomSeat};
 
@@ -10,7 +12,7 @@ use crate::atom_table::AtomTable;
 use crate::face::View;
 use crate::law::Parted;
 use atomic_table::{Badge, Seat, Table};
-use kl1_text::{AtomNo, AtomText, NameValue};
+use kl1_text::{AtomNo, AtomText, NameValue, built_in_at};
 use std::alloc::{AllocError, Global};
 use std::mem;
 
@@ -94,6 +96,42 @@ impl AtomTable {
         AtomNo {
             number: 64 + ended.entry as u32,
         }
+    }
+
+    /// Reads the words of an entry whose name the seat knows.
+    fn read_text(&self, seat: &mut Seat<(), View>, entry: u64) -> [u64; 8]
+        requires of { seat.old.table_id ≡ self.now.table.shared.table_id }
+        requires first { IsTrue (has_first seat.old.me.0.faces) }
+        requires accounts { (own seat.old.me.0).accounts ≡ self.now.accounts }
+        requires entry { entry < 1024 * self.now.accounts }
+        ensures of { seat.new.table_id ≡ seat.old.table_id }
+        ensures same { seat.new.me ≡ seat.old.me }
+        ensures words { (t : List ℕ) → text_in (own seat.old.me.0).knows (64 + entry) ≡ Some t → result ≡ words_of 8 t }
+    {
+        let mut words = [0u64; 8];
+        for word in 0..8 {
+            words[word] = self.read(seat, entry, word as u64);
+        }
+        words
+    }
+
+    /// The name of a number that the seat knows. It takes no memory and never waits.
+    pub fn text_of(&self, seat: &mut AtomSeat, number: AtomNo) -> AtomText
+        requires of { IsSharedSeat self.now.table.shared.table_id seat.old.badge.table_id self.now.accounts (face_in seat.old.badge.views) seat.old.account }
+        requires known { IsSome (text_by (face_in seat.old.badge.views).knows number.number) }
+        ensures of { IsSharedSeat self.now.table.shared.table_id seat.new.badge.table_id self.now.accounts (face_in seat.new.badge.views) seat.new.account }
+        ensures account { seat.new.account ≡ seat.old.account }
+        ensures same { (face_in seat.new.badge.views).knows ≡ (face_in seat.old.badge.views).knows }
+        ensures text { text_by (face_in seat.old.badge.views).knows number.number ≡ Some result }
+    {
+        if let Some(built_in) = built_in_at(number.number) {
+            return AtomText::of_built_in(built_in);
+        }
+        let entry = u64::from(number.number - 64);
+        let mut own = mem::replace(&mut seat.badge, Badge::blank()).into_seat();
+        let words = self.read_text(&mut own, entry);
+        seat.badge = own.into_badge();
+        AtomText::of_words(words)
     }
 }
 

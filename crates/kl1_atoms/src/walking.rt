@@ -56,7 +56,15 @@ impl AtomTable {
     }
 
     /// Knows the text of a bucket that was seen, where it is the one that is looked up.
-    fn compare(&self, seat: &mut Seat<(), View>, text: &AtomText, bucket: u64, entry: u64, passed: u64, drafted: bool) -> Round
+    fn compare(
+        &self,
+        seat: &mut Seat<(), View>,
+        text: &AtomText,
+        bucket: u64,
+        entry: u64,
+        passed: u64,
+        drafted: bool,
+    ) -> Round
         requires of { seat.old.table_id ≡ self.now.table.shared.table_id }
         requires first { IsTrue (has_first seat.old.me.0.faces) }
         requires accounts { (own seat.old.me.0).accounts ≡ self.now.accounts }
@@ -96,7 +104,15 @@ impl AtomTable {
     }
 
     /// Looks at one bucket of a text's way, and publishes the text where the bucket is free.
-    fn round(&self, seat: &mut Seat<(), View>, text: &AtomText, bucket: u64, entry: u64, passed: u64, drafted: bool) -> Round
+    fn round(
+        &self,
+        seat: &mut Seat<(), View>,
+        text: &AtomText,
+        bucket: u64,
+        entry: u64,
+        passed: u64,
+        drafted: bool,
+    ) -> Round
         requires of { seat.old.table_id ≡ self.now.table.shared.table_id }
         requires first { IsTrue (has_first seat.old.me.0.faces) }
         requires accounts { (own seat.old.me.0).accounts ≡ self.now.accounts }
@@ -130,7 +146,13 @@ impl AtomTable {
     }
 
     /// Looks a text up that isn't built in.
-    pub(crate) fn search(&self, seat: &mut Seat<(), View>, text: &AtomText, entry: u64, used: u64) -> Ended
+    pub(crate) fn search(
+        &self,
+        seat: &mut Seat<(), View>,
+        text: &AtomText,
+        entry: u64,
+        used: u64,
+    ) -> Ended
         requires of { seat.old.table_id ≡ self.now.table.shared.table_id }
         requires first { IsTrue (has_first seat.old.me.0.faces) }
         requires accounts { (own seat.old.me.0).accounts ≡ self.now.accounts }

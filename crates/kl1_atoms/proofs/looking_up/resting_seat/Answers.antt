@@ -1,6 +1,6 @@
 use Rattle.std.proofs.Common.{◌≡◌, ◌≤◌, [], ◌∷◌, length, sym, ap, ◌∙◌, subst, arith}
 use Rattle.kl1_atoms.specs.declared.face.Face.{Face}
-use Rattle.kl1_atoms.specs.Names.{AreNames}
+use Rattle.kl1_atoms.specs.Rule.{Listed}
 use Rattle.kl1_atoms.specs.Knowing.{no_names}
 use Rattle.kl1_atoms.specs.Seats.{face_in, resting, new_face}
 use Rattle.kl1_atoms.proofs.looking_up.resting_seat.Goals as goal
@@ -16,5 +16,5 @@ invariant_of-result c =
       used_up = omega arith;
       bound = omega arith;
       draft = ap (λ (g : Face). g.draft) f;
-      names = subst (λ (g : Face). AreNames g.knows) (sym f) no_names;
+      names = subst (λ (g : Face). Listed g.accounts g.knows) (sym f) (let none : Listed c.requires.0 [] = record { names = no_names; entries = λ t m e. cc } in none);
     }

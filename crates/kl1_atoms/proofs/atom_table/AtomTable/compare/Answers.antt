@@ -7,5 +7,5 @@ pub returns-else-has_text-clause-gives : goal.returns-else-has_text-clause-gives
 returns-else-has_text-clause-gives c =
     let seen = c.requires.seen in
     goes_on c.args.seat.now.me c.has_text.new.seat.me c.args.text.now c.args.self.now.accounts c.args.passed c.args.bucket c.args.drafted seen.0 c.has_text.ensures.same c.requires.first
-      c.requires.walks seen.1 seen.2 c.requires.way c.requires.accounts
-      (λ e. false≢true (sym c.if-has_text.false ∙ (c.has_text.ensures.is seen.0 seen.1 seen.3 seen.4).1 e)) c.requires.small
+    c.requires.walks seen.1 seen.2 c.requires.way c.requires.accounts
+    (λ e. false≢true (sym c.if-has_text.false ∙ (c.has_text.ensures.is seen.0 seen.1 seen.3 seen.4).1 e)) c.requires.small
