@@ -6,3 +6,4 @@ pub mod Rule
 pub mod Plays
 pub mod Rounds
 pub mod Seats
+pub mod Laws
