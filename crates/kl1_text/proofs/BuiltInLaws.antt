@@ -1,9 +1,12 @@
 -- Built-in names differ in place and in text.
-use Rattle.std.proofs.Common.{◌≡◌, Some, ◌<◌, lit<, refl, sym, ap, ◌∙◌, IsTrue}
+use Rattle.std.proofs.Common.{◌≡◌, ℕ, ◌<◌, ◌==◌, Bool, true, false, List, [], ◌∷◌, Option, Some, None, find, slice_get, bytes_eq, lit<, refl, sym, ap, ◌∙◌, inl, inr, IsTrue}
+use Rattle.std.proofs.lemmas.Bool.{cases_Bool, eqb-true, agree_below_at}
+use Rattle.std.proofs.lemmas.Option.{slice_get_within}
+use Rattle.std.proofs.lemmas.Slice.Eq.{bytes_eq-Decides}
 use Rattle.kl1_model.specs.declared.built_in.BuiltIn.{BuiltIn}
 use Rattle.kl1_model.specs.declared.built_in.BuiltIn.TheVariants.{EmptyList, ListCell, Colon, Equal, NotEqual, Assign, Less, Greater, AtMost, AtLeast, SameNumber, OtherNumber, Plus, Minus, Times, Divide, Modulo, True, Otherwise, Wait, Integer, Atom, ListTest, AtomFrom, Shoen, Execute, Module, Priority, Started, Stopped, Resumed, Exhausted, Exception, Terminated, Aborted, Failure, Overflow, IllegalInput, Exhaustion, Stop, Start, Abort, Allow}
-use Rattle.kl1_model.specs.Text.{text_of, is_text}
-use Rattle.kl1_text.specs.Laws.{IsKnown, Differ, TextsRead}
+use Rattle.kl1_model.specs.Text.{text_of, is_text, built_ins}
+use Rattle.kl1_text.specs.Laws.{IsKnown, Differ, Found, TextsRead}
 use Rattle.kl1_text.specs.BuiltIns.{place_of, built_in_at, built_in_of}
 
 -- the name at a name's place is that name
@@ -194,6 +197,31 @@ place-below Allow = lit< tt
 some_is : (b c : BuiltIn) → Some b ≡ Some c → b ≡ c
 some_is b c e = cc
 
+-- what a search for a text among names finds has that text
+found_text : (bs : List BuiltIn) (t : List ℕ) (b : BuiltIn) → find (λ c. bytes_eq (text_of c) t) bs ≡ Some b → text_of b ≡ t
+found_text [] t b e = cc
+found_text (c ∷ bs) t b e = elim (cases_Bool (bytes_eq (text_of c) t)) [
+  | inl same ↦ let is : c ≡ b = some_is c b (rw same at e) in rw (← is) ((bytes_eq-Decides (text_of c) t).0 same)
+  | inr other ↦ found_text bs t b (rw other at e)
+]
+
+-- the built-in name of a text has that text
+pub text_found : (t : List ℕ) (b : BuiltIn) → built_in_of t ≡ Some b → text_of b ≡ t
+text_found t b e = found_text built_ins t b e
+
+-- whether a name stands at its own place
+in_place : Option BuiltIn → ℕ → Bool
+in_place None n = false
+in_place (Some b) n = place_of b == n
+
+-- the built-in name at a place has that place
+pub place_found : (n : ℕ) (b : BuiltIn) → built_in_at n ≡ Some b → place_of b ≡ n
+unfolding in_place
+place_found n b e =
+    let within : n < 43 = slice_get_within built_ins n b e in
+    let all : in_place (slice_get built_ins n) n ≡ true = agree_below_at (λ k. in_place (slice_get built_ins k) k) (λ _. true) 43 n refl within in
+    eqb-true (place_of b) n (rw e at all)
+
 pub known : (b : BuiltIn) → IsKnown b
 known b = record { name = built_ins_are_texts b; by_text = of_text b; by_place = at_place b; below = place-below b }
 
@@ -202,6 +230,9 @@ differ = record {
   texts = λ b c e. some_is b c (sym (of_text b) ∙ ap built_in_of e ∙ of_text c);
   places = λ b c e. some_is b c (sym (at_place b) ∙ ap built_in_at e ∙ at_place c);
 }
+
+pub found : Found
+found = record { texts = text_found; places = place_found }
 
 pub texts_read : TextsRead
 texts_read = record { once = λ a b e. e; texts = λ b. refl }

@@ -17,6 +17,11 @@ pub record Differ : Type 0 where
   pub texts : (b c : BuiltIn) → text_of b ≡ text_of c → b ≡ c
   pub places : (b c : BuiltIn) → place_of b ≡ place_of c → b ≡ c
 
+-- what is found by a text or at a place has that text or that place
+pub record Found : Type 0 where
+  pub texts : (t : List ℕ) (b : BuiltIn) → built_in_of t ≡ Some b → text_of b ≡ t
+  pub places : (n : ℕ) (b : BuiltIn) → built_in_at n ≡ Some b → place_of b ≡ n
+
 -- texts read as themselves are a reading of names
 abbrev pub TextsRead : Type 0
 TextsRead = Reads {N = List ℕ} text_of (λ a. a)

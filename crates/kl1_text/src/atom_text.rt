@@ -5,9 +5,10 @@ ghost use Rattle.kl1_model.specs.Text.{is_text, text_of};
 ghost use Rattle.kl1_model.specs.Name.{name_text, atom_text};
 ghost use Rattle.kl1_model.specs.declared.built_in.BuiltIn.{BuiltIn};
 ghost use Rattle.kl1_text.specs.BuiltIns.{built_in_of};
+ghost use Rattle.kl1_text.specs.Words.{words_of, bytes_of};
 
 use crate::built_ins::find_built_in;
-use crate::literals::bytes_of;
+use crate::literals::bytes_of as literal;
 use crate::name_value::NameValue;
 use crate::packing::{is_text, words_of};
 use crate::printing::{is_bare, quoted};
@@ -75,7 +76,7 @@ impl AtomText {
     pub fn of_built_in(built_in: BuiltIn) -> Self
         ensures { result ≡ text_of built_in }
     {
-        AtomText::of(bytes_of(built_in))
+        AtomText::of(literal(built_in))
     }
 
     /// The bytes of the name.
@@ -89,6 +90,29 @@ impl AtomText {
             out.put_number(*word, 8);
         }
         out
+    }
+
+    /// The eight words that hold the name.
+    pub fn words(&self) -> [u64; 8]
+        ensures { result ≡ words_of 8 self.now }
+    {
+        self.words
+    }
+
+    /// The name that eight words hold.
+    pub fn of_words(words: [u64; 8]) -> Self
+        requires held { words ≡ words_of 8 (bytes_of words) }
+        requires name { IsTrue (is_text (bytes_of words)) }
+        ensures { result ≡ bytes_of words }
+    {
+        AtomText { words }
+    }
+
+    /// Tells a caller's proof that these bytes are a name. It does nothing.
+    pub fn shows_text(&self)
+        ensures { IsTrue (is_text self.now) }
+    {
+        let _ = &self.words;
     }
 
     /// The built-in name that this is, where it is one.

@@ -1,0 +1,12 @@
+use Rattle.std.proofs.Common.{◌≡◌, ℕ, ◌<◌, IsTrue, take}
+use Rattle.kl1_text.specs.Words.{words_of}
+use Rattle.kl1_atoms.specs.Plays.{own, Steps}
+use Rattle.kl1_atoms.specs.Rounds.{Drafts}
+use Rattle.kl1_atoms.proofs.atom_table.AtomTable.draft_text.Given as goal
+
+-- the words so far are drafted
+abbrev pub invariant-loop-word : goal.invariant-loop-word
+invariant-loop-word l = record {
+  of : l.seat.table_id ≡ l.initial.seat.table_id;
+  tells : Steps l.initial.seat.me l.seat.me (λ f g. Drafts f g (take l.word (words_of 8 l.text)));
+}

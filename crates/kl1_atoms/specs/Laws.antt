@@ -1,0 +1,17 @@
+-- What holds of the shared table between any two steps.
+use Rattle.std.specs.Prelude.{◌≡◌, ℕ, List}
+use Rattle.atomic_table.specs.Table.{State}
+use Rattle.kl1_atoms.specs.declared.face.Face.{Face}
+use Rattle.kl1_atoms.specs.declared.face.View.{View}
+use Rattle.kl1_atoms.specs.Names.{IsTable, StandIn}
+use Rattle.kl1_atoms.specs.Rule.{Stands, At, Mine, Kept}
+
+-- the words show a table of names, what each seat knows is in it, and no text stands in two buckets
+pub record ShowsNames (n : ℕ) (s : State (Unit {0}) View) : Type 0 where
+  pub table : IsTable (At n s.words)
+  pub known : (id k : ℕ) (f : Face) → Mine s.views id k f → StandIn (At n s.words) f.knows
+  pub once : (i j d e : ℕ) (t : List ℕ) → Stands n s.words i d t → Stands n s.words j e t → i ≡ j
+
+-- whatever state keeps the rule shows names
+abbrev pub RuleShowsNames : Type 0
+RuleShowsNames = (n : ℕ) (s : State (Unit {0}) View) → Kept n s → ShowsNames n s

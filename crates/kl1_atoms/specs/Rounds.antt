@@ -1,0 +1,75 @@
+-- What a look-up does to a seat's own face, bucket by bucket.
+use Rattle.std.specs.Prelude.{◌≡◌, ℕ, suc, ◌+◌, ◌*◌, ◌<◌, ◌≤◌, Bool, true, false, if◌then◌else◌, List, [], length, IsTrue, None}
+use Rattle.kl1_model.specs.Text.{is_text}
+use Rattle.kl1_text.specs.BuiltIns.{built_in_of}
+use Rattle.kl1_text.specs.Words.{words_of}
+use Rattle.kl1_text.specs.declared.atom_no.AtomNo.{AtomNo}
+use Rattle.kl1_atoms.specs.declared.face.Face.{Face}
+use Rattle.kl1_atoms.specs.declared.face.Heard.{Heard}
+use Rattle.kl1_atoms.specs.declared.round.Round.{Round}
+use Rattle.kl1_atoms.specs.declared.round.Round.TheVariants.{Found, Made, Other}
+use Rattle.kl1_atoms.specs.Names.{HasRoom, Adds}
+use Rattle.kl1_atoms.specs.Rule.{own_entry, Listed}
+use Rattle.kl1_atoms.specs.Plays.{In, Passed}
+
+-- the words that are drafted, if any are
+abbrev pub draft_of : Bool → List ℕ → List ℕ
+draft_of drafted t = if drafted then words_of 8 t else []
+
+-- a face in a look-up of a text, which has passed so many buckets
+pub record Walks (f : Face) (t : List ℕ) (d : ℕ) (drafted : Bool) : Type 0 where
+  pub name : IsTrue (is_text t)
+  pub other : built_in_of t ≡ None
+  pub room : HasRoom f.knows t
+  pub used_up : f.used ≤ length f.knows
+  pub passed : Passed f t d
+  pub draft : f.draft ≡ draft_of drafted t
+  pub drafted_room : drafted ≡ true → f.used < 1024
+
+-- the same account
+pub record SameAccount (f g : Face) : Type 0 where
+  pub accounts : g.accounts ≡ f.accounts
+  pub account : g.account ≡ f.account
+
+-- a face that has drafted words
+pub record Drafts (f g : Face) (ws : List ℕ) : Type 0 where
+  pub same : SameAccount f g
+  pub used : g.used ≡ f.used
+  pub knows : g.knows ≡ f.knows
+  pub heard : g.heard ≡ f.heard
+  pub draft : g.draft ≡ ws
+
+-- the end of a look-up: the text is known by its number, and no draft is kept
+pub record Ends (f g : Face) (t : List ℕ) (e : ℕ) : Type 0 where
+  pub same : SameAccount f g
+  pub adds : Adds f.knows t record { number = 64 + e } g.knows
+  pub names : Listed g.accounts g.knows
+  pub used_up : g.used ≤ length g.knows
+  pub draft : g.draft ≡ []
+
+-- a face that goes on with the look-up, as far as a comparison tells
+pub record GoesOn (f g : Face) (t : List ℕ) (d : ℕ) (drafted : Bool) : Type 0 where
+  pub same : SameAccount f g
+  pub used : g.used ≡ f.used
+  pub knows : g.knows ≡ f.knows
+  pub walks : Walks g t d drafted
+  pub few : d ≤ 1024 * f.accounts + 1
+
+-- a look-up under way: the same account, which knows what it knew
+pub record OnTheWay (f g : Face) (t : List ℕ) (d : ℕ) (drafted : Bool) : Type 0 where
+  pub same : SameAccount f g
+  pub used : g.used ≡ f.used
+  pub knows : g.knows ≡ f.knows
+  pub walks : Walks g t d drafted
+
+-- what a comparison gives
+abbrev pub Compares : Face → Face → List ℕ → ℕ → Bool → Round → Type 0
+Compares f g t d drafted (Found e) = Ends f g t e × (g.used ≡ f.used) × (e < 1024 * f.accounts)
+Compares f g t d drafted Made = ⊥
+Compares f g t d drafted (Other still) = GoesOn f g t (d + 1) drafted × (still ≡ drafted)
+
+-- what a bucket gives
+abbrev pub Gives : Face → Face → List ℕ → ℕ → Round → Type 0
+Gives f g t d (Found e) = Ends f g t e × (g.used ≡ f.used) × (e < 1024 * f.accounts)
+Gives f g t d Made = Ends f g t (own_entry f) × (g.used ≡ f.used + 1) × (f.used < 1024)
+Gives f g t d (Other drafted) = GoesOn f g t (d + 1) drafted

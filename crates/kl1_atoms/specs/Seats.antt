@@ -1,0 +1,51 @@
+-- The seats of the shared table: how they are made, and what one shows.
+use Rattle.std.specs.Prelude.{◌≡◌, ℕ, zero, suc, ◌+◌, ◌<◌, List, [], ◌∷◌, length, take, drop}
+use Rattle.atomic_table.specs.Seated.{TableId}
+use Rattle.kl1_atoms.specs.declared.face.Face.{Face}
+use Rattle.kl1_atoms.specs.declared.face.View.{View}
+use Rattle.kl1_atoms.specs.Plays.{no_face, own}
+
+-- the face of an account that knows the built-in names alone
+abbrev pub new_face : ℕ → ℕ → Face
+new_face n account = record { accounts = n; account = account; used = 0; knows = []; heard = []; draft = [] }
+
+-- the faces of so many accounts, from one on
+abbrev pub faces_from : ℕ → ℕ → ℕ → List Face
+faces_from n account zero = []
+faces_from n account (suc count) = new_face n account ∷ faces_from n (account + 1) count
+
+-- the view of the first seat: all accounts' faces
+abbrev pub all_faces : ℕ → View
+all_faces n = record { faces = faces_from n 0 n }
+
+-- a view cut in two: its own face, and the others
+abbrev pub own_part : View → View
+own_part v = record { faces = take 1 v.faces }
+
+abbrev pub other_part : View → View
+other_part v = record { faces = drop 1 v.faces }
+
+-- the view of a seat at rest
+abbrev pub view_in : List View → View
+view_in [] = record { faces = [] }
+view_in (v ∷ vs) = v
+
+-- the face of a seat at rest
+abbrev pub face_in : List View → Face
+face_in vs = own (view_in vs)
+
+-- a seat at rest speaks for one account
+abbrev pub resting : Face → List View
+resting f = record { faces = f ∷ [] } ∷ []
+
+-- a seat is of a table: it is that table's, its face counts the table's accounts, and its account is one of them
+pub record IsSharedSeat (table seat : TableId) (accounts : ℕ) (face : Face) (account : ℕ) : Type 0 where
+  pub table_is : seat ≡ table
+  pub accounts_are : face.accounts ≡ accounts
+  pub within : account < accounts
+
+-- a seat as it is made: of the table, of its account, and with the built-in names alone
+pub record IsNewSharedSeat (table seat : TableId) (accounts : ℕ) (face : Face) (account place : ℕ) : Type 0 where
+  pub of : IsSharedSeat table seat accounts face account
+  pub account_is : account ≡ place
+  pub nothing : face.knows ≡ []

@@ -1,0 +1,23 @@
+// What one account knows of the shared table.
+
+ghost use Rattle.std.specs.Prelude.{◌≡◌, ◌≤◌, [], length};
+ghost use Rattle.kl1_atoms.specs.Rule.{Listed};
+ghost use Rattle.kl1_atoms.specs.Seats.{face_in, resting};
+
+use crate::face::View;
+use atomic_table::Badge;
+
+/// What one account knows of the shared table, and how many of its own entries it has used.
+#[derive(Drop)]
+pub struct AtomSeat {
+    pub(crate) badge: Badge<View>,
+    pub(crate) account: u64,
+    pub(crate) used: u64,
+    pub ghost rests: { badge.views ≡ resting (face_in badge.views) },
+    pub ghost account_is: { (face_in badge.views).account ≡ account },
+    pub ghost used_is: { (face_in badge.views).used ≡ used },
+    pub ghost used_up: { used ≤ length (face_in badge.views).knows },
+    pub ghost bound: { used ≤ 1024 },
+    pub ghost draft: { (face_in badge.views).draft ≡ [] },
+    pub ghost names: { Listed (face_in badge.views).accounts (face_in badge.views).knows },
+}

@@ -1,0 +1,97 @@
+// The table of names that threads share.
+
+ghost use Rattle.std.specs.Prelude.{◌≡◌, ℕ, suc, ◌+◌, ◌*◌, ◌<◌, ◌≤◌, List, IsTrue, length};
+ghost use Rattle.kl1_text.specs.Words.{words_of};
+ghost use Rattle.kl1_atoms.specs.declared.face.Heard.{Heard};
+ghost use Rattle.kl1_atoms.specs.Rule.{word_place, own_entry};
+ghost use Rattle.kl1_atoms.specs.Plays.{own, has_first, Steps, In, Looks, Reads, drafted_more, IsReady, Publishes, Learns};
+
+use crate::face::View;
+use crate::law::{Draft, Law, Learn, Look, Publish, Read};
+use atomic_table::{Seat, Table};
+use std::alloc::Global;
+
+/// A table of names for several accounts, in which many threads look names up at once, each with a seat of its own.
+#[derive(Drop)]
+pub struct AtomTable {
+    pub(crate) table: Table<(), View, u64, Law, Global>,
+    pub(crate) accounts: u64,
+    pub ghost key: { table.shared.key ≡ accounts },
+    pub ghost size: { table.shared.table_id.words ≡ 10240 * accounts },
+    pub ghost some: { 0 < accounts },
+    pub ghost few: { accounts ≤ 16 },
+}
+
+impl AtomTable {
+    /// Looks at a bucket.
+    pub(crate) fn look(&self, seat: &mut Seat<(), View>, bucket: u64) -> u64
+        requires of { seat.old.table_id ≡ self.now.table.shared.table_id }
+        requires first { IsTrue (has_first seat.old.me.0.faces) }
+        requires bucket { bucket < 2048 * self.now.accounts }
+        ensures of { seat.new.table_id ≡ seat.old.table_id }
+        ensures tells { Steps seat.old.me seat.new.me (λ f g. Looks f g bucket result) }
+    {
+        self.table.shared.load::<Look>(seat, bucket as usize)
+    }
+
+    /// Reads a word of an entry.
+    pub(crate) fn read(&self, seat: &mut Seat<(), View>, entry: u64, word: u64) -> u64
+        requires of { seat.old.table_id ≡ self.now.table.shared.table_id }
+        requires first { IsTrue (has_first seat.old.me.0.faces) }
+        requires entry { entry < 1024 * self.now.accounts }
+        requires word { word < 8 }
+        ensures of { seat.new.table_id ≡ seat.old.table_id }
+        ensures same { seat.new.me ≡ seat.old.me }
+        ensures tells { Reads (own seat.old.me.0) (word_place self.now.accounts entry word) result }
+    {
+        let place = 2048 * self.accounts + 8 * entry + word;
+        self.table.shared.load::<Read>(seat, place as usize)
+    }
+
+    /// Stores a word of the seat's own entry.
+    pub(crate) fn draft(&self, seat: &mut Seat<(), View>, entry: u64, word: u64, value: u64)
+        requires of { seat.old.table_id ≡ self.now.table.shared.table_id }
+        requires first { IsTrue (has_first seat.old.me.0.faces) }
+        requires room { (own seat.old.me.0).used < 1024 }
+        requires next { word ≡ length (own seat.old.me.0).draft }
+        requires entry { entry ≡ own_entry (own seat.old.me.0) }
+        requires bound { entry < 1024 * self.now.accounts }
+        requires word { word < 8 }
+        requires accounts { (own seat.old.me.0).accounts ≡ self.now.accounts }
+        ensures of { seat.new.table_id ≡ seat.old.table_id }
+        ensures tells { Steps seat.old.me seat.new.me (λ f g. g ≡ drafted_more f value) }
+    {
+        let place = 2048 * self.accounts + 8 * entry + word;
+        self.table
+            .shared
+            .store::<Draft>(seat, place as usize, value);
+    }
+
+    /// Publishes the seat's own entry in a free bucket, or finds who was first.
+    pub(crate) fn publish(&self, seat: &mut Seat<(), View>, bucket: u64, entry: u64) -> u64
+        requires of { seat.old.table_id ≡ self.now.table.shared.table_id }
+        requires first { IsTrue (has_first seat.old.me.0.faces) }
+        requires bucket { bucket < 2048 * self.now.accounts }
+        requires entry { entry ≡ own_entry (own seat.old.me.0) }
+        requires bound { entry < 1024 * self.now.accounts }
+        requires ready { (t : List ℕ) × (d : ℕ) × IsReady (own seat.old.me.0) t d bucket }
+        ensures of { seat.new.table_id ≡ seat.old.table_id }
+        ensures tells { Steps seat.old.me seat.new.me (λ f g. Publishes f g bucket result) }
+    {
+        self.table
+            .shared
+            .compare_exchange::<Publish>(seat, bucket as usize, 0, entry + 1)
+    }
+
+    /// Looks at a bucket that was seen, so that its text is known.
+    pub(crate) fn learn(&self, seat: &mut Seat<(), View>, bucket: u64)
+        requires of { seat.old.table_id ≡ self.now.table.shared.table_id }
+        requires first { IsTrue (has_first seat.old.me.0.faces) }
+        requires bucket { bucket < 2048 * self.now.accounts }
+        requires seen { (h : Heard) × In (own seat.old.me.0).heard h × (h.bucket ≡ bucket) }
+        ensures of { seat.new.table_id ≡ seat.old.table_id }
+        ensures tells { Steps seat.old.me seat.new.me (λ f g. Learns f g bucket) }
+    {
+        let _ = self.table.shared.load::<Learn>(seat, bucket as usize);
+    }
+}

@@ -1,0 +1,9 @@
+// What holds of the shared table between any two steps.
+
+ghost use Rattle.kl1_atoms.specs.Laws.{RuleShowsNames};
+
+/// At each moment the shared table's words show a table of names, what each seat knows is in it, and no text is published
+/// twice.
+pub fn words_show_names()
+    ensures { RuleShowsNames }
+{}

@@ -1,0 +1,28 @@
+//! The table of names that accounts share: a number for each name, and each account's own view of it.
+#![tactic(auto)]
+
+mod atom_seat;
+mod atom_source;
+mod atom_table;
+mod face;
+mod known;
+mod law;
+mod laws;
+mod looking_up;
+mod plain_seat;
+mod plain_table;
+mod round;
+mod shared_atoms;
+#[cfg(test)]
+mod tests;
+mod walking;
+
+pub use atom_seat::AtomSeat;
+pub use atom_source::AtomSource;
+pub use atom_table::AtomTable;
+pub use face::{Face, Heard, View};
+pub use known::Known;
+pub use laws::words_show_names;
+pub use plain_seat::PlainSeat;
+pub use plain_table::{MOST_NAMES, PlainTable};
+pub use shared_atoms::SharedAtoms;

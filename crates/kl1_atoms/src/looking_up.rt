@@ -1,0 +1,150 @@
+// Making the shared table, and its public look-ups.
+
+ghost use Rattle.std.specs.Prelude.{◌≡◌, ℕ, ◌+◌, ◌-◌, ◌*◌, ◌<◌, ◌≤◌, List, [], ◌∷◌, Some, IsSome, IsTrue, IfOk, slice_get, vec_len};
+ghost use Rattle.kl1_atoms.specs.Names.{text_in, text_by, HasRoom, Adds};
+ghost use Rattle.kl1_text.specs.Words.{words_of};
+ghost use Rattle.kl1_atoms.specs.Plays.{own, has_first};
+ghost use Rattle.kl1_atoms.specs.Seats.{all_faces, own_part, other_part, face_in, IsSharedSeat, IsNewSharedSeat, new_face, faces_from};
+ghost use Rattle.kl1_atoms.specs.declared.atom_seat.AtomSeat.{AtomSeat};
+
+use crate::atom_seat::AtomSeat;
+use crate::atom_table::AtomTable;
+use crate::face::View;
+use crate::law::Parted;
+use atomic_table::{Badge, Seat, Table};
+use kl1_text::{AtomNo, AtomText, NameValue, built_in_at};
+use std::alloc::{AllocError, Global};
+use std::mem;
+
+impl AtomTable {
+    /// A table for 1 to 16 accounts, and a seat for each of them that knows the built-in names alone.
+    pub fn new(alloc: Global, accounts: usize) -> Result<(AtomTable, Vec<AtomSeat>), AllocError>
+        requires { (0 < accounts) × (accounts ≤ 16) }
+        ensures count { IfOk result (λ made. vec_len made.1 ≡ accounts) }
+        ensures seats { IfOk result (λ made. (k : ℕ) (seat : AtomSeat) → slice_get made.1.items k ≡ Some seat → IsNewSharedSeat made.0.table.shared.table_id seat.badge.table_id made.0.accounts (face_in seat.badge.views) seat.account k) }
+    {
+        let zeros = vec![in alloc; 0u64; 10240 * accounts]?;
+        let key = accounts as u64;
+        let (table, first) = Table::of_words(alloc, zeros.as_slice(), &key)?;
+        let atoms = AtomTable {
+            table,
+            accounts: key,
+        };
+        let seats = atoms.seats(alloc, first)?;
+        Ok((atoms, seats))
+    }
+
+    /// A seat for each account, cut off one after the other from the first seat, which speaks for all.
+    fn seats(&self, alloc: Global, first: Seat<(), View>) -> Result<Vec<AtomSeat>, AllocError>
+        requires of { first.table_id ≡ self.now.table.shared.table_id }
+        requires all { first.me ≡ (all_faces self.now.accounts, []) }
+        ensures count { IfOk result (λ seats. vec_len seats ≡ self.now.accounts) }
+        ensures seats { IfOk result (λ seats. (k : ℕ) (seat : AtomSeat) → slice_get seats.items k ≡ Some seat → IsNewSharedSeat self.now.table.shared.table_id seat.badge.table_id self.now.accounts (face_in seat.badge.views) seat.account k) }
+    {
+        let mut seats = Vec::new(alloc);
+        let mut rest = first;
+        for account in 0..self.accounts {
+            let seat = self.next_seat(&mut rest, account);
+            seats.push(seat)?;
+        }
+        Ok(seats)
+    }
+
+    /// The seat of the next account, cut off from the seat that speaks for those that are left.
+    fn next_seat(&self, rest: &mut Seat<(), View>, account: u64) -> AtomSeat
+        requires of { rest.old.table_id ≡ self.now.table.shared.table_id }
+        requires left { rest.old.me ≡ (record { faces = faces_from self.now.accounts account (self.now.accounts - account) }, []) }
+        requires within { account < self.now.accounts }
+        ensures of { rest.new.table_id ≡ rest.old.table_id }
+        ensures left { rest.new.me ≡ (record { faces = faces_from self.now.accounts (account + 1) (self.now.accounts - (account + 1)) }, []) }
+        ensures seat { IsNewSharedSeat self.now.table.shared.table_id result.badge.table_id self.now.accounts (face_in result.badge.views) result.account account }
+    {
+        let others = self.part(rest);
+        let own = mem::replace(rest, others);
+        resting_seat(own, account)
+    }
+
+    /// Cuts a seat's own account off: the new seat has the others.
+    fn part(&self, seat: &mut Seat<(), View>) -> Seat<(), View>
+        requires of { seat.old.table_id ≡ self.now.table.shared.table_id }
+        ensures of { seat.new.table_id ≡ seat.old.table_id }
+        ensures own { seat.new.me ≡ (own_part seat.old.me.0, seat.old.me.1) }
+        ensures other { result.me ≡ (other_part seat.old.me.0, []) }
+        ensures table { result.table_id ≡ seat.old.table_id }
+    {
+        self.table.shared.split_seat::<Parted>(seat)
+    }
+
+    /// The number of a name, which the seat knows from then on. It takes no memory and never waits.
+    pub fn intern(&self, seat: &mut AtomSeat, text: AtomText) -> AtomNo
+        requires of { IsSharedSeat self.now.table.shared.table_id seat.old.badge.table_id self.now.accounts (face_in seat.old.badge.views) seat.old.account }
+        requires room { HasRoom (face_in seat.old.badge.views).knows text }
+        ensures of { IsSharedSeat self.now.table.shared.table_id seat.new.badge.table_id self.now.accounts (face_in seat.new.badge.views) seat.new.account }
+        ensures account { seat.new.account ≡ seat.old.account }
+        ensures adds { Adds (face_in seat.old.badge.views).knows text result (face_in seat.new.badge.views).knows }
+    {
+        if let Some(built_in) = text.built_in() {
+            return AtomNo::of(built_in);
+        }
+        text.shows_text();
+        let entry = 1024 * seat.account + seat.used;
+        let used = seat.used;
+        let mut own = mem::replace(&mut seat.badge, Badge::blank()).into_seat();
+        let ended = self.search(&mut own, &text, entry, used);
+        seat.badge = own.into_badge();
+        seat.used = used + ended.more;
+        AtomNo {
+            number: 64 + ended.entry as u32,
+        }
+    }
+
+    /// Reads the words of an entry whose name the seat knows.
+    fn read_text(&self, seat: &mut Seat<(), View>, entry: u64) -> [u64; 8]
+        requires of { seat.old.table_id ≡ self.now.table.shared.table_id }
+        requires first { IsTrue (has_first seat.old.me.0.faces) }
+        requires accounts { (own seat.old.me.0).accounts ≡ self.now.accounts }
+        requires entry { entry < 1024 * self.now.accounts }
+        ensures of { seat.new.table_id ≡ seat.old.table_id }
+        ensures same { seat.new.me ≡ seat.old.me }
+        ensures words { (t : List ℕ) → text_in (own seat.old.me.0).knows (64 + entry) ≡ Some t → result ≡ words_of 8 t }
+    {
+        let mut words = [0u64; 8];
+        for word in 0..8 {
+            words[word] = self.read(seat, entry, word as u64);
+        }
+        words
+    }
+
+    /// The name of a number that the seat knows. It takes no memory and never waits.
+    pub fn text_of(&self, seat: &mut AtomSeat, number: AtomNo) -> AtomText
+        requires of { IsSharedSeat self.now.table.shared.table_id seat.old.badge.table_id self.now.accounts (face_in seat.old.badge.views) seat.old.account }
+        requires known { IsSome (text_by (face_in seat.old.badge.views).knows number.number) }
+        ensures of { IsSharedSeat self.now.table.shared.table_id seat.new.badge.table_id self.now.accounts (face_in seat.new.badge.views) seat.new.account }
+        ensures account { seat.new.account ≡ seat.old.account }
+        ensures same { (face_in seat.new.badge.views).knows ≡ (face_in seat.old.badge.views).knows }
+        ensures text { text_by (face_in seat.old.badge.views).knows number.number ≡ Some result }
+    {
+        if let Some(built_in) = built_in_at(number.number) {
+            return AtomText::of_built_in(built_in);
+        }
+        let entry = u64::from(number.number - 64);
+        let mut own = mem::replace(&mut seat.badge, Badge::blank()).into_seat();
+        let words = self.read_text(&mut own, entry);
+        seat.badge = own.into_badge();
+        AtomText::of_words(words)
+    }
+}
+
+/// The seat of one account, at rest, which knows the built-in names alone.
+fn resting_seat(own: Seat<(), View>, account: u64) -> AtomSeat
+    requires { (n : ℕ) × (own.me ≡ (record { faces = new_face n account ∷ [] }, [])) }
+    ensures table { result.badge.table_id ≡ own.table_id }
+    ensures face { result.badge.views ≡ own.me.0 ∷ [] }
+    ensures account { result.account ≡ account }
+{
+    AtomSeat {
+        badge: own.into_badge(),
+        account,
+        used: 0,
+    }
+}

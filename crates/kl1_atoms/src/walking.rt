@@ -1,0 +1,197 @@
+// A look-up in the shared table, bucket by bucket.
+
+ghost use Rattle.std.specs.Prelude.{◌≡◌, ◌≢◌, ℕ, suc, ◌+◌, ◌*◌, ◌<◌, ◌≤◌, ◌↔◌, Bool, true, false, List, [], IsTrue, length};
+ghost use Rattle.kl1_model.specs.Text.{is_text};
+ghost use Rattle.kl1_text.specs.Words.{words_of};
+ghost use Rattle.kl1_atoms.specs.declared.face.Face.{Face};
+ghost use Rattle.kl1_atoms.specs.declared.face.Heard.{Heard};
+ghost use Rattle.kl1_atoms.specs.Way.{further, mixed, start};
+ghost use Rattle.kl1_atoms.specs.Rule.{own_entry};
+ghost use Rattle.kl1_atoms.specs.Plays.{own, has_first, with_first, Steps, In, Passed};
+ghost use Rattle.kl1_atoms.specs.Rounds.{Walks, Gives, SameAccount, Drafts, draft_of, Compares, Ends};
+
+use crate::atom_table::AtomTable;
+use crate::face::View;
+use crate::round::{Ended, Round};
+use atomic_table::Seat;
+use kl1_text::AtomText;
+
+impl AtomTable {
+    /// Whether an entry that was seen has a text.
+    fn has_text(&self, seat: &mut Seat<(), View>, entry: u64, text: &AtomText) -> bool
+        requires of { seat.old.table_id ≡ self.now.table.shared.table_id }
+        requires first { IsTrue (has_first seat.old.me.0.faces) }
+        requires accounts { (own seat.old.me.0).accounts ≡ self.now.accounts }
+        requires entry { entry < 1024 * self.now.accounts }
+        requires name { IsTrue (is_text text.now) }
+        ensures of { seat.new.table_id ≡ seat.old.table_id }
+        ensures same { seat.new.me ≡ seat.old.me }
+        ensures is { (h : Heard) → In (own seat.old.me.0).heard h → h.entry ≡ entry → IsTrue (is_text h.text) → IsTrue result ↔ (h.text ≡ text.now) }
+    {
+        let words = text.words();
+        for word in 0..8 {
+            if self.read(seat, entry, word as u64) != words[word] {
+                return false;
+            }
+        }
+        true
+    }
+
+    /// Drafts a text in the seat's own entry.
+    fn draft_text(&self, seat: &mut Seat<(), View>, entry: u64, text: &AtomText)
+        requires of { seat.old.table_id ≡ self.now.table.shared.table_id }
+        requires first { IsTrue (has_first seat.old.me.0.faces) }
+        requires accounts { (own seat.old.me.0).accounts ≡ self.now.accounts }
+        requires room { (own seat.old.me.0).used < 1024 }
+        requires empty { (own seat.old.me.0).draft ≡ [] }
+        requires entry { entry ≡ own_entry (own seat.old.me.0) }
+        requires bound { entry < 1024 * self.now.accounts }
+        ensures of { seat.new.table_id ≡ seat.old.table_id }
+        ensures tells { Steps seat.old.me seat.new.me (λ f g. Drafts f g (words_of 8 text.now)) }
+    {
+        let words = text.words();
+        for word in 0..8 {
+            self.draft(seat, entry, word as u64, words[word]);
+        }
+    }
+
+    /// Knows the text of a bucket that was seen, where it is the one that is looked up.
+    fn compare(
+        &self,
+        seat: &mut Seat<(), View>,
+        text: &AtomText,
+        bucket: u64,
+        entry: u64,
+        passed: u64,
+        drafted: bool,
+    ) -> Round
+        requires of { seat.old.table_id ≡ self.now.table.shared.table_id }
+        requires first { IsTrue (has_first seat.old.me.0.faces) }
+        requires accounts { (own seat.old.me.0).accounts ≡ self.now.accounts }
+        requires way { bucket ≡ further self.now.accounts text.now passed }
+        requires within { bucket < 2048 * self.now.accounts }
+        requires entry { entry < 1024 * self.now.accounts }
+        requires walks { Walks (own seat.old.me.0) text.now passed drafted }
+        requires small { passed ≤ 1024 * self.now.accounts }
+        requires seen { (h : Heard) × In (own seat.old.me.0).heard h × (h.bucket ≡ bucket) × (h.entry ≡ entry) × IsTrue (is_text h.text) }
+        ensures of { seat.new.table_id ≡ seat.old.table_id }
+        ensures gives { Steps seat.old.me seat.new.me (λ f g. Compares f g text.now passed drafted result) }
+    {
+        if self.has_text(seat, entry, text) {
+            self.learn(seat, bucket);
+            Round::Found(entry)
+        } else {
+            Round::Other(drafted)
+        }
+    }
+
+    /// Drafts a text in the seat's own entry, where that isn't done.
+    fn have_draft(&self, seat: &mut Seat<(), View>, entry: u64, text: &AtomText, drafted: bool)
+        requires of { seat.old.table_id ≡ self.now.table.shared.table_id }
+        requires first { IsTrue (has_first seat.old.me.0.faces) }
+        requires accounts { (own seat.old.me.0).accounts ≡ self.now.accounts }
+        requires room { (own seat.old.me.0).used < 1024 }
+        requires draft { (own seat.old.me.0).draft ≡ draft_of drafted text.now }
+        requires entry { entry ≡ own_entry (own seat.old.me.0) }
+        requires bound { entry < 1024 * self.now.accounts }
+        ensures of { seat.new.table_id ≡ seat.old.table_id }
+        ensures tells { Steps seat.old.me seat.new.me (λ f g. Drafts f g (words_of 8 text.now)) }
+    {
+        if drafted {
+            return;
+        }
+        self.draft_text(seat, entry, text);
+    }
+
+    /// Looks at one bucket of a text's way, and publishes the text where the bucket is free.
+    fn round(
+        &self,
+        seat: &mut Seat<(), View>,
+        text: &AtomText,
+        bucket: u64,
+        entry: u64,
+        passed: u64,
+        drafted: bool,
+    ) -> Round
+        requires of { seat.old.table_id ≡ self.now.table.shared.table_id }
+        requires first { IsTrue (has_first seat.old.me.0.faces) }
+        requires accounts { (own seat.old.me.0).accounts ≡ self.now.accounts }
+        requires way { bucket ≡ further self.now.accounts text.now passed }
+        requires within { bucket < 2048 * self.now.accounts }
+        requires entry { entry ≡ own_entry (own seat.old.me.0) }
+        requires account { (own seat.old.me.0).account < self.now.accounts }
+        requires walks { Walks (own seat.old.me.0) text.now passed drafted }
+        requires few { passed + 1 ≤ 2048 * self.now.accounts }
+        ensures of { seat.new.table_id ≡ seat.old.table_id }
+        ensures gives { Steps seat.old.me seat.new.me (λ f g. Gives f g text.now passed result) }
+    {
+        let value = self.look(seat, bucket);
+        if value > 0 {
+            return self.compare(seat, text, bucket, value - 1, passed, drafted);
+        }
+        self.have_draft(seat, entry, text, drafted);
+        let value = self.publish(seat, bucket, entry);
+        if value == 0 {
+            return Round::Made;
+        }
+        self.compare(seat, text, bucket, value - 1, passed, true)
+    }
+
+    /// The bucket where a look-up of a text starts.
+    pub fn first_bucket(&self, text: AtomText) -> u64
+        ensures value { result ≡ start self.now.accounts text }
+        ensures within { result < 2048 * self.now.accounts }
+    {
+        mixed(&text.words()) % (2048 * self.accounts)
+    }
+
+    /// Looks a text up that isn't built in.
+    pub(crate) fn search(
+        &self,
+        seat: &mut Seat<(), View>,
+        text: &AtomText,
+        entry: u64,
+        used: u64,
+    ) -> Ended
+        requires of { seat.old.table_id ≡ self.now.table.shared.table_id }
+        requires first { IsTrue (has_first seat.old.me.0.faces) }
+        requires accounts { (own seat.old.me.0).accounts ≡ self.now.accounts }
+        requires account { (own seat.old.me.0).account < self.now.accounts }
+        requires entry { entry ≡ own_entry (own seat.old.me.0) }
+        requires used { used ≡ (own seat.old.me.0).used }
+        requires bound { used ≤ 1024 }
+        requires walks { Walks (own seat.old.me.0) text.now 0 false }
+        ensures of { seat.new.table_id ≡ seat.old.table_id }
+        ensures ends { Steps seat.old.me seat.new.me (λ f g. Ends f g text.now result.entry × (g.used ≡ f.used + result.more)) }
+        ensures entry { result.entry < 1024 * self.now.accounts }
+        ensures more { used + result.more ≤ 1024 }
+    {
+        let start = self.first_bucket(*text);
+        let mut drafted = false;
+        for passed in 0..2048 * self.accounts {
+            let bucket = (start + passed) % (2048 * self.accounts);
+            match self.round(seat, text, bucket, entry, passed, drafted) {
+                Round::Found(found) => {
+                    return Ended {
+                        entry: found,
+                        more: 0,
+                    };
+                }
+                Round::Made => return Ended { entry, more: 1 },
+                Round::Other(still) => drafted = still,
+            }
+        }
+        unreachable!()
+    }
+}
+
+/// Words mixed into a number below a prime, one after another.
+fn mixed(words: &[u64]) -> u64
+    ensures value { result ≡ mixed 0 words.now }
+{
+    let mut number = 0;
+    for word in words {
+        number = (number + *word % 4_294_967_291) % 4_294_967_291 * 1_640_531_527 % 4_294_967_291;
+    }
+    number
+}
