@@ -1,20 +1,18 @@
 -- What sound words show: a table of names, no text twice, and no more names than entries.
-use Rattle.std.proofs.Common.{◌≡◌, ◌≢◌, ℕ, zero, suc, ◌+◌, ◌-◌, ◌*◌, ◌%◌, ◌<◌, ◌≤◌, ◌⊎◌, List, [], ◌∷◌, ◌++◌, length, Option, Some, None, get_or, slice_index, IsTrue, refl, sym, ap, ◌∙◌, subst, inl, inr, arith, eqb, true, false, ◌||◌}
+use Rattle.std.proofs.Common.{◌≡◌, ◌≢◌, ℕ, zero, suc, ◌+◌, ◌-◌, ◌*◌, ◌<◌, ◌≤◌, List, [], ◌∷◌, length, Option, Some, None, slice_index, IsTrue, refl, sym, ap, ◌∙◌, subst, inl, inr, arith, eqb, true, false}
 use Rattle.std.specs.List.{IsDistinct, AllByRecursion, list_any}
-use Rattle.std.proofs.lemmas.Bool.{cases_order, cases_eq, ne_eqb, eqb-true, or_cases}
+use Rattle.std.proofs.lemmas.Bool.{cases_order, ne_eqb, eqb-true, or_cases}
 use Rattle.std.proofs.lemmas.Map.Steps.{length-le_from_distinct_below}
-use Rattle.kl1_text.specs.BuiltIns.{built_in_of}
 use Rattle.kl1_text.specs.Words.{words_of, bytes_of}
 use Rattle.kl1_text.proofs.Words.{words_hold}
 use Rattle.kl1_model.specs.Text.{is_text}
 use Rattle.atomic_table.proofs.Lists.{one_turn}
-use Rattle.kl1_atoms.specs.declared.known.Known.{Known}
 use Rattle.kl1_atoms.specs.declared.face.Face.{Face}
 use Rattle.kl1_atoms.specs.declared.face.Heard.{Heard}
-use Rattle.kl1_atoms.specs.Names.{number_in, IsTable, StandIn}
+use Rattle.kl1_atoms.specs.Names.{number_in, IsTable}
 use Rattle.kl1_atoms.specs.Knowing.{are_names}
 use Rattle.kl1_atoms.specs.Way.{start, further}
-use Rattle.kl1_atoms.specs.Rule.{word_place, Shows, Stands, At, Others, Reaches, Sound, AllStand, Fits, Listed}
+use Rattle.kl1_atoms.specs.Rule.{Stands, At, Others, Reaches, Sound, AllStand, Fits, Listed}
 use Rattle.kl1_atoms.specs.Plays.{In, Passed}
 
 -- lists of one length with the same elements are one

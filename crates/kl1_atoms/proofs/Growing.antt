@@ -1,23 +1,17 @@
 -- What is so of the shared table's words stays so.
-use Rattle.std.proofs.Common.{◌≡◌, ◌≢◌, ℕ, zero, suc, ◌+◌, ◌-◌, ◌*◌, ◌<◌, ◌≤◌, ◌⊎◌, List, [], ◌∷◌, ◌++◌, length, Option, Some, None, get_or, set, slice_index, slice_set, IsTrue, refl, sym, ap, ◌∙◌, subst, inl, inr, arith}
+use Rattle.std.proofs.Common.{◌≡◌, ◌≢◌, ℕ, zero, suc, ◌+◌, ◌*◌, ◌<◌, ◌⊎◌, List, [], ◌∷◌, ◌++◌, length, slice_index, slice_set, refl, sym, ap, ◌∙◌, subst, inl, inr, arith}
 use Rattle.std.proofs.lemmas.Bool.{cases_eq}
-use Rattle.std.proofs.lemmas.List.{length-set, get_or-set_same, get_or-set_other, set-get_or}
+use Rattle.std.proofs.lemmas.List.{length-set, get_or-set_same, get_or-set_other}
 use Rattle.std.proofs.Math.ListN.{length-append}
 use mathlib.Core.Option.{some}
 use lib.ListN.{get_elem?}
-use Rattle.kl1_text.specs.BuiltIns.{built_in_of}
-use Rattle.kl1_text.specs.Words.{words_of}
-use Rattle.kl1_model.specs.Text.{is_text}
-use Rattle.atomic_table.specs.Table.{State}
 use Rattle.atomic_table.proofs.Lists.{at_set}
-use Rattle.kl1_atoms.specs.declared.known.Known.{Known}
 use Rattle.kl1_atoms.specs.declared.face.Face.{Face}
 use Rattle.kl1_atoms.specs.declared.face.Heard.{Heard}
 use Rattle.kl1_atoms.specs.declared.face.View.{View}
-use Rattle.kl1_atoms.specs.Names.{StandIn}
-use Rattle.kl1_atoms.specs.Knowing.{stand_on, stand_more}
+use Rattle.kl1_atoms.specs.Knowing.{stand_on}
 use Rattle.kl1_atoms.specs.Way.{further}
-use Rattle.kl1_atoms.specs.Rule.{word_place, Shows, Stands, At, Others, Reaches, Sound, Unpublished, AllStand, own_entry, Fits, Mine, Kept}
+use Rattle.kl1_atoms.specs.Rule.{word_place, Stands, At, Others, Reaches, Sound, AllStand, own_entry, Fits, Mine, Kept}
 
 -- words after others: buckets that point to an entry still do, and the entry's words are the same
 pub record Grows (n : ℕ) (ws vs : List ℕ) : Type 0 where

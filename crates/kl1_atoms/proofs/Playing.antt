@@ -1,29 +1,28 @@
 -- Each step of a look-up keeps the rule of the shared table, and tells its play.
-use Rattle.std.proofs.Common.{◌≡◌, ◌≢◌, ℕ, zero, suc, ◌+◌, ◌-◌, ◌*◌, ◌<◌, ◌≤◌, ◌⊎◌, List, [], ◌∷◌, ◌++◌, length, Option, Some, None, get_or, set, slice_index, slice_set, IsTrue, IsSome, is_some, is_none, refl, sym, ap, ◌∙◌, subst, inl, inr, arith, eqb, true, false, Bool}
+use Rattle.std.proofs.Common.{◌≡◌, ℕ, suc, ◌+◌, ◌-◌, ◌*◌, ◌<◌, ◌≤◌, ◌⊎◌, List, [], ◌∷◌, length, Some, slice_index, slice_set, IsTrue, is_some, refl, sym, ap, ◌∙◌, subst, inl, inr, arith, eqb}
 use Rattle.std.proofs.lemmas.Bool.{cases_eq, cases_Bool, false≢true}
 use Rattle.std.proofs.lemmas.List.{set-get_or}
 use Rattle.std.proofs.Math.ListN.{length-append}
 use mathlib.Core.Option.{some, none}
 use lib.ListN.{get_elem?}
-use Rattle.kl1_text.specs.BuiltIns.{built_in_of}
 use Rattle.kl1_text.specs.Words.{words_of, bytes_of}
 use Rattle.kl1_text.proofs.Words.{words_hold}
 use prog.Atomic.{either}
 use Rattle.std.proofs.lemmas.Bool.{eq-eqb, ne_eqb}
 use Rattle.kl1_model.specs.Text.{is_text}
-use Rattle.atomic_table.specs.Table.{State, Step, step, Me, Act, keeps, Allows}
+use Rattle.atomic_table.specs.Table.{State, step, keeps, Allows}
 use Rattle.kl1_atoms.specs.declared.known.Known.{Known}
 use Rattle.kl1_atoms.specs.declared.face.Face.{Face}
 use Rattle.kl1_atoms.specs.declared.face.Heard.{Heard}
 use Rattle.kl1_atoms.specs.declared.face.View.{View}
-use Rattle.kl1_atoms.specs.Names.{number_by, number_in, StandIn, added, AreNames}
+use Rattle.kl1_atoms.specs.Names.{number_by, number_in, StandIn, added}
 use Rattle.kl1_atoms.specs.Knowing.{stand_more, option_cases, number_in-last}
 use Rattle.kl1_atoms.specs.Way.{further}
-use Rattle.kl1_atoms.specs.Rule.{word_place, Shows, Stands, At, Others, Sound, AllStand, own_entry, Fits, Mine, Kept}
-use Rattle.kl1_atoms.specs.Plays.{IsReady, no_face, first_of, has_first, with_first, own, In, Passed, heard_more, Sees, Looks, Reads, drafted_more, own_pair, published_by, Publishes, learned, Learns, Steps, LooksAt, ReadsAt, DraftsAt, PublishesAt, LearnsAt}
-use Rattle.kl1_atoms.proofs.Growing.{step_kept, grows_store, sound_store, fits_store_other, fits_store_own}
-use Rattle.kl1_atoms.proofs.Publishing.{face_after, grows_publish, sound_publish, fits_publish_other, fits_publish_own}
-use Rattle.kl1_atoms.proofs.Facing.{is_table, one_entry_of, length-words_of, knows_names, seen_stands, passed_others, not_known, few_others, one_text_at, same_name}
+use Rattle.kl1_atoms.specs.Rule.{word_place, Shows, Stands, At, Sound, own_entry, Fits, Kept}
+use Rattle.kl1_atoms.specs.Plays.{IsReady, has_first, own, In, heard_more, Sees, Looks, drafted_more, published_by, learned, LooksAt, ReadsAt, DraftsAt, PublishesAt, LearnsAt}
+use Rattle.kl1_atoms.proofs.Growing.{step_kept, sound_store, fits_store_other, fits_store_own}
+use Rattle.kl1_atoms.proofs.Publishing.{face_after, sound_publish, fits_publish_other, fits_publish_own}
+use Rattle.kl1_atoms.proofs.Facing.{is_table, one_entry_of, length-words_of, knows_names, seen_stands, passed_others, not_known, few_others, one_text_at}
 
 -- what holds of each view that has a first face holds of a view that has one
 pub by_first : (P : View → Type 0) → ((f : Face) (fs : List Face) → P record { faces = f ∷ fs }) → (fs : List Face) → IsTrue (has_first fs) → P record { faces = fs }

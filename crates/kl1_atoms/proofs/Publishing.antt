@@ -1,17 +1,15 @@
 -- An account's own drafted entry is published in a free bucket.
-use Rattle.std.proofs.Common.{◌≡◌, ◌≢◌, ℕ, zero, suc, ◌+◌, ◌-◌, ◌*◌, ◌<◌, ◌≤◌, ◌⊎◌, List, [], ◌∷◌, ◌++◌, length, Option, Some, None, get_or, set, slice_index, slice_set, IsTrue, refl, sym, ap, ◌∙◌, subst, inl, inr, arith}
+use Rattle.std.proofs.Common.{◌≡◌, ◌≢◌, ℕ, suc, ◌+◌, ◌*◌, ◌<◌, ◌⊎◌, List, [], ◌∷◌, ◌++◌, length, None, slice_index, slice_set, IsTrue, refl, sym, ap, ◌∙◌, subst, inl, inr, arith}
 use Rattle.std.proofs.lemmas.Bool.{cases_eq}
 use Rattle.std.proofs.lemmas.List.{length-set, get_or-set_same, get_or-set_other}
 use Rattle.std.proofs.Math.ListN.{length-append}
 use Rattle.kl1_text.specs.BuiltIns.{built_in_of}
-use Rattle.kl1_text.specs.Words.{words_of}
 use Rattle.kl1_model.specs.Text.{is_text}
 use Rattle.kl1_atoms.specs.declared.known.Known.{Known}
 use Rattle.kl1_atoms.specs.declared.face.Face.{Face}
-use Rattle.kl1_atoms.specs.Names.{StandIn}
 use Rattle.kl1_atoms.specs.Knowing.{stand_on, stand_more}
 use Rattle.kl1_atoms.specs.Way.{further}
-use Rattle.kl1_atoms.specs.Rule.{word_place, Shows, Stands, At, Others, Reaches, Sound, Unpublished, own_entry, Fits}
+use Rattle.kl1_atoms.specs.Rule.{word_place, Shows, Stands, At, Others, Reaches, Sound, own_entry, Fits}
 use Rattle.kl1_atoms.proofs.Growing.{Grows, stands_on, others_on, reaches_on, at_on, all_on}
 
 -- the pair that is published

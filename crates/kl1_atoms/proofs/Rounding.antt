@@ -1,8 +1,8 @@
 -- One bucket of a look-up.
-use Rattle.std.proofs.Common.{◌≡◌, ◌≢◌, ℕ, suc, ◌+◌, ◌-◌, ◌*◌, ◌<◌, ◌≤◌, ◌⊎◌, List, [], ◌∷◌, ◌++◌, length, Some, None, IsTrue, IsSome, refl, sym, ap, ◌∙◌, subst, inl, inr, arith, true, false, Bool}
+use Rattle.std.proofs.Common.{◌≡◌, ◌≢◌, ℕ, ◌+◌, ◌-◌, ◌*◌, ◌<◌, ◌≤◌, List, [], ◌∷◌, ◌++◌, Some, None, IsTrue, IsSome, refl, sym, ap, ◌∙◌, subst, inl, inr, arith, true, false, Bool}
 use Rattle.std.proofs.lemmas.Bool.{cases_eq, false≢true}
 use Rattle.std.proofs.Math.ListN.{length-append}
-use Rattle.kl1_text.specs.BuiltIns.{built_in_of, built_in_at}
+use Rattle.kl1_text.specs.BuiltIns.{built_in_at}
 use Rattle.kl1_text.specs.Words.{words_of, bytes_of}
 use Rattle.kl1_text.proofs.Words.{words_hold}
 use Rattle.kl1_model.specs.Text.{is_text}
@@ -11,14 +11,14 @@ use Rattle.kl1_atoms.specs.declared.known.Known.{Known}
 use Rattle.kl1_atoms.specs.declared.face.Face.{Face}
 use Rattle.kl1_atoms.specs.declared.face.Heard.{Heard}
 use Rattle.kl1_atoms.specs.declared.face.View.{View}
-use Rattle.kl1_atoms.specs.declared.round.Round.TheVariants.{Found, Made, Other}
+use Rattle.kl1_atoms.specs.declared.round.Round.TheVariants.{Made, Other}
 use Rattle.kl1_atoms.specs.Names.{number_in, text_in, text_by, HasRoom, Adds, AreNames}
 use Rattle.kl1_atoms.specs.Knowing.{adds_one, option_cases}
 use Rattle.kl1_atoms.specs.Way.{further}
 use Rattle.kl1_atoms.specs.Rule.{own_entry, Listed}
 use Rattle.kl1_atoms.specs.Plays.{own, first_of, has_first, with_first, In, Passed, heard_more, Sees, Looks, own_pair, published_by, Publishes, Steps, IsReady}
 use Rattle.kl1_atoms.specs.Seats.{face_in}
-use Rattle.kl1_atoms.specs.Rounds.{draft_of, Walks, SameAccount, Drafts, Ends, GoesOn, OnTheWay, Compares, Gives}
+use Rattle.kl1_atoms.specs.Rounds.{Walks, Drafts, Ends, GoesOn, OnTheWay, Compares, Gives}
 
 -- faces with their own first one
 pub same_first : (fs : List Face) → IsTrue (has_first fs) → fs ≡ with_first fs (first_of fs)

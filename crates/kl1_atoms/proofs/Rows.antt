@@ -8,7 +8,7 @@ use Rattle.kl1_model.specs.Text.{is_text}
 use Rattle.kl1_text.specs.BuiltIns.{built_in_of}
 use Rattle.kl1_atoms.specs.declared.known.Known.{Known}
 use Rattle.kl1_atoms.specs.Names.{IsTable, StandIn}
-use Rattle.kl1_atoms.specs.Plain.{StandsAt, IsSeatOf, IsNewSeat, Held}
+use Rattle.kl1_atoms.specs.Plain.{StandsAt, IsSeatOf, Held}
 use Rattle.kl1_atoms.specs.Knowing.{stand_more, stand_on}
 
 -- what a written place holds

@@ -1,10 +1,9 @@
 -- Names that are known, as numbers and as texts.
-use Rattle.std.proofs.Common.{◌≡◌, ◌≢◌, ℕ, suc, ◌+◌, ◌-◌, ◌<◌, ◌≤◌, ◌==◌, ◌⊎◌, if◌then◌else◌, List, [], ◌∷◌, ◌++◌, length, Option, Some, None, IsTrue, IsSome, is_some, nat_le, is_some, bytes_eq, refl, sym, ap, ◌∙◌, subst, inl, inr, arith, true, false, Bool, cond, Contains}
+use Rattle.std.proofs.Common.{◌≡◌, ℕ, ◌+◌, ◌<◌, ◌≤◌, ◌==◌, ◌⊎◌, List, [], ◌∷◌, ◌++◌, length, Option, Some, None, IsTrue, IsSome, is_some, nat_le, is_some, bytes_eq, refl, sym, ap, ◌∙◌, subst, inl, inr, arith}
 use Rattle.std.proofs.lemmas.Bool.{cases_Bool, eqb-true, eq-eqb, both_ways, and_parts}
 use Rattle.std.proofs.lemmas.Option.{slice_get_past}
 use Rattle.std.proofs.Math.ListN.{length-append}
 use Rattle.std.proofs.lemmas.Slice.Eq.{bytes_eq-Decides}
-use Rattle.kl1_model.specs.declared.built_in.BuiltIn.{BuiltIn}
 use Rattle.kl1_model.specs.Text.{is_text, text_of, built_ins, is_name_byte}
 use Rattle.kl1_text.specs.declared.atom_no.AtomNo.{AtomNo}
 use Rattle.kl1_text.specs.BuiltIns.{place_of, built_in_at, built_in_of}
@@ -13,7 +12,7 @@ use Rattle.std.specs.List.{list_all}
 use Rattle.kl1_text.proofs.Words.{name_byte_bounds}
 use Rattle.kl1_text.specs.Reading.{Reads}
 use Rattle.kl1_text.proofs.BuiltInLaws.{at_place, of_text, built_ins_are_texts, text_found, place_found}
-use Rattle.kl1_atoms.specs.Names.{number_in, text_in, place_or, text_or, number_by, text_by, added, Adds, AreNames, IsTable, StandIn, reading}
+use Rattle.kl1_atoms.specs.Names.{number_in, text_in, number_by, text_by, Adds, AreNames, IsTable, StandIn, reading}
 
 -- what an option holds
 some_is : (m n : ℕ) → Some m ≡ Some n → m ≡ n

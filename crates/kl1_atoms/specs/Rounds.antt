@@ -1,16 +1,14 @@
 -- What a look-up does to a seat's own face, bucket by bucket.
-use Rattle.std.specs.Prelude.{◌≡◌, ℕ, suc, ◌+◌, ◌*◌, ◌<◌, ◌≤◌, Bool, true, false, if◌then◌else◌, List, [], length, IsTrue, None}
+use Rattle.std.specs.Prelude.{◌≡◌, ℕ, ◌+◌, ◌*◌, ◌<◌, ◌≤◌, Bool, true, if◌then◌else◌, List, [], length, IsTrue, None}
 use Rattle.kl1_model.specs.Text.{is_text}
 use Rattle.kl1_text.specs.BuiltIns.{built_in_of}
 use Rattle.kl1_text.specs.Words.{words_of}
-use Rattle.kl1_text.specs.declared.atom_no.AtomNo.{AtomNo}
 use Rattle.kl1_atoms.specs.declared.face.Face.{Face}
-use Rattle.kl1_atoms.specs.declared.face.Heard.{Heard}
 use Rattle.kl1_atoms.specs.declared.round.Round.{Round}
 use Rattle.kl1_atoms.specs.declared.round.Round.TheVariants.{Found, Made, Other}
 use Rattle.kl1_atoms.specs.Names.{HasRoom, Adds}
 use Rattle.kl1_atoms.specs.Rule.{own_entry, Listed}
-use Rattle.kl1_atoms.specs.Plays.{In, Passed}
+use Rattle.kl1_atoms.specs.Plays.{Passed}
 
 -- the words that are drafted, if any are
 abbrev pub draft_of : Bool → List ℕ → List ℕ

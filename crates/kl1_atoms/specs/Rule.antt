@@ -1,5 +1,5 @@
 -- The rule of the shared table of names, for n accounts: 2,048 n buckets, and 1,024 n entries of eight words behind them.
-use Rattle.std.specs.Prelude.{◌≡◌, ◌≢◌, ℕ, suc, ◌+◌, ◌*◌, ◌<◌, ◌≤◌, List, [], ◌∷◌, ◌++◌, length, Option, Some, None, IsTrue, slice_index}
+use Rattle.std.specs.Prelude.{◌≡◌, ◌≢◌, ℕ, suc, ◌+◌, ◌*◌, ◌<◌, ◌≤◌, List, [], ◌∷◌, length, Some, None, IsTrue, slice_index}
 use mathlib.Core.Option.{some}
 use lib.ListN.{get_elem?}
 use Rattle.kl1_model.specs.Text.{is_text}
@@ -11,7 +11,7 @@ use Rattle.kl1_atoms.specs.declared.face.Heard.{Heard}
 use Rattle.kl1_atoms.specs.declared.face.View.{View}
 use Rattle.kl1_atoms.specs.declared.known.Known.{Known}
 use Rattle.kl1_atoms.specs.Names.{text_in, StandIn, AreNames}
-use Rattle.kl1_atoms.specs.Way.{start, further}
+use Rattle.kl1_atoms.specs.Way.{further}
 
 -- the place of an entry's word
 abbrev pub word_place : ℕ → ℕ → ℕ → ℕ

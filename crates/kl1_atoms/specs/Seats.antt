@@ -1,9 +1,9 @@
 -- The seats of the shared table: how they are made, and what one shows.
-use Rattle.std.specs.Prelude.{◌≡◌, ℕ, zero, suc, ◌+◌, ◌<◌, List, [], ◌∷◌, length, take, drop}
+use Rattle.std.specs.Prelude.{◌≡◌, ℕ, zero, suc, ◌+◌, ◌<◌, List, [], ◌∷◌, take, drop}
 use Rattle.atomic_table.specs.Seated.{TableId}
 use Rattle.kl1_atoms.specs.declared.face.Face.{Face}
 use Rattle.kl1_atoms.specs.declared.face.View.{View}
-use Rattle.kl1_atoms.specs.Plays.{no_face, own}
+use Rattle.kl1_atoms.specs.Plays.{own}
 
 -- the face of an account that knows the built-in names alone
 abbrev pub new_face : ℕ → ℕ → Face

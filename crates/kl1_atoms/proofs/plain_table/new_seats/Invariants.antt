@@ -1,4 +1,4 @@
-use Rattle.std.proofs.Common.{◌≡◌, ℕ, [], ◌<◌, Some, None, vec_len, slice_get}
+use Rattle.std.proofs.Common.{◌≡◌, ℕ, [], Some, vec_len, slice_get}
 use Rattle.kl1_atoms.specs.declared.plain_seat.PlainSeat.{PlainSeat}
 use Rattle.kl1_atoms.proofs.plain_table.new_seats.Given as goal
 

@@ -1,4 +1,4 @@
-use Rattle.std.proofs.Common.{◌≡◌, sym, ◌∙◌}
+use Rattle.std.proofs.Common.{sym, ◌∙◌}
 use Rattle.std.proofs.lemmas.Bool.{false≢true}
 use Rattle.kl1_atoms.proofs.Rounding.{goes_on}
 use Rattle.kl1_atoms.proofs.atom_table.AtomTable.compare.Goals as goal

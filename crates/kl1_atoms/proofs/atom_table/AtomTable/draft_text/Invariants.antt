@@ -1,6 +1,6 @@
-use Rattle.std.proofs.Common.{◌≡◌, ℕ, ◌<◌, IsTrue, take}
+use Rattle.std.proofs.Common.{◌≡◌, take}
 use Rattle.kl1_text.specs.Words.{words_of}
-use Rattle.kl1_atoms.specs.Plays.{own, Steps}
+use Rattle.kl1_atoms.specs.Plays.{Steps}
 use Rattle.kl1_atoms.specs.Rounds.{Drafts}
 use Rattle.kl1_atoms.proofs.atom_table.AtomTable.draft_text.Given as goal
 

@@ -1,4 +1,4 @@
-use Rattle.std.proofs.Common.{◌≡◌, ◌%◌, ◌*◌, ap, ◌∙◌}
+use Rattle.std.proofs.Common.{◌%◌, ◌*◌, ap, ◌∙◌}
 use Rattle.kl1_atoms.specs.Way.{mixed, start}
 use Rattle.kl1_atoms.proofs.atom_table.AtomTable.first_bucket.Goals as goal
 

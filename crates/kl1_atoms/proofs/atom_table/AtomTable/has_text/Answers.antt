@@ -1,4 +1,4 @@
-use Rattle.std.proofs.Common.{◌≡◌, ◌<◌, ◌≤◌, refl, arith}
+use Rattle.std.proofs.Common.{refl, arith}
 use Rattle.kl1_atoms.proofs.Facing.{same_name}
 use Rattle.kl1_atoms.proofs.atom_table.AtomTable.has_text.Goals as goal
 

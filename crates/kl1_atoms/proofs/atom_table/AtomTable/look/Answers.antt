@@ -1,9 +1,8 @@
-use Rattle.std.proofs.Common.{◌≡◌, ℕ, suc, ◌+◌, ◌*◌, ◌<◌, List, sym, subst, arith, eqb, refl, add-one}
+use Rattle.std.proofs.Common.{◌<◌, sym, subst, arith}
 use mathlib.Core.Option.{none}
 use Rattle.atomic_table.specs.Table.{step, Allows}
-use Rattle.kl1_atoms.specs.declared.face.View.{View}
-use Rattle.kl1_atoms.specs.Rule.{Kept, word_place}
-use Rattle.kl1_atoms.specs.Plays.{LooksAt, ReadsAt, DraftsAt, PublishesAt, LearnsAt}
+use Rattle.kl1_atoms.specs.Rule.{Kept}
+use Rattle.kl1_atoms.specs.Plays.{LooksAt}
 use Rattle.kl1_atoms.proofs.Playing.{allows_look}
 use Rattle.kl1_atoms.proofs.atom_table.AtomTable.look.Goals as goal
 

@@ -1,8 +1,5 @@
-use Rattle.std.proofs.Common.{◌≡◌, ℕ, ◌*◌, [], List, length, replicate, slice_index, sym, ap, ◌∙◌, rules}
-use Rattle.kl1_atoms.specs.Rule.{Kept}
-use Rattle.kl1_atoms.specs.Seats.{all_faces}
+use Rattle.std.proofs.Common.{◌≡◌, ℕ, ◌*◌, List, length, replicate, slice_index, ap, ◌∙◌, rules}
 use Rattle.kl1_atoms.proofs.Seating.{kept_first, zeros-length, zeros-index}
-use Rattle.atomic_table.specs.Table.{opening}
 use Rattle.kl1_atoms.proofs.atom_table.AtomTable.new.Goals as goal
 
 pub of_words-requires : goal.of_words-requires

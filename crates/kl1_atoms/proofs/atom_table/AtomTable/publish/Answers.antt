@@ -1,9 +1,8 @@
-use Rattle.std.proofs.Common.{◌≡◌, ℕ, suc, ◌+◌, ◌*◌, ◌<◌, List, sym, subst, arith, eqb, refl, add-one}
+use Rattle.std.proofs.Common.{◌+◌, ◌<◌, sym, subst, arith, eqb, add-one}
 use mathlib.Core.Option.{none}
 use Rattle.atomic_table.specs.Table.{step, Allows}
-use Rattle.kl1_atoms.specs.declared.face.View.{View}
-use Rattle.kl1_atoms.specs.Rule.{Kept, word_place}
-use Rattle.kl1_atoms.specs.Plays.{LooksAt, ReadsAt, DraftsAt, PublishesAt, LearnsAt}
+use Rattle.kl1_atoms.specs.Rule.{Kept}
+use Rattle.kl1_atoms.specs.Plays.{PublishesAt}
 use prog.Atomic.{either}
 use Rattle.kl1_atoms.proofs.Playing.{allows_publish}
 use Rattle.kl1_atoms.proofs.atom_table.AtomTable.publish.Goals as goal

@@ -1,4 +1,3 @@
-use Rattle.std.proofs.Common.{◌≡◌, ◌<◌, ◌∙◌, sym, ap, subst}
 use Rattle.kl1_text.specs.Words.{words_of}
 use Rattle.kl1_atoms.specs.Rounds.{Gives, Drafts}
 use Rattle.kl1_atoms.specs.declared.round.Round.TheVariants.{Made}

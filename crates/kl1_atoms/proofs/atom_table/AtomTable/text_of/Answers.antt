@@ -1,5 +1,5 @@
-use Rattle.std.proofs.Common.{◌≡◌, sym, ◌∙◌, ap, Some}
-use Rattle.kl1_atoms.proofs.Rounding.{ReadName, read_name}
+use Rattle.std.proofs.Common.{sym, ◌∙◌, ap, Some}
+use Rattle.kl1_atoms.proofs.Rounding.{read_name}
 use Rattle.kl1_atoms.proofs.atom_table.AtomTable.text_of.Goals as goal
 
 pub of_words-requires-clause-held : goal.of_words-requires-clause-held

@@ -1,6 +1,5 @@
-use Rattle.std.proofs.Common.{◌≡◌, ℕ, ◌<◌, [], Some, length, subst, sym, arith}
+use Rattle.std.proofs.Common.{◌<◌, arith}
 use Rattle.std.proofs.lemmas.Option.{slice_get_within}
-use Rattle.kl1_atoms.specs.Plain.{IsSeatOf}
 use Rattle.kl1_atoms.proofs.Rows.{new_seat}
 use Rattle.kl1_atoms.proofs.plain_table.PlainTable.new.Goals as goal
 
