@@ -1,0 +1,9 @@
+pub mod Balance
+pub mod Frames
+pub mod Openings
+pub mod Pages
+pub mod Lent
+pub mod Prints
+pub mod Rows
+pub mod Texts
+pub mod VariableFacts

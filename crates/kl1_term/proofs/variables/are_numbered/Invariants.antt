@@ -1,0 +1,12 @@
+-- the variables left are numbered behind those seen exactly where all are numbered
+use Rattle.std.proofs.Common.{◌≡◌, map, length}
+use Rattle.kl1_model.specs.Meaning.{numbered_after}
+use Rattle.kl1_term.specs.Nodes.{code_of}
+use Rattle.kl1_term.specs.Variables.{variables_in}
+use Rattle.kl1_term.proofs.variables.are_numbered.Given as goal
+
+abbrev pub invariant-loop-left : goal.invariant-loop-left
+invariant-loop-left l = numbered_after l.seen (variables_in (map code_of l.left)) ≡ numbered_after 0 (variables_in (map code_of l.initial.left))
+
+abbrev pub decreases-loop-left : goal.decreases-loop-left
+decreases-loop-left l = length l.left

@@ -1,0 +1,6 @@
+pub mod Nodes
+pub mod Openings
+pub mod Page
+pub mod Printing
+pub mod Variables
+pub mod Views

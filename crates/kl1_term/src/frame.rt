@@ -1,0 +1,12 @@
+// What is to be printed behind a term.
+
+/// What is to be printed behind the term that is being printed.
+#[derive(Clone, Copy)]
+pub enum Frame {
+    /// So many more arguments, each after a comma, and then `)`.
+    Arguments(usize),
+    /// The rest of a list, whose element the term is.
+    Tail,
+    /// The end of a list, whose last tail the term is.
+    Bracket,
+}

@@ -1,0 +1,26 @@
+//! Terms as values, and their text: whole, and cut after so many bytes.
+#![tactic(auto)]
+
+mod frame;
+mod mode;
+mod node;
+mod opening;
+mod page;
+mod part;
+mod parts;
+mod print;
+mod printer;
+mod sameness;
+mod term;
+#[cfg(test)]
+mod tests;
+mod variables;
+mod view;
+
+pub use node::Node;
+pub use part::Part;
+pub use parts::Parts;
+pub use print::{print_cut, print_whole, put_cut, put_whole};
+pub use printer::Printer;
+pub use term::Term;
+pub use view::View;

@@ -1,0 +1,63 @@
+// A text that is cut where it grows too long.
+
+ghost use Rattle.std.specs.Prelude.{◌≡◌, ℕ, List, [], ◌++◌, OnOk, IfOk, IsTrue};
+ghost use Rattle.kl1_term.specs.Page.{page_text, limited};
+
+use std::alloc::{AllocError, Global};
+
+/// The front of a text that is to be cut after `most` bytes, where that is given. What is put behind more than that is left out.
+#[derive(Drop)]
+pub struct Page {
+    pub bytes: Vec<u8>,
+    pub most: Option<usize>,
+}
+
+impl Page {
+    /// Nothing yet.
+    pub fn new(alloc: Global, most: Option<usize>) -> Self
+        ensures { (rest : List ℕ) → page_text result rest ≡ limited most rest }
+    {
+        Page {
+            bytes: Vec::new(alloc),
+            most,
+        }
+    }
+
+    /// Whether the text is too long already, so that what follows doesn't matter.
+    #[tactic(auto, using(crate::proofs::Pages::full_anyway))]
+    pub fn is_full(&self) -> bool
+        ensures { IsTrue result → (rest more : List ℕ) → page_text self.now rest ≡ page_text self.now more }
+    {
+        match self.most {
+            None => false,
+            Some(most) => self.bytes.len() > most,
+        }
+    }
+
+    /// Puts bytes behind the others.
+    #[tactic(auto, using(crate::proofs::Pages::whole_yet))]
+    pub fn put(&mut self, bytes: &[u8]) -> Result<(), AllocError>
+        ensures { OnOk result ((rest : List ℕ) → page_text self.new rest ≡ page_text self.old (bytes.now ++ rest)) }
+    {
+        if self.is_full() {
+            return Ok(());
+        }
+        self.bytes.extend_from_slice(bytes)
+    }
+
+    /// The whole text, with three dots where it was cut.
+    #[tactic(auto, using(crate::proofs::Pages::cut_at))]
+    pub fn into_text(self) -> Result<Vec<u8>, AllocError>
+        ensures { IfOk result (λ text. text.items ≡ page_text self []) }
+    {
+        let Page { bytes, most } = self;
+        let mut text = bytes;
+        if let Some(most) = most {
+            if text.len() > most {
+                text.truncate(most);
+                text.extend_from_slice(b"...")?;
+            }
+        }
+        Ok(text)
+    }
+}
