@@ -1,0 +1,5 @@
+pub mod Language
+pub mod NameLists
+pub mod Growth
+pub mod PutNodes
+pub mod ClauseFacts

@@ -1,0 +1,4 @@
+pub mod Clauses
+pub mod Instructions
+pub mod NameList
+pub mod Putting

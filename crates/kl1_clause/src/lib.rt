@@ -1,0 +1,15 @@
+//! Modules compiled once for all accounts: clauses as rows of instructions, whose names are places in the module's own list.
+#![tactic(auto)]
+
+mod clause_parts;
+mod compiled_clause;
+mod instruction;
+mod name;
+mod names;
+mod rows;
+
+pub use clause_parts::ClauseParts;
+pub use compiled_clause::CompiledClause;
+pub use instruction::Instruction;
+pub use name::Name;
+pub use names::Names;
