@@ -3,3 +3,5 @@ pub mod NameLists
 pub mod Growth
 pub mod PutNodes
 pub mod ClauseFacts
+pub mod CodeFacts
+pub mod Soundness
