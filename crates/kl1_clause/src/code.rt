@@ -97,7 +97,7 @@ impl Code {
 }
 
 /// Clauses compiled one after another, with their names put to the others.
-fn clauses_of(
+pub(crate) fn clauses_of(
     alloc: Global,
     names: &mut Names,
     parts: &[ClauseParts],

@@ -9,6 +9,8 @@ mod module_parts;
 mod name;
 mod names;
 mod rows;
+#[cfg(test)]
+mod tests;
 
 pub use clause_parts::ClauseParts;
 pub use code::Code;
