@@ -1,22 +1,20 @@
 -- Compiled clauses while names are added, and what they mean.
-use Rattle.std.proofs.Common.{◌≡◌, ℕ, suc, ◌+◌, ◌<◌, max, List, [], ◌∷◌, ◌++◌, length, map, take, get_or, refl, sym, ap, subst, ◌∙◌, arith, append-nil}
+use Rattle.std.proofs.Common.{◌≡◌, ℕ, ◌+◌, ◌<◌, max, List, [], ◌∷◌, ◌++◌, length, map, take, get_or, refl, sym, ap, subst, ◌∙◌, arith}
 use Rattle.std.proofs.lemmas.List.{take_more}
-use Rattle.kl1_model.specs.Term.{Term, Terms, none, more, terms_of, list_of, count_of}
-use Rattle.kl1_model.specs.TermCode.{NodeCode, nodes_of, nodes_of_all, read_nodes}
+use Rattle.kl1_model.specs.Term.{Term, Terms, terms_of, list_of, count_of}
+use Rattle.kl1_model.specs.TermCode.{NodeCode, nodes_of_all}
 use Rattle.kl1_model.specs.Meaning.{highest, highest_in}
 use Rattle.kl1_model.specs.Module.{Clause}
 use Rattle.kl1_model.specs.Instance.{head_variables, fresh_variables}
 use Rattle.kl1_model.specs.State.{names_in, names_of_clause}
 use Rattle.kl1_term.proofs.Lent.{row_is, list_of-terms_of, terms_of-list_of}
-use Rattle.kl1_term.proofs.Rows.{count_of-terms_of}
-use Rattle.kl1_clause.specs.declared.clause_parts.ClauseParts.{ClauseParts}
 use Rattle.kl1_clause.specs.declared.compiled_clause.CompiledClause.{CompiledClause}
 use Rattle.kl1_clause.specs.declared.instruction.Instruction.{Instruction}
 use Rattle.kl1_clause.specs.declared.name.Name.{Name}
 use Rattle.kl1_clause.specs.NameList.{with_text, with_texts}
 use Rattle.kl1_clause.specs.Instructions.{text_in, IsPlaced, IsRowOf, code_in}
-use Rattle.kl1_clause.specs.Clauses.{clause_of_parts, clause_in, terms_in, IsCompiled, AreCompiled}
-use Rattle.kl1_clause.proofs.Growth.{Grows, joined, one_grows, all_grow, with_one, with_none, with_more, with_both, name_stays, row_stays}
+use Rattle.kl1_clause.specs.Clauses.{clause_in, terms_in, IsCompiled, AreCompiled}
+use Rattle.kl1_clause.proofs.Growth.{Grows, joined, one_grows, all_grow, with_more, with_both, name_stays, row_stays}
 
 -- names with others behind them, where it is known which
 pub grown_by : (names new texts : List (List ℕ)) → new ≡ with_texts names texts → Grows names new

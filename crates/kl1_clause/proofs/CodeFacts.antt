@@ -1,13 +1,13 @@
 -- Clauses of a code, compiled one after another.
-use Rattle.std.proofs.Common.{◌≡◌, ℕ, ◌+◌, ◌<◌, List, [], ◌∷◌, ◌++◌, length, map, take, get_or, refl, sym, ap, subst, ◌∙◌, append-nil, append_assoc}
+use Rattle.std.proofs.Common.{◌≡◌, ℕ, ◌+◌, ◌<◌, List, [], ◌∷◌, ◌++◌, length, map, take, get_or, sym, ap, subst, ◌∙◌, append-nil, append_assoc}
 use Rattle.std.proofs.lemmas.List.{map-append, take_more}
-use Rattle.kl1_model.specs.Module.{Clause, Module}
-use Rattle.kl1_model.specs.State.{names_of_clause, names_of_clauses, names_of_module, with_names}
+use Rattle.kl1_model.specs.Module.{Clause}
+use Rattle.kl1_model.specs.State.{names_of_clause, names_of_clauses}
 use Rattle.kl1_clause.specs.declared.clause_parts.ClauseParts.{ClauseParts}
 use Rattle.kl1_clause.specs.declared.compiled_clause.CompiledClause.{CompiledClause}
-use Rattle.kl1_clause.specs.NameList.{with_text, with_texts}
-use Rattle.kl1_clause.specs.Clauses.{clause_of_parts, clause_in, IsCompiled, AreCompiled}
-use Rattle.kl1_clause.proofs.Growth.{Grows, with_none, with_more, with_both}
+use Rattle.kl1_clause.specs.NameList.{with_texts}
+use Rattle.kl1_clause.specs.Clauses.{clause_of_parts, IsCompiled, AreCompiled}
+use Rattle.kl1_clause.proofs.Growth.{with_none, with_both}
 use Rattle.kl1_clause.proofs.ClauseFacts.{grown_by, clauses_stay, clauses_push}
 
 -- the names of clauses with one more behind

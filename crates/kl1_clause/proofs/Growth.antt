@@ -1,9 +1,8 @@
 -- Names that are added, and rows that keep their meaning.
-use Rattle.std.proofs.Common.{◌≡◌, ℕ, ◌+◌, ◌<◌, ◌≤◌, Bool, true, false, cond, ◌||◌, List, [], ◌∷◌, ◌++◌, bytes_eq, length, map, get_or, refl, sym, ap, subst, ◌∙◌, arith, inl, inr, length-append, append-nil, append_assoc}
+use Rattle.std.proofs.Common.{◌≡◌, ℕ, Bool, true, false, cond, ◌||◌, List, [], ◌∷◌, ◌++◌, bytes_eq, length, map, refl, sym, ap, subst, ◌∙◌, arith, inl, inr, length-append, append-nil, append_assoc}
 use Rattle.std.specs.List.{list_any}
 use Rattle.std.proofs.Math.ListN.{get_or-append}
-use Rattle.std.proofs.lemmas.List.{map-append}
-use Rattle.kl1_model.specs.Term.{Term, variable, integer, atom, structure, Terms, none, more, terms_of}
+use Rattle.kl1_model.specs.Term.{Term, variable, integer, atom, structure, Terms, none, more}
 use Rattle.kl1_model.specs.TermCode.{NodeCode, nodes_of, nodes_of_all}
 use Rattle.kl1_model.specs.State.{names_of, names_in}
 use Rattle.kl1_model.specs.Text.{is_built_in}
@@ -12,7 +11,7 @@ use Rattle.kl1_clause.specs.declared.name.Name.TheVariants.{Language, Place}
 use Rattle.kl1_clause.specs.declared.instruction.Instruction.{Instruction}
 use Rattle.kl1_clause.specs.declared.instruction.Instruction.TheVariants.{Variable, Integer, Atom, Structure}
 use Rattle.kl1_clause.specs.NameList.{with_text, with_texts}
-use Rattle.kl1_clause.specs.Instructions.{text_in, IsPlaced, code_in, IsNamed, AreNamed, IsRowOf, names_of_nodes}
+use Rattle.kl1_clause.specs.Instructions.{text_in, IsPlaced, code_in, IsNamed, AreNamed, names_of_nodes}
 
 -- names with others behind them
 pub record Grows (old new : List (List ℕ)) : Type 0 where

@@ -1,5 +1,5 @@
 -- Lists of names as names are found and added.
-use Rattle.std.proofs.Common.{◌≡◌, ℕ, ◌+◌, ◌<◌, ◌≤◌, ◌⊎◌, Bool, true, false, cond, ◌||◌, List, [], ◌∷◌, ◌++◌, Option, Some, None, bytes_eq, length, take, get_or, refl, sym, ap, ◌∙◌, arith, inl, inr, length-append, append-nil, append_assoc}
+use Rattle.std.proofs.Common.{◌≡◌, ℕ, ◌+◌, ◌<◌, ◌⊎◌, Bool, true, false, cond, ◌||◌, List, [], ◌∷◌, ◌++◌, Some, None, bytes_eq, length, take, get_or, sym, ap, ◌∙◌, arith, inl, inr, length-append}
 use Rattle.std.specs.List.{list_any}
 use Rattle.std.proofs.Math.ListN.{get_or-append}
 use Rattle.std.proofs.Math.Seq.{get_or-append_seam}
@@ -9,7 +9,7 @@ use Rattle.std.proofs.lemmas.Slice.Eq.{bytes_eq-Decides}
 use Rattle.kl1_model.specs.declared.built_in.BuiltIn.{BuiltIn}
 use Rattle.kl1_model.specs.Text.{text_of}
 use Rattle.kl1_text.specs.BuiltIns.{built_in_of}
-use Rattle.kl1_clause.specs.NameList.{is_of_language, with_text, with_texts, IsNameList, IsPlaceOf}
+use Rattle.kl1_clause.specs.NameList.{is_of_language, with_text, IsNameList, IsPlaceOf}
 use Rattle.kl1_clause.proofs.Language.{found_in_language, missed_in_language}
 
 -- no names at all

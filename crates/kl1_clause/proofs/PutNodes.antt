@@ -1,6 +1,6 @@
 -- Nodes put behind rows.
-use Rattle.std.proofs.Common.{◌≡◌, ℕ, List, [], ◌∷◌, ◌++◌, length, map, take, get_or, ◌+◌, ◌<◌, refl, sym, ap, subst, ◌∙◌, append-nil, append_assoc}
-use Rattle.std.proofs.lemmas.List.{map-append, take_more, take_all}
+use Rattle.std.proofs.Common.{◌≡◌, ℕ, List, [], ◌∷◌, ◌++◌, length, map, take, get_or, ◌+◌, ◌<◌, sym, ap, subst, ◌∙◌, append-nil, append_assoc}
+use Rattle.std.proofs.lemmas.List.{map-append, take_more}
 use Rattle.kl1_model.specs.Term.{Term, Terms, terms_of}
 use Rattle.kl1_model.specs.TermCode.{NodeCode, nodes_of, nodes_of_all}
 use Rattle.kl1_model.specs.State.{names_in}
@@ -10,7 +10,7 @@ use Rattle.kl1_clause.specs.declared.instruction.Instruction.{Instruction}
 use Rattle.kl1_clause.specs.NameList.{with_texts}
 use Rattle.kl1_clause.specs.Instructions.{code_in, IsNamed, AreNamed, IsRowOf, names_of_nodes}
 use Rattle.kl1_clause.specs.Putting.{Puts}
-use Rattle.kl1_clause.proofs.Growth.{Grows, with_none, with_both, all_grow, row_stays, named_push, names_of_two, names_of_all}
+use Rattle.kl1_clause.proofs.Growth.{with_none, with_both, all_grow, row_stays, named_push, names_of_two, names_of_all}
 
 -- nothing is put
 pub put_none : (names : List (List ℕ)) (row : List Instruction) → AreNamed (length names) row → Puts names names row row []

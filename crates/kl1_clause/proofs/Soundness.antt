@@ -1,5 +1,5 @@
 -- Codes mean the modules that they are made of.
-use Rattle.std.proofs.Common.{◌≡◌, ℕ, List, [], ◌∷◌, length, map, refl, sym, ap, subst, ◌∙◌}
+use Rattle.std.proofs.Common.{◌≡◌, ℕ, List, [], map, sym, ap, subst, ◌∙◌}
 use Rattle.kl1_model.specs.Module.{Clause, Module}
 use Rattle.kl1_model.specs.State.{names_of_clauses, names_of_module, with_names}
 use Rattle.kl1_clause.specs.declared.code.Code.TheInside.{Inside}

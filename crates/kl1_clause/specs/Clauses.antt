@@ -1,6 +1,6 @@
 -- What compiled clauses mean.
 use Rattle.std.specs.Prelude.{◌≡◌, ℕ, List, [], ◌∷◌, length, map}
-use Rattle.kl1_model.specs.Term.{Term, Terms, terms_of, count_of}
+use Rattle.kl1_model.specs.Term.{Term, terms_of, count_of}
 use Rattle.kl1_model.specs.TermCode.{nodes_of_all, read_nodes}
 use Rattle.kl1_model.specs.Module.{Clause}
 use Rattle.kl1_model.specs.Instance.{head_variables, fresh_variables}

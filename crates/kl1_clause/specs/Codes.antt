@@ -1,5 +1,5 @@
 -- The fields of a code as a module.
-use Rattle.std.specs.Prelude.{◌≡◌, ℕ, List, [], map}
+use Rattle.std.specs.Prelude.{◌≡◌, [], map}
 use Rattle.kl1_model.specs.Module.{Module}
 use Rattle.kl1_model.specs.State.{names_of_module}
 use Rattle.kl1_clause.specs.declared.code.Code.TheInside.{Inside}

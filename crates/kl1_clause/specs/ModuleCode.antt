@@ -1,5 +1,5 @@
 -- How modules are stored: their clauses by parts, and the terms of those by their nodes.
-use Rattle.std.specs.Prelude.{◌≡◌, ℕ, List, [], ◌∷◌, refl}
+use Rattle.std.specs.Prelude.{◌≡◌, ℕ, List, refl}
 use Rattle.std.proofs.Common.{ap}
 use Rattle.std.specs.Coded.{Coded, code_by, coded×, coded_list, coded_ℕ}
 use Rattle.kl1_model.specs.Term.{Term, Terms, none, more, list_of, terms_of}

@@ -1,5 +1,5 @@
 -- What a code means, and what it is made of.
-use Rattle.std.specs.Prelude.{◌≡◌, ℕ, List, [], map}
+use Rattle.std.specs.Prelude.{◌≡◌, ℕ, List, map}
 use Rattle.kl1_model.specs.Module.{Module, read_module, good}
 use Rattle.kl1_clause.specs.declared.module_parts.ModuleParts.{ModuleParts}
 use Rattle.kl1_clause.specs.Clauses.{clause_of_parts}

@@ -1,10 +1,9 @@
-use Rattle.std.proofs.Common.{◌≡◌, ◌-◌, ap, sym, ◌∙◌, length, arith}
-use Rattle.kl1_model.specs.Term.{terms_of, count_of}
-use Rattle.kl1_model.specs.Instance.{fresh_variables}
+use Rattle.std.proofs.Common.{◌≡◌, ◌-◌, ap, sym, ◌∙◌}
+use Rattle.kl1_model.specs.Term.{terms_of}
 use Rattle.kl1_model.specs.Meaning.{highest_in}
 use Rattle.kl1_term.proofs.Rows.{count_of-terms_of}
 use Rattle.kl1_clause.specs.Clauses.{clause_of_parts}
-use Rattle.kl1_clause.proofs.ClauseFacts.{IsMade, made}
+use Rattle.kl1_clause.proofs.ClauseFacts.{made}
 use Rattle.kl1_clause.proofs.compiled_clause.compiled_of.Goals as goal
 
 pub returns : goal.returns

@@ -1,4 +1,4 @@
-use Rattle.std.proofs.Common.{◌≡◌, max, take, ◌+◌, ap, sym, ◌∙◌, arith}
+use Rattle.std.proofs.Common.{◌≡◌, max, take, ◌+◌}
 use Rattle.kl1_model.specs.Term.{terms_of}
 use Rattle.kl1_model.specs.Meaning.{highest, highest_in}
 use Rattle.kl1_clause.proofs.ClauseFacts.{highest_next}

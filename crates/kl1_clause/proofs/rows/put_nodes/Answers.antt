@@ -1,4 +1,3 @@
-use Rattle.std.proofs.Common.{arith}
 use Rattle.kl1_clause.proofs.PutNodes.{put_none, put_next}
 use Rattle.kl1_clause.proofs.rows.put_nodes.Goals as goal
 

@@ -1,6 +1,5 @@
 use Rattle.std.proofs.Common.{◌≡◌, ℕ, List, ap, refl, ◌∙◌, map, []}
 use Rattle.kl1_model.specs.State.{names_of_clauses}
-use Rattle.kl1_clause.specs.declared.clause_parts.ClauseParts.{ClauseParts}
 use Rattle.kl1_clause.specs.declared.code.Code.TheInside.{Inside}
 use Rattle.kl1_clause.specs.Clauses.{clause_of_parts}
 use Rattle.kl1_clause.specs.NameList.{with_text, with_texts}
