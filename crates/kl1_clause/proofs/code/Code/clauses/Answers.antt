@@ -1,0 +1,5 @@
+use Rattle.kl1_clause.proofs.Soundness.{clauses_as}
+use Rattle.kl1_clause.proofs.code.Code.clauses.Goals as goal
+
+pub returns : goal.returns
+returns c = clauses_as c.self.inside c.args.self.now c.deref.result.now c.self.invariant c.self.view_is c.deref.ensures.value

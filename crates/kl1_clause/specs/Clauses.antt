@@ -1,0 +1,40 @@
+-- What compiled clauses mean.
+use Rattle.std.specs.Prelude.{◌≡◌, ℕ, List, [], ◌∷◌, length, map}
+use Rattle.kl1_model.specs.Term.{Term, terms_of, count_of}
+use Rattle.kl1_model.specs.TermCode.{nodes_of_all, read_nodes}
+use Rattle.kl1_model.specs.Module.{Clause}
+use Rattle.kl1_model.specs.Instance.{head_variables, fresh_variables}
+use Rattle.kl1_clause.specs.declared.clause_parts.ClauseParts.{ClauseParts}
+use Rattle.kl1_clause.specs.declared.compiled_clause.CompiledClause.{CompiledClause}
+use Rattle.kl1_clause.specs.declared.instruction.Instruction.{Instruction}
+use Rattle.kl1_clause.specs.Instructions.{text_in, IsPlaced, IsRowOf, code_in}
+
+-- the clause that parts are
+abbrev pub clause_of_parts : ClauseParts → Clause
+clause_of_parts p = record { name = p.name; patterns = terms_of p.patterns.items; tests = p.tests.items; body = p.body.items }
+
+-- the terms of a row, one behind another, where the names of the code are these
+abbrev pub terms_in : List (List ℕ) → List Instruction → List Term
+terms_in names row = read_nodes (map (code_in names) row) []
+
+-- the clause that a compiled clause means, where the names of the code are these
+abbrev pub clause_in : List (List ℕ) → CompiledClause → Clause
+clause_in names c = record { name = text_in names c.name; patterns = terms_of (terms_in names c.patterns.items); tests = terms_in names c.tests.items; body = terms_in names c.goals.items }
+
+-- a compiled clause is this clause, where the names of the code are these
+pub record IsCompiled (names : List (List ℕ)) (compiled : CompiledClause) (clause : Clause) : Type 0 where
+  pub placed : IsPlaced (length names) compiled.name
+  pub name : text_in names compiled.name ≡ clause.name
+  pub count : compiled.count ≡ count_of clause.patterns
+  pub patterns : IsRowOf names compiled.patterns.items (nodes_of_all clause.patterns)
+  pub tests : IsRowOf names compiled.tests.items (nodes_of_all (terms_of clause.tests))
+  pub goals : IsRowOf names compiled.goals.items (nodes_of_all (terms_of clause.body))
+  pub head_variables : compiled.head_variables ≡ head_variables clause
+  pub fresh_variables : compiled.fresh_variables ≡ fresh_variables clause
+
+-- compiled clauses are these clauses, one for each
+abbrev pub AreCompiled : List (List ℕ) → List CompiledClause → List Clause → Type 0
+AreCompiled names [] [] = Unit {0}
+AreCompiled names [] (d ∷ ds) = ⊥
+AreCompiled names (c ∷ cs) [] = ⊥
+AreCompiled names (c ∷ cs) (d ∷ ds) = IsCompiled names c d × AreCompiled names cs ds

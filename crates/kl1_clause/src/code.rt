@@ -1,0 +1,114 @@
+// Modules that are compiled.
+
+ghost use Rattle.std.specs.Prelude.{◌≡◌, ℕ, List, [], length, map, IfOk, OnOk};
+ghost use Rattle.kl1_model.specs.State.{names_of_module, names_of_clauses, with_names};
+ghost use Rattle.kl1_clause.specs.NameList.{with_texts, IsNameList};
+ghost use Rattle.kl1_clause.specs.Clauses.{clause_of_parts, AreCompiled};
+ghost use Rattle.kl1_clause.specs.Modules.{IsMeant, module_of_parts};
+
+use crate::clause_parts::ClauseParts;
+use crate::compiled_clause::{CompiledClause, compiled_of};
+use crate::module_parts::ModuleParts;
+use crate::names::Names;
+use kl1_text::AtomText;
+use std::alloc::{AllocError, Global};
+use std::marker::Model;
+
+/// A module compiled: its source, the names in it that are not built in, and its clauses as instructions, whose names are
+/// places in the list of those.
+#[derive(Drop)]
+pub struct Code {
+    source: Vec<u8>,
+    name: AtomText,
+    names: Names,
+    clauses: Vec<CompiledClause>,
+}
+
+impl Model for Code {
+    ghost use Rattle.kl1_model.specs.Module.{Module};
+    ghost use Rattle.kl1_clause.specs.ModuleCode.{module_code};
+
+    ghost Value = { Module };
+
+    ghost coded = { module_code };
+
+    ghost use Rattle.kl1_clause.specs.Codes.{module_in, IsSound};
+
+    ghost view = { module_in };
+
+    ghost invariant = { IsSound };
+}
+
+impl Code {
+    /// The code of a module that is the meaning of a source.
+    pub fn of_parts(alloc: Global, source: &[u8], parts: &ModuleParts) -> Result<Self, AllocError>
+        requires { IsMeant source.now (module_of_parts source.now parts.now) }
+        ensures { IfOk result (λ code. code ≡ module_of_parts source.now parts.now) }
+    {
+        let name = parts.name;
+        let mut names = Names::new(alloc);
+        let _first = names.placed(&name)?;
+        let clauses = clauses_of(alloc, &mut names, &parts.clauses)?;
+        let source = Vec::from_slice(alloc, source)?;
+        Ok(Code {
+            source,
+            name,
+            names,
+            clauses,
+        })
+    }
+
+    /// The source, which means the module.
+    pub fn source(&self) -> &[u8]
+        ensures value { result.now ≡ self.now.source }
+        ensures meant { IsMeant result.now self.now }
+    {
+        &self.source
+    }
+
+    /// The names of the module that are not built in, in order of first use.
+    pub fn names(&self) -> &[AtomText]
+        ensures value { result.now ≡ with_names [] (names_of_module self.now) }
+        ensures names { IsNameList result.now }
+    {
+        self.names.texts()
+    }
+
+    /// The module's name.
+    pub fn module_name(&self) -> AtomText
+        ensures { result ≡ self.now.name }
+    {
+        self.name
+    }
+
+    /// How many clauses there are.
+    pub fn clause_count(&self) -> usize
+        ensures { result ≡ length self.now.clauses }
+    {
+        self.clauses.len()
+    }
+
+    /// The clauses compiled, in order.
+    pub fn clauses(&self) -> &[CompiledClause]
+        ensures { AreCompiled (with_names [] (names_of_module self.now)) result.now self.now.clauses }
+    {
+        &self.clauses
+    }
+}
+
+/// Clauses compiled one after another, with their names put to the others.
+pub(crate) fn clauses_of(
+    alloc: Global,
+    names: &mut Names,
+    parts: &[ClauseParts],
+) -> Result<Vec<CompiledClause>, AllocError>
+    ensures names { OnOk result (names.new ≡ with_texts names.old (names_of_clauses (map clause_of_parts parts.now))) }
+    ensures clauses { IfOk result (λ clauses. AreCompiled names.new clauses.items (map clause_of_parts parts.now)) }
+{
+    let mut clauses = Vec::new(alloc);
+    for part in parts {
+        let clause = compiled_of(alloc, names, part)?;
+        clauses.push(clause)?;
+    }
+    Ok(clauses)
+}

@@ -1,0 +1,11 @@
+// A module as it is read.
+
+use crate::clause_parts::ClauseParts;
+use kl1_text::AtomText;
+
+/// A module as it is read: its name, and its clauses in order.
+#[derive(Drop)]
+pub struct ModuleParts {
+    pub name: AtomText,
+    pub clauses: Vec<ClauseParts>,
+}

@@ -1,0 +1,80 @@
+// The names of a code.
+
+ghost use Rattle.std.specs.Prelude.{◌≡◌, [], length, false, bytes_eq, MatchOption, IfOk, OnOk, OnErr};
+ghost use Rattle.std.specs.List.{list_any};
+ghost use Rattle.kl1_clause.specs.NameList.{with_text, IsNameList, IsPlaceOf};
+ghost use Rattle.kl1_clause.specs.Instructions.{IsPlaced, text_in};
+
+use crate::name::Name;
+use kl1_text::AtomText;
+use std::alloc::{AllocError, Global};
+use std::marker::Model;
+
+/// The names of a code that are not built in, each once, in order of first use.
+#[derive(Drop)]
+pub struct Names {
+    texts: Vec<AtomText>,
+}
+
+impl Model for Names {
+    ghost use Rattle.std.specs.Prelude.{ℕ, List};
+    ghost use Rattle.kl1_clause.specs.NameList.{IsNameList};
+
+    ghost Value = { List (List ℕ) };
+
+    ghost view = { λ n. n.texts.items };
+
+    ghost invariant = { λ n. IsNameList n.texts.items };
+}
+
+impl Names {
+    /// No names.
+    #[tactic(auto, using(crate::proofs::NameLists::no_names))]
+    pub fn new(alloc: Global) -> Self
+        ensures { result ≡ [] }
+    {
+        Names {
+            texts: Vec::new(alloc),
+        }
+    }
+
+    /// The names in their order.
+    pub fn texts(&self) -> &[AtomText]
+        ensures value { result.now ≡ self.now }
+        ensures names { IsNameList self.now }
+    {
+        &self.texts
+    }
+
+    /// A text as a name: one of the language, or its place, at the end where it is new.
+    #[tactic(auto, using(crate::proofs::NameLists::is_language, crate::proofs::NameLists::is_old, crate::proofs::NameLists::is_new))]
+    pub fn placed(&mut self, text: &AtomText) -> Result<Name, AllocError>
+        ensures names { OnOk result (self.new ≡ with_text self.old text.now) }
+        ensures placed { IfOk result (IsPlaced (length self.new)) }
+        ensures text { IfOk result (λ name. text_in self.new name ≡ text.now) }
+        ensures err { OnErr result (self.new ≡ self.old) }
+    {
+        if let Some(built_in) = text.built_in() {
+            return Ok(Name::Language(built_in));
+        }
+        if let Some(place) = place_of(&self.texts, text) {
+            return Ok(Name::Place(place));
+        }
+        let place = self.texts.len();
+        self.texts.push(*text)?;
+        Ok(Name::Place(place))
+    }
+}
+
+/// The place of a text in a list, from 0.
+#[tactic(auto, using(crate::proofs::NameLists::none_more, crate::proofs::NameLists::is_place))]
+fn place_of(texts: &[AtomText], text: &AtomText) -> Option<usize>
+    ensures { MatchOption result (list_any (bytes_eq text.now) texts.now ≡ false) (IsPlaceOf texts.now text.now) }
+{
+    for (place, other) in texts.iter().enumerate() {
+        if text.is(other) {
+            return Some(place);
+        }
+    }
+    None
+}
