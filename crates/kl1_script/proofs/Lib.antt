@@ -1,1 +1,6 @@
 pub mod Cuts
+pub mod Digits
+pub mod Starts
+pub mod Fuel
+pub mod WordFuel
+pub mod Names

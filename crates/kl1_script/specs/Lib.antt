@@ -1,1 +1,4 @@
 pub mod Places
+pub mod Parts
+pub mod Records
+pub mod Accounts

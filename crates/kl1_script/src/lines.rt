@@ -55,6 +55,8 @@ pub(crate) fn without_return(line: &[u8]) -> &[u8]
 pub fn split_line(text: &[u8]) -> (&[u8], &[u8])
     ensures line { result.0.now ≡ line_in text.now }
     ensures behind { result.1.now ≡ behind_feed text.now }
+    ensures within { length result.1.now ≤ length text.now }
+    ensures less { 0 < length text.now → length result.1.now < length text.now }
 {
     let place = place_of(b'\n', text);
     (without_return(&text[..place]), behind_place(text, place))

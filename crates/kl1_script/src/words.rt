@@ -1,7 +1,7 @@
 // The words of a line.
 
-ghost use Rattle.std.specs.Prelude.{◌≡◌, ◌+◌, ◌<◌, ◌≤◌, length, take, drop};
-ghost use Rattle.kl1_model.specs.Command.{word_in, behind_word_in};
+ghost use Rattle.std.specs.Prelude.{◌≡◌, ◌+◌, ◌<◌, ◌≤◌, length, false};
+ghost use Rattle.kl1_model.specs.Command.{word_in, behind_word_in, is_blank_line};
 ghost use Rattle.kl1_script.specs.Places.{blank_place, BeginsWord};
 
 use crate::bytes::is_space;
@@ -43,6 +43,7 @@ fn blank_place(line: &[u8]) -> usize
 pub fn split_word(line: &[u8]) -> (&[u8], &[u8])
     ensures word { result.0.now ≡ word_in line.now }
     ensures behind { result.1.now ≡ behind_word_in line.now }
+    ensures less { is_blank_line line.now ≡ false → length result.1.now < length line.now }
 {
     let begun = without_blanks(line);
     let place = blank_place(begun);
