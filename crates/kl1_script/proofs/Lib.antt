@@ -4,3 +4,4 @@ pub mod Starts
 pub mod Fuel
 pub mod WordFuel
 pub mod Names
+pub mod DeviceLaws

@@ -2,3 +2,4 @@ pub mod Places
 pub mod Parts
 pub mod Records
 pub mod Accounts
+pub mod Devices

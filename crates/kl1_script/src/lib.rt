@@ -3,16 +3,20 @@
 
 mod accounts;
 mod bytes;
+mod counted;
 mod line_parts;
 mod lines;
 mod notices;
 mod numbers;
 mod record;
 mod replies;
+mod sink;
+mod source;
 mod verb;
 mod words;
 
 pub use accounts::{accounts_in, is_account_name};
+pub use counted::{Counted, DeviceFailed};
 pub use line_parts::{LineParts, parts_of};
 pub use lines::{is_blank_line, split_line, split_name};
 pub use notices::{put_no_account, put_no_accounts, put_truncated};
@@ -22,4 +26,6 @@ pub use replies::{
     put_exists, put_journal_full, put_loaded, put_no_shoen, put_opened, put_ran, put_reduced,
     put_shown, put_source, put_step_refused, put_syntax,
 };
+pub use sink::Sink;
+pub use source::Source;
 pub use words::split_word;
