@@ -1,5 +1,5 @@
 -- What devices give and take.
-use Rattle.std.specs.Prelude.{◌≡◌, ℕ, ◌-◌, ◌^◌, ◌<◌, ◌≤◌, nat_lt, List, length, take, ⊤, None, Some, if◌then◌else◌}
+use Rattle.std.specs.Prelude.{◌++◌, ◌≡◌, ℕ, ◌-◌, ◌^◌, ◌<◌, ◌≤◌, nat_lt, List, length, take, ⊤, None, Some, if◌then◌else◌}
 use Rattle.std.specs.declared.option.Option.{Option}
 use Rattle.std.specs.Io.KnownBytes.{Consumes, Appends, IsAtEnd}
 use Rattle.kl1_script.specs.declared.counted.Counted.{Counted}
@@ -29,3 +29,38 @@ abbrev pub KeepsIfKnown : Option (List ℕ) → Option (List ℕ) → Type 0
 KeepsIfKnown None new = ⊤
 KeepsIfKnown (Some xs) None = ⊤
 KeepsIfKnown (Some xs) (Some ys) = ys ≡ xs
+
+-- where the bytes that are left are known before and after, these were taken from their front
+abbrev pub ConsumesIfKnown : Option (List ℕ) → Option (List ℕ) → List ℕ → Type 0
+ConsumesIfKnown None new bs = ⊤
+ConsumesIfKnown (Some xs) None bs = ⊤
+ConsumesIfKnown (Some xs) (Some ys) bs = xs ≡ bs ++ ys
+
+-- at most so many bytes were read
+pub record ReadsFew (old new : Option (List ℕ)) (most : ℕ) : Type 0 where
+  pub bytes : List ℕ
+  pub few : length bytes ≤ most
+  pub consumes : ConsumesIfKnown old new bytes
+
+-- n bytes were read and put behind the others, none only at the end
+pub record AddsPiece (old new : Option (List ℕ)) (before after : List ℕ) (n : ℕ) : Type 0 where
+  pub piece : List ℕ
+  pub counts : length piece ≡ n
+  pub consumes : Consumes old new piece
+  pub appends : after ≡ before ++ piece
+  pub end : n ≡ 0 → IsAtEnd new
+
+-- these are all the bytes that were left
+pub record IsWhole (old new : Option (List ℕ)) (bytes : List ℕ) : Type 0 where
+  pub consumes : Consumes old new bytes
+  pub end : IsAtEnd new
+
+-- where the bytes are known before and after, they grew by the first of these up to some place
+abbrev pub GrowsIfKnown : Option (List ℕ) → Option (List ℕ) → List ℕ → Type 0
+GrowsIfKnown None new bs = ⊤
+GrowsIfKnown (Some xs) None bs = ⊤
+GrowsIfKnown (Some xs) (Some ys) bs = ys ≡ xs ++ bs
+
+pub record AppendsFront (old new : Option (List ℕ)) (bytes : List ℕ) : Type 0 where
+  pub count : ℕ
+  pub grows : GrowsIfKnown old new (take count bytes)

@@ -3,7 +3,7 @@
 ghost use Rattle.std.specs.Prelude.{◌≡◌, ◌<◌, ◌≤◌, ℕ, List, length, take, IfOk, OnOk, OnErr};
 ghost use Rattle.std.specs.declared.option.Option.{Option};
 ghost use Rattle.std.specs.Io.KnownBytes.{Consumes, IsAtEnd};
-ghost use Rattle.kl1_script.specs.Devices.{known_while, failures_of, Gives};
+ghost use Rattle.kl1_script.specs.Devices.{known_while, failures_of, Gives, KeepsIfKnown};
 
 use crate::counted::{Counted, DeviceFailed};
 use std::io::{ErrorKind, Read};
@@ -20,12 +20,14 @@ pub trait Source {
     fn read(&mut self, into: &mut [u8]) -> Result<usize, DeviceFailed>
         ensures ok { IfOk result (λ n. Gives (remaining self.old) (remaining self.new) n into.new) }
         ensures kept { OnOk result (failures self.new ≡ failures self.old) }
-        ensures failed { OnErr result (failures self.old < failures self.new) };
+        ensures failed { OnErr result (failures self.old < failures self.new) }
+        ensures same { OnErr result (KeepsIfKnown (remaining self.old) (remaining self.new)) };
 }
 
 /// Reads once, and again where the call was interrupted.
 fn read_once<R: Read>(reader: &mut R, into: &mut [u8]) -> Result<usize, DeviceFailed>
-    ensures { IfOk result (λ n. Gives (R.remaining reader.old) (R.remaining reader.new) n into.new) }
+    ensures ok { IfOk result (λ n. Gives (R.remaining reader.old) (R.remaining reader.new) n into.new) }
+    ensures err { OnErr result (KeepsIfKnown (R.remaining reader.old) (R.remaining reader.new)) }
 {
     for _ in 0..u64::MAX {
         match reader.read(into) {
