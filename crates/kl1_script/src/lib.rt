@@ -15,6 +15,8 @@ mod replies;
 mod script_fault;
 mod sink;
 mod source;
+#[cfg(test)]
+mod tests;
 mod verb;
 mod words;
 

@@ -10,7 +10,7 @@ use crate::line_parts::{LineParts, parts_of};
 use crate::lines::{is_blank_line, split_line, split_name};
 
 /// What a record asks for, where the goal of a start and the source of a load are yet to be read.
-#[derive(Clone, Copy)]
+#[derive(Clone, Copy, Debug, PartialEq, Eq)]
 pub enum CommandParts<'a> {
     /// A load of this source.
     Load(&'a [u8]),
@@ -25,7 +25,7 @@ pub enum CommandParts<'a> {
 }
 
 /// A record of a script.
-#[derive(Clone, Copy)]
+#[derive(Clone, Copy, Debug, PartialEq, Eq)]
 pub struct Record<'a> {
     /// The name that it begins with.
     pub name: &'a [u8],
@@ -36,7 +36,7 @@ pub struct Record<'a> {
 }
 
 /// The next record of a script.
-#[derive(Clone, Copy)]
+#[derive(Clone, Copy, Debug, PartialEq, Eq)]
 pub enum NextRecord<'a> {
     /// There is none.
     End,
