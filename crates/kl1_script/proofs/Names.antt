@@ -1,0 +1,128 @@
+-- What holds of the names of accounts in a line.
+use Rattle.std.proofs.Common.{◌≡◌, ℕ, suc, ◌<◌, ◌≤◌, nat_le, ◌&&◌, ◌||◌, Bool, true, false, List, [], ◌∷◌, ◌++◌, length, length-append, append_assoc, codes, bytes_eq, IsTrue, Option, Some, None, if◌then◌else◌, refl, ap, sym, ◌∙◌, arith, inl, inr}
+use Rattle.std.specs.List.{list_all}
+use Rattle.std.proofs.lemmas.Bool.{false≢true, and_parts, and_from, and_left, and_right, or_cases, leb-true, le-leb, lt-leb}
+use Rattle.std.proofs.lemmas.List.{append-nil}
+use Rattle.std.proofs.lemmas.List.Folds.{list_all-append}
+use Rattle.kl1_model.specs.Name.{is_small_letter}
+use Rattle.kl1_model.specs.Text.{is_text, is_name_byte}
+use Rattle.kl1_model.specs.Token.{is_digit}
+use Rattle.kl1_model.specs.Command.{is_space, first_word, word_in, behind_word_in, is_blank_line}
+use Rattle.kl1_model.specs.Script.{words_of, accounts_in, is_account_name, are_distinct}
+use Rattle.kl1_script.specs.Accounts.{named}
+use Rattle.kl1_script.proofs.WordFuel.{words_none, words_more}
+
+letter_in_text : (b : ℕ) → is_small_letter b ≡ true → is_name_byte b ≡ true
+letter_in_text b h =
+    let p = and_parts _ _ h in
+    let low = leb-true 97 b p.0 in
+    let high = leb-true b 122 p.1 in
+    and_from (nat_le 32 b) (nat_le b 126) (le-leb 32 b (omega arith)) (le-leb b 126 (omega arith))
+
+digit_in_text : (b : ℕ) → is_digit b ≡ true → is_name_byte b ≡ true
+digit_in_text b h =
+    let p = and_parts _ _ h in
+    let low = leb-true 48 b p.0 in
+    let high = leb-true b 57 p.1 in
+    and_from (nat_le 32 b) (nat_le b 126) (le-leb 32 b (omega arith)) (le-leb b 126 (omega arith))
+
+bytes_in_text : (bs : List ℕ) → list_all (λ c. is_small_letter c || is_digit c) bs ≡ true → list_all is_name_byte bs ≡ true
+bytes_in_text [] h = refl
+bytes_in_text (b ∷ bs) h =
+    let p = and_parts _ _ h in
+    let first : is_name_byte b ≡ true = elim (or_cases (is_small_letter b) (is_digit b) p.0) [ inl x ↦ letter_in_text b x | inr x ↦ digit_in_text b x ] in
+    and_from _ _ first (bytes_in_text bs p.1)
+
+-- the name of an account is a name
+pub account_is_text : (word : List ℕ) → is_account_name word ≡ true → IsTrue (is_text word)
+account_is_text [] h = absurd (false≢true h)
+account_is_text (b ∷ bs) h =
+    let p = and_parts (is_small_letter b && list_all (λ c. is_small_letter c || is_digit c) bs) (nat_le (length bs) 15) h in
+    let q = and_parts (is_small_letter b) (list_all (λ c. is_small_letter c || is_digit c) bs) p.0 in
+    let short : length bs ≤ 15 = leb-true (length bs) 15 p.1 in
+    and_from _ _ (le-leb (suc (length bs)) 63 (omega arith)) (and_from _ _ (letter_in_text b q.0) (bytes_in_text bs q.1))
+
+-- one word more
+pub one_more : (names words : List (List ℕ)) (rest : List ℕ) → names ++ words_of rest ≡ words → is_blank_line rest ≡ false → (names ++ word_in rest ∷ []) ++ words_of (behind_word_in rest) ≡ words
+one_more names words rest e h =
+    append_assoc names (word_in rest ∷ []) (words_of (behind_word_in rest)) ∙ ap (λ ws. names ++ ws) (sym (words_more rest h)) ∙ e
+
+pub all_more : (names : List (List ℕ)) (w : List ℕ) → list_all is_account_name names ≡ true → is_account_name w ≡ true → list_all is_account_name (names ++ w ∷ []) ≡ true
+all_more names w h k = rw (list_all-append is_account_name names (w ∷ [])) (and_from _ _ h (and_from _ _ k refl))
+
+-- a word that is no name
+pub no_name : (names words : List (List ℕ)) (rest : List ℕ) → names ++ words_of rest ≡ words → is_blank_line rest ≡ false → is_account_name (word_in rest) ≡ false → None ≡ named words
+no_name names words rest e h k =
+    let more : names ++ word_in rest ∷ words_of (behind_word_in rest) ≡ words = ap (λ ws. names ++ ws) (sym (words_more rest h)) ∙ e in
+    let none : list_all is_account_name words ≡ false = rw (sym more, list_all-append is_account_name names (word_in rest ∷ words_of (behind_word_in rest))) (and_right (list_all is_account_name names) _ (and_left (is_account_name (word_in rest)) _ k)) in
+    rw (and_left (list_all is_account_name words) (nat_le (length words) 16) none) refl
+
+-- a word behind sixteen names
+pub too_many : (names words : List (List ℕ)) (rest : List ℕ) → names ++ words_of rest ≡ words → is_blank_line rest ≡ false → length names ≡ 16 → None ≡ named words
+too_many names words rest e h k =
+    let more : names ++ word_in rest ∷ words_of (behind_word_in rest) ≡ words = ap (λ ws. names ++ ws) (sym (words_more rest h)) ∙ e in
+    let long : 16 < length words = omega (arith, ap length more, length-append names (word_in rest ∷ words_of (behind_word_in rest)), k) in
+    rw (and_right (list_all is_account_name words) (nat_le (length words) 16) (lt-leb (length words) 16 long)) refl
+
+-- names alone
+pub names_alone : (names words : List (List ℕ)) (rest : List ℕ) → names ++ words_of rest ≡ words → is_blank_line rest ≡ true → list_all is_account_name names ≡ true → length names ≤ 16 → Some names ≡ named words
+names_alone names words rest e h k few =
+    let same : words ≡ names = sym e ∙ ap (λ ws. names ++ ws) (words_none rest h) ∙ append-nil names in
+    rw (same, and_from (list_all is_account_name names) (nat_le (length names) 16) k (le-leb (length names) 16 few)) refl
+
+by_tests : (named_first some few all distinct : Bool) (names : List (List ℕ)) → named_first ≡ true → (if (named_first && some && few && all && distinct) then Some names else None) ≡ (if (some && distinct) then (if (all && few) then Some names else None) else None)
+by_tests named_first true true true true names e = rw e refl
+by_tests named_first true true true false names e = rw e refl
+by_tests named_first true true false true names e = rw e refl
+by_tests named_first true true false false names e = rw e refl
+by_tests named_first true false true true names e = rw e refl
+by_tests named_first true false true false names e = rw e refl
+by_tests named_first true false false true names e = rw e refl
+by_tests named_first true false false false names e = rw e refl
+by_tests named_first false few all distinct names e = rw e refl
+
+-- a blank line has no first word
+no_word : (line : List ℕ) → is_blank_line line ≡ true → word_in line ≡ []
+no_word [] h = refl
+no_word (b ∷ bs) h = let p = and_parts (is_space b) (is_blank_line bs) h in rw (first_word, p.0) (no_word bs p.1)
+
+-- the names behind the word `accounts`, if there is one and none stands twice
+abbrev pub judged : List (List ℕ) → Option (List (List ℕ))
+judged names = if nat_le 1 (length names) && are_distinct names then named names else None
+
+-- a line whose first word is `accounts`
+pub accounts_are : (line : List ℕ) (v : Bool) → is_blank_line line ≡ v → bytes_eq (word_in line) (codes "accounts") ≡ true → accounts_in (words_of line) ≡ judged (words_of (behind_word_in line))
+accounts_are line true e h = absurd (false≢true (ap (λ w. bytes_eq w (codes "accounts")) (sym (no_word line e)) ∙ h))
+accounts_are line false e h =
+    let names = words_of (behind_word_in line) in
+    ap accounts_in (words_more line e) ∙ by_tests (bytes_eq (word_in line) (codes "accounts")) (nat_le 1 (length names)) (nat_le (length names) 16) (list_all is_account_name names) (are_distinct names) names h
+
+-- another line
+pub no_accounts : (line : List ℕ) (v : Bool) → is_blank_line line ≡ v → bytes_eq (word_in line) (codes "accounts") ≡ false → None ≡ accounts_in (words_of line)
+no_accounts line true e h = rw (words_none line e) refl
+no_accounts line false e h = rw (words_more line e, h) refl
+
+chosen_is : (t : Bool) (ws names : List (List ℕ)) → (if t then Some ws else None) ≡ Some names → ws ≡ names
+chosen_is true ws names e = cc
+chosen_is false ws names e = cc
+
+named_is : (ws names : List (List ℕ)) → named ws ≡ Some names → ws ≡ names
+named_is ws names e = chosen_is (list_all is_account_name ws && nat_le (length ws) 16) ws names e
+
+judged_none : (ws : List (List ℕ)) (t : Bool) → named ws ≡ None → (if t then named ws else None) ≡ None
+judged_none ws true e = e
+judged_none ws false e = refl
+
+-- behind the word `accounts` stand no names, or too many
+pub accounts_none : (line : List ℕ) → bytes_eq (word_in line) (codes "accounts") ≡ true → named (words_of (behind_word_in line)) ≡ None → None ≡ accounts_in (words_of line)
+accounts_none line h e =
+    let ws = words_of (behind_word_in line) in
+    sym (accounts_are line (is_blank_line line) refl h ∙ judged_none ws (nat_le 1 (length ws) && are_distinct ws) e)
+
+-- behind it stand names, which are accounts or not
+pub accounts_some : (line : List ℕ) (names : List (List ℕ)) (t : Bool) → bytes_eq (word_in line) (codes "accounts") ≡ true → named (words_of (behind_word_in line)) ≡ Some names → (nat_le 1 (length names) && are_distinct names) ≡ t → (if t then Some names else None) ≡ accounts_in (words_of line)
+accounts_some line names t h e k =
+    let same : words_of (behind_word_in line) ≡ names = named_is (words_of (behind_word_in line)) names e in
+    let named_so : named names ≡ Some names = ap named (sym same) ∙ e in
+    let judged_so : judged names ≡ (if t then Some names else None) = rw (k, named_so) refl in
+    sym (accounts_are line (is_blank_line line) refl h ∙ ap judged same ∙ judged_so)

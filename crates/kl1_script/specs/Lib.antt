@@ -1,0 +1,5 @@
+pub mod Places
+pub mod Parts
+pub mod Records
+pub mod Accounts
+pub mod Devices

@@ -1,0 +1,25 @@
+// A stream that counts its failures.
+
+ghost use Rattle.std.specs.Prelude.{◌≡◌};
+
+/// A stream, and how many of its calls have failed. One that has failed 2^64 - 1 times is used no more.
+#[derive(Drop)]
+pub struct Counted<T> {
+    /// The stream.
+    pub inner: T,
+    /// How many calls have failed.
+    pub failures: u64,
+}
+
+impl<T> Counted<T> {
+    /// A stream none of whose calls has failed.
+    pub fn new(inner: T) -> Self
+        ensures { result ≡ record { inner = inner; failures = 0 } }
+    {
+        Counted { inner, failures: 0 }
+    }
+}
+
+/// A call of a device failed.
+#[derive(Clone, Copy, Debug, PartialEq, Eq)]
+pub struct DeviceFailed;

@@ -1,0 +1,150 @@
+// The lines of replies, as they are written behind an account's name.
+
+ghost use Rattle.std.specs.Prelude.{◌≡◌, ◌++◌, ◌∷◌, [], codes, decimal, length, take, OnOk, OnErr};
+ghost use Rattle.kl1_model.specs.Command.{reply_lines};
+ghost use Rattle.kl1_model.specs.Script.{written_line, written_reply};
+ghost use Rattle.kl1_model.specs.Step.{loaded, opened, reduced, ran, shown, refused, syntax, source, exists, no_shoen, step_refused, journal_full};
+
+use itoa::Buffer;
+use kl1_text::AtomText;
+use std::alloc::AllocError;
+
+/// Puts the parts of a line behind the bytes. After an `Err` some of them may be there.
+fn put_parts(out: &mut Vec<u8>, account: &[u8], start: &[u8], text: &[u8]) -> Result<(), AllocError>
+    ensures ok { OnOk result (out.new.items ≡ (((((out.old.items ++ account.now) ++ 32 ∷ []) ++ start.now) ++ text.now) ++ 10 ∷ [])) }
+    ensures kept { take (length out.old.items) out.new.items ≡ out.old.items }
+{
+    out.extend_from_slice(account)?;
+    out.push(b' ')?;
+    out.extend_from_slice(start)?;
+    out.extend_from_slice(text)?;
+    out.push(b'\n')?;
+    Ok(())
+}
+
+/// Puts a reply of one line behind the bytes.
+fn put_reply_line(
+    out: &mut Vec<u8>,
+    account: &[u8],
+    start: &[u8],
+    text: &[u8],
+) -> Result<(), AllocError>
+    ensures ok { OnOk result (out.new.items ≡ out.old.items ++ written_reply account.now ((start.now ++ text.now) ∷ [])) }
+    ensures err { OnErr result (out.new.items ≡ out.old.items) }
+{
+    let before = out.len();
+    match put_parts(out, account, start, text) {
+        Ok(()) => Ok(()),
+        Err(error) => {
+            out.truncate(before);
+            Err(error)
+        }
+    }
+}
+
+/// Puts a reply of one line that ends with a number behind the bytes.
+fn put_number_line(
+    out: &mut Vec<u8>,
+    account: &[u8],
+    start: &[u8],
+    number: u64,
+) -> Result<(), AllocError>
+    ensures ok { OnOk result (out.new.items ≡ out.old.items ++ written_reply account.now ((start.now ++ decimal number) ∷ [])) }
+    ensures err { OnErr result (out.new.items ≡ out.old.items) }
+{
+    let mut buffer = Buffer::new();
+    put_reply_line(out, account, start, buffer.format(number).as_bytes())
+}
+
+/// Puts the reply to a load behind the bytes: the module's name.
+pub fn put_loaded(out: &mut Vec<u8>, account: &[u8], name: &AtomText) -> Result<(), AllocError>
+    ensures ok { OnOk result (out.new.items ≡ out.old.items ++ written_reply account.now (reply_lines (loaded name.now))) }
+    ensures err { OnErr result (out.new.items ≡ out.old.items) }
+{
+    put_reply_line(
+        out,
+        account,
+        b"+ loaded ",
+        name.printed_as_atom().as_slice(),
+    )
+}
+
+/// Puts the reply to a start behind the bytes: the number of the shoen.
+pub fn put_opened(out: &mut Vec<u8>, account: &[u8], shoen: u64) -> Result<(), AllocError>
+    ensures ok { OnOk result (out.new.items ≡ out.old.items ++ written_reply account.now (reply_lines (opened shoen))) }
+    ensures err { OnErr result (out.new.items ≡ out.old.items) }
+{
+    put_number_line(out, account, b"+ shoen ", shoen)
+}
+
+/// Puts the reply to a reduction behind the bytes.
+pub fn put_reduced(out: &mut Vec<u8>, account: &[u8]) -> Result<(), AllocError>
+    ensures ok { OnOk result (out.new.items ≡ out.old.items ++ written_reply account.now (reply_lines reduced)) }
+    ensures err { OnErr result (out.new.items ≡ out.old.items) }
+{
+    put_reply_line(out, account, b"+ reduced", b"")
+}
+
+/// Puts the reply to a run behind the bytes: how many steps were done.
+pub fn put_ran(out: &mut Vec<u8>, account: &[u8], steps: u64) -> Result<(), AllocError>
+    ensures ok { OnOk result (out.new.items ≡ out.old.items ++ written_reply account.now (reply_lines (ran steps))) }
+    ensures err { OnErr result (out.new.items ≡ out.old.items) }
+{
+    put_number_line(out, account, b"+ ", steps)
+}
+
+/// Puts the reply to a question for a value behind the bytes: the goal as it is printed.
+pub fn put_shown(out: &mut Vec<u8>, account: &[u8], text: &[u8]) -> Result<(), AllocError>
+    ensures ok { OnOk result (out.new.items ≡ out.old.items ++ written_reply account.now (reply_lines (shown text.now))) }
+    ensures err { OnErr result (out.new.items ≡ out.old.items) }
+{
+    put_reply_line(out, account, b"+ ", text)
+}
+
+/// Puts the refusal of what is no command behind the bytes.
+pub fn put_syntax(out: &mut Vec<u8>, account: &[u8]) -> Result<(), AllocError>
+    ensures ok { OnOk result (out.new.items ≡ out.old.items ++ written_reply account.now (reply_lines (refused syntax))) }
+    ensures err { OnErr result (out.new.items ≡ out.old.items) }
+{
+    put_reply_line(out, account, b"- ", b"1 syntax")
+}
+
+/// Puts the refusal of a source behind the bytes: the line of the first bad item, from 1.
+pub fn put_source(out: &mut Vec<u8>, account: &[u8], line: u64) -> Result<(), AllocError>
+    ensures ok { OnOk result (out.new.items ≡ out.old.items ++ written_reply account.now (reply_lines (refused (source line)))) }
+    ensures err { OnErr result (out.new.items ≡ out.old.items) }
+{
+    put_number_line(out, account, b"- 2 source ", line)
+}
+
+/// Puts the refusal of a module that is loaded already behind the bytes.
+pub fn put_exists(out: &mut Vec<u8>, account: &[u8]) -> Result<(), AllocError>
+    ensures ok { OnOk result (out.new.items ≡ out.old.items ++ written_reply account.now (reply_lines (refused exists))) }
+    ensures err { OnErr result (out.new.items ≡ out.old.items) }
+{
+    put_reply_line(out, account, b"- ", b"3 exists")
+}
+
+/// Puts the refusal of a shoen that isn't there behind the bytes.
+pub fn put_no_shoen(out: &mut Vec<u8>, account: &[u8]) -> Result<(), AllocError>
+    ensures ok { OnOk result (out.new.items ≡ out.old.items ++ written_reply account.now (reply_lines (refused no_shoen))) }
+    ensures err { OnErr result (out.new.items ≡ out.old.items) }
+{
+    put_reply_line(out, account, b"- ", b"4 noshoen")
+}
+
+/// Puts the refusal of a reduction behind the bytes.
+pub fn put_step_refused(out: &mut Vec<u8>, account: &[u8]) -> Result<(), AllocError>
+    ensures ok { OnOk result (out.new.items ≡ out.old.items ++ written_reply account.now (reply_lines (refused step_refused))) }
+    ensures err { OnErr result (out.new.items ≡ out.old.items) }
+{
+    put_reply_line(out, account, b"- ", b"6 step")
+}
+
+/// Puts the refusal of an event that finds the journal full behind the bytes.
+pub fn put_journal_full(out: &mut Vec<u8>, account: &[u8]) -> Result<(), AllocError>
+    ensures ok { OnOk result (out.new.items ≡ out.old.items ++ written_reply account.now (reply_lines (refused journal_full))) }
+    ensures err { OnErr result (out.new.items ≡ out.old.items) }
+{
+    put_reply_line(out, account, b"- ", b"9 journal")
+}

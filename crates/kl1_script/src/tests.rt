@@ -1,0 +1,7 @@
+// What only running shows: bytes from outside, and that each call can succeed.
+
+mod accounts;
+mod devices;
+mod lines;
+mod records;
+mod replies;
