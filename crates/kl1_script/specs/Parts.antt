@@ -1,7 +1,7 @@
 -- What the parts of a line stand for.
 use Rattle.kl1_model.specs.Command.{Line, whole, load_of, no_command, run, does, line_with, start_with}
 use Rattle.kl1_model.specs.Command as model
-use Rattle.kl1_model.specs.Step.{read, value}
+use Rattle.kl1_model.specs.Event.{read, value}
 use Rattle.kl1_model.specs.Module.{read_goal}
 use Rattle.kl1_script.specs.declared.verb.Verb.{Verb}
 use Rattle.kl1_script.specs.declared.verb.Verb.TheVariants as verbs

@@ -1,7 +1,7 @@
 -- What the next record of a script stands for.
 use Rattle.std.specs.Prelude.{ℕ, ◌<◌, true, false, [], length, Option, Some, None}
 use Rattle.kl1_model.specs.Command.{Command, run, does, start_with}
-use Rattle.kl1_model.specs.Step.{read, value, load}
+use Rattle.kl1_model.specs.Event.{read, value, load}
 use Rattle.kl1_model.specs.Module.{read_goal}
 use Rattle.kl1_model.specs.Script.{Records, record_first, records_of}
 use Rattle.kl1_script.specs.declared.record.CommandParts.{CommandParts}
