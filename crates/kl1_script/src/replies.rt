@@ -3,7 +3,7 @@
 ghost use Rattle.std.specs.Prelude.{◌≡◌, ◌++◌, ◌∷◌, [], codes, decimal, length, take, OnOk, OnErr};
 ghost use Rattle.kl1_model.specs.Command.{reply_lines};
 ghost use Rattle.kl1_model.specs.Script.{written_line, written_reply};
-ghost use Rattle.kl1_model.specs.Step.{loaded, opened, reduced, ran, shown, refused, syntax, source, exists, no_shoen, step_refused, journal_full};
+ghost use Rattle.kl1_model.specs.Event.{loaded, opened, reduced, ran, shown, refused, syntax, source, exists, no_shoen, step_refused, journal_full};
 
 use itoa::Buffer;
 use kl1_text::AtomText;
