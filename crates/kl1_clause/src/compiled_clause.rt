@@ -5,9 +5,10 @@ ghost use Rattle.kl1_model.specs.Term.{terms_of};
 ghost use Rattle.kl1_model.specs.Meaning.{highest_in};
 ghost use Rattle.kl1_model.specs.State.{names_of_clause};
 ghost use Rattle.kl1_clause.specs.NameList.{with_texts};
-ghost use Rattle.kl1_clause.specs.Clauses.{clause_of_parts, IsCompiled};
+ghost use Rattle.kl1_read.specs.Sources.{clause_of_parts};
+ghost use Rattle.kl1_clause.specs.Clauses.{IsCompiled};
 
-use crate::clause_parts::ClauseParts;
+use kl1_read::ClauseParts;
 use crate::instruction::Instruction;
 use crate::name::Name;
 use crate::names::Names;

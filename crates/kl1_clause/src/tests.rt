@@ -1,7 +1,7 @@
 // What only running shows: that each call can succeed, and instructions against the language's rules.
 
 use crate::code::clauses_of;
-use crate::{ClauseParts, Code, Instruction, ModuleParts, Name, Names};
+use crate::{ClauseParts, Code, Instruction, Source, Name, Names};
 use kl1_model::BuiltIn;
 use kl1_term::Term;
 use kl1_text::AtomText;
@@ -176,7 +176,7 @@ fn names_stand_in_order_of_first_use(rt: HostRuntime) -> Result<(), Fail> {
 
 #[test]
 fn a_module_of_its_name_alone(rt: HostRuntime) -> Result<(), Fail> {
-    let parts = ModuleParts {
+    let parts = Source {
         name: AtomText::of(b"e"),
         clauses: Vec::new(rt.alloc()),
     };

@@ -10,3 +10,4 @@ pub mod Joins
 pub mod States
 pub mod Series
 pub mod WholeTexts
+pub mod Sources

@@ -3,6 +3,7 @@
 
 mod begun;
 mod bytes;
+mod clause_parts;
 mod closed;
 mod expression;
 mod frame;
@@ -16,11 +17,21 @@ mod numbering;
 mod opened;
 mod piece;
 mod quotes;
+mod read_fault;
+mod goals;
+mod modules;
 mod series;
 mod signs;
+mod source;
 mod spelled;
 mod state;
 #[cfg(test)]
 mod tests;
 mod whole_text;
 mod words;
+
+pub use clause_parts::ClauseParts;
+pub use read_fault::ReadFault;
+pub use goals::read_goal;
+pub use modules::read_module;
+pub use source::Source;

@@ -16,6 +16,7 @@ mod term;
 mod tests;
 mod variables;
 mod view;
+mod writable;
 
 pub use node::Node;
 pub use part::Part;

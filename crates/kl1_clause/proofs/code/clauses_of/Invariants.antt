@@ -1,6 +1,6 @@
 -- the clauses so far are compiled
 use Rattle.std.proofs.Common.{map, take}
-use Rattle.kl1_clause.specs.Clauses.{clause_of_parts}
+use Rattle.kl1_read.specs.Sources.{clause_of_parts}
 use Rattle.kl1_clause.proofs.CodeFacts.{AreMade}
 use Rattle.kl1_clause.proofs.code.clauses_of.Given as goal
 

@@ -2,7 +2,7 @@ use Rattle.std.proofs.Common.{◌≡◌, ◌-◌, ap, sym, ◌∙◌}
 use Rattle.kl1_model.specs.Term.{terms_of}
 use Rattle.kl1_model.specs.Meaning.{highest_in}
 use Rattle.kl1_term.proofs.Rows.{count_of-terms_of}
-use Rattle.kl1_clause.specs.Clauses.{clause_of_parts}
+use Rattle.kl1_read.specs.Sources.{clause_of_parts}
 use Rattle.kl1_clause.proofs.ClauseFacts.{made}
 use Rattle.kl1_clause.proofs.compiled_clause.compiled_of.Goals as goal
 

@@ -1,7 +1,7 @@
 use Rattle.std.proofs.Common.{◌≡◌, ℕ, List, ap, refl, ◌∙◌, map, []}
 use Rattle.kl1_model.specs.State.{names_of_clauses}
 use Rattle.kl1_clause.specs.declared.code.Code.TheInside.{Inside}
-use Rattle.kl1_clause.specs.Clauses.{clause_of_parts}
+use Rattle.kl1_read.specs.Sources.{clause_of_parts}
 use Rattle.kl1_clause.specs.NameList.{with_text, with_texts}
 use Rattle.kl1_clause.proofs.Soundness.{IsBuilt, module_is, is_sound}
 use Rattle.kl1_clause.proofs.code.Code.of_parts.Goals as goal

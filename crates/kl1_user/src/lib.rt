@@ -1,0 +1,16 @@
+//! One account: what each event does to it, and the reply.
+#![tactic(auto)]
+
+mod account_name;
+mod event;
+mod numbers;
+mod refusal;
+mod reply;
+mod user_state;
+
+pub use account_name::AccountName;
+pub use event::{Event, Query};
+pub use numbers::{ClauseNo, GoalNo, ShoenNo};
+pub use refusal::Refusal;
+pub use reply::Reply;
+pub use user_state::UserState;

@@ -1,0 +1,67 @@
+// One account.
+
+ghost use Rattle.std.specs.Prelude.{◌≡◌, IfOk, OnErr, IsTrue, option_map};
+ghost use Rattle.kl1_model.specs.State.{fresh};
+ghost use Rattle.kl1_model.specs.Step.{step};
+ghost use Rattle.kl1_model.specs.Choice.{first, quiet};
+ghost use Rattle.kl1_user.specs.Views.{event_of, reply_of, chosen_of};
+
+use crate::account_name::AccountName;
+use crate::event::Event;
+use crate::numbers::{ClauseNo, GoalNo};
+use crate::reply::Reply;
+use std::alloc::{AllocError, Global};
+use std::marker::Model;
+
+/// One account: its goals, shoens and modules.
+#[derive(Drop)]
+pub struct UserState {
+    name: AccountName,
+}
+
+impl Model for UserState {
+    ghost use Rattle.std.specs.Coded.{codes};
+    ghost use Rattle.kl1_model.specs.TermCode.{term_code};
+    ghost use Rattle.kl1_model.specs.State.{State, fresh};
+
+    ghost Value = { State };
+
+    ghost coded = { Prim.hlevel (codes, term_code) };
+
+    ghost view = { λ u. fresh u.name };
+}
+
+impl UserState {
+    /// An account of this name in which nothing has happened.
+    pub fn fresh(alloc: Global, name: AccountName) -> Result<Self, AllocError>
+        ensures { IfOk result (λ user. user ≡ fresh name) }
+    {
+        let _ = alloc;
+        Ok(UserState { name })
+    }
+
+    /// What an event does to the account, and the reply.
+    pub fn apply(&mut self, event: &Event) -> Result<Reply, AllocError>
+        ensures step { IfOk result (λ reply. step self.old (event_of event.now) ≡ record { state = self.new; reply = reply_of reply }) }
+        ensures err { OnErr result (self.new ≡ self.old) }
+    {
+        let _ = event;
+        Err(AllocError)
+    }
+
+    /// The first goal that can step, with the clause by which it steps.
+    pub fn pick(&self) -> Option<(GoalNo, ClauseNo)>
+        ensures { option_map chosen_of result ≡ first self.now }
+    {
+        let _ = &self.name;
+        None
+    }
+
+    /// Whether no goal can step.
+    pub fn quiet(&self) -> bool
+        ensures { result ≡ quiet self.now }
+    {
+        let _ = &self.name;
+        true
+    }
+}
