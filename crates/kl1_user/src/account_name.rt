@@ -1,6 +1,9 @@
 // The name of an account.
 
-ghost use Rattle.std.specs.Prelude.{◌≡◌, ◌&&◌, nat_le, length, IfSome, is_some};
+ghost use Rattle.std.specs.Prelude.{◌≡◌, ◌||◌, IfSome, is_some};
+ghost use Rattle.std.specs.List.{list_all};
+ghost use Rattle.kl1_model.specs.Name.{is_small_letter};
+ghost use Rattle.kl1_model.specs.Token.{is_digit};
 ghost use Rattle.kl1_model.specs.Script.{is_account_name};
 
 use kl1_text::AtomText;
@@ -13,7 +16,7 @@ pub struct AccountName {
 }
 
 impl Model for AccountName {
-    ghost use Rattle.std.specs.Prelude.{ℕ, List, IsTrue};
+    ghost use Rattle.std.specs.Prelude.{ℕ, List, IsTrue, refl};
     ghost use Rattle.kl1_model.specs.Script.{is_account_name};
 
     ghost Value = { List ℕ };
@@ -21,6 +24,10 @@ impl Model for AccountName {
     ghost view = { λ a. a.text };
 
     ghost invariant = { λ a. IsTrue (is_account_name a.text) };
+
+    ghost inverse = { λ t. record { text = t } };
+
+    ghost inverse_ok = { λ a h. refl };
 }
 
 impl AccountName {
@@ -60,5 +67,5 @@ fn is_account_name(bytes: &[u8]) -> bool
 fn are_name_bytes(bytes: &[u8]) -> bool
     ensures { result ≡ list_all (λ c. is_small_letter c || is_digit c) bytes.now }
 {
-    bytes.iter().all(|byte| is_small_letter(*byte) || byte.is_ascii_digit())
+    bytes.iter().all(|byte| byte.is_ascii_lowercase() || byte.is_ascii_digit())
 }

@@ -22,11 +22,12 @@ pub struct UserState {
 impl Model for UserState {
     ghost use Rattle.std.specs.Coded.{codes};
     ghost use Rattle.kl1_model.specs.TermCode.{term_code};
+    ghost use Rattle.kl1_clause.specs.ModuleCode.{module_code};
     ghost use Rattle.kl1_model.specs.State.{State, fresh};
 
     ghost Value = { State };
 
-    ghost coded = { Prim.hlevel (codes, term_code) };
+    ghost coded = { Prim.hlevel (codes, term_code, module_code) };
 
     ghost view = { λ u. fresh u.name };
 }
