@@ -1,5 +1,4 @@
 -- What events, replies and choices are in the definitions.
-use Rattle.std.specs.Prelude.{◌≡◌, ℕ, Option, option_map}
 use Rattle.kl1_model.specs.Event.{Stepped}
 use Rattle.kl1_model.specs.Event as model
 use Rattle.kl1_model.specs.Choice as model_choice

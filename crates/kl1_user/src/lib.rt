@@ -3,7 +3,9 @@
 
 mod account_name;
 mod event;
+mod moves;
 mod numbers;
+mod printing;
 mod refusal;
 mod reply;
 mod user_state;
