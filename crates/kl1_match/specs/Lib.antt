@@ -1,1 +1,4 @@
 pub mod Instances
+pub mod Rows
+pub mod Steps
+pub mod Built

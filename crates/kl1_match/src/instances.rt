@@ -1,16 +1,75 @@
 // The instance of a clause's body.
 
-ghost use Rattle.std.specs.Prelude.{◌≡◌, ℕ, ◌<◌, List, IfOk};
+ghost use Rattle.std.specs.Prelude.{◌≡◌, ℕ, ◌<◌, List, [], length, map, IfOk, OnOk};
 ghost use Rattle.kl1_text.specs.Reading.{Reads};
+ghost use Rattle.kl1_store.specs.Held.{AreIn};
 ghost use Rattle.kl1_store.specs.Sound.{Grown};
-ghost use Rattle.kl1_clause.specs.Clauses.{IsCompiled};
+ghost use Rattle.kl1_clause.specs.Instructions.{IsPlaced, IsNamed, AreNamed, text_in, code_in};
 ghost use Rattle.kl1_match.specs.Instances.{IsClause, AreThere, IsInstance};
+ghost use Rattle.kl1_match.specs.Steps.{step_code, IsBelow};
+ghost use Rattle.kl1_match.specs.Built.{IsWithinRow, AreBelow, BuildsRow};
 
+use crate::building::put_step;
 use crate::place::Place;
-use kl1_clause::CompiledClause;
+use crate::step::Step;
+use kl1_clause::{CompiledClause, Instruction, Name};
 use kl1_store::{Cell, Store};
 use kl1_text::NameValue;
 use std::alloc::{AllocError, Global};
+
+/// The name that a name of a code stands for, where these are the names for the places of the code's list.
+#[tactic(auto, using(crate::proofs::Built::name_is))]
+pub(crate) fn name_in<N: NameValue>(names: &[N], name: Name) -> N
+    requires { IsPlaced (length names.now) name }
+    ensures { (f : N → List ℕ) → Reads N.built f → f result ≡ text_in (map f names.now) name }
+{
+    match name {
+        Name::Language(built_in) => N::of(built_in),
+        Name::Place(place) => names[place],
+    }
+}
+
+/// The step that an instruction stands for.
+fn step_in<N: NameValue>(names: &[N], instruction: Instruction) -> Step<N>
+    requires { IsNamed (length names.now) instruction }
+    ensures code { (f : N → List ℕ) → Reads N.built f → step_code f result ≡ code_in (map f names.now) instruction }
+    ensures below { (count : ℕ) → IsWithinRow count instruction → IsBelow count result }
+{
+    match instruction {
+        Instruction::Variable(number) => Step::Variable(number),
+        Instruction::Integer(number) => Step::Integer(number),
+        Instruction::Atom(name) => Step::Atom(name_in(names, name)),
+        Instruction::Structure(name, count) => Step::Structure(name_in(names, name), count),
+    }
+}
+
+/// Puts on an empty stack the cells of the terms of a row, the last of them first. `variables` has a cell for each variable,
+/// by its number from 0. Where memory is refused, the stack is of no use.
+fn put_row<N: NameValue>(
+    alloc: Global,
+    store: &mut Store<N>,
+    names: &[N],
+    variables: &[Cell<N>],
+    row: &[Instruction],
+    stack: &mut Vec<Cell<N>>,
+) -> Result<(), AllocError>
+    requires named { AreNamed (length names.now) row.now }
+    requires below { AreBelow (length variables.now) row.now }
+    requires variables { AreIn store.old.held variables.now }
+    requires empty { stack.old.items ≡ [] }
+    ensures grown { Grown store.old.held store.new.held }
+    ensures hooks { store.new.hooks ≡ store.old.hooks }
+    ensures rows { OnOk result (BuildsRow N.built names.now store.old.held store.new.held variables.now row.now stack.new.items) }
+{
+    let mut arguments = Vec::new(alloc);
+    let mut left = row.len();
+    while 0 < left {
+        left -= 1;
+        let step = step_in(names, row[left]);
+        put_step(store, variables, step, stack, &mut arguments)?;
+    }
+    Ok(())
+}
 
 /// The goals of a clause's body, with the terms at the places of its head's variables in them. Its other variables are the
 /// next of the store, in order of first occurrence. Where memory is refused, the store may have grown.

@@ -1,9 +1,11 @@
 //! What clauses make of goals: verdicts of heads, and instances of bodies, over cells.
 #![tactic(auto)]
 
+mod building;
 mod goals;
 mod instances;
 mod place;
+mod step;
 
 pub use goals::build_goal;
 pub use instances::instance;

@@ -1,0 +1,32 @@
+use Rattle.std.proofs.Common.{rules, ◌≡◌, ◌-◌, ◌+◌, ◌<◌, length, slice_index_or, arith, refl, ◌∙◌}
+use Rattle.kl1_store.specs.Sound.{Grown}
+use Rattle.kl1_store.proofs.Grows.{Grown-trans}
+use Rattle.kl1_clause.specs.declared.instruction.Instruction.TheVariants.{Variable}
+use Rattle.kl1_match.proofs.Built.{named_at, below_at, all_still_in, more_built}
+use Rattle.kl1_match.proofs.instances.put_row.Goals as goal
+
+pub step_in-step-requires : goal.step_in-step-requires
+step_in-step-requires g c =
+    let b = c.loop-left.invariant.0 in
+    let within : c.loop-left.left - 1 < length c.args.row.now = omega (arith, c.loop-left-test.true, b.within) in
+    named_at (length c.args.names.now) c.args.row.now (c.loop-left.left - 1) (Variable 0) c.requires.named within
+
+pub put_step-requires-clause-below : goal.put_step-requires-clause-below
+put_step-requires-clause-below g c =
+    let b = c.loop-left.invariant.0 in
+    let within : c.loop-left.left - 1 < length c.args.row.now = omega (arith, c.loop-left-test.true, b.within) in
+    c.step_in-step.ensures.below (length c.args.variables.now) (below_at (length c.args.variables.now) c.args.row.now (c.loop-left.left - 1) (Variable 0) c.requires.below within)
+
+pub put_step-requires-clause-variables : goal.put_step-requires-clause-variables
+put_step-requires-clause-variables g c =
+    let b = c.loop-left.invariant.0 in
+    all_still_in c.args.store.now.held c.loop-left.store.held c.args.variables.now b.grown c.requires.variables
+
+pub loop-left-preserved : goal.loop-left-preserved
+loop-left-preserved g c =
+    let b = c.loop-left.invariant.0 in
+    let grown = Grown-trans c.args.store.now.held c.loop-left.store.held c.put_step.new.store.held b.grown c.put_step.ensures.grown in
+    (more_built g.N.NameValue.built c.args.names.now c.args.store.now.held c.loop-left.store.held c.put_step.new.store.held c.args.variables.now c.args.row.now c.loop-left.left
+       (slice_index_or c.args.row.now (c.loop-left.left - 1) (Variable 0)) (Variable 0) c.step_in-step.result c.loop-left.stack.items c.put_step.new.stack.items
+       c.requires.variables c.loop-left-test.true refl c.step_in-step.ensures.code b grown c.in_ok-put_step.ensures.puts
+    , c.put_step.ensures.hooks ∙ c.loop-left.invariant.1)

@@ -1,0 +1,84 @@
+// Cells built of nodes, from the last node to the first.
+
+ghost use Rattle.std.specs.Prelude.{◌≡◌, length, reverse, OnOk};
+ghost use Rattle.kl1_store.specs.Held.{IsIn, AreIn};
+ghost use Rattle.kl1_store.specs.Sound.{Grown};
+ghost use Rattle.kl1_match.specs.Rows.{firsts, others, Joins};
+ghost use Rattle.kl1_match.specs.Steps.{IsBelow, PutsStep};
+
+use crate::step::Step;
+use kl1_store::{Cell, Store};
+use kl1_text::NameValue;
+use std::alloc::AllocError;
+
+/// Moves so many cells from the top of a stack; where none is left, `missing` stands for it.
+pub(crate) fn move_top<N: NameValue>(
+    stack: &mut Vec<Cell<N>>,
+    arguments: &mut Vec<Cell<N>>,
+    missing: Cell<N>,
+    count: usize,
+) -> Result<(), AllocError>
+    ensures moved { OnOk result (arguments.new.items ≡ firsts missing count (reverse stack.old.items)) }
+    ensures left { OnOk result (reverse stack.new.items ≡ others count (reverse stack.old.items)) }
+{
+    arguments.clear();
+    let mut left = count;
+    while 0 < left {
+        let cell = stack.pop().unwrap_or(missing);
+        arguments.push(cell)?;
+        left -= 1;
+    }
+    Ok(())
+}
+
+/// Puts the structure of a name and so many cells from the top of a stack on it; where none is left, `missing` stands for
+/// it. Where memory is refused, the stack is of no use.
+pub(crate) fn join_top<N: NameValue>(
+    store: &mut Store<N>,
+    stack: &mut Vec<Cell<N>>,
+    arguments: &mut Vec<Cell<N>>,
+    missing: Cell<N>,
+    name: N,
+    count: usize,
+) -> Result<(), AllocError>
+    requires stack { AreIn store.old.held stack.old.items }
+    requires missing { IsIn store.old.held missing }
+    ensures grown { Grown store.old.held store.new.held }
+    ensures hooks { store.new.hooks ≡ store.old.hooks }
+    ensures joins { OnOk result (Joins store.old.held store.new.held missing name count (reverse stack.old.items) (reverse stack.new.items)) }
+    ensures inside { OnOk result (AreIn store.new.held stack.new.items) }
+{
+    let _ = store.mark();
+    move_top(stack, arguments, missing, count)?;
+    let structure = store.build(name, arguments.as_slice())?;
+    stack.push(Cell::Structure(structure))?;
+    Ok(())
+}
+
+/// Puts on a stack the cell of a term that begins with a step, whose arguments are taken from its top. `variables` has a
+/// cell for each variable, by its number from 0. Where memory is refused, the stack is of no use.
+pub(crate) fn put_step<N: NameValue>(
+    store: &mut Store<N>,
+    variables: &[Cell<N>],
+    step: Step<N>,
+    stack: &mut Vec<Cell<N>>,
+    arguments: &mut Vec<Cell<N>>,
+) -> Result<(), AllocError>
+    requires below { IsBelow (length variables.now) step }
+    requires variables { AreIn store.old.held variables.now }
+    requires stack { AreIn store.old.held stack.old.items }
+    ensures grown { Grown store.old.held store.new.held }
+    ensures hooks { store.new.hooks ≡ store.old.hooks }
+    ensures puts { OnOk result (PutsStep store.old.held store.new.held variables.now step stack.old.items stack.new.items) }
+{
+    match step {
+        Step::Variable(number) => stack.push(variables[number as usize])?,
+        Step::Integer(number) => stack.push(Cell::Integer(number))?,
+        Step::Atom(name) => stack.push(Cell::Atom(name))?,
+        Step::Structure(name, count) => {
+            let missing = variables[0];
+            join_top(store, stack, arguments, missing, name, count)?;
+        }
+    }
+    Ok(())
+}
