@@ -1,5 +1,5 @@
 -- Rows of instructions built in a store.
-use Rattle.std.proofs.Common.{◌≡◌, ℕ, zero, suc, ◌+◌, ◌-◌, ◌<◌, ◌≤◌, List, [], ◌∷◌, length, map, reverse, take, drop, get_or, refl, ap, sym, ◌∙◌, subst, slice_index_or, arith, length-take}
+use Rattle.std.proofs.Common.{◌≡◌, ℕ, zero, suc, ◌+◌, ◌-◌, ◌<◌, ◌≤◌, List, [], ◌∷◌, length, map, drop, get_or, refl, ap, sym, ◌∙◌, subst, slice_index_or, arith, length-take}
 use Rattle.std.proofs.lemmas.List.{drop_more, drop_all}
 use Rattle.kl1_model.specs.declared.built_in.BuiltIn.{BuiltIn}
 use Rattle.kl1_model.specs.Term.{Term, substituted}
@@ -7,9 +7,7 @@ use Rattle.kl1_model.specs.TermCode.{NodeCode, read_node, read_nodes}
 use Rattle.kl1_text.specs.Reading.{Reads}
 use Rattle.kl1_store.specs.declared.cell.Cell.{Cell}
 use Rattle.kl1_store.specs.declared.cell.Cell.TheVariants as cell
-use Rattle.kl1_store.specs.Held.{Held, IsWithin, IsIn, AreIn, AreWithin}
-use Rattle.kl1_store.specs.Meaning.{term_of}
-use Rattle.kl1_store.specs.ComparesEach.{term_list}
+use Rattle.kl1_store.specs.Held.{Held, IsWithin, IsIn, AreIn}
 use Rattle.kl1_store.specs.Sound.{Grown}
 use Rattle.kl1_store.proofs.Growing.{AreWithin-more}
 use Rattle.kl1_clause.specs.declared.instruction.Instruction.{Instruction}
@@ -17,7 +15,7 @@ use Rattle.kl1_clause.specs.Instructions.{IsNamed, AreNamed, code_in}
 use Rattle.kl1_match.specs.declared.step.Step.{Step}
 use Rattle.kl1_match.specs.Instances.{AreKept}
 use Rattle.kl1_match.specs.Steps.{step_code, Agrees, PutsStep}
-use Rattle.kl1_match.specs.Built.{IsWithinRow, AreBelow, Stacked, BuildsRow}
+use Rattle.kl1_match.specs.Built.{IsWithinRow, AreBelow, BuildsRow}
 use Rattle.kl1_match.proofs.Steps.{within_at}
 
 -- a name at a place is read as the text at that place
@@ -30,7 +28,7 @@ name_is f (x ∷ xs) (suc k) d h = name_is f xs k d (omega (arith, h))
 pub longer : {N : Type 0} (a b : Held N) → Grown a b → length a.structures ≤ length b.structures
 longer a b g = let e = ap length g.structures in omega (arith, e, length-take (length a.structures) b.structures)
 
-within_more : {N : Type 0} (vs ss ws us : ℕ) (x : Cell N) → vs ≤ ws → ss ≤ us → IsWithin vs ss x → IsWithin ws us x
+pub within_more : {N : Type 0} (vs ss ws us : ℕ) (x : Cell N) → vs ≤ ws → ss ≤ us → IsWithin vs ss x → IsWithin ws us x
 within_more vs ss ws us (cell.Variable v) p q h = omega (arith, p, h)
 within_more vs ss ws us (cell.Integer i) p q h = tt
 within_more vs ss ws us (cell.Atom a) p q h = tt

@@ -1,3 +1,5 @@
 pub mod Rows
 pub mod Steps
 pub mod Built
+pub mod Places
+pub mod Bodies

@@ -1,7 +1,7 @@
 -- Steps put on a stack.
 use Rattle.std.proofs.Common.{◌≡◌, ℕ, zero, suc, ◌<◌, List, [], ◌∷◌, ◌++◌, length, map, reverse, refl, ap, sym, ◌∙◌, subst, slice_index_or, ℤ, arith}
 use Rattle.std.proofs.lemmas.List.{reverse-append}
-use Rattle.kl1_model.specs.Term.{Term, Terms, none, more, structure, variable, integer, atom, substituted, each_substituted}
+use Rattle.kl1_model.specs.Term.{Term, more, structure, substituted, each_substituted}
 use Rattle.kl1_model.specs.TermCode.{first_term, behind_first, front_of, behind, read_node}
 use Rattle.kl1_store.specs.declared.cell.Cell.{Cell}
 use Rattle.kl1_store.specs.declared.cell.Cell.TheVariants as cell
@@ -9,11 +9,10 @@ use Rattle.kl1_store.specs.Held.{Held, IsWithin, AreWithin, IsIn, AreIn}
 use Rattle.kl1_store.specs.Meaning.{term_of}
 use Rattle.kl1_store.specs.ComparesEach.{term_list}
 use Rattle.kl1_store.proofs.Terms.{term_of-Integer, term_of-Atom}
-use Rattle.kl1_match.specs.Instances.{AreKept}
 use Rattle.kl1_match.specs.declared.step.Step.{Step}
 use Rattle.kl1_match.specs.declared.step.Step.TheVariants.{Variable, Integer, Atom, Structure}
 use Rattle.kl1_match.specs.Rows.{first_or, front_with, Joins}
-use Rattle.kl1_match.specs.Steps.{step_code, Agrees, StepPut, PutsStep}
+use Rattle.kl1_match.specs.Steps.{step_code, Agrees, PutsStep}
 use Rattle.kl1_match.proofs.Rows.{AreWithin-append}
 
 -- a cell of a list is of the store

@@ -2,3 +2,4 @@ pub mod Instances
 pub mod Rows
 pub mod Steps
 pub mod Built
+pub mod Variables

@@ -7,12 +7,15 @@ ghost use Rattle.kl1_store.specs.Sound.{Grown};
 ghost use Rattle.kl1_clause.specs.Instructions.{IsPlaced, IsNamed, AreNamed, text_in, code_in};
 ghost use Rattle.kl1_match.specs.Instances.{IsClause, AreThere, IsInstance};
 ghost use Rattle.kl1_match.specs.Steps.{step_code, IsBelow};
+ghost use Rattle.kl1_match.specs.Variables.{AreVariables};
 ghost use Rattle.kl1_match.specs.Built.{IsWithinRow, AreBelow, BuildsRow};
 
 use crate::building::put_step;
 use crate::place::Place;
 use crate::step::Step;
+use crate::variables::{put_fresh, set_places};
 use kl1_clause::{CompiledClause, Instruction, Name};
+use kl1_model::BuiltIn;
 use kl1_store::{Cell, Store};
 use kl1_text::NameValue;
 use std::alloc::{AllocError, Global};
@@ -71,6 +74,32 @@ fn put_row<N: NameValue>(
     Ok(())
 }
 
+/// A cell for each variable of a clause, by its number from 0: for those of the head the cells at their places, and for the
+/// others new variables of the store. Where memory is refused, the store may have grown.
+fn variables_of<N: NameValue>(
+    alloc: Global,
+    store: &mut Store<N>,
+    clause: &CompiledClause,
+    places: &[Place<N>],
+) -> Result<Vec<Cell<N>>, AllocError>
+    requires places { AreThere store.old.held places.now }
+    requires some { 0 < store.old.held.variables }
+    ensures grown { Grown store.old.held store.new.held }
+    ensures hooks { store.new.hooks ≡ store.old.hooks }
+    ensures variables { IfOk result (λ cells. AreVariables N.built clause.now.head_variables clause.now.fresh_variables places.now store.old.held store.new.held cells.items) }
+{
+    let _ = store.mark();
+    let none = Cell::Atom(N::of(BuiltIn::EmptyList));
+    let count = (clause.head_variables as usize)
+        .checked_add(1)
+        .ok_or(AllocError)?;
+    let mut cells = Vec::new(alloc);
+    cells.resize(count, none)?;
+    set_places(&mut cells, places);
+    put_fresh(store, &mut cells, clause.fresh_variables)?;
+    Ok(cells)
+}
+
 /// The goals of a clause's body, with the terms at the places of its head's variables in them. Its other variables are the
 /// next of the store, in order of first occurrence. Where memory is refused, the store may have grown.
 pub fn instance<N: NameValue>(
@@ -87,10 +116,16 @@ pub fn instance<N: NameValue>(
     ensures hooks { store.new.hooks ≡ store.old.hooks }
     ensures goals { IfOk result (λ goals. IsInstance N.built names.now clause.now places.now store.old.held store.new.held goals.items) }
 {
-    let _ = alloc;
-    let _ = store;
-    let _ = names;
-    let _ = clause;
-    let _ = places;
-    Err(AllocError)
+    let variables = variables_of(alloc, store, clause, places)?;
+    let mut goals = Vec::new(alloc);
+    put_row(
+        alloc,
+        store,
+        names,
+        variables.as_slice(),
+        clause.goals.as_slice(),
+        &mut goals,
+    )?;
+    goals.reverse();
+    Ok(goals)
 }

@@ -6,6 +6,7 @@ mod goals;
 mod instances;
 mod place;
 mod step;
+mod variables;
 
 pub use goals::build_goal;
 pub use instances::instance;

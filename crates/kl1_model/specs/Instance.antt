@@ -1,7 +1,7 @@
 -- Body instance: the goals of a clause's body with the goal's terms in them.
-use Rattle.std.specs.Prelude.{ℕ, ◌+◌, ◌-◌, ◌==◌, if◌then◌else◌, List, [], ◌∷◌, map}
+use Rattle.std.specs.Prelude.{ℕ, ◌+◌, ◌-◌, ◌==◌, nat_le, if◌then◌else◌, List, [], ◌∷◌, map}
 use Rattle.kl1_model.specs.Term.{Term, variable, terms_of, Replacement, substituted}
-use Rattle.kl1_model.specs.Meaning.{highest_in}
+use Rattle.kl1_model.specs.Meaning.{highest_in, nil}
 use Rattle.kl1_model.specs.Module.{Clause}
 
 -- how many variables the head of a clause has
@@ -17,7 +17,11 @@ abbrev pub term_at : List Replacement → ℕ → Term → Term
 term_at [] v t = t
 term_at (p ∷ places) v t = if p.number == v then p.by else term_at places v t
 
--- the goals of a clause's body: a variable of the head is the term at its place,
--- and the others are the next variables behind the last, in order of first occurrence
+-- what stands in the body's goals for a variable of a clause: for one of the head the term at its place, which it has where
+-- the clause accepts; the others are the next variables behind the last, in order of first occurrence
+abbrev pub body_variable : Clause → List Replacement → ℕ → ℕ → Term
+body_variable c places last v = if nat_le v (head_variables c) then term_at places v nil else variable (last + (v - head_variables c))
+
+-- the goals of a clause's body, with these terms for its variables
 abbrev pub body_instance : Clause → List Replacement → ℕ → List Term
-body_instance c places last = map (substituted (λ v. term_at places v (variable (last + (v - head_variables c))))) c.body
+body_instance c places last = map (substituted (body_variable c places last)) c.body

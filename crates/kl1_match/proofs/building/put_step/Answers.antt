@@ -1,7 +1,5 @@
 use Rattle.std.proofs.Common.{rules, ◌≡◌, ◌<◌, [], ◌∷◌, ◌++◌, length, ◌∙◌, subst, sym, slice_index_or}
 use Rattle.kl1_store.specs.declared.cell.Cell.TheVariants as cell
-use Rattle.kl1_match.specs.declared.step.Step.{Step}
-use Rattle.kl1_match.specs.declared.step.Step.TheVariants.{Variable, Structure}
 use Rattle.kl1_match.specs.Steps.{IsBelow, PutsStep}
 use Rattle.kl1_match.proofs.Steps.{any_default, puts_variable, puts_integer, puts_atom, puts_structure}
 use Rattle.kl1_match.proofs.building.put_step.Goals as goal

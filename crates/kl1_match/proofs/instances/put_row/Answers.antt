@@ -1,5 +1,4 @@
-use Rattle.std.proofs.Common.{rules, ◌≡◌, ◌-◌, ◌+◌, ◌<◌, length, slice_index_or, arith, refl, ◌∙◌}
-use Rattle.kl1_store.specs.Sound.{Grown}
+use Rattle.std.proofs.Common.{◌-◌, ◌<◌, length, slice_index_or, arith, refl, ◌∙◌}
 use Rattle.kl1_store.proofs.Grows.{Grown-trans}
 use Rattle.kl1_clause.specs.declared.instruction.Instruction.TheVariants.{Variable}
 use Rattle.kl1_match.proofs.Built.{named_at, below_at, all_still_in, more_built}
