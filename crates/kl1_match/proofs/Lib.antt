@@ -3,3 +3,4 @@ pub mod Steps
 pub mod Built
 pub mod Places
 pub mod Bodies
+pub mod BuiltNodes

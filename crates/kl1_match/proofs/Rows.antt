@@ -61,7 +61,7 @@ AreWithin-back {N = N} vs ss xs p =
     let P : List (Cell N) → Type 0 = λ zs. AreWithin vs ss zs in
     subst P (reverse-reverse xs) (AreWithin-reverse vs ss (reverse xs) p)
 
-first_within : {N : Type 0} (vs ss : ℕ) (m : Cell N) (xs : List (Cell N)) → IsWithin vs ss m → AreWithin vs ss xs → IsWithin vs ss (first_or m xs)
+pub first_within : {N : Type 0} (vs ss : ℕ) (m : Cell N) (xs : List (Cell N)) → IsWithin vs ss m → AreWithin vs ss xs → IsWithin vs ss (first_or m xs)
 first_within vs ss m [] h p = h
 first_within vs ss m (x ∷ xs) h p = p.0
 
@@ -78,7 +78,7 @@ others_within vs ss zero xs p = p
 others_within vs ss (suc n) xs p = others_within vs ss n (but_first xs) (rest_within vs ss xs p)
 
 -- the terms of the first so many cells
-first_term_is : {N : Type 0} (f : N → List ℕ) (h : Held N) (m : Cell N) (xs : List (Cell N)) → term_of f h (first_or m xs) ≡ first_or (term_of f h m) (term_list f h xs)
+pub first_term_is : {N : Type 0} (f : N → List ℕ) (h : Held N) (m : Cell N) (xs : List (Cell N)) → term_of f h (first_or m xs) ≡ first_or (term_of f h m) (term_list f h xs)
 first_term_is f h m [] = refl
 first_term_is f h m (x ∷ xs) = refl
 

@@ -3,3 +3,4 @@ pub mod Rows
 pub mod Steps
 pub mod Built
 pub mod Variables
+pub mod BuiltNodes
