@@ -1,7 +1,7 @@
 // The depth of a term.
 
 ghost use Rattle.std.specs.Prelude.{◌≡◌, ◌≤◌, ◌^◌};
-ghost use Rattle.kl1_model.specs.Meaning.{flat, pair_depth};
+ghost use Rattle.kl1_model.specs.Meaning.{flat, cell_depth, pair_depth};
 ghost use Rattle.kl1_term.specs.Depths.{depth_of};
 
 use kl1_text::AtomText;
@@ -32,13 +32,22 @@ impl Depth {
         ensures { depth_of result ≡ pair_depth name (depth_of first) (depth_of second) }
     {
         if name.is(&AtomText::of(b".")) {
-            let deepest = first.whole.max(second.rest);
-            Depth {
-                whole: deepest + 1,
-                rest: deepest,
-            }
+            Depth::of_cell(first, second)
         } else {
             Depth::flat(first.whole.max(second.whole) + 1)
+        }
+    }
+
+    /// The depth of a list cell, of its element and what follows it.
+    fn of_cell(element: Depth, behind: Depth) -> Self
+        requires element_low { element.whole ≤ 2 ^ 63 }
+        requires behind_low { behind.rest ≤ 2 ^ 63 }
+        ensures { depth_of result ≡ cell_depth (depth_of element) (depth_of behind) }
+    {
+        let deepest = element.whole.max(behind.rest);
+        Depth {
+            whole: deepest + 1,
+            rest: deepest,
         }
     }
 }

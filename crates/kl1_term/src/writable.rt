@@ -1,8 +1,8 @@
 // Whether a text can write a term.
 
-ghost use Rattle.std.specs.Prelude.{◌≡◌, map, IfOk, IsTrue};
+ghost use Rattle.std.specs.Prelude.{◌≡◌, nat_le, map, IfOk, IsTrue};
 ghost use Rattle.std.specs.List.{list_all};
-ghost use Rattle.kl1_model.specs.Meaning.{is_word, is_writable};
+ghost use Rattle.kl1_model.specs.Meaning.{is_word, is_writable, most_depth};
 ghost use Rattle.kl1_term.specs.Nodes.{code_of};
 ghost use Rattle.kl1_term.specs.Narrow.{is_narrow_node};
 
@@ -20,8 +20,15 @@ impl Term {
             return Ok(false);
         }
         let deep = self.depth(alloc)?;
-        Ok(deep <= 256)
+        Ok(is_low(deep))
     }
+}
+
+/// Whether a text can write a term that is so deep.
+fn is_low(deep: u64) -> bool
+    ensures { result ≡ nat_le deep most_depth }
+{
+    deep <= 256
 }
 
 /// Whether the structures of nodes have 1 to 8 arguments; names and integers fit by their types.

@@ -9,4 +9,4 @@ returns-then-not-are_narrow c =
 
 pub returns : goal.returns
 returns c =
-    narrow_deep (map code_of c.nodes.result.now) c.args.self.now c.in_ok-deep.deep c.nodes.ensures (sym c.are_narrow.ensures ∙ c.if-not-are_narrow.false) c.in_ok-deep.ensures
+    c.is_low.ensures ∙ narrow_deep (map code_of c.nodes.result.now) c.args.self.now c.in_ok-deep.deep c.nodes.ensures (sym c.are_narrow.ensures ∙ c.if-not-are_narrow.false) c.in_ok-deep.ensures
