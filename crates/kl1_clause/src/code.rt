@@ -3,17 +3,15 @@
 ghost use Rattle.std.specs.Prelude.{◌≡◌, ℕ, List, [], length, map, IfOk, IfErr, OnOk};
 ghost use Rattle.kl1_model.specs.State.{names_of_module, names_of_clauses, with_names};
 ghost use Rattle.kl1_clause.specs.NameList.{with_texts, IsNameList};
-ghost use Rattle.kl1_read.specs.Sources.{clause_of_parts};
 ghost use Rattle.kl1_clause.specs.Clauses.{AreCompiled};
-ghost use Rattle.kl1_read.specs.Sources.{module_of_parts};
+ghost use Rattle.kl1_read.specs.Sources.{clause_of_parts, module_of_parts};
 ghost use Rattle.kl1_model.specs.Module.{good, read_module};
 ghost use Rattle.kl1_clause.specs.Modules.{IsMeant, IsFaultOf};
 
-use kl1_read::ClauseParts;
 use crate::code_fault::CodeFault;
 use crate::compiled_clause::{CompiledClause, compiled_of};
-use kl1_read::Source;
 use crate::names::Names;
+use kl1_read::{ClauseParts, ReadFault, Source, read_module};
 use kl1_text::AtomText;
 use std::alloc::{AllocError, Global};
 use std::marker::Model;
@@ -45,7 +43,7 @@ impl Model for Code {
 
 impl Code {
     /// The code of a module that is the meaning of a source.
-    pub fn of_parts(alloc: Global, source: &[u8], parts: &Source) -> Result<Self, AllocError>
+    pub(crate) fn of_parts(alloc: Global, source: &[u8], parts: &Source) -> Result<Self, AllocError>
         requires { IsMeant source.now (module_of_parts source.now parts.now) }
         ensures { IfOk result (λ code. code ≡ module_of_parts source.now parts.now) }
     {
@@ -67,9 +65,15 @@ impl Code {
         ensures module { IfOk result (λ code. read_module source.now ≡ good code) }
         ensures fault { IfErr result (IsFaultOf (read_module source.now)) }
     {
-        let _ = alloc;
-        let _ = source;
-        Err(CodeFault::Memory)
+        let parts = match read_module(alloc, source) {
+            Ok(parts) => parts,
+            Err(ReadFault::Bad { line }) => return Err(CodeFault::Bad { line }),
+            Err(ReadFault::Memory) => return Err(CodeFault::Memory),
+        };
+        match Code::of_parts(alloc, source, &parts) {
+            Ok(code) => Ok(code),
+            Err(_refused) => Err(CodeFault::Memory),
+        }
     }
 
     /// The source, which means the module.
