@@ -1,16 +1,17 @@
 // Modules that are compiled.
 
-ghost use Rattle.std.specs.Prelude.{◌≡◌, ℕ, List, [], length, map, IfOk, IfErr, OnOk};
+ghost use Rattle.std.specs.Prelude.{◌≡◌, ℕ, List, [], length, filter, map, IfOk, IfErr, OnOk};
 ghost use Rattle.kl1_model.specs.State.{names_of_module, names_of_clauses, with_names};
 ghost use Rattle.kl1_clause.specs.NameList.{with_texts, IsNameList};
 ghost use Rattle.kl1_clause.specs.Clauses.{AreCompiled};
 ghost use Rattle.kl1_read.specs.Sources.{clause_of_parts, module_of_parts};
-ghost use Rattle.kl1_model.specs.Module.{good, read_module};
+ghost use Rattle.kl1_model.specs.Module.{good, is_of, read_module};
 ghost use Rattle.kl1_clause.specs.Modules.{IsMeant, IsFaultOf};
 
 use crate::code_fault::CodeFault;
 use crate::compiled_clause::{CompiledClause, compiled_of};
 use crate::names::Names;
+use crate::predicate::{from_first, front_run};
 use kl1_read::{ClauseParts, ReadFault, Source, read_module};
 use kl1_text::AtomText;
 use std::alloc::{AllocError, Global};
@@ -111,6 +112,15 @@ impl Code {
         ensures { AreCompiled (with_names [] (names_of_module self.now)) result.now self.now.clauses }
     {
         &self.clauses
+    }
+
+    /// The clauses of one predicate compiled, in order: its first clause, which has the number 1, stands first.
+    pub fn predicate(&self, name: &AtomText, count: usize) -> &[CompiledClause]
+        ensures { AreCompiled (with_names [] (names_of_module self.now)) result.now (filter (is_of name.now count) self.now.clauses) }
+    {
+        let texts = self.names.texts();
+        let behind = from_first(texts, &self.clauses, name, count);
+        front_run(texts, behind, name, count)
     }
 }
 
