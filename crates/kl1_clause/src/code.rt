@@ -2,7 +2,7 @@
 
 ghost use Rattle.std.specs.Prelude.{◌≡◌, ℕ, List, [], length, filter, map, IfOk, IfErr, OnOk};
 ghost use Rattle.kl1_model.specs.State.{names_of_module, names_of_clauses, with_names};
-ghost use Rattle.kl1_clause.specs.NameList.{with_texts, IsNameList};
+ghost use Rattle.kl1_clause.specs.NameList.{with_text, with_texts, IsNameList};
 ghost use Rattle.kl1_clause.specs.Clauses.{AreCompiled};
 ghost use Rattle.kl1_read.specs.Sources.{clause_of_parts, module_of_parts};
 ghost use Rattle.kl1_model.specs.Module.{good, is_of, read_module};
@@ -49,8 +49,7 @@ impl Code {
         ensures { IfOk result (λ code. code ≡ module_of_parts source.now parts.now) }
     {
         let name = parts.name;
-        let mut names = Names::new(alloc);
-        let _first = names.placed(&name)?;
+        let mut names = first_names(alloc, &name)?;
         let clauses = clauses_of(alloc, &mut names, &parts.clauses)?;
         let source = Vec::from_slice(alloc, source)?;
         Ok(Code {
@@ -122,6 +121,15 @@ impl Code {
         let behind = from_first(texts, &self.clauses, name, count);
         front_run(texts, behind, name, count)
     }
+}
+
+/// The names of a code whose module has this name, before its clauses.
+fn first_names(alloc: Global, name: &AtomText) -> Result<Names, AllocError>
+    ensures { IfOk result (λ names. names ≡ with_text [] name.now) }
+{
+    let mut names = Names::new(alloc);
+    let _first = names.placed(name)?;
+    Ok(names)
 }
 
 /// Clauses compiled one after another, with their names put to the others.
