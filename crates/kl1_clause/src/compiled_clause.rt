@@ -10,11 +10,11 @@ ghost use Rattle.kl1_clause.specs.NameList.{with_texts};
 ghost use Rattle.kl1_read.specs.Sources.{clause_of_parts};
 ghost use Rattle.kl1_clause.specs.Clauses.{IsCompiled};
 
-use kl1_read::ClauseParts;
 use crate::instruction::Instruction;
 use crate::name::Name;
 use crate::names::Names;
 use crate::rows::row_of;
+use kl1_read::ClauseParts;
 use kl1_term::Term;
 use std::alloc::{AllocError, Global};
 
@@ -66,7 +66,11 @@ fn fresh_among(terms: &[Term], head_variables: u64) -> u64
 }
 
 /// The instructions of a clause's tests.
-fn tests_of(alloc: Global, names: &mut Names, parts: &ClauseParts) -> Result<Vec<Instruction>, AllocError>
+fn tests_of(
+    alloc: Global,
+    names: &mut Names,
+    parts: &ClauseParts,
+) -> Result<Vec<Instruction>, AllocError>
     ensures names { OnOk result (names.new ≡ with_texts names.old (names_in (terms_of parts.now.tests.items))) }
     ensures row { IfOk result (λ row. IsRowOf names.new row.items (nodes_of_all (terms_of parts.now.tests.items))) }
 {

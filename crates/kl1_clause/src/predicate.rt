@@ -1,6 +1,6 @@
 // The clauses of one predicate.
 
-ghost use Rattle.std.specs.Prelude.{◌≡◌, length};
+ghost use Rattle.std.specs.Prelude.{◌≡◌, ◌==◌, length};
 ghost use Rattle.kl1_model.specs.Module.{is_of};
 ghost use Rattle.kl1_clause.specs.Instructions.{text_in, IsPlaced};
 ghost use Rattle.kl1_clause.specs.Clauses.{clause_in, IsCompiled};
@@ -57,10 +57,14 @@ fn is_of(texts: &[AtomText], clause: &CompiledClause, name: &AtomText, count: us
     requires { IsCompiled texts.now clause.now (clause_in texts.now clause.now) }
     ensures { result ≡ is_of name.now count (clause_in texts.now clause.now) }
 {
-    if clause.count != count {
-        return false;
-    }
-    text_of(texts, clause.name).is(name)
+    has_count(clause, count) && text_of(texts, clause.name).is(name)
+}
+
+/// Whether a clause has so many patterns.
+fn has_count(clause: &CompiledClause, count: usize) -> bool
+    ensures { result ≡ (clause.now.count == count) }
+{
+    clause.count == count
 }
 
 /// The text of a name.

@@ -10,4 +10,4 @@ is_of-requires c =
     (whole_at c.args.texts.now c.args.clauses.now c.loop-place.place c.index-clauses-place.result c.loop-place-test.true c.requires)
 
 pub returns-clause-whole : goal.returns-clause-whole
-returns-clause-whole c = whole_front c.args.texts.now c.args.clauses.now c.loop-place.place c.requires
+returns-clause-whole c = whole_front c.args.texts.now c.args.clauses.now _ c.requires
