@@ -4,4 +4,6 @@ pub mod Growth
 pub mod PutNodes
 pub mod ClauseFacts
 pub mod CodeFacts
+pub mod Predicates
 pub mod Soundness
+pub mod Together

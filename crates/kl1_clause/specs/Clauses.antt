@@ -4,7 +4,6 @@ use Rattle.kl1_model.specs.Term.{Term, terms_of, count_of}
 use Rattle.kl1_model.specs.TermCode.{nodes_of_all, read_nodes}
 use Rattle.kl1_model.specs.Module.{Clause}
 use Rattle.kl1_model.specs.Instance.{head_variables, fresh_variables}
-use Rattle.kl1_read.specs.declared.clause_parts.ClauseParts.{ClauseParts}
 use Rattle.kl1_clause.specs.declared.compiled_clause.CompiledClause.{CompiledClause}
 use Rattle.kl1_clause.specs.declared.instruction.Instruction.{Instruction}
 use Rattle.kl1_clause.specs.Instructions.{text_in, IsPlaced, IsRowOf, code_in}

@@ -4,4 +4,5 @@ pub mod Instructions
 pub mod ModuleCode
 pub mod Modules
 pub mod NameList
+pub mod Predicates
 pub mod Putting

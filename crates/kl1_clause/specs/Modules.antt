@@ -1,10 +1,8 @@
 -- What a code means, and what it is made of.
-use Rattle.std.specs.Prelude.{◌≡◌, ℕ, List, map}
+use Rattle.std.specs.Prelude.{◌≡◌, ℕ, List}
 use Rattle.kl1_model.specs.Module.{Module, Reading, read_module, good, bad}
 use Rattle.kl1_clause.specs.declared.code_fault.CodeFault.{CodeFault}
 use Rattle.kl1_clause.specs.declared.code_fault.CodeFault.TheVariants.{Bad, Memory}
-use Rattle.kl1_read.specs.declared.source.Source.{Source}
-use Rattle.kl1_read.specs.Sources.{clause_of_parts}
 
 -- a source means a module
 pub record IsMeant (source : List ℕ) (m : Module) : Type 0 where

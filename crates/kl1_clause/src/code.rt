@@ -1,19 +1,18 @@
 // Modules that are compiled.
 
-ghost use Rattle.std.specs.Prelude.{◌≡◌, ℕ, List, [], length, map, IfOk, IfErr, OnOk};
+ghost use Rattle.std.specs.Prelude.{◌≡◌, ℕ, List, [], length, filter, map, IfOk, IfErr, OnOk};
 ghost use Rattle.kl1_model.specs.State.{names_of_module, names_of_clauses, with_names};
-ghost use Rattle.kl1_clause.specs.NameList.{with_texts, IsNameList};
-ghost use Rattle.kl1_read.specs.Sources.{clause_of_parts};
+ghost use Rattle.kl1_clause.specs.NameList.{with_text, with_texts, IsNameList};
 ghost use Rattle.kl1_clause.specs.Clauses.{AreCompiled};
-ghost use Rattle.kl1_read.specs.Sources.{module_of_parts};
-ghost use Rattle.kl1_model.specs.Module.{good, read_module};
+ghost use Rattle.kl1_read.specs.Sources.{clause_of_parts, module_of_parts};
+ghost use Rattle.kl1_model.specs.Module.{good, is_of, read_module};
 ghost use Rattle.kl1_clause.specs.Modules.{IsMeant, IsFaultOf};
 
-use kl1_read::ClauseParts;
 use crate::code_fault::CodeFault;
 use crate::compiled_clause::{CompiledClause, compiled_of};
-use kl1_read::Source;
 use crate::names::Names;
+use crate::predicate::{from_first, front_run};
+use kl1_read::{ClauseParts, ReadFault, Source, read_module};
 use kl1_text::AtomText;
 use std::alloc::{AllocError, Global};
 use std::marker::Model;
@@ -45,13 +44,12 @@ impl Model for Code {
 
 impl Code {
     /// The code of a module that is the meaning of a source.
-    pub fn of_parts(alloc: Global, source: &[u8], parts: &Source) -> Result<Self, AllocError>
+    pub(crate) fn of_parts(alloc: Global, source: &[u8], parts: &Source) -> Result<Self, AllocError>
         requires { IsMeant source.now (module_of_parts source.now parts.now) }
         ensures { IfOk result (λ code. code ≡ module_of_parts source.now parts.now) }
     {
         let name = parts.name;
-        let mut names = Names::new(alloc);
-        let _first = names.placed(&name)?;
+        let mut names = first_names(alloc, &name)?;
         let clauses = clauses_of(alloc, &mut names, &parts.clauses)?;
         let source = Vec::from_slice(alloc, source)?;
         Ok(Code {
@@ -67,9 +65,15 @@ impl Code {
         ensures module { IfOk result (λ code. read_module source.now ≡ good code) }
         ensures fault { IfErr result (IsFaultOf (read_module source.now)) }
     {
-        let _ = alloc;
-        let _ = source;
-        Err(CodeFault::Memory)
+        let parts = match read_module(alloc, source) {
+            Ok(parts) => parts,
+            Err(ReadFault::Bad { line }) => return Err(CodeFault::Bad { line }),
+            Err(ReadFault::Memory) => return Err(CodeFault::Memory),
+        };
+        match Code::of_parts(alloc, source, &parts) {
+            Ok(code) => Ok(code),
+            Err(_refused) => Err(CodeFault::Memory),
+        }
     }
 
     /// The source, which means the module.
@@ -108,6 +112,24 @@ impl Code {
     {
         &self.clauses
     }
+
+    /// The clauses of one predicate compiled, in order: its first clause, which has the number 1, stands first.
+    pub fn predicate(&self, name: &AtomText, count: usize) -> &[CompiledClause]
+        ensures { AreCompiled (with_names [] (names_of_module self.now)) result.now (filter (is_of name.now count) self.now.clauses) }
+    {
+        let texts = self.names.texts();
+        let behind = from_first(texts, &self.clauses, name, count);
+        front_run(texts, behind, name, count)
+    }
+}
+
+/// The names of a code whose module has this name, before its clauses.
+fn first_names(alloc: Global, name: &AtomText) -> Result<Names, AllocError>
+    ensures { IfOk result (λ names. names ≡ with_text [] name.now) }
+{
+    let mut names = Names::new(alloc);
+    let _first = names.placed(name)?;
+    Ok(names)
 }
 
 /// Clauses compiled one after another, with their names put to the others.

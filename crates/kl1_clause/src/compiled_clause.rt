@@ -1,18 +1,20 @@
 // A clause as instructions.
 
-ghost use Rattle.std.specs.Prelude.{◌≡◌, IfOk, OnOk};
+ghost use Rattle.std.specs.Prelude.{◌≡◌, ◌-◌, IfOk, OnOk};
 ghost use Rattle.kl1_model.specs.Term.{terms_of};
+ghost use Rattle.kl1_model.specs.TermCode.{nodes_of_all};
 ghost use Rattle.kl1_model.specs.Meaning.{highest_in};
-ghost use Rattle.kl1_model.specs.State.{names_of_clause};
+ghost use Rattle.kl1_clause.specs.Instructions.{IsRowOf};
+ghost use Rattle.kl1_model.specs.State.{names_in, names_of_clause};
 ghost use Rattle.kl1_clause.specs.NameList.{with_texts};
 ghost use Rattle.kl1_read.specs.Sources.{clause_of_parts};
 ghost use Rattle.kl1_clause.specs.Clauses.{IsCompiled};
 
-use kl1_read::ClauseParts;
 use crate::instruction::Instruction;
 use crate::name::Name;
 use crate::names::Names;
 use crate::rows::row_of;
+use kl1_read::ClauseParts;
 use kl1_term::Term;
 use std::alloc::{AllocError, Global};
 
@@ -40,10 +42,10 @@ pub(crate) fn compiled_of(
 {
     let name = names.placed(&parts.name)?;
     let patterns = row_of(alloc, names, &parts.patterns)?;
-    let tests = row_of(alloc, names, &parts.tests)?;
+    let tests = tests_of(alloc, names, parts)?;
     let goals = row_of(alloc, names, &parts.body)?;
     let head_variables = highest_among(&parts.patterns);
-    let fresh_variables = highest_among(&parts.body).saturating_sub(head_variables);
+    let fresh_variables = fresh_among(&parts.body, head_variables);
     let count = parts.patterns.len();
     Ok(CompiledClause {
         name,
@@ -54,6 +56,25 @@ pub(crate) fn compiled_of(
         head_variables,
         fresh_variables,
     })
+}
+
+/// How many variables of terms are numbered behind those of the head, which are so many.
+fn fresh_among(terms: &[Term], head_variables: u64) -> u64
+    ensures { result ≡ highest_in (terms_of terms.now) - head_variables }
+{
+    highest_among(terms).saturating_sub(head_variables)
+}
+
+/// The instructions of a clause's tests.
+fn tests_of(
+    alloc: Global,
+    names: &mut Names,
+    parts: &ClauseParts,
+) -> Result<Vec<Instruction>, AllocError>
+    ensures names { OnOk result (names.new ≡ with_texts names.old (names_in (terms_of parts.now.tests.items))) }
+    ensures row { IfOk result (λ row. IsRowOf names.new row.items (nodes_of_all (terms_of parts.now.tests.items))) }
+{
+    row_of(alloc, names, parts.tests.as_slice())
 }
 
 /// The greatest number of a variable among terms, 0 where there is none.

@@ -7,6 +7,7 @@ mod compiled_clause;
 mod instruction;
 mod name;
 mod names;
+mod predicate;
 mod rows;
 #[cfg(test)]
 mod tests;

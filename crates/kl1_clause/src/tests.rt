@@ -1,7 +1,7 @@
 // What only running shows: that each call can succeed, and instructions against the language's rules.
 
 use crate::code::clauses_of;
-use crate::{ClauseParts, Code, Instruction, Source, Name, Names};
+use crate::{ClauseParts, Code, Instruction, Name, Names, Source};
 use kl1_model::BuiltIn;
 use kl1_term::Term;
 use kl1_text::AtomText;

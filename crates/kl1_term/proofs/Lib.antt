@@ -1,4 +1,5 @@
 pub mod Balance
+pub mod DepthFacts
 pub mod Frames
 pub mod Openings
 pub mod Pages

@@ -33,6 +33,9 @@ count_of-terms_of (t ∷ ts) = ap suc (count_of-terms_of ts)
 pub structure_nodes : (f : List ℕ) (ts : List Term) → (inr (inr (f, length ts)) ∷ nodes_of_all (terms_of ts)) ≡ nodes_of (structure f (terms_of ts))
 structure_nodes f ts = ap (λ (n : ℕ). let c : NodeCode = inr (inr (f, n)) in c ∷ nodes_of_all (terms_of ts)) (sym (count_of-terms_of ts))
 
+pub as_many : (ts : List Term) → count_of (terms_of ts) ≡ length ts
+as_many ts = count_of-terms_of ts
+
 -- the nodes of a list
 pub list_nodes : (es : Terms) (t : Term) → cell_nodes es ++ nodes_of t ≡ nodes_of (cells es t)
 list_nodes none t = refl

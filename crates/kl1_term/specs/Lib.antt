@@ -1,3 +1,5 @@
+pub mod Depths
+pub mod Narrow
 pub mod Nodes
 pub mod Openings
 pub mod Page

@@ -1,6 +1,8 @@
 //! Terms as values, and their text: whole, and cut after so many bytes.
 #![tactic(auto)]
 
+mod depth;
+mod depths;
 mod frame;
 mod mode;
 mod node;

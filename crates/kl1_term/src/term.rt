@@ -107,9 +107,7 @@ impl Term {
         requires many { length arguments.now ≤ 8 }
         ensures { IfOk result (λ t. t ≡ structure name (terms_of arguments.now)) }
     {
-        let mut nodes = Vec::new(alloc);
-        nodes.push(Node::Structure(name, arguments.len()))?;
-        put_each(&mut nodes, arguments)?;
+        let nodes = structure_row(alloc, name, arguments)?;
         Ok(Term::of_nodes(nodes))
     }
 
@@ -132,6 +130,17 @@ impl Clone for Term {
             nodes: Vec::from_slice(*self.nodes.allocator(), &self.nodes)?,
         })
     }
+}
+
+/// The nodes of the structure of a name and arguments.
+#[tactic(auto, using(crate::proofs::Rows::as_many))]
+fn structure_row(alloc: Global, name: AtomText, arguments: &[Term]) -> Result<Vec<Node>, AllocError>
+    ensures { IfOk result (λ nodes. map code_of nodes.items ≡ nodes_of (structure name (terms_of arguments.now))) }
+{
+    let mut nodes = Vec::new(alloc);
+    nodes.push(Node::Structure(name, arguments.len()))?;
+    put_each(&mut nodes, arguments)?;
+    Ok(nodes)
 }
 
 /// Puts the nodes of each term behind the others.

@@ -273,3 +273,104 @@ fn variables_by_first_occurrence(rt: HostRuntime) -> Result<(), Fail> {
     assert_eq!(rt; none.highest(), 0);
     Ok(())
 }
+
+/// The structures `g(`, so many, each in the one before, and in the last one an atom.
+fn wrapped(rt: &HostRuntime, levels: usize) -> Result<Term, Fail> {
+    let mut term = atom(rt, b"a")?;
+    for _level in 0..levels {
+        term = one(rt, b"g", term)?;
+    }
+    Ok(term)
+}
+
+/// A list of one element, in a list of one element, and so on; in the last one the empty list.
+fn listed(rt: &HostRuntime, levels: usize) -> Result<Term, Fail> {
+    let mut term = atom(rt, b"[]")?;
+    for _level in 0..levels {
+        term = two(rt, b".", term, atom(rt, b"[]")?)?;
+    }
+    Ok(term)
+}
+
+/// Whether a term is so deep, and a text can write it or not.
+fn is_deep(rt: &HostRuntime, term: &Term, depth: u64, fits: bool) -> Result<bool, Fail> {
+    let deep = term.depth(rt.alloc())?;
+    let written = term.is_writable(rt.alloc())?;
+    Ok(deep == depth && written == fits)
+}
+
+#[test]
+fn a_text_writes_terms_256_deep(rt: HostRuntime) -> Result<(), Fail> {
+    assert!(rt; is_deep(&rt, &variable(&rt, 1)?, 1, true)?);
+    assert!(rt; is_deep(&rt, &integer(&rt, -9223372036854775808)?, 1, true)?);
+    assert!(rt; is_deep(&rt, &wrapped(&rt, 255)?, 256, true)?);
+    assert!(rt; is_deep(&rt, &wrapped(&rt, 256)?, 257, false)?);
+    let second = two(&rt, b"f", atom(&rt, b"a")?, wrapped(&rt, 255)?)?;
+    assert!(rt; is_deep(&rt, &second, 257, false)?);
+    Ok(())
+}
+
+#[test]
+fn a_list_is_one_deeper_than_what_is_in_it(rt: HostRuntime) -> Result<(), Fail> {
+    assert!(rt; is_deep(&rt, &sevens(&rt, 30000)?, 2, true)?);
+    assert!(rt; is_deep(&rt, &listed(&rt, 255)?, 256, true)?);
+    assert!(rt; is_deep(&rt, &listed(&rt, 256)?, 257, false)?);
+    let mut elements = Vec::new(rt.alloc());
+    elements.push(wrapped(&rt, 254)?)?;
+    elements.push(atom(&rt, b"a")?)?;
+    let element = Term::list(rt.alloc(), elements.as_slice(), &atom(&rt, b"[]")?)?;
+    assert!(rt; is_deep(&rt, &element, 256, true)?);
+    let tail = two(&rt, b".", atom(&rt, b"a")?, wrapped(&rt, 255)?)?;
+    assert!(rt; is_deep(&rt, &tail, 257, false)?);
+    assert!(rt; is_deep(&rt, &one(&rt, b".", sevens(&rt, 3)?)?, 3, true)?);
+    Ok(())
+}
+
+/// So many sevens as the arguments of a structure, at most 8.
+fn wide(rt: &HostRuntime, count: usize) -> Result<Term, Fail> {
+    let mut arguments = Vec::new(rt.alloc());
+    for _place in 0..count {
+        arguments.push(integer(rt, 7)?)?;
+    }
+    if arguments.is_empty() || arguments.len() > 8 {
+        return Err("no such structure".into());
+    }
+    Ok(Term::structure(rt.alloc(), name(b"g")?, arguments.as_slice())?)
+}
+
+/// A structure of nine arguments.
+fn nine(rt: &HostRuntime) -> Result<Term, Fail> {
+    let called = name(b"g")?;
+    let row = Vec::from_array(
+        rt.alloc(),
+        [
+            Node::Structure(called, 9),
+            Node::Variable(1),
+            Node::Variable(2),
+            Node::Variable(3),
+            Node::Variable(4),
+            Node::Variable(5),
+            Node::Variable(6),
+            Node::Variable(7),
+            Node::Variable(8),
+            Node::Variable(9),
+        ],
+    )?;
+    Ok(Term::of_nodes(row))
+}
+
+/// A structure without arguments.
+fn bare(rt: &HostRuntime) -> Result<Term, Fail> {
+    let called = name(b"g")?;
+    let row = Vec::from_array(rt.alloc(), [Node::Structure(called, 0)])?;
+    Ok(Term::of_nodes(row))
+}
+
+#[test]
+fn a_text_writes_1_to_8_arguments(rt: HostRuntime) -> Result<(), Fail> {
+    assert!(rt; is_deep(&rt, &bare(&rt)?, 1, false)?);
+    assert!(rt; is_deep(&rt, &wide(&rt, 1)?, 2, true)?);
+    assert!(rt; is_deep(&rt, &wide(&rt, 8)?, 2, true)?);
+    assert!(rt; is_deep(&rt, &nine(&rt)?, 2, false)?);
+    Ok(())
+}

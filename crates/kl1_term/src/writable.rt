@@ -1,8 +1,12 @@
 // Whether a text can write a term.
 
-ghost use Rattle.std.specs.Prelude.{◌≡◌, IfOk};
-ghost use Rattle.kl1_model.specs.Meaning.{is_writable};
+ghost use Rattle.std.specs.Prelude.{◌≡◌, nat_le, map, IfOk, IsTrue};
+ghost use Rattle.std.specs.List.{list_all};
+ghost use Rattle.kl1_model.specs.Meaning.{is_word, is_writable, most_depth};
+ghost use Rattle.kl1_term.specs.Nodes.{code_of};
+ghost use Rattle.kl1_term.specs.Narrow.{is_narrow_node};
 
+use crate::node::Node;
 use crate::term::Term;
 use std::alloc::{AllocError, Global};
 
@@ -12,8 +16,58 @@ impl Term {
     pub fn is_writable(&self, alloc: Global) -> Result<bool, AllocError>
         ensures { IfOk result (λ fits. fits ≡ is_writable self.now) }
     {
-        let _ = alloc;
-        let _ = self.nodes();
-        Err(AllocError)
+        if !are_narrow(self.nodes()) {
+            return Ok(false);
+        }
+        let deep = self.depth(alloc)?;
+        Ok(is_low(deep))
     }
+}
+
+/// Whether a text can write a term that is so deep.
+fn is_low(deep: u64) -> bool
+    ensures { result ≡ nat_le deep most_depth }
+{
+    deep <= 256
+}
+
+/// Whether the structures of nodes have 1 to 8 arguments; names and integers fit by their types.
+fn are_narrow(nodes: &[Node]) -> bool
+    ensures { result ≡ list_all is_narrow_node (map code_of nodes.now) }
+{
+    let mut left = nodes;
+    while let [first, rest @ ..] = left {
+        if !is_narrow(first) {
+            return false;
+        }
+        left = rest;
+    }
+    true
+}
+
+/// Whether a node has 1 to 8 arguments where it is a structure's.
+fn is_narrow(node: &Node) -> bool
+    ensures { result ≡ is_narrow_node (code_of node.now) }
+{
+    match node {
+        Node::Variable(_number) => true,
+        Node::Integer(number) => is_word(*number),
+        Node::Atom(name) => {
+            name.shows_text();
+            true
+        }
+        Node::Structure(name, count) => {
+            name.shows_text();
+            1 <= *count && *count <= 8
+        }
+    }
+}
+
+/// Whether an integer has 64 bits: it does by its type.
+fn is_word(number: i64) -> bool
+    ensures value { result ≡ is_word number }
+    ensures always { IsTrue result }
+{
+    let _ = number;
+    true
 }

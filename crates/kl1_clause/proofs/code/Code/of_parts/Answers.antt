@@ -1,8 +1,8 @@
-use Rattle.std.proofs.Common.{◌≡◌, ℕ, List, ap, refl, ◌∙◌, map, []}
+use Rattle.std.proofs.Common.{ℕ, List, ap, refl, ◌∙◌, map}
 use Rattle.kl1_model.specs.State.{names_of_clauses}
 use Rattle.kl1_clause.specs.declared.code.Code.TheInside.{Inside}
 use Rattle.kl1_read.specs.Sources.{clause_of_parts}
-use Rattle.kl1_clause.specs.NameList.{with_text, with_texts}
+use Rattle.kl1_clause.specs.NameList.{with_texts}
 use Rattle.kl1_clause.proofs.Soundness.{IsBuilt, module_is, is_sound}
 use Rattle.kl1_clause.proofs.code.Code.of_parts.Goals as goal
 use Rattle.kl1_clause.proofs.code.Code.of_parts.Goals.{In_ok-source}
@@ -15,11 +15,10 @@ fields c = record { source = c.in_ok-source.source; name = c.args.parts.now.name
 is_built : (c : In_ok-source) → IsBuilt c.args.source.now c.args.parts.now (fields c)
 is_built c =
     let p = c.args.parts.now in
-    let first : c.placed.new.self ≡ with_text [] p.name = c.in_ok-_first.ensures.names ∙ ap (λ (x : List (List ℕ)). with_text x p.name) c.new-names.ensures in
     record {
       source_is = c.in_ok-source.ensures.items;
       name_is = refl;
-      names_are = (rw c.deref.ensures.value at c.in_ok-clauses.ensures.names) ∙ ap (λ (x : List (List ℕ)). with_texts x (names_of_clauses (map clause_of_parts p.clauses.items))) first;
+      names_are = (rw c.deref.ensures.value at c.in_ok-clauses.ensures.names) ∙ ap (λ (x : List (List ℕ)). with_texts x (names_of_clauses (map clause_of_parts p.clauses.items))) c.in_ok-names.ensures;
       clauses_are = rw c.deref.ensures.value at c.in_ok-clauses.ensures.clauses;
     }
 

@@ -1,0 +1,186 @@
+-- The clauses of one predicate stand together in a module that a text means.
+use Rattle.std.proofs.Common.{◌≡◌, ℕ, ◌==◌, ◌⊎◌, inl, inr, Bool, true, false, ◌&&◌, ◌||◌, not, if◌then◌else◌, List, [], ◌∷◌, ◌++◌, length, filter, Option, Some, None, bytes_eq, nat_lt, refl, sym, ap, subst, ◌∙◌, append_assoc, append-nil}
+use Rattle.std.specs.Prelude.{option_map, option_and_then, unwrap_or}
+use Rattle.std.specs.List.{list_any, list_all}
+use Rattle.std.proofs.lemmas.List.Elements.{filter-append}
+use Rattle.std.proofs.lemmas.List.Folds.{list_any-append, list_all-append}
+use Rattle.std.proofs.lemmas.Bool.{and_parts, eqb-true}
+use Rattle.std.proofs.lemmas.Slice.Eq.{bytes_eq-Decides}
+use Rattle.kl1_model.specs.Term.{count_of}
+use Rattle.kl1_model.specs.Token.{tokens_of_text}
+use Rattle.kl1_model.specs.Module.{Clause, Module, Reading, good, bad, Item, items_of, is_of, last_of, may_follow, most_clauses, with_clause, if_good, clauses_from, clause_of, module_with, module_named, module_of_items, named_module}
+use Rattle.kl1_clause.specs.Predicates.{from_first, front_run}
+use Rattle.kl1_clause.specs.Modules.{IsMeant}
+
+-- the clauses that pass a test stand together: none before them, and none behind
+pub record IsTogether (test : Clause → Bool) (cs : List Clause) : Type 0 where
+  pub before : List Clause
+  pub run : List Clause
+  pub behind : List Clause
+  pub are : cs ≡ before ++ (run ++ behind)
+  pub none_before : list_any test before ≡ false
+  pub all : list_all test run ≡ true
+  pub none_behind : list_any test behind ≡ false
+
+-- a test that no clause passes
+or_parts : (a b : Bool) → a || b ≡ false → (a ≡ false) × (b ≡ false)
+or_parts true b h = cc
+or_parts false b h = (refl, h)
+
+filter_none : (test : Clause → Bool) (cs : List Clause) → list_any test cs ≡ false → filter test cs ≡ []
+filter_none test [] h = refl
+filter_none test (c ∷ cs) h =
+    let parts = or_parts (test c) (list_any test cs) h in
+    ap (λ (b : Bool). if b then c ∷ filter test cs else filter test cs) parts.0 ∙ filter_none test cs parts.1
+
+first_none : (test : Clause → Bool) (cs ds : List Clause) → list_any test cs ≡ false → from_first test (cs ++ ds) ≡ from_first test ds
+first_none test [] ds h = refl
+first_none test (c ∷ cs) ds h =
+    let parts = or_parts (test c) (list_any test cs) h in
+    ap (λ (b : Bool). if b then c ∷ (cs ++ ds) else from_first test (cs ++ ds)) parts.0 ∙ first_none test cs ds parts.1
+
+filter_all : (test : Clause → Bool) (cs : List Clause) → list_all test cs ≡ true → filter test cs ≡ cs
+filter_all test [] h = refl
+filter_all test (c ∷ cs) h =
+    let parts = and_parts (test c) (list_all test cs) h in
+    ap (λ (b : Bool). if b then c ∷ filter test cs else filter test cs) parts.0 ∙ ap (λ (ds : List Clause). c ∷ ds) (filter_all test cs parts.1)
+
+run_none : (test : Clause → Bool) (cs : List Clause) → list_any test cs ≡ false → front_run test cs ≡ []
+run_none test [] h = refl
+run_none test (c ∷ cs) h =
+    let parts = or_parts (test c) (list_any test cs) h in
+    ap (λ (b : Bool). if b then c ∷ front_run test cs else []) parts.0
+
+run_all : (test : Clause → Bool) (cs ds : List Clause) → list_all test cs ≡ true → list_any test ds ≡ false → front_run test (cs ++ ds) ≡ cs
+run_all test [] ds h none = run_none test ds none
+run_all test (c ∷ cs) ds h none =
+    let parts = and_parts (test c) (list_all test cs) h in
+    ap (λ (b : Bool). if b then c ∷ front_run test (cs ++ ds) else []) parts.0 ∙ ap (λ (es : List Clause). c ∷ es) (run_all test cs ds parts.1 none)
+
+first_run : (test : Clause → Bool) (cs ds : List Clause) → list_all test cs ≡ true → list_any test ds ≡ false → front_run test (from_first test (cs ++ ds)) ≡ cs
+first_run test [] ds h none = ap (λ (es : List Clause). front_run test (from_first test es)) (sym (append-nil ds)) ∙ ap (front_run test) (first_none test ds [] none)
+first_run test (c ∷ cs) ds h none =
+    let parts = and_parts (test c) (list_all test cs) h in
+    ap (λ (b : Bool). front_run test (if b then c ∷ (cs ++ ds) else from_first test (cs ++ ds))) parts.0 ∙ run_all test (c ∷ cs) ds h none
+
+-- so the first of them with those behind it, up to the first other, are all that pass
+pub run_is_all : (test : Clause → Bool) (cs : List Clause) → IsTogether test cs → front_run test (from_first test cs) ≡ filter test cs
+run_is_all test cs t =
+    let left : front_run test (from_first test cs) ≡ t.run = ap (λ (ds : List Clause). front_run test (from_first test ds)) t.are ∙ (ap (front_run test) (first_none test t.before (t.run ++ t.behind) t.none_before) ∙ first_run test t.run t.behind t.all t.none_behind) in
+    let behind_it : filter test (t.run ++ t.behind) ≡ t.run = filter-append test t.run t.behind ∙ (ap (λ (ds : List Clause). ds ++ filter test t.behind) (filter_all test t.run t.all) ∙ (ap (λ (ds : List Clause). t.run ++ ds) (filter_none test t.behind t.none_behind) ∙ append-nil t.run)) in
+    let right : filter test cs ≡ t.run = ap (filter test) t.are ∙ (filter-append test t.before (t.run ++ t.behind) ∙ (ap (λ (ds : List Clause). ds ++ filter test (t.run ++ t.behind)) (filter_none test t.before t.none_before) ∙ behind_it)) in
+    left ∙ sym right
+
+-- one more clause that does not pass
+add_other : (test : Clause → Bool) (cs : List Clause) (c : Clause) → IsTogether test cs → test c ≡ false → IsTogether test (cs ++ c ∷ [])
+add_other test cs c t h = record {
+  before = t.before;
+  run = t.run;
+  behind = t.behind ++ c ∷ [];
+  are = ap (λ (ds : List Clause). ds ++ c ∷ []) t.are ∙ (append_assoc t.before (t.run ++ t.behind) (c ∷ []) ∙ ap (λ (ds : List Clause). t.before ++ ds) (append_assoc t.run t.behind (c ∷ [])));
+  none_before = t.none_before;
+  all = t.all;
+  none_behind = list_any-append test t.behind (c ∷ []) ∙ (ap (λ (b : Bool). b || (test c || false)) t.none_behind ∙ ap (λ (b : Bool). b || false) h);
+}
+
+-- one more that passes, where none did
+add_first : (test : Clause → Bool) (cs : List Clause) (c : Clause) → list_any test cs ≡ false → test c ≡ true → IsTogether test (cs ++ c ∷ [])
+add_first test cs c none h = record {
+  before = cs;
+  run = c ∷ [];
+  behind = [];
+  are = refl;
+  none_before = none;
+  all = ap (λ (b : Bool). b && true) h;
+  none_behind = refl;
+}
+
+-- one more that passes, where the last did
+last_behind : (before : List Clause) (b : Clause) (bs : List Clause) → last_of (before ++ b ∷ bs) ≡ last_of (b ∷ bs)
+last_behind [] b bs = refl
+last_behind (a ∷ []) b bs = refl
+last_behind (a ∷ d ∷ before) b bs = last_behind (d ∷ before) b bs
+
+last_none : (test : Clause → Bool) (b : Clause) (bs : List Clause) → list_any test (b ∷ bs) ≡ false → unwrap_or (option_map test (last_of (b ∷ bs))) false ≡ false
+last_none test b [] h = (or_parts (test b) false h).0
+last_none test b (d ∷ bs) h = last_none test d bs (or_parts (test b) (list_any test (d ∷ bs)) h).1
+
+add_next : (test : Clause → Bool) (cs before run behind : List Clause) (c : Clause) → cs ≡ before ++ (run ++ behind) → list_any test before ≡ false → list_all test run ≡ true → list_any test behind ≡ false → unwrap_or (option_map test (last_of cs)) false ≡ true → test c ≡ true → IsTogether test (cs ++ c ∷ [])
+add_next test cs before run [] c are none all others last h = record {
+  before = before;
+  run = run ++ c ∷ [];
+  behind = [];
+  are = ap (λ (ds : List Clause). ds ++ c ∷ []) (are ∙ ap (λ (ds : List Clause). before ++ ds) (append-nil run)) ∙ (append_assoc before run (c ∷ []) ∙ ap (λ (ds : List Clause). before ++ ds) (sym (append-nil (run ++ c ∷ []))));
+  none_before = none;
+  all = list_all-append test run (c ∷ []) ∙ (ap (λ (b : Bool). b && (test c && true)) all ∙ ap (λ (b : Bool). b && true) h);
+  none_behind = refl;
+}
+add_next test cs before run (b ∷ bs) c are none all others last h =
+    let same : last_of cs ≡ last_of (b ∷ bs) = ap last_of (are ∙ sym (append_assoc before run (b ∷ bs))) ∙ last_behind (before ++ run) b bs in
+    let not_it : unwrap_or (option_map test (last_of cs)) false ≡ false = ap (λ (o : Option Clause). unwrap_or (option_map test o) false) same ∙ last_none test b bs others in
+    let never : true ≡ false = sym last ∙ not_it in
+    cc
+
+-- whether a clause may follow is asked of its own predicate
+abbrev goes_on : List Clause → List ℕ → ℕ → Bool
+goes_on cs name count = unwrap_or (option_map (is_of name count) (last_of cs)) false || not (list_any (is_of name count) cs)
+
+either : (a b : Bool) → a || not b ≡ true → (a ≡ true) ⊎ (b ≡ false)
+either true b h = inl refl
+either false true h = cc
+either false false h = inr refl
+
+add_by : (name : List ℕ) (count : ℕ) (cs : List Clause) (c : Clause) (passes : Bool) → is_of name count c ≡ passes → IsTogether (is_of name count) cs → may_follow cs c ≡ true → IsTogether (is_of name count) (cs ++ c ∷ [])
+add_by name count cs c false is t h = add_other (is_of name count) cs c t is
+add_by name count cs c true is t h =
+    let own = and_parts (bytes_eq c.name name) (count_of c.patterns == count) is in
+    let name_is : c.name ≡ name = (bytes_eq-Decides c.name name).0 own.0 in
+    let count_is : count_of c.patterns ≡ count = eqb-true (count_of c.patterns) count own.1 in
+    let asked : goes_on cs c.name (count_of c.patterns) ≡ true = (and_parts (nat_lt (length cs) most_clauses) (goes_on cs c.name (count_of c.patterns)) h).1 in
+    let goes : goes_on cs name count ≡ true = sym (ap (λ (n : List ℕ). goes_on cs n (count_of c.patterns)) name_is ∙ ap (goes_on cs name) count_is) ∙ asked in
+    elim (either (unwrap_or (option_map (is_of name count) (last_of cs)) false) (list_any (is_of name count) cs) goes) [
+      | inl last ↦ add_next (is_of name count) cs t.before t.run t.behind c t.are t.none_before t.all t.none_behind last is
+      | inr none ↦ add_first (is_of name count) cs c none is
+    ]
+
+-- what holds of no clauses, and of each that may follow, holds of the clauses of items
+one_item : (line : ℕ) (before : List Clause) (x : Option Clause) (next : List Clause → Reading (List Clause)) (cs : List Clause) → if_good line (with_clause before x) next ≡ good cs → (c : Clause) × (may_follow before c ≡ true) × (next (before ++ c ∷ []) ≡ good cs)
+one_item line before None next cs h = cc
+one_item line before (Some c) next cs h = one_by (may_follow before c) refl h
+  where
+    one_by : (b : Bool) → may_follow before c ≡ b → if_good line (if b then Some (before ++ c ∷ []) else None) next ≡ good cs → (c : Clause) × (may_follow before c ≡ true) × (next (before ++ c ∷ []) ≡ good cs)
+    one_by true e g = (c, e, g)
+    one_by false e g = cc
+
+kept : (m : List ℕ) (P : List Clause → Type 0) → ((before : List Clause) (c : Clause) → P before → may_follow before c ≡ true → P (before ++ c ∷ [])) → (items : List Item) (before cs : List Clause) → P before → clauses_from m before items ≡ good cs → P cs
+kept m P step [] before cs p h = let same : before ≡ cs = cc in subst P same p
+kept m P step (item ∷ items) before cs p h =
+    let g = one_item item.line before (option_and_then (clause_of m) item.tokens) (λ now. clauses_from m now items) cs h in
+    kept m P step items (before ++ g.0 ∷ []) cs (step before g.0 p g.1) g.2
+
+-- the items of a module's clauses
+record Items (m : Module) : Type 0 where
+  items : List Item
+  read : clauses_from m.name [] items ≡ good m.clauses
+
+of_clauses : (name source : List ℕ) (m : Module) (items : List Item) (r : Reading (List Clause)) → clauses_from name [] items ≡ r → module_with name source r ≡ good m → Items m
+of_clauses name source m items (bad line) e h = cc
+of_clauses name source m items (good cs) e h =
+    let whole : Module = record { name = name; source = source; clauses = cs } in
+    let same : whole ≡ m = cc in
+    record { items = items; read = ap (λ (n : List ℕ). clauses_from n [] items) (sym (ap (λ (x : Module). x.name) same)) ∙ (e ∙ ap (λ (x : Module). good x.clauses) same) }
+
+of_name : (source : List ℕ) (m : Module) (item : Item) (items : List Item) (name : Option (List ℕ)) → module_named source item items name ≡ good m → Items m
+of_name source m item items None h = cc
+of_name source m item items (Some name) h = of_clauses name source m items (clauses_from name [] items) refl h
+
+of_items : (source : List ℕ) (m : Module) (items : List Item) → module_of_items source items ≡ good m → Items m
+of_items source m [] h = cc
+of_items source m (item ∷ items) h = of_name source m item items (option_and_then named_module item.tokens) h
+
+-- so the clauses of a predicate of a module that a text means stand together
+pub together : (source : List ℕ) (m : Module) (name : List ℕ) (count : ℕ) → IsMeant source m → IsTogether (is_of name count) m.clauses
+together source m name count meant =
+    let read = of_items source m (items_of (tokens_of_text source)) meant.reads in
+    kept m.name (IsTogether (is_of name count)) (λ before c t h. add_by name count before c (is_of name count c) refl t h) read.items [] m.clauses
+    (record { before = []; run = []; behind = []; are = refl; none_before = refl; all = refl; none_behind = refl }) read.read

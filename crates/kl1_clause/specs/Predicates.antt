@@ -1,0 +1,23 @@
+-- The clauses of one predicate among those of a module.
+use Rattle.std.specs.Prelude.{ℕ, Bool, if◌then◌else◌, List, [], ◌∷◌, map}
+use Rattle.kl1_model.specs.Module.{Clause}
+use Rattle.kl1_clause.specs.declared.compiled_clause.CompiledClause.{CompiledClause}
+use Rattle.kl1_clause.specs.Clauses.{clause_in, AreCompiled}
+
+-- the clauses that compiled clauses mean, where the names of the code are these
+abbrev pub clauses_in : List (List ℕ) → List CompiledClause → List Clause
+clauses_in names cs = map (clause_in names) cs
+
+-- compiled clauses are what they mean
+abbrev pub AreWhole : List (List ℕ) → List CompiledClause → Type 0
+AreWhole names cs = AreCompiled names cs (clauses_in names cs)
+
+-- the first clause that passes a test, with those behind it
+abbrev pub from_first : (Clause → Bool) → List Clause → List Clause
+from_first test [] = []
+from_first test (c ∷ cs) = if test c then c ∷ cs else from_first test cs
+
+-- the clauses up to the first that does not pass a test
+abbrev pub front_run : (Clause → Bool) → List Clause → List Clause
+front_run test [] = []
+front_run test (c ∷ cs) = if test c then c ∷ front_run test cs else []
