@@ -8,6 +8,7 @@ mod closed;
 mod expression;
 mod frame;
 mod front;
+mod goal_kinds;
 mod item;
 mod joined;
 mod left;
@@ -31,6 +32,7 @@ mod whole_text;
 mod words;
 
 pub use clause_parts::ClauseParts;
+pub use goal_kinds::is_goal;
 pub use read_fault::ReadFault;
 pub use goals::read_goal;
 pub use modules::read_module;
