@@ -1,6 +1,7 @@
 pub mod Arguments
 pub mod Doomed
 pub mod FuelFree
+pub mod GoalFronts
 pub mod Goings
 pub mod ItemSteps
 pub mod MarkSteps
@@ -10,6 +11,7 @@ pub mod PartSteps
 pub mod Primaries
 pub mod PrimarySteps
 pub mod Singles
+pub mod Startables
 pub mod Steps
 pub mod Unwritable
 pub mod WholeSteps

@@ -11,3 +11,5 @@ pub mod States
 pub mod Series
 pub mod WholeTexts
 pub mod Sources
+pub mod GoalNodes
+pub mod Started
