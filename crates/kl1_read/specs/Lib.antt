@@ -11,3 +11,4 @@ pub mod States
 pub mod Series
 pub mod WholeTexts
 pub mod Sources
+pub mod Statements

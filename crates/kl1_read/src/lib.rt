@@ -4,10 +4,12 @@
 mod begun;
 mod bytes;
 mod clause_parts;
+mod clause_terms;
 mod closed;
 mod expression;
 mod frame;
 mod front;
+mod head_terms;
 mod item;
 mod joined;
 mod left;
