@@ -10,6 +10,7 @@ pub mod PartSteps
 pub mod Primaries
 pub mod PrimarySteps
 pub mod Singles
+pub mod StatementReads
 pub mod Steps
 pub mod Unwritable
 pub mod WholeSteps
