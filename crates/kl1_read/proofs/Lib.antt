@@ -2,6 +2,7 @@ pub mod Arguments
 pub mod Doomed
 pub mod FuelFree
 pub mod Goings
+pub mod HeadFronts
 pub mod ItemSteps
 pub mod MarkSteps
 pub mod Nodes

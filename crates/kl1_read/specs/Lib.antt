@@ -12,3 +12,4 @@ pub mod Series
 pub mod WholeTexts
 pub mod Sources
 pub mod Statements
+pub mod Heads
