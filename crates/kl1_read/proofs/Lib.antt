@@ -1,6 +1,7 @@
 pub mod Arguments
 pub mod Doomed
 pub mod FuelFree
+pub mod GoalFronts
 pub mod Goings
 pub mod HeadFronts
 pub mod ItemSteps
@@ -12,6 +13,7 @@ pub mod Primaries
 pub mod PrimarySteps
 pub mod Singles
 pub mod StatementReads
+pub mod Startables
 pub mod Steps
 pub mod Unwritable
 pub mod WholeSteps

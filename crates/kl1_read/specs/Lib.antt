@@ -13,3 +13,5 @@ pub mod WholeTexts
 pub mod Sources
 pub mod Statements
 pub mod Heads
+pub mod GoalNodes
+pub mod Started

@@ -11,6 +11,7 @@ mod frame;
 mod front;
 mod head_kinds;
 mod head_terms;
+mod goal_kinds;
 mod item;
 mod joined;
 mod left;
@@ -35,6 +36,7 @@ mod whole_text;
 mod words;
 
 pub use clause_parts::ClauseParts;
+pub use goal_kinds::is_goal;
 pub use read_fault::ReadFault;
 pub use goals::read_goal;
 pub use modules::read_module;
