@@ -15,3 +15,5 @@ pub mod Statements
 pub mod Heads
 pub mod GoalNodes
 pub mod Started
+pub mod Marked
+pub mod Followings

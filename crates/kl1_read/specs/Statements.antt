@@ -67,9 +67,13 @@ abbrev pub heading_term : List ℕ → List Term → Term
 heading_term p [] = atom p
 heading_term p (t ∷ ts) = structure p (more t (terms_of ts))
 
+-- whether a name may be the head of these arguments, and a text can write it with them
+abbrev pub is_fit_name : List ℕ → List Term → Bool
+is_fit_name p ts = is_writable (heading_term p ts) && is_head (heading_term p ts)
+
 -- whether a head may stand there
 abbrev pub is_fit_heading : List ℕ → List Term → Bool
-is_fit_heading p ts = is_writable (heading_term p ts) && is_head (heading_term p ts) && not (has_repeats (variables_in (terms_of ts)))
+is_fit_heading p ts = is_fit_name p ts && not (has_repeats (variables_in (terms_of ts)))
 
 -- the patterns of a head that may stand there
 abbrev pub fit_patterns : List ℕ → List Term → Option (List Term)

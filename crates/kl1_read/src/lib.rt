@@ -2,16 +2,19 @@
 #![tactic(auto)]
 
 mod begun;
+mod body;
 mod bytes;
+mod clause;
 mod clause_parts;
 mod clause_terms;
 mod closed;
 mod expression;
+mod following;
 mod frame;
 mod front;
+mod guard;
 mod head_kinds;
 mod head_terms;
-mod goal_kinds;
 mod item;
 mod joined;
 mod left;
@@ -19,11 +22,16 @@ mod mark;
 mod numbered;
 mod numbering;
 mod opened;
+mod patterns;
 mod piece;
 mod quotes;
 mod read_fault;
+mod goal_kinds;
 mod goals;
+mod marks;
+mod module_line;
 mod modules;
+mod repeats;
 mod reserved;
 mod series;
 mod signs;
