@@ -2,27 +2,39 @@
 #![tactic(auto)]
 
 mod begun;
+mod body;
 mod bytes;
+mod clause;
 mod clause_parts;
+mod clause_terms;
 mod closed;
 mod expression;
+mod following;
 mod frame;
 mod front;
 mod goal_kinds;
 #[cfg(test)]
 mod goal_tests;
 mod goals;
+mod guard;
+mod head_kinds;
+mod head_terms;
 mod item;
 mod joined;
 mod left;
 mod mark;
+mod marks;
+mod module_line;
 mod modules;
 mod numbered;
 mod numbering;
 mod opened;
+mod patterns;
 mod piece;
 mod quotes;
 mod read_fault;
+mod repeats;
+mod reserved;
 mod series;
 mod signs;
 mod source;
