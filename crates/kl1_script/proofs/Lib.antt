@@ -5,3 +5,4 @@ pub mod Fuel
 pub mod WordFuel
 pub mod Names
 pub mod DeviceLaws
+pub mod Runs

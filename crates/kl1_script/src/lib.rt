@@ -3,6 +3,7 @@
 
 mod accounts;
 mod bytes;
+mod command;
 mod counted;
 mod input;
 mod line_parts;
@@ -10,6 +11,7 @@ mod lines;
 mod notices;
 mod numbers;
 mod output;
+mod performing;
 mod record;
 mod replies;
 mod script_fault;
@@ -20,7 +22,8 @@ mod tests;
 mod verb;
 mod words;
 
-pub use accounts::{accounts_in, is_account_name};
+pub use accounts::accounts_in;
+pub use command::{Command, Parsed, command_in, parse};
 pub use counted::{Counted, DeviceFailed};
 pub use input::{MOST_BYTES, read_all};
 pub use line_parts::{LineParts, parts_of};
@@ -28,6 +31,7 @@ pub use lines::{is_blank_line, split_line, split_name};
 pub use notices::{put_no_account, put_no_accounts, put_truncated};
 pub use numbers::number_in;
 pub use output::write_all;
+pub use performing::{Performed, perform};
 pub use record::{CommandParts, NextRecord, Record, next_record};
 pub use replies::{
     put_exists, put_journal_full, put_loaded, put_no_shoen, put_opened, put_ran, put_reduced,
