@@ -6,3 +6,5 @@ pub mod WordFuel
 pub mod Names
 pub mod DeviceLaws
 pub mod Runs
+pub mod Progress
+pub mod Endings

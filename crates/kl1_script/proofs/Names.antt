@@ -1,12 +1,9 @@
 -- What holds of the names of accounts in a line.
-use Rattle.std.proofs.Common.{◌≡◌, ℕ, suc, ◌<◌, ◌≤◌, nat_le, ◌&&◌, ◌||◌, Bool, true, false, List, [], ◌∷◌, ◌++◌, length, length-append, append_assoc, codes, bytes_eq, IsTrue, Option, Some, None, if◌then◌else◌, refl, ap, sym, ◌∙◌, arith, inl, inr}
+use Rattle.std.proofs.Common.{◌≡◌, ℕ, ◌<◌, ◌≤◌, nat_le, ◌&&◌, Bool, true, false, List, [], ◌∷◌, ◌++◌, length, length-append, append_assoc, codes, bytes_eq, Option, Some, None, if◌then◌else◌, refl, ap, sym, ◌∙◌, arith}
 use Rattle.std.specs.List.{list_all}
-use Rattle.std.proofs.lemmas.Bool.{false≢true, and_parts, and_from, and_left, and_right, or_cases, leb-true, le-leb, lt-leb}
+use Rattle.std.proofs.lemmas.Bool.{false≢true, and_parts, and_from, and_left, and_right, le-leb, lt-leb}
 use Rattle.std.proofs.lemmas.List.{append-nil}
 use Rattle.std.proofs.lemmas.List.Folds.{list_all-append}
-use Rattle.kl1_model.specs.Name.{is_small_letter}
-use Rattle.kl1_model.specs.Text.{is_text, is_name_byte}
-use Rattle.kl1_model.specs.Token.{is_digit}
 use Rattle.kl1_model.specs.Command.{is_space, first_word, word_in, behind_word_in, is_blank_line}
 use Rattle.kl1_model.specs.Script.{words_of, accounts_in, is_account_name, are_distinct}
 use Rattle.kl1_script.specs.Accounts.{named}

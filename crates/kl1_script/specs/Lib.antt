@@ -5,3 +5,5 @@ pub mod Accounts
 pub mod Devices
 pub mod Commands
 pub mod Performing
+pub mod Told
+pub mod Scripts
