@@ -118,10 +118,10 @@ fn finish_all<W: Sink>(sink: &mut W, bytes: &[u8]) -> Result<(), ScriptFault>
 }
 
 /// Writes the last bytes where memory was refused, and answers that, or that the write failed.
-fn stop<W: Sink>(sink: &mut W, bytes: &[u8]) -> ScriptFault
-    ensures { Stops (W.contents sink.old) (W.contents sink.new) (W.failures sink.old) (W.failures sink.new) bytes.now result }
+fn stop<W: Sink>(sink: &mut W, last: &[u8]) -> ScriptFault
+    ensures { Stops (W.contents sink.old) (W.contents sink.new) (W.failures sink.old) (W.failures sink.new) last.now result }
 {
-    match finish(sink, bytes) {
+    match finish(sink, last) {
         Ok(()) => ScriptFault::Memory,
         Err(_) => ScriptFault::Write,
     }
