@@ -4,8 +4,8 @@ use Rattle.kl1_model.specs.Command.{Line, whole, load_of, no_command}
 use Rattle.kl1_user.specs.Views.{event_of}
 use Rattle.kl1_script.specs.declared.command.Command.{Command}
 use Rattle.kl1_script.specs.declared.command.Command.TheVariants as command
-use Rattle.kl1_script.specs.declared.command.Parsed.{Parsed}
-use Rattle.kl1_script.specs.declared.command.Parsed.TheVariants as parsed
+use Rattle.kl1_script.specs.declared.parsed.Parsed.{Parsed}
+use Rattle.kl1_script.specs.declared.parsed.Parsed.TheVariants as parsed
 
 -- the command that this one is
 abbrev pub command_view : Command → model.Command

@@ -5,10 +5,10 @@ use Rattle.kl1_model.specs.Event as model
 use Rattle.kl1_model.specs.Command.{Command, does, run, Going, run_choice, stopped_by, run_from, act}
 use Rattle.kl1_model.specs.Choice.{first}
 use Rattle.kl1_user.specs.Views.{refusal_of, reply_of}
-use Rattle.kl1_script.specs.declared.performing.Performed.{Performed}
-use Rattle.kl1_script.specs.declared.performing.Performed.TheVariants as performed
-use Rattle.kl1_script.specs.declared.performing.FirstStep.{FirstStep}
-use Rattle.kl1_script.specs.declared.performing.FirstStep.TheVariants as first_step
+use Rattle.kl1_script.specs.declared.performed.Performed.{Performed}
+use Rattle.kl1_script.specs.declared.performed.Performed.TheVariants as performed
+use Rattle.kl1_script.specs.declared.first_step.FirstStep.{FirstStep}
+use Rattle.kl1_script.specs.declared.first_step.FirstStep.TheVariants as first_step
 
 -- why an event was refused, where it was
 abbrev pub refusal_in : model.Reply → Option model.Refusal

@@ -9,7 +9,7 @@ ghost use Rattle.kl1_script.specs.Told.{state_by, told_by};
 
 use crate::command::{Command, command_in};
 use crate::notices::put_no_account;
-use crate::performing::{Performed, perform};
+use crate::performed::{Performed, perform};
 use crate::record::CommandParts;
 use crate::replies::put_reply;
 use crate::verb::is_same;

@@ -1,13 +1,12 @@
 // Commands.
 
 ghost use Rattle.std.specs.Prelude.{◌≡◌, IfOk, option_map};
-ghost use Rattle.kl1_model.specs.Command.{does, parse, start_with};
+ghost use Rattle.kl1_model.specs.Command.{does, start_with};
 ghost use Rattle.kl1_model.specs.Event.{read, value};
 ghost use Rattle.kl1_model.specs.Module.{read_goal};
 ghost use Rattle.kl1_script.specs.Records.{command_of};
-ghost use Rattle.kl1_script.specs.Commands.{command_view, parsed_line};
+ghost use Rattle.kl1_script.specs.Commands.{command_view};
 
-use crate::line_parts::{LineParts, parts_of};
 use crate::record::CommandParts;
 use kl1_read::{ReadFault, read_goal};
 use kl1_user::{Event, Query, ShoenNo};
@@ -23,35 +22,6 @@ pub enum Command {
     Does(Event),
     /// At most so many first steps.
     Run(u64),
-}
-
-/// What a line is.
-#[derive(Drop)]
-pub enum Parsed {
-    /// A command.
-    Command(Command),
-    /// A load, whose source of so many bytes follows, at most 65,536.
-    Load(u64),
-    /// No command.
-    Refused,
-}
-
-/// What a line is, without its end.
-pub fn parse(alloc: Global, line: &[u8]) -> Result<Parsed, AllocError>
-    ensures { IfOk result (λ parsed. parsed_line parsed ≡ parse line.now) }
-{
-    match parts_of(line) {
-        LineParts::Load(count) => Ok(Parsed::Load(count)),
-        LineParts::Start(allowance, low, high, goal) => {
-            match start_command(alloc, allowance, low, high, goal)? {
-                Some(command) => Ok(Parsed::Command(command)),
-                None => Ok(Parsed::Refused),
-            }
-        }
-        LineParts::Run(steps) => Ok(Parsed::Command(Command::Run(steps))),
-        LineParts::Value(shoen) => Ok(Parsed::Command(value_command(shoen))),
-        LineParts::NoCommand => Ok(Parsed::Refused),
-    }
 }
 
 /// The command that has these parts, where they are one.
@@ -73,14 +43,14 @@ pub fn command_in(alloc: Global, parts: CommandParts<'_>) -> Result<Option<Comma
 }
 
 /// The question for the value of a shoen.
-fn value_command(shoen: u64) -> Command
+pub(crate) fn value_command(shoen: u64) -> Command
     ensures { command_view result ≡ does (read (value shoen)) }
 {
     Command::Does(Event::Read(Query::Value(ShoenNo(shoen))))
 }
 
 /// The start of the goal that bytes are, where the priorities are a range and there is one.
-fn start_command(
+pub(crate) fn start_command(
     alloc: Global,
     allowance: u64,
     low: u64,

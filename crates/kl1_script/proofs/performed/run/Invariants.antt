@@ -1,6 +1,6 @@
 use Rattle.std.proofs.Common.{◌≤◌, ◌-◌}
 use Rattle.kl1_script.proofs.Runs.{GoesOn}
-use Rattle.kl1_script.proofs.performing.run.Given as goal
+use Rattle.kl1_script.proofs.performed.run.Given as goal
 
 -- runs go on at the account behind the steps that are done
 abbrev pub invariant-loop-done : goal.invariant-loop-done

@@ -1,7 +1,7 @@
 use Rattle.std.proofs.Common.{◌≡◌, ◌∙◌, arith}
 use Rattle.kl1_user.specs.Views.{refusal_of}
 use Rattle.kl1_script.proofs.Runs.{goes_further, none_done, all_done, none_left, next_refused}
-use Rattle.kl1_script.proofs.performing.run.Goals as goal
+use Rattle.kl1_script.proofs.performed.run.Goals as goal
 
 pub returns-in-Quiet : goal.returns-in-Quiet
 returns-in-Quiet c =
@@ -11,7 +11,7 @@ returns-in-Quiet c =
 
 pub loop-done-preserved : goal.loop-done-preserved
 loop-done-preserved c = record {
-  goes = goes_further c.args.user.now c.loop-done.user c.first_step.new.user c.loop-done.done c.loop-done.invariant.goes c.in-Done.ensures;
+  goes = goes_further c.args.user.now c.loop-done.user c.reduce_first.new.user c.loop-done.done c.loop-done.invariant.goes c.in-Done.ensures;
   few = omega arith;
 }
 

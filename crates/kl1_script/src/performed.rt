@@ -1,14 +1,15 @@
 // What a command does to an account.
 
-ghost use Rattle.std.specs.Prelude.{◌≡◌, option_map};
+ghost use Rattle.std.specs.Prelude.{◌≡◌};
 ghost use Rattle.kl1_model.specs.Command as model;
 ghost use Rattle.kl1_model.specs.State.{State};
 ghost use Rattle.kl1_user.specs.Views.{refusal_of, reply_of};
 ghost use Rattle.kl1_script.specs.Commands.{command_view};
-ghost use Rattle.kl1_script.specs.Performing.{IsFirstStep, Performs, refusal_in};
+ghost use Rattle.kl1_script.specs.Performing.{Performs};
 
 use crate::command::Command;
-use kl1_user::{Event, Refusal, Reply, UserState};
+use crate::first_step::{FirstStep, reduce_first};
+use kl1_user::{Refusal, Reply, UserState};
 
 /// What became of a command.
 #[derive(Drop)]
@@ -17,18 +18,6 @@ pub enum Performed {
     Whole(Reply),
     /// Memory was refused in the midst of a run, behind so many of its steps, at least one.
     Short { steps: u64 },
-    /// Memory was refused, and the account is as it was.
-    Memory,
-}
-
-/// What became of the first goal that can step.
-pub(crate) enum FirstStep {
-    /// There is none.
-    Quiet,
-    /// It is reduced.
-    Done,
-    /// Its reduction is refused, and the account is as it was.
-    Refused(Refusal),
     /// Memory was refused, and the account is as it was.
     Memory,
 }
@@ -52,7 +41,7 @@ fn run(user: &mut UserState, most: u64) -> Performed
 {
     let mut done = 0;
     while done < most {
-        match first_step(user) {
+        match reduce_first(user) {
             FirstStep::Quiet => return Performed::Whole(Reply::Ran(done)),
             FirstStep::Done => done += 1,
             FirstStep::Refused(refusal) => return Performed::Whole(stopped(done, refusal)),
@@ -75,36 +64,5 @@ fn stopped(done: u64, refusal: Refusal) -> Reply
         Reply::Refused(refusal)
     } else {
         Reply::Ran(done)
-    }
-}
-
-/// Reduces the first goal that can step.
-fn first_step(user: &mut UserState) -> FirstStep
-    ensures { IsFirstStep user.old result user.new }
-{
-    let Some((goal, clause)) = user.pick() else {
-        return FirstStep::Quiet;
-    };
-    let event = Event::Reduce { goal, clause };
-    match user.apply(&event) {
-        Ok(reply) => match refusal_in(&reply) {
-            Some(refusal) => FirstStep::Refused(refusal),
-            None => FirstStep::Done,
-        },
-        Err(_) => FirstStep::Memory,
-    }
-}
-
-/// Why an event was refused, where it was.
-fn refusal_in(reply: &Reply) -> Option<Refusal>
-    ensures { option_map refusal_of result ≡ refusal_in (reply_of reply.now) }
-{
-    match reply {
-        Reply::Loaded(_name) => None,
-        Reply::Opened(_shoen) => None,
-        Reply::Reduced => None,
-        Reply::Ran(_steps) => None,
-        Reply::Shown(_text) => None,
-        Reply::Refused(refusal) => Some(*refusal),
     }
 }
