@@ -1,2 +1,4 @@
 pub mod AccountNames
 pub mod NextNodes
+pub mod UsedNames
+pub mod StartLines

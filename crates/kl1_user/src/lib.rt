@@ -8,6 +8,8 @@ mod numbers;
 mod printing;
 mod refusal;
 mod reply;
+mod startable;
+mod used_names;
 mod user_state;
 
 pub use account_name::AccountName;
