@@ -1,8 +1,12 @@
 // What only running shows: that each call can succeed, and instructions against the language's rules.
 
+ghost use Rattle.kl1_clause.specs.Predicates.{AreWhole};
+
 use crate::code::clauses_of;
-use crate::{ClauseParts, Code, Instruction, Name, Names, Source};
+use crate::predicate::{from_first, front_run};
+use crate::{Code, CompiledClause, Instruction, Name, Names};
 use kl1_model::BuiltIn;
+use kl1_read::{ClauseParts, Source};
 use kl1_term::Term;
 use kl1_text::AtomText;
 use std::test::Fail;
@@ -186,5 +190,40 @@ fn a_module_of_its_name_alone(rt: HostRuntime) -> Result<(), Fail> {
     assert_eq!(rt; code.clause_count(), 0);
     assert!(rt; code.clauses().is_empty());
     assert_eq!(rt; code.names().len(), 1);
+    Ok(())
+}
+
+/// How many clauses a predicate has.
+fn found(texts: &[AtomText], clauses: &[CompiledClause], name: &AtomText, count: usize) -> usize
+    requires { AreWhole texts.now clauses.now }
+{
+    front_run(texts, from_first(texts, clauses, name, count), name, count).len()
+}
+
+/// Whether the predicates `app` of 3 and of no arguments, and `b`, have two clauses, one and one, and no others are there.
+fn are_found(texts: &[AtomText], clauses: &[CompiledClause]) -> bool
+    requires { AreWhole texts.now clauses.now }
+{
+    let app = AtomText::of(b"app");
+    let b = AtomText::of(b"b");
+    found(texts, clauses, &app, 3) == 2
+        && found(texts, clauses, &app, 0) == 1
+        && found(texts, clauses, &app, 1) == 0
+        && found(texts, clauses, &b, 0) == 1
+        && found(texts, clauses, &b, 3) == 0
+        && found(texts, clauses, &AtomText::of(b"c"), 0) == 0
+}
+
+#[test]
+fn clauses_of_a_name_and_a_number_of_arguments(rt: HostRuntime) -> Result<(), Fail> {
+    let mut parts = Vec::new(rt.alloc());
+    parts.push(append_nothing(&rt)?)?;
+    parts.push(append_one(&rt)?)?;
+    parts.push(empty_clause(&rt, b"app")?)?;
+    parts.push(empty_clause(&rt, b"b")?)?;
+    let mut names = Names::new(rt.alloc());
+    let clauses = clauses_of(rt.alloc(), &mut names, parts.as_slice())?;
+    let texts = names.texts();
+    assert!(rt; are_found(texts, clauses.as_slice()));
     Ok(())
 }
