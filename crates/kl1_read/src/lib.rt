@@ -30,6 +30,8 @@ mod goal_kinds;
 mod goals;
 mod marks;
 mod module_line;
+#[cfg(test)]
+mod module_tests;
 mod modules;
 mod repeats;
 mod reserved;
