@@ -41,7 +41,11 @@ fn begins_structure_goal(name: AtomText, count: usize, nodes: &[Node]) -> bool
     if name.is(&AtomText::of(b"=")) {
         return true;
     }
-    if name.is(&AtomText::of(b":")) { begins_qualified(nodes) } else { false }
+    if name.is(&AtomText::of(b":")) {
+        begins_qualified(nodes)
+    } else {
+        false
+    }
 }
 
 /// Whether the nodes of two terms begin with the name of a module and a goal that may stand behind it.

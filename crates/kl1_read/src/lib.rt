@@ -12,6 +12,10 @@ mod expression;
 mod following;
 mod frame;
 mod front;
+mod goal_kinds;
+#[cfg(test)]
+mod goal_tests;
+mod goals;
 mod guard;
 mod head_kinds;
 mod head_terms;
@@ -19,6 +23,11 @@ mod item;
 mod joined;
 mod left;
 mod mark;
+mod marks;
+mod module_line;
+#[cfg(test)]
+mod module_tests;
+mod modules;
 mod numbered;
 mod numbering;
 mod opened;
@@ -26,13 +35,6 @@ mod patterns;
 mod piece;
 mod quotes;
 mod read_fault;
-mod goal_kinds;
-mod goals;
-mod marks;
-mod module_line;
-#[cfg(test)]
-mod module_tests;
-mod modules;
 mod repeats;
 mod reserved;
 mod series;
@@ -47,7 +49,7 @@ mod words;
 
 pub use clause_parts::ClauseParts;
 pub use goal_kinds::is_goal;
-pub use read_fault::ReadFault;
 pub use goals::read_goal;
 pub use modules::read_module;
+pub use read_fault::ReadFault;
 pub use source::Source;
