@@ -174,7 +174,10 @@ fn lines_of_bad_items(rt: HostRuntime) -> Result<(), Fail> {
         (b":- module e.\np(a)\n.\nq(\n.\n", b"! 4"),
         (b":- module e. p. q. X.\n", b"! 1"),
         (b":- module e.\np. q.\n.\n", b"! 3"),
-        (b":- module n.\nw(0) :- true | true, true.\nw(N) :- N > 0 | M := N - 1, w(M).\n", b"! 3"),
+        (
+            b":- module n.\nw(0) :- true | true, true.\nw(N) :- N > 0 | M := N - 1, w(M).\n",
+            b"! 3",
+        ),
     ];
     for (text, wanted) in rows {
         assert!(rt; is_answer(&rt, text, wanted)?, "at {text:?}");
@@ -247,17 +250,32 @@ fn guards_and_bodies_that_are_allowed(rt: HostRuntime) -> Result<(), Fail> {
         (b"p :- true.", b"e p:-|true"),
         (b"p :- q.", b"e p:-|e:q"),
         (b"p :- true | q.", b"e p:-true|e:q"),
-        (b"p :- true, 'true', (true) | q, r(X).", b"e p:-true,true,true|e:q,e:r(_1)"),
+        (
+            b"p :- true, 'true', (true) | q, r(X).",
+            b"e p:-true,true,true|e:q,e:r(_1)",
+        ),
         (b"p(X) :- q(Y,X,_).", b"e p(_1):-|e:q(_2,_1,_3)"),
         (b"p :- X = 1, m:r(X).", b"e p:-|'='(_1,1),m:r(_1)"),
         (b"p :- (q), (m:q).", b"e p:-|e:q,m:q"),
         (b"p :- m:[], m:true, e:p.", b"e p:-|m:[],m:true,e:p"),
-        (b"p :- true(X), atom_from(X), wait.", b"e p:-|e:true(_1),e:atom_from(_1),e:wait"),
+        (
+            b"p :- true(X), atom_from(X), wait.",
+            b"e p:-|e:true(_1),e:atom_from(_1),e:wait",
+        ),
         (b"p :- m:atom_from(A,B).", b"e p:-|m:atom_from(_1,_2)"),
-        (b"p :- shoen:execute(1,2,3,4,5).", b"e p:-|shoen:execute(1,2,3,4,5)"),
-        (b"p :- m:execute(1,2,3,4,5,6).", b"e p:-|m:execute(1,2,3,4,5,6)"),
+        (
+            b"p :- shoen:execute(1,2,3,4,5).",
+            b"e p:-|shoen:execute(1,2,3,4,5)",
+        ),
+        (
+            b"p :- m:execute(1,2,3,4,5,6).",
+            b"e p:-|m:execute(1,2,3,4,5,6)",
+        ),
         (b"p :- q(1,2,3,4,5,6,7,8).", b"e p:-|e:q(1,2,3,4,5,6,7,8)"),
-        (b"p. p :- q. p(a). p(b) :- true | p.", b"e p:-|true p:-|e:q p(a):-|true p(b):-true|e:p"),
+        (
+            b"p. p :- q. p(a). p(b) :- true | p.",
+            b"e p:-|true p:-|e:q p(a):-|true p(b):-true|e:p",
+        ),
         (b"p:-true|true.%c\nq.", b"e p:-true|true q:-|true"),
         (b"p :- X = X.", b"e p:-|'='(_1,_1)"),
     ];
@@ -337,7 +355,11 @@ fn at_most_512_clauses(rt: HostRuntime) -> Result<(), Fail> {
     }
     assert_eq!(rt; outcome_of(&rt, names.as_slice())?, Ok(512), "of 512 names");
     names.extend_from_slice(b"q.\n")?;
-    assert_eq!(rt; outcome_of(&rt, names.as_slice())?, Err(514), "one name more");
+    assert_eq!(rt;
+        outcome_of(&rt, names.as_slice())?,
+        Err(514),
+        "one name more"
+    );
     Ok(())
 }
 
@@ -353,7 +375,11 @@ fn names_of_63_bytes(rt: HostRuntime) -> Result<(), Fail> {
     ];
     for (front, end, count, wanted) in rows {
         let items = nested(&rt, (front, end), count, (b"a", b"", b""))?;
-        assert_eq!(rt; outcome_of(&rt, items.as_slice())?, wanted, "{count} at {front:?}");
+        assert_eq!(rt;
+            outcome_of(&rt, items.as_slice())?,
+            wanted,
+            "{count} at {front:?}"
+        );
     }
     Ok(())
 }
@@ -372,7 +398,11 @@ fn terms_of_depth_256(rt: HostRuntime) -> Result<(), Fail> {
     ];
     for (front, end, count, wanted) in rows {
         let items = nested(&rt, (front, end), count, (b"f(", b"a", b")"))?;
-        assert_eq!(rt; outcome_of(&rt, items.as_slice())?, wanted, "{count} at {front:?}");
+        assert_eq!(rt;
+            outcome_of(&rt, items.as_slice())?,
+            wanted,
+            "{count} at {front:?}"
+        );
     }
     Ok(())
 }
@@ -416,22 +446,37 @@ fn long_bodies_are_read(rt: HostRuntime) -> Result<(), Fail> {
     Ok(())
 }
 
+/// Whether the item on line 3 of `front`, `before` so many times, `middle`, `behind` so many times, and `end` is bad.
+fn is_bad(
+    rt: &HostRuntime,
+    ends: (&[u8], &[u8]),
+    count: usize,
+    parts: (&[u8], &[u8], &[u8]),
+) -> Result<bool, Fail> {
+    let items = nested(rt, ends, count, parts)?;
+    Ok(outcome_of(rt, items.as_slice())? == Err(3))
+}
+
 #[test]
-fn hostile_clauses_are_refused(rt: HostRuntime) -> Result<(), Fail> {
-    let rows: [(&[u8], &[u8], usize, (&[u8], &[u8], &[u8])); 9] = [
-        (b"\n", b".", 60_000, (b"(", b"", b"")),
-        (b"\np(", b").", 60_000, (b"(", b"", b"")),
-        (b"\n", b".", 20_000, (b"f(", b"a", b")")),
-        (b"\np :- ", b".", 20_000, (b"f(", b"a", b")")),
-        (b"\np(", b").", 20_000, (b"[", b"a", b"]")),
-        (b"\n", b".", 60_000, (b"'", b"", b"")),
-        (b"\np :- ", b".", 60_000, (b"|", b"", b"")),
-        (b"\np :- ", b"", 32_000, (b"q,", b"q", b"")),
-        (b"\np ", b".", 32_000, (b":-", b"", b"")),
-    ];
-    for (front, end, count, parts) in rows {
-        let items = nested(&rt, (front, end), count, parts)?;
-        assert_eq!(rt; outcome_of(&rt, items.as_slice())?, Err(3), "at {parts:?}");
-    }
+fn open_parentheses_are_refused(rt: HostRuntime) -> Result<(), Fail> {
+    assert!(rt; is_bad(&rt, (b"\n", b"."), 60_000, (b"(", b"", b""))?);
+    assert!(rt; is_bad(&rt, (b"\np(", b")."), 60_000, (b"(", b"", b""))?);
+    assert!(rt; is_bad(&rt, (b"\n", b"."), 60_000, (b"'", b"", b""))?);
+    Ok(())
+}
+
+#[test]
+fn deep_calls_and_lists_are_refused(rt: HostRuntime) -> Result<(), Fail> {
+    assert!(rt; is_bad(&rt, (b"\n", b"."), 20_000, (b"f(", b"a", b")"))?);
+    assert!(rt; is_bad(&rt, (b"\np :- ", b"."), 20_000, (b"f(", b"a", b")"))?);
+    assert!(rt; is_bad(&rt, (b"\np(", b")."), 20_000, (b"[", b"a", b"]"))?);
+    Ok(())
+}
+
+#[test]
+fn rows_of_signs_are_refused(rt: HostRuntime) -> Result<(), Fail> {
+    assert!(rt; is_bad(&rt, (b"\np :- ", b"."), 60_000, (b"|", b"", b""))?);
+    assert!(rt; is_bad(&rt, (b"\np ", b"."), 32_000, (b":-", b"", b""))?);
+    assert!(rt; is_bad(&rt, (b"\np :- ", b""), 32_000, (b"q,", b"q", b""))?);
     Ok(())
 }
