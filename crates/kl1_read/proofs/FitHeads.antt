@@ -1,16 +1,14 @@
 -- Which heads may stand there.
-use Rattle.std.proofs.Common.{◌≡◌, ℕ, zero, suc, ◌+◌, ◌<◌, ◌≤◌, max, nat_lt, nat_le, ◌&&◌, not, if◌then◌else◌, Bool, true, false, IsTrue, List, [], ◌∷◌, ◌++◌, length, reverse, get_or, drop, codes, bytes_eq, append_assoc, refl, ap, sym, ◌∙◌, arith}
+use Rattle.std.proofs.Common.{◌≡◌, ℕ, suc, ◌<◌, ◌≤◌, max, nat_lt, nat_le, ◌&&◌, not, if◌then◌else◌, Bool, true, false, IsTrue, List, [], ◌∷◌, length, codes, bytes_eq, refl, ap, sym, ◌∙◌, arith}
 use Rattle.std.proofs.lemmas.Bool.{both_ways, not-true, and_parts, and_left, and_right, lt-leb, le-leb, and_from}
 use Rattle.std.proofs.lemmas.Slice.Eq.{bytes_eq-Decides}
 use Rattle.std.proofs.lemmas.Bool.Decides.{nat_tests}
-use Rattle.std.proofs.lemmas.List.{at_drop_more, at_drop_all, reverse-append}
 use Rattle.kl1_model.specs.Text.{is_text}
 use Rattle.kl1_model.specs.Term.{Term, structure, Terms, none, more, terms_of, count_of}
 use Rattle.kl1_model.specs.Meaning.{Depth, depths, depth, deepest, flat, cell_depth, is_narrow, are_narrow, is_writable}
 use Rattle.kl1_model.specs.Goal.{is_head, is_reserved}
 use Rattle.kl1_read.specs.Heads.{may_name_atom, may_name_structure}
 use Rattle.kl1_read.specs.Statements.{is_fit_name}
-use Rattle.kl1_read.proofs.Nodes.{writable_narrow}
 
 count_is : (ts : List Term) → count_of (terms_of ts) ≡ length ts
 count_is [] = refl

@@ -3,7 +3,7 @@ use Rattle.std.proofs.Common.{◌≡◌, ℕ, zero, suc, ◌+◌, ◌<◌, ◌==
 use Rattle.std.specs.List.{list_any}
 use Rattle.std.proofs.lemmas.Bool.{lt-ltb}
 use Rattle.kl1_model.specs.Term.{Term, terms_of, count_of}
-use Rattle.kl1_model.specs.Module.{Clause, is_of, last_of, may_follow}
+use Rattle.kl1_model.specs.Module.{is_of, last_of, may_follow}
 use Rattle.kl1_read.specs.declared.clause_parts.ClauseParts.{ClauseParts}
 use Rattle.kl1_read.specs.Sources.{clause_of_parts}
 use Rattle.kl1_read.specs.Followings.{is_one_of, ends_with, holds}

@@ -2,16 +2,16 @@
 use Rattle.std.proofs.Common.{◌≡◌, ℕ, ◌⊎◌, inl, inr, ◌&&◌, not, Bool, true, false, if◌then◌else◌, List, [], ◌∷◌, ◌++◌, append_assoc, Option, Some, None, option_map, option_and_then, refl, ap, sym, ◌∙◌}
 use Rattle.std.specs.List.{list_all}
 use Rattle.std.proofs.lemmas.Bool.{true≢false, and_cases}
-use Rattle.kl1_model.specs.Term.{Term, atom, structure, Terms, none, more, terms_of, list_of}
+use Rattle.kl1_model.specs.Term.{Term, structure, Terms, none, more, terms_of, list_of}
 use Rattle.kl1_model.specs.Token.{name_token}
 use Rattle.kl1_model.specs.Grammar.{Numbered, Series, last, another, Head, bare_head, head_with, ClauseTree, fact, rule, guarded}
-use Rattle.kl1_model.specs.Reader.{Answer, then_read, then_skip, if_there, behind_open, behind_close, behind_neck, behind_bar, series_at, arguments_at, head_at, behind_neck_at, clause_at, all_read, clause_tree}
+use Rattle.kl1_model.specs.Reader.{Answer, then_read, then_skip, if_there, behind_open, behind_close, behind_neck, behind_bar, series_at, behind_neck_at, clause_at, all_read, clause_tree}
 use Rattle.kl1_model.specs.Meaning.{expression_term, series_terms, head_term, is_writable, variables_in}
 use Rattle.kl1_model.specs.Goal.{is_head, is_test, body_goal}
 use Rattle.kl1_model.specs.Module.{Clause, each_of, has_repeats, head_name, head_patterns, is_fit_head, fit_test, fit_goal, clause_with, true_goal, clause_of_tree}
 use Rattle.kl1_model.proofs.ReadSteps.{clauses_go_on}
 use Rattle.kl1_read.specs.Meanings.{reading, answer_map, series_read, fit}
-use Rattle.kl1_read.specs.Statements.{Heading, Statement, written_series, arguments_read, heading_read, guarded_read, statement_read, heading_term, is_fit_heading, fit_patterns, clause_of_statement}
+use Rattle.kl1_read.specs.Statements.{Heading, Statement, written_series, guarded_read, statement_read, heading_term, is_fit_heading, clause_of_statement}
 use Rattle.kl1_read.proofs.Unwritable.{structure_unwritable}
 
 -- the terms of expressions that were read

@@ -1,5 +1,5 @@
 -- How heads and tests are told by their names and first nodes.
-use Rattle.std.specs.Prelude.{ℕ, not, ◌&&◌, Bool, true, false, List, [], ◌∷◌, codes, bytes_eq}
+use Rattle.std.specs.Prelude.{ℕ, not, ◌&&◌, Bool, false, List, [], ◌∷◌, codes, bytes_eq}
 use Rattle.kl1_model.specs.Goal.{is_reserved, is_atom_from}
 use Rattle.kl1_term.specs.declared.node.Node.{Node}
 use Rattle.kl1_term.specs.declared.node.Node.TheVariants.{Variable, Integer, Atom, Structure}

@@ -1,10 +1,10 @@
 -- A clause as terms, before it is known whether they may stand there.
-use Rattle.std.specs.Prelude.{◌≡◌, ℕ, ◌&&◌, not, Bool, true, false, if◌then◌else◌, List, [], ◌∷◌, map, Option, Some, None, option_map, option_and_then}
+use Rattle.std.specs.Prelude.{ℕ, ◌&&◌, not, Bool, true, false, if◌then◌else◌, List, [], ◌∷◌, map, Option, Some, None, option_map, option_and_then}
 use Rattle.std.specs.Borrow.{Bor}
 use Rattle.kl1_model.specs.Term.{Term, atom, structure, more, terms_of}
 use Rattle.kl1_model.specs.Token.{name_token}
 use Rattle.kl1_model.specs.Grammar as grammar
-use Rattle.kl1_model.specs.Reader.{Answer, then_read, then_skip, if_there, behind_open, behind_close, behind_neck, behind_bar, all_read}
+use Rattle.kl1_model.specs.Reader.{Answer, then_read, then_skip, if_there, behind_open, behind_close, behind_neck, behind_bar}
 use Rattle.kl1_model.specs.Meaning.{is_writable, variables_in}
 use Rattle.kl1_model.specs.Goal.{is_head}
 use Rattle.kl1_model.specs.Module.{Clause, each_of, has_repeats, fit_test, fit_goal, true_goal}

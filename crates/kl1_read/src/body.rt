@@ -33,11 +33,7 @@ pub(crate) fn goals_of(
 }
 
 /// The goal that a term is in a module of this name, where it is one: with the module's name where it names none.
-fn fit_goal(
-    alloc: Global,
-    module_name: AtomText,
-    piece: Piece,
-) -> Result<Option<Term>, AllocError>
+fn fit_goal(alloc: Global, module_name: AtomText, piece: Piece) -> Result<Option<Term>, AllocError>
     ensures { IfOk result (λ r. r ≡ fit_goal module_name piece) }
 {
     piece.is_written();

@@ -81,12 +81,8 @@ fn read_guarded<'a>(
         None => Ok(None),
         Some((first, rest)) => match behind_mark(Mark::Bar, rest) {
             None => {
-                let terms = ClauseTerms {
-                    head,
-                    tests: Vec::new(alloc),
-                    body: first,
-                };
-                Ok(Some((terms, rest)))
+                let (tests, body) = (Vec::new(alloc), first);
+                Ok(Some((ClauseTerms { head, tests, body }, rest)))
             }
             Some(inside) => match read_series(alloc, inside)? {
                 None => Ok(None),

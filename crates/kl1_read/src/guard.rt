@@ -9,10 +9,7 @@ use kl1_term::Term;
 use std::alloc::{AllocError, Global};
 
 /// The tests that terms are, where each is one.
-pub(crate) fn tests_of(
-    alloc: Global,
-    pieces: Vec<Piece>,
-) -> Result<Option<Vec<Term>>, AllocError>
+pub(crate) fn tests_of(alloc: Global, pieces: Vec<Piece>) -> Result<Option<Vec<Term>>, AllocError>
     ensures { IfOk result (λ r. option_map (λ tests. tests.items) r ≡ each_of fit_test pieces.items) }
 {
     let mut pieces = pieces;

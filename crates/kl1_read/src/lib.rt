@@ -25,6 +25,8 @@ mod left;
 mod mark;
 mod marks;
 mod module_line;
+#[cfg(test)]
+mod module_tests;
 mod modules;
 mod numbered;
 mod numbering;

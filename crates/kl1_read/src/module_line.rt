@@ -32,7 +32,11 @@ pub(crate) fn named_module(tokens: &[Spelled]) -> Option<AtomText>
 fn behind_sign(sign: Sign, tokens: &[Spelled]) -> Option<AtomText>
     ensures { result ≡ named_module (sign_token sign ∷ map spelled_token tokens.now) }
 {
-    if sign == Sign::Neck { behind_neck(tokens) } else { None }
+    if sign == Sign::Neck {
+        behind_neck(tokens)
+    } else {
+        None
+    }
 }
 
 /// The name in the line of a module, where these are its tokens behind the neck.

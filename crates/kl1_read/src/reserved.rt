@@ -41,9 +41,7 @@ fn is_reserved(name: &AtomText) -> bool
 pub(crate) fn may_name_atom(name: &AtomText) -> bool
     ensures { result ≡ may_name_atom name.now }
 {
-    !is_reserved(name)
-        && !name.is(&AtomText::of(b"true"))
-        && !name.is(&AtomText::of(b"otherwise"))
+    !is_reserved(name) && !name.is(&AtomText::of(b"true")) && !name.is(&AtomText::of(b"otherwise"))
 }
 
 /// Whether a name may be that of a head with so many arguments, from 1.

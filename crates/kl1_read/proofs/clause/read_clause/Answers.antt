@@ -1,7 +1,4 @@
-use Rattle.std.proofs.Common.{◌≡◌, map, Option, Some, None, option_map, option_and_then, IfOk, ap, sym, ◌∙◌, subst}
-use Rattle.kl1_model.specs.Module.{clause_of_tree}
-use Rattle.kl1_model.specs.Reader.{clause_tree}
-use Rattle.kl1_read.specs.declared.clause_terms.ClauseTerms.{ClauseTerms}
+use Rattle.std.proofs.Common.{◌≡◌, map, option_map, option_and_then, IfOk, ap, sym, ◌∙◌, subst}
 use Rattle.kl1_read.specs.Views.{numbered_token}
 use Rattle.kl1_read.specs.Sources.{clause_of_parts}
 use Rattle.kl1_read.specs.Statements.{statement_of, clause_of_statement}
