@@ -15,11 +15,10 @@ use Rattle.kl1_store.specs.declared.cell.Cell.TheVariants.{Structure}
 use Rattle.kl1_store.specs.declared.frame.Frame.{Frame}
 use Rattle.kl1_store.specs.declared.meeting.Meeting.TheVariants.{Clash}
 use Rattle.kl1_store.specs.Held.{Held, arguments_of}
-use Rattle.kl1_store.specs.Meaning.{term_of, terms_of}
+use Rattle.kl1_store.specs.Meaning.{term_of, terms_of, unread}
 use Rattle.kl1_store.specs.Sound.{IsFormed}
 use Rattle.kl1_store.specs.Waiting.{rest_of, waiting, IsPair, ArePairs, Turn, IsTurn}
 use Rattle.kl1_store.specs.Onward.{onward}
-use Rattle.kl1_store.specs.Spots.{unread}
 use Rattle.kl1_store.specs.Meets.{MeetsAs, Takes, Opens}
 use Rattle.kl1_store.specs.Unifies.{ForEachReading}
 use Rattle.kl1_store.proofs.Terms.{term_of-Structure}

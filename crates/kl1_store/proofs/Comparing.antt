@@ -15,10 +15,9 @@ use Rattle.kl1_store.specs.declared.cell.Cell.TheVariants.{Variable}
 use Rattle.kl1_store.specs.declared.frame.Frame.{Frame}
 use Rattle.kl1_store.specs.declared.meeting.Meeting.TheVariants.{Clash}
 use Rattle.kl1_store.specs.Held.{Held, IsIn, IsWalked, arguments_of}
-use Rattle.kl1_store.specs.Meaning.{term_of, terms_of}
+use Rattle.kl1_store.specs.Meaning.{term_of, terms_of, unread}
 use Rattle.kl1_store.specs.Sound.{IsFormed}
 use Rattle.kl1_store.specs.Value.{IsNoVariable}
-use Rattle.kl1_store.specs.Spots.{unread}
 use Rattle.kl1_store.specs.Waiting.{rest_of, waiting, ArePairs, IsTurn}
 use Rattle.kl1_store.specs.Onward.{onward}
 use Rattle.kl1_store.specs.Meets.{MeetsAs, Opens}

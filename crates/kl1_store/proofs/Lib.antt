@@ -8,7 +8,8 @@ pub mod Walking
 pub mod Meetings
 pub mod Numbered
 pub mod Advancing
-pub mod Searching
+pub mod Levelling
+pub mod Lifting
 pub mod Settling
 pub mod Unifying
 pub mod Comparing

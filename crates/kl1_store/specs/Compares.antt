@@ -8,8 +8,7 @@ use Rattle.kl1_text.specs.Reading.{Reads}
 use Rattle.kl1_store.specs.declared.cell.Cell.{Cell}
 use Rattle.kl1_store.specs.declared.frame.Frame.{Frame}
 use Rattle.kl1_store.specs.Held.{Held}
-use Rattle.kl1_store.specs.Meaning.{term_of}
-use Rattle.kl1_store.specs.Spots.{unread}
+use Rattle.kl1_store.specs.Meaning.{term_of, unread}
 use Rattle.kl1_store.specs.Waiting.{waiting, ArePairs}
 
 -- whether the sides of some equation clash

@@ -5,7 +5,7 @@ use Rattle.kl1_store.proofs.Settling.{NextBinding, settling_start, settling_on, 
 use Rattle.kl1_store.proofs.settle.settle.Goals as goal
 
 pub loop-variable-init : goal.loop-variable-init
-loop-variable-init g c = record { settling = settling_start g.N.NameValue.built c.args.cells.now.held c.args.frames.now.items c.requires; room = refl }
+loop-variable-init g c = record { settling = settling_start g.N.NameValue.built c.args.cells.now.held c.args.frames.now.items c.requires.pairs; levels = c.requires.levels; room = refl }
 
 pub returns-in-Finished-clause-settled : goal.returns-in-Finished-clause-settled
 returns-in-Finished-clause-settled g c =
@@ -41,4 +41,4 @@ loop-variable-preserved g c =
     let to = subst P c.in-Binds.is c.in_ok-advance.ensures in
     let next : NextBinding g.N.NameValue.built c.loop-variable.cells.held c.loop-variable.frames.items c.advance.new.frames.items c.in-Binds.variable c.in-Binds.value = record { can = to.0; pairs = to.1; next = to.2 } in
     let Q : Bool → Type 0 = λ b. BindsAs c.loop-variable.cells.held c.bind_new.new.cells.held c.in-Binds.variable c.in-Binds.value b in
-    record { settling = (settling_on g.N.NameValue.built c.args.cells.now.held c.loop-variable.cells.held c.bind_new.new.cells.held c.args.frames.now.items c.loop-variable.frames.items c.advance.new.frames.items c.in-Binds.variable c.in-Binds.value c.loop-variable.invariant.settling next (subst Q c.if-not-branch.false c.in_ok-bind_new-in-Binds.ensures.ok)).0; room = c.in_ok-bind_new-in-Binds.ensures.room ∙ c.loop-variable.invariant.room }
+    record { settling = (settling_on g.N.NameValue.built c.args.cells.now.held c.loop-variable.cells.held c.bind_new.new.cells.held c.args.frames.now.items c.loop-variable.frames.items c.advance.new.frames.items c.in-Binds.variable c.in-Binds.value c.loop-variable.invariant.settling next (subst Q c.if-not-branch.false c.in_ok-bind_new-in-Binds.ensures.ok)).0; levels = c.in_ok-bind_new-in-Binds.ensures.levels; room = c.in_ok-bind_new-in-Binds.ensures.room ∙ c.loop-variable.invariant.room }

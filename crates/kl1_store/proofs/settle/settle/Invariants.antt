@@ -1,4 +1,5 @@
 use Rattle.std.proofs.Common.{◌≡◌}
+use Rattle.kl1_store.specs.Levels.{AreLevels}
 use Rattle.kl1_store.proofs.Settling.{Settling, unbound_below}
 use Rattle.kl1_store.proofs.settle.settle.Given as goal
 
@@ -6,6 +7,7 @@ use Rattle.kl1_store.proofs.settle.settle.Given as goal
 abbrev pub invariant-loop-variable : goal.invariant-loop-variable
 invariant-loop-variable g l = record {
   settling : Settling g.N.NameValue.built l.fn.cells.held l.cells.held l.fn.frames.items l.frames.items;
+  levels : AreLevels l.cells.held l.levels;
   room : l.cells.room ≡ l.fn.cells.room;
 }
 
