@@ -39,7 +39,7 @@ ArePairs-pop h [] p a = (tt, a.0)
 ArePairs-pop h (q ∷ ps) p a = let r = ArePairs-pop h ps p a.1 in ((a.0, r.0), r.1)
 
 pub onward_pair : {N : Type 0} (h : Held N) (p : Frame) → IsPair h p → suc p.next ≤ p.count → IsPair h (onward p)
-onward_pair h p q le = record { left = q.left; right = q.right; left_count = q.left_count; right_count = q.right_count; next = omega arith }
+onward_pair h p q le = record { left = q.left; right = q.right; left_count = q.left_count; right_count = q.right_count; next = omega arith; name = q.name; left_shape = q.left_shape; right_shape = q.right_shape }
 
 pub drop_here : {X : Type 0} (xs : List X) (i : ℕ) (x : X) → slice_get xs i ≡ Some x → drop i xs ≡ x ∷ drop (i + 1) xs
 drop_here {X = X} xs i x e =

@@ -16,3 +16,6 @@ pub mod Comparing
 pub mod ComparingEach
 pub mod Answering
 pub mod Grows
+pub mod Merging
+pub mod Nesting
+pub mod Equalling

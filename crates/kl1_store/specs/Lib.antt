@@ -15,3 +15,5 @@ pub mod Compares
 pub mod ComparesEach
 pub mod Sameness
 pub mod Hooks
+pub mod Nested
+pub mod Merged

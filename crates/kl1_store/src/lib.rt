@@ -15,6 +15,8 @@ mod lift;
 mod mark;
 mod meeting;
 mod meets;
+mod merge;
+mod merges;
 mod next;
 mod node;
 mod occurs;

@@ -5,6 +5,8 @@ ghost use Rattle.kl1_store.specs.Held.{Held, IsIn};
 ghost use Rattle.kl1_store.specs.Waiting.{waiting, ArePairs};
 ghost use Rattle.kl1_store.specs.Meets.{CanTake};
 ghost use Rattle.kl1_store.specs.Levels.{AreLevels};
+ghost use Rattle.kl1_store.specs.Nested.{IsNested};
+ghost use Rattle.kl1_store.specs.Merged.{AreMerged};
 ghost use Rattle.kl1_store.specs.Unifies.{OnlyBound, SettlesAs, BindsAs, equation_of};
 
 use crate::advance::advance;
@@ -14,6 +16,7 @@ use crate::frame::Frame;
 use crate::levels::Levels;
 use crate::meeting::Meeting;
 use crate::meets::meet;
+use crate::merges::Merges;
 use crate::next::Next;
 use crate::occurs::occurs_in_term;
 use crate::task::Task;
@@ -47,10 +50,13 @@ fn bind_new<N: NameValue>(
 fn settle<N: NameValue>(
     cells: &mut Cells<N>,
     frames: &mut Vec<Frame>,
+    merges: &mut Merges,
     levels: &mut Levels,
     tasks: &mut Vec<Task<N>>,
 ) -> Result<bool, AllocError>
     requires pairs { ArePairs cells.old.held frames.old.items }
+    requires nested { IsNested cells.old.held frames.old.items }
+    requires merged { AreMerged cells.old.held merges.old }
     requires levels { AreLevels cells.old.held levels.old }
     ensures settled { IfOk result (SettlesAs N.built cells.old.held cells.new.held (λ f. waiting f cells.old.held [] frames.old.items)) }
     ensures grown { OnlyBound cells.old.held cells.new.held }
@@ -58,7 +64,7 @@ fn settle<N: NameValue>(
     ensures room { cells.new.room ≡ cells.old.room }
 {
     loop {
-        match advance(cells, frames)? {
+        match advance(cells, frames, merges)? {
             Next::Finished => return Ok(true),
             Next::Never => return Ok(false),
             Next::Binds(variable, value) => {
@@ -70,10 +76,11 @@ fn settle<N: NameValue>(
     }
 }
 
-/// Makes two cells mean the same, as far as that can be; `frames` and `tasks` are scratch.
+/// Makes two cells mean the same, as far as that can be; `frames`, `merges` and `tasks` are scratch.
 pub fn unify_cells<N: NameValue>(
     cells: &mut Cells<N>,
     frames: &mut Vec<Frame>,
+    merges: &mut Merges,
     levels: &mut Levels,
     tasks: &mut Vec<Task<N>>,
     left: Cell<N>,
@@ -89,6 +96,7 @@ pub fn unify_cells<N: NameValue>(
 {
     let _ = cells.mark();
     frames.clear();
+    merges.clear();
     let first = cells.walk(left);
     let second = cells.walk(right);
     match meet(cells, first, second) {
@@ -103,7 +111,7 @@ pub fn unify_cells<N: NameValue>(
         }
         Meeting::Open(frame) => {
             frames.push(frame)?;
-            let settled = settle(cells, frames, levels, tasks)?;
+            let settled = settle(cells, frames, merges, levels, tasks)?;
             Ok(settled)
         }
     }

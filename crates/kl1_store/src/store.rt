@@ -15,6 +15,7 @@ use crate::frame::Frame;
 use crate::head::Head;
 use crate::hook::Hook;
 use crate::levels::Levels;
+use crate::merges::Merges;
 use crate::point::Point;
 use crate::same::Same;
 use crate::settle::unify_cells;
@@ -34,6 +35,7 @@ use std::marker::Model;
 pub struct Store<N: NameValue> {
     cells: Cells<N>,
     frames: Vec<Frame>,
+    merges: Merges,
     levels: Levels,
     tasks: Vec<Task<N>>,
     hooks: Vec<Hook>,
@@ -61,6 +63,7 @@ impl<N: NameValue> Store<N> {
         Store {
             cells: Cells::new(alloc),
             frames: Vec::new(alloc),
+            merges: Merges::new(alloc),
             levels: Levels::new(alloc),
             tasks: Vec::new(alloc),
             hooks: Vec::new(alloc),
@@ -129,6 +132,7 @@ impl<N: NameValue> Store<N> {
         match unify_cells(
             &mut self.cells,
             &mut self.frames,
+            &mut self.merges,
             &mut self.levels,
             &mut self.tasks,
             left,
