@@ -17,3 +17,4 @@ pub mod Sameness
 pub mod Hooks
 pub mod Nested
 pub mod Merged
+pub mod Done

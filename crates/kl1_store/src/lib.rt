@@ -19,6 +19,8 @@ mod merge;
 mod merges;
 mod next;
 mod node;
+mod pair;
+mod pairs;
 mod occurs;
 mod point;
 mod same;

@@ -121,6 +121,22 @@ fn a_shared_part_is_searched_once(rt: HostRuntime) -> Result<(), Fail> {
 }
 
 #[test]
+fn shared_parts_are_unified_once(rt: HostRuntime) -> Result<(), Fail> {
+    let mut store = Store::new(rt.alloc());
+    let x = Cell::Variable(store.fresh()?);
+    let left = tower(&rt, rt.alloc(), &mut store, x)?;
+    let right = tower(&rt, rt.alloc(), &mut store, ONE)?;
+    let other = tower(&rt, rt.alloc(), &mut store, A)?;
+    assert_eq!(rt; unified(&rt, &mut store, right, other)?, Unified::Clash);
+    assert_eq!(rt; unified(&rt, &mut store, left, right)?, Unified::Bound);
+    assert!(rt; store.holds(x));
+    assert!(rt; matches!(store.walk(x), Cell::Integer(1)));
+    assert_eq!(rt; unified(&rt, &mut store, left, right)?, Unified::Bound);
+    assert_eq!(rt; unified(&rt, &mut store, left, other)?, Unified::Clash);
+    Ok(())
+}
+
+#[test]
 fn a_cycle_through_a_later_binding_is_found(rt: HostRuntime) -> Result<(), Fail> {
     let mut store = Store::new(rt.alloc());
     let w = Cell::Variable(store.fresh()?);
