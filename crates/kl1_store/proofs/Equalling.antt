@@ -1,8 +1,8 @@
 -- Pairs of structures that were looked at to the end are equal.
-use Rattle.std.proofs.Common.{◌≡◌, ℕ, zero, suc, ◌+◌, ◌≤◌, ◌==◌, false, List, [], ◌∷◌, ◌++◌, refl, sym, ap, ◌∙◌, ◌⊎◌, inl, inr, arith, subst}
+use Rattle.std.proofs.Common.{◌≡◌, ℕ, zero, suc, ◌≤◌, ◌==◌, false, List, [], ◌∷◌, ◌++◌, refl, sym, ap, ◌∙◌, ◌⊎◌, inl, inr, arith, subst}
 use Rattle.std.specs.Prelude.{Some, slice_get}
 use Rattle.std.proofs.lemmas.Bool.{cond-true, eq-eqb}
-use Rattle.kl1_model.specs.Term.{Term, Terms, variable, structure, none, more, occurs, replace, replace_each}
+use Rattle.kl1_model.specs.Term.{Term, variable, structure, occurs, replace, replace_each}
 use Rattle.kl1_model.specs.Same.{argument_at}
 use Rattle.kl1_model.proofs.TermFacts.{replace-absent}
 use Rattle.kl1_store.specs.declared.cell.Cell.{Cell}
@@ -13,7 +13,7 @@ use Rattle.kl1_store.specs.declared.next.Next.TheVariants.{Binds}
 use Rattle.kl1_store.specs.Held.{Held, with_binding, is_bound, arguments_of}
 use Rattle.kl1_store.specs.Meaning.{term_of, terms_of}
 use Rattle.kl1_store.specs.Sound.{IsFormed}
-use Rattle.kl1_store.specs.Waiting.{IsPair, ArePairs, Turn, IsTurn}
+use Rattle.kl1_store.specs.Waiting.{IsPair, IsTurn}
 use Rattle.kl1_store.specs.Onward.{onward}
 use Rattle.kl1_store.specs.Meets.{Takes, Opens}
 use Rattle.kl1_store.specs.Nested.{Under, Expects, Alike, Equal, structure_term, argument_terms, IsNested, IsExpecting, ExpectsNext}

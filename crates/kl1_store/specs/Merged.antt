@@ -1,5 +1,5 @@
 -- Structures that were found to be equal.
-use Rattle.std.specs.Prelude.{◌≡◌, ℕ, suc, ◌≤◌, ◌<◌, ◌⊎◌, List, [], ◌∷◌, length, get_or}
+use Rattle.std.specs.Prelude.{◌≡◌, ℕ, ◌≤◌, ◌⊎◌, List, [], ◌∷◌, get_or}
 use Rattle.kl1_model.specs.Term.{Term}
 use Rattle.kl1_store.specs.declared.merge.Merge.{Merge}
 use Rattle.kl1_store.specs.Held.{Held}

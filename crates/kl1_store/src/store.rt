@@ -16,6 +16,7 @@ use crate::head::Head;
 use crate::hook::Hook;
 use crate::levels::Levels;
 use crate::merges::Merges;
+use crate::pairs::Pairs;
 use crate::point::Point;
 use crate::same::Same;
 use crate::settle::unify_cells;
@@ -36,6 +37,7 @@ pub struct Store<N: NameValue> {
     cells: Cells<N>,
     frames: Vec<Frame>,
     merges: Merges,
+    pairs: Pairs,
     levels: Levels,
     tasks: Vec<Task<N>>,
     hooks: Vec<Hook>,
@@ -64,6 +66,7 @@ impl<N: NameValue> Store<N> {
             cells: Cells::new(alloc),
             frames: Vec::new(alloc),
             merges: Merges::new(alloc),
+            pairs: Pairs::new(alloc),
             levels: Levels::new(alloc),
             tasks: Vec::new(alloc),
             hooks: Vec::new(alloc),
@@ -158,7 +161,13 @@ impl<N: NameValue> Store<N> {
         ensures hooks { self.new.hooks ≡ self.old.hooks }
     {
         let mut waits = Vec::new(self.alloc);
-        if !compare_each(&self.cells, &mut self.frames, &mut waits, terms)? {
+        if !compare_each(
+            &self.cells,
+            &mut self.frames,
+            &mut self.pairs,
+            &mut waits,
+            terms,
+        )? {
             return Ok(Same::No);
         }
         if waits.is_empty() {

@@ -137,6 +137,20 @@ fn shared_parts_are_unified_once(rt: HostRuntime) -> Result<(), Fail> {
 }
 
 #[test]
+fn shared_parts_are_compared_once(rt: HostRuntime) -> Result<(), Fail> {
+    let mut store = Store::new(rt.alloc());
+    let x = Cell::Variable(store.fresh()?);
+    let left = tower(&rt, rt.alloc(), &mut store, x)?;
+    let right = tower(&rt, rt.alloc(), &mut store, ONE)?;
+    let same = tower(&rt, rt.alloc(), &mut store, ONE)?;
+    let other = tower(&rt, rt.alloc(), &mut store, A)?;
+    assert_eq!(rt; compared(&rt, rt.alloc(), &mut store, right, same)?, 0);
+    assert_eq!(rt; compared(&rt, rt.alloc(), &mut store, right, other)?, 1);
+    assert!(rt; compared(&rt, rt.alloc(), &mut store, left, right)? > 2);
+    Ok(())
+}
+
+#[test]
 fn a_cycle_through_a_later_binding_is_found(rt: HostRuntime) -> Result<(), Fail> {
     let mut store = Store::new(rt.alloc());
     let w = Cell::Variable(store.fresh()?);

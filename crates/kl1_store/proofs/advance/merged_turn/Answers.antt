@@ -1,4 +1,4 @@
-use Rattle.std.proofs.Common.{List, sym, subst, ◌∙◌}
+use Rattle.std.proofs.Common.{List, sym, subst}
 use Rattle.kl1_store.specs.declared.merge.Merge.{Merge}
 use Rattle.kl1_store.specs.Merged.{AreMerged}
 use Rattle.kl1_store.proofs.advance.merged_turn.Goals as goal

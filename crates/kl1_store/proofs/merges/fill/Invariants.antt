@@ -1,4 +1,4 @@
-use Rattle.std.proofs.Common.{◌≡◌, ℕ, suc, ◌-◌, ◌≤◌, length, get_or}
+use Rattle.std.proofs.Common.{◌≡◌, ℕ, suc, ◌-◌, length, get_or}
 use Rattle.kl1_store.proofs.merges.fill.Given as goal
 
 -- each structure leads where it led

@@ -1,4 +1,4 @@
-use Rattle.std.proofs.Common.{◌≡◌, List, refl, subst, sym, ap, ◌∙◌, set}
+use Rattle.std.proofs.Common.{List, refl, subst, sym, set}
 use Rattle.kl1_store.specs.declared.merge.Merge.{Merge}
 use Rattle.kl1_store.specs.Merged.{Respects, AreParents}
 use Rattle.kl1_store.proofs.Merging.{parents_same, linked_to, respects-push}

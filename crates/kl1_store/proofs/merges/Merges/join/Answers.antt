@@ -1,7 +1,6 @@
-use Rattle.std.proofs.Common.{◌≡◌, ℕ, List, subst, sym, ◌∙◌}
-use Rattle.kl1_model.specs.Term.{Term}
+use Rattle.std.proofs.Common.{List, subst, sym, ◌∙◌}
 use Rattle.kl1_store.specs.declared.merge.Merge.{Merge}
-use Rattle.kl1_store.specs.Merged.{Respects, FindsRoot}
+use Rattle.kl1_store.specs.Merged.{Respects}
 use Rattle.kl1_store.proofs.merges.Merges.join.Goals as goal
 
 pub returns-then-first-second : goal.returns-then-first-second
