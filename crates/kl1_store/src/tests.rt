@@ -93,6 +93,76 @@ fn a_variable_is_never_in_its_own_term(rt: HostRuntime) -> Result<(), Fail> {
     Ok(())
 }
 
+/// A term f(t, t) of 60 levels with one structure for each, and `bottom` at its end.
+fn tower(
+    rt: &impl Abort,
+    alloc: Global,
+    store: &mut Store<AtomNo>,
+    bottom: Cell<AtomNo>,
+) -> Result<Cell<AtomNo>, Fail> {
+    let mut top = bottom;
+    for _ in 0..60 {
+        top = f_of(rt, alloc, store, top, top)?;
+    }
+    Ok(top)
+}
+
+#[test]
+fn a_shared_part_is_searched_once(rt: HostRuntime) -> Result<(), Fail> {
+    let mut store = Store::new(rt.alloc());
+    let x = Cell::Variable(store.fresh()?);
+    let y = Cell::Variable(store.fresh()?);
+    let top = tower(&rt, rt.alloc(), &mut store, x)?;
+    assert_eq!(rt; unified(&rt, &mut store, x, top)?, Unified::Clash);
+    assert_eq!(rt; unified(&rt, &mut store, y, top)?, Unified::Bound);
+    assert_eq!(rt; unified(&rt, &mut store, x, y)?, Unified::Clash);
+    assert_eq!(rt; unified(&rt, &mut store, x, A)?, Unified::Bound);
+    Ok(())
+}
+
+#[test]
+fn shared_parts_are_unified_once(rt: HostRuntime) -> Result<(), Fail> {
+    let mut store = Store::new(rt.alloc());
+    let x = Cell::Variable(store.fresh()?);
+    let left = tower(&rt, rt.alloc(), &mut store, x)?;
+    let right = tower(&rt, rt.alloc(), &mut store, ONE)?;
+    let other = tower(&rt, rt.alloc(), &mut store, A)?;
+    assert_eq!(rt; unified(&rt, &mut store, right, other)?, Unified::Clash);
+    assert_eq!(rt; unified(&rt, &mut store, left, right)?, Unified::Bound);
+    assert!(rt; store.holds(x));
+    assert!(rt; matches!(store.walk(x), Cell::Integer(1)));
+    assert_eq!(rt; unified(&rt, &mut store, left, right)?, Unified::Bound);
+    assert_eq!(rt; unified(&rt, &mut store, left, other)?, Unified::Clash);
+    Ok(())
+}
+
+#[test]
+fn shared_parts_are_compared_once(rt: HostRuntime) -> Result<(), Fail> {
+    let mut store = Store::new(rt.alloc());
+    let x = Cell::Variable(store.fresh()?);
+    let left = tower(&rt, rt.alloc(), &mut store, x)?;
+    let right = tower(&rt, rt.alloc(), &mut store, ONE)?;
+    let same = tower(&rt, rt.alloc(), &mut store, ONE)?;
+    let other = tower(&rt, rt.alloc(), &mut store, A)?;
+    assert_eq!(rt; compared(&rt, rt.alloc(), &mut store, right, same)?, 0);
+    assert_eq!(rt; compared(&rt, rt.alloc(), &mut store, right, other)?, 1);
+    assert!(rt; compared(&rt, rt.alloc(), &mut store, left, right)? > 2);
+    Ok(())
+}
+
+#[test]
+fn a_cycle_through_a_later_binding_is_found(rt: HostRuntime) -> Result<(), Fail> {
+    let mut store = Store::new(rt.alloc());
+    let w = Cell::Variable(store.fresh()?);
+    let around = f_of(&rt, rt.alloc(), &mut store, w, A)?;
+    let v = Cell::Variable(store.fresh()?);
+    let inner = f_of(&rt, rt.alloc(), &mut store, v, A)?;
+    assert_eq!(rt; unified(&rt, &mut store, w, inner)?, Unified::Bound);
+    assert_eq!(rt; unified(&rt, &mut store, v, around)?, Unified::Clash);
+    assert_eq!(rt; unified(&rt, &mut store, v, ONE)?, Unified::Bound);
+    Ok(())
+}
+
 #[test]
 fn lists_of_100000_elements(rt: HostRuntime) -> Result<(), Fail> {
     let mut store = Store::new(rt.alloc());
