@@ -8,17 +8,19 @@ ghost use Rattle.kl1_atoms.specs.declared.face.Heard.{Heard};
 ghost use Rattle.kl1_atoms.specs.Way.{further, mixed, start};
 ghost use Rattle.kl1_atoms.specs.Rule.{own_entry};
 ghost use Rattle.kl1_atoms.specs.Plays.{own, has_first, with_first, Steps, In, Passed};
-ghost use Rattle.kl1_atoms.specs.Rounds.{Walks, Gives, SameAccount, Drafts, draft_of, Compares, Ends};
+ghost use Rattle.kl1_atoms.specs.Rounds.{Starts, Walks, Gives, SameAccount, Drafts, draft_of, Compares, Ends};
 
 use crate::atom_table::AtomTable;
 use crate::face::View;
 use crate::round::{Ended, Round};
+use crate::sought::Sought;
+use crate::turns::Turns;
 use atomic_table::Seat;
-use kl1_text::AtomText;
+use kl1_text::{AtomNo, AtomText, NameValue};
 
 impl AtomTable {
     /// Whether an entry that was seen has a text.
-    fn has_text(&self, seat: &mut Seat<(), View>, entry: u64, text: &AtomText) -> bool
+    pub(crate) fn has_text(&self, seat: &mut Seat<(), View>, entry: u64, text: &AtomText) -> bool
         requires of { seat.old.table_id ≡ self.now.table.shared.table_id }
         requires first { IsTrue (has_first seat.old.me.0.faces) }
         requires accounts { (own seat.old.me.0).accounts ≡ self.now.accounts }
@@ -145,13 +147,15 @@ impl AtomTable {
         mixed(&text.words()) % (2048 * self.accounts)
     }
 
-    /// Looks a text up that isn't built in.
-    pub(crate) fn search(
+    /// Goes on with the look-up of a text that is neither built in nor in the buckets passed: it is found, or published.
+    fn search(
         &self,
         seat: &mut Seat<(), View>,
         text: &AtomText,
+        from: u64,
         entry: u64,
         used: u64,
+        turns: &mut Turns,
     ) -> Ended
         requires of { seat.old.table_id ≡ self.now.table.shared.table_id }
         requires first { IsTrue (has_first seat.old.me.0.faces) }
@@ -160,28 +164,79 @@ impl AtomTable {
         requires entry { entry ≡ own_entry (own seat.old.me.0) }
         requires used { used ≡ (own seat.old.me.0).used }
         requires bound { used ≤ 1024 }
-        requires walks { Walks (own seat.old.me.0) text.now 0 false }
+        requires walks { Walks (own seat.old.me.0) text.now from false }
+        requires from { from ≤ 1024 * self.now.accounts }
         ensures of { seat.new.table_id ≡ seat.old.table_id }
-        ensures ends { Steps seat.old.me seat.new.me (λ f g. Ends f g text.now result.entry × (g.used ≡ f.used + result.more)) }
-        ensures entry { result.entry < 1024 * self.now.accounts }
+        ensures ends { Steps seat.old.me seat.new.me (λ f g. Ends f g text.now result.number.number × (g.used ≡ f.used + result.more)) }
         ensures more { used + result.more ≤ 1024 }
+        ensures turns { turns.new + from ≤ turns.old + 1024 * self.now.accounts + 2 }
+        ensures grow { turns.old ≤ turns.new }
     {
         let start = self.first_bucket(*text);
         let mut drafted = false;
-        for passed in 0..2048 * self.accounts {
+        for passed in from..2048 * self.accounts {
+            turns.tick();
             let bucket = (start + passed) % (2048 * self.accounts);
             match self.round(seat, text, bucket, entry, passed, drafted) {
-                Round::Found(found) => {
-                    return Ended {
-                        entry: found,
-                        more: 0,
-                    };
-                }
-                Round::Made => return Ended { entry, more: 1 },
+                Round::Found(found) => return ended(found, 0),
+                Round::Made => return ended(entry, 1),
                 Round::Other(still) => drafted = still,
             }
         }
         unreachable!()
+    }
+
+    /// Looks a text up: along its way, and where that ends without it, among the built-in names. Any other text is published.
+    pub(crate) fn look_up(
+        &self,
+        seat: &mut Seat<(), View>,
+        text: &AtomText,
+        entry: u64,
+        used: u64,
+        turns: &mut Turns,
+    ) -> Ended
+        requires of { seat.old.table_id ≡ self.now.table.shared.table_id }
+        requires first { IsTrue (has_first seat.old.me.0.faces) }
+        requires accounts { (own seat.old.me.0).accounts ≡ self.now.accounts }
+        requires account { (own seat.old.me.0).account < self.now.accounts }
+        requires entry { entry ≡ own_entry (own seat.old.me.0) }
+        requires used { used ≡ (own seat.old.me.0).used }
+        requires bound { used ≤ 1024 }
+        requires starts { Starts (own seat.old.me.0) text.now }
+        ensures of { seat.new.table_id ≡ seat.old.table_id }
+        ensures ends { Steps seat.old.me seat.new.me (λ f g. Ends f g text.now result.number.number × (g.used ≡ f.used + result.more)) }
+        ensures more { used + result.more ≤ 1024 }
+        ensures turns { (turns.old < turns.new) × (turns.new ≤ turns.old + 2048 * self.now.accounts) }
+    {
+        match self.seek(seat, text, turns) {
+            Sought::Found(bucket, found) => {
+                self.learn(seat, bucket);
+                ended(found, 0)
+            }
+            Sought::Free(passed) => {
+                if let Some(built_in) = text.built_in() {
+                    return Ended {
+                        number: AtomNo::of(built_in),
+                        more: 0,
+                    };
+                }
+                self.search(seat, text, passed, entry, used, turns)
+            }
+        }
+    }
+}
+
+/// The end of a look-up at an entry.
+fn ended(entry: u64, more: u64) -> Ended
+    requires { entry < 16384 }
+    ensures number { result.number.number ≡ 64 + entry }
+    ensures more { result.more ≡ more }
+{
+    Ended {
+        number: AtomNo {
+            number: 64 + entry as u32,
+        },
+        more,
     }
 }
 
