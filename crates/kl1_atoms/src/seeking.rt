@@ -64,7 +64,7 @@ impl AtomTable {
         let start = self.first_bucket(*text);
         for passed in 0..2048 * self.accounts {
             turns.tick();
-            let bucket = (start + passed) % (2048 * self.accounts);
+            let bucket = self.bucket_at(start, passed);
             match self.glance(seat, text, bucket, passed) {
                 Glance::Free => return Sought::Free(passed),
                 Glance::Holds(entry) => return Sought::Found(bucket, entry),

@@ -1,6 +1,6 @@
 // A look-up in the shared table, bucket by bucket.
 
-ghost use Rattle.std.specs.Prelude.{◌≡◌, ◌≢◌, ℕ, suc, ◌+◌, ◌*◌, ◌<◌, ◌≤◌, ◌↔◌, Bool, true, false, List, [], IsTrue, length};
+ghost use Rattle.std.specs.Prelude.{◌≡◌, ◌≢◌, ℕ, suc, ◌+◌, ◌*◌, ◌%◌, ◌<◌, ◌≤◌, ◌↔◌, Bool, true, false, List, [], IsTrue, length};
 ghost use Rattle.kl1_model.specs.Text.{is_text};
 ghost use Rattle.kl1_text.specs.Words.{words_of};
 ghost use Rattle.kl1_atoms.specs.declared.face.Face.{Face};
@@ -17,6 +17,12 @@ use crate::sought::Sought;
 use crate::turns::Turns;
 use atomic_table::Seat;
 use kl1_text::{AtomNo, AtomText, NameValue};
+
+/// What each word is multiplied by in a mix: odd, and with its bits spread.
+const MIX: u64 = 18_397_679_294_719_823_053;
+
+/// How many values half the bits of a word have.
+const HALF: u64 = 4_294_967_296;
 
 impl AtomTable {
     /// Whether an entry that was seen has a text.
@@ -144,7 +150,22 @@ impl AtomTable {
         ensures value { result ≡ start self.now.accounts text }
         ensures within { result < 2048 * self.now.accounts }
     {
-        mixed(&text.words()) % (2048 * self.accounts)
+        mixed(&text.words()) / HALF * (2048 * self.accounts) / HALF
+    }
+
+    /// The bucket that many behind the first, round the end.
+    pub(crate) fn bucket_at(&self, start: u64, passed: u64) -> u64
+        requires start { start < 2048 * self.now.accounts }
+        requires passed { passed < 2048 * self.now.accounts }
+        ensures { result ≡ (start + passed) % (2048 * self.now.accounts) }
+    {
+        let bucket = start + passed;
+        let buckets = 2048 * self.accounts;
+        if bucket < buckets {
+            bucket
+        } else {
+            bucket - buckets
+        }
     }
 
     /// Goes on with the look-up of a text that is neither built in nor in the buckets passed: it is found, or published.
@@ -176,7 +197,7 @@ impl AtomTable {
         let mut drafted = false;
         for passed in from..2048 * self.accounts {
             turns.tick();
-            let bucket = (start + passed) % (2048 * self.accounts);
+            let bucket = self.bucket_at(start, passed);
             match self.round(seat, text, bucket, entry, passed, drafted) {
                 Round::Found(found) => return ended(found, 0),
                 Round::Made => return ended(entry, 1),
@@ -240,13 +261,14 @@ fn ended(entry: u64, more: u64) -> Ended
     }
 }
 
-/// Words mixed into a number below a prime, one after another.
+/// Words mixed into one, one after another.
 fn mixed(words: &[u64]) -> u64
     ensures value { result ≡ mixed 0 words.now }
+    ensures below { result < 18446744073709551616 }
 {
-    let mut number = 0;
+    let mut number = 0u64;
     for word in words {
-        number = (number + *word % 4_294_967_291) % 4_294_967_291 * 1_640_531_527 % 4_294_967_291;
+        number = number.wrapping_add(*word).wrapping_mul(MIX);
     }
     number
 }
