@@ -13,7 +13,9 @@ use Rattle.kl1_atoms.specs.Names.{number_in, IsTable}
 use Rattle.kl1_atoms.specs.Knowing.{are_names}
 use Rattle.kl1_atoms.specs.Way.{start, further}
 use Rattle.kl1_atoms.specs.Rule.{Stands, At, Others, Reaches, Sound, AllStand, Fits, Listed}
-use Rattle.kl1_atoms.specs.Plays.{In, Passed}
+use Rattle.kl1_atoms.specs.Plays.{In, Passed, Agreed, EachAgrees, NoneKnows, Meets}
+use mathlib.Core.Option.{some}
+use lib.ListN.{get_elem?}
 
 -- lists of one length with the same elements are one
 pub same_by_index : (xs ys : List ℕ) → length xs ≡ length ys → ((k : ℕ) → k < length xs → slice_index xs k ≡ slice_index ys k) → xs ≡ ys
@@ -131,6 +133,26 @@ not_known n ws f t i d sound fits free way others = none_of (number_in f.knows t
       none_of : (o : Option ℕ) → ((m : ℕ) → o ≡ Some m → ⊥) → o ≡ None
       none_of None never = refl
       none_of (Some m) never = absurd (never m refl)
+
+-- accounts of one table agree
+agreed : (n : ℕ) (ws : List ℕ) (f g : Face) → Sound n ws → Fits n ws f → Fits n ws g → Agreed f.knows g.knows
+agreed n ws f g sound fits its = λ t l m e d. (is_table n ws sound).one_number t l m (fits.known.by_text t l e) (its.known.by_text t m d)
+
+each_agrees : (n : ℕ) (ws : List ℕ) (f : Face) (fs : List Face) → Sound n ws → Fits n ws f → ((k : ℕ) (g : Face) → get_elem? fs k ≡ some g → Fits n ws g) → EachAgrees f.knows fs
+each_agrees n ws f [] sound fits all = tt
+each_agrees n ws f (g ∷ gs) sound fits all = (agreed n ws f g sound fits (all 0 g refl), each_agrees n ws f gs sound fits (λ k h e. all (suc k) h e))
+
+none_knows : (n : ℕ) (ws : List ℕ) (t : List ℕ) (i d : ℕ) (fs : List Face) → Sound n ws → slice_index ws i ≡ 0 → i ≡ further n t d → Others n ws t d → ((k : ℕ) (g : Face) → get_elem? fs k ≡ some g → Fits n ws g)
+    → NoneKnows fs t
+none_knows n ws t i d [] sound free way others all = tt
+none_knows n ws t i d (g ∷ gs) sound free way others all = (not_known n ws g t i d sound (all 0 g refl) free way others, none_knows n ws t i d gs sound free way others (λ k h e. all (suc k) h e))
+
+-- what a look tells of the accounts behind a seat's own
+pub meets : (n : ℕ) (ws : List ℕ) (f : Face) (fs : List Face) (i : ℕ) → Sound n ws → Fits n ws f → ((k : ℕ) (g : Face) → get_elem? fs k ≡ some g → Fits n ws g) → Meets f fs i (slice_index ws i)
+meets n ws f fs i sound fits all = record {
+  agree = each_agrees n ws f fs sound fits all;
+  unknown = λ zero_ t d way passed. none_knows n ws t i d fs sound zero_ (way ∙ ap (λ m. further m t d) fits.accounts) (passed_others n ws f t d fits passed) all;
+}
 
 -- the first values of a function, the last in front
 values : (ℕ → ℕ) → ℕ → List ℕ

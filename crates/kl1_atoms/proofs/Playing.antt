@@ -22,7 +22,7 @@ use Rattle.kl1_atoms.specs.Rule.{word_place, Shows, Stands, At, Sound, own_entry
 use Rattle.kl1_atoms.specs.Plays.{IsReady, has_first, own, In, heard_more, Sees, Looks, drafted_more, published_by, learned, LooksAt, ReadsAt, DraftsAt, PublishesAt, LearnsAt}
 use Rattle.kl1_atoms.proofs.Growing.{step_kept, sound_store, fits_store_other, fits_store_own}
 use Rattle.kl1_atoms.proofs.Publishing.{face_after, sound_publish, fits_publish_other, fits_publish_own}
-use Rattle.kl1_atoms.proofs.Facing.{is_table, one_entry_of, length-words_of, knows_names, seen_stands, passed_others, not_known, few_others, one_text_at}
+use Rattle.kl1_atoms.proofs.Facing.{is_table, one_entry_of, length-words_of, knows_names, seen_stands, passed_others, not_known, few_others, one_text_at, meets}
 
 -- what holds of each view that has a first face holds of a view that has one
 pub by_first : (P : View → Type 0) → ((f : Face) (fs : List Face) → P record { faces = f ∷ fs }) → (fs : List Face) → IsTrue (has_first fs) → P record { faces = fs }
@@ -33,6 +33,9 @@ by_first P each (f ∷ fs) there = each f fs
 module _ (n id : ℕ) (s : State (Unit {0}) View) (kept : Kept n s) (f : Face) (fs : List Face) (at : get_elem? s.views id ≡ some record { faces = f ∷ fs }) where
   own_fits : Fits n s.words f
   own_fits = kept.fits id 0 f (record { faces = f ∷ fs }, at, refl)
+
+  other_fits : (k : ℕ) (g : Face) → get_elem? fs k ≡ some g → Fits n s.words g
+  other_fits k g e = kept.fits id (suc k) g (record { faces = f ∷ fs }, at, e)
 
   -- a load leaves the words
   load_kept : (i : ℕ) (g : Face) (homes : List (mathlib.Core.Option.Option (Unit {0}))) → g.account ≡ f.account → Fits n s.words g
@@ -83,7 +86,10 @@ allows_look n slots id i v c first within = by_first (λ (u : View). Allows (Kep
         keeps,
         tt,
         load_kept n id s kept f fs at i f s.homes refl fits,
-        record { slots = refl; faces = refl; tells = looks n s.words f f i kept.sound fits (inl (free, refl)) },
+        (
+          record { slots = refl; faces = refl; tells = looks n s.words f f i kept.sound fits (inl (free, refl)) },
+          meets n s.words f fs i kept.sound fits (other_fits n id s kept f fs at),
+        ),
       )
       | inr full ↦
           let h = sighting n s.words i kept.sound within full in (
@@ -91,11 +97,14 @@ allows_look n slots id i v c first within = by_first (λ (u : View). Allows (Kep
             keeps,
             tt,
             load_kept n id s kept f fs at i (heard_more f h.0) s.homes refl (see_fits n s.words f h.0 fits h.3),
-            record {
-              slots = refl;
-              faces = refl;
-              tells = looks n s.words f (heard_more f h.0) i kept.sound fits (inr (h.0, h.1, h.2, subst (λ m. h.0.entry < 1024 * m) (sym fits.accounts) h.3.entry, h.3.name, refl));
-            },
+            (
+              record {
+                slots = refl;
+                faces = refl;
+                tells = looks n s.words f (heard_more f h.0) i kept.sound fits (inr (h.0, h.1, h.2, subst (λ m. h.0.entry < 1024 * m) (sym fits.accounts) h.3.entry, h.3.name, refl));
+              },
+              meets n s.words f fs i kept.sound fits (other_fits n id s kept f fs at),
+            ),
           )
     ])
     v.faces first
@@ -204,14 +213,14 @@ stand_added n ws ks i e t stand st = elim (cases_Bool (is_some (number_by ks t))
 ]
 
 -- and is no fewer
-no_fewer : (ks : List Known) (t : List ℕ) (e : ℕ) → length ks ≤ length (added ks t record { number = 64 + e })
-no_fewer ks t e = elim (cases_Bool (is_some (number_by ks t))) [ inl known ↦ rw known (omega arith) | inr other ↦ rw other (simp length-append (omega arith)) ]
+pub no_fewer : (ks : List Known) (t : List ℕ) (number : ℕ) → length ks ≤ length (added ks t record { number = number })
+no_fewer ks t number = elim (cases_Bool (is_some (number_by ks t))) [ inl known ↦ rw known (omega arith) | inr other ↦ rw other (simp length-append (omega arith)) ]
 
 learn_fits : (n : ℕ) (ws : List ℕ) (f : Face) (h : Heard) → Fits n ws f → Stands n ws h.bucket h.entry h.text → Fits n ws (learned f h)
 learn_fits n ws f h fits st = record {
   accounts = fits.accounts;
   account = fits.account;
-  used_up = (let u = fits.used_up in let l = no_fewer f.knows h.text h.entry in omega arith);
+  used_up = (let u = fits.used_up in let l = no_fewer f.knows h.text (64 + h.entry) in omega arith);
   free = fits.free;
   known = stand_added n ws f.knows h.bucket h.entry h.text fits.known st;
   heard = tt;

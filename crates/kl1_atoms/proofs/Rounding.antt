@@ -31,7 +31,7 @@ first_twice [] f g = refl
 first_twice (x ∷ fs) f g = refl
 
 -- one bucket more was passed
-passed_more : (f : Face) (t : List ℕ) (n d bucket : ℕ) (h : Heard) → Passed f t d → In f.heard h → h.bucket ≡ bucket → bucket ≡ further n t d → f.accounts ≡ n → h.text ≢ t → Passed f t (d + 1)
+pub passed_more : (f : Face) (t : List ℕ) (n d bucket : ℕ) (h : Heard) → Passed f t d → In f.heard h → h.bucket ≡ bucket → bucket ≡ further n t d → f.accounts ≡ n → h.text ≢ t → Passed f t (d + 1)
 passed_more f t n d bucket h passed is at way accounts differ = λ c below. elim (cases_eq c d) [
   | inl same ↦ (h, is, at ∙ way ∙ ap (λ m. further m t d) (sym accounts) ∙ ap (further f.accounts t) (sym same), differ)
   | inr other ↦ passed c (omega arith)
@@ -203,15 +203,15 @@ further_on a b c t d drafted still one two = record {
 }
 
 -- the end of a look-up, seen from its start
-pub ends_at : (a b c : Me (Unit {0}) View) (t : List ℕ) (d e more : ℕ) (drafted : Bool) → Steps a b (λ f g. OnTheWay f g t d drafted) → Steps b c (λ f g. Ends f g t e × (g.used ≡ f.used + more))
-    → Steps a c (λ f g. Ends f g t e × (g.used ≡ f.used + more))
-ends_at a b c t d e more drafted one two = record {
+pub ends_at : (a b c : Me (Unit {0}) View) (t : List ℕ) (d number more : ℕ) (drafted : Bool) → Steps a b (λ f g. OnTheWay f g t d drafted) → Steps b c (λ f g. Ends f g t number × (g.used ≡ f.used + more))
+    → Steps a c (λ f g. Ends f g t number × (g.used ≡ f.used + more))
+ends_at a b c t d number more drafted one two = record {
   slots = two.slots ∙ one.slots;
   faces = two.faces ∙ ap (λ fs. with_first fs (own c.0)) one.faces ∙ first_twice a.0.faces (own b.0) (own c.0);
   tells = (
     record {
       same = record { accounts = two.tells.0.same.accounts ∙ one.tells.same.accounts; account = two.tells.0.same.account ∙ one.tells.same.account };
-      adds = subst (λ ks. Adds ks t record { number = 64 + e } (own c.0).knows) one.tells.knows two.tells.0.adds;
+      adds = subst (λ ks. Adds ks t record { number = number } (own c.0).knows) one.tells.knows two.tells.0.adds;
       names = two.tells.0.names;
       used_up = two.tells.0.used_up;
       draft = two.tells.0.draft;

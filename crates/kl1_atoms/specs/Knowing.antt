@@ -1,6 +1,6 @@
 -- Names that are known, as numbers and as texts.
-use Rattle.std.proofs.Common.{◌≡◌, ℕ, ◌+◌, ◌<◌, ◌≤◌, ◌==◌, ◌⊎◌, List, [], ◌∷◌, ◌++◌, length, Option, Some, None, IsTrue, IsSome, is_some, nat_le, is_some, bytes_eq, refl, sym, ap, ◌∙◌, subst, inl, inr, arith}
-use Rattle.std.proofs.lemmas.Bool.{cases_Bool, eqb-true, eq-eqb, both_ways, and_parts}
+use Rattle.std.proofs.Common.{◌≡◌, ℕ, ◌+◌, ◌<◌, ◌≤◌, ◌==◌, ◌⊎◌, List, [], ◌∷◌, ◌++◌, length, Option, Some, None, IsTrue, IsSome, is_some, nat_le, bytes_eq, slice_get, refl, sym, ap, ◌∙◌, subst, inl, inr, arith}
+use Rattle.std.proofs.lemmas.Bool.{cases_Bool, cases_eq, false≢true, eqb-true, eq-eqb, both_ways, and_parts}
 use Rattle.std.proofs.lemmas.Option.{slice_get_past}
 use Rattle.std.proofs.Math.ListN.{length-append}
 use Rattle.std.proofs.lemmas.Slice.Eq.{bytes_eq-Decides}
@@ -192,3 +192,47 @@ no_names =
       one_number = λ t m n at by. absurd at;
     } in table)
     (let stand : StandIn nowhere [] = record { by_text = λ t n e. cc; by_number = λ t n e. cc } in stand)
+
+-- what was known by a number still is with one pair more
+number_in-kept : (ks : List Known) (k : Known) (t : List ℕ) (n : ℕ) → number_in ks t ≡ Some n → number_in (ks ++ k ∷ []) t ≡ Some n
+number_in-kept [] k t n e = cc
+number_in-kept (x ∷ ks) k t n e = elim (cases_Bool (bytes_eq x.text t)) [
+  | inl same ↦ rw same (rw same at e)
+  | inr other ↦ rw other (number_in-kept ks k t n (rw other at e))
+]
+
+number_by-kept : (ks : List Known) (k : Known) (t : List ℕ) (n : ℕ) → number_by ks t ≡ Some n → number_by (ks ++ k ∷ []) t ≡ Some n
+number_by-kept ks k t n e = elim (option_cases (built_in_of t)) [
+  | inl none ↦ rw none (number_in-kept ks k t n (rw none at e))
+  | inr some ↦ rw some.1 (rw some.1 at e)
+]
+
+-- a look-up leaves what was known
+pub still_known : (old : List Known) (t : List ℕ) (a : AtomNo) (new : List Known) → Adds old t a new → (u : List ℕ) (n : ℕ) → number_by old u ≡ Some n → number_by new u ≡ Some n
+still_known old t a new adds u n e = elim (cases_Bool (is_some (number_by old t))) [
+  | inl known ↦ rw (adds.known, known) e
+  | inr other ↦ rw (adds.known, other) (number_by-kept old record { text = t; number = a } u n e)
+]
+
+-- each of the first texts of a list is known
+abbrev pub KnowsFirst : List Known → List (List ℕ) → ℕ → Type 0
+KnowsFirst ks ts i = (k : ℕ) (t : List ℕ) → k < i → slice_get ts k ≡ Some t → IsSome (number_by ks t)
+
+-- a look-up leaves what was known, and the text that was looked up is known too
+pub knows_first-more : (old : List Known) (t : List ℕ) (a : AtomNo) (new : List Known) (ts : List (List ℕ)) (i : ℕ) → Adds old t a new → slice_get ts i ≡ Some t → KnowsFirst old ts i → KnowsFirst new ts (i + 1)
+knows_first-more old t a new ts i adds here known = λ k u below e. elim (cases_eq k i) [
+  | inl same ↦
+      let is : Some u ≡ Some t = sym e ∙ ap (slice_get ts) same ∙ here in
+      let text : u ≡ t = cc in
+      rw (text, adds.number) refl
+  | inr other ↦ elim (option_cases (number_by old u)) [
+    | inl none ↦ absurd (false≢true (rw none at (known k u (omega arith) e)))
+    | inr some ↦ rw (still_known old t a new adds u some.0 some.1) refl
+  ]
+]
+
+pub knows_first-kept : (old : List Known) (t : List ℕ) (a : AtomNo) (new : List Known) (ts : List (List ℕ)) (i : ℕ) → Adds old t a new → KnowsFirst old ts i → KnowsFirst new ts i
+knows_first-kept old t a new ts i adds known = λ k u below e. elim (option_cases (number_by old u)) [
+  | inl none ↦ absurd (false≢true (rw none at (known k u below e)))
+  | inr some ↦ rw (still_known old t a new adds u some.0 some.1) refl
+]

@@ -6,4 +6,5 @@ pub mod Rule
 pub mod Plays
 pub mod Rounds
 pub mod Seats
+pub mod Seeking
 pub mod Laws

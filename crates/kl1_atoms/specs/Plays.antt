@@ -31,6 +31,11 @@ abbrev pub with_first : List Face → Face → List Face
 with_first [] g = g ∷ []
 with_first (f ∷ fs) g = g ∷ fs
 
+-- the faces behind the first
+abbrev pub others_of : List Face → List Face
+others_of [] = []
+others_of (f ∷ fs) = fs
+
 -- a seat's own face: the first of its view
 abbrev pub own : View → Face
 own v = first_of v.faces
@@ -59,6 +64,26 @@ pub record Looks (f g : Face) (i found : ℕ) : Type 0 where
   pub few : (t : List ℕ) (d : ℕ) → d ≤ 2048 * f.accounts → Passed f t d → d ≤ 1024 * f.accounts
   pub unknown : found ≡ 0 → (t : List ℕ) (d : ℕ) → i ≡ further f.accounts t d → Passed f t d → number_in f.knows t ≡ None
   pub change : ((found ≡ 0) × (g ≡ f)) ⊎ Sees f g i found
+
+-- a text that two accounts know, they know by one number
+abbrev pub Agreed : List Known → List Known → Type 0
+Agreed ks ls = (t : List ℕ) (m n : ℕ) → number_in ks t ≡ Some m → number_in ls t ≡ Some n → m ≡ n
+
+-- an account and each of some others agree
+abbrev pub EachAgrees : List Known → List Face → Type 0
+EachAgrees ks [] = Unit {0}
+EachAgrees ks (g ∷ gs) = Agreed ks g.knows × EachAgrees ks gs
+
+-- none of some accounts knows a text
+abbrev pub NoneKnows : List Face → List ℕ → Type 0
+NoneKnows [] t = Unit {0}
+NoneKnows (g ∷ gs) t = (number_in g.knows t ≡ None) × NoneKnows gs t
+
+-- what a look at a bucket tells of the accounts behind a seat's own: they agree with it, and a free bucket at the end of a text's
+-- way shows that none of them knows the text
+pub record Meets (f : Face) (fs : List Face) (i found : ℕ) : Type 0 where
+  pub agree : EachAgrees f.knows fs
+  pub unknown : found ≡ 0 → (t : List ℕ) (d : ℕ) → i ≡ further f.accounts t d → Passed f t d → NoneKnows fs t
 
 -- a read of a word: of an entry that was seen, it is the text's word, and likewise of an entry whose name is known
 pub record Reads (f : Face) (place found : ℕ) : Type 0 where
@@ -108,7 +133,7 @@ pub record Steps {S : Type 0} (before after : Me S View) (P : Face → Face → 
   pub tells : P (own before.0) (own after.0)
 
 abbrev pub LooksAt : {S : Type 0} → Step S → Me S View → ℕ → Me S View → Type 0
-LooksAt s before found after = Steps before after (λ f g. Looks f g s.word found)
+LooksAt s before found after = Steps before after (λ f g. Looks f g s.word found) × Meets (own before.0) (others_of before.0.faces) s.word found
 
 abbrev pub ReadsAt : {S : Type 0} → Step S → Me S View → ℕ → Me S View → Type 0
 ReadsAt s before found after = (after ≡ before) × Reads (own before.0) s.word found

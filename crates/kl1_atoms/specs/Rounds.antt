@@ -14,6 +14,14 @@ use Rattle.kl1_atoms.specs.Plays.{Passed}
 abbrev pub draft_of : Bool → List ℕ → List ℕ
 draft_of drafted t = if drafted then words_of 8 t else []
 
+-- a face at the start of a look-up of a text
+pub record Starts (f : Face) (t : List ℕ) : Type 0 where
+  pub name : IsTrue (is_text t)
+  pub room : HasRoom f.knows t
+  pub used_up : f.used ≤ length f.knows
+  pub draft : f.draft ≡ []
+  pub names : Listed f.accounts f.knows
+
 -- a face in a look-up of a text, which has passed so many buckets
 pub record Walks (f : Face) (t : List ℕ) (d : ℕ) (drafted : Bool) : Type 0 where
   pub name : IsTrue (is_text t)
@@ -38,9 +46,9 @@ pub record Drafts (f g : Face) (ws : List ℕ) : Type 0 where
   pub draft : g.draft ≡ ws
 
 -- the end of a look-up: the text is known by its number, and no draft is kept
-pub record Ends (f g : Face) (t : List ℕ) (e : ℕ) : Type 0 where
+pub record Ends (f g : Face) (t : List ℕ) (number : ℕ) : Type 0 where
   pub same : SameAccount f g
-  pub adds : Adds f.knows t record { number = 64 + e } g.knows
+  pub adds : Adds f.knows t record { number = number } g.knows
   pub names : Listed g.accounts g.knows
   pub used_up : g.used ≤ length g.knows
   pub draft : g.draft ≡ []
@@ -62,12 +70,12 @@ pub record OnTheWay (f g : Face) (t : List ℕ) (d : ℕ) (drafted : Bool) : Typ
 
 -- what a comparison gives
 abbrev pub Compares : Face → Face → List ℕ → ℕ → Bool → Round → Type 0
-Compares f g t d drafted (Found e) = Ends f g t e × (g.used ≡ f.used) × (e < 1024 * f.accounts)
+Compares f g t d drafted (Found e) = Ends f g t (64 + e) × (g.used ≡ f.used) × (e < 1024 * f.accounts)
 Compares f g t d drafted Made = ⊥
 Compares f g t d drafted (Other still) = GoesOn f g t (d + 1) drafted × (still ≡ drafted)
 
 -- what a bucket gives
 abbrev pub Gives : Face → Face → List ℕ → ℕ → Round → Type 0
-Gives f g t d (Found e) = Ends f g t e × (g.used ≡ f.used) × (e < 1024 * f.accounts)
-Gives f g t d Made = Ends f g t (own_entry f) × (g.used ≡ f.used + 1) × (f.used < 1024)
+Gives f g t d (Found e) = Ends f g t (64 + e) × (g.used ≡ f.used) × (e < 1024 * f.accounts)
+Gives f g t d Made = Ends f g t (64 + own_entry f) × (g.used ≡ f.used + 1) × (f.used < 1024)
 Gives f g t d (Other drafted) = GoesOn f g t (d + 1) drafted

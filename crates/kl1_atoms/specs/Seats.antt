@@ -1,5 +1,5 @@
 -- The seats of the shared table: how they are made, and what one shows.
-use Rattle.std.specs.Prelude.{◌≡◌, ℕ, zero, suc, ◌+◌, ◌<◌, List, [], ◌∷◌, take, drop}
+use Rattle.std.specs.Prelude.{◌≡◌, ℕ, zero, suc, ◌+◌, ◌<◌, List, [], ◌∷◌, ◌++◌, take, drop}
 use Rattle.atomic_table.specs.Seated.{TableId}
 use Rattle.kl1_atoms.specs.declared.face.Face.{Face}
 use Rattle.kl1_atoms.specs.declared.face.View.{View}
@@ -24,6 +24,14 @@ own_part v = record { faces = take 1 v.faces }
 
 abbrev pub other_part : View → View
 other_part v = record { faces = drop 1 v.faces }
+
+-- two views made one: all faces of both
+abbrev pub joint_view : View → View → View
+joint_view v w = record { faces = v.faces ++ w.faces }
+
+-- the view that is left of a seat that was joined to another
+abbrev pub spent_view : View
+spent_view = record { faces = [] }
 
 -- the view of a seat at rest
 abbrev pub view_in : List View → View

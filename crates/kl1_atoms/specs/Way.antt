@@ -1,15 +1,16 @@
 -- Where a look-up of a name starts.
-use Rattle.std.specs.Prelude.{ℕ, ◌+◌, ◌*◌, ◌%◌, List, [], ◌∷◌}
+use Rattle.std.specs.Prelude.{ℕ, ◌+◌, ◌*◌, ◌/◌, ◌%◌, List, [], ◌∷◌}
 use Rattle.kl1_text.specs.Words.{words_of}
 
--- words mixed into a number below a prime, one after another
+-- words mixed into one of 64 bits, one after another
 abbrev pub mixed : ℕ → List ℕ → ℕ
 mixed a [] = a
-mixed a (w ∷ ws) = mixed ((a + w % 4294967291) % 4294967291 * 1640531527 % 4294967291) ws
+mixed a (w ∷ ws) = mixed ((a + w) % 18446744073709551616 * 18397679294719823053 % 18446744073709551616) ws
 
--- the bucket where a look-up of a text starts, among 2,048 for each account
+-- the bucket where a look-up of a text starts, among 2,048 for each account: as far along them as the mix's upper half is along
+-- its 2 ^ 32 values
 unfoldable pub start : ℕ → List ℕ → ℕ
-start n t = mixed 0 (words_of 8 t) % (2048 * n)
+start n t = mixed 0 (words_of 8 t) / 4294967296 * (2048 * n) / 4294967296
 
 -- the bucket that many further on, round the end
 abbrev pub further : ℕ → List ℕ → ℕ → ℕ

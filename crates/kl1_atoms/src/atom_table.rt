@@ -1,13 +1,14 @@
 // The table of names that threads share.
 
-ghost use Rattle.std.specs.Prelude.{◌≡◌, ℕ, suc, ◌+◌, ◌*◌, ◌<◌, ◌≤◌, List, IsTrue, length};
+ghost use Rattle.std.specs.Prelude.{◌≡◌, ℕ, suc, ◌+◌, ◌*◌, ◌<◌, ◌≤◌, List, [], IsTrue, length};
 ghost use Rattle.kl1_text.specs.Words.{words_of};
 ghost use Rattle.kl1_atoms.specs.declared.face.Heard.{Heard};
 ghost use Rattle.kl1_atoms.specs.Rule.{word_place, own_entry};
-ghost use Rattle.kl1_atoms.specs.Plays.{own, has_first, Steps, In, Looks, Reads, drafted_more, IsReady, Publishes, Learns};
+ghost use Rattle.kl1_atoms.specs.Seats.{own_part, other_part, joint_view};
+ghost use Rattle.kl1_atoms.specs.Plays.{own, others_of, has_first, Steps, In, Looks, Meets, Reads, drafted_more, IsReady, Publishes, Learns};
 
 use crate::face::View;
-use crate::law::{Draft, Law, Learn, Look, Publish, Read};
+use crate::law::{Draft, Joined, Law, Learn, Look, Parted, Publish, Read};
 use atomic_table::{Seat, Table};
 use std::alloc::Global;
 
@@ -30,6 +31,7 @@ impl AtomTable {
         requires bucket { bucket < 2048 * self.now.accounts }
         ensures of { seat.new.table_id ≡ seat.old.table_id }
         ensures tells { Steps seat.old.me seat.new.me (λ f g. Looks f g bucket result) }
+        ensures meets { Meets (own seat.old.me.0) (others_of seat.old.me.0.faces) bucket result }
     {
         self.table.shared.load::<Look>(seat, bucket as usize)
     }
@@ -93,5 +95,27 @@ impl AtomTable {
         ensures tells { Steps seat.old.me seat.new.me (λ f g. Learns f g bucket) }
     {
         let _ = self.table.shared.load::<Learn>(seat, bucket as usize);
+    }
+
+    /// Makes two seats one, which speaks for the accounts of both.
+    pub(crate) fn join(&self, seat: &mut Seat<(), View>, other: Seat<(), View>)
+        requires of { seat.old.table_id ≡ self.now.table.shared.table_id }
+        requires other { other.table_id ≡ self.now.table.shared.table_id }
+        requires free { other.me.1 ≡ [] }
+        ensures of { seat.new.table_id ≡ seat.old.table_id }
+        ensures both { seat.new.me ≡ (joint_view seat.old.me.0 other.me.0, seat.old.me.1) }
+    {
+        self.table.shared.join_seat::<Joined>(seat, other);
+    }
+
+    /// Cuts a seat's own account off: the new seat has the others.
+    pub(crate) fn part(&self, seat: &mut Seat<(), View>) -> Seat<(), View>
+        requires of { seat.old.table_id ≡ self.now.table.shared.table_id }
+        ensures of { seat.new.table_id ≡ seat.old.table_id }
+        ensures own { seat.new.me ≡ (own_part seat.old.me.0, seat.old.me.1) }
+        ensures other { result.me ≡ (other_part seat.old.me.0, []) }
+        ensures table { result.table_id ≡ seat.old.table_id }
+    {
+        self.table.shared.split_seat::<Parted>(seat)
     }
 }

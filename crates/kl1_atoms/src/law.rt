@@ -2,10 +2,10 @@
 
 ghost use Rattle.kl1_atoms.specs.Rule.{Kept};
 ghost use Rattle.kl1_atoms.specs.Plays.{LooksAt, ReadsAt, DraftsAt, PublishesAt, LearnsAt};
-ghost use Rattle.kl1_atoms.specs.Seats.{all_faces, own_part, other_part};
+ghost use Rattle.kl1_atoms.specs.Seats.{all_faces, own_part, other_part, joint_view, spent_view};
 
 use crate::face::View;
-use atomic_table::{Play, Split, TableRule};
+use atomic_table::{Join, Play, Split, TableRule};
 
 /// The rule of the shared table; the key is the number of accounts.
 pub struct Law;
@@ -58,4 +58,13 @@ impl Split<View> for Parted {
     ghost left = { own_part };
 
     ghost right = { other_part };
+}
+
+/// Two seats made one, which speaks for the accounts of both.
+pub struct Joined;
+
+impl Join<View> for Joined {
+    ghost both = { joint_view };
+
+    ghost spent = { spent_view };
 }

@@ -2,8 +2,8 @@
 
 ghost use Rattle.kl1_atoms.specs.Laws.{RuleShowsNames};
 
-/// At each moment the shared table's words show a table of names, what each seat knows is in it, and no text is published
-/// twice.
+/// At each moment the shared table's words show a table of names, what each seat knows is in it, what each has noted on the
+/// way is so, and no text is published twice.
 pub fn words_show_names()
     ensures { RuleShowsNames }
 {}

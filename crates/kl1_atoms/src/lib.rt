@@ -1,6 +1,9 @@
 //! The table of names that accounts share: a number for each name, and each account's own view of it.
 #![tactic(auto)]
 
+#[cfg(test)]
+mod agreement_tests;
+mod agreeing;
 mod atom_seat;
 mod atom_source;
 mod atom_table;
@@ -12,9 +15,12 @@ mod looking_up;
 mod plain_seat;
 mod plain_table;
 mod round;
+mod seeking;
 mod shared_atoms;
+mod sought;
 #[cfg(test)]
 mod tests;
+mod turns;
 mod walking;
 
 pub use atom_seat::AtomSeat;
@@ -26,3 +32,4 @@ pub use laws::words_show_names;
 pub use plain_seat::PlainSeat;
 pub use plain_table::{MOST_NAMES, PlainTable};
 pub use shared_atoms::SharedAtoms;
+pub use turns::Turns;

@@ -4,15 +4,15 @@ ghost use Rattle.std.specs.Prelude.{◌≡◌, ℕ, ◌+◌, ◌-◌, ◌*◌, �
 ghost use Rattle.kl1_atoms.specs.Names.{text_in, text_by, HasRoom, Adds};
 ghost use Rattle.kl1_text.specs.Words.{words_of};
 ghost use Rattle.kl1_atoms.specs.Plays.{own, has_first};
-ghost use Rattle.kl1_atoms.specs.Seats.{all_faces, own_part, other_part, face_in, IsSharedSeat, IsNewSharedSeat, new_face, faces_from};
+ghost use Rattle.kl1_atoms.specs.Seats.{all_faces, face_in, IsSharedSeat, IsNewSharedSeat, new_face, faces_from};
 ghost use Rattle.kl1_atoms.specs.declared.atom_seat.AtomSeat.{AtomSeat};
 
 use crate::atom_seat::AtomSeat;
 use crate::atom_table::AtomTable;
 use crate::face::View;
-use crate::law::Parted;
+use crate::turns::Turns;
 use atomic_table::{Badge, Seat, Table};
-use kl1_text::{AtomNo, AtomText, NameValue, built_in_at};
+use kl1_text::{AtomNo, AtomText, built_in_at};
 use std::alloc::{AllocError, Global};
 use std::mem;
 
@@ -64,38 +64,24 @@ impl AtomTable {
         resting_seat(own, account)
     }
 
-    /// Cuts a seat's own account off: the new seat has the others.
-    fn part(&self, seat: &mut Seat<(), View>) -> Seat<(), View>
-        requires of { seat.old.table_id ≡ self.now.table.shared.table_id }
-        ensures of { seat.new.table_id ≡ seat.old.table_id }
-        ensures own { seat.new.me ≡ (own_part seat.old.me.0, seat.old.me.1) }
-        ensures other { result.me ≡ (other_part seat.old.me.0, []) }
-        ensures table { result.table_id ≡ seat.old.table_id }
-    {
-        self.table.shared.split_seat::<Parted>(seat)
-    }
-
-    /// The number of a name, which the seat knows from then on. It takes no memory and never waits.
-    pub fn intern(&self, seat: &mut AtomSeat, text: AtomText) -> AtomNo
+    /// The number of a name, which the seat knows from then on. It takes no memory and never waits. A turn is a bucket that was
+    /// looked at.
+    pub fn intern(&self, seat: &mut AtomSeat, text: AtomText, turns: &mut Turns) -> AtomNo
         requires of { IsSharedSeat self.now.table.shared.table_id seat.old.badge.table_id self.now.accounts (face_in seat.old.badge.views) seat.old.account }
         requires room { HasRoom (face_in seat.old.badge.views).knows text }
         ensures of { IsSharedSeat self.now.table.shared.table_id seat.new.badge.table_id self.now.accounts (face_in seat.new.badge.views) seat.new.account }
         ensures account { seat.new.account ≡ seat.old.account }
         ensures adds { Adds (face_in seat.old.badge.views).knows text result (face_in seat.new.badge.views).knows }
+        ensures turns { (turns.old < turns.new) × (turns.new ≤ turns.old + 2048 * self.now.accounts) }
     {
-        if let Some(built_in) = text.built_in() {
-            return AtomNo::of(built_in);
-        }
         text.shows_text();
         let entry = 1024 * seat.account + seat.used;
         let used = seat.used;
         let mut own = mem::replace(&mut seat.badge, Badge::blank()).into_seat();
-        let ended = self.search(&mut own, &text, entry, used);
+        let ended = self.look_up(&mut own, &text, entry, used, turns);
         seat.badge = own.into_badge();
         seat.used = used + ended.more;
-        AtomNo {
-            number: 64 + ended.entry as u32,
-        }
+        ended.number
     }
 
     /// Reads the words of an entry whose name the seat knows.

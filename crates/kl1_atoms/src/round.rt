@@ -1,5 +1,7 @@
 // What one bucket of a look-up gives.
 
+use kl1_text::AtomNo;
+
 /// What one bucket of a look-up gives.
 #[derive(Clone, Copy)]
 pub enum Round {
@@ -11,9 +13,9 @@ pub enum Round {
     Other(bool),
 }
 
-/// What a look-up ends with: the text's entry, and how many more of its own entries the seat has used.
+/// What a look-up ends with: the text's number, and how many more of its own entries the seat has used.
 #[derive(Drop)]
 pub struct Ended {
-    pub entry: u64,
+    pub number: AtomNo,
     pub more: u64,
 }

@@ -6,6 +6,7 @@ ghost use Rattle.kl1_atoms.specs.Seats.{face_in, IsSharedSeat};
 use crate::atom_seat::AtomSeat;
 use crate::atom_source::AtomSource;
 use crate::atom_table::AtomTable;
+use crate::turns::Turns;
 use kl1_text::{AtomNo, AtomText};
 
 /// The shared table, lent: a source of names for code that takes any.
@@ -26,7 +27,7 @@ impl<'t> AtomSource for SharedAtoms<'t> {
     ghost one_to_one = { λ atoms seat of. seat.names.names };
 
     fn intern(&mut self, seat: &mut AtomSeat, text: AtomText) -> AtomNo {
-        self.table.intern(seat, text)
+        self.table.intern(seat, text, &mut Turns::new())
     }
 
     fn text_of(&mut self, seat: &mut AtomSeat, number: AtomNo) -> AtomText {

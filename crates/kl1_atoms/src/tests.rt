@@ -9,7 +9,6 @@ use kl1_model::BuiltIn;
 use kl1_text::{AtomNo, AtomText, NameValue};
 use std::alloc::{AllocError, Global};
 use std::test::Fail;
-use std::thread::{Threads, join};
 
 /// The numbers that two seats of any source get for names.
 #[tactic(auto, using(crate::specs::Knowing::few_more))]
@@ -38,6 +37,42 @@ fn is_read_back<S: AtomSource>(names: &mut S, seat: &mut S::Seat, text: AtomText
 {
     let number = names.intern(seat, text);
     names.text_of(seat, number).is(&text)
+}
+
+/// Names that differ in a number.
+fn numbered_names(alloc: Global, count: usize) -> Result<Vec<AtomText>, Fail> {
+    let mut names = Vec::new(alloc);
+    for number in 0..count {
+        let text = format!(in alloc; "a{number}")?;
+        names.push(AtomText::read(text.as_bytes()).ok_or("no name")?)?;
+    }
+    Ok(names)
+}
+
+/// How many of some names, up to the first other one, a seat finds by the number that it got before, when all of them have
+/// been looked up.
+#[tactic(auto, using(crate::specs::Knowing::few_more))]
+fn found_again<S: AtomSource>(
+    alloc: Global,
+    names: &mut S,
+    seat: &mut S::Seat,
+    texts: &[AtomText],
+) -> Option<usize>
+    requires of { S.is_of names.old seat.old }
+    requires room { length (S.knows seat.old) + length texts.now ≤ 1024 }
+{
+    let mut first = Vec::new(alloc);
+    for place in 0..texts.len() {
+        let Ok(()) = first.push(names.intern(seat, texts[place])) else {
+            return None;
+        };
+    }
+    for place in 0..texts.len() {
+        if names.intern(seat, texts[place]) != first[place] {
+            return Some(place);
+        }
+    }
+    Some(texts.len())
 }
 
 /// A table and two seats of it.
@@ -109,61 +144,23 @@ fn names_are_read_back_from_a_shared_table(rt: HostRuntime) -> Result<(), Fail> 
     Ok(())
 }
 
-/// The numbers of names, looked up one after the other.
-#[tactic(auto, using(crate::specs::Knowing::few_more))]
-fn numbers_of(
-    alloc: Global,
-    atoms: &AtomTable,
-    mut seat: AtomSeat,
-    names: &[AtomText],
-) -> Option<Vec<AtomNo>>
-    requires of { IsSharedSeat atoms.now.table.shared.table_id seat.badge.table_id atoms.now.accounts (face_in seat.badge.views) seat.account }
-    requires room { length (face_in seat.badge.views).knows + length names.now ≤ 1024 }
-{
-    let mut found = Vec::new(alloc);
-    for name in names {
-        let number = atoms.intern(&mut seat, *name);
-        let Ok(()) = found.push(number) else {
-            return None;
-        };
-    }
-    Some(found)
-}
-
-/// The numbers of names, as two threads get them at once.
-fn numbers_of_both<R: Threads + Sync>(
-    rt: &R,
-    alloc: Global,
-    atoms: &AtomTable,
-    alice: AtomSeat,
-    bob: AtomSeat,
-    names: &[AtomText],
-) -> Option<(Vec<AtomNo>, Vec<AtomNo>)>
-    requires alice { IsSharedSeat atoms.now.table.shared.table_id alice.badge.table_id atoms.now.accounts (face_in alice.badge.views) alice.account }
-    requires bob { IsSharedSeat atoms.now.table.shared.table_id bob.badge.table_id atoms.now.accounts (face_in bob.badge.views) bob.account }
-    requires room { (length (face_in alice.badge.views).knows + length names.now ≤ 1024) × (length (face_in bob.badge.views).knows + length names.now ≤ 1024) }
-{
-    let (a, b) = join(
-        rt,
-        || numbers_of(alloc, atoms, alice, names),
-        || numbers_of(alloc, atoms, bob, names),
-    );
-    Some((a?, b?))
+#[test]
+fn a_full_seat_of_a_plain_table_still_finds_its_names(rt: HostRuntime) -> Result<(), Fail> {
+    let (mut names, _, mut bob) = two_seats(rt.alloc())?.ok_or("no seats")?;
+    let texts = numbered_names(rt.alloc(), 1024)?;
+    assert_eq!(rt; texts.len(), 1024);
+    let found = found_again(rt.alloc(), &mut names, &mut bob, texts.as_slice());
+    assert_eq!(rt; found, Some(1024));
+    Ok(())
 }
 
 #[test]
-fn two_threads_get_one_number_for_each_name(rt: HostRuntime) -> Result<(), Fail> {
-    let (table, alice, bob) = two_shared_seats(rt.alloc())?.ok_or("no seats")?;
-    let mut names = Vec::new(rt.alloc());
-    for number in 0..500 {
-        let text = format!(in rt.alloc(); "a{number}")?;
-        names.push(AtomText::read(text.as_bytes()).ok_or("no name")?)?;
-    }
-    assert_eq!(rt; names.len(), 500);
-    let (mine, its) = numbers_of_both(&rt, rt.alloc(), &table, alice, bob, names.as_slice()).ok_or(
-        "no memory",
-    )?;
-    assert_eq!(rt; mine.len(), 500);
-    assert_eq!(rt; mine.as_slice(), its.as_slice());
+fn a_full_seat_of_a_shared_table_still_finds_its_names(rt: HostRuntime) -> Result<(), Fail> {
+    let (table, _, mut bob) = two_shared_seats(rt.alloc())?.ok_or("no seats")?;
+    let mut names = SharedAtoms { table: &table };
+    let texts = numbered_names(rt.alloc(), 1024)?;
+    assert_eq!(rt; texts.len(), 1024);
+    let found = found_again(rt.alloc(), &mut names, &mut bob, texts.as_slice());
+    assert_eq!(rt; found, Some(1024));
     Ok(())
 }

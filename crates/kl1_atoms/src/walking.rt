@@ -1,6 +1,6 @@
 // A look-up in the shared table, bucket by bucket.
 
-ghost use Rattle.std.specs.Prelude.{◌≡◌, ◌≢◌, ℕ, suc, ◌+◌, ◌*◌, ◌<◌, ◌≤◌, ◌↔◌, Bool, true, false, List, [], IsTrue, length};
+ghost use Rattle.std.specs.Prelude.{◌≡◌, ◌≢◌, ℕ, suc, ◌+◌, ◌*◌, ◌%◌, ◌<◌, ◌≤◌, ◌↔◌, Bool, true, false, List, [], IsTrue, length};
 ghost use Rattle.kl1_model.specs.Text.{is_text};
 ghost use Rattle.kl1_text.specs.Words.{words_of};
 ghost use Rattle.kl1_atoms.specs.declared.face.Face.{Face};
@@ -8,17 +8,25 @@ ghost use Rattle.kl1_atoms.specs.declared.face.Heard.{Heard};
 ghost use Rattle.kl1_atoms.specs.Way.{further, mixed, start};
 ghost use Rattle.kl1_atoms.specs.Rule.{own_entry};
 ghost use Rattle.kl1_atoms.specs.Plays.{own, has_first, with_first, Steps, In, Passed};
-ghost use Rattle.kl1_atoms.specs.Rounds.{Walks, Gives, SameAccount, Drafts, draft_of, Compares, Ends};
+ghost use Rattle.kl1_atoms.specs.Rounds.{Starts, Walks, Gives, SameAccount, Drafts, draft_of, Compares, Ends};
 
 use crate::atom_table::AtomTable;
 use crate::face::View;
 use crate::round::{Ended, Round};
+use crate::sought::Sought;
+use crate::turns::Turns;
 use atomic_table::Seat;
-use kl1_text::AtomText;
+use kl1_text::{AtomNo, AtomText, NameValue};
+
+/// What each word is multiplied by in a mix: odd, and with its bits spread.
+const MIX: u64 = 18_397_679_294_719_823_053;
+
+/// How many values half the bits of a word have.
+const HALF: u64 = 4_294_967_296;
 
 impl AtomTable {
     /// Whether an entry that was seen has a text.
-    fn has_text(&self, seat: &mut Seat<(), View>, entry: u64, text: &AtomText) -> bool
+    pub(crate) fn has_text(&self, seat: &mut Seat<(), View>, entry: u64, text: &AtomText) -> bool
         requires of { seat.old.table_id ≡ self.now.table.shared.table_id }
         requires first { IsTrue (has_first seat.old.me.0.faces) }
         requires accounts { (own seat.old.me.0).accounts ≡ self.now.accounts }
@@ -142,16 +150,33 @@ impl AtomTable {
         ensures value { result ≡ start self.now.accounts text }
         ensures within { result < 2048 * self.now.accounts }
     {
-        mixed(&text.words()) % (2048 * self.accounts)
+        mixed(&text.words()) / HALF * (2048 * self.accounts) / HALF
     }
 
-    /// Looks a text up that isn't built in.
-    pub(crate) fn search(
+    /// The bucket that many behind the first, round the end.
+    pub(crate) fn bucket_at(&self, start: u64, passed: u64) -> u64
+        requires start { start < 2048 * self.now.accounts }
+        requires passed { passed < 2048 * self.now.accounts }
+        ensures { result ≡ (start + passed) % (2048 * self.now.accounts) }
+    {
+        let bucket = start + passed;
+        let buckets = 2048 * self.accounts;
+        if bucket < buckets {
+            bucket
+        } else {
+            bucket - buckets
+        }
+    }
+
+    /// Goes on with the look-up of a text that is neither built in nor in the buckets passed: it is found, or published.
+    fn search(
         &self,
         seat: &mut Seat<(), View>,
         text: &AtomText,
+        from: u64,
         entry: u64,
         used: u64,
+        turns: &mut Turns,
     ) -> Ended
         requires of { seat.old.table_id ≡ self.now.table.shared.table_id }
         requires first { IsTrue (has_first seat.old.me.0.faces) }
@@ -160,38 +185,90 @@ impl AtomTable {
         requires entry { entry ≡ own_entry (own seat.old.me.0) }
         requires used { used ≡ (own seat.old.me.0).used }
         requires bound { used ≤ 1024 }
-        requires walks { Walks (own seat.old.me.0) text.now 0 false }
+        requires walks { Walks (own seat.old.me.0) text.now from false }
+        requires from { from ≤ 1024 * self.now.accounts }
         ensures of { seat.new.table_id ≡ seat.old.table_id }
-        ensures ends { Steps seat.old.me seat.new.me (λ f g. Ends f g text.now result.entry × (g.used ≡ f.used + result.more)) }
-        ensures entry { result.entry < 1024 * self.now.accounts }
+        ensures ends { Steps seat.old.me seat.new.me (λ f g. Ends f g text.now result.number.number × (g.used ≡ f.used + result.more)) }
         ensures more { used + result.more ≤ 1024 }
+        ensures turns { turns.new + from ≤ turns.old + 1024 * self.now.accounts + 2 }
+        ensures grow { turns.old ≤ turns.new }
     {
         let start = self.first_bucket(*text);
         let mut drafted = false;
-        for passed in 0..2048 * self.accounts {
-            let bucket = (start + passed) % (2048 * self.accounts);
+        for passed in from..2048 * self.accounts {
+            turns.tick();
+            let bucket = self.bucket_at(start, passed);
             match self.round(seat, text, bucket, entry, passed, drafted) {
-                Round::Found(found) => {
-                    return Ended {
-                        entry: found,
-                        more: 0,
-                    };
-                }
-                Round::Made => return Ended { entry, more: 1 },
+                Round::Found(found) => return ended(found, 0),
+                Round::Made => return ended(entry, 1),
                 Round::Other(still) => drafted = still,
             }
         }
         unreachable!()
     }
+
+    /// Looks a text up: along its way, and where that ends without it, among the built-in names. Any other text is published.
+    pub(crate) fn look_up(
+        &self,
+        seat: &mut Seat<(), View>,
+        text: &AtomText,
+        entry: u64,
+        used: u64,
+        turns: &mut Turns,
+    ) -> Ended
+        requires of { seat.old.table_id ≡ self.now.table.shared.table_id }
+        requires first { IsTrue (has_first seat.old.me.0.faces) }
+        requires accounts { (own seat.old.me.0).accounts ≡ self.now.accounts }
+        requires account { (own seat.old.me.0).account < self.now.accounts }
+        requires entry { entry ≡ own_entry (own seat.old.me.0) }
+        requires used { used ≡ (own seat.old.me.0).used }
+        requires bound { used ≤ 1024 }
+        requires starts { Starts (own seat.old.me.0) text.now }
+        ensures of { seat.new.table_id ≡ seat.old.table_id }
+        ensures ends { Steps seat.old.me seat.new.me (λ f g. Ends f g text.now result.number.number × (g.used ≡ f.used + result.more)) }
+        ensures more { used + result.more ≤ 1024 }
+        ensures turns { (turns.old < turns.new) × (turns.new ≤ turns.old + 2048 * self.now.accounts) }
+    {
+        match self.seek(seat, text, turns) {
+            Sought::Found(bucket, found) => {
+                self.learn(seat, bucket);
+                ended(found, 0)
+            }
+            Sought::Free(passed) => {
+                if let Some(built_in) = text.built_in() {
+                    return Ended {
+                        number: AtomNo::of(built_in),
+                        more: 0,
+                    };
+                }
+                self.search(seat, text, passed, entry, used, turns)
+            }
+        }
+    }
 }
 
-/// Words mixed into a number below a prime, one after another.
+/// The end of a look-up at an entry.
+fn ended(entry: u64, more: u64) -> Ended
+    requires { entry < 16384 }
+    ensures number { result.number.number ≡ 64 + entry }
+    ensures more { result.more ≡ more }
+{
+    Ended {
+        number: AtomNo {
+            number: 64 + entry as u32,
+        },
+        more,
+    }
+}
+
+/// Words mixed into one, one after another.
 fn mixed(words: &[u64]) -> u64
     ensures value { result ≡ mixed 0 words.now }
+    ensures below { result < 18446744073709551616 }
 {
-    let mut number = 0;
+    let mut number = 0u64;
     for word in words {
-        number = (number + *word % 4_294_967_291) % 4_294_967_291 * 1_640_531_527 % 4_294_967_291;
+        number = number.wrapping_add(*word).wrapping_mul(MIX);
     }
     number
 }

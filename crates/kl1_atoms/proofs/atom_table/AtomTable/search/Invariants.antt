@@ -9,4 +9,5 @@ invariant-loop-passed l = record {
   of : l.seat.table_id ≡ l.initial.seat.table_id;
   way : Steps l.initial.seat.me l.seat.me (λ f g. OnTheWay f g l.text l.passed l.drafted);
   few : l.passed ≤ 1024 * l.self.accounts + 1;
+  turns : l.turns + l.from ≡ l.initial.turns + l.passed;
 }

@@ -1,0 +1,108 @@
+-- A look-up that publishes nothing, bucket by bucket.
+use Rattle.std.proofs.Common.{◌≡◌, ◌≢◌, ℕ, ◌+◌, ◌-◌, ◌*◌, ◌≤◌, ◌↔◌, List, length, Some, IsTrue, Bool, false, refl, sym, ap, ◌∙◌, subst, inl, inr, arith}
+use Rattle.std.proofs.lemmas.Bool.{false≢true}
+use Rattle.kl1_model.specs.Text.{is_text}
+use Rattle.atomic_table.specs.Table.{Me}
+use Rattle.kl1_atoms.specs.declared.face.Face.{Face}
+use Rattle.kl1_atoms.specs.declared.face.Heard.{Heard}
+use Rattle.kl1_atoms.specs.declared.face.View.{View}
+use Rattle.kl1_atoms.specs.declared.sought.Glance.TheVariants.{Free, Other}
+use Rattle.kl1_atoms.specs.declared.sought.Sought.TheVariants.{Found}
+use Rattle.kl1_atoms.specs.Names.{number_by, added}
+use Rattle.kl1_atoms.specs.Rounds.{Starts, Ends}
+use Rattle.kl1_atoms.specs.Way.{further}
+use Rattle.kl1_atoms.specs.Plays.{own, with_first, In, Passed, heard_more, Looks, Steps, learned, Learns}
+use Rattle.kl1_atoms.specs.Seeking.{Saw, Glances, Finds}
+use Rattle.kl1_atoms.proofs.Playing.{no_fewer}
+use Rattle.kl1_atoms.proofs.Rounding.{passed_more, looked_seen, first_twice}
+
+-- a face that stays
+stays_seen : (f g : Face) → g ≡ f → Saw f g
+stays_seen f g same = record {
+  same = record { accounts = ap (λ (x : Face). x.accounts) same; account = ap (λ (x : Face). x.account) same };
+  used = ap (λ (x : Face). x.used) same;
+  knows = ap (λ (x : Face). x.knows) same;
+  draft = ap (λ (x : Face). x.draft) same;
+}
+
+-- a face with one more sighting
+more_seen : (f g : Face) (h : Heard) → g ≡ heard_more f h → Saw f g
+more_seen f g h more = record {
+  same = record { accounts = ap (λ (x : Face). x.accounts) more; account = ap (λ (x : Face). x.account) more };
+  used = ap (λ (x : Face). x.used) more;
+  knows = ap (λ (x : Face). x.knows) more;
+  draft = ap (λ (x : Face). x.draft) more;
+}
+
+-- what was passed stays so
+passed_on : (f g : Face) (h : Heard) (t : List ℕ) (d : ℕ) → g ≡ heard_more f h → Passed f t d → Passed g t d
+passed_on f g h t d more passed = subst (λ (x : Face). Passed x t d) (sym more) (λ c below. let p = passed c below in (p.0, inr p.1, p.2, p.3))
+
+-- a glance at a free bucket
+pub glance_free : (before after : Me (Unit {0}) View) (t : List ℕ) (n d i found : ℕ) → Steps before after (λ f g. Looks f g i found) → found ≡ 0 → (own before.0).accounts ≡ n → i ≡ further n t d
+    → d ≤ 2048 * n → Passed (own before.0) t d → Steps before after (λ f g. Glances f g t i d Free)
+glance_free before after t n d i found steps free accounts way few passed = record {
+  slots = steps.slots;
+  faces = steps.faces;
+  tells = elim steps.tells.change [
+    | inl stays ↦ (
+      stays_seen (own before.0) (own after.0) stays.1,
+      subst (λ (x : Face). Passed x t d) (sym stays.1) passed,
+      steps.tells.few t d (subst (λ m. d ≤ 2048 * m) (sym accounts) few) passed,
+      steps.tells.unknown free t d (way ∙ ap (λ m. further m t d) (sym accounts)) passed,
+    )
+    | inr sees ↦ absurd (let s = sees.1 in omega arith)
+  ];
+}
+
+-- a glance at another text
+pub glance_other : (before mid after : Me (Unit {0}) View) (t : List ℕ) (n d i found : ℕ) (has : Bool) → Steps before mid (λ f g. Looks f g i found) → (found ≡ 0 → ⊥) → (own before.0).accounts ≡ n → i ≡ further n t d
+    → d ≤ 2048 * n → Passed (own before.0) t d → after ≡ mid
+    → ((h : Heard) → In (own mid.0).heard h → h.entry ≡ found - 1 → IsTrue (is_text h.text) → IsTrue has ↔ (h.text ≡ t)) → has ≡ false → Steps before after (λ f g. Glances f g t i d Other)
+glance_other before mid after t n d i found has steps full accounts way few passed same is differs =
+    let sees = looked_seen (own before.0) (own mid.0) i found steps.tells (omega arith) in
+    let here : In (own mid.0).heard sees.0 = subst (λ (x : Face). In x.heard sees.0) (sym sees.5) (inl refl) in
+    let other : sees.0.text ≢ t = λ e. false≢true (sym differs ∙ (is sees.0 here (let s = sees.1 in omega arith) sees.4).1 e) in
+    let was = more_seen (own before.0) (own mid.0) sees.0 sees.5 in
+    subst (λ (m : Me (Unit {0}) View). Steps before m (λ f g. Glances f g t i d Other)) (sym same)
+    (let told : Steps before mid (λ f g. Glances f g t i d Other) = record {
+      slots = steps.slots;
+      faces = steps.faces;
+      tells = (
+        was,
+        passed_more (own mid.0) t n d i sees.0 (passed_on (own before.0) (own mid.0) sees.0 t d sees.5 passed) here sees.2 way (was.same.accounts ∙ accounts) other,
+        steps.tells.few t d (subst (λ m. d ≤ 2048 * m) (sym accounts) few) passed,
+      );
+    } in told)
+
+-- a text that was found is known from then on
+pub found_ends : (a b c : Me (Unit {0}) View) (t : List ℕ) (i e number more : ℕ) → Steps a b (λ f g. Finds f g t (Found i e)) → Steps b c (λ f g. Learns f g i) → Starts (own a.0) t → number ≡ 64 + e → more ≡ 0
+    → Steps a c (λ f g. Ends f g t number × (g.used ≡ f.used + more))
+found_ends a b c t i e number more found learns starts is none =
+    let saw = found.tells.0 in
+    let seen = found.tells.1 in
+    let change : own c.0 ≡ learned (own b.0) seen.sighting = learns.tells.change seen.sighting seen.seen seen.bucket in
+    let entry : 64 + seen.sighting.entry ≡ number = ap (λ x. 64 + x) seen.entry ∙ sym is in
+    let knows : (own c.0).knows ≡ added (own a.0).knows t record { number = number } =
+    ap (λ (x : Face). x.knows) change ∙ ap (λ ks. added ks seen.sighting.text record { number = 64 + seen.sighting.entry }) saw.knows
+    ∙ ap (λ u. added (own a.0).knows u record { number = 64 + seen.sighting.entry }) seen.text ∙ ap (λ m. added (own a.0).knows t record { number = m }) entry
+    in
+    let used : (own c.0).used ≡ (own a.0).used = ap (λ (x : Face). x.used) change ∙ saw.used in
+    let grown : length (own a.0).knows ≤ length (own c.0).knows = subst (λ ks. length (own a.0).knows ≤ length ks) (sym knows) (no_fewer (own a.0).knows t number) in
+    record {
+      slots = learns.slots ∙ found.slots;
+      faces = learns.faces ∙ ap (λ fs. with_first fs (own c.0)) found.faces ∙ first_twice a.0.faces (own b.0) (own c.0);
+      tells = (
+        record {
+          same = record { accounts = ap (λ (x : Face). x.accounts) change ∙ saw.same.accounts; account = ap (λ (x : Face). x.account) change ∙ saw.same.account };
+          adds = record {
+            known = knows;
+            number = subst (λ u. number_by (own c.0).knows u ≡ Some number) seen.text (learns.tells.number seen.sighting seen.seen seen.bucket ∙ ap (λ m. Some m) entry);
+          };
+          names = learns.tells.names;
+          used_up = (let u = starts.used_up in omega arith);
+          draft = ap (λ (x : Face). x.draft) change;
+        },
+        (let z : (own a.0).used ≡ (own a.0).used + more = omega arith in used ∙ z),
+      );
+    }

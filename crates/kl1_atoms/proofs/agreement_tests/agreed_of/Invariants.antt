@@ -1,0 +1,11 @@
+use Rattle.std.proofs.Common.{◌≤◌}
+use Rattle.kl1_atoms.specs.Seats.{IsSharedSeat, face_in}
+use Rattle.kl1_atoms.proofs.agreement_tests.agreed_of.Given as goal
+
+-- both seats are of the table
+abbrev pub invariant-loop-name : goal.invariant-loop-name
+invariant-loop-name l = record {
+  a : IsSharedSeat l.atoms.table.shared.table_id l.a.badge.table_id l.atoms.accounts (face_in l.a.badge.views) l.a.account;
+  b : IsSharedSeat l.atoms.table.shared.table_id l.b.badge.table_id l.atoms.accounts (face_in l.b.badge.views) l.b.account;
+  few : l.agreed ≤ l.name-index;
+}
