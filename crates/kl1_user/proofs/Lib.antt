@@ -1,1 +1,3 @@
 pub mod AccountNames
+pub mod Shapes
+pub mod Trying

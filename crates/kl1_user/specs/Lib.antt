@@ -1,2 +1,4 @@
 pub mod Views
 pub mod Moves
+pub mod Calls
+pub mod Candidates

@@ -2,12 +2,16 @@
 #![tactic(auto)]
 
 mod account_name;
+mod call;
+mod candidates;
 mod event;
+mod kind;
 mod moves;
 mod numbers;
 mod printing;
 mod refusal;
 mod reply;
+mod shape;
 mod user_state;
 
 pub use account_name::AccountName;
