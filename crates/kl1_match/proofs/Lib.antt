@@ -4,3 +4,8 @@ pub mod Built
 pub mod Places
 pub mod Bodies
 pub mod BuiltNodes
+pub mod Cells
+pub mod Skipping
+pub mod Answered
+pub mod Whole
+pub mod Beside

@@ -4,3 +4,5 @@ pub mod Steps
 pub mod Built
 pub mod Variables
 pub mod BuiltNodes
+pub mod Matching
+pub mod Verdicts

@@ -1,13 +1,23 @@
 //! What clauses make of goals: verdicts of heads, and instances of bodies, over cells.
 #![tactic(auto)]
 
+mod arguments;
 mod building;
 mod goals;
 mod instances;
+mod meets;
+mod met;
+mod name_in;
 mod place;
+mod skips;
 mod step;
 mod variables;
+mod verdict;
+mod verdicts;
 
 pub use goals::build_goal;
 pub use instances::instance;
+pub use name_in::name_at;
 pub use place::Place;
+pub use verdict::Verdict;
+pub use verdicts::verdict_on;

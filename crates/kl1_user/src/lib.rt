@@ -2,12 +2,16 @@
 #![tactic(auto)]
 
 mod account_name;
+mod call;
+mod candidates;
 mod event;
+mod kind;
 mod moves;
 mod numbers;
 mod printing;
 mod refusal;
 mod reply;
+mod shape;
 mod startable;
 mod used_names;
 mod user_state;

@@ -1,0 +1,266 @@
+-- Patterns beside walked cells.
+use Rattle.std.proofs.Common.{◌≡◌, ℕ, zero, suc, inl, inr, drop, append_assoc, ◌<◌, ◌==◌, ◌&&◌, Bool, true, false, List, [], ◌∷◌, ◌++◌, length, refl, sym, ap, ◌∙◌, subst, ℤ, arith}
+use Rattle.std.specs.Prelude.{Some, slice_get, bytes_eq}
+use Rattle.std.specs.Ordering.{int_eq}
+use Rattle.std.proofs.lemmas.List.{reverse-append, reverse-reverse, append-nil, map-append}
+use Rattle.std.proofs.lemmas.Slice.Eq.{bytes_eq-Decides}
+use Rattle.std.proofs.lemmas.Bool.{ne_eqb, eq-eqb, cond-true, cond-false, false_from_ne_true, and_left, and_right, and_from}
+use Rattle.std.proofs.lemmas.Bool.Decides.{Decides-int_eq}
+use Rattle.std.specs.Prelude.{reverse}
+use Rattle.kl1_model.specs.declared.built_in.BuiltIn.{BuiltIn}
+use Rattle.kl1_model.specs.Term.{Term, variable, integer, atom, structure, Terms, none, more, count_of}
+use Rattle.kl1_model.specs.Match.{Outcome, agrees, clashes, waits, decided, with_outcome, match_term, match_terms}
+use Rattle.kl1_text.specs.Reading.{Reads}
+use Rattle.kl1_store.specs.declared.cell.Cell.{Cell}
+use Rattle.kl1_store.specs.declared.cell.Cell.TheVariants.{Variable, Integer, Atom, Structure}
+use Rattle.kl1_store.specs.Held.{Held, IsIn, AreIn, IsWalked, arguments_of}
+use Rattle.kl1_store.specs.Meaning.{term_of, terms_of}
+use Rattle.kl1_store.specs.Sound.{IsFormed}
+use Rattle.kl1_store.proofs.Terms.{term_of-Integer, term_of-Atom, term_of-Structure, term_of-unbound}
+use Rattle.kl1_store.proofs.Meetings.{named, count_of-terms_of}
+use Rattle.kl1_model.specs.TermCode.{NodeCode, nodes_of, nodes_of_all}
+use Rattle.kl1_match.specs.declared.place.Place.{Place}
+use Rattle.kl1_match.specs.Instances.{AreThere, replacement_of, replacements_of}
+use Rattle.kl1_match.specs.Matching.{joined, IsOpened, Opens, Stays, Begins, GoesInto}
+use Rattle.kl1_match.specs.Verdicts.{arguments_of_goal}
+
+pub at_variable : {N : Type 0} (f : N → List ℕ) (h : Held N) (x : Cell N) (v : ℕ) → x ≡ Variable v → IsWalked h x → term_of f h x ≡ variable v
+at_variable {N = N} f h x v e walked = let W : Cell N → Type 0 = λ c. IsWalked h c in ap (term_of f h) e ∙ term_of-unbound f h v (subst W e walked)
+
+pub at_integer : {N : Type 0} (f : N → List ℕ) (h : Held N) (x : Cell N) (i : ℤ) → x ≡ Integer i → term_of f h x ≡ integer i
+at_integer f h x i e = ap (term_of f h) e ∙ term_of-Integer f h i
+
+pub at_atom : {N : Type 0} (f : N → List ℕ) (h : Held N) (x : Cell N) (a : N) → x ≡ Atom a → term_of f h x ≡ atom (f a)
+at_atom f h x a e = ap (term_of f h) e ∙ term_of-Atom f h a
+
+-- a structure with some name
+pub record IsStructure (t : Term) : Type 0 where
+  pub name : List ℕ
+  pub arguments : Terms
+  pub is : t ≡ structure name arguments
+
+pub at_structure : {N : Type 0} (f : N → List ℕ) (h : Held N) (x : Cell N) (s : ℕ) → IsFormed h → x ≡ Structure s → IsIn h x → IsStructure (term_of f h x)
+at_structure {N = N} f h x s p e inside =
+    let I : Cell N → Type 0 = λ c. IsIn h c in
+    let r = named h s (subst I e inside) in
+    record { name = f r.0; arguments = terms_of f h (arguments_of h s); is = ap (term_of f h) e ∙ term_of-Structure f h s r.0 p r.1 }
+
+pub names_same : {N : Type 0} (f : N → List ℕ) (a b : N) → a ≡ b → bytes_eq (f a) (f b) ≡ true
+names_same f a b e = (bytes_eq-Decides (f a) (f b)).1 (ap f e)
+
+pub names_differ : {N : Type 0} (built : BuiltIn → N) (f : N → List ℕ) (a b : N) → Reads built f → (a ≡ b → ⊥) → bytes_eq (f a) (f b) ≡ false
+names_differ built f a b reads ne = false_from_ne_true (bytes_eq (f a) (f b)) (λ e. ne (reads.once a b ((bytes_eq-Decides (f a) (f b)).0 e)))
+
+pub integers_agree : (i j : ℤ) → i ≡ j → match_term (integer i) (integer j) ≡ with_outcome agrees
+integers_agree i j e = ap (λ b. with_outcome (decided b)) ((Decides-int_eq i j).1 e)
+
+pub integers_clash : (i j : ℤ) → (i ≡ j → ⊥) → match_term (integer i) (integer j) ≡ with_outcome clashes
+integers_clash i j ne = ap (λ b. with_outcome (decided b)) (false_from_ne_true (int_eq i j) (λ e. ne ((Decides-int_eq i j).0 e)))
+
+-- a structure as a pattern beside what is no structure
+pub stays : {N : Type 0} (built : BuiltIn → N) (h : Held N) (name : N) (count : ℕ) (x : Cell N) (stack : List (Cell N)) (outcome : _) →
+    ((f : N → List ℕ) → Reads built f → (ps : Terms) → count_of ps ≡ count → match_term (structure (f name) ps) (term_of f h x) ≡ with_outcome outcome) → Stays built h name count x stack stack outcome
+stays built h name count x stack outcome matched = record { stack_is = refl; matched = matched }
+
+both_same : (b : Bool) (m n : ℕ) → b ≡ true → m ≡ n → (b && m == n) ≡ true
+both_same b m n e same = and_from b (m == n) e (eq-eqb m n same)
+
+pub terms_of-joined : {N : Type 0} (f : N → List ℕ) (h : Held N) (xs ys : List (Cell N)) → terms_of f h (xs ++ ys) ≡ joined (terms_of f h xs) (terms_of f h ys)
+unfolding terms_of
+terms_of-joined f h [] ys = refl
+terms_of-joined f h (x ∷ xs) ys = ap (more (term_of f h x)) (terms_of-joined f h xs ys)
+
+pub opened : {N : Type 0} (f : N → List ℕ) (h : Held N) (name called : N) (count s : ℕ) (x : Cell N) (stack now : List (Cell N)) →
+    IsFormed h → x ≡ Structure s → slice_get h.structures s ≡ Some (record { name = called; arguments = arguments_of h s }) →
+    length (arguments_of h s) ≡ count → name ≡ called → now ≡ stack ++ reverse (arguments_of h s) → IsOpened f h name count (term_of f h x) stack now
+opened {N = N} f h name called count s x stack now p e at counted same is =
+    let us = terms_of f h (arguments_of h s) in
+    let number : count_of us ≡ count = count_of-terms_of f h (arguments_of h s) ∙ counted in
+    record {
+      arguments = us;
+      counted = number;
+      matched = λ ps c.
+          ap (match_term (structure (f name) ps)) (ap (term_of f h) e ∙ term_of-Structure f h s called p at)
+          ∙ cond-true (bytes_eq (f name) (f called) && count_of ps == count_of us) (match_terms ps us) (with_outcome clashes)
+          (both_same (bytes_eq (f name) (f called)) (count_of ps) (count_of us) (names_same f name called same) (c ∙ sym number));
+      stack_is = ap (λ l. terms_of f h (reverse l)) is ∙ ap (terms_of f h) (reverse-append stack (reverse (arguments_of h s)) ∙ ap (λ l. l ++ reverse stack) (reverse-reverse (arguments_of h s))) ∙ terms_of-joined f h (arguments_of h s) (reverse stack);
+    }
+
+pub name_clashes : {N : Type 0} (built : BuiltIn → N) (f : N → List ℕ) (h : Held N) (name called : N) (s : ℕ) (x : Cell N) (ps : Terms) → Reads built f →
+    IsFormed h → x ≡ Structure s → slice_get h.structures s ≡ Some (record { name = called; arguments = arguments_of h s }) →
+    (name ≡ called → ⊥) → match_term (structure (f name) ps) (term_of f h x) ≡ with_outcome clashes
+name_clashes built f h name called s x ps reads p e at ne =
+    let us = terms_of f h (arguments_of h s) in
+    ap (match_term (structure (f name) ps)) (ap (term_of f h) e ∙ term_of-Structure f h s called p at)
+    ∙ cond-false (bytes_eq (f name) (f called) && count_of ps == count_of us) (match_terms ps us) (with_outcome clashes)
+    (and_left (bytes_eq (f name) (f called)) (count_of ps == count_of us) (names_differ built f name called reads ne))
+
+pub count_clashes : {N : Type 0} (f : N → List ℕ) (h : Held N) (name called : N) (count s : ℕ) (x : Cell N) (ps : Terms) → count_of ps ≡ count →
+    IsFormed h → x ≡ Structure s → slice_get h.structures s ≡ Some (record { name = called; arguments = arguments_of h s }) →
+    (length (arguments_of h s) ≡ count → ⊥) → match_term (structure (f name) ps) (term_of f h x) ≡ with_outcome clashes
+count_clashes f h name called count s x ps counted p e at ne =
+    let us = terms_of f h (arguments_of h s) in
+    ap (match_term (structure (f name) ps)) (ap (term_of f h) e ∙ term_of-Structure f h s called p at)
+    ∙ cond-false (bytes_eq (f name) (f called) && count_of ps == count_of us) (match_terms ps us) (with_outcome clashes)
+    (and_right (bytes_eq (f name) (f called)) (count_of ps == count_of us) (ne_eqb (count_of ps) (count_of us) (λ q. ne (sym (count_of-terms_of f h (arguments_of h s)) ∙ sym q ∙ counted))))
+
+-- ---- the arguments of a goal
+
+pub AreIn-push : {N : Type 0} (h : Held N) (xs : List (Cell N)) (x : Cell N) → AreIn h xs → IsIn h x → AreIn h (xs ++ x ∷ [])
+AreIn-push h [] x p q = (q, tt)
+AreIn-push h (y ∷ xs) x p q = (p.0, AreIn-push h xs x p.1 q)
+
+pub AreIn-pop : {N : Type 0} (h : Held N) (all xs : List (Cell N)) (x : Cell N) → all ≡ xs ++ x ∷ [] → AreIn h all → AreIn h xs × IsIn h x
+AreIn-pop {N = N} h all xs x e p = let P : List (Cell N) → Type 0 = λ l. AreIn h l in parts xs (subst P e p)
+  where
+    parts : (ys : List (Cell N)) → AreIn h (ys ++ x ∷ []) → AreIn h ys × IsIn h x
+    parts [] q = (tt, q.0)
+    parts (y ∷ ys) q = let r = parts ys q.1 in ((q.0, r.0), r.1)
+
+some_same : {A : Type 0} {x y : A} → Some x ≡ Some y → x ≡ y
+some_same p = cc
+
+drop_at : {A : Type 0} (xs : List A) (i : ℕ) (x : A) → slice_get xs i ≡ Some x → drop i xs ≡ x ∷ drop (suc i) xs
+drop_at [] i x e = absurd (cc)
+drop_at (y ∷ xs) zero x e = ap (λ z. z ∷ xs) (some_same e)
+drop_at (y ∷ xs) (suc i) x e = drop_at xs i x e
+
+-- one argument more on the stack
+pub pushed : {N : Type 0} (arguments before stack now : List (Cell N)) (left next : ℕ) (x : Cell N) → left ≡ suc next → slice_get arguments next ≡ Some x →
+    stack ≡ before ++ reverse (drop left arguments) → now ≡ stack ++ x ∷ [] → now ≡ before ++ reverse (drop next arguments)
+pushed arguments before stack now left next x one at is e =
+    e ∙ ap (λ l. l ++ x ∷ []) (is ∙ ap (λ n. before ++ reverse (drop n arguments)) one)
+    ∙ append_assoc before (reverse (drop (suc next) arguments)) (x ∷ [])
+    ∙ ap (λ l. before ++ l) (sym (reverse-append (x ∷ []) (drop (suc next) arguments)) ∙ ap reverse (sym (drop_at arguments next x at)))
+
+-- what a goal means that a cell stands for
+pub goal_at : {N : Type 0} (f : N → List ℕ) (h : Held N) (goal x : Cell N) (t : Term) → term_of f h x ≡ term_of f h goal → term_of f h x ≡ t → arguments_of_goal t ≡ arguments_of_goal (term_of f h goal)
+goal_at f h goal x t e is = ap arguments_of_goal (sym is ∙ e)
+
+pub no_arguments : {N : Type 0} (f : N → List ℕ) (h : Held N) (stack : List (Cell N)) → stack ≡ [] → terms_of f h (reverse stack) ≡ none
+unfolding terms_of
+no_arguments f h stack e = ap (λ l. terms_of f h (reverse l)) e
+
+pub all_arguments : {N : Type 0} (f : N → List ℕ) (h : Held N) (goal x : Cell N) (s : ℕ) (stack now : List (Cell N)) → IsFormed h → IsIn h x → x ≡ Structure s → term_of f h x ≡ term_of f h goal →
+    stack ≡ [] → now ≡ stack ++ reverse (arguments_of h s) → terms_of f h (reverse now) ≡ arguments_of_goal (term_of f h goal)
+all_arguments {N = N} f h goal x s stack now p inside e means empty is =
+    let I : Cell N → Type 0 = λ c. IsIn h c in
+    let r = named h s (subst I e inside) in
+    ap (λ l. terms_of f h (reverse l)) (is ∙ ap (λ l. l ++ reverse (arguments_of h s)) empty) ∙ ap (terms_of f h) (reverse-reverse (arguments_of h s))
+    ∙ ap arguments_of_goal (sym (ap (term_of f h) e ∙ term_of-Structure f h s r.0 p r.1) ∙ means)
+
+-- ---- the outcomes of a structure as a pattern
+
+pub structure_beside : {N : Type 0} (built : BuiltIn → N) (h : Held N) (name : N) (count : ℕ) (x : Cell N) (stack now : List (Cell N)) (outcome : Outcome) → now ≡ stack →
+    ((f : N → List ℕ) → Reads built f → (ps : Terms) → count_of ps ≡ count → match_term (structure (f name) ps) (term_of f h x) ≡ with_outcome outcome) → Stays built h name count x stack now outcome
+structure_beside built h name count x stack now outcome e matched = record { stack_is = e; matched = matched }
+
+-- ---- instructions
+
+pub code_same : {A : Type 0} {x y : A} {xs ys : List A} → x ∷ xs ≡ y ∷ ys → x ≡ y
+code_same e = cc
+
+-- a pattern that begins with the node of a variable
+pub takes_place : {N : Type 0} (f : N → List ℕ) (h : Held N) (v : ℕ) (x : Cell N) (p : Term) (stack : List (Cell N)) (places longer : List (Place N)) → Begins (inl (inl v)) p →
+    longer ≡ places ++ record { variable = v; cell = x } ∷ [] → GoesInto f h (inl (inl v)) p (term_of f h x) stack stack places longer
+takes_place {N = N} f h v x (variable w) stack places longer b e =
+    let same : v ≡ w = number (code_same b.nodes) in
+    let P : ℕ → Type 0 = λ n. GoesInto f h (inl (inl v)) (variable n) (term_of f h x) stack stack places longer in
+    subst P same (record {
+      inner = none;
+      arguments = none;
+      taken = record { number = v; by = term_of f h x } ∷ [];
+      nodes = refl;
+      counted = refl;
+      matched = refl;
+      stack_is = refl;
+      places_are = ap (replacements_of f h) e ∙ map-append (replacement_of f h) places (record { variable = v; cell = x } ∷ []);
+    })
+  where
+    number : {v w : ℕ} → (let c : NodeCode = inl (inl w) in c) ≡ inl (inl v) → v ≡ w
+    number e = cc
+takes_place f h v x (integer i) stack places longer b e = absurd (cc b.nodes)
+takes_place f h v x (atom a) stack places longer b e = absurd (cc b.nodes)
+takes_place f h v x (structure g us) stack places longer b e = absurd (cc b.nodes)
+
+-- a pattern that begins with the node of an integer is that integer
+pub is_integer : (i : ℤ) (p : Term) → Begins (inl (inr i)) p → p ≡ integer i
+is_integer i (variable w) b = absurd (cc b.nodes)
+is_integer i (integer j) b = cc b.nodes
+is_integer i (atom a) b = absurd (cc b.nodes)
+is_integer i (structure g us) b = absurd (cc b.nodes)
+
+pub is_atom : (a : List ℕ) (p : Term) → Begins (inr (inl a)) p → p ≡ atom a
+is_atom a (variable w) b = absurd (cc b.nodes)
+is_atom a (integer j) b = absurd (cc b.nodes)
+is_atom a (atom c) b = cc b.nodes
+is_atom a (structure g us) b = absurd (cc b.nodes)
+
+-- a pattern that begins with the node of a structure
+pub record IsCalled (g : List ℕ) (n : ℕ) (p : Term) : Type 0 where
+  pub arguments : Terms
+  pub counted : count_of arguments ≡ n
+  pub is : p ≡ structure g arguments
+
+pub is_structure : (g : List ℕ) (n : ℕ) (p : Term) → Begins (inr (inr (g, n))) p → IsCalled g n p
+is_structure g n (variable w) b = absurd (cc b.nodes)
+is_structure g n (integer j) b = absurd (cc b.nodes)
+is_structure g n (atom c) b = absurd (cc b.nodes)
+is_structure g n (structure k us) b =
+    let e = code_same b.nodes in
+    record { arguments = us; counted = ap number_in e; is = ap (λ l. structure l us) (ap name_of e) }
+  where
+    number_in : NodeCode → ℕ
+    number_in (inl y) = 0
+    number_in (inr (inl a)) = 0
+    number_in (inr (inr q)) = q.1
+    name_of : NodeCode → List ℕ
+    name_of (inl y) = []
+    name_of (inr (inl a)) = []
+    name_of (inr (inr q)) = q.0
+
+-- a pattern without arguments agrees
+pub agrees_alone : {N : Type 0} (f : N → List ℕ) (h : Held N) (c : NodeCode) (p q t : Term) (stack : List (Cell N)) (places : List (Place N)) →
+    p ≡ q → nodes_of q ≡ c ∷ [] → match_term q t ≡ with_outcome agrees → GoesInto f h c p t stack stack places places
+agrees_alone {N = N} f h c p q t stack places e nodes m =
+    let P : Term → Type 0 = λ r. GoesInto f h c r t stack stack places places in
+    subst P (sym e) (record {
+      inner = none;
+      arguments = none;
+      taken = [];
+      nodes = nodes;
+      counted = refl;
+      matched = m;
+      stack_is = refl;
+      places_are = sym (append-nil (replacements_of f h places));
+    })
+
+-- a structure as a pattern agrees if its arguments do
+pub agrees_inside : {N : Type 0} (f : N → List ℕ) (h : Held N) (name : N) (g : List ℕ) (n : ℕ) (p t : Term) (stack now : List (Cell N)) (places : List (Place N)) →
+    f name ≡ g → Begins (inr (inr (g, n))) p → IsOpened f h name n t stack now → GoesInto f h (inr (inr (g, n))) p t stack now places places
+agrees_inside {N = N} f h name g n p t stack now places same b o =
+    let r = is_structure g n p b in
+    let P : Term → Type 0 = λ q. GoesInto f h (inr (inr (g, n))) q t stack now places places in
+    let Q : ℕ → Type 0 = λ m. (nodes_of (structure g r.arguments) ≡ inr (inr (g, m)) ∷ nodes_of_all r.arguments) in
+    let S : List ℕ → Type 0 = λ l. match_term (structure l r.arguments) t ≡ match_terms r.arguments o.arguments in
+    subst P (sym r.is) (record {
+      inner = r.arguments;
+      arguments = o.arguments;
+      taken = [];
+      nodes = subst Q r.counted refl;
+      counted = r.counted ∙ sym o.counted;
+      matched = subst S same (o.matched r.arguments r.counted);
+      stack_is = o.stack_is;
+      places_are = sym (append-nil (replacements_of f h places));
+    })
+
+pub stays_outside : {N : Type 0} (f : N → List ℕ) (name : N) (g : List ℕ) (n : ℕ) (p t : Term) (outcome : Outcome) → f name ≡ g → Begins (inr (inr (g, n))) p →
+    ((ps : Terms) → count_of ps ≡ n → match_term (structure (f name) ps) t ≡ with_outcome outcome) → match_term p t ≡ with_outcome outcome
+stays_outside f name g n p t outcome same b m =
+    let r = is_structure g n p b in
+    let S : List ℕ → Type 0 = λ l. match_term (structure l r.arguments) t ≡ with_outcome outcome in
+    ap (λ q. match_term q t) r.is ∙ subst S same (m r.arguments r.counted)
+
+pub AreThere-push : {N : Type 0} (h : Held N) (ps : List (Place N)) (p : Place N) → AreThere h ps → IsIn h p.cell → AreThere h (ps ++ p ∷ [])
+AreThere-push h [] p q r = (r, tt)
+AreThere-push h (k ∷ ps) p q r = (q.0, AreThere-push h ps p q.1 r)

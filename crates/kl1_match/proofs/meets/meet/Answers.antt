@@ -1,0 +1,37 @@
+use Rattle.std.proofs.Common.{◌≡◌, sym, subst, rules, ℤ}
+use mir.Val.{SFits}
+use Rattle.std.proofs.lemmas.Int.{to_z-of_z}
+use mir.Syntax.{w64}
+use Rattle.kl1_clause.specs.declared.instruction.Instruction.{Instruction}
+use Rattle.kl1_match.specs.Matching.{IntegerMeets, MeetsAs}
+use Rattle.kl1_match.specs.declared.met.Met.TheVariants.{Agrees}
+use Rattle.kl1_match.proofs.Beside.{variable_meets, integer_meets, atom_meets, structure_meets}
+use Rattle.kl1_match.proofs.meets.meet.Goals as goal
+
+pub returns-in_ok-push-in-Variable : goal.returns-in_ok-push-in-Variable
+returns-in_ok-push-in-Variable g c =
+    let P : Instruction → Type 0 = λ i. MeetsAs g.N.NameValue.built c.args.store.now.held c.args.names.now i c.args.cell c.args.stack.now.items c.args.stack.now.items c.args.places.now.items c.push.new.self.items Agrees in
+    subst P (sym c.in-Variable.is)
+    (variable_meets g.N.NameValue.built c.args.store.now.held c.args.names.now c.in-Variable.variable c.args.cell c.args.stack.now.items c.args.places.now.items c.push.new.self.items c.requires.cell c.requires.stack c.requires.places c.in_ok-push-in-Variable.ensures.items)
+
+pub returns-in-Integer : goal.returns-in-Integer
+returns-in-Integer g c =
+    let P : Instruction → Type 0 = λ i. MeetsAs g.N.NameValue.built c.args.store.now.held c.args.names.now i c.args.cell c.args.stack.now.items c.args.stack.now.items c.args.places.now.items c.args.places.now.items c.meet_integer.result in
+    let Q : ℤ → Type 0 = λ i. IntegerMeets g.N.NameValue.built c.args.store.now.held i c.walk.result c.meet_integer.result in
+    let fits : SFits w64 c.in-Integer.integer = search rules in
+    subst P (sym c.in-Integer.is)
+    (integer_meets g.N.NameValue.built c.args.store.now.held c.args.names.now c.in-Integer.integer c.args.cell c.walk.result c.args.stack.now.items c.args.places.now.items c.meet_integer.result c.requires.stack c.requires.places c.walk.ensures.means
+    (subst Q (to_z-of_z w64 c.in-Integer.integer fits) c.meet_integer.ensures))
+
+pub returns-in-Atom : goal.returns-in-Atom
+returns-in-Atom g c =
+    let P : Instruction → Type 0 = λ i. MeetsAs g.N.NameValue.built c.args.store.now.held c.args.names.now i c.args.cell c.args.stack.now.items c.args.stack.now.items c.args.places.now.items c.args.places.now.items c.meet_atom.result in
+    subst P (sym c.in-Atom.is)
+    (atom_meets g.N.NameValue.built c.args.store.now.held c.args.names.now c.in-Atom.name c.name_at-name.result c.args.cell c.walk-in-Atom.result c.args.stack.now.items c.args.places.now.items c.meet_atom.result c.requires.stack c.requires.places c.name_at-name.ensures c.walk-in-Atom.ensures.means c.meet_atom.ensures)
+
+pub returns-in_ok-met-in-Structure : goal.returns-in_ok-met-in-Structure
+returns-in_ok-met-in-Structure g c =
+    let P : Instruction → Type 0 = λ i. MeetsAs g.N.NameValue.built c.args.store.now.held c.args.names.now i c.args.cell c.args.stack.now.items c.meet_structure.new.stack.items c.args.places.now.items c.args.places.now.items c.in_ok-met-in-Structure.met in
+    subst P (sym c.in-Structure.is)
+    (structure_meets g.N.NameValue.built c.args.store.now.held c.args.names.now c.in-Structure.name c.in-Structure.count c.name_at-name-in-Structure.result c.args.cell c.walk-in-Structure.result c.args.stack.now.items c.meet_structure.new.stack.items c.args.places.now.items c.in_ok-met-in-Structure.met
+    c.requires.places c.name_at-name-in-Structure.ensures c.walk-in-Structure.ensures.means c.in_ok-met-in-Structure.ensures)

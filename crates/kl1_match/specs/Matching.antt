@@ -1,0 +1,98 @@
+-- What a pattern beside a cell comes to.
+use Rattle.std.specs.Prelude.{◌≡◌, ℕ, ℤ, List, ◌∷◌, ◌++◌, map, reverse}
+use Rattle.kl1_model.specs.declared.built_in.BuiltIn.{BuiltIn}
+use Rattle.kl1_model.specs.Term.{Term, integer, atom, structure, Terms, none, more, count_of, Replacement}
+use Rattle.kl1_model.specs.TermCode.{NodeCode, nodes_of, nodes_of_all}
+use Rattle.kl1_model.specs.Match.{Outcome, agrees, clashes, waits, Matched, with_outcome, match_both, match_term, match_terms}
+use Rattle.kl1_text.specs.Reading.{Reads}
+use Rattle.kl1_store.specs.declared.cell.Cell.{Cell}
+use Rattle.kl1_store.specs.Held.{Held, AreIn}
+use Rattle.kl1_store.specs.Meaning.{term_of, terms_of}
+use Rattle.kl1_clause.specs.declared.instruction.Instruction.{Instruction}
+use Rattle.kl1_clause.specs.declared.instruction.Instruction.TheVariants.{Variable, Integer, Atom, Structure}
+use Rattle.kl1_clause.specs.Instructions.{code_in}
+use Rattle.kl1_match.specs.declared.place.Place.{Place}
+use Rattle.kl1_match.specs.declared.met.Met.{Met}
+use Rattle.kl1_match.specs.declared.met.Met.TheVariants.{Agrees, Waits, Clashes}
+use Rattle.kl1_match.specs.Instances.{AreThere, replacements_of}
+
+-- terms, and then others
+abbrev pub joined : Terms → Terms → Terms
+joined none us = us
+joined (more t ts) us = more t (joined ts us)
+
+-- how many arguments follow an instruction
+abbrev pub arguments_after : Instruction → ℕ
+arguments_after (Variable n) = 0
+arguments_after (Integer i) = 0
+arguments_after (Atom a) = 0
+arguments_after (Structure a n) = n
+
+-- the outcome of a pattern without arguments
+abbrev pub outcome_of : Met → Outcome
+outcome_of Agrees = agrees
+outcome_of Waits = waits
+outcome_of Clashes = clashes
+
+-- what an integer as a pattern beside a cell comes to
+abbrev pub IntegerMeets : {N : Type 0} → (BuiltIn → N) → Held N → ℤ → Cell N → Met → Type 0
+IntegerMeets {N = N} built h i x met = (f : N → List ℕ) → match_term (integer i) (term_of f h x) ≡ with_outcome (outcome_of met)
+
+-- what an atom as a pattern beside a cell comes to
+abbrev pub AtomMeets : {N : Type 0} → (BuiltIn → N) → Held N → N → Cell N → Met → Type 0
+AtomMeets {N = N} built h a x met = (f : N → List ℕ) → Reads built f → match_term (atom (f a)) (term_of f h x) ≡ with_outcome (outcome_of met)
+
+-- a structure of this name and number of arguments beside a pattern of these: its arguments are put on the stack
+pub record IsOpened {N : Type 0} (f : N → List ℕ) (h : Held N) (name : N) (count : ℕ) (t : Term) (stack now : List (Cell N)) : Type 0 where
+  pub arguments : Terms
+  pub counted : count_of arguments ≡ count
+  pub matched : (ps : Terms) → count_of ps ≡ count → match_term (structure (f name) ps) t ≡ match_terms ps arguments
+  pub stack_is : terms_of f h (reverse now) ≡ joined arguments (terms_of f h (reverse stack))
+
+pub record Opens {N : Type 0} (built : BuiltIn → N) (h : Held N) (name : N) (count : ℕ) (x : Cell N) (stack now : List (Cell N)) : Type 0 where
+  pub inside : AreIn h now
+  pub opened : (f : N → List ℕ) → Reads built f → IsOpened f h name count (term_of f h x) stack now
+
+-- a structure as a pattern beside a cell with this outcome, where nothing is put on the stack
+pub record Stays {N : Type 0} (built : BuiltIn → N) (h : Held N) (name : N) (count : ℕ) (x : Cell N) (stack now : List (Cell N)) (outcome : Outcome) : Type 0 where
+  pub stack_is : now ≡ stack
+  pub matched : (f : N → List ℕ) → Reads built f → (ps : Terms) → count_of ps ≡ count → match_term (structure (f name) ps) (term_of f h x) ≡ with_outcome outcome
+
+-- what a structure as a pattern beside a cell comes to
+abbrev pub StructureMeets : {N : Type 0} → (BuiltIn → N) → Held N → N → ℕ → Cell N → List (Cell N) → List (Cell N) → Met → Type 0
+StructureMeets built h name count x stack now Agrees = Opens built h name count x stack now
+StructureMeets built h name count x stack now Waits = Stays built h name count x stack now waits
+StructureMeets built h name count x stack now Clashes = Stays built h name count x stack now clashes
+
+-- a pattern begins with a node
+pub record Begins (c : NodeCode) (p : Term) : Type 0 where
+  pub behind : List NodeCode
+  pub nodes : nodes_of p ≡ c ∷ behind
+
+-- a pattern agrees with a term if its arguments do, which stand beside those that are put on the stack
+pub record GoesInto {N : Type 0} (f : N → List ℕ) (h : Held N) (c : NodeCode) (p t : Term) (stack now : List (Cell N)) (places longer : List (Place N)) : Type 0 where
+  pub inner : Terms
+  pub arguments : Terms
+  pub taken : List Replacement
+  pub nodes : nodes_of p ≡ c ∷ nodes_of_all inner
+  pub counted : count_of inner ≡ count_of arguments
+  pub matched : match_term p t ≡ match_both (record { outcome = agrees; places = taken }) (match_terms inner arguments)
+  pub stack_is : terms_of f h (reverse now) ≡ joined arguments (terms_of f h (reverse stack))
+  pub places_are : replacements_of f h longer ≡ replacements_of f h places ++ taken
+
+pub record Continues {N : Type 0} (built : BuiltIn → N) (h : Held N) (names : List N) (i : Instruction) (x : Cell N) (stack now : List (Cell N)) (places longer : List (Place N)) : Type 0 where
+  pub stack_in : AreIn h now
+  pub places_in : AreThere h longer
+  pub goes_into : (f : N → List ℕ) → Reads built f → (p : Term) → Begins (code_in (map f names) i) p → GoesInto f h (code_in (map f names) i) p (term_of f h x) stack now places longer
+
+-- a pattern has this outcome beside a cell, and nothing is put anywhere
+pub record Decides {N : Type 0} (built : BuiltIn → N) (h : Held N) (names : List N) (i : Instruction) (x : Cell N) (stack now : List (Cell N)) (places longer : List (Place N)) (outcome : Outcome) : Type 0 where
+  pub stack_is : now ≡ stack
+  pub places_are : longer ≡ places
+  pub matched : (f : N → List ℕ) → Reads built f → (p : Term) → Begins (code_in (map f names) i) p → match_term p (term_of f h x) ≡ with_outcome outcome
+
+-- what a pattern that begins with an instruction comes to beside a cell
+abbrev pub MeetsAs : {N : Type 0} → (BuiltIn → N) → Held N → List N → Instruction → Cell N → List (Cell N) → List (Cell N) → List (Place N) → List (Place N) → Met → Type 0
+MeetsAs built h names i x stack now places longer Agrees = Continues built h names i x stack now places longer
+MeetsAs built h names i x stack now places longer Waits = Decides built h names i x stack now places longer waits
+MeetsAs built h names i x stack now places longer Clashes = Decides built h names i x stack now places longer clashes

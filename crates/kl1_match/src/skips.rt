@@ -1,0 +1,51 @@
+// Places in rows behind terms.
+
+ghost use Rattle.std.specs.Prelude.{◌≡◌, ℕ, ◌<◌, ◌≤◌, List, length, map, drop};
+ghost use Rattle.kl1_model.specs.Term.{Term, Terms, more, count_of};
+ghost use Rattle.kl1_model.specs.TermCode.{nodes_of_all};
+ghost use Rattle.kl1_clause.specs.Instructions.{code_in};
+ghost use Rattle.kl1_match.specs.Matching.{arguments_after, joined};
+
+use kl1_clause::Instruction;
+
+/// How many arguments follow an instruction.
+fn arguments_of(instruction: Instruction) -> usize
+    ensures { result ≡ arguments_after instruction }
+{
+    match instruction {
+        Instruction::Variable(_) => 0,
+        Instruction::Integer(_) => 0,
+        Instruction::Atom(_) => 0,
+        Instruction::Structure(_, count) => count,
+    }
+}
+
+/// The place in a row, from 0, behind so many terms from a place on.
+fn behind_terms(row: &[Instruction], from: usize, terms: usize) -> usize
+    requires { from ≤ length row.now }
+    ensures above { from ≤ result }
+    ensures below { result ≤ length row.now }
+    ensures behind { (names : List (List ℕ)) (qs ps : Terms) → count_of qs ≡ terms → map (code_in names) (drop from row.now) ≡ nodes_of_all (joined qs ps) → map (code_in names) (drop result row.now) ≡ nodes_of_all ps }
+{
+    let end = row.len();
+    let mut at = from;
+    let mut left = terms;
+    while left > 0 {
+        if at >= end {
+            return at;
+        }
+        left = (left - 1).saturating_add(arguments_of(row[at]));
+        at += 1;
+    }
+    at
+}
+
+/// The place in a row, from 0, behind the term at a place.
+pub(crate) fn behind_term(row: &[Instruction], from: usize) -> usize
+    requires { from < length row.now }
+    ensures above { from < result }
+    ensures below { result ≤ length row.now }
+    ensures behind { (names : List (List ℕ)) (p : Term) (ps : Terms) → map (code_in names) (drop from row.now) ≡ nodes_of_all (more p ps) → map (code_in names) (drop result row.now) ≡ nodes_of_all ps }
+{
+    behind_terms(row, from + 1, arguments_of(row[from]))
+}

@@ -1,0 +1,12 @@
+// What a clause says to a goal.
+
+/// What a clause says to a goal.
+#[derive(Clone, Copy, PartialEq, Eq, Debug)]
+pub enum Verdict {
+    /// The goal may commit to the clause.
+    Accepts,
+    /// The goal can never commit to it.
+    Rejects,
+    /// The goal waits for its variables.
+    Suspends,
+}
