@@ -1,1 +1,2 @@
 pub mod AccountNames
+pub mod Choosing

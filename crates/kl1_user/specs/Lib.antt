@@ -1,2 +1,5 @@
 pub mod Views
 pub mod Moves
+pub mod Kept
+pub mod Accounts
+pub mod Readies

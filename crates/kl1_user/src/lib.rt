@@ -3,11 +3,17 @@
 
 mod account_name;
 mod event;
+mod goal;
+mod life;
 mod moves;
 mod numbers;
+mod origin;
 mod printing;
+mod ready;
 mod refusal;
 mod reply;
+mod shoen;
+mod task;
 mod user_state;
 
 pub use account_name::AccountName;

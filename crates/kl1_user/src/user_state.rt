@@ -8,8 +8,14 @@ ghost use Rattle.kl1_user.specs.Views.{event_of, reply_of, chosen_of};
 
 use crate::account_name::AccountName;
 use crate::event::Event;
+use crate::goal::Goal;
 use crate::numbers::{ClauseNo, GoalNo};
+use crate::ready::{first_ready, is_any_ready};
 use crate::reply::Reply;
+use crate::shoen::Shoen;
+use kl1_clause::Code;
+use kl1_store::Store;
+use kl1_text::AtomText;
 use std::alloc::{AllocError, Global};
 use std::marker::Model;
 
@@ -17,19 +23,31 @@ use std::marker::Model;
 #[derive(Drop)]
 pub struct UserState {
     name: AccountName,
+    store: Store<AtomText>,
+    goals: Vec<Goal>,
+    shoens: Vec<Shoen>,
+    modules: Vec<Code>,
+    names: Vec<AtomText>,
+    last_goal: u64,
+    entries: u64,
+    alloc: Global,
 }
 
 impl Model for UserState {
     ghost use Rattle.std.specs.Coded.{codes};
     ghost use Rattle.kl1_model.specs.TermCode.{term_code};
     ghost use Rattle.kl1_clause.specs.ModuleCode.{module_code};
-    ghost use Rattle.kl1_model.specs.State.{State, fresh};
+    ghost use Rattle.kl1_model.specs.State.{State};
 
     ghost Value = { State };
 
     ghost coded = { Prim.hlevel (codes, term_code, module_code) };
 
-    ghost view = { λ u. fresh u.name };
+    ghost use Rattle.kl1_user.specs.Accounts.{state_of, IsKept};
+
+    ghost view = { state_of };
+
+    ghost invariant = { IsKept };
 }
 
 impl UserState {
@@ -37,8 +55,19 @@ impl UserState {
     pub fn fresh(alloc: Global, name: AccountName) -> Result<Self, AllocError>
         ensures { IfOk result (λ user. user ≡ fresh name) }
     {
-        let _ = alloc;
-        Ok(UserState { name })
+        let mut store = Store::new(alloc);
+        let _first = store.fresh()?;
+        Ok(UserState {
+            name,
+            store,
+            goals: Vec::new(alloc),
+            shoens: Vec::new(alloc),
+            modules: Vec::new(alloc),
+            names: Vec::new(alloc),
+            last_goal: 0,
+            entries: 0,
+            alloc,
+        })
     }
 
     /// What an event does to the account, and the reply.
@@ -47,6 +76,7 @@ impl UserState {
         ensures err { OnErr result (self.new ≡ self.old) }
     {
         let _ = event;
+        let _ = &self.name;
         Err(AllocError)
     }
 
@@ -54,15 +84,16 @@ impl UserState {
     pub fn pick(&self) -> Option<(GoalNo, ClauseNo)>
         ensures { option_map chosen_of result ≡ first self.now }
     {
-        let _ = &self.name;
-        None
+        match first_ready(&self.goals) {
+            None => None,
+            Some(first) => Some((GoalNo(first.goal), ClauseNo(first.clause))),
+        }
     }
 
     /// Whether no goal can step.
     pub fn quiet(&self) -> bool
         ensures { result ≡ quiet self.now }
     {
-        let _ = &self.name;
-        true
+        !is_any_ready(&self.goals)
     }
 }
