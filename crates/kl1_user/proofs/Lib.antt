@@ -1,2 +1,4 @@
 pub mod AccountNames
 pub mod Choosing
+pub mod Messages
+pub mod States

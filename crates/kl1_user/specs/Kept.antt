@@ -57,9 +57,13 @@ shoen_with t h = record {
 abbrev pub meaning : Held (List ℕ) → Means
 meaning h x = term_of (λ a. a) h x
 
--- a state with these cells, goals and shoens in place of its own
+-- a state with these goals and shoens in place of its own, where cells mean this, and this last variable
+abbrev pub state_with : State → Means → ℕ → List Goal → List Shoen → State
+state_with s t last goals shoens = record s { goals = map (goal_with t) goals; shoens = map (shoen_with t) shoens; last_variable = last }
+
+-- a state with these goals and shoens in place of its own, and the cells of a store
 abbrev pub with_kept : State → Held (List ℕ) → List Goal → List Shoen → State
-with_kept s h goals shoens = record s { goals = map (goal_with (meaning h)) goals; shoens = map (shoen_with (meaning h)) shoens; last_variable = h.variables - 1 }
+with_kept s h goals shoens = state_with s (meaning h) (h.variables - 1) goals shoens
 
 -- the clause by which a task can step
 abbrev pub task_clause : List Module → model.Task → Option ℕ
@@ -71,14 +75,16 @@ abbrev pub IsTaskIn : Held (List ℕ) → Task → Type 0
 IsTaskIn h Monitor = Unit {0}
 IsTaskIn h (Reduces x) = IsIn h x
 
--- the cells of goals are of the store, and their shoens among so many
-pub record IsGoalIn (h : Held (List ℕ)) (count : ℕ) (g : Goal) : Type 0 where
-  pub task : IsTaskIn h g.task
+abbrev pub AreGoalsIn : Held (List ℕ) → List Goal → Type 0
+AreGoalsIn h goals = AllByRecursion (λ g. IsTaskIn h g.task) goals
+
+-- a goal is of one of so many shoens
+pub record IsOwned (count : ℕ) (g : Goal) : Type 0 where
   pub low : 0 < g.shoen
   pub high : g.shoen < suc count
 
-abbrev pub AreGoalsIn : Held (List ℕ) → ℕ → List Goal → Type 0
-AreGoalsIn h count goals = AllByRecursion (IsGoalIn h count) goals
+abbrev pub AreOwned : ℕ → List Goal → Type 0
+AreOwned count goals = AllByRecursion (IsOwned count) goals
 
 -- the cells of what the console keeps are of the store
 pub record IsKeptIn (h : Held (List ℕ)) (o : Origin) : Type 0 where
@@ -96,10 +102,13 @@ pub record IsShoenIn (h : Held (List ℕ)) (s : Shoen) : Type 0 where
   pub tail : IsIn h s.tail
   pub origin : IsOriginIn h s.origin
 
--- the cells of shoens are of the store, and they have the numbers behind this one
-abbrev pub AreShoensIn : Held (List ℕ) → ℕ → List Shoen → Type 0
-AreShoensIn h last [] = Unit {0}
-AreShoensIn h last (s ∷ ss) = (s.number ≡ suc last) × IsShoenIn h s × AreShoensIn h (suc last) ss
+abbrev pub AreShoensIn : Held (List ℕ) → List Shoen → Type 0
+AreShoensIn h shoens = AllByRecursion (IsShoenIn h) shoens
+
+-- shoens have the numbers behind this one, in order
+abbrev pub AreNumbered : ℕ → List Shoen → Type 0
+AreNumbered last [] = Unit {0}
+AreNumbered last (s ∷ ss) = (s.number ≡ suc last) × AreNumbered (suc last) ss
 
 -- each goal stands as the clauses of the modules have it
 abbrev pub IsStanding : Held (List ℕ) → List Module → Goal → Type 0

@@ -3,3 +3,5 @@ pub mod Moves
 pub mod Kept
 pub mod Accounts
 pub mod Readies
+pub mod Works
+pub mod Sendings

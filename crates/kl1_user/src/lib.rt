@@ -12,9 +12,11 @@ mod printing;
 mod ready;
 mod refusal;
 mod reply;
+mod sending;
 mod shoen;
 mod task;
 mod user_state;
+mod work;
 
 pub use account_name::AccountName;
 pub use event::{Event, Query};
