@@ -57,7 +57,7 @@ unbound_past_each vs ss before (b ∷ bs) v le p =
 pub unbound_past : {N : Type 0} (h : Held N) (v : ℕ) → IsFormed h → h.variables ≤ v → is_bound v h.bindings ≡ false
 unbound_past h v p le = unbound_past_each h.variables h.structures [] h.bindings v le p.bound
 
-get_behind : {A : Type 0} (xs : List A) (x : A) → slice_get (xs ++ x ∷ []) (length xs) ≡ Some x
+pub get_behind : {A : Type 0} (xs : List A) (x : A) → slice_get (xs ++ x ∷ []) (length xs) ≡ Some x
 get_behind [] x = refl
 get_behind (y ∷ xs) x = get_behind xs x
 

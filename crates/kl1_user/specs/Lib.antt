@@ -5,3 +5,5 @@ pub mod Accounts
 pub mod Readies
 pub mod Works
 pub mod Sendings
+pub mod Reports
+pub mod Lists

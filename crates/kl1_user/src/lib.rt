@@ -2,19 +2,27 @@
 #![tactic(auto)]
 
 mod account_name;
+mod closing;
+mod committing;
 mod event;
 mod goal;
+mod goals;
 mod life;
 mod moves;
+mod moving;
 mod numbers;
 mod origin;
 mod printing;
+mod raising;
 mod ready;
 mod refusal;
 mod reply;
+mod reporting;
 mod sending;
+mod settling;
 mod shoen;
 mod task;
+mod told;
 mod user_state;
 mod work;
 
