@@ -6,3 +6,4 @@ pub mod Works
 pub mod Tails
 pub mod Pairs
 pub mod Reductions
+pub mod Leavings

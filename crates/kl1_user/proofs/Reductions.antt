@@ -106,19 +106,19 @@ goals_for_owned count last shoen priority (x ∷ xs) a b = (record { low = a; hi
 
 pub filter_in : (h : Held (List ℕ)) (p : Goal → Bool) (gs : List Goal) → AreGoalsIn h gs → AreGoalsIn h (filter p gs)
 filter_in h p [] i = tt
-filter_in h p (g ∷ gs) i = kept (p g)
+filter_in h p (g ∷ gs) i = kept (p g) (filter_in h p gs i.1)
   where
-    kept : (b : Bool) → AreGoalsIn h (if b then g ∷ filter p gs else filter p gs)
-    kept true = (i.0, filter_in h p gs i.1)
-    kept false = filter_in h p gs i.1
+    kept : (b : Bool) → AreGoalsIn h (filter p gs) → AreGoalsIn h (if b then g ∷ filter p gs else filter p gs)
+    kept true j = (i.0, j)
+    kept false j = j
 
 pub filter_owned : (count : ℕ) (p : Goal → Bool) (gs : List Goal) → AreOwned count gs → AreOwned count (filter p gs)
 filter_owned count p [] i = tt
-filter_owned count p (g ∷ gs) i = kept (p g)
+filter_owned count p (g ∷ gs) i = kept (p g) (filter_owned count p gs i.1)
   where
-    kept : (b : Bool) → AreOwned count (if b then g ∷ filter p gs else filter p gs)
-    kept true = (i.0, filter_owned count p gs i.1)
-    kept false = filter_owned count p gs i.1
+    kept : (b : Bool) → AreOwned count (filter p gs) → AreOwned count (if b then g ∷ filter p gs else filter p gs)
+    kept true j = (i.0, j)
+    kept false j = j
 
 -- ---- a goal that commits
 

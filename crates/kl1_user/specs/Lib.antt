@@ -7,3 +7,4 @@ pub mod Works
 pub mod Sendings
 pub mod Reports
 pub mod Lists
+pub mod Leaving
