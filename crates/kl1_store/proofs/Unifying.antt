@@ -31,4 +31,5 @@ pub unifies : {N : Type 0} (built : BuiltIn → N) (old new : Held N) (x y : Cel
 unifies built old new x y p s = (
   λ f reads last le. let m = s f reads last le in record { replacements = m.made; solves = m.solves; everywhere = λ z. made_everywhere f old new m.made z p m.replacements },
   Grown-bound old new p,
+  p.variables,
 )

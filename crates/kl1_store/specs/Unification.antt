@@ -19,5 +19,5 @@ pub record IsSolved {N : Type 0} (f : N → List ℕ) (last : ℕ) (old new : He
 
 -- what unification promises
 abbrev pub UnifiesAs : {N : Type 0} → (BuiltIn → N) → Held N → Held N → Cell N → Cell N → Unified → Type 0
-UnifiesAs built old new x y Bound = ForEachReading built old (λ f last. IsSolved f last old new x y) × Grown old new
+UnifiesAs built old new x y Bound = ForEachReading built old (λ f last. IsSolved f last old new x y) × Grown old new × (new.variables ≡ old.variables)
 UnifiesAs built old new x y Clash = ForEachReading built old (λ f last. solve last (equation_of f old x y) ≡ None) × (new ≡ old)

@@ -4,3 +4,11 @@ pub mod UsedNames
 pub mod StartLines
 pub mod Shapes
 pub mod Trying
+pub mod Choosing
+pub mod Messages
+pub mod States
+pub mod Works
+pub mod Tails
+pub mod Pairs
+pub mod Reductions
+pub mod Leavings

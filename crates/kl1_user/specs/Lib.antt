@@ -3,3 +3,11 @@ pub mod Moves
 pub mod NextNode
 pub mod Calls
 pub mod Candidates
+pub mod Kept
+pub mod Accounts
+pub mod Readies
+pub mod Works
+pub mod Sendings
+pub mod Reports
+pub mod Lists
+pub mod Leaving
