@@ -18,12 +18,6 @@ use Rattle.kl1_match.specs.Steps.{step_code, Agrees, PutsStep}
 use Rattle.kl1_match.specs.Built.{IsWithinRow, AreBelow, BuildsRow}
 use Rattle.kl1_match.proofs.Steps.{within_at}
 
--- a name at a place is read as the text at that place
-pub name_is : {N : Type 0} (f : N → List ℕ) (names : List N) (k : ℕ) (d : N) → k < length names → f (slice_index_or names k d) ≡ slice_index_or (map f names) k []
-name_is f [] k d h = absurd (omega (arith, h))
-name_is f (x ∷ xs) zero d h = refl
-name_is f (x ∷ xs) (suc k) d h = name_is f xs k d (omega (arith, h))
-
 -- a store that has grown has the structures that it had
 pub longer : {N : Type 0} (a b : Held N) → Grown a b → length a.structures ≤ length b.structures
 longer a b g = let e = ap length g.structures in omega (arith, e, length-take (length a.structures) b.structures)

@@ -4,33 +4,22 @@ ghost use Rattle.std.specs.Prelude.{◌≡◌, ℕ, ◌<◌, List, [], length, m
 ghost use Rattle.kl1_text.specs.Reading.{Reads};
 ghost use Rattle.kl1_store.specs.Held.{AreIn};
 ghost use Rattle.kl1_store.specs.Sound.{Grown};
-ghost use Rattle.kl1_clause.specs.Instructions.{IsPlaced, IsNamed, AreNamed, text_in, code_in};
+ghost use Rattle.kl1_clause.specs.Instructions.{IsNamed, AreNamed, code_in};
 ghost use Rattle.kl1_match.specs.Instances.{IsClause, AreThere, IsInstance};
 ghost use Rattle.kl1_match.specs.Steps.{step_code, IsBelow};
 ghost use Rattle.kl1_match.specs.Variables.{AreVariables};
 ghost use Rattle.kl1_match.specs.Built.{IsWithinRow, AreBelow, BuildsRow};
 
 use crate::building::put_step;
+use crate::name_in::name_at;
 use crate::place::Place;
 use crate::step::Step;
 use crate::variables::{put_fresh, set_places};
-use kl1_clause::{CompiledClause, Instruction, Name};
+use kl1_clause::{CompiledClause, Instruction};
 use kl1_model::BuiltIn;
 use kl1_store::{Cell, Store};
 use kl1_text::NameValue;
 use std::alloc::{AllocError, Global};
-
-/// The name that a name of a code stands for, where these are the names for the places of the code's list.
-#[tactic(auto, using(crate::proofs::Built::name_is))]
-pub(crate) fn name_in<N: NameValue>(names: &[N], name: Name) -> N
-    requires { IsPlaced (length names.now) name }
-    ensures { (f : N → List ℕ) → Reads N.built f → f result ≡ text_in (map f names.now) name }
-{
-    match name {
-        Name::Language(built_in) => N::of(built_in),
-        Name::Place(place) => names[place],
-    }
-}
 
 /// The step that an instruction stands for.
 fn step_in<N: NameValue>(names: &[N], instruction: Instruction) -> Step<N>
@@ -41,8 +30,8 @@ fn step_in<N: NameValue>(names: &[N], instruction: Instruction) -> Step<N>
     match instruction {
         Instruction::Variable(number) => Step::Variable(number),
         Instruction::Integer(number) => Step::Integer(number),
-        Instruction::Atom(name) => Step::Atom(name_in(names, name)),
-        Instruction::Structure(name, count) => Step::Structure(name_in(names, name), count),
+        Instruction::Atom(name) => Step::Atom(name_at(names, name)),
+        Instruction::Structure(name, count) => Step::Structure(name_at(names, name), count),
     }
 }
 
