@@ -1,7 +1,7 @@
 // Which clauses may follow others.
 
-ghost use Rattle.std.specs.Prelude.{◌≡◌, ◌==◌, ◌&&◌, map, length, bytes_eq};
-ghost use Rattle.kl1_model.specs.Module.{may_follow};
+ghost use Rattle.std.specs.Prelude.{◌≡◌, nat_lt, length, map};
+ghost use Rattle.kl1_model.specs.Module.{most_clauses, may_follow};
 ghost use Rattle.kl1_read.specs.Sources.{clause_of_parts};
 ghost use Rattle.kl1_read.specs.Followings.{is_one_of, ends_with, holds};
 
@@ -15,11 +15,18 @@ const MOST_CLAUSES: usize = 512;
 pub(crate) fn may_follow(before: &[ClauseParts], clause: &ClauseParts) -> bool
     ensures { result ≡ may_follow (map clause_of_parts before.now) (clause_of_parts clause.now) }
 {
-    if before.len() >= MOST_CLAUSES {
+    if !has_room(before) {
         return false;
     }
     let count = clause.patterns.len();
     ends_with(before, &clause.name, count) || !holds(before, &clause.name, count)
+}
+
+/// Whether one clause more may be in a module with these.
+fn has_room(clauses: &[ClauseParts]) -> bool
+    ensures { result ≡ nat_lt (length clauses.now) most_clauses }
+{
+    clauses.len() < MOST_CLAUSES
 }
 
 /// Whether the last of clauses is one of a predicate.
