@@ -154,3 +154,9 @@ no_name names = sym (with_none names)
 
 pub one_name : (names now : List (List ℕ)) (name : List ℕ) → now ≡ with_text names name → now ≡ with_texts names (name ∷ [])
 one_name names now name e = e ∙ sym (with_one names name)
+
+-- the names before others were put are the first
+pub front_is : (names texts now : List (List ℕ)) (n : ℕ) → now ≡ with_names names texts → n ≡ length names → take n now ≡ names
+front_is names texts now n is e =
+    ap (take n) is
+    ∙ (ap (λ m. take m (with_names names texts)) e ∙ (ap (take (length names)) (sym (opened names texts)) ∙ grown_front names (with_texts names texts) (all_grow names texts)))

@@ -12,6 +12,7 @@ mod goals;
 mod kind;
 mod life;
 mod limits;
+mod loading;
 mod moves;
 mod moving;
 mod numbers;
