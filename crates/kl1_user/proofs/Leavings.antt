@@ -27,7 +27,8 @@ use Rattle.kl1_user.specs.Kept.{Means, meaning, task_with, goal_with, shoen_with
 use Rattle.kl1_user.specs.Lists.{is_other, has_number, stood}
 use Rattle.kl1_user.specs.Moves.{move_by, MovesAs}
 use Rattle.kl1_user.specs.Works.{worked, IsWorkIn, HasPlace, Turns}
-use Rattle.kl1_user.specs.Leaving.{Leaves, reduced_to}
+use Rattle.kl1_user.specs.declared.refusal.Refusal.TheVariants as refusal
+use Rattle.kl1_user.specs.Leaving.{Leaves, reduced_to, IsAt, IsDone, IsRefused}
 use Rattle.kl1_user.proofs.Reductions.{others_read, filter_in, filter_owned}
 
 -- ---- the goal of a number
@@ -228,3 +229,44 @@ found_number n (x ∷ gs) g e = by_case (cases_Bool (x.number == n)) (found_numb
 
 pub found_again : (n : ℕ) (gs : List Goal) (g : Goal) → find (has_number n) gs ≡ Some g → find (has_number g.number) gs ≡ Some g
 found_again n gs g e = ap (λ m. find (has_number m) gs) (found_number n gs g e) ∙ e
+
+-- ---- what comes of reducing the goal of a number
+
+pub comes_to_syntax : (h k : Held (List ℕ)) (ms : List Module) (gs : List Goal) (ss : List Shoen) (last entries n c : ℕ) → k ≡ h → (is_number n && is_number c) ≡ false → IsRefused h k ms gs ss last entries n c refusal.Syntax
+comes_to_syntax h k ms gs ss last entries n c e b = record { same = e; steps = λ s at. steps_syntax s n c b }
+
+goals_of : (s : State) (h : Held (List ℕ)) (ms : List Module) (gs : List Goal) (ss : List Shoen) (last entries : ℕ) → IsAt s h ms gs ss last entries → Keeps s h gs
+goals_of s h ms gs ss last entries at = ap (λ (z : State). z.goals) at.kept
+
+pub comes_to_nowhere : (h k : Held (List ℕ)) (ms : List Module) (gs : List Goal) (ss : List Shoen) (last entries n c : ℕ) → k ≡ h → (is_number n && is_number c) ≡ true → find (has_number n) gs ≡ None → IsRefused h k ms gs ss last entries n c refusal.Step
+comes_to_nowhere h k ms gs ss last entries n c e b f = record { same = e; steps = λ s at. kept_nowhere s h gs n c (goals_of s h ms gs ss last entries at) b f }
+
+pub comes_to_monitor : (h k : Held (List ℕ)) (ms : List Module) (gs : List Goal) (ss : List Shoen) (last entries n c : ℕ) (g : Goal) → k ≡ h → (is_number n && is_number c) ≡ true → find (has_number n) gs ≡ Some g → g.task ≡ Monitor → IsRefused h k ms gs ss last entries n c refusal.Step
+comes_to_monitor h k ms gs ss last entries n c g e b f t = record { same = e; steps = λ s at. kept_monitor s h gs n c g (goals_of s h ms gs ss last entries at) b f t }
+
+pub comes_to_none : (h k : Held (List ℕ)) (ms : List Module) (gs : List Goal) (ss : List Shoen) (last entries n c : ℕ) (g : Goal) (x : Cell (List ℕ)) → k ≡ h → (is_number n && is_number c) ≡ true → find (has_number n) gs ≡ Some g → g.task ≡ Reduces x → move_by ms (meaning h x) c ≡ None →
+    IsRefused h k ms gs ss last entries n c refusal.Step
+comes_to_none h k ms gs ss last entries n c g x e b f t m =
+    record { same = e; steps = λ s at. kept_not s h gs n c g x (goals_of s h ms gs ss last entries at) b f t (ap (λ z. move_by z (meaning h x) c) at.modules_are ∙ m) }
+
+pub comes_to_full : (h k : Held (List ℕ)) (ms : List Module) (gs : List Goal) (ss : List Shoen) (last entries n c : ℕ) (g : Goal) (x : Cell (List ℕ)) (made : Move) → k ≡ h → (is_number n && is_number c) ≡ true → find (has_number n) gs ≡ Some g → g.task ≡ Reduces x →
+    MovesAs h ms (meaning h x) c (Some made) → most_entries ≤ entries → IsRefused h k ms gs ss last entries n c refusal.Journal
+comes_to_full h k ms gs ss last entries n c g x made e b f t m le =
+    let found = found_move h ms (meaning h x) c made m in
+    record { same = e; steps = λ s at.
+      let there = at.entries_are in
+      kept_full s h gs n c g x found.0 (goals_of s h ms gs ss last entries at) b f t (ap (λ z. move_by z (meaning h x) c) at.modules_are ∙ found.1) (omega arith) }
+
+pub comes_on : (h k : Held (List ℕ)) (ms : List Module) (gs : List Goal) (ss : List Shoen) (last entries n c : ℕ) (g : Goal) (x : Cell (List ℕ)) (made : Move) (w : Work) → (is_number n && is_number c) ≡ true → find (has_number n) gs ≡ Some g → g.task ≡ Reduces x →
+    MovesAs h ms (meaning h x) c (Some made) → entries < most_entries → ((m : reduction.Move) → move_by ms (meaning h x) c ≡ Some m → Leaves k ms ss w (reduced_to h gs ss last g x m)) → IsDone h k ms gs ss last entries n c w
+comes_on h k ms gs ss last entries n c g x made w b f t m lt leaves =
+    let found = found_move h ms (meaning h x) c made m in
+    record {
+      change = reduced_to h gs ss last g x found.0;
+      leaves = leaves found.0 found.1;
+      room = lt;
+      steps = λ s at.
+        let there = at.entries_are in
+        kept_on s h gs n c g x found.0 (goals_of s h ms gs ss last entries at) b f t (ap (λ z. move_by z (meaning h x) c) at.modules_are ∙ found.1) (omega arith)
+        ∙ ap (λ (z : State). let y : Stepped = record { state = settle g.shoen (moved (goal_with (meaning h) g) (meaning h x) found.0 (without_goal g.number (with_entry z))); reply = reduced } in y) at.kept;
+    }

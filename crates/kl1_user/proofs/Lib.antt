@@ -7,3 +7,5 @@ pub mod Tails
 pub mod Pairs
 pub mod Reductions
 pub mod Leavings
+pub mod Origins
+pub mod Keeping

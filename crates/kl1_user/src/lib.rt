@@ -13,6 +13,7 @@ mod moves;
 mod moving;
 mod numbers;
 mod origin;
+mod outcome;
 mod printing;
 mod raising;
 mod ready;
