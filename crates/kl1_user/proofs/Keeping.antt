@@ -1,9 +1,8 @@
 -- What holds of an account after a change is put in place.
-use Rattle.std.proofs.Common.{◌≡◌, ℕ, suc, ◌+◌, ◌-◌, ◌<◌, List, [], length, map, set, Vec, Global, refl, sym, ap, ◌∙◌, arith, subst, length-set}
+use Rattle.std.proofs.Common.{◌≡◌, ℕ, suc, ◌+◌, ◌-◌, ◌<◌, List, length, map, Vec, Global, refl, sym, ap, ◌∙◌, arith, subst, length-set}
 use Rattle.std.specs.Prelude.{slice_set}
 use Rattle.kl1_model.specs.Module.{Module}
 use Rattle.kl1_model.specs.State.{State}
-use Rattle.kl1_model.specs.State as model
 use Rattle.kl1_model.specs.Event.{reduce, reduced, refuse, with_entry, Stepped}
 use Rattle.kl1_model.specs.Step.{step}
 use Rattle.kl1_store.specs.Held.{Held}
@@ -18,7 +17,6 @@ use Rattle.kl1_user.specs.declared.user_state.UserState.TheInside.{Inside}
 use Rattle.kl1_user.specs.Accounts.{state_of, IsKept}
 use Rattle.kl1_user.specs.Views.{refusal_of}
 use Rattle.kl1_user.specs.Kept.{meaning, goal_with, shoen_with, AreGoalsIn, AreOwned, AreShoensIn, AreNumbered, AreStanding}
-use Rattle.kl1_user.specs.Works.{worked}
 use Rattle.kl1_user.specs.Leaving.{Leaves, IsAt, IsDone, IsRefused, ReducesAs}
 use Rattle.kl1_user.proofs.States.{shoens_grown, shoens_set, numbered_set}
 

@@ -1,6 +1,6 @@
 -- What a reduction leaves, from what is made of the goals without the reduced one.
-use Rattle.std.proofs.Common.{◌≡◌, true, false, if◌then◌else◌, get_or, ℕ, zero, suc, ◌+◌, ◌-◌, ◌<◌, ◌≤◌, ◌==◌, not, ◌&&◌, ◌||◌, Bool, List, [], ◌∷◌, ◌++◌, length, map, set, codes, refl, sym, ap, ◌∙◌, arith, subst, ◌⊎◌, inl, inr}
-use Rattle.std.specs.Prelude.{Some, None, Option, option_map, filter, find, slice_get, slice_set, nat_lt}
+use Rattle.std.proofs.Common.{◌≡◌, true, false, if◌then◌else◌, get_or, ℕ, zero, suc, ◌+◌, ◌-◌, ◌<◌, ◌≤◌, ◌==◌, ◌&&◌, Bool, List, [], ◌∷◌, length, map, refl, sym, ap, ◌∙◌, arith, subst, ◌⊎◌, inl, inr}
+use Rattle.std.specs.Prelude.{Some, None, Option, option_map, filter, find, slice_set, nat_lt}
 use Rattle.std.proofs.lemmas.List.{set-get_or}
 use Rattle.std.proofs.lemmas.Bool.{cases_Bool, eqb-true, lt-ltb, le-ltb}
 use Rattle.kl1_model.specs.Term.{Term}
@@ -9,15 +9,13 @@ use Rattle.kl1_user.specs.declared.moves.Move.TheVariants as made
 use Rattle.kl1_model.specs.Module.{Module}
 use Rattle.kl1_model.specs.State as model
 use Rattle.kl1_model.specs.State.{State, goal_at, without_goal}
-use Rattle.kl1_model.specs.Event.{reduce, Stepped, refuse, syntax, step_refused, journal_full, reduced, is_number, most_entries, with_entry, recorded}
+use Rattle.kl1_model.specs.Event.{reduce, Stepped, refuse, syntax, step_refused, journal_full, reduced, is_number, most_entries, with_entry}
 use Rattle.kl1_model.specs.Step.{step}
-use Rattle.kl1_model.specs.Match.{call_of}
 use Rattle.kl1_model.specs.Report.{settle}
 use Rattle.kl1_model.specs.Reduction as reduction
 use Rattle.kl1_model.specs.Reduction.{moved, reduce_goal, reduced_by, effect_of}
 use Rattle.kl1_store.specs.declared.cell.Cell.{Cell}
 use Rattle.kl1_store.specs.Held.{Held, IsIn}
-use Rattle.kl1_store.specs.Sound.{Grown}
 use Rattle.kl1_user.specs.declared.task.Task.{Task}
 use Rattle.kl1_user.specs.declared.task.Task.TheVariants.{Monitor, Reduces}
 use Rattle.kl1_user.specs.declared.goal.Goal.{Goal}
@@ -26,7 +24,7 @@ use Rattle.kl1_user.specs.declared.work.Work.{Work}
 use Rattle.kl1_user.specs.Kept.{Means, meaning, task_with, goal_with, shoen_with, with_kept, IsTaskIn, AreGoalsIn, IsOwned, AreOwned, IsShoenIn, AreShoensIn, AreNumbered, AreStanding}
 use Rattle.kl1_user.specs.Lists.{is_other, has_number, stood}
 use Rattle.kl1_user.specs.Moves.{move_by, MovesAs}
-use Rattle.kl1_user.specs.Works.{worked, IsWorkIn, HasPlace, Turns}
+use Rattle.kl1_user.specs.Works.{IsWorkIn, HasPlace, Turns}
 use Rattle.kl1_user.specs.declared.refusal.Refusal.TheVariants as refusal
 use Rattle.kl1_user.specs.Leaving.{Leaves, reduced_to, IsAt, IsDone, IsRefused}
 use Rattle.kl1_user.proofs.Reductions.{others_read, filter_in, filter_owned}

@@ -4,12 +4,12 @@ use Rattle.std.specs.Prelude.{Option, Some, None, option_map, option_and_then, f
 use Rattle.kl1_model.specs.Print.{print, cut_text}
 use Rattle.kl1_model.specs.State as model
 use Rattle.kl1_model.specs.State.{State, shoen_at}
-use Rattle.kl1_model.specs.Event.{no_shoen, syntax, shown, refuse, read, value, Reply, Stepped, is_number}
+use Rattle.kl1_model.specs.Event.{no_shoen, syntax, shown, refuse, read, value, Stepped, is_number}
 use Rattle.kl1_model.specs.Step.{step, value_of, origin_at}
 use Rattle.kl1_store.specs.Held.{Held}
 use Rattle.kl1_user.specs.declared.origin.Origin.{Origin}
 use Rattle.kl1_user.specs.declared.shoen.Shoen.{Shoen}
-use Rattle.kl1_user.specs.Kept.{Means, meaning, shoen_with, origin_with, IsOriginIn, IsKeptIn, IsShoenIn, AreShoensIn}
+use Rattle.kl1_user.specs.Kept.{Means, meaning, shoen_with, origin_with, IsOriginIn, IsKeptIn, AreShoensIn}
 
 -- what the console keeps of the shoen of a number
 abbrev pub kept_at : ℕ → List Shoen → Option Origin

@@ -1,34 +1,31 @@
 -- Structures of two parts that are built.
-use Rattle.std.proofs.Common.{◌≡◌, true, false, if◌then◌else◌, ℕ, suc, ◌+◌, ◌-◌, ◌<◌, ◌≤◌, List, [], ◌∷◌, ◌++◌, length, codes, refl, sym, ap, ◌∙◌, arith, subst}
-use Rattle.std.specs.Prelude.{Some, None, Option, slice_get, slice_set}
+use Rattle.std.proofs.Common.{◌≡◌, true, false, if◌then◌else◌, ℕ, suc, ◌-◌, List, [], ◌∷◌, length, codes, refl, sym, ap, ◌∙◌, arith, subst}
+use Rattle.std.specs.Prelude.{Some, None, slice_get, slice_set}
 use Rattle.kl1_model.specs.Text.{text_of}
-use Rattle.kl1_model.specs.Term.{Term, variable, integer, atom, structure, none, more, replace, Replacement, replaced}
+use Rattle.kl1_model.specs.Term.{Term, variable, atom, structure, none, more, Replacement, replaced}
 use Rattle.kl1_model.specs.Meaning.{nil}
-use Rattle.kl1_model.specs.State as model
-use Rattle.kl1_model.specs.State.{State, replace_in_state, replace_all}
+use Rattle.kl1_model.specs.State.{State, replace_all}
 use Rattle.kl1_model.specs.Unify.{Equation, solve, solve_within, walk}
 use Rattle.kl1_model.specs.Report.{report, exception, close, close_of, closed_at}
 use Rattle.kl1_model.specs.Reduction.{failure, unified, equation}
 use Rattle.kl1_store.specs.declared.cell.Cell.{Cell}
 use Rattle.kl1_store.specs.declared.cell.Cell.TheVariants.{Variable, Integer, Atom, Structure}
-use Rattle.kl1_store.specs.declared.unified.Unified.{Unified}
 use Rattle.kl1_store.specs.declared.unified.Unified.TheVariants.{Bound, Clash}
-use Rattle.kl1_store.specs.Held.{Shape, Held, IsIn, AreIn, IsWalked, is_bound, with_structure, arguments_of, shape_arguments}
-use Rattle.kl1_store.specs.Meaning.{term_of, terms_of}
+use Rattle.kl1_store.specs.Held.{Shape, Held, IsIn, IsWalked, is_bound, with_structure, arguments_of, shape_arguments}
+use Rattle.kl1_store.specs.Meaning.{terms_of}
 use Rattle.kl1_store.specs.Sound.{IsFormed, Grown}
 use Rattle.kl1_store.specs.Unification.{UnifiesAs}
 use Rattle.kl1_store.specs.Unifies.{equation_of}
 use Rattle.kl1_store.proofs.Growing.{IsFormed-structure}
 use Rattle.kl1_store.proofs.Grows.{Grown-structure, Grown-trans}
 use Rattle.kl1_store.proofs.Terms.{term_of-structure, term_of-unbound, term_of-Structure, term_of-Integer, term_of-Atom}
-use Rattle.kl1_user.specs.declared.goal.Goal.{Goal}
 use Rattle.kl1_user.specs.declared.shoen.Shoen.{Shoen}
 use Rattle.kl1_user.specs.declared.work.Work.{Work}
-use Rattle.kl1_user.specs.Kept.{Means, meaning, shoen_with}
+use Rattle.kl1_user.specs.Kept.{Means, meaning}
 use Rattle.kl1_user.specs.Sendings.{IsEnded}
 use Rattle.kl1_user.specs.Works.{worked, IsWorkIn, HasPlace, Turns}
 use Rattle.kl1_user.proofs.Messages.{reads_texts, get_behind, one_equation, solved_by}
-use Rattle.kl1_user.proofs.States.{Agree, replaced_state, all_replaced, in_grown, goals_grown, shoen_grown}
+use Rattle.kl1_user.proofs.States.{Agree, all_replaced, goals_grown, shoen_grown}
 use Rattle.kl1_user.proofs.Tails.{BreaksOff, structure_is}
 use Rattle.kl1_user.proofs.Works.{read_as, finds, rereads, turns_then, turns_as}
 

@@ -1,6 +1,6 @@
 -- What a reduction makes of the goals and of the shoen at work.
-use Rattle.std.proofs.Common.{◌≡◌, true, false, if◌then◌else◌, get_or, ℕ, zero, suc, ◌+◌, ◌-◌, ◌<◌, ◌≤◌, ◌==◌, not, ◌&&◌, ◌||◌, Bool, List, [], ◌∷◌, ◌++◌, length, map, codes, refl, sym, ap, ◌∙◌, arith, subst, length-append}
-use Rattle.std.specs.Prelude.{Some, None, Option, filter, slice_get, slice_set}
+use Rattle.std.proofs.Common.{◌≡◌, true, false, if◌then◌else◌, get_or, ℕ, zero, suc, ◌+◌, ◌-◌, ◌<◌, ◌==◌, not, ◌&&◌, ◌||◌, Bool, List, [], ◌∷◌, ◌++◌, length, map, codes, refl, sym, ap, ◌∙◌, arith, subst}
+use Rattle.std.specs.Prelude.{Some, filter, slice_get, slice_set}
 use Rattle.std.specs.List.{list_any}
 use Rattle.std.proofs.lemmas.List.{map-append, map-id}
 use Rattle.kl1_model.specs.Text.{text_of}
@@ -11,12 +11,10 @@ use Rattle.kl1_model.specs.Instance.{body_instance, fresh_variables}
 use Rattle.kl1_model.specs.State as model
 use Rattle.kl1_model.specs.State.{State, change_shoen, is_living}
 use Rattle.kl1_model.specs.Report.{report, close, terminate, settle, settle_of, without_monitor}
-use Rattle.kl1_model.specs.Report as reports
 use Rattle.kl1_model.specs.Reduction.{goals_from, committed}
 use Rattle.kl1_store.specs.declared.cell.Cell.{Cell}
 use Rattle.kl1_store.specs.declared.cell.Cell.TheVariants.{Atom}
-use Rattle.kl1_store.specs.Held.{Held, IsIn, AreIn}
-use Rattle.kl1_store.specs.Meaning.{term_of}
+use Rattle.kl1_store.specs.Held.{Held, AreIn}
 use Rattle.kl1_store.specs.ComparesEach.{term_list}
 use Rattle.kl1_store.specs.Sound.{Grown}
 use Rattle.kl1_store.proofs.Grows.{Grown-same}
@@ -28,15 +26,14 @@ use Rattle.kl1_match.specs.Instances.{IsInstance, replacements_of}
 use Rattle.kl1_user.specs.declared.task.Task.{Task}
 use Rattle.kl1_user.specs.declared.task.Task.TheVariants.{Monitor, Reduces}
 use Rattle.kl1_user.specs.declared.goal.Goal.{Goal}
-use Rattle.kl1_user.specs.declared.life.Life.{Life}
 use Rattle.kl1_user.specs.declared.life.Life.TheVariants.{Living, Terminated}
 use Rattle.kl1_user.specs.declared.shoen.Shoen.{Shoen}
 use Rattle.kl1_user.specs.declared.work.Work.{Work}
-use Rattle.kl1_user.specs.Kept.{Means, meaning, task_with, goal_with, shoen_with, life_of, AreGoalsIn, IsOwned, AreOwned, IsShoenIn}
-use Rattle.kl1_user.specs.Lists.{is_monitor, is_monitor_task, is_monitor_of, is_goal_of, is_other, goals_for}
+use Rattle.kl1_user.specs.Kept.{Means, meaning, task_with, goal_with, shoen_with, life_of, AreGoalsIn, AreOwned, IsShoenIn}
+use Rattle.kl1_user.specs.Lists.{is_monitor_task, is_monitor_of, is_goal_of, is_other, goals_for}
 use Rattle.kl1_user.specs.Works.{worked, IsWorkIn, HasPlace, Turns}
 use Rattle.kl1_user.proofs.Messages.{reads_texts}
-use Rattle.kl1_user.proofs.States.{Agree, same_goals, same_shoens, in_grown, goals_grown, shoen_grown, shoens_set}
+use Rattle.kl1_user.proofs.States.{Agree, same_goals, same_shoens, goals_grown, shoen_grown, shoens_set}
 use Rattle.kl1_user.proofs.Works.{read_as, finds, changes, turns_then, turns_as}
 
 -- ---- lists of goals as they are read

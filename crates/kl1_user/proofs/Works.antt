@@ -1,7 +1,7 @@
 -- What is made of an account, one change after another.
-use Rattle.std.proofs.Common.{◌≡◌, ℕ, suc, ◌+◌, ◌-◌, ◌<◌, ◌≤◌, ◌==◌, Bool, true, false, if◌then◌else◌, List, [], ◌∷◌, ◌++◌, length, map, refl, sym, ap, ◌∙◌, arith, subst}
-use Rattle.std.specs.Prelude.{Option, Some, None, slice_set}
-use Rattle.kl1_model.specs.Term.{Term, variable, integer, atom, structure, occurs, replace}
+use Rattle.std.proofs.Common.{◌≡◌, ℕ, suc, ◌-◌, true, if◌then◌else◌, List, refl, sym, ap, ◌∙◌, arith, subst}
+use Rattle.std.specs.Prelude.{Some, slice_set}
+use Rattle.kl1_model.specs.Term.{Term, variable, integer, atom, structure, replace}
 use Rattle.kl1_model.specs.Meaning.{cell}
 use Rattle.kl1_model.specs.State as model
 use Rattle.kl1_model.specs.State.{State, shoen_at, change_shoen, replace_in_state}
@@ -15,10 +15,10 @@ use Rattle.kl1_user.specs.declared.goal.Goal.{Goal}
 use Rattle.kl1_user.specs.declared.told.Told.{Told}
 use Rattle.kl1_user.specs.declared.told.Told.TheVariants.{Dropped, Broken, Sent}
 use Rattle.kl1_user.specs.declared.work.Work.{Work}
-use Rattle.kl1_user.specs.Kept.{Means, meaning, shoen_with, goal_with, state_with, with_kept, AreGoalsIn, AreOwned, IsShoenIn}
+use Rattle.kl1_user.specs.Kept.{Means, meaning, shoen_with, state_with, AreGoalsIn, IsShoenIn}
 use Rattle.kl1_user.specs.Works.{worked, IsWorkIn, HasPlace, Turns}
 use Rattle.kl1_user.specs.Reports.{Breaks, ToldAs, after_report}
-use Rattle.kl1_user.proofs.States.{Agree, same_state, replaced_state, found_at, changed_to, changed_at, in_grown, goals_grown, shoen_grown, shoens_grown, shoens_set}
+use Rattle.kl1_user.proofs.States.{Agree, same_state, replaced_state, found_at, changed_at, goals_grown, shoen_grown, shoens_grown, shoens_set}
 
 -- ---- changes one after another
 

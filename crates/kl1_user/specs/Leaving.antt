@@ -1,5 +1,5 @@
 -- What is left of an account after a change, before it is put in place.
-use Rattle.std.specs.Prelude.{◌≡◌, ℕ, suc, ◌<◌, List, length, Option, Some}
+use Rattle.std.specs.Prelude.{◌≡◌, ℕ, ◌<◌, List, length, Some}
 use Rattle.kl1_model.specs.Module.{Module}
 use Rattle.kl1_model.specs.State.{State, without_goal}
 use Rattle.kl1_model.specs.Report.{settle}

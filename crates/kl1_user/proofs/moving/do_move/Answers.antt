@@ -1,16 +1,14 @@
-use Rattle.std.proofs.Common.{◌≡◌, ◌<◌, ℕ, List, [], length, refl, sym, ap, ◌∙◌, arith, subst}
-use Rattle.std.specs.Prelude.{Option, Some}
-use Rattle.kl1_model.specs.Module.{Clause}
+use Rattle.std.proofs.Common.{◌≡◌, ◌<◌, ℕ, List, [], length, sym, ap, ◌∙◌, arith, subst}
+use Rattle.std.specs.Prelude.{Some}
 use Rattle.kl1_model.specs.State.{with_names, names_of_module}
 use Rattle.kl1_model.specs.Reduction as model
 use Rattle.kl1_model.specs.Reduction.{moved, commits}
-use Rattle.kl1_clause.specs.Clauses.{IsCompiled, AreCompiled}
+use Rattle.kl1_clause.specs.Clauses.{IsCompiled}
 use Rattle.kl1_match.specs.declared.place.Place.{Place}
 use Rattle.kl1_match.specs.Instances.{replacements_of}
 use Rattle.kl1_user.specs.declared.moves.Move.{Move}
-use Rattle.kl1_user.specs.declared.moves.Move.TheVariants.{Commits}
 use Rattle.kl1_user.specs.Kept.{meaning, goal_with}
-use Rattle.kl1_user.specs.Moves.{MovesAs, move_by}
+use Rattle.kl1_user.specs.Moves.{MovesAs}
 use Rattle.kl1_user.specs.Works.{Turns}
 use Rattle.kl1_user.proofs.Reductions.{is_taken}
 use Rattle.kl1_user.proofs.moving.do_move.Goals as goal

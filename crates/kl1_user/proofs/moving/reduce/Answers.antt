@@ -1,4 +1,3 @@
-use Rattle.std.proofs.Common.{sym}
 use Rattle.kl1_model.specs.Reduction.{moved}
 use Rattle.kl1_user.specs.Kept.{meaning, goal_with}
 use Rattle.kl1_user.proofs.Reductions.{reduced_turns}

@@ -1,5 +1,5 @@
 use Rattle.std.proofs.Common.{refl, subst}
-use Rattle.std.specs.Prelude.{Option, Some, None}
+use Rattle.std.specs.Prelude.{Option}
 use Rattle.kl1_user.specs.declared.moves.Move.{Move}
 use Rattle.kl1_user.specs.Kept.{meaning}
 use Rattle.kl1_user.specs.Moves.{MovesAs}

@@ -1,5 +1,4 @@
-use Rattle.std.proofs.Common.{◌≡◌, ◌-◌, ◌<◌, ◌≤◌, ℕ, suc, List, map, length, get_or, refl, sym, ap, ◌∙◌, arith}
-use Rattle.std.specs.Prelude.{filter}
+use Rattle.std.proofs.Common.{◌≡◌, ◌-◌, ◌<◌, ◌≤◌, suc, map, length, refl, ap, ◌∙◌, arith}
 use Rattle.kl1_model.specs.Report.{settle}
 use Rattle.kl1_model.specs.Reduction.{moved}
 use Rattle.kl1_user.specs.declared.work.Work.{Work}

@@ -1,6 +1,5 @@
 use Rattle.std.proofs.Common.{List, ℕ, ◌∙◌}
 use Rattle.kl1_store.specs.declared.unified.Unified.TheVariants.{Bound, Clash}
-use Rattle.kl1_store.specs.Held.{Held}
 use Rattle.kl1_store.specs.Hooks.{Kept}
 use Rattle.kl1_user.proofs.Messages.{is_sent, never_sent, grown_sent, unified_as, grown_message, same_hooks}
 use Rattle.kl1_user.proofs.sending.send.Goals as goal

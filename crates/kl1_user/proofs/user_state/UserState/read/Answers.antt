@@ -1,10 +1,8 @@
-use Rattle.std.proofs.Common.{◌≡◌, ℕ, List, refl, sym, ap, ◌∙◌, subst}
-use Rattle.std.specs.Prelude.{Option, Some, None}
+use Rattle.std.proofs.Common.{◌≡◌, refl, sym, ap, ◌∙◌, subst}
+use Rattle.std.specs.Prelude.{Some, None}
 use Rattle.kl1_model.specs.State.{State}
-use Rattle.kl1_model.specs.Event.{no_shoen, shown, refuse, refused, read, value, Stepped, is_number}
+use Rattle.kl1_model.specs.Event.{no_shoen, shown, refuse, read, value}
 use Rattle.kl1_model.specs.Step.{step}
-use Rattle.kl1_user.specs.declared.origin.Origin.{Origin}
-use Rattle.kl1_user.specs.declared.shoen.Shoen.{Shoen}
 use Rattle.kl1_user.specs.Accounts.{state_of}
 use Rattle.kl1_user.proofs.Origins.{kept_at, origin_in, reads_none, reads_some}
 use Rattle.kl1_user.proofs.user_state.UserState.read.Goals as goal

@@ -1,14 +1,5 @@
-use Rattle.std.proofs.Common.{◌≡◌, ◌+◌, ℕ, List, sym, ap, ◌∙◌, subst, refl}
-use Rattle.kl1_model.specs.Module.{Module}
-use Rattle.kl1_model.specs.State.{State}
-use Rattle.kl1_model.specs.Event.{reduce, reduced, refuse}
-use Rattle.kl1_model.specs.Step.{step}
-use Rattle.kl1_user.specs.declared.goal.Goal.{Goal}
-use Rattle.kl1_user.specs.declared.shoen.Shoen.{Shoen}
-use Rattle.kl1_user.specs.declared.outcome.Outcome.{Outcome}
+use Rattle.std.proofs.Common.{◌+◌}
 use Rattle.kl1_user.specs.declared.outcome.Outcome.TheVariants.{Refused, Done}
-use Rattle.kl1_user.specs.Accounts.{state_of}
-use Rattle.kl1_user.specs.Leaving.{ReducesAs}
 use Rattle.kl1_user.proofs.Keeping.{kept_same, kept_done, outcome_at}
 use Rattle.kl1_user.proofs.user_state.UserState.reduce.Goals as goal
 
