@@ -69,12 +69,12 @@ done_steps u k gs ss l m n c w i e f p q =
     let more : suc u.entries ≡ m = omega arith in
     i.steps (state_of u) (is_at u)
     ∙ ap (λ (z : State). let y : Stepped = record { state = z; reply = reduced } in y)
-      (i.leaves.states (with_entry (state_of u))
-      ∙ ap (λ (xs : List Goal). let z : State = record (state_of u) { goals = map (goal_with (meaning h)) xs; shoens = map (shoen_with (meaning h)) (slice_set u.shoens.items w.place w.shoen); last_variable = h.variables - 1; last_goal = w.last_goal; entries = suc u.entries } in z) (sym e)
-      ∙ ap (λ (xs : List Shoen). let z : State = record (state_of u) { goals = map (goal_with (meaning h)) gs.items; shoens = map (shoen_with (meaning h)) xs; last_variable = h.variables - 1; last_goal = w.last_goal; entries = suc u.entries } in z) (sym f)
-      ∙ ap (λ x. let z : State = record (state_of u) { goals = map (goal_with (meaning h)) gs.items; shoens = map (shoen_with (meaning h)) ss.items; last_variable = h.variables - 1; last_goal = x; entries = suc u.entries } in z) (sym p)
-      ∙ ap (λ x. let z : State = record (state_of u) { goals = map (goal_with (meaning h)) gs.items; shoens = map (shoen_with (meaning h)) ss.items; last_variable = h.variables - 1; last_goal = l; entries = x } in z) more
-      ∙ ap (λ x. let z : State = record (state_of u) { goals = map (goal_with (meaning h)) gs.items; shoens = map (shoen_with (meaning h)) ss.items; last_variable = h.variables - 1; last_goal = l; entries = m; last_shoen = x } in z) long)
+    (i.leaves.states (with_entry (state_of u))
+    ∙ ap (λ (xs : List Goal). let z : State = record (state_of u) { goals = map (goal_with (meaning h)) xs; shoens = map (shoen_with (meaning h)) (slice_set u.shoens.items w.place w.shoen); last_variable = h.variables - 1; last_goal = w.last_goal; entries = suc u.entries } in z) (sym e)
+    ∙ ap (λ (xs : List Shoen). let z : State = record (state_of u) { goals = map (goal_with (meaning h)) gs.items; shoens = map (shoen_with (meaning h)) xs; last_variable = h.variables - 1; last_goal = w.last_goal; entries = suc u.entries } in z) (sym f)
+    ∙ ap (λ x. let z : State = record (state_of u) { goals = map (goal_with (meaning h)) gs.items; shoens = map (shoen_with (meaning h)) ss.items; last_variable = h.variables - 1; last_goal = x; entries = suc u.entries } in z) (sym p)
+    ∙ ap (λ x. let z : State = record (state_of u) { goals = map (goal_with (meaning h)) gs.items; shoens = map (shoen_with (meaning h)) ss.items; last_variable = h.variables - 1; last_goal = l; entries = x } in z) more
+    ∙ ap (λ x. let z : State = record (state_of u) { goals = map (goal_with (meaning h)) gs.items; shoens = map (shoen_with (meaning h)) ss.items; last_variable = h.variables - 1; last_goal = l; entries = m; last_shoen = x } in z) long)
 
 -- what came of a reduction, of the account's own lists
 pub outcome_at : (u : Inside) (k : Kept (List ℕ)) (ms : List Module) (gs : List Goal) (ss : List Shoen) (n c : ℕ) (o p : Outcome) → ms ≡ u.modules.items → gs ≡ u.goals.items → ss ≡ u.shoens.items → p ≡ o →

@@ -128,17 +128,17 @@ leaves f h k modules goals shoens last n w v x o p goals_are last_is same t afte
       owned = subst O (sym after) (stood_owned (length shoens) k modules v.goals.items (t.owned (length shoens) there (subst O (sym goals_are) (filter_owned (length shoens) (is_other n) goals o))));
       standing = subst D (sym after) (all_stand k modules v.goals.items);
       states = λ s.
-        ap f
+          ap f
           (ap (λ (xs : List model.Goal). let z : State = record s { goals = xs; shoens = map (shoen_with (meaning h)) shoens; last_variable = h.variables - 1; last_goal = last } in z)
-            (others_read (meaning h) n goals ∙ ap (map (goal_with (meaning h))) (sym goals_are))
+          (others_read (meaning h) n goals ∙ ap (map (goal_with (meaning h))) (sym goals_are))
           ∙ ap (λ (xs : List Shoen). let z : State = record s { goals = map (goal_with (meaning h)) w.goals.items; shoens = map (shoen_with (meaning h)) xs; last_variable = h.variables - 1; last_goal = last } in z) (sym same)
           ∙ ap (λ m. let z : State = record s { goals = map (goal_with (meaning h)) w.goals.items; shoens = map (shoen_with (meaning h)) (slice_set shoens w.place w.shoen); last_variable = h.variables - 1; last_goal = m } in z) (sym last_is))
-        ∙ t.states s shoens p
-        ∙ ap (λ (xs : List model.Goal). let z : State = record s { goals = xs; shoens = map (shoen_with (meaning k)) (slice_set shoens v.place v.shoen); last_variable = k.variables - 1; last_goal = v.last_goal } in z)
+          ∙ t.states s shoens p
+          ∙ ap (λ (xs : List model.Goal). let z : State = record s { goals = xs; shoens = map (shoen_with (meaning k)) (slice_set shoens v.place v.shoen); last_variable = k.variables - 1; last_goal = v.last_goal } in z)
           (sym (stood_read k modules v.goals.items) ∙ ap (map (goal_with (meaning k))) (sym after))
-        ∙ ap (λ m. let z : State = record s { goals = map (goal_with (meaning k)) x.goals.items; shoens = map (shoen_with (meaning k)) (slice_set shoens m v.shoen); last_variable = k.variables - 1; last_goal = v.last_goal } in z) (sym place_is)
-        ∙ ap (λ (r : Shoen). let z : State = record s { goals = map (goal_with (meaning k)) x.goals.items; shoens = map (shoen_with (meaning k)) (slice_set shoens x.place r); last_variable = k.variables - 1; last_goal = v.last_goal } in z) (sym shoen_is)
-        ∙ ap (λ m. let z : State = record s { goals = map (goal_with (meaning k)) x.goals.items; shoens = map (shoen_with (meaning k)) (slice_set shoens x.place x.shoen); last_variable = k.variables - 1; last_goal = m } in z) (sym goal_is);
+          ∙ ap (λ m. let z : State = record s { goals = map (goal_with (meaning k)) x.goals.items; shoens = map (shoen_with (meaning k)) (slice_set shoens m v.shoen); last_variable = k.variables - 1; last_goal = v.last_goal } in z) (sym place_is)
+          ∙ ap (λ (r : Shoen). let z : State = record s { goals = map (goal_with (meaning k)) x.goals.items; shoens = map (shoen_with (meaning k)) (slice_set shoens x.place r); last_variable = k.variables - 1; last_goal = v.last_goal } in z) (sym shoen_is)
+          ∙ ap (λ m. let z : State = record s { goals = map (goal_with (meaning k)) x.goals.items; shoens = map (shoen_with (meaning k)) (slice_set shoens x.place x.shoen); last_variable = k.variables - 1; last_goal = m } in z) (sym goal_is);
     }
 
 -- ---- the step of a reduction
@@ -251,9 +251,12 @@ pub comes_to_full : (h k : Held (List ℕ)) (ms : List Module) (gs : List Goal) 
     MovesAs h ms (meaning h x) c (Some made) → most_entries ≤ entries → IsRefused h k ms gs ss last entries n c refusal.Journal
 comes_to_full h k ms gs ss last entries n c g x made e b f t m le =
     let found = found_move h ms (meaning h x) c made m in
-    record { same = e; steps = λ s at.
-      let there = at.entries_are in
-      kept_full s h gs n c g x found.0 (goals_of s h ms gs ss last entries at) b f t (ap (λ z. move_by z (meaning h x) c) at.modules_are ∙ found.1) (omega arith) }
+    record {
+      same = e;
+      steps = λ s at.
+          let there = at.entries_are in
+          kept_full s h gs n c g x found.0 (goals_of s h ms gs ss last entries at) b f t (ap (λ z. move_by z (meaning h x) c) at.modules_are ∙ found.1) (omega arith);
+    }
 
 pub comes_on : (h k : Held (List ℕ)) (ms : List Module) (gs : List Goal) (ss : List Shoen) (last entries n c : ℕ) (g : Goal) (x : Cell (List ℕ)) (made : Move) (w : Work) → (is_number n && is_number c) ≡ true → find (has_number n) gs ≡ Some g → g.task ≡ Reduces x →
     MovesAs h ms (meaning h x) c (Some made) → entries < most_entries → ((m : reduction.Move) → move_by ms (meaning h x) c ≡ Some m → Leaves k ms ss w (reduced_to h gs ss last g x m)) → IsDone h k ms gs ss last entries n c w
@@ -264,7 +267,7 @@ comes_on h k ms gs ss last entries n c g x made w b f t m lt leaves =
       leaves = leaves found.0 found.1;
       room = lt;
       steps = λ s at.
-        let there = at.entries_are in
-        kept_on s h gs n c g x found.0 (goals_of s h ms gs ss last entries at) b f t (ap (λ z. move_by z (meaning h x) c) at.modules_are ∙ found.1) (omega arith)
-        ∙ ap (λ (z : State). let y : Stepped = record { state = settle g.shoen (moved (goal_with (meaning h) g) (meaning h x) found.0 (without_goal g.number (with_entry z))); reply = reduced } in y) at.kept;
+          let there = at.entries_are in
+          kept_on s h gs n c g x found.0 (goals_of s h ms gs ss last entries at) b f t (ap (λ z. move_by z (meaning h x) c) at.modules_are ∙ found.1) (omega arith)
+          ∙ ap (λ (z : State). let y : Stepped = record { state = settle g.shoen (moved (goal_with (meaning h) g) (meaning h x) found.0 (without_goal g.number (with_entry z))); reply = reduced } in y) at.kept;
     }

@@ -102,11 +102,11 @@ report_states h k w m (Sent next) i d s shoens p =
     ∙ ap (λ b. if b then broken_at w.shoen.number S else moved (suc (h.variables - 1))) d.sent.free
     ∙ ap moved N
     ∙ ap (λ (z : State). change_shoen w.shoen.number (λ x. record x { tail = variable next }) (record z { last_variable = next }))
-        (replaced_state (record s { last_goal = w.last_goal }) d.number (cell M (variable next)) (meaning h) (h.variables - 1) w.goals.items (slice_set shoens w.place w.shoen))
+    (replaced_state (record s { last_goal = w.last_goal }) d.number (cell M (variable next)) (meaning h) (h.variables - 1) w.goals.items (slice_set shoens w.place w.shoen))
     ∙ ap (λ (z : State). change_shoen w.shoen.number (λ x. record x { tail = variable next }) z)
-        (rereads s (λ x. replace d.number (cell M (variable next)) (meaning h x)) (meaning k) next h shoens w (λ x j. sym (d.sent.means x j)) i p)
+    (rereads s (λ x. replace d.number (cell M (variable next)) (meaning h x)) (meaning k) next h shoens w (λ x j. sym (d.sent.means x j)) i p)
     ∙ changes s (meaning k) next h shoens w (after_report w.shoen (Sent next)) (λ x. record x { tail = variable next }) p i.number
-        (ap (λ t. let z : model.Shoen = record (shoen_with (meaning k) w.shoen) { tail = t } in z) (sym d.sent.tail))
+    (ap (λ t. let z : model.Shoen = record (shoen_with (meaning k) w.shoen) { tail = t } in z) (sym d.sent.tail))
     ∙ ap (λ n. read_as s (meaning k) n shoens (record w { shoen = after_report w.shoen (Sent next) })) (let a = d.sent.next_is in let b = d.sent.variables in omega arith)
 
 next_in : (h k : Held (List ℕ)) (v next : ℕ) (m : Cell (List ℕ)) → next ≡ h.variables → k.variables ≡ suc h.variables → IsIn k (Variable next)

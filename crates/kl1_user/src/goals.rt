@@ -50,7 +50,11 @@ pub(crate) fn goal_at<'a>(goals: &'a [Goal], number: u64) -> Option<&'a Goal>
 }
 
 /// The goals without that of a number.
-pub(crate) fn without_goal(alloc: Global, goals: &[Goal], number: u64) -> Result<Vec<Goal>, AllocError>
+pub(crate) fn without_goal(
+    alloc: Global,
+    goals: &[Goal],
+    number: u64,
+) -> Result<Vec<Goal>, AllocError>
     ensures { IfOk result (λ others. others.items ≡ filter (is_other number) goals.now) }
 {
     let mut others = Vec::new(alloc);
@@ -65,7 +69,11 @@ pub(crate) fn without_goal(alloc: Global, goals: &[Goal], number: u64) -> Result
 }
 
 /// The goals without the monitor of a shoen.
-pub(crate) fn without_monitor(alloc: Global, goals: &[Goal], shoen: u64) -> Result<Vec<Goal>, AllocError>
+pub(crate) fn without_monitor(
+    alloc: Global,
+    goals: &[Goal],
+    shoen: u64,
+) -> Result<Vec<Goal>, AllocError>
     ensures { IfOk result (λ others. others.items ≡ filter (λ g. not (is_monitor_of shoen g)) goals.now) }
 {
     let mut others = Vec::new(alloc);

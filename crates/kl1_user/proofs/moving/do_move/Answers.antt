@@ -51,4 +51,4 @@ returns-in_ok-commit-in-Commits-clause-ok c =
     let compiled = subst N (sym c.names.ensures.value) (t.compiled c.index-clauses-number.result c.index-clauses-number.is) in
     let R : model.Move → Type 0 = λ z. Turns (moved (goal_with (meaning h) c.args.goal.now) (meaning h c.args.cell) z) h c.commit.new.store.held c.args.work.now c.commit.new.work in
     λ m e. let same : commits taken.candidate ≡ m = let a = taken.moves in cc in
-      subst R same (c.in_ok-commit-in-Commits.ensures.ok taken.candidate compiled (ap (λ (ps : List (Place (List ℕ))). replacements_of (λ a. a) h ps) c.deref.ensures.value ∙ taken.places_are))
+    subst R same (c.in_ok-commit-in-Commits.ensures.ok taken.candidate compiled (ap (λ (ps : List (Place (List ℕ))). replacements_of (λ a. a) h ps) c.deref.ensures.value ∙ taken.places_are))

@@ -26,4 +26,4 @@ returns-clause-ok c =
     let h = c.args.store.now.held in
     let P : Option Move → Type 0 = λ z. MovesAs h c.args.modules.now (meaning h c.args.cell) c.args.clause z in
     λ n b f. comes_on h c.reduction.new.store.held c.args.modules.now c.args.goals.now c.args.shoens.now c.args.last_goal c.args.entries n c.args.clause c.args.goal.now c.args.cell c.in-Some.made c.in_ok-work-in-Some.work b f c.requires.task (subst P c.in-Some.is c.in_ok-found.ensures)
-      c.if-entries-ge-MOST_ENTRIES.false c.in_ok-work-in-Some.ensures.ok
+    c.if-entries-ge-MOST_ENTRIES.false c.in_ok-work-in-Some.ensures.ok

@@ -45,5 +45,5 @@ returns-clause-ok c =
     let v : Work = c.reduce.new.work in
     let x : Work = record { goals = c.in_ok-work.field-0; place = v.place; shoen = v.shoen; last_goal = v.last_goal } in
     λ m e. leaves (λ s. settle g.shoen (moved (goal_with (meaning h) g) (meaning h c.args.cell.now) m s)) h k c.args.modules.now c.args.goals.now c.args.shoens.now c.args.last_goal g.number w v x
-      c.requires.owned (record { inside = c.requires.shoens; numbered = c.requires.numbered; there = b.there }) c.in_ok-others.ensures refl (put_back w.place c.args.shoens.now w.shoen c.index-shoens-place.is)
-      (c.in_ok-reduce.ensures.ok m e) (c.in_ok-work.ensures ∙ ap (map (stood k c.args.modules.now)) c.deref.ensures.value) refl refl refl
+    c.requires.owned (record { inside = c.requires.shoens; numbered = c.requires.numbered; there = b.there }) c.in_ok-others.ensures refl (put_back w.place c.args.shoens.now w.shoen c.index-shoens-place.is)
+    (c.in_ok-reduce.ensures.ok m e) (c.in_ok-work.ensures ∙ ap (map (stood k c.args.modules.now)) c.deref.ensures.value) refl refl refl
