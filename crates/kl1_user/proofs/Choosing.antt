@@ -26,8 +26,8 @@ tested p n q m = nat_lt q p || p == q && nat_lt n m
 is_before : (p n q m : ℕ) → tested p n q m ≡ true → Before p n q m
 is_before p n q m h =
     elim (or_cases (nat_lt q p) (p == q && nat_lt n m) h) [
-      inl a ↦ inl (ltb-true q p a)
-    | inr b ↦ let c = and_parts (p == q) (nat_lt n m) b in inr (eqb-true p q c.0, ltb-true n m c.1)
+      | inl a ↦ inl (ltb-true q p a)
+      | inr b ↦ let c = and_parts (p == q) (nat_lt n m) b in inr (eqb-true p q c.0, ltb-true n m c.1)
     ]
 
 or_left : (x y : Bool) → x ≡ true → (x || y) ≡ true
@@ -57,6 +57,7 @@ over p n q m r k a b = by_priority (cases_lt r q) b
     by_number c d (inl e) (inl f) = inr (e, f)
     by_number c d (inl e) (inr f) = let x = d.0 in let y = d.1 in absurd (a (inr (omega arith, omega arith)))
     by_number c d (inr e) f = let x = d.0 in absurd (a (inl (omega arith)))
+
     by_priority : (r < q) ⊎ (q ≤ r) → (r < p) ⊎ ((p ≡ r) × (n < k)) → (r < q) ⊎ ((q ≡ r) × (m < k))
     by_priority (inl c) d = inl c
     by_priority (inr c) (inl d) = absurd (a (inl (omega arith)))
@@ -69,6 +70,7 @@ under p n q m r k a b = by_priority (cases_lt p r) b
     by_number c d (inl e) (inl f) = inr (e, f)
     by_number c d (inl e) (inr f) = let x = d.0 in let y = d.1 in absurd (a (inr (omega arith, omega arith)))
     by_number c d (inr e) f = let x = d.0 in absurd (a (inl (omega arith)))
+
     by_priority : (p < r) ⊎ (r ≤ p) → (q < r) ⊎ ((r ≡ q) × (k < m)) → (p < r) ⊎ ((r ≡ p) × (k < n))
     by_priority (inl c) d = inl c
     by_priority (inr c) (inl d) = absurd (a (inl (omega arith)))
@@ -164,7 +166,7 @@ first_is_least b (g ∷ gs) = by_case (cases_Bool (goes_before g b)) (first_is_l
     by_case (inr f) on_g on_b =
         find_same (is_first (b ∷ g ∷ gs)) (is_first (b ∷ gs)) (λ x. implied_later (goes_before b x) (goes_before g x) (list_any (λ h. goes_before h x) gs) (before_over g b x f)) (b ∷ g ∷ gs)
         ∙ skipped b g (is_first (b ∷ gs) b) (is_first (b ∷ gs) g) (find (is_first (b ∷ gs)) gs)
-            (not_first (goes_before b b) (list_any (λ h. goes_before h b) gs) (goes_before b g) (list_any (λ h. goes_before h g) gs) (irreflexive b) (any_goes b g f gs))
+        (not_first (goes_before b b) (list_any (λ h. goes_before h b) gs) (goes_before b g) (list_any (λ h. goes_before h g) gs) (irreflexive b) (any_goes b g f gs))
         ∙ on_b
         ∙ ap (λ c. Some (least (if c then g else b) gs)) (sym f)
 
@@ -222,6 +224,7 @@ follow_step s h g gs o m None e f l next = same o m l
   where
     rest : List model.Goal
     rest = filter (can_step s) (map (goal_with (meaning h)) gs)
+
     same : (o : Option Ready) (m : Option model.Goal) → Linked s o m → option_and_then (chosen s) (least_from m (if is_some (clause_for s (goal_with (meaning h) g)) then goal_with (meaning h) g ∷ rest else rest)) ≡ option_map shown (first_from (better o (option_map (ready_by g) g.standing)) gs)
     same None None l = ap (λ z. option_and_then (chosen s) (least_from None (if is_some z then goal_with (meaning h) g ∷ rest else rest))) e ∙ next None None l ∙ ap (λ z. option_map shown (first_from (better None (option_map (ready_by g) z)) gs)) (sym f)
     same None (Some x) l = absurd l
@@ -231,15 +234,20 @@ follow_step s h g gs o m (Some c) e f l next = more o m l
   where
     here : model.Goal
     here = goal_with (meaning h) g
+
     rest : List model.Goal
     rest = filter (can_step s) (map (goal_with (meaning h)) gs)
+
     now : Ready
     now = ready_by g c
+
     linked : Linked s (Some now) (Some here)
     linked = (e, refl, refl)
+
     chosen_one : (r : Ready) (x : model.Goal) → Linked s (Some r) (Some x) → (b : Bool) → option_and_then (chosen s) (Some (least (if b then here else x) rest)) ≡ option_map shown (first_from (if b then Some now else Some r) gs)
     chosen_one r x l true = next (Some now) (Some here) linked
     chosen_one r x l false = next (Some r) (Some x) l
+
     more : (o : Option Ready) (m : Option model.Goal) → Linked s o m → option_and_then (chosen s) (least_from m (if is_some (clause_for s here) then here ∷ rest else rest)) ≡ option_map shown (first_from (better o (option_map (ready_by g) g.standing)) gs)
     more None None l = ap (λ z. option_and_then (chosen s) (least_from None (if is_some z then here ∷ rest else rest))) e ∙ next (Some now) (Some here) linked ∙ ap (λ z. option_map shown (first_from (better None (option_map (ready_by g) z)) gs)) (sym f)
     more None (Some x) l = absurd l

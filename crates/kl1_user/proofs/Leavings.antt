@@ -1,6 +1,6 @@
 -- What a reduction leaves, from what is made of the goals without the reduced one.
-use Rattle.std.proofs.Common.{◌≡◌, true, false, if◌then◌else◌, get_or, ℕ, zero, suc, ◌+◌, ◌-◌, ◌<◌, ◌≤◌, ◌==◌, not, ◌&&◌, ◌||◌, Bool, List, [], ◌∷◌, ◌++◌, length, map, set, codes, refl, sym, ap, ◌∙◌, arith, subst, ◌⊎◌, inl, inr}
-use Rattle.std.specs.Prelude.{Some, None, Option, option_map, filter, find, slice_get, slice_set, nat_lt}
+use Rattle.std.proofs.Common.{◌≡◌, true, false, if◌then◌else◌, get_or, ℕ, zero, suc, ◌+◌, ◌-◌, ◌<◌, ◌≤◌, ◌==◌, ◌&&◌, Bool, List, [], ◌∷◌, length, map, refl, sym, ap, ◌∙◌, arith, subst, ◌⊎◌, inl, inr}
+use Rattle.std.specs.Prelude.{Some, None, Option, option_map, filter, find, slice_set, nat_lt}
 use Rattle.std.proofs.lemmas.List.{set-get_or}
 use Rattle.std.proofs.lemmas.Bool.{cases_Bool, eqb-true, lt-ltb, le-ltb}
 use Rattle.kl1_model.specs.Term.{Term}
@@ -9,15 +9,13 @@ use Rattle.kl1_user.specs.declared.moves.Move.TheVariants as made
 use Rattle.kl1_model.specs.Module.{Module}
 use Rattle.kl1_model.specs.State as model
 use Rattle.kl1_model.specs.State.{State, goal_at, without_goal}
-use Rattle.kl1_model.specs.Event.{reduce, Stepped, refuse, syntax, step_refused, journal_full, reduced, is_number, most_entries, with_entry, recorded}
+use Rattle.kl1_model.specs.Event.{reduce, Stepped, refuse, syntax, step_refused, journal_full, reduced, is_number, most_entries, with_entry}
 use Rattle.kl1_model.specs.Step.{step}
-use Rattle.kl1_model.specs.Match.{call_of}
 use Rattle.kl1_model.specs.Report.{settle}
 use Rattle.kl1_model.specs.Reduction as reduction
 use Rattle.kl1_model.specs.Reduction.{moved, reduce_goal, reduced_by, effect_of}
 use Rattle.kl1_store.specs.declared.cell.Cell.{Cell}
 use Rattle.kl1_store.specs.Held.{Held, IsIn}
-use Rattle.kl1_store.specs.Sound.{Grown}
 use Rattle.kl1_user.specs.declared.task.Task.{Task}
 use Rattle.kl1_user.specs.declared.task.Task.TheVariants.{Monitor, Reduces}
 use Rattle.kl1_user.specs.declared.goal.Goal.{Goal}
@@ -26,8 +24,9 @@ use Rattle.kl1_user.specs.declared.work.Work.{Work}
 use Rattle.kl1_user.specs.Kept.{Means, meaning, task_with, goal_with, shoen_with, with_kept, IsTaskIn, AreGoalsIn, IsOwned, AreOwned, IsShoenIn, AreShoensIn, AreNumbered, AreStanding}
 use Rattle.kl1_user.specs.Lists.{is_other, has_number, stood}
 use Rattle.kl1_user.specs.Moves.{move_by, MovesAs}
-use Rattle.kl1_user.specs.Works.{worked, IsWorkIn, HasPlace, Turns}
-use Rattle.kl1_user.specs.Leaving.{Leaves, reduced_to}
+use Rattle.kl1_user.specs.Works.{IsWorkIn, HasPlace, Turns}
+use Rattle.kl1_user.specs.declared.refusal.Refusal.TheVariants as refusal
+use Rattle.kl1_user.specs.Leaving.{Leaves, reduced_to, IsAt, IsDone, IsRefused}
 use Rattle.kl1_user.proofs.Reductions.{others_read, filter_in, filter_owned}
 
 -- ---- the goal of a number
@@ -129,17 +128,17 @@ leaves f h k modules goals shoens last n w v x o p goals_are last_is same t afte
       owned = subst O (sym after) (stood_owned (length shoens) k modules v.goals.items (t.owned (length shoens) there (subst O (sym goals_are) (filter_owned (length shoens) (is_other n) goals o))));
       standing = subst D (sym after) (all_stand k modules v.goals.items);
       states = λ s.
-        ap f
+          ap f
           (ap (λ (xs : List model.Goal). let z : State = record s { goals = xs; shoens = map (shoen_with (meaning h)) shoens; last_variable = h.variables - 1; last_goal = last } in z)
-            (others_read (meaning h) n goals ∙ ap (map (goal_with (meaning h))) (sym goals_are))
+          (others_read (meaning h) n goals ∙ ap (map (goal_with (meaning h))) (sym goals_are))
           ∙ ap (λ (xs : List Shoen). let z : State = record s { goals = map (goal_with (meaning h)) w.goals.items; shoens = map (shoen_with (meaning h)) xs; last_variable = h.variables - 1; last_goal = last } in z) (sym same)
           ∙ ap (λ m. let z : State = record s { goals = map (goal_with (meaning h)) w.goals.items; shoens = map (shoen_with (meaning h)) (slice_set shoens w.place w.shoen); last_variable = h.variables - 1; last_goal = m } in z) (sym last_is))
-        ∙ t.states s shoens p
-        ∙ ap (λ (xs : List model.Goal). let z : State = record s { goals = xs; shoens = map (shoen_with (meaning k)) (slice_set shoens v.place v.shoen); last_variable = k.variables - 1; last_goal = v.last_goal } in z)
+          ∙ t.states s shoens p
+          ∙ ap (λ (xs : List model.Goal). let z : State = record s { goals = xs; shoens = map (shoen_with (meaning k)) (slice_set shoens v.place v.shoen); last_variable = k.variables - 1; last_goal = v.last_goal } in z)
           (sym (stood_read k modules v.goals.items) ∙ ap (map (goal_with (meaning k))) (sym after))
-        ∙ ap (λ m. let z : State = record s { goals = map (goal_with (meaning k)) x.goals.items; shoens = map (shoen_with (meaning k)) (slice_set shoens m v.shoen); last_variable = k.variables - 1; last_goal = v.last_goal } in z) (sym place_is)
-        ∙ ap (λ (r : Shoen). let z : State = record s { goals = map (goal_with (meaning k)) x.goals.items; shoens = map (shoen_with (meaning k)) (slice_set shoens x.place r); last_variable = k.variables - 1; last_goal = v.last_goal } in z) (sym shoen_is)
-        ∙ ap (λ m. let z : State = record s { goals = map (goal_with (meaning k)) x.goals.items; shoens = map (shoen_with (meaning k)) (slice_set shoens x.place x.shoen); last_variable = k.variables - 1; last_goal = m } in z) (sym goal_is);
+          ∙ ap (λ m. let z : State = record s { goals = map (goal_with (meaning k)) x.goals.items; shoens = map (shoen_with (meaning k)) (slice_set shoens m v.shoen); last_variable = k.variables - 1; last_goal = v.last_goal } in z) (sym place_is)
+          ∙ ap (λ (r : Shoen). let z : State = record s { goals = map (goal_with (meaning k)) x.goals.items; shoens = map (shoen_with (meaning k)) (slice_set shoens x.place r); last_variable = k.variables - 1; last_goal = v.last_goal } in z) (sym shoen_is)
+          ∙ ap (λ m. let z : State = record s { goals = map (goal_with (meaning k)) x.goals.items; shoens = map (shoen_with (meaning k)) (slice_set shoens x.place x.shoen); last_variable = k.variables - 1; last_goal = m } in z) (sym goal_is);
     }
 
 -- ---- the step of a reduction
@@ -228,3 +227,47 @@ found_number n (x ∷ gs) g e = by_case (cases_Bool (x.number == n)) (found_numb
 
 pub found_again : (n : ℕ) (gs : List Goal) (g : Goal) → find (has_number n) gs ≡ Some g → find (has_number g.number) gs ≡ Some g
 found_again n gs g e = ap (λ m. find (has_number m) gs) (found_number n gs g e) ∙ e
+
+-- ---- what comes of reducing the goal of a number
+
+pub comes_to_syntax : (h k : Held (List ℕ)) (ms : List Module) (gs : List Goal) (ss : List Shoen) (last entries n c : ℕ) → k ≡ h → (is_number n && is_number c) ≡ false → IsRefused h k ms gs ss last entries n c refusal.Syntax
+comes_to_syntax h k ms gs ss last entries n c e b = record { same = e; steps = λ s at. steps_syntax s n c b }
+
+goals_of : (s : State) (h : Held (List ℕ)) (ms : List Module) (gs : List Goal) (ss : List Shoen) (last entries : ℕ) → IsAt s h ms gs ss last entries → Keeps s h gs
+goals_of s h ms gs ss last entries at = ap (λ (z : State). z.goals) at.kept
+
+pub comes_to_nowhere : (h k : Held (List ℕ)) (ms : List Module) (gs : List Goal) (ss : List Shoen) (last entries n c : ℕ) → k ≡ h → (is_number n && is_number c) ≡ true → find (has_number n) gs ≡ None → IsRefused h k ms gs ss last entries n c refusal.Step
+comes_to_nowhere h k ms gs ss last entries n c e b f = record { same = e; steps = λ s at. kept_nowhere s h gs n c (goals_of s h ms gs ss last entries at) b f }
+
+pub comes_to_monitor : (h k : Held (List ℕ)) (ms : List Module) (gs : List Goal) (ss : List Shoen) (last entries n c : ℕ) (g : Goal) → k ≡ h → (is_number n && is_number c) ≡ true → find (has_number n) gs ≡ Some g → g.task ≡ Monitor → IsRefused h k ms gs ss last entries n c refusal.Step
+comes_to_monitor h k ms gs ss last entries n c g e b f t = record { same = e; steps = λ s at. kept_monitor s h gs n c g (goals_of s h ms gs ss last entries at) b f t }
+
+pub comes_to_none : (h k : Held (List ℕ)) (ms : List Module) (gs : List Goal) (ss : List Shoen) (last entries n c : ℕ) (g : Goal) (x : Cell (List ℕ)) → k ≡ h → (is_number n && is_number c) ≡ true → find (has_number n) gs ≡ Some g → g.task ≡ Reduces x → move_by ms (meaning h x) c ≡ None →
+    IsRefused h k ms gs ss last entries n c refusal.Step
+comes_to_none h k ms gs ss last entries n c g x e b f t m =
+    record { same = e; steps = λ s at. kept_not s h gs n c g x (goals_of s h ms gs ss last entries at) b f t (ap (λ z. move_by z (meaning h x) c) at.modules_are ∙ m) }
+
+pub comes_to_full : (h k : Held (List ℕ)) (ms : List Module) (gs : List Goal) (ss : List Shoen) (last entries n c : ℕ) (g : Goal) (x : Cell (List ℕ)) (made : Move) → k ≡ h → (is_number n && is_number c) ≡ true → find (has_number n) gs ≡ Some g → g.task ≡ Reduces x →
+    MovesAs h ms (meaning h x) c (Some made) → most_entries ≤ entries → IsRefused h k ms gs ss last entries n c refusal.Journal
+comes_to_full h k ms gs ss last entries n c g x made e b f t m le =
+    let found = found_move h ms (meaning h x) c made m in
+    record {
+      same = e;
+      steps = λ s at.
+          let there = at.entries_are in
+          kept_full s h gs n c g x found.0 (goals_of s h ms gs ss last entries at) b f t (ap (λ z. move_by z (meaning h x) c) at.modules_are ∙ found.1) (omega arith);
+    }
+
+pub comes_on : (h k : Held (List ℕ)) (ms : List Module) (gs : List Goal) (ss : List Shoen) (last entries n c : ℕ) (g : Goal) (x : Cell (List ℕ)) (made : Move) (w : Work) → (is_number n && is_number c) ≡ true → find (has_number n) gs ≡ Some g → g.task ≡ Reduces x →
+    MovesAs h ms (meaning h x) c (Some made) → entries < most_entries → ((m : reduction.Move) → move_by ms (meaning h x) c ≡ Some m → Leaves k ms ss w (reduced_to h gs ss last g x m)) → IsDone h k ms gs ss last entries n c w
+comes_on h k ms gs ss last entries n c g x made w b f t m lt leaves =
+    let found = found_move h ms (meaning h x) c made m in
+    record {
+      change = reduced_to h gs ss last g x found.0;
+      leaves = leaves found.0 found.1;
+      room = lt;
+      steps = λ s at.
+          let there = at.entries_are in
+          kept_on s h gs n c g x found.0 (goals_of s h ms gs ss last entries at) b f t (ap (λ z. move_by z (meaning h x) c) at.modules_are ∙ found.1) (omega arith)
+          ∙ ap (λ (z : State). let y : Stepped = record { state = settle g.shoen (moved (goal_with (meaning h) g) (meaning h x) found.0 (without_goal g.number (with_entry z))); reply = reduced } in y) at.kept;
+    }

@@ -13,3 +13,5 @@ pub mod Pairs
 pub mod Reductions
 pub mod Leavings
 pub mod Loads
+pub mod Origins
+pub mod Keeping

@@ -1,8 +1,8 @@
 -- A message that is put on a stream.
-use Rattle.std.proofs.Common.{◌≡◌, ℕ, zero, suc, ◌+◌, ◌<◌, ◌≤◌, ◌==◌, Bool, true, false, ◌||◌, if◌then◌else◌, List, [], ◌∷◌, ◌++◌, length, take, codes, refl, sym, ap, ◌∙◌, arith, subst, ◌⊎◌, inl, inr}
-use Rattle.std.specs.Prelude.{Option, Some, None, option_map, slice_get}
+use Rattle.std.proofs.Common.{◌≡◌, ℕ, suc, ◌<◌, ◌≤◌, Bool, true, false, ◌||◌, if◌then◌else◌, List, [], ◌∷◌, ◌++◌, length, take, codes, refl, sym, ap, ◌∙◌, arith, subst}
+use Rattle.std.specs.Prelude.{Option, Some, None, slice_get}
 use Rattle.std.proofs.lemmas.List.{take_all}
-use Rattle.std.proofs.lemmas.Bool.{cases_Bool, ne_eqb, false≢true}
+use Rattle.std.proofs.lemmas.Bool.{ne_eqb}
 use Rattle.kl1_model.specs.Text.{text_of}
 use Rattle.kl1_model.specs.Term.{Term, variable, structure, none, more, occurs, replace, Replacement, replaced}
 use Rattle.kl1_model.specs.Meaning.{cell}
@@ -14,7 +14,7 @@ use Rattle.kl1_store.specs.declared.binding.Binding.{Binding}
 use Rattle.kl1_store.specs.declared.unified.Unified.{Unified}
 use Rattle.kl1_store.specs.declared.unified.Unified.TheVariants.{Bound, Clash}
 use Rattle.kl1_store.specs.Held.{Shape, Held, IsIn, is_bound, with_variable, with_structure, arguments_of, shape_arguments}
-use Rattle.kl1_store.specs.Meaning.{term_of, terms_of}
+use Rattle.kl1_store.specs.Meaning.{terms_of}
 use Rattle.kl1_store.specs.Sound as sound
 use Rattle.kl1_store.specs.Sound.{IsFormed, Grown}
 use Rattle.kl1_store.specs.Unification.{UnifiesAs}
@@ -89,19 +89,19 @@ has_message h m p i =
     let formed : IsFormed full = IsFormed-structure wide (codes ".") parts (IsFormed-variable h p) (in_next h m i, (omega arith, tt)) in
     let next : meaning full (Variable h.variables) ≡ variable h.variables = term_of-unbound f full h.variables (unbound_past h h.variables p (omega arith)) in
     let others : (x : Cell (List ℕ)) → IsIn h x → meaning full x ≡ meaning h x =
-      λ x j. term_of-structure f wide (codes ".") parts x (IsFormed-variable h p) (in_next h x j) ∙ term_of-variable f h x in
+    λ x j. term_of-structure f wide (codes ".") parts x (IsFormed-variable h p) (in_next h x j) ∙ term_of-variable f h x in
     let at : slice_get full.structures (length h.structures) ≡ Some shape = get_behind h.structures shape in
     let arguments : arguments_of full (length h.structures) ≡ parts = ap shape_arguments at in
     let found : slice_get full.structures (length h.structures) ≡ Some (record { name = codes "."; arguments = arguments_of full (length h.structures) }) =
-      at ∙ ap (λ (xs : List (Cell (List ℕ))). let s : Shape (List ℕ) = record { name = codes "."; arguments = xs } in Some s) (sym arguments) in
+    at ∙ ap (λ (xs : List (Cell (List ℕ))). let s : Shape (List ℕ) = record { name = codes "."; arguments = xs } in Some s) (sym arguments) in
     record {
       formed = formed;
       next = next;
       cell_is =
-        term_of-Structure f full (length h.structures) (codes ".") formed found
-        ∙ ap (λ (xs : List (Cell (List ℕ))). structure (codes ".") (terms_of f full xs)) arguments
-        ∙ ap (λ t. structure (codes ".") (more t (more (meaning full (Variable h.variables)) none))) (others m i)
-        ∙ ap (λ t. structure (codes ".") (more (meaning h m) (more t none))) next;
+          term_of-Structure f full (length h.structures) (codes ".") formed found
+          ∙ ap (λ (xs : List (Cell (List ℕ))). structure (codes ".") (terms_of f full xs)) arguments
+          ∙ ap (λ t. structure (codes ".") (more t (more (meaning full (Variable h.variables)) none))) (others m i)
+          ∙ ap (λ t. structure (codes ".") (more (meaning h m) (more t none))) next;
       others = others;
     }
 
@@ -144,7 +144,7 @@ is_sent h new v m next p lt u i is told =
     let solved = told.0 (λ (a : List ℕ). a) reads_texts h.variables (omega arith) in
     let one = the_one v t (occurs v (meaning h m)) solved.replacements (sym (solves h v m h.variables p u k lt) ∙ solved.solves) in
     let means : (x : Cell (List ℕ)) → meaning new x ≡ replace v t (meaning (with_message h m) x) =
-      λ x. solved.everywhere x ∙ ap (λ rs. replaced rs (meaning (with_message h m) x)) one.1 in
+    λ x. solved.everywhere x ∙ ap (λ rs. replaced rs (meaning (with_message h m) x)) one.1 in
     let Q : ℕ → Type 0 = λ n. IsSent h new v m n in
     subst Q (sym is) (record {
       next_is = refl;
@@ -170,10 +170,10 @@ pub unified_as : (h mid full new : Held (List ℕ)) (v : ℕ) (m : Cell (List �
     UnifiesAs text_of full new (Variable v) (Structure s) w → UnifiesAs text_of (with_message h m) new (Variable v) (Structure (length h.structures)) u
 unified_as h mid full new v m s next name u w p q r e told =
     let full_is : full ≡ with_message h m =
-      r.1
-      ∙ ap (λ (n : List ℕ). with_structure mid n (m ∷ Variable next ∷ [])) q
-      ∙ ap (λ (n : ℕ). with_structure mid (codes ".") (m ∷ Variable n ∷ [])) p.0
-      ∙ ap (λ (k : Held (List ℕ)). with_structure k (codes ".") (m ∷ Variable h.variables ∷ [])) p.1 in
+    r.1
+    ∙ ap (λ (n : List ℕ). with_structure mid n (m ∷ Variable next ∷ [])) q
+    ∙ ap (λ (n : ℕ). with_structure mid (codes ".") (m ∷ Variable n ∷ [])) p.0
+    ∙ ap (λ (k : Held (List ℕ)). with_structure k (codes ".") (m ∷ Variable h.variables ∷ [])) p.1 in
     let at : s ≡ length h.structures = r.0 ∙ ap (λ (k : Held (List ℕ)). length k.structures) p.1 in
     let P : Held (List ℕ) → Type 0 = λ k. UnifiesAs text_of k new (Variable v) (Structure (length h.structures)) u in
     let Q : ℕ → Type 0 = λ n. UnifiesAs text_of full new (Variable v) (Structure n) u in

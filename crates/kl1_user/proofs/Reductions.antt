@@ -1,6 +1,6 @@
 -- What a reduction makes of the goals and of the shoen at work.
-use Rattle.std.proofs.Common.{◌≡◌, true, false, if◌then◌else◌, get_or, ℕ, zero, suc, ◌+◌, ◌-◌, ◌<◌, ◌≤◌, ◌==◌, not, ◌&&◌, ◌||◌, Bool, List, [], ◌∷◌, ◌++◌, length, map, codes, refl, sym, ap, ◌∙◌, arith, subst, length-append}
-use Rattle.std.specs.Prelude.{Some, None, Option, filter, slice_get, slice_set}
+use Rattle.std.proofs.Common.{◌≡◌, true, false, if◌then◌else◌, get_or, ℕ, zero, suc, ◌+◌, ◌-◌, ◌<◌, ◌==◌, not, ◌&&◌, ◌||◌, Bool, List, [], ◌∷◌, ◌++◌, length, map, codes, refl, sym, ap, ◌∙◌, arith, subst}
+use Rattle.std.specs.Prelude.{Some, filter, slice_get, slice_set}
 use Rattle.std.specs.List.{list_any}
 use Rattle.std.proofs.lemmas.List.{map-append, map-id}
 use Rattle.kl1_model.specs.Text.{text_of}
@@ -11,12 +11,10 @@ use Rattle.kl1_model.specs.Instance.{body_instance, fresh_variables}
 use Rattle.kl1_model.specs.State as model
 use Rattle.kl1_model.specs.State.{State, change_shoen, is_living}
 use Rattle.kl1_model.specs.Report.{report, close, terminate, settle, settle_of, without_monitor}
-use Rattle.kl1_model.specs.Report as reports
 use Rattle.kl1_model.specs.Reduction.{goals_from, committed}
 use Rattle.kl1_store.specs.declared.cell.Cell.{Cell}
 use Rattle.kl1_store.specs.declared.cell.Cell.TheVariants.{Atom}
-use Rattle.kl1_store.specs.Held.{Held, IsIn, AreIn}
-use Rattle.kl1_store.specs.Meaning.{term_of}
+use Rattle.kl1_store.specs.Held.{Held, AreIn}
 use Rattle.kl1_store.specs.ComparesEach.{term_list}
 use Rattle.kl1_store.specs.Sound.{Grown}
 use Rattle.kl1_store.proofs.Grows.{Grown-same}
@@ -28,15 +26,14 @@ use Rattle.kl1_match.specs.Instances.{IsInstance, replacements_of}
 use Rattle.kl1_user.specs.declared.task.Task.{Task}
 use Rattle.kl1_user.specs.declared.task.Task.TheVariants.{Monitor, Reduces}
 use Rattle.kl1_user.specs.declared.goal.Goal.{Goal}
-use Rattle.kl1_user.specs.declared.life.Life.{Life}
 use Rattle.kl1_user.specs.declared.life.Life.TheVariants.{Living, Terminated}
 use Rattle.kl1_user.specs.declared.shoen.Shoen.{Shoen}
 use Rattle.kl1_user.specs.declared.work.Work.{Work}
-use Rattle.kl1_user.specs.Kept.{Means, meaning, task_with, goal_with, shoen_with, life_of, AreGoalsIn, IsOwned, AreOwned, IsShoenIn}
-use Rattle.kl1_user.specs.Lists.{is_monitor, is_monitor_task, is_monitor_of, is_goal_of, is_other, goals_for}
+use Rattle.kl1_user.specs.Kept.{Means, meaning, task_with, goal_with, shoen_with, life_of, AreGoalsIn, AreOwned, IsShoenIn}
+use Rattle.kl1_user.specs.Lists.{is_monitor_task, is_monitor_of, is_goal_of, is_other, goals_for}
 use Rattle.kl1_user.specs.Works.{worked, IsWorkIn, HasPlace, Turns}
 use Rattle.kl1_user.proofs.Messages.{reads_texts}
-use Rattle.kl1_user.proofs.States.{Agree, same_goals, same_shoens, in_grown, goals_grown, shoen_grown, shoens_set}
+use Rattle.kl1_user.proofs.States.{Agree, same_goals, same_shoens, goals_grown, shoen_grown, shoens_set}
 use Rattle.kl1_user.proofs.Works.{read_as, finds, changes, turns_then, turns_as}
 
 -- ---- lists of goals as they are read
@@ -137,11 +134,11 @@ commit_turns h k w v goal names compiled places cells c i g own inst is at goals
     let agree : Agree h (meaning h) (meaning k) = λ x j. sym (gs.kept x j) in
     let fresh : (h.variables - 1) + fresh_variables c.clause ≡ k.variables - 1 = let a = inst.variables in let b = is.fresh_variables in omega arith in
     let all_goals : map (goal_with (meaning h)) w.goals.items ++ goals_from w.last_goal goal.shoen goal.priority (body_instance c.clause c.places (h.variables - 1)) ≡ map (goal_with (meaning k)) v.goals.items =
-      ap (λ (xs : List model.Goal). xs ++ goals_from w.last_goal goal.shoen goal.priority (body_instance c.clause c.places (h.variables - 1))) (same_goals h (meaning h) (meaning k) agree w.goals.items i.goals)
-      ∙ ap (λ (xs : List Term). map (goal_with (meaning k)) w.goals.items ++ goals_from w.last_goal goal.shoen goal.priority xs) body
-      ∙ ap (λ (xs : List model.Goal). map (goal_with (meaning k)) w.goals.items ++ xs) (goals_read k w.last_goal goal.shoen goal.priority cells)
-      ∙ sym (map-append (goal_with (meaning k)) w.goals.items added)
-      ∙ ap (map (goal_with (meaning k))) (sym goals_are) in
+    ap (λ (xs : List model.Goal). xs ++ goals_from w.last_goal goal.shoen goal.priority (body_instance c.clause c.places (h.variables - 1))) (same_goals h (meaning h) (meaning k) agree w.goals.items i.goals)
+    ∙ ap (λ (xs : List Term). map (goal_with (meaning k)) w.goals.items ++ goals_from w.last_goal goal.shoen goal.priority xs) body
+    ∙ ap (λ (xs : List model.Goal). map (goal_with (meaning k)) w.goals.items ++ xs) (goals_read k w.last_goal goal.shoen goal.priority cells)
+    ∙ sym (map-append (goal_with (meaning k)) w.goals.items added)
+    ∙ ap (map (goal_with (meaning k))) (sym goals_are) in
     let last : w.last_goal + length (body_instance c.clause c.places (h.variables - 1)) ≡ v.last_goal = ap (λ (xs : List Term). w.last_goal + length xs) body ∙ ap (λ n. w.last_goal + n) (count_read k cells) ∙ sym last_is in
     let S : Shoen → Type 0 = λ s. IsShoenIn k s in
     let G : List Goal → Type 0 = λ xs. AreGoalsIn k xs in
@@ -155,13 +152,13 @@ commit_turns h k w v goal names compiled places cells c i g own inst is at goals
       place = place_is;
       owned = λ count lt o. let O : List Goal → Type 0 = λ xs. AreOwned count xs in subst O (sym goals_are) (owned_append count w.goals.items added o (goals_for_owned count w.last_goal goal.shoen goal.priority cells (omega arith) (omega arith)));
       states = λ s shoens p.
-        ap (λ (xs : List model.Goal). let z : State = record s { goals = xs; shoens = map (shoen_with (meaning h)) (slice_set shoens w.place w.shoen); last_variable = (h.variables - 1) + fresh_variables c.clause; last_goal = w.last_goal + length (body_instance c.clause c.places (h.variables - 1)) } in z) all_goals
-        ∙ ap (λ (xs : List model.Shoen). let z : State = record s { goals = map (goal_with (meaning k)) v.goals.items; shoens = xs; last_variable = (h.variables - 1) + fresh_variables c.clause; last_goal = w.last_goal + length (body_instance c.clause c.places (h.variables - 1)) } in z)
+          ap (λ (xs : List model.Goal). let z : State = record s { goals = xs; shoens = map (shoen_with (meaning h)) (slice_set shoens w.place w.shoen); last_variable = (h.variables - 1) + fresh_variables c.clause; last_goal = w.last_goal + length (body_instance c.clause c.places (h.variables - 1)) } in z) all_goals
+          ∙ ap (λ (xs : List model.Shoen). let z : State = record s { goals = map (goal_with (meaning k)) v.goals.items; shoens = xs; last_variable = (h.variables - 1) + fresh_variables c.clause; last_goal = w.last_goal + length (body_instance c.clause c.places (h.variables - 1)) } in z)
           (same_shoens h (meaning h) (meaning k) agree (slice_set shoens w.place w.shoen) (shoens_set h shoens w.place w.shoen p.inside i.shoen))
-        ∙ ap (λ n. let z : State = record s { goals = map (goal_with (meaning k)) v.goals.items; shoens = map (shoen_with (meaning k)) (slice_set shoens w.place w.shoen); last_variable = n; last_goal = w.last_goal + length (body_instance c.clause c.places (h.variables - 1)) } in z) fresh
-        ∙ ap (λ n. let z : State = record s { goals = map (goal_with (meaning k)) v.goals.items; shoens = map (shoen_with (meaning k)) (slice_set shoens w.place w.shoen); last_variable = k.variables - 1; last_goal = n } in z) last
-        ∙ ap (λ n. let z : State = record s { goals = map (goal_with (meaning k)) v.goals.items; shoens = map (shoen_with (meaning k)) (slice_set shoens n w.shoen); last_variable = k.variables - 1; last_goal = v.last_goal } in z) (sym place_is)
-        ∙ ap (λ (r : Shoen). let z : State = record s { goals = map (goal_with (meaning k)) v.goals.items; shoens = map (shoen_with (meaning k)) (slice_set shoens v.place r); last_variable = k.variables - 1; last_goal = v.last_goal } in z) (sym shoen_is);
+          ∙ ap (λ n. let z : State = record s { goals = map (goal_with (meaning k)) v.goals.items; shoens = map (shoen_with (meaning k)) (slice_set shoens w.place w.shoen); last_variable = n; last_goal = w.last_goal + length (body_instance c.clause c.places (h.variables - 1)) } in z) fresh
+          ∙ ap (λ n. let z : State = record s { goals = map (goal_with (meaning k)) v.goals.items; shoens = map (shoen_with (meaning k)) (slice_set shoens w.place w.shoen); last_variable = k.variables - 1; last_goal = n } in z) last
+          ∙ ap (λ n. let z : State = record s { goals = map (goal_with (meaning k)) v.goals.items; shoens = map (shoen_with (meaning k)) (slice_set shoens n w.shoen); last_variable = k.variables - 1; last_goal = v.last_goal } in z) (sym place_is)
+          ∙ ap (λ (r : Shoen). let z : State = record s { goals = map (goal_with (meaning k)) v.goals.items; shoens = map (shoen_with (meaning k)) (slice_set shoens v.place r); last_variable = k.variables - 1; last_goal = v.last_goal } in z) (sym shoen_is);
     }
 
 -- ---- a shoen that terminates
@@ -183,12 +180,12 @@ ended_turns h w v i goals_are place_is last_is shoen_is =
       place = place_is;
       owned = λ count lt o. let O : List Goal → Type 0 = λ xs. AreOwned count xs in subst O (sym goals_are) (filter_owned count (λ g. not (is_monitor_of w.shoen.number g)) w.goals.items o);
       states = λ s shoens p.
-        ap (without_monitor w.shoen.number) (changes s (meaning h) (h.variables - 1) h shoens w (record w.shoen { life = Terminated }) (λ x. record x { life = model.terminated }) p number refl)
-        ∙ ap (λ (xs : List model.Goal). let z : State = record (read_as s (meaning h) (h.variables - 1) shoens (record w { shoen = record w.shoen { life = Terminated } })) { goals = xs } in z)
+          ap (without_monitor w.shoen.number) (changes s (meaning h) (h.variables - 1) h shoens w (record w.shoen { life = Terminated }) (λ x. record x { life = model.terminated }) p number refl)
+          ∙ ap (λ (xs : List model.Goal). let z : State = record (read_as s (meaning h) (h.variables - 1) shoens (record w { shoen = record w.shoen { life = Terminated } })) { goals = xs } in z)
           (monitors_read (meaning h) w.shoen.number w.goals.items ∙ ap (map (goal_with (meaning h))) (sym goals_are))
-        ∙ ap (λ n. let z : State = record s { goals = map (goal_with (meaning h)) v.goals.items; shoens = map (shoen_with (meaning h)) (slice_set shoens w.place (record w.shoen { life = Terminated })); last_variable = h.variables - 1; last_goal = n } in z) (sym last_is)
-        ∙ ap (λ n. let z : State = record s { goals = map (goal_with (meaning h)) v.goals.items; shoens = map (shoen_with (meaning h)) (slice_set shoens n (record w.shoen { life = Terminated })); last_variable = h.variables - 1; last_goal = v.last_goal } in z) (sym place_is)
-        ∙ ap (λ (r : Shoen). let z : State = record s { goals = map (goal_with (meaning h)) v.goals.items; shoens = map (shoen_with (meaning h)) (slice_set shoens v.place r); last_variable = h.variables - 1; last_goal = v.last_goal } in z) (sym shoen_is);
+          ∙ ap (λ n. let z : State = record s { goals = map (goal_with (meaning h)) v.goals.items; shoens = map (shoen_with (meaning h)) (slice_set shoens w.place (record w.shoen { life = Terminated })); last_variable = h.variables - 1; last_goal = n } in z) (sym last_is)
+          ∙ ap (λ n. let z : State = record s { goals = map (goal_with (meaning h)) v.goals.items; shoens = map (shoen_with (meaning h)) (slice_set shoens n (record w.shoen { life = Terminated })); last_variable = h.variables - 1; last_goal = v.last_goal } in z) (sym place_is)
+          ∙ ap (λ (r : Shoen). let z : State = record s { goals = map (goal_with (meaning h)) v.goals.items; shoens = map (shoen_with (meaning h)) (slice_set shoens v.place r); last_variable = h.variables - 1; last_goal = v.last_goal } in z) (sym shoen_is);
     }
 
 pub terminate_turns : (h k l : Held (List ℕ)) (w v x : Work) (a : List ℕ) → IsWorkIn h w → v.goals.items ≡ filter (λ g. not (is_monitor_of w.shoen.number g)) w.goals.items → v.place ≡ w.place → v.last_goal ≡ w.last_goal → v.shoen ≡ record w.shoen { life = Terminated } →
@@ -201,11 +198,11 @@ terminate_turns h k l w v x a i goals_are place_is last_is shoen_is e g reportin
     let same_x : x.shoen.number ≡ w.shoen.number = let p = second.inside in let q = second.place in let r = first.inside in let b = p.number in let c = r.number in omega arith in
     let message : meaning h (Atom a) ≡ atom (codes "terminated") = term_of-Atom (λ (z : List ℕ). z) h a ∙ ap atom e in
     let two : Turns (report w.shoen.number (atom (codes "terminated"))) h k v x =
-      turns_as (report v.shoen.number (meaning h (Atom a))) (report w.shoen.number (atom (codes "terminated"))) h k v x (λ z. ap (λ n. report n (atom (codes "terminated")) z) (sym same_v) ∙ ap (λ t. report v.shoen.number t z) (sym message)) second in
+    turns_as (report v.shoen.number (meaning h (Atom a))) (report w.shoen.number (atom (codes "terminated"))) h k v x (λ z. ap (λ n. report n (atom (codes "terminated")) z) (sym same_v) ∙ ap (λ t. report v.shoen.number t z) (sym message)) second in
     let three : Turns (close w.shoen.number) k l x x = turns_as (close x.shoen.number) (close w.shoen.number) k l x x (λ z. ap (λ n. close n z) (sym same_x)) third in
     let low : Grown h h = Grown-same h in
     turns_then (λ s. report w.shoen.number (atom (codes "terminated")) (without_monitor w.shoen.number (change_shoen w.shoen.number (λ y. record y { life = model.terminated }) s))) (close w.shoen.number) h k l w x x g
-      (turns_then (λ s. without_monitor w.shoen.number (change_shoen w.shoen.number (λ y. record y { life = model.terminated }) s)) (report w.shoen.number (atom (codes "terminated"))) h h k w v x low first two) three
+    (turns_then (λ s. without_monitor w.shoen.number (change_shoen w.shoen.number (λ y. record y { life = model.terminated }) s)) (report w.shoen.number (atom (codes "terminated"))) h h k w v x low first two) three
 
 -- ---- a shoen that is looked at
 
@@ -236,10 +233,10 @@ settle_terminates h k w v i e b t = record {
   place = t.place;
   owned = t.owned;
   states = λ s shoens p.
-    settles_as s h shoens w p i
-    ∙ ap (λ l. if is_living (life_of l) && not (list_any (is_goal_of w.shoen.number) w.goals.items) then terminate w.shoen.number (worked s h shoens w) else worked s h shoens w) e
-    ∙ ap (λ c. if not c then terminate w.shoen.number (worked s h shoens w) else worked s h shoens w) b
-    ∙ t.states s shoens p;
+      settles_as s h shoens w p i
+      ∙ ap (λ l. if is_living (life_of l) && not (list_any (is_goal_of w.shoen.number) w.goals.items) then terminate w.shoen.number (worked s h shoens w) else worked s h shoens w) e
+      ∙ ap (λ c. if not c then terminate w.shoen.number (worked s h shoens w) else worked s h shoens w) b
+      ∙ t.states s shoens p;
 }
 
 -- ---- a clause of a code

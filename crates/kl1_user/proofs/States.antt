@@ -1,7 +1,6 @@
 -- States made of goals and shoens whose cells are read in one way or another.
-use Rattle.std.proofs.Common.{◌≡◌, ℕ, zero, suc, ◌+◌, ◌<◌, ◌≤◌, ◌==◌, Bool, true, false, not, ◌&&◌, ◌||◌, if◌then◌else◌, List, [], ◌∷◌, ◌++◌, length, map, take, set, refl, sym, ap, ◌∙◌, arith, subst, length-take}
-use Rattle.std.specs.Prelude.{Option, Some, None, option_map, find, filter, slice_set}
-use Rattle.std.specs.List.{AllByRecursion, list_any}
+use Rattle.std.proofs.Common.{◌≡◌, ℕ, zero, suc, ◌+◌, ◌<◌, ◌≤◌, ◌==◌, if◌then◌else◌, List, [], ◌∷◌, length, map, refl, ap, ◌∙◌, arith, length-take}
+use Rattle.std.specs.Prelude.{Option, Some, None, option_map, slice_set}
 use Rattle.std.proofs.lemmas.Bool.{ne_eqb, eq-eqb}
 use Rattle.kl1_model.specs.Term.{Term, replace, Replacement, replaced}
 use Rattle.kl1_model.specs.State as model
@@ -15,7 +14,7 @@ use Rattle.kl1_user.specs.declared.task.Task.TheVariants.{Monitor, Reduces}
 use Rattle.kl1_user.specs.declared.goal.Goal.{Goal}
 use Rattle.kl1_user.specs.declared.origin.Origin.{Origin}
 use Rattle.kl1_user.specs.declared.shoen.Shoen.{Shoen}
-use Rattle.kl1_user.specs.Kept.{Means, meaning, task_with, goal_with, origin_with, shoen_with, state_with, with_kept, IsTaskIn, AreGoalsIn, IsKeptIn, IsOriginIn, IsShoenIn, AreShoensIn, AreNumbered}
+use Rattle.kl1_user.specs.Kept.{Means, task_with, goal_with, origin_with, shoen_with, state_with, IsTaskIn, AreGoalsIn, IsOriginIn, IsShoenIn, AreShoensIn, AreNumbered}
 
 -- ---- one way of reading in place of another
 

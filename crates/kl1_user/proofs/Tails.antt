@@ -1,11 +1,11 @@
 -- The tails of report streams.
-use Rattle.std.proofs.Common.{◌≡◌, ℕ, zero, suc, ◌+◌, ◌<◌, ◌≤◌, true, false, List, [], ◌∷◌, length, refl, sym, ap, ◌∙◌, arith, subst, ℤ}
-use Rattle.std.specs.Prelude.{Option, Some, None, slice_get}
-use Rattle.kl1_model.specs.Term.{Term, variable, integer, atom, structure, occurs}
+use Rattle.std.proofs.Common.{◌≡◌, ℕ, zero, suc, ◌<◌, false, List, [], ◌∷◌, length, refl, sym, ap, ◌∙◌, arith, subst, ℤ}
+use Rattle.std.specs.Prelude.{Some, None, slice_get}
+use Rattle.kl1_model.specs.Term.{Term, integer, atom, structure}
 use Rattle.kl1_store.specs.declared.cell.Cell.{Cell}
 use Rattle.kl1_store.specs.declared.cell.Cell.TheVariants.{Variable, Integer, Atom, Structure}
 use Rattle.kl1_store.specs.Held.{Shape, Held, IsIn, IsWalked, arguments_of, shape_arguments}
-use Rattle.kl1_store.specs.Meaning.{term_of, terms_of}
+use Rattle.kl1_store.specs.Meaning.{terms_of}
 use Rattle.kl1_store.specs.Sound.{IsFormed}
 use Rattle.kl1_store.proofs.Terms.{term_of-unbound, term_of-Structure, term_of-Integer, term_of-Atom}
 use Rattle.kl1_user.specs.declared.shoen.Shoen.{Shoen}

@@ -1,7 +1,7 @@
 -- What is made of an account, one change after another.
-use Rattle.std.proofs.Common.{◌≡◌, ℕ, suc, ◌+◌, ◌-◌, ◌<◌, ◌≤◌, ◌==◌, Bool, true, false, if◌then◌else◌, List, [], ◌∷◌, ◌++◌, length, map, refl, sym, ap, ◌∙◌, arith, subst}
-use Rattle.std.specs.Prelude.{Option, Some, None, slice_set}
-use Rattle.kl1_model.specs.Term.{Term, variable, integer, atom, structure, occurs, replace}
+use Rattle.std.proofs.Common.{◌≡◌, ℕ, suc, ◌-◌, true, if◌then◌else◌, List, refl, sym, ap, ◌∙◌, arith, subst}
+use Rattle.std.specs.Prelude.{Some, slice_set}
+use Rattle.kl1_model.specs.Term.{Term, variable, integer, atom, structure, replace}
 use Rattle.kl1_model.specs.Meaning.{cell}
 use Rattle.kl1_model.specs.State as model
 use Rattle.kl1_model.specs.State.{State, shoen_at, change_shoen, replace_in_state}
@@ -15,10 +15,10 @@ use Rattle.kl1_user.specs.declared.goal.Goal.{Goal}
 use Rattle.kl1_user.specs.declared.told.Told.{Told}
 use Rattle.kl1_user.specs.declared.told.Told.TheVariants.{Dropped, Broken, Sent}
 use Rattle.kl1_user.specs.declared.work.Work.{Work}
-use Rattle.kl1_user.specs.Kept.{Means, meaning, shoen_with, goal_with, state_with, with_kept, AreGoalsIn, AreOwned, IsShoenIn}
+use Rattle.kl1_user.specs.Kept.{Means, meaning, shoen_with, state_with, AreGoalsIn, IsShoenIn}
 use Rattle.kl1_user.specs.Works.{worked, IsWorkIn, HasPlace, Turns}
 use Rattle.kl1_user.specs.Reports.{Breaks, ToldAs, after_report}
-use Rattle.kl1_user.proofs.States.{Agree, same_state, replaced_state, found_at, changed_to, changed_at, in_grown, goals_grown, shoen_grown, shoens_grown, shoens_set}
+use Rattle.kl1_user.proofs.States.{Agree, same_state, replaced_state, found_at, changed_at, goals_grown, shoen_grown, shoens_grown, shoens_set}
 
 -- ---- changes one after another
 
@@ -102,11 +102,11 @@ report_states h k w m (Sent next) i d s shoens p =
     ∙ ap (λ b. if b then broken_at w.shoen.number S else moved (suc (h.variables - 1))) d.sent.free
     ∙ ap moved N
     ∙ ap (λ (z : State). change_shoen w.shoen.number (λ x. record x { tail = variable next }) (record z { last_variable = next }))
-        (replaced_state (record s { last_goal = w.last_goal }) d.number (cell M (variable next)) (meaning h) (h.variables - 1) w.goals.items (slice_set shoens w.place w.shoen))
+    (replaced_state (record s { last_goal = w.last_goal }) d.number (cell M (variable next)) (meaning h) (h.variables - 1) w.goals.items (slice_set shoens w.place w.shoen))
     ∙ ap (λ (z : State). change_shoen w.shoen.number (λ x. record x { tail = variable next }) z)
-        (rereads s (λ x. replace d.number (cell M (variable next)) (meaning h x)) (meaning k) next h shoens w (λ x j. sym (d.sent.means x j)) i p)
+    (rereads s (λ x. replace d.number (cell M (variable next)) (meaning h x)) (meaning k) next h shoens w (λ x j. sym (d.sent.means x j)) i p)
     ∙ changes s (meaning k) next h shoens w (after_report w.shoen (Sent next)) (λ x. record x { tail = variable next }) p i.number
-        (ap (λ t. let z : model.Shoen = record (shoen_with (meaning k) w.shoen) { tail = t } in z) (sym d.sent.tail))
+    (ap (λ t. let z : model.Shoen = record (shoen_with (meaning k) w.shoen) { tail = t } in z) (sym d.sent.tail))
     ∙ ap (λ n. read_as s (meaning k) n shoens (record w { shoen = after_report w.shoen (Sent next) })) (let a = d.sent.next_is in let b = d.sent.variables in omega arith)
 
 next_in : (h k : Held (List ℕ)) (v next : ℕ) (m : Cell (List ℕ)) → next ≡ h.variables → k.variables ≡ suc h.variables → IsIn k (Variable next)

@@ -59,7 +59,9 @@ fn is_account_name(bytes: &[u8]) -> bool
 {
     match bytes {
         [] => false,
-        [first, rest @ ..] => first.is_ascii_lowercase() && rest.len() <= 15 && are_name_bytes(rest),
+        [first, rest @ ..] => first.is_ascii_lowercase()
+            && rest.len() <= 15
+            && are_name_bytes(rest),
     }
 }
 
@@ -67,5 +69,7 @@ fn is_account_name(bytes: &[u8]) -> bool
 fn are_name_bytes(bytes: &[u8]) -> bool
     ensures { result ≡ list_all (λ c. is_small_letter c || is_digit c) bytes.now }
 {
-    bytes.iter().all(|byte| byte.is_ascii_lowercase() || byte.is_ascii_digit())
+    bytes
+        .iter()
+        .all(|byte| byte.is_ascii_lowercase() || byte.is_ascii_digit())
 }

@@ -15,7 +15,9 @@ pub enum Query {
 #[derive(Drop)]
 pub enum Event {
     /// A module is loaded from its source.
-    Load { source: Vec<u8> },
+    Load {
+        source: Vec<u8>,
+    },
     /// A goal, its variables numbered from 1 by first occurrence, is started in a shoen of its own, which may be charged
     /// `allowance` reductions and has the priorities `low` to `high`.
     Start {
@@ -26,7 +28,10 @@ pub enum Event {
     },
     /// A goal is reduced by the clause of a number in its predicate, from 1, or by 0, the number for a goal that fails and
     /// for a built-in goal.
-    Reduce { goal: GoalNo, clause: ClauseNo },
+    Reduce {
+        goal: GoalNo,
+        clause: ClauseNo,
+    },
     /// Nothing changes.
     Read(Query),
 }

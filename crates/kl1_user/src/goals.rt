@@ -1,6 +1,7 @@
 // Lists of goals.
 
-ghost use Rattle.std.specs.Prelude.{◌≡◌, ◌==◌, ◌&&◌, not, ◌+◌, ◌++◌, length, filter, map, find, IfOk};
+ghost use Rattle.std.specs.Prelude.{◌≡◌, ◌==◌, ◌&&◌, not, ◌+◌, ◌++◌, length, filter, map, find, Some, None, IfOk, MatchOption};
+ghost use Rattle.kl1_user.specs.declared.task.Task.TheVariants.{Monitor, Reduces};
 ghost use Rattle.std.specs.List.{list_any};
 ghost use Rattle.kl1_store.specs.Held.{AreIn};
 ghost use Rattle.kl1_user.specs.Lists.{is_monitor, is_other, is_monitor_of, is_goal_of, goals_for, stood, has_number};
@@ -24,14 +25,24 @@ fn is_monitor(goal: &Goal) -> bool
     }
 }
 
+/// The cell of the term that a goal is to reduce; a monitor has none.
+pub(crate) fn cell_of(goal: &Goal) -> Option<Cell<AtomText>>
+    ensures { MatchOption result (goal.now.task ≡ Monitor) (λ x. goal.now.task ≡ Reduces x) }
+{
+    match goal.task {
+        Task::Monitor => None,
+        Task::Reduces(cell) => Some(cell),
+    }
+}
+
 /// The goal of a number.
-pub(crate) fn goal_at(goals: &[Goal], number: u64) -> Option<Goal>
-    ensures { result ≡ find (has_number number) goals.now }
+pub(crate) fn goal_at<'a>(goals: &'a [Goal], number: u64) -> Option<&'a Goal>
+    ensures { MatchOption result (find (has_number number) goals.now ≡ None) (λ g. find (has_number number) goals.now ≡ Some g.now) }
 {
     let mut left = goals;
     while let [first, rest @ ..] = left {
         if first.number == number {
-            return Some(*first);
+            return Some(first);
         }
         left = rest;
     }
@@ -39,7 +50,11 @@ pub(crate) fn goal_at(goals: &[Goal], number: u64) -> Option<Goal>
 }
 
 /// The goals without that of a number.
-pub(crate) fn without_goal(alloc: Global, goals: &[Goal], number: u64) -> Result<Vec<Goal>, AllocError>
+pub(crate) fn without_goal(
+    alloc: Global,
+    goals: &[Goal],
+    number: u64,
+) -> Result<Vec<Goal>, AllocError>
     ensures { IfOk result (λ others. others.items ≡ filter (is_other number) goals.now) }
 {
     let mut others = Vec::new(alloc);
@@ -54,7 +69,11 @@ pub(crate) fn without_goal(alloc: Global, goals: &[Goal], number: u64) -> Result
 }
 
 /// The goals without the monitor of a shoen.
-pub(crate) fn without_monitor(alloc: Global, goals: &[Goal], shoen: u64) -> Result<Vec<Goal>, AllocError>
+pub(crate) fn without_monitor(
+    alloc: Global,
+    goals: &[Goal],
+    shoen: u64,
+) -> Result<Vec<Goal>, AllocError>
     ensures { IfOk result (λ others. others.items ≡ filter (λ g. not (is_monitor_of shoen g)) goals.now) }
 {
     let mut others = Vec::new(alloc);

@@ -17,6 +17,7 @@ mod moves;
 mod moving;
 mod numbers;
 mod origin;
+mod outcome;
 mod printing;
 mod raising;
 mod ready;

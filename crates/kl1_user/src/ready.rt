@@ -25,7 +25,9 @@ fn goes_first(one: Ready, other: Ready) -> bool
 fn better(best: Option<Ready>, goal: &Goal) -> Option<Ready>
     ensures { result ≡ better best (ready_of goal.now) }
 {
-    let Some(clause) = goal.standing else { return best };
+    let Some(clause) = goal.standing else {
+        return best
+    };
     let ready = Ready {
         goal: goal.number,
         clause,

@@ -15,11 +15,7 @@ use kl1_text::AtomText;
 use std::alloc::{AllocError, Global};
 
 /// Ends the shoen at work as terminated.
-fn terminate(
-    alloc: Global,
-    store: &mut Store<AtomText>,
-    work: &mut Work,
-) -> Result<(), AllocError>
+fn terminate(alloc: Global, store: &mut Store<AtomText>, work: &mut Work) -> Result<(), AllocError>
     requires { IsWorkIn store.old.held work.old }
     ensures ok { OnOk result (Turns (terminate work.old.shoen.number) store.old.held store.new.held work.old work.new) }
     ensures grown { Grown store.old.held store.new.held }

@@ -1,6 +1,6 @@
 // Lists of shoens.
 
-ghost use Rattle.std.specs.Prelude.{◌≡◌, ◌<◌, ◌==◌, find, length, option_and_then, slice_set};
+ghost use Rattle.std.specs.Prelude.{◌≡◌, ◌==◌, find, option_and_then};
 
 use crate::origin::Origin;
 use crate::shoen::Shoen;
@@ -17,12 +17,4 @@ pub(crate) fn origin_at(shoens: &[Shoen], number: u64) -> Option<Origin>
         left = rest;
     }
     None
-}
-
-/// Puts a shoen in place of another, by its place from 0.
-pub(crate) fn put_shoen(shoens: &mut Vec<Shoen>, place: usize, shoen: Shoen)
-    requires { place < length shoens.old.items }
-    ensures { shoens.new.items ≡ slice_set shoens.old.items place shoen }
-{
-    shoens[place] = shoen;
 }

@@ -4,25 +4,23 @@ ghost use Rattle.std.specs.Prelude.{◌≡◌, IfOk, OnErr, IsTrue, option_map};
 ghost use Rattle.kl1_model.specs.State.{fresh};
 ghost use Rattle.kl1_model.specs.Step.{step};
 ghost use Rattle.kl1_model.specs.Choice.{first, quiet};
-ghost use Rattle.kl1_model.specs.Event.{reduce, read};
-ghost use Rattle.kl1_user.specs.Views.{event_of, query_of, reply_of, chosen_of};
+ghost use Rattle.kl1_model.specs.Event.{reduce, read, value};
+ghost use Rattle.kl1_user.specs.Views.{event_of, reply_of, chosen_of};
 
 use crate::account_name::AccountName;
 use crate::event::{Event, Query};
 use crate::goal::Goal;
-use crate::goals::goal_at;
-use crate::limits::{MOST_ENTRIES, MOST_SHOWN, are_numbers, is_number};
-use crate::moves::move_of;
+use crate::limits::{MOST_SHOWN, is_number};
 use crate::numbers::{ClauseNo, GoalNo};
-use crate::ready::{first_ready, is_any_ready};
+use crate::outcome::Outcome;
 use crate::printing::print_cell;
-use crate::reduction::reduction;
+use crate::ready::{first_ready, is_any_ready};
+use crate::reduction::reduce_number;
 use crate::refusal::Refusal;
 use crate::reply::Reply;
 use crate::shoen::Shoen;
-use crate::shoens::{origin_at, put_shoen};
-use crate::task::Task;
-use crate::work::Work;
+use crate::shoens::origin_at;
+use crate::work::put_work;
 use kl1_clause::Code;
 use kl1_store::Store;
 use kl1_text::AtomText;
@@ -87,7 +85,9 @@ impl UserState {
     {
         match event {
             Event::Reduce { goal, clause } => self.reduce(goal.0, clause.0),
-            Event::Read(query) => self.read(query),
+            Event::Read(query) => match *query {
+                Query::Value(number) => self.read(number.0),
+            },
             _ => Err(AllocError),
         }
     }
@@ -109,16 +109,15 @@ impl UserState {
         !is_any_ready(&self.goals)
     }
 
-    /// What a query is answered.
-    fn read(&self, query: &Query) -> Result<Reply, AllocError>
-        ensures { IfOk result (λ reply. step self.now (read (query_of query.now)) ≡ record { state = self.now; reply = reply_of reply }) }
+    /// The goal of the shoen of a number, as started, with what is bound now.
+    fn read(&self, number: u64) -> Result<Reply, AllocError>
+        ensures { IfOk result (λ reply. step self.now (read (value number)) ≡ record { state = self.now; reply = reply_of reply }) }
     {
-        let Query::Value(number) = *query;
         let shoens = &self.shoens;
-        if !is_number(number.0) {
+        if !is_number(number) {
             return Ok(Reply::Refused(Refusal::Syntax));
         }
-        match origin_at(shoens, number.0) {
+        match origin_at(shoens, number) {
             None => Ok(Reply::Refused(Refusal::NoShoen)),
             Some(origin) => {
                 let text = print_cell(self.alloc, &self.store, origin.goal, MOST_SHOWN)?;
@@ -132,49 +131,26 @@ impl UserState {
         ensures step { IfOk result (λ reply. step self.old (reduce number clause) ≡ record { state = self.new; reply = reply_of reply }) }
         ensures err { OnErr result (self.new ≡ self.old) }
     {
-        let goals = &self.goals;
-        if !are_numbers(number, clause) {
-            return Ok(Reply::Refused(Refusal::Syntax));
-        }
-        let Some(goal) = goal_at(goals, number) else {
-            return Ok(Reply::Refused(Refusal::Step));
-        };
-        let task = goal.task;
-        let Task::Reduces(cell) = task else {
-            return Ok(Reply::Refused(Refusal::Step));
-        };
-        let Some(made) = move_of(self.alloc, &self.store, &self.modules, cell, clause)? else {
-            return Ok(Reply::Refused(Refusal::Step));
-        };
-        if MOST_ENTRIES <= self.entries {
-            return Ok(Reply::Refused(Refusal::Journal));
-        }
         let mark = self.store.mark();
-        match reduction(
+        match reduce_number(
             self.alloc,
             &mut self.store,
             &self.modules,
             &self.goals,
             &self.shoens,
             self.last_goal,
-            &goal,
-            cell,
+            self.entries,
+            number,
             clause,
-            &made,
         ) {
-            Ok(work) => {
-                let Work {
-                    goals,
-                    place,
-                    shoen,
-                    last_goal,
-                } = work;
-                self.goals = goals;
-                put_shoen(&mut self.shoens, place, shoen);
-                self.last_goal = last_goal;
-                self.entries += 1;
-                Ok(Reply::Reduced)
-            }
+            Ok(outcome) => match outcome {
+                Outcome::Refused(refusal) => Ok(Reply::Refused(refusal)),
+                Outcome::Done(work) => {
+                    self.last_goal = put_work(&mut self.goals, &mut self.shoens, work);
+                    self.entries += 1;
+                    Ok(Reply::Reduced)
+                }
+            },
             Err(error) => {
                 self.store.back(mark);
                 Err(error)

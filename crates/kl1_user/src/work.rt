@@ -1,5 +1,7 @@
 // What a reduction is to leave.
 
+ghost use Rattle.std.specs.Prelude.{◌≡◌, ◌<◌, length, slice_set};
+
 use crate::goal::Goal;
 use crate::shoen::Shoen;
 
@@ -11,4 +13,18 @@ pub(crate) struct Work {
     pub place: usize,
     pub shoen: Shoen,
     pub last_goal: u64,
+}
+
+/// Puts what was made in place, and gives the last number of a goal.
+pub(crate) fn put_work(goals: &mut Vec<Goal>, shoens: &mut Vec<Shoen>, work: Work) -> u64
+    requires { work.place < length shoens.old.items }
+    ensures goals { goals.new.items ≡ work.goals.items }
+    ensures shoens { shoens.new.items ≡ slice_set shoens.old.items work.place work.shoen }
+    ensures last { result ≡ work.last_goal }
+{
+    let place = work.place;
+    shoens[place] = work.shoen;
+    let last = work.last_goal;
+    *goals = work.goals;
+    last
 }

@@ -2,7 +2,6 @@ use Rattle.std.proofs.Common.{subst}
 use Rattle.kl1_model.specs.Text.{text_of}
 use Rattle.kl1_store.specs.declared.cell.Cell.TheVariants.{Variable, Atom}
 use Rattle.kl1_store.specs.declared.unified.Unified.{Unified}
-use Rattle.kl1_store.specs.declared.unified.Unified.TheVariants.{Bound, Clash}
 use Rattle.kl1_store.specs.Unification.{UnifiesAs}
 use Rattle.kl1_user.proofs.Pairs.{is_ended, never_ends}
 use Rattle.kl1_user.proofs.closing.end.Goals as goal

@@ -1,16 +1,14 @@
-use Rattle.std.proofs.Common.{◌≡◌, ◌<◌, ℕ, List, [], length, refl, sym, ap, ◌∙◌, arith, subst}
-use Rattle.std.specs.Prelude.{Option, Some}
-use Rattle.kl1_model.specs.Module.{Clause}
+use Rattle.std.proofs.Common.{◌≡◌, ◌<◌, ℕ, List, [], length, sym, ap, ◌∙◌, arith, subst}
+use Rattle.std.specs.Prelude.{Some}
 use Rattle.kl1_model.specs.State.{with_names, names_of_module}
 use Rattle.kl1_model.specs.Reduction as model
 use Rattle.kl1_model.specs.Reduction.{moved, commits}
-use Rattle.kl1_clause.specs.Clauses.{IsCompiled, AreCompiled}
+use Rattle.kl1_clause.specs.Clauses.{IsCompiled}
 use Rattle.kl1_match.specs.declared.place.Place.{Place}
 use Rattle.kl1_match.specs.Instances.{replacements_of}
 use Rattle.kl1_user.specs.declared.moves.Move.{Move}
-use Rattle.kl1_user.specs.declared.moves.Move.TheVariants.{Commits}
 use Rattle.kl1_user.specs.Kept.{meaning, goal_with}
-use Rattle.kl1_user.specs.Moves.{MovesAs, move_by}
+use Rattle.kl1_user.specs.Moves.{MovesAs}
 use Rattle.kl1_user.specs.Works.{Turns}
 use Rattle.kl1_user.proofs.Reductions.{is_taken}
 use Rattle.kl1_user.proofs.moving.do_move.Goals as goal
@@ -53,4 +51,4 @@ returns-in_ok-commit-in-Commits-clause-ok c =
     let compiled = subst N (sym c.names.ensures.value) (t.compiled c.index-clauses-number.result c.index-clauses-number.is) in
     let R : model.Move → Type 0 = λ z. Turns (moved (goal_with (meaning h) c.args.goal.now) (meaning h c.args.cell) z) h c.commit.new.store.held c.args.work.now c.commit.new.work in
     λ m e. let same : commits taken.candidate ≡ m = let a = taken.moves in cc in
-      subst R same (c.in_ok-commit-in-Commits.ensures.ok taken.candidate compiled (ap (λ (ps : List (Place (List ℕ))). replacements_of (λ a. a) h ps) c.deref.ensures.value ∙ taken.places_are))
+    subst R same (c.in_ok-commit-in-Commits.ensures.ok taken.candidate compiled (ap (λ (ps : List (Place (List ℕ))). replacements_of (λ a. a) h ps) c.deref.ensures.value ∙ taken.places_are))

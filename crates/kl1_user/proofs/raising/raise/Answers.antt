@@ -1,8 +1,5 @@
-use Rattle.std.proofs.Common.{List, ℕ, [], ◌∷◌, sym, subst}
+use Rattle.std.proofs.Common.{[], ◌∷◌}
 use Rattle.kl1_store.specs.declared.cell.Cell.TheVariants.{Atom}
-use Rattle.kl1_store.specs.Held.{Held, with_structure}
-use Rattle.kl1_store.specs.Sound.{Grown}
-use Rattle.kl1_store.proofs.Grows.{Grown-structure, Grown-trans}
 use Rattle.kl1_user.proofs.Pairs.{raised, grown_built}
 use Rattle.kl1_user.proofs.raising.raise.Goals as goal
 

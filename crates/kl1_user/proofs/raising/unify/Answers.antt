@@ -1,7 +1,6 @@
 use Rattle.std.proofs.Common.{subst}
 use Rattle.kl1_model.specs.Text.{text_of}
 use Rattle.kl1_store.specs.declared.unified.Unified.{Unified}
-use Rattle.kl1_store.specs.declared.unified.Unified.TheVariants.{Bound, Clash}
 use Rattle.kl1_store.specs.Unification.{UnifiesAs}
 use Rattle.kl1_user.proofs.Pairs.{solved_turns, failed_turns}
 use Rattle.kl1_user.proofs.raising.unify.Goals as goal

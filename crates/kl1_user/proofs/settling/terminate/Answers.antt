@@ -1,4 +1,4 @@
-use Rattle.std.proofs.Common.{◌≡◌, List, not, ap, ◌∙◌, refl}
+use Rattle.std.proofs.Common.{not, ap, ◌∙◌, refl}
 use Rattle.std.specs.Prelude.{filter}
 use Rattle.kl1_user.specs.declared.life.Life.TheVariants.{Terminated}
 use Rattle.kl1_user.specs.declared.work.Work.{Work}

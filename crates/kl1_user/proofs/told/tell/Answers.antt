@@ -1,6 +1,6 @@
 use Rattle.std.proofs.Common.{List, ℕ, subst}
-use Rattle.std.specs.Prelude.{Option, Some, None}
-use Rattle.kl1_store.specs.declared.cell.Cell.TheVariants.{Variable, Integer, Atom, Structure}
+use Rattle.std.specs.Prelude.{Option}
+use Rattle.kl1_store.specs.declared.cell.Cell.TheVariants.{Integer, Atom, Structure}
 use Rattle.kl1_user.specs.Sendings.{SentAs}
 use Rattle.kl1_user.proofs.Tails.{has_broken, has_cycle, has_sent}
 use Rattle.kl1_user.proofs.told.tell.Goals as goal
