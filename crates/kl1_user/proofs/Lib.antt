@@ -1,3 +1,5 @@
 pub mod AccountNames
 pub mod Shapes
 pub mod Trying
+pub mod Choosing
+pub mod Taking
