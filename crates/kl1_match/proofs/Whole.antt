@@ -4,13 +4,12 @@ use Rattle.std.specs.Prelude.{reverse}
 use Rattle.std.proofs.lemmas.List.{drop_all}
 use Rattle.kl1_model.specs.declared.built_in.BuiltIn.{BuiltIn}
 use Rattle.kl1_model.specs.Term.{Term, Terms, more}
-use Rattle.kl1_model.specs.TermCode.{nodes_of, nodes_of_all}
+use Rattle.kl1_model.specs.TermCode.{nodes_of_all}
 use Rattle.kl1_model.specs.Module.{Clause}
-use Rattle.kl1_model.specs.Match as model
-use Rattle.kl1_model.specs.Match.{agrees, clashes, waits, both, Matched, with_outcome, match_term, match_terms, tests_outcome, verdict, verdict_of, verdict_with, accepts, rejects, suspends}
+use Rattle.kl1_model.specs.Match.{agrees, clashes, waits, both, Matched, match_terms, tests_outcome, verdict, verdict_of, verdict_with, rejects}
 use Rattle.kl1_text.specs.Reading.{Reads}
 use Rattle.kl1_store.specs.declared.cell.Cell.{Cell}
-use Rattle.kl1_store.specs.Held.{Held, IsIn, AreIn}
+use Rattle.kl1_store.specs.Held.{Held, AreIn}
 use Rattle.kl1_store.specs.Meaning.{term_of, terms_of}
 use Rattle.kl1_clause.specs.declared.compiled_clause.CompiledClause.{CompiledClause}
 use Rattle.kl1_clause.specs.declared.instruction.Instruction.{Instruction}
@@ -20,7 +19,7 @@ use Rattle.kl1_match.specs.declared.place.Place.{Place}
 use Rattle.kl1_match.specs.declared.verdict.Verdict.{Verdict}
 use Rattle.kl1_match.specs.declared.verdict.Verdict.TheVariants.{Accepts, Rejects, Suspends}
 use Rattle.kl1_match.specs.Instances.{AreThere, IsClause, replacements_of}
-use Rattle.kl1_match.specs.Matching.{Begins, GoesInto, Continues, Decides}
+use Rattle.kl1_match.specs.Matching.{Continues, Decides}
 use Rattle.kl1_match.specs.Verdicts.{arguments_of_goal, verdict_with_places, IsVerdict}
 use Rattle.kl1_match.proofs.Cells.{AreIn-pop}
 use Rattle.kl1_match.proofs.Answered.{matched_with, so_far, both-agrees, IsLeft, IsNext, begun, next_of, agreed, waited, clashed, no_terms, no_patterns, all_matched}

@@ -1,15 +1,15 @@
 -- Which clause a call takes, by its candidates.
-use Rattle.std.proofs.Common.{◌≡◌, ℕ, zero, suc, ◌+◌, ◌-◌, ◌<◌, ◌≤◌, ◌==◌, not, ◌&&◌, Bool, true, false, if◌then◌else◌, List, [], ◌∷◌, ◌++◌, length, map, refl, sym, ap, ◌∙◌, subst, arith}
-use Rattle.std.specs.Prelude.{Option, Some, None, is_some, slice_get, find, option_map}
+use Rattle.std.proofs.Common.{◌≡◌, ℕ, suc, ◌≤◌, ◌==◌, not, ◌&&◌, Bool, true, false, if◌then◌else◌, List, [], ◌∷◌, ◌++◌, map, refl, sym, ap, ◌∙◌, arith}
+use Rattle.std.specs.Prelude.{Option, Some, None, is_some, find, option_map}
 use Rattle.std.specs.List.{list_all}
 use Rattle.std.proofs.lemmas.Bool.{cond-true, cond-false, eq-eqb, ne_eqb}
 use Rattle.kl1_model.specs.Term.{Term, Terms}
 use Rattle.kl1_model.specs.Module.{Clause, Module}
 use Rattle.kl1_model.specs.Match as model
 use Rattle.kl1_model.specs.Match.{Call, call_of, clauses_of, Candidate, candidate_by, candidates_from, candidates_of, fails, is_rejected, verdict, accepts, rejects, suspends}
-use Rattle.kl1_model.specs.Reduction.{Move, commits, raises, failure, term_move, call_move, built_in_move}
+use Rattle.kl1_model.specs.Reduction.{Move, commits, raises, failure, term_move, built_in_move}
 use Rattle.kl1_model.specs.Choice.{call_clauses}
-use Rattle.kl1_user.specs.Moves.{move_by, term_clause}
+use Rattle.kl1_user.specs.Moves.{term_clause}
 use Rattle.kl1_user.specs.Candidates.{answer_of, answer_by}
 
 -- the number of the first candidate

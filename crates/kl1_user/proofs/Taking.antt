@@ -1,5 +1,5 @@
 -- What a call can do by the clause of a number.
-use Rattle.std.proofs.Common.{◌≡◌, ℕ, zero, suc, ◌+◌, ◌-◌, ◌<◌, ◌≤◌, ◌==◌, Bool, true, false, if◌then◌else◌, List, [], ◌∷◌, ◌++◌, refl, sym, ap, ◌∙◌, subst, arith}
+use Rattle.std.proofs.Common.{◌≡◌, ℕ, zero, suc, ◌+◌, ◌-◌, ◌<◌, ◌==◌, Bool, true, false, if◌then◌else◌, List, [], ◌∷◌, ◌++◌, refl, sym, ap, ◌∙◌, arith}
 use Rattle.std.specs.Prelude.{Option, Some, None, slice_get, filter, find, option_map}
 use Rattle.std.proofs.lemmas.Bool.{cond-true, cond-false, eq-eqb, ne_eqb}
 use Rattle.kl1_model.specs.Term.{Term, Terms, Replacement}
@@ -8,21 +8,19 @@ use Rattle.kl1_model.specs.Match as model
 use Rattle.kl1_model.specs.Match.{call_of, clauses_of, module_of, Candidate, candidate_by, candidates_from, candidates_of, fails, verdict, accepts, rejects, suspends}
 use Rattle.kl1_model.specs.Reduction as model_moves
 use Rattle.kl1_model.specs.Reduction.{commits, raises, unifies, goes, failure, term_move, call_move, built_in_move}
-use Rattle.kl1_store.specs.declared.cell.Cell.{Cell}
-use Rattle.kl1_store.specs.Held.{Held, IsIn}
-use Rattle.kl1_store.specs.Meaning.{term_of}
+use Rattle.kl1_store.specs.Held.{Held}
 use Rattle.kl1_match.specs.declared.place.Place.{Place}
 use Rattle.kl1_match.specs.declared.verdict.Verdict.{Verdict}
 use Rattle.kl1_match.specs.declared.verdict.Verdict.TheVariants.{Accepts, Rejects, Suspends}
 use Rattle.kl1_match.specs.Instances.{replacements_of}
-use Rattle.kl1_match.specs.Verdicts.{arguments_of_goal, verdict_with_places}
+use Rattle.kl1_match.specs.Verdicts.{verdict_with_places}
 use Rattle.kl1_user.specs.declared.call.Call.{Call}
 use Rattle.kl1_user.specs.declared.moves.Move.{Move}
 use Rattle.kl1_user.specs.declared.moves.Move.TheVariants as move
-use Rattle.kl1_user.specs.Calls.{cell_of, arguments_at, call_at, IsCall, IsUnification, IsTrueGoal, IsNoGoal}
+use Rattle.kl1_user.specs.Calls.{cell_of, arguments_at, call_at, IsNoGoal}
 use Rattle.kl1_user.specs.Candidates.{IsVerdictAt, IsNumbered, IsSet, answer_of}
-use Rattle.kl1_user.specs.Moves.{move_by, MovesAs, CommitsTo}
-use Rattle.kl1_user.specs.Committing.{FailsAs, first_candidate, candidate_of, candidate_in, CommitsBy, CommitsIn, CommitsAt, CommitsAs}
+use Rattle.kl1_user.specs.Moves.{move_by, MovesAs}
+use Rattle.kl1_user.specs.Committing.{FailsAs, first_candidate, candidate_of, candidate_in, CommitsBy, CommitsIn, CommitsAs}
 use Rattle.kl1_user.proofs.Trying.{some_clause, in_module, no_module_at}
 use Rattle.kl1_user.proofs.Choosing.{AreFrom, are_from, first_number, answer-chosen}
 

@@ -1,8 +1,7 @@
 -- The clauses of a predicate, tried one after another.
-use Rattle.std.proofs.Common.{◌≡◌, ℕ, zero, suc, ◌+◌, ◌-◌, ◌<◌, ◌≤◌, ◌==◌, not, ◌&&◌, Bool, true, false, if◌then◌else◌, List, [], ◌∷◌, ◌++◌, length, map, drop, get_or, refl, sym, ap, ◌∙◌, subst, arith, drop-cons}
-use Rattle.std.specs.Prelude.{Option, Some, None, MatchOption, slice_get, filter, find, bytes_eq}
-use Rattle.std.specs.List.{list_all}
-use Rattle.std.proofs.lemmas.List.{drop_all, map-id}
+use Rattle.std.proofs.Common.{◌≡◌, ℕ, zero, suc, ◌+◌, ◌-◌, ◌<◌, ◌≤◌, ◌==◌, ◌&&◌, Bool, true, false, List, [], ◌∷◌, length, map, drop, get_or, refl, sym, ap, ◌∙◌, subst, arith, drop-cons}
+use Rattle.std.specs.Prelude.{Option, Some, None, slice_get, filter, bytes_eq}
+use Rattle.std.proofs.lemmas.List.{drop_all}
 use Rattle.std.proofs.lemmas.Bool.{cond-true, cond-false, eq-eqb, ne_eqb, and_right}
 use Rattle.kl1_model.specs.Term.{Terms, count_of}
 use Rattle.kl1_model.specs.Module.{Clause, Module, is_of}

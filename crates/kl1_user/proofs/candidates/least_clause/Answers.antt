@@ -1,9 +1,9 @@
-use Rattle.std.proofs.Common.{◌≡◌, ◌<◌, ◌≤◌, ◌+◌, ℕ, suc, true, false, ap, sym, ◌∙◌, arith, length, refl}
+use Rattle.std.proofs.Common.{◌≡◌, ◌<◌, ◌+◌, suc, true, false, ap, sym, ◌∙◌, arith, length}
 use Rattle.std.specs.Prelude.{Some}
 use Rattle.kl1_match.specs.declared.verdict.Verdict.TheVariants.{Accepts, Rejects, Suspends}
 use Rattle.kl1_user.specs.Calls.{cell_of, arguments_at}
 use Rattle.kl1_user.specs.Candidates.{answer_of}
-use Rattle.kl1_user.proofs.Trying.{left_of, passed_by, tried, answer_left}
+use Rattle.kl1_user.proofs.Trying.{left_of, passed_by, tried}
 use Rattle.kl1_user.proofs.candidates.least_clause.Goals as goal
 
 pub loop-place-preserved-then-not-is_of_at : goal.loop-place-preserved-then-not-is_of_at

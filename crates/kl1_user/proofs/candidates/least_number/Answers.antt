@@ -1,7 +1,6 @@
-use Rattle.std.proofs.Common.{◌≡◌, ap, sym, ◌∙◌, false}
-use Rattle.kl1_model.specs.Module.{Module, is_of}
-use Rattle.std.specs.Prelude.{filter, Some}
-use Rattle.kl1_model.specs.Match.{module_of}
+use Rattle.std.proofs.Common.{ap, sym, ◌∙◌, false}
+use Rattle.kl1_model.specs.Module.{Module}
+use Rattle.std.specs.Prelude.{Some}
 use Rattle.kl1_user.specs.Calls.{arguments_at}
 use Rattle.kl1_user.specs.Candidates.{answer_of}
 use Rattle.kl1_user.proofs.Trying.{in_module, no_module_at, module_same, module_within}

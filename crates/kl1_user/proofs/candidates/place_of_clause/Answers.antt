@@ -1,4 +1,4 @@
-use Rattle.std.proofs.Common.{◌≡◌, ◌<◌, ◌≤◌, ap, sym, ◌∙◌, arith, length}
+use Rattle.std.proofs.Common.{◌<◌, ◌≤◌, ap, sym, ◌∙◌, arith, length}
 use Rattle.std.specs.Prelude.{slice_get}
 use Rattle.kl1_user.proofs.Trying.{passed_by, one_passed, numbered_here, none_numbered}
 use Rattle.kl1_user.proofs.candidates.place_of_clause.Goals as goal

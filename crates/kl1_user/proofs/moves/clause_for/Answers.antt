@@ -1,4 +1,4 @@
-use Rattle.std.proofs.Common.{◌≡◌, sym, ◌∙◌}
+use Rattle.std.proofs.Common.{sym, ◌∙◌}
 use Rattle.kl1_store.specs.Meaning.{term_of}
 use Rattle.kl1_model.specs.Reduction.{goes, unifies}
 use Rattle.kl1_user.specs.Calls.{call_at}

@@ -1,9 +1,5 @@
-use Rattle.std.proofs.Common.{◌≡◌, ap, sym, ◌∙◌, arith}
-use Rattle.std.specs.Prelude.{Some}
 use Rattle.kl1_store.specs.Meaning.{term_of}
-use Rattle.kl1_model.specs.Reduction.{goes, unifies}
-use Rattle.kl1_user.specs.Calls.{call_at}
-use Rattle.kl1_user.proofs.Taking.{fails_as, commits_as, by_zero, by_other, by_none}
+use Rattle.kl1_user.proofs.Taking.{by_none}
 use Rattle.kl1_user.proofs.moves.move_of.Goals as goal
 
 pub failing-requires : goal.failing-requires
