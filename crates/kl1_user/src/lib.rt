@@ -12,6 +12,8 @@ mod printing;
 mod refusal;
 mod reply;
 mod shape;
+#[cfg(test)]
+mod tests;
 mod user_state;
 
 pub use account_name::AccountName;
