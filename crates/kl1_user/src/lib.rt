@@ -12,8 +12,6 @@ mod printing;
 mod refusal;
 mod reply;
 mod shape;
-#[cfg(test)]
-mod tests;
 mod user_state;
 
 pub use account_name::AccountName;
