@@ -214,6 +214,7 @@ is_structure g n (structure k us) b =
     number_in (inl y) = 0
     number_in (inr (inl a)) = 0
     number_in (inr (inr q)) = q.1
+
     name_of : NodeCode → List ℕ
     name_of (inl y) = []
     name_of (inr (inl a)) = []

@@ -130,17 +130,17 @@ pub clash_there : {N : Type 0} (built : BuiltIn → N) (names : List N) (compile
 clash_there {N = N} built names compiled h goal x at i stack rest now places longer waiting lt popped all met =
     let Q : List (Place N) → Type 0 = λ l. IsVerdict built names compiled h goal l Rejects in
     subst Q (sym met.places_are) (rejected built names compiled h goal places all.places_in (λ f reads clause is.
-        let n = next_at built names compiled h goal x at i stack rest places waiting lt popped all f reads clause is in
-        let c = code_in (map f names) (get_or compiled.patterns.items at i) in
-        let behind = map (code_in (map f names)) (drop (at + 1) compiled.patterns.items) in
-        clashed f h clause.patterns (arguments_of_goal (term_of f h goal)) c behind x rest places waiting n (met.matched f reads n.first n.begins)))
+    let n = next_at built names compiled h goal x at i stack rest places waiting lt popped all f reads clause is in
+    let c = code_in (map f names) (get_or compiled.patterns.items at i) in
+    let behind = map (code_in (map f names)) (drop (at + 1) compiled.patterns.items) in
+    clashed f h clause.patterns (arguments_of_goal (term_of f h goal)) c behind x rest places waiting n (met.matched f reads n.first n.begins)))
 
 pub terms_wanted : {N : Type 0} (built : BuiltIn → N) (names : List N) (compiled : CompiledClause) (h : Held N) (goal : Cell N) (at : ℕ) (i : Instruction) (stack : List (Cell N)) (places : List (Place N)) (waiting : Bool) →
     at < length compiled.patterns.items → stack ≡ [] → GivesAll built names compiled h goal at stack places waiting → IsVerdict built names compiled h goal places Rejects
 terms_wanted built names compiled h goal at i stack places waiting lt empty all =
     rejected built names compiled h goal places all.places_in (λ f reads clause is.
-        no_terms f h clause.patterns (arguments_of_goal (term_of f h goal)) (code_in (map f names) (get_or compiled.patterns.items at i)) (map (code_in (map f names)) (drop (at + 1) compiled.patterns.items)) (map (code_in (map f names)) (drop at compiled.patterns.items)) stack places waiting
-        (row_at (map f names) compiled.patterns.items at i lt) empty (all.left f reads clause is))
+    no_terms f h clause.patterns (arguments_of_goal (term_of f h goal)) (code_in (map f names) (get_or compiled.patterns.items at i)) (map (code_in (map f names)) (drop (at + 1) compiled.patterns.items)) (map (code_in (map f names)) (drop at compiled.patterns.items)) stack places waiting
+    (row_at (map f names) compiled.patterns.items at i lt) empty (all.left f reads clause is))
 
 -- the last of a list
 last_of : {A : Type 0} (xs : List A) → (xs ≡ [] → ⊥) → (rest : List A) × (x : A) × (xs ≡ rest ++ x ∷ [])
@@ -156,7 +156,7 @@ pub patterns_wanted : {N : Type 0} (built : BuiltIn → N) (names : List N) (com
 patterns_wanted built names compiled h goal at stack places waiting le some all =
     let r = last_of stack some in
     rejected built names compiled h goal places all.places_in (λ f reads clause is.
-        no_patterns f h clause.patterns (arguments_of_goal (term_of f h goal)) (map (code_in (map f names)) (drop at compiled.patterns.items)) stack r.0 r.1 places waiting (nothing_more (map f names) compiled.patterns.items at le) r.2 (all.left f reads clause is))
+    no_patterns f h clause.patterns (arguments_of_goal (term_of f h goal)) (map (code_in (map f names)) (drop at compiled.patterns.items)) stack r.0 r.1 places waiting (nothing_more (map f names) compiled.patterns.items at le) r.2 (all.left f reads clause is))
 
 -- the verdict where nothing clashed
 abbrev pub verdict_so_far : Bool → Verdict
