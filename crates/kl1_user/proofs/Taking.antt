@@ -89,9 +89,13 @@ none_there h m c number e = ap (candidate_of number (arguments_at h c)) e
 given_verdict : (h : Held (List ℕ)) (m : Module) (c : Call) (number place : ℕ) (places : List (Place (List ℕ))) (given known : Verdict) → IsNumbered m c.name c.count (number - 1) place → IsVerdictAt m h place (cell_of c) places given → given ≡ known →
     (d : Clause) × ((slice_get m.clauses place ≡ Some d) × (candidate_in h m c number ≡ first_candidate (candidate_by number d (verdict_with_places (λ a. a) h places known))))
 given_verdict h m c number place places given known n v e =
-    let same : n.clause ≡ v.clause = some_clause (sym n.at ∙ v.at) in
-    (v.clause, (v.at,
-      ap (candidate_of number (arguments_at h c)) (n.numbered ∙ ap (λ (x : Clause). Some x) same) ∙ ap (λ w. first_candidate (candidate_by number v.clause w)) (v.verdict_is ∙ ap (verdict_with_places (λ a. a) h places) e)))
+    let same : n.clause ≡ v.clause = some_clause (sym n.at ∙ v.at) in (
+      v.clause,
+      (
+        v.at,
+        ap (candidate_of number (arguments_at h c)) (n.numbered ∙ ap (λ (x : Clause). Some x) same) ∙ ap (λ w. first_candidate (candidate_by number v.clause w)) (v.verdict_is ∙ ap (verdict_with_places (λ a. a) h places) e),
+      ),
+    )
 
 pub accepted : (h : Held (List ℕ)) (m : Module) (c : Call) (number place : ℕ) (places : List (Place (List ℕ))) (given : Verdict) → IsNumbered m c.name c.count (number - 1) place → IsVerdictAt m h place (cell_of c) places given → given ≡ Accepts →
     CommitsBy h m c number place places

@@ -204,6 +204,7 @@ module_same modules name place x k e = walk modules place k.at ∙ sym e
   where
     some_module : {u v : Module} → Some u ≡ Some v → u ≡ v
     some_module p = cc
+
     walk : (ms : List Module) (i : ℕ) → slice_get ms i ≡ Some k.within → k.within ≡ get_or ms i x
     walk [] i q = absurd (cc)
     walk (y ∷ ms) zero q = sym (some_module q)

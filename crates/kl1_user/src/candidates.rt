@@ -6,7 +6,6 @@ ghost use Rattle.kl1_model.specs.Match.{module_of, clauses_of};
 ghost use Rattle.kl1_store.specs.Held.{IsIn};
 ghost use Rattle.kl1_user.specs.Calls.{cell_of, arguments_at, call_at};
 ghost use Rattle.kl1_user.specs.Candidates.{IsModuleAt, IsOfAt, IsVerdictAt, IsNumbered, IsSet, IsCompiledAt, answer_of};
-
 ghost use Rattle.kl1_model.specs.State.{names_of_module, with_names};
 
 use crate::call::Call;
