@@ -1,5 +1,5 @@
 pub mod AccountNames
 pub mod Shapes
 pub mod Trying
-pub mod Choosing
+pub mod Standings
 pub mod Taking

@@ -22,7 +22,7 @@ use Rattle.kl1_user.specs.Candidates.{IsVerdictAt, IsNumbered, IsSet, answer_of}
 use Rattle.kl1_user.specs.Moves.{move_by, MovesAs}
 use Rattle.kl1_user.specs.Committing.{FailsAs, first_candidate, candidate_of, candidate_in, CommitsBy, CommitsIn, CommitsAs}
 use Rattle.kl1_user.proofs.Trying.{some_clause, in_module, no_module_at}
-use Rattle.kl1_user.proofs.Choosing.{AreFrom, are_from, first_number, answer-chosen}
+use Rattle.kl1_user.proofs.Standings.{AreFrom, are_from, first_number, answer-chosen}
 
 -- ---- candidates by number
 
