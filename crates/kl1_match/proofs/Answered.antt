@@ -1,25 +1,16 @@
 -- What is left of a row and of a stack, and the answer of all.
-use Rattle.std.proofs.Common.{◌≡◌, ℕ, suc, ◌+◌, ◌<◌, ◌≤◌, ◌==◌, Bool, true, false, if◌then◌else◌, List, [], ◌∷◌, ◌++◌, length, map, drop, get_or, refl, sym, ap, ◌∙◌, subst, arith, append_assoc}
+use Rattle.std.proofs.Common.{◌≡◌, ℕ, Bool, true, false, List, [], ◌∷◌, ◌++◌, refl, sym, ap, ◌∙◌, subst, arith, append_assoc}
 use Rattle.std.specs.Prelude.{reverse}
 use Rattle.std.proofs.lemmas.List.{append-nil, reverse-append}
-use Rattle.std.proofs.Math.Seq.{drop-cons}
-use Rattle.kl1_model.specs.declared.built_in.BuiltIn.{BuiltIn}
 use Rattle.kl1_model.specs.Term.{Term, variable, integer, atom, structure, Terms, none, more, count_of, Replacement}
-use Rattle.kl1_model.specs.TermCode.{NodeCode, nodes_of, nodes_of_all}
-use Rattle.kl1_model.specs.Module.{Clause}
+use Rattle.kl1_model.specs.TermCode.{NodeCode, nodes_of_all}
 use Rattle.kl1_model.specs.Match.{Outcome, agrees, clashes, waits, both, Matched, with_outcome, match_both, match_term, match_terms}
-use Rattle.kl1_text.specs.Reading.{Reads}
 use Rattle.kl1_store.specs.declared.cell.Cell.{Cell}
-use Rattle.kl1_store.specs.Held.{Held, IsIn, AreIn}
+use Rattle.kl1_store.specs.Held.{Held}
 use Rattle.kl1_store.specs.Meaning.{term_of, terms_of}
-use Rattle.kl1_clause.specs.declared.compiled_clause.CompiledClause.{CompiledClause}
-use Rattle.kl1_clause.specs.declared.instruction.Instruction.{Instruction}
-use Rattle.kl1_clause.specs.Instructions.{code_in}
-use Rattle.kl1_clause.specs.Clauses.{IsCompiled}
 use Rattle.kl1_match.specs.declared.place.Place.{Place}
-use Rattle.kl1_match.specs.Instances.{AreThere, replacements_of}
-use Rattle.kl1_match.specs.Matching.{joined, Begins, GoesInto, Continues, Decides}
-use Rattle.kl1_match.specs.Verdicts.{arguments_of_goal}
+use Rattle.kl1_match.specs.Instances.{replacements_of}
+use Rattle.kl1_match.specs.Matching.{joined, Begins, GoesInto}
 use Rattle.kl1_match.proofs.Skipping.{nodes_of-joined}
 
 -- ---- outcomes

@@ -1,21 +1,20 @@
 -- Patterns of each kind beside a cell, by the cell that it stands for.
 use Rattle.std.proofs.Common.{◌≡◌, ℕ, List, [], ◌∷◌, ◌++◌, map, refl, sym, ap, ◌∙◌, subst, ℤ, inl, inr}
 use Rattle.kl1_model.specs.declared.built_in.BuiltIn.{BuiltIn}
-use Rattle.kl1_model.specs.Term.{Term, integer, atom, structure, Terms, count_of}
-use Rattle.kl1_model.specs.Match.{Outcome, agrees, clashes, waits, with_outcome, match_term}
+use Rattle.kl1_model.specs.Term.{Term, integer, atom, structure}
+use Rattle.kl1_model.specs.Match.{Outcome, clashes, waits, with_outcome, match_term}
 use Rattle.kl1_text.specs.Reading.{Reads}
 use Rattle.kl1_store.specs.declared.cell.Cell.{Cell}
 use Rattle.kl1_store.specs.Held.{Held, IsIn, AreIn}
 use Rattle.kl1_store.specs.Meaning.{term_of}
 use Rattle.kl1_clause.specs.declared.name.Name.{Name}
-use Rattle.kl1_clause.specs.declared.instruction.Instruction.{Instruction}
 use Rattle.kl1_clause.specs.declared.instruction.Instruction.TheVariants.{Variable, Integer, Atom, Structure}
-use Rattle.kl1_clause.specs.Instructions.{text_in, code_in}
+use Rattle.kl1_clause.specs.Instructions.{text_in}
 use Rattle.kl1_match.specs.declared.place.Place.{Place}
 use Rattle.kl1_match.specs.declared.met.Met.{Met}
 use Rattle.kl1_match.specs.declared.met.Met.TheVariants.{Agrees, Waits, Clashes}
 use Rattle.kl1_match.specs.Instances.{AreThere}
-use Rattle.kl1_match.specs.Matching.{IntegerMeets, AtomMeets, StructureMeets, MeetsAs, Continues, Decides, Stays, Opens, Begins, IsOpened}
+use Rattle.kl1_match.specs.Matching.{IntegerMeets, AtomMeets, StructureMeets, MeetsAs, Decides, Stays, Begins, IsOpened}
 use Rattle.kl1_match.proofs.Cells.{takes_place, is_integer, is_atom, agrees_alone, agrees_inside, stays_outside, AreThere-push}
 
 pub variable_meets : {N : Type 0} (built : BuiltIn → N) (h : Held N) (names : List N) (v : ℕ) (x : Cell N) (stack : List (Cell N)) (places longer : List (Place N)) → IsIn h x → AreIn h stack → AreThere h places →

@@ -1,5 +1,5 @@
 -- Patterns beside walked cells.
-use Rattle.std.proofs.Common.{◌≡◌, ℕ, zero, suc, inl, inr, drop, append_assoc, ◌<◌, ◌==◌, ◌&&◌, Bool, true, false, List, [], ◌∷◌, ◌++◌, length, refl, sym, ap, ◌∙◌, subst, ℤ, arith}
+use Rattle.std.proofs.Common.{◌≡◌, ℕ, zero, suc, inl, inr, drop, append_assoc, ◌==◌, ◌&&◌, Bool, true, false, List, [], ◌∷◌, ◌++◌, length, refl, sym, ap, ◌∙◌, subst, ℤ}
 use Rattle.std.specs.Prelude.{Some, slice_get, bytes_eq}
 use Rattle.std.specs.Ordering.{int_eq}
 use Rattle.std.proofs.lemmas.List.{reverse-append, reverse-reverse, append-nil, map-append}
@@ -9,7 +9,7 @@ use Rattle.std.proofs.lemmas.Bool.Decides.{Decides-int_eq}
 use Rattle.std.specs.Prelude.{reverse}
 use Rattle.kl1_model.specs.declared.built_in.BuiltIn.{BuiltIn}
 use Rattle.kl1_model.specs.Term.{Term, variable, integer, atom, structure, Terms, none, more, count_of}
-use Rattle.kl1_model.specs.Match.{Outcome, agrees, clashes, waits, decided, with_outcome, match_term, match_terms}
+use Rattle.kl1_model.specs.Match.{Outcome, agrees, clashes, decided, with_outcome, match_term, match_terms}
 use Rattle.kl1_text.specs.Reading.{Reads}
 use Rattle.kl1_store.specs.declared.cell.Cell.{Cell}
 use Rattle.kl1_store.specs.declared.cell.Cell.TheVariants.{Variable, Integer, Atom, Structure}
@@ -21,7 +21,7 @@ use Rattle.kl1_store.proofs.Meetings.{named, count_of-terms_of}
 use Rattle.kl1_model.specs.TermCode.{NodeCode, nodes_of, nodes_of_all}
 use Rattle.kl1_match.specs.declared.place.Place.{Place}
 use Rattle.kl1_match.specs.Instances.{AreThere, replacement_of, replacements_of}
-use Rattle.kl1_match.specs.Matching.{joined, IsOpened, Opens, Stays, Begins, GoesInto}
+use Rattle.kl1_match.specs.Matching.{joined, IsOpened, Stays, Begins, GoesInto}
 use Rattle.kl1_match.specs.Verdicts.{arguments_of_goal}
 
 pub at_variable : {N : Type 0} (f : N → List ℕ) (h : Held N) (x : Cell N) (v : ℕ) → x ≡ Variable v → IsWalked h x → term_of f h x ≡ variable v
@@ -214,6 +214,7 @@ is_structure g n (structure k us) b =
     number_in (inl y) = 0
     number_in (inr (inl a)) = 0
     number_in (inr (inr q)) = q.1
+
     name_of : NodeCode → List ℕ
     name_of (inl y) = []
     name_of (inr (inl a)) = []

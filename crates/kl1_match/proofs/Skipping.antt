@@ -1,12 +1,12 @@
 -- Rows behind their first terms.
 use Rattle.std.specs.Prelude.{◌^◌, min}
-use Rattle.std.proofs.Common.{◌≡◌, ℕ, zero, suc, ◌+◌, ◌-◌, ◌<◌, ◌≤◌, List, [], ◌∷◌, ◌++◌, length, map, refl, sym, ap, ◌∙◌, arith, inl, inr, length-append, append_assoc, get_or, drop, length-drop, drop-cons, subst}
+use Rattle.std.proofs.Common.{◌≡◌, ℕ, suc, ◌+◌, ◌-◌, ◌<◌, ◌≤◌, List, [], ◌∷◌, ◌++◌, length, map, refl, sym, ap, ◌∙◌, arith, inl, inr, length-append, append_assoc, get_or, drop, length-drop, drop-cons, subst}
 use Rattle.std.proofs.lemmas.List.{length-map, drop_all}
 use Rattle.kl1_model.specs.Term.{Term, variable, integer, atom, structure, Terms, none, more, count_of}
 use Rattle.kl1_model.specs.TermCode.{NodeCode, nodes_of, nodes_of_all}
 use Rattle.kl1_clause.specs.declared.instruction.Instruction.{Instruction}
 use Rattle.kl1_clause.specs.declared.instruction.Instruction.TheVariants.{Variable, Integer, Atom, Structure}
-use Rattle.kl1_clause.specs.Instructions.{code_in, text_in}
+use Rattle.kl1_clause.specs.Instructions.{code_in}
 use Rattle.kl1_match.specs.Matching.{joined, arguments_after}
 
 -- so many terms stand in a row in front of others

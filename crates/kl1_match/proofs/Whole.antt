@@ -4,13 +4,12 @@ use Rattle.std.specs.Prelude.{reverse}
 use Rattle.std.proofs.lemmas.List.{drop_all}
 use Rattle.kl1_model.specs.declared.built_in.BuiltIn.{BuiltIn}
 use Rattle.kl1_model.specs.Term.{Term, Terms, more}
-use Rattle.kl1_model.specs.TermCode.{nodes_of, nodes_of_all}
+use Rattle.kl1_model.specs.TermCode.{nodes_of_all}
 use Rattle.kl1_model.specs.Module.{Clause}
-use Rattle.kl1_model.specs.Match as model
-use Rattle.kl1_model.specs.Match.{agrees, clashes, waits, both, Matched, with_outcome, match_term, match_terms, tests_outcome, verdict, verdict_of, verdict_with, accepts, rejects, suspends}
+use Rattle.kl1_model.specs.Match.{agrees, clashes, waits, both, Matched, match_terms, tests_outcome, verdict, verdict_of, verdict_with, rejects}
 use Rattle.kl1_text.specs.Reading.{Reads}
 use Rattle.kl1_store.specs.declared.cell.Cell.{Cell}
-use Rattle.kl1_store.specs.Held.{Held, IsIn, AreIn}
+use Rattle.kl1_store.specs.Held.{Held, AreIn}
 use Rattle.kl1_store.specs.Meaning.{term_of, terms_of}
 use Rattle.kl1_clause.specs.declared.compiled_clause.CompiledClause.{CompiledClause}
 use Rattle.kl1_clause.specs.declared.instruction.Instruction.{Instruction}
@@ -20,7 +19,7 @@ use Rattle.kl1_match.specs.declared.place.Place.{Place}
 use Rattle.kl1_match.specs.declared.verdict.Verdict.{Verdict}
 use Rattle.kl1_match.specs.declared.verdict.Verdict.TheVariants.{Accepts, Rejects, Suspends}
 use Rattle.kl1_match.specs.Instances.{AreThere, IsClause, replacements_of}
-use Rattle.kl1_match.specs.Matching.{Begins, GoesInto, Continues, Decides}
+use Rattle.kl1_match.specs.Matching.{Continues, Decides}
 use Rattle.kl1_match.specs.Verdicts.{arguments_of_goal, verdict_with_places, IsVerdict}
 use Rattle.kl1_match.proofs.Cells.{AreIn-pop}
 use Rattle.kl1_match.proofs.Answered.{matched_with, so_far, both-agrees, IsLeft, IsNext, begun, next_of, agreed, waited, clashed, no_terms, no_patterns, all_matched}
@@ -131,17 +130,17 @@ pub clash_there : {N : Type 0} (built : BuiltIn → N) (names : List N) (compile
 clash_there {N = N} built names compiled h goal x at i stack rest now places longer waiting lt popped all met =
     let Q : List (Place N) → Type 0 = λ l. IsVerdict built names compiled h goal l Rejects in
     subst Q (sym met.places_are) (rejected built names compiled h goal places all.places_in (λ f reads clause is.
-        let n = next_at built names compiled h goal x at i stack rest places waiting lt popped all f reads clause is in
-        let c = code_in (map f names) (get_or compiled.patterns.items at i) in
-        let behind = map (code_in (map f names)) (drop (at + 1) compiled.patterns.items) in
-        clashed f h clause.patterns (arguments_of_goal (term_of f h goal)) c behind x rest places waiting n (met.matched f reads n.first n.begins)))
+    let n = next_at built names compiled h goal x at i stack rest places waiting lt popped all f reads clause is in
+    let c = code_in (map f names) (get_or compiled.patterns.items at i) in
+    let behind = map (code_in (map f names)) (drop (at + 1) compiled.patterns.items) in
+    clashed f h clause.patterns (arguments_of_goal (term_of f h goal)) c behind x rest places waiting n (met.matched f reads n.first n.begins)))
 
 pub terms_wanted : {N : Type 0} (built : BuiltIn → N) (names : List N) (compiled : CompiledClause) (h : Held N) (goal : Cell N) (at : ℕ) (i : Instruction) (stack : List (Cell N)) (places : List (Place N)) (waiting : Bool) →
     at < length compiled.patterns.items → stack ≡ [] → GivesAll built names compiled h goal at stack places waiting → IsVerdict built names compiled h goal places Rejects
 terms_wanted built names compiled h goal at i stack places waiting lt empty all =
     rejected built names compiled h goal places all.places_in (λ f reads clause is.
-        no_terms f h clause.patterns (arguments_of_goal (term_of f h goal)) (code_in (map f names) (get_or compiled.patterns.items at i)) (map (code_in (map f names)) (drop (at + 1) compiled.patterns.items)) (map (code_in (map f names)) (drop at compiled.patterns.items)) stack places waiting
-        (row_at (map f names) compiled.patterns.items at i lt) empty (all.left f reads clause is))
+    no_terms f h clause.patterns (arguments_of_goal (term_of f h goal)) (code_in (map f names) (get_or compiled.patterns.items at i)) (map (code_in (map f names)) (drop (at + 1) compiled.patterns.items)) (map (code_in (map f names)) (drop at compiled.patterns.items)) stack places waiting
+    (row_at (map f names) compiled.patterns.items at i lt) empty (all.left f reads clause is))
 
 -- the last of a list
 last_of : {A : Type 0} (xs : List A) → (xs ≡ [] → ⊥) → (rest : List A) × (x : A) × (xs ≡ rest ++ x ∷ [])
@@ -157,7 +156,7 @@ pub patterns_wanted : {N : Type 0} (built : BuiltIn → N) (names : List N) (com
 patterns_wanted built names compiled h goal at stack places waiting le some all =
     let r = last_of stack some in
     rejected built names compiled h goal places all.places_in (λ f reads clause is.
-        no_patterns f h clause.patterns (arguments_of_goal (term_of f h goal)) (map (code_in (map f names)) (drop at compiled.patterns.items)) stack r.0 r.1 places waiting (nothing_more (map f names) compiled.patterns.items at le) r.2 (all.left f reads clause is))
+    no_patterns f h clause.patterns (arguments_of_goal (term_of f h goal)) (map (code_in (map f names)) (drop at compiled.patterns.items)) stack r.0 r.1 places waiting (nothing_more (map f names) compiled.patterns.items at le) r.2 (all.left f reads clause is))
 
 -- the verdict where nothing clashed
 abbrev pub verdict_so_far : Bool → Verdict

@@ -15,3 +15,5 @@ pub mod Leavings
 pub mod Loads
 pub mod Origins
 pub mod Keeping
+pub mod Standings
+pub mod Taking

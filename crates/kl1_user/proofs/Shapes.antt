@@ -1,23 +1,22 @@
 -- What stands at the top of terms, by the cells that they are.
-use Rattle.std.proofs.Common.{◌≡◌, ℕ, zero, suc, Bool, true, false, if◌then◌else◌, List, [], ◌∷◌, length, refl, sym, ap, ◌∙◌, subst, arith, ℤ}
+use Rattle.std.proofs.Common.{◌≡◌, ℕ, true, false, List, [], ◌∷◌, length, refl, sym, ap, ◌∙◌, subst, arith}
 use Rattle.std.specs.Prelude.{Option, Some, None, MatchOption, slice_get, codes, bytes_eq}
-use Rattle.std.proofs.lemmas.Bool.{cond-true, cond-false, false_from_ne_true}
-use Rattle.std.proofs.lemmas.Slice.Eq.{bytes_eq-Decides}
+use Rattle.std.proofs.lemmas.Bool.{cond-true, cond-false}
 use Rattle.kl1_model.specs.Term.{Term, variable, integer, atom, structure, Terms, none, more, count_of}
 use Rattle.kl1_model.specs.Match as model
 use Rattle.kl1_model.specs.Match.{call_of}
-use Rattle.kl1_model.specs.Reduction.{Move, unifies, goes, built_in_move}
+use Rattle.kl1_model.specs.Reduction.{unifies, goes, built_in_move}
 use Rattle.kl1_store.specs.declared.cell.Cell.{Cell}
-use Rattle.kl1_store.specs.declared.cell.Cell.TheVariants.{Variable, Integer, Atom, Structure}
-use Rattle.kl1_store.specs.Held.{Held, IsIn, AreIn, IsWalked, arguments_of}
+use Rattle.kl1_store.specs.declared.cell.Cell.TheVariants.{Atom, Structure}
+use Rattle.kl1_store.specs.Held.{Held, IsIn, arguments_of}
 use Rattle.kl1_store.specs.Meaning.{term_of, terms_of}
 use Rattle.kl1_store.specs.Sound.{IsFormed}
 use Rattle.kl1_store.proofs.Terms.{term_of-Structure, arguments_in, within_at}
 use Rattle.kl1_store.proofs.Meetings.{count_of-terms_of}
 use Rattle.kl1_match.specs.Verdicts.{arguments_of_goal}
-use Rattle.kl1_match.proofs.Cells.{at_variable, at_integer, at_atom, at_structure}
+use Rattle.kl1_match.proofs.Cells.{at_atom}
 use Rattle.kl1_user.specs.declared.call.Call.{Call}
-use Rattle.kl1_user.specs.Calls.{IsTwo, IsNoGoal, atom_in, name_in, IsOf, CallsNothing, Calls, CallsIn, cell_of, call_at, IsCall, IsUnification, IsTrueGoal}
+use Rattle.kl1_user.specs.Calls.{IsTwo, IsNoGoal, atom_in, name_in, IsOf, CallsNothing, Calls, CallsIn, IsCall, IsUnification, IsTrueGoal}
 
 -- two equal terms have the same shape
 pub no_goal : (t u : Term) → t ≡ u → IsNoGoal u → IsNoGoal t

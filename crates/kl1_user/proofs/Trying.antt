@@ -1,13 +1,12 @@
 -- The clauses of a predicate, tried one after another.
-use Rattle.std.proofs.Common.{◌≡◌, ℕ, zero, suc, ◌+◌, ◌-◌, ◌<◌, ◌≤◌, ◌==◌, not, ◌&&◌, Bool, true, false, if◌then◌else◌, List, [], ◌∷◌, ◌++◌, length, map, drop, get_or, refl, sym, ap, ◌∙◌, subst, arith, drop-cons}
-use Rattle.std.specs.Prelude.{Option, Some, None, MatchOption, slice_get, filter, find, bytes_eq}
-use Rattle.std.specs.List.{list_all}
-use Rattle.std.proofs.lemmas.List.{drop_all, map-id}
+use Rattle.std.proofs.Common.{◌≡◌, ℕ, zero, suc, ◌+◌, ◌-◌, ◌<◌, ◌≤◌, ◌==◌, ◌&&◌, Bool, true, false, List, [], ◌∷◌, length, map, drop, get_or, refl, sym, ap, ◌∙◌, subst, arith, drop-cons}
+use Rattle.std.specs.Prelude.{Option, Some, None, slice_get, filter, bytes_eq}
+use Rattle.std.proofs.lemmas.List.{drop_all}
 use Rattle.std.proofs.lemmas.Bool.{cond-true, cond-false, eq-eqb, ne_eqb, and_right}
 use Rattle.kl1_model.specs.Term.{Terms, count_of}
 use Rattle.kl1_model.specs.Module.{Clause, Module, is_of}
 use Rattle.kl1_model.specs.Match as model
-use Rattle.kl1_model.specs.Match.{module_of, verdict, accepts, rejects, suspends}
+use Rattle.kl1_model.specs.Match.{module_of, clauses_in, clauses_of, verdict, accepts, rejects, suspends}
 use Rattle.kl1_clause.specs.declared.compiled_clause.CompiledClause.{CompiledClause}
 use Rattle.kl1_clause.specs.Clauses.{IsCompiled, AreCompiled}
 use Rattle.kl1_clause.specs.Instructions.{text_in}
@@ -17,9 +16,12 @@ use Rattle.kl1_store.specs.declared.cell.Cell.{Cell}
 use Rattle.kl1_store.specs.Held.{Held}
 use Rattle.kl1_match.specs.declared.place.Place.{Place}
 use Rattle.kl1_match.specs.declared.verdict.Verdict.{Verdict}
-use Rattle.kl1_match.specs.Verdicts.{IsVerdict}
+use Rattle.kl1_store.specs.Meaning.{term_of}
+use Rattle.kl1_match.specs.Verdicts.{arguments_of_goal, verdict_with_places, IsVerdict}
 use Rattle.kl1_match.specs.Instances.{IsClause}
-use Rattle.kl1_user.specs.Candidates.{IsModuleAt, IsOfAt, IsNumbered, IsCompiledAt, IsVerdictAt, answer_of, answer_by}
+use Rattle.kl1_user.specs.Candidates.{IsModuleAt, IsOfAt, IsNumbered, IsCompiledAt, IsVerdictAt, IsSet, answer_of, answer_by, answer_without}
+use Rattle.kl1_user.specs.declared.call.Call.{Call}
+use Rattle.kl1_user.specs.Calls.{call_at}
 
 -- ---- modules
 
@@ -147,3 +149,71 @@ none_left ds name count place le = ap (filter (is_of name count)) (drop_all plac
 pub one_more : (waiting : Bool) (n : ℕ) (ds rest : List Clause) (ts : Terms) (d : Clause) (v : model.Verdict) → ds ≡ d ∷ rest → verdict d ts ≡ v →
     answer_of waiting n ds ts ≡ answer_by (Some n) (answer_of waiting (suc n) rest ts) (answer_of true (suc n) rest ts) v
 one_more waiting n ds rest ts d v e is = ap (λ l. answer_of waiting n l ts) e ∙ ap (answer_by (Some n) (answer_of waiting (suc n) rest ts) (answer_of true (suc n) rest ts)) is
+
+-- a clause of another predicate is passed by
+pub passed_by : (m : Module) (place count : ℕ) (name : List ℕ) (r : Bool) → IsOfAt m place name count r → place < length m.clauses → r ≡ false → left_of m.clauses name count place ≡ left_of m.clauses name count (place + 1)
+passed_by m place count name r is lt e = let d = has_clause m.clauses place lt in not_here m.clauses name count place d.0 d.1 (sym (is d.0 d.1) ∙ e)
+
+-- a clause of the predicate stands in front of the others
+pub is_first : (m : Module) (place count : ℕ) (name : List ℕ) (r : Bool) (d : Clause) → IsOfAt m place name count r → slice_get m.clauses place ≡ Some d → r ≡ true → left_of m.clauses name count place ≡ d ∷ left_of m.clauses name count (place + 1)
+is_first m place count name r d is at e = here m.clauses name count place d at (sym (is d at) ∙ e)
+
+pub tried : (m : Module) (h : Held (List ℕ)) (place count n : ℕ) (name : List ℕ) (goal : Cell (List ℕ)) (places : List (Place (List ℕ))) (given known : Verdict) (r waiting : Bool) (all : Option ℕ) →
+    IsVerdictAt m h place goal places given → given ≡ known → IsOfAt m place name count r → r ≡ true → answer_of waiting n (left_of m.clauses name count place) (arguments_of_goal (term_of (λ a. a) h goal)) ≡ all →
+    answer_by (Some n) (answer_of waiting (suc n) (left_of m.clauses name count (place + 1)) (arguments_of_goal (term_of (λ a. a) h goal)))
+    (answer_of true (suc n) (left_of m.clauses name count (place + 1)) (arguments_of_goal (term_of (λ a. a) h goal))) (verdict_with_places (λ a. a) h places known) ≡ all
+tried m h place count n name goal places given known r waiting all v same is e whole =
+    let ts = arguments_of_goal (term_of (λ a. a) h goal) in
+    sym (one_more waiting n (left_of m.clauses name count place) (left_of m.clauses name count (place + 1)) ts v.clause (verdict_with_places (λ a. a) h places known) (is_first m place count name r v.clause is v.at e)
+    (v.verdict_is ∙ ap (verdict_with_places (λ a. a) h places) same)) ∙ whole
+
+pub numbered_here : (m : Module) (place count number left : ℕ) (name : List ℕ) (r : Bool) → IsOfAt m place name count r → place < length m.clauses → r ≡ true → left ≡ 0 →
+    slice_get (left_of m.clauses name count place) left ≡ slice_get (left_of m.clauses name count 0) number → IsNumbered m name count number place
+numbered_here m place count number left name r is lt e none_left e2 =
+    let d = has_clause m.clauses place lt in
+    record {
+      clause = d.0;
+      at = d.1;
+      numbered = sym e2 ∙ ap (slice_get (left_of m.clauses name count place)) none_left ∙ ap (λ l. slice_get l 0) (is_first m place count name r d.0 is d.1 e);
+    }
+
+pub one_passed : (m : Module) (place count left : ℕ) (name : List ℕ) (r : Bool) → IsOfAt m place name count r → place < length m.clauses → r ≡ true → (left ≡ 0 → ⊥) →
+    slice_get (left_of m.clauses name count place) left ≡ slice_get (left_of m.clauses name count (place + 1)) (left - 1)
+one_passed m place count left name r is lt e some =
+    let d = has_clause m.clauses place lt in
+    let back : left ≡ suc (left - 1) = omega arith in
+    ap (slice_get (left_of m.clauses name count place)) back ∙ ap (λ l. slice_get l (suc (left - 1))) (is_first m place count name r d.0 is d.1 e)
+
+pub none_numbered : (m : Module) (place count left number : ℕ) (name : List ℕ) → length m.clauses ≤ place → slice_get (left_of m.clauses name count place) left ≡ slice_get (left_of m.clauses name count 0) number →
+    slice_get (left_of m.clauses name count 0) number ≡ None
+none_numbered m place count left number name le e = sym e ∙ ap (λ l. slice_get l left) (none_left m.clauses name count place le)
+
+pub answer_left : (m : Module) (place count n : ℕ) (name : List ℕ) (ts : Terms) (waiting : Bool) (all : Option ℕ) → length m.clauses ≤ place → answer_of waiting n (left_of m.clauses name count place) ts ≡ all → answer_without waiting ≡ all
+answer_left m place count n name ts waiting all le e = sym (ap (λ l. answer_of waiting n l ts) (none_left m.clauses name count place le)) ∙ e
+
+-- ---- modules of calls
+
+pub in_module : (modules : List Module) (h : Held (List ℕ)) (c : Call) (m : Module) → IsSet h c → module_of modules c.module_name ≡ Some m → clauses_of modules (call_at h c) ≡ filter (is_of c.name c.count) m.clauses
+in_module modules h c m set e = ap (λ k. clauses_in k (call_at h c)) e ∙ ap (λ n. filter (is_of c.name n) m.clauses) set.counted
+
+pub no_module_at : (modules : List Module) (h : Held (List ℕ)) (c : Call) → module_of modules c.module_name ≡ None → clauses_of modules (call_at h c) ≡ []
+no_module_at modules h c e = ap (λ k. clauses_in k (call_at h c)) e
+
+pub module_same : (modules : List Module) (name : List ℕ) (place : ℕ) (x : Module) → (k : IsModuleAt modules name place) → x ≡ get_or modules place x → k.within ≡ x
+module_same modules name place x k e = walk modules place k.at ∙ sym e
+  where
+    some_module : {u v : Module} → Some u ≡ Some v → u ≡ v
+    some_module p = cc
+
+    walk : (ms : List Module) (i : ℕ) → slice_get ms i ≡ Some k.within → k.within ≡ get_or ms i x
+    walk [] i q = absurd (cc)
+    walk (y ∷ ms) zero q = sym (some_module q)
+    walk (y ∷ ms) (suc i) q = walk ms i q
+
+pub module_within : (modules : List Module) (name : List ℕ) (place : ℕ) → IsModuleAt modules name place → place < length modules
+module_within modules name place k = walk modules place k.at
+  where
+    walk : (ms : List Module) (i : ℕ) → slice_get ms i ≡ Some k.within → i < length ms
+    walk [] i q = absurd (cc)
+    walk (y ∷ ms) zero q = omega arith
+    walk (y ∷ ms) (suc i) q = let r = walk ms i q in omega arith

@@ -1,5 +1,5 @@
 -- The clauses of a call, told of compiled clauses.
-use Rattle.std.specs.Prelude.{◌≡◌, ℕ, zero, suc, Bool, true, false, List, [], ◌∷◌, Option, Some, None, slice_get, filter}
+use Rattle.std.specs.Prelude.{◌≡◌, ℕ, suc, Bool, true, false, List, [], ◌∷◌, Option, Some, None, slice_get, filter}
 use Rattle.kl1_model.specs.Term.{Terms, count_of}
 use Rattle.kl1_model.specs.Module.{Clause, Module, is_of}
 use Rattle.kl1_model.specs.Match as model

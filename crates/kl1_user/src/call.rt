@@ -31,11 +31,7 @@ impl Call {
 }
 
 /// The call of what a cell is, in the module of a name.
-fn called_in(
-    store: &Store<AtomText>,
-    module_name: AtomText,
-    goal: Cell<AtomText>,
-) -> Option<Call>
+fn called_in(store: &Store<AtomText>, module_name: AtomText, goal: Cell<AtomText>) -> Option<Call>
     requires { IsIn store.now.held goal }
     ensures { MatchOption result (name_in (term_of (λ a. a) store.now.held goal) ≡ None) (CallsIn store.now.held module_name goal) }
 {

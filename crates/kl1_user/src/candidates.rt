@@ -6,7 +6,6 @@ ghost use Rattle.kl1_model.specs.Match.{module_of, clauses_of};
 ghost use Rattle.kl1_store.specs.Held.{IsIn};
 ghost use Rattle.kl1_user.specs.Calls.{cell_of, arguments_at, call_at};
 ghost use Rattle.kl1_user.specs.Candidates.{IsModuleAt, IsOfAt, IsVerdictAt, IsNumbered, IsSet, IsCompiledAt, answer_of};
-
 ghost use Rattle.kl1_model.specs.State.{names_of_module, with_names};
 
 use crate::call::Call;
@@ -93,15 +92,22 @@ fn least_clause(
     let mut waits = false;
     let mut place: usize = 0;
     while place < count {
-        if is_of_at(code, place, call) {
-            match verdict_at(alloc, store, code, place, call, &mut places)? {
-                Verdict::Accepts => return Ok(Some(seen + 1)),
-                Verdict::Rejects => {}
-                Verdict::Suspends => waits = true,
-            }
-            seen += 1;
+        if !is_of_at(code, place, call) {
+            place += 1;
+            continue;
         }
-        place += 1;
+        match verdict_at(alloc, store, code, place, call, &mut places)? {
+            Verdict::Accepts => return Ok(Some(seen + 1)),
+            Verdict::Rejects => {
+                seen += 1;
+                place += 1;
+            }
+            Verdict::Suspends => {
+                waits = true;
+                seen += 1;
+                place += 1;
+            }
+        }
     }
     if waits {
         return Ok(None);
@@ -117,12 +123,14 @@ pub(crate) fn place_of_clause(code: &Code, call: &Call, number: u64) -> Option<u
     let mut left = number;
     let mut place: usize = 0;
     while place < count {
-        if is_of_at(code, place, call) {
-            if left == 0 {
-                return Some(place);
-            }
-            left -= 1;
+        if !is_of_at(code, place, call) {
+            place += 1;
+            continue;
         }
+        if left == 0 {
+            return Some(place);
+        }
+        left -= 1;
         place += 1;
     }
     None

@@ -1,4 +1,4 @@
-use Rattle.std.proofs.Common.{sym, ◌∙◌}
+use Rattle.std.proofs.Common.{◌∙◌}
 use Rattle.kl1_model.specs.Term.{variable, integer, atom}
 use Rattle.kl1_match.proofs.Cells.{at_variable, at_integer, at_atom, no_arguments, goal_at, all_arguments}
 use Rattle.kl1_match.proofs.arguments.goal_arguments.Goals as goal

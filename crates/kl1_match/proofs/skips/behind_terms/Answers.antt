@@ -1,7 +1,7 @@
-use Rattle.std.proofs.Common.{◌≡◌, ◌<◌, length, drop, refl, arith, rules, ap, ◌∙◌}
+use Rattle.std.proofs.Common.{◌<◌, length, drop, refl, arith, rules, ap, ◌∙◌}
 use Rattle.std.specs.Prelude.{◌^◌, ◌-◌, ◌+◌, min}
 use Rattle.kl1_clause.specs.declared.instruction.Instruction.TheVariants.{Variable}
-use Rattle.kl1_match.proofs.Skipping.{AreAhead, goes_ahead_at, none_ahead_at, all_skipped}
+use Rattle.kl1_match.proofs.Skipping.{goes_ahead_at, none_ahead_at, all_skipped}
 use Rattle.kl1_match.proofs.skips.behind_terms.Goals as goal
 
 pub loop-left-init : goal.loop-left-init

@@ -1,4 +1,4 @@
-use Rattle.std.proofs.Common.{◌≡◌, ◌<◌, ◌≤◌, Bool, List, [], ◌∷◌, length, drop, map, get_or, arith, ap, sym, ◌∙◌, subst, refl, vec_len, ◌==◌}
+use Rattle.std.proofs.Common.{◌≡◌, ◌<◌, ◌≤◌, Bool, List, [], length, drop, map, get_or, arith, ap, sym, ◌∙◌, subst, vec_len}
 use Rattle.std.proofs.lemmas.List.{nil_from_length}
 use Rattle.std.proofs.lemmas.Bool.{eqb-true, eqb-false}
 use Rattle.kl1_model.specs.Term.{Term, Terms, more}

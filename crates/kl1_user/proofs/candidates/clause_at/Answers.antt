@@ -1,4 +1,4 @@
-use Rattle.std.proofs.Common.{◌≡◌, ap, sym, ◌∙◌, arith, subst, length, []}
+use Rattle.std.proofs.Common.{sym, arith, subst, []}
 use Rattle.kl1_model.specs.State.{names_of_module, with_names}
 use Rattle.kl1_clause.specs.declared.compiled_clause.CompiledClause.{CompiledClause}
 use Rattle.kl1_user.specs.Candidates.{IsCompiledAt}

@@ -1,4 +1,4 @@
-use Rattle.std.proofs.Common.{◌≡◌, ap, sym, ◌∙◌, [], length, subst, ℕ}
+use Rattle.std.proofs.Common.{ap, sym, ◌∙◌, [], length, subst, ℕ}
 use Rattle.kl1_model.specs.State.{names_of_module, with_names}
 use Rattle.kl1_clause.specs.Instructions.{IsPlaced}
 use Rattle.kl1_text.proofs.BuiltInLaws.{texts_read}

@@ -1,4 +1,4 @@
-use Rattle.std.proofs.Common.{◌≡◌, ◌-◌, ◌≤◌, suc, false, length}
+use Rattle.std.proofs.Common.{◌≡◌, ◌-◌, ◌≤◌, suc, false}
 use Rattle.kl1_user.specs.Calls.{arguments_at}
 use Rattle.kl1_user.specs.Candidates.{answer_of}
 use Rattle.kl1_user.proofs.Trying.{left_of}

@@ -1,7 +1,7 @@
-use Rattle.std.proofs.Common.{◌≡◌, ap, sym, ◌∙◌}
+use Rattle.std.proofs.Common.{ap, sym, ◌∙◌}
 use Rattle.std.specs.Prelude.{bytes_eq}
 use Rattle.kl1_model.specs.Module.{Module}
-use Rattle.kl1_user.proofs.Trying.{module_here, module_further, no_module_left}
+use Rattle.kl1_user.proofs.Trying.{module_here}
 use Rattle.kl1_user.proofs.candidates.place_of_module.Goals as goal
 
 pub returns-then-is : goal.returns-then-is

@@ -1,4 +1,4 @@
-use Rattle.std.proofs.Common.{◌≡◌, sym, subst, List, [], ℕ}
+use Rattle.std.proofs.Common.{sym, subst, List, [], ℕ}
 use Rattle.kl1_model.specs.State.{names_of_module, with_names}
 use Rattle.kl1_match.specs.Instances.{IsClause}
 use Rattle.kl1_user.specs.Calls.{cell_of}

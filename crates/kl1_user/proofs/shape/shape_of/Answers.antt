@@ -1,4 +1,4 @@
-use Rattle.std.proofs.Common.{sym, ap, refl, ◌∙◌}
+use Rattle.std.proofs.Common.{sym, refl, ◌∙◌}
 use Rattle.kl1_model.specs.Term.{variable, integer}
 use Rattle.kl1_store.specs.Meaning.{term_of}
 use Rattle.kl1_match.proofs.Cells.{at_variable, at_integer, at_atom}
