@@ -15,8 +15,8 @@ use kl1_text::AtomText;
 use std::mem;
 
 impl AtomTable {
-    /// Whether a text is found in the table, by one look-up of a seat that speaks for both accounts. It is where one of them
-    /// knows the text, and then no other number of it is known to the other. It takes no memory and never waits.
+    /// Whether one look-up, by a seat that speaks for both accounts, finds a text in the table. It does wherever one of the two
+    /// seats knows the text, and what both know it by is one number. It takes no memory and never waits.
     pub fn agree(&self, a: &mut AtomSeat, b: &mut AtomSeat, text: AtomText) -> bool
         requires a { IsSharedSeat self.now.table.shared.table_id a.old.badge.table_id self.now.accounts (face_in a.old.badge.views) a.old.account }
         requires b { IsSharedSeat self.now.table.shared.table_id b.old.badge.table_id self.now.accounts (face_in b.old.badge.views) b.old.account }

@@ -57,12 +57,7 @@ fn numbers_of_both<R: Threads + Sync>(
 }
 
 /// How many of some names two seats agree on.
-fn agreed_of(
-    atoms: &AtomTable,
-    a: &mut AtomSeat,
-    b: &mut AtomSeat,
-    names: &[AtomText],
-) -> usize
+fn agreed_of(atoms: &AtomTable, a: &mut AtomSeat, b: &mut AtomSeat, names: &[AtomText]) -> usize
     requires a { IsSharedSeat atoms.now.table.shared.table_id a.old.badge.table_id atoms.now.accounts (face_in a.old.badge.views) a.old.account }
     requires b { IsSharedSeat atoms.now.table.shared.table_id b.old.badge.table_id atoms.now.accounts (face_in b.old.badge.views) b.old.account }
     ensures few { result ≤ length names.now }
@@ -147,8 +142,14 @@ fn agreed_at_once<R: Threads + Sync>(
     if names.len() > 1024 {
         return Ok(0);
     }
-    let (mine, its, agreed) =
-        numbers_of_both(rt, alloc, &table, alice, bob, names.as_slice()).ok_or("no memory")?;
+    let (mine, its, agreed) = numbers_of_both(
+        rt,
+        alloc,
+        &table,
+        alice,
+        bob,
+        names.as_slice(),
+    ).ok_or("no memory")?;
     if mine.len() != names.len() || mine.as_slice() != its.as_slice() {
         return Ok(0);
     }
@@ -187,7 +188,10 @@ fn sixteen_seats_agree(rt: HostRuntime) -> Result<(), Fail> {
     let (table, seats) = AtomTable::new(rt.alloc(), 16)?;
     let names = names_from(rt.alloc(), &table, 30, None)?;
     assert_eq!(rt; names.len(), 30);
-    assert_eq!(rt; last_agrees(rt.alloc(), &table, seats, names.as_slice()), Some(true));
+    assert_eq!(rt;
+        last_agrees(rt.alloc(), &table, seats, names.as_slice()),
+        Some(true)
+    );
     Ok(())
 }
 

@@ -1,9 +1,9 @@
 //! The table of names that accounts share: a number for each name, and each account's own view of it.
 #![tactic(auto)]
 
+mod agreeing;
 #[cfg(test)]
 mod agreement_tests;
-mod agreeing;
 mod atom_seat;
 mod atom_source;
 mod atom_table;

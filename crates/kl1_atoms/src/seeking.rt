@@ -16,13 +16,7 @@ use kl1_text::AtomText;
 
 impl AtomTable {
     /// Looks at one bucket of a text's way.
-    fn glance(
-        &self,
-        seat: &mut Seat<(), View>,
-        text: &AtomText,
-        bucket: u64,
-        passed: u64,
-    ) -> Glance
+    fn glance(&self, seat: &mut Seat<(), View>, text: &AtomText, bucket: u64, passed: u64) -> Glance
         requires of { seat.old.table_id ≡ self.now.table.shared.table_id }
         requires first { IsTrue (has_first seat.old.me.0.faces) }
         requires accounts { (own seat.old.me.0).accounts ≡ self.now.accounts }

@@ -1,4 +1,4 @@
-use Rattle.std.proofs.Common.{◌≡◌, ℕ, ◌*◌, ◌≤◌, Some, slice_get}
+use Rattle.std.proofs.Common.{◌≡◌, ℕ, Some, slice_get}
 use Rattle.kl1_atoms.specs.declared.atom_seat.AtomSeat.{AtomSeat}
 use Rattle.kl1_atoms.specs.Seats.{IsSharedSeat, IsNewSharedSeat, face_in}
 use Rattle.kl1_atoms.proofs.agreement_tests.last_agrees.Given as goal

@@ -1,4 +1,4 @@
-use Rattle.std.proofs.Common.{◌≡◌, ◌+◌, ◌<◌, Some, refl, inl, length, arith, slice_get}
+use Rattle.std.proofs.Common.{refl, inl, length, arith}
 use Rattle.std.proofs.lemmas.Option.{slice_get_read}
 use Rattle.kl1_atoms.specs.Knowing.{few_more, knows_first-more, knows_first-kept}
 use Rattle.kl1_atoms.proofs.tests.found_again.Goals as goal

@@ -1,4 +1,4 @@
-use Rattle.std.proofs.Common.{◌≡◌, ℕ, ◌+◌, ◌≤◌, length, vec_len}
+use Rattle.std.proofs.Common.{◌≡◌, ◌+◌, ◌≤◌, length, vec_len}
 use Rattle.kl1_atoms.specs.Knowing.{KnowsFirst}
 use Rattle.kl1_atoms.proofs.tests.found_again.Given as goal
 
