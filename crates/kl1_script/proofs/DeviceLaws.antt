@@ -72,7 +72,7 @@ pub front_behind : (a b c : Option (List ℕ)) (bs cs more all : List ℕ) → A
 front_behind a b c bs cs more all h k e =
     let w = within k.count cs in
     let place : take (length bs + w.0) all ≡ bs ++ take k.count cs =
-        ap (λ x. take (length bs + w.0) x) (sym e ∙ append_assoc bs cs more) ∙ take-append-add bs (cs ++ more) w.0 ∙ ap (λ x. bs ++ x) (take-append-le w.0 cs more w.1 ∙ sym w.2) in
+    ap (λ x. take (length bs + w.0) x) (sym e ∙ append_assoc bs cs more) ∙ take-append-add bs (cs ++ more) w.0 ∙ ap (λ x. bs ++ x) (take-append-le w.0 cs more w.1 ∙ sym w.2) in
     let P : List ℕ → Type 0 = λ x. GrowsIfKnown a c x in
     record { count = length bs + w.0; grows = subst P (sym place) (grows_both a b c bs (take k.count cs) h k.grows) }
 

@@ -29,7 +29,7 @@ pub more_done : (old now after : Option (List ℕ)) (accounts : List (List ℕ))
 more_done old now after accounts name text rest behind user next out more left r first u is state told passes =
     let done = goes_on accounts name text rest behind user next (u.passed ++ out) r first u.progress is state in
     let same : (u.passed ++ out) ++ told_by accounts user r ≡ (u.passed ++ passes.passed) ++ left =
-        append_assoc u.passed out (told_by accounts user r) ∙ ap (λ x. u.passed ++ x) (sym told ∙ sym passes.same) ∙ sym (append_assoc u.passed passes.passed left) in
+    append_assoc u.passed out (told_by accounts user r) ∙ ap (λ x. u.passed ++ x) (sym told ∙ sym passes.same) ∙ sym (append_assoc u.passed passes.passed left) in
     let P : List ℕ → Type 0 = λ x. Progress accounts name text behind next x in
     record {
       passed = u.passed ++ passes.passed;

@@ -81,9 +81,9 @@ goes_on (a ∷ others) name text rest behind user after told r first p next stat
       records = p.records ∙ ap (records_behind p.before) next ∙ ap (λ x. record { list = x; is_truncated = (records_of behind).is_truncated }) (sym (append_assoc p.before (r ∷ []) (records_of behind).list));
       account = state ∙ ap (λ s. if bytes_eq a r.name then (done_by s r.command).state else s) p.account ∙ ap (λ v. if v then (done_by (alone name p.before) r.command).state else alone name p.before) (served ∙ tests) ∙ sym (alone_more name p.before r);
       written =
-        let one : told_by (a ∷ others) user r ≡ written_for (a ∷ others) p.before r =
-            ap (λ s. told_by (a ∷ others) s r) p.account ∙ told_as (bytes_eq a r.name) name r.name p.before r.command (written_line (codes "! account")) (sym served) in
-        ap (λ x. x ++ told_by (a ∷ others) user r) p.written ∙ ap (λ x. written_from (a ∷ others) [] p.before ++ x) one ∙ sym (from_more (a ∷ others) [] p.before r);
+          let one : told_by (a ∷ others) user r ≡ written_for (a ∷ others) p.before r =
+          ap (λ s. told_by (a ∷ others) s r) p.account ∙ told_as (bytes_eq a r.name) name r.name p.before r.command (written_line (codes "! account")) (sym served) in
+          ap (λ x. x ++ told_by (a ∷ others) user r) p.written ∙ ap (λ x. written_from (a ∷ others) [] p.before ++ x) one ∙ sym (from_more (a ∷ others) [] p.before r);
     }
 
 -- what was told is the front of all

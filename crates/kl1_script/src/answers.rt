@@ -10,7 +10,7 @@ ghost use Rattle.kl1_script.specs.Told.{state_by, told_by};
 use crate::command::{Command, command_in};
 use crate::notices::put_no_account;
 use crate::performed::{Performed, perform};
-use crate::record::CommandParts;
+use crate::record::Record;
 use crate::replies::put_reply;
 use crate::verb::is_same;
 use kl1_user::{AccountName, Refusal, Reply, UserState};
@@ -32,20 +32,19 @@ pub(crate) fn put_record(
     alloc: Global,
     accounts: &[AccountName],
     user: &mut UserState,
-    name: &[u8],
-    parts: CommandParts<'_>,
+    found: Record<'_>,
     out: &mut Vec<u8>,
 ) -> Result<(), AllocError>
-    ensures user { OnOk result (user.new ≡ state_by accounts.now user.old (record { name = name.now; command = command_of parts.entry })) }
-    ensures reply { OnOk result (out.new.items ≡ out.old.items ++ told_by accounts.now user.old (record { name = name.now; command = command_of parts.entry })) }
+    ensures user { OnOk result (user.new ≡ state_by accounts.now user.old (record { name = found.entry.name.now; command = command_of found.entry.command })) }
+    ensures reply { OnOk result (out.new.items ≡ out.old.items ++ told_by accounts.now user.old (record { name = found.entry.name.now; command = command_of found.entry.command })) }
     ensures err { OnErr result (out.new.items ≡ out.old.items) }
 {
-    if !is_served(accounts, name) {
+    if !is_served(accounts, found.name) {
         return put_no_account(out);
     }
-    match command_in(alloc, parts) {
-        Ok(Some(command)) => put_performed(user, &command, name, out),
-        Ok(None) => put_reply(out, name, &Reply::Refused(Refusal::Syntax)),
+    match command_in(alloc, found.command) {
+        Ok(Some(command)) => put_performed(user, &command, found.name, out),
+        Ok(None) => put_reply(out, found.name, &Reply::Refused(Refusal::Syntax)),
         Err(error) => Err(error),
     }
 }

@@ -85,7 +85,7 @@ fn answer_records<W: Sink>(
     'records: loop {
         match next_record(rest) {
             NextRecord::Found(record) => {
-                match put_record(alloc, accounts, &mut user, record.name, record.command, &mut out) {
+                match put_record(alloc, accounts, &mut user, record, &mut out) {
                     Ok(()) => (),
                     Err(_) => return Err(stop(sink, out.as_slice())),
                 }

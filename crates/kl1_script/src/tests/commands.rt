@@ -63,12 +63,16 @@ fn a_run_and_a_question(rt: HostRuntime) -> Result<(), Fail> {
 fn a_start_has_a_goal(rt: HostRuntime) -> Result<(), Fail> {
     let parsed = parse(rt.alloc(), b"start 100 7 4095 X = 1")?;
     match &parsed {
-        Parsed::Command(Command::Does(Event::Start {
-            allowance,
-            low,
-            high,
-            goal: _goal,
-        })) => assert_eq!(rt; (*allowance, *low, *high), (100, 7, 4095)),
+        Parsed::Command(
+            Command::Does(
+                Event::Start {
+                    allowance,
+                    low,
+                    high,
+                    goal: _goal,
+                },
+            ),
+        ) => assert_eq!(rt; (*allowance, *low, *high), (100, 7, 4095)),
         _ => assert!(rt; false),
     }
     expect_refused(&rt, b"start 1 0 1")?;

@@ -16,7 +16,7 @@ fn each_reply_is_a_line_behind_the_name(rt: HostRuntime) -> Result<(), Fail> {
         (b"alice", Reply::Opened(ShoenNo(1))),
         (b"bob", Reply::Reduced),
         (b"alice", Reply::Ran(0)),
-        (b"alice", Reply::Shown(text))
+        (b"alice", Reply::Shown(text)),
     ]? {
         put_reply(&mut out, account, &reply)?;
     }

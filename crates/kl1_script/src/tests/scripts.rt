@@ -10,7 +10,11 @@ use std::test::Fail;
 fn expect(rt: &(impl Abort + AllocGlobal), script: &[u8], output: &[u8]) -> Result<(), Fail> {
     let mut source = Counted::new(script);
     let mut sink = Counted::new(Vec::new(rt.alloc()));
-    assert_eq!(rt; run_script(rt.alloc(), &mut source, &mut sink), Ok(()), "{script:?}");
+    assert_eq!(rt;
+        run_script(rt.alloc(), &mut source, &mut sink),
+        Ok(()),
+        "{script:?}"
+    );
     assert_eq!(rt; sink.inner.as_slice(), output, "{script:?}");
     assert!(rt; source.inner.is_empty());
     Ok(())
@@ -63,11 +67,7 @@ fn a_load_without_its_bytes_ends_the_script(rt: HostRuntime) -> Result<(), Fail>
         b"accounts alice\nalice run 0\nalice load 50\nalice run 0\n",
         b"alice + 0\n! truncated\n",
     )?;
-    expect(
-        &rt,
-        b"accounts alice\ncarol load 2\nx",
-        b"! truncated\n",
-    )
+    expect(&rt, b"accounts alice\ncarol load 2\nx", b"! truncated\n")
 }
 
 #[test]
