@@ -24,6 +24,8 @@ mod joined;
 mod left;
 mod mark;
 mod marks;
+#[cfg(test)]
+mod module_limit_tests;
 mod module_line;
 #[cfg(test)]
 mod module_tests;
