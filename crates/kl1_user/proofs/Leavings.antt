@@ -88,7 +88,7 @@ starts_in h goals shoens w n some i j a e lt s =
 
 -- ---- goals with their clauses
 
-stood_read : (h : Held (List ℕ)) (modules : List Module) (gs : List Goal) → map (goal_with (meaning h)) (map (stood h modules) gs) ≡ map (goal_with (meaning h)) gs
+pub stood_read : (h : Held (List ℕ)) (modules : List Module) (gs : List Goal) → map (goal_with (meaning h)) (map (stood h modules) gs) ≡ map (goal_with (meaning h)) gs
 stood_read h modules [] = refl
 stood_read h modules (g ∷ gs) = ap (λ (xs : List model.Goal). goal_with (meaning h) g ∷ xs) (stood_read h modules gs)
 

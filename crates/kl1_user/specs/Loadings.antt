@@ -1,8 +1,8 @@
 -- What comes of a load.
-use Rattle.std.specs.Prelude.{◌≡◌, ℕ, List, [], ◌∷◌, ◌++◌, map}
+use Rattle.std.specs.Prelude.{◌≡◌, ℕ, ◌<◌, List, [], ◌∷◌, ◌++◌, map}
 use Rattle.kl1_model.specs.Module.{Module}
 use Rattle.kl1_model.specs.State.{State, names_of_module, with_names}
-use Rattle.kl1_model.specs.Event.{load, loaded, refuse, with_entry}
+use Rattle.kl1_model.specs.Event.{load, loaded, refuse, with_entry, most_entries}
 use Rattle.kl1_model.specs.Step.{step, with_module}
 use Rattle.kl1_store.specs.Held.{Held}
 use Rattle.kl1_user.specs.declared.goal.Goal.{Goal}
@@ -26,6 +26,7 @@ pub record LoadRefused (modules after : List Module) (names used : List (List �
 -- a module is loaded, and the goals stand as its clauses have it
 pub record LoadDone (h : Held (List ℕ)) (modules after : List Module) (names used : List (List ℕ)) (goals : List Goal) (entries : ℕ) (source name : List ℕ) (standing : List Goal) : Type 0 where
   pub m : Module
+  pub room : entries < most_entries
   pub modules_are : after ≡ modules ++ m ∷ []
   pub names_are : used ≡ with_names names (names_of_module m)
   pub goals_are : standing ≡ map (stood h after) goals

@@ -4,12 +4,13 @@ ghost use Rattle.std.specs.Prelude.{◌≡◌, IfOk, OnErr, IsTrue, option_map};
 ghost use Rattle.kl1_model.specs.State.{fresh};
 ghost use Rattle.kl1_model.specs.Step.{step};
 ghost use Rattle.kl1_model.specs.Choice.{first, quiet};
-ghost use Rattle.kl1_model.specs.Event.{reduce, read, value};
+ghost use Rattle.kl1_model.specs.Event.{load as load_event, reduce, read, value};
 ghost use Rattle.kl1_user.specs.Views.{event_of, reply_of, chosen_of};
 
 use crate::account_name::AccountName;
 use crate::event::{Event, Query};
 use crate::goal::Goal;
+use crate::loading::{Loading, load};
 use crate::limits::{MOST_SHOWN, is_number};
 use crate::numbers::{ClauseNo, GoalNo};
 use crate::outcome::Outcome;
@@ -88,6 +89,7 @@ impl UserState {
             Event::Read(query) => match *query {
                 Query::Value(number) => self.read(number.0),
             },
+            Event::Load { source } => self.load(source.as_slice()),
             _ => Err(AllocError),
         }
     }
@@ -123,6 +125,32 @@ impl UserState {
                 let text = print_cell(self.alloc, &self.store, origin.goal, MOST_SHOWN)?;
                 Ok(Reply::Shown(text))
             }
+        }
+    }
+
+    /// Loads a module from its source.
+    fn load(&mut self, source: &[u8]) -> Result<Reply, AllocError>
+        ensures step { IfOk result (λ reply. step self.old (load_event source.now) ≡ record { state = self.new; reply = reply_of reply }) }
+        ensures err { OnErr result (self.new ≡ self.old) }
+    {
+        match load(
+            self.alloc,
+            &self.store,
+            &mut self.modules,
+            &mut self.names,
+            &self.goals,
+            self.entries,
+            source,
+        ) {
+            Ok(loading) => match loading {
+                Loading::Refused(refusal) => Ok(Reply::Refused(refusal)),
+                Loading::Loaded(name, goals) => {
+                    self.goals = goals;
+                    self.entries += 1;
+                    Ok(Reply::Loaded(name))
+                }
+            },
+            Err(error) => Err(error),
         }
     }
 
