@@ -1,7 +1,6 @@
 // Two cells side by side, without binding anything.
 
-ghost use Rattle.std.specs.Prelude.{◌≡◌, ℕ, List, IfOk, IsTrue};
-ghost use Rattle.kl1_store.specs.Done.{IsKnown};
+ghost use Rattle.std.specs.Prelude.{◌≡◌, ℕ, List, IfOk};
 ghost use Rattle.kl1_store.specs.Held.{Held, IsIn, IsWalked};
 ghost use Rattle.kl1_store.specs.Waiting.{ArePairs};
 ghost use Rattle.kl1_store.specs.Compares.{ComparesAs, ComparedAs};
@@ -12,7 +11,6 @@ use crate::cells::Cells;
 use crate::frame::Frame;
 use crate::meeting::Meeting;
 use crate::meets::meet;
-use crate::pairs::Pairs;
 use kl1_text::NameValue;
 use std::alloc::AllocError;
 
@@ -63,24 +61,10 @@ fn compare_sides<N: NameValue>(
     }
 }
 
-/// Whether two cells are structures that were compared.
-fn is_known<N: Copy>(pairs: &Pairs, left: Cell<N>, right: Cell<N>) -> bool
-    ensures { IsTrue result → IsKnown left right pairs.now }
-{
-    if let Cell::Structure(first) = left {
-        if let Cell::Structure(second) = right {
-            return pairs.has(first, second);
-        }
-    }
-    false
-}
-
-/// Compares two cells: false where they clash; `waits` gets the variables for which they wait, `frames` and `pairs` are
-/// scratch.
+/// Compares two cells: false where they clash; `waits` gets the variables for which they wait, `frames` is scratch.
 pub fn compare<N: NameValue>(
     cells: &Cells<N>,
     frames: &mut Vec<Frame>,
-    pairs: &mut Pairs,
     waits: &mut Vec<u32>,
     left: Cell<N>,
     right: Cell<N>,
@@ -89,9 +73,7 @@ pub fn compare<N: NameValue>(
     requires right_in { IsIn cells.now.held right }
     ensures { IfOk result (ComparedAs N.built cells.now.held left right waits.old.items waits.new.items) }
 {
-    let _ = cells.mark();
     frames.clear();
-    pairs.clear();
     let first = cells.walk(left);
     let second = cells.walk(right);
     if !compare_sides(cells, frames, waits, first, second)? {
@@ -99,14 +81,10 @@ pub fn compare<N: NameValue>(
     }
     while let Some(frame) = frames.pop() {
         if frame.next >= frame.count {
-            pairs.add(frame.left, frame.right)?;
             continue;
         }
         let sides = turn(cells, frame);
         frames.push(frame.onward())?;
-        if is_known(pairs, sides.left, sides.right) {
-            continue;
-        }
         if !compare_sides(cells, frames, waits, sides.left, sides.right)? {
             return Ok(false);
         }

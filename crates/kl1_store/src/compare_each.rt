@@ -8,7 +8,6 @@ use crate::cell::Cell;
 use crate::cells::Cells;
 use crate::compare::compare;
 use crate::frame::Frame;
-use crate::pairs::Pairs;
 use kl1_text::NameValue;
 use std::alloc::AllocError;
 
@@ -16,7 +15,6 @@ use std::alloc::AllocError;
 fn compare_with<N: NameValue>(
     cells: &Cells<N>,
     frames: &mut Vec<Frame>,
-    pairs: &mut Pairs,
     waits: &mut Vec<u32>,
     cell: Cell<N>,
     others: &[Cell<N>],
@@ -28,7 +26,7 @@ fn compare_with<N: NameValue>(
     let mut rest = others;
     while let [other, more @ ..] = rest {
         let other = *other;
-        if !compare(cells, frames, pairs, waits, cell, other)? {
+        if !compare(cells, frames, waits, cell, other)? {
             return Ok(false);
         }
         rest = more;
@@ -40,7 +38,6 @@ fn compare_with<N: NameValue>(
 pub fn compare_each<N: NameValue>(
     cells: &Cells<N>,
     frames: &mut Vec<Frame>,
-    pairs: &mut Pairs,
     waits: &mut Vec<u32>,
     terms: &[Cell<N>],
 ) -> Result<bool, AllocError>
@@ -50,7 +47,7 @@ pub fn compare_each<N: NameValue>(
     let mut rest = terms;
     while let [first, more @ ..] = rest {
         let first = *first;
-        if !compare_with(cells, frames, pairs, waits, first, more)? {
+        if !compare_with(cells, frames, waits, first, more)? {
             return Ok(false);
         }
         rest = more;

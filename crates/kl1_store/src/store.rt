@@ -14,14 +14,10 @@ use crate::compare_each::compare_each;
 use crate::frame::Frame;
 use crate::head::Head;
 use crate::hook::Hook;
-use crate::levels::Levels;
-use crate::merges::Merges;
-use crate::pairs::Pairs;
 use crate::point::Point;
 use crate::same::Same;
 use crate::settle::unify_cells;
-use crate::take_back::take_back;
-use crate::task::Task;
+use crate::spot::Spot;
 use crate::tell::tell_all;
 use crate::unified::Unified;
 use kl1_text::NameValue;
@@ -36,10 +32,7 @@ use std::marker::Model;
 pub struct Store<N: NameValue> {
     cells: Cells<N>,
     frames: Vec<Frame>,
-    merges: Merges,
-    pairs: Pairs,
-    levels: Levels,
-    tasks: Vec<Task<N>>,
+    spots: Vec<Spot>,
     hooks: Vec<Hook>,
     alloc: Global,
 }
@@ -50,10 +43,6 @@ impl<N: NameValue> Model for Store<N> {
     ghost Value = { Kept N };
 
     ghost view = { λ s. record { held = s.cells.held; hooks = s.hooks.items; room = s.cells.room } };
-
-    ghost use Rattle.kl1_store.specs.Levels.{AreLevels};
-
-    ghost invariant = { λ s. AreLevels s.cells.held s.levels };
 }
 
 impl<N: NameValue> Store<N> {
@@ -65,10 +54,7 @@ impl<N: NameValue> Store<N> {
         Store {
             cells: Cells::new(alloc),
             frames: Vec::new(alloc),
-            merges: Merges::new(alloc),
-            pairs: Pairs::new(alloc),
-            levels: Levels::new(alloc),
-            tasks: Vec::new(alloc),
+            spots: Vec::new(alloc),
             hooks: Vec::new(alloc),
             alloc,
         }
@@ -135,19 +121,17 @@ impl<N: NameValue> Store<N> {
         match unify_cells(
             &mut self.cells,
             &mut self.frames,
-            &mut self.merges,
-            &mut self.levels,
-            &mut self.tasks,
+            &mut self.spots,
             left,
             right,
         ) {
             Ok(true) => Ok(Unified::Bound),
             Ok(false) => {
-                take_back(&mut self.cells, &mut self.levels, mark);
+                self.cells.back(mark);
                 Ok(Unified::Clash)
             }
             Err(error) => {
-                take_back(&mut self.cells, &mut self.levels, mark);
+                self.cells.back(mark);
                 Err(error)
             }
         }
@@ -161,13 +145,7 @@ impl<N: NameValue> Store<N> {
         ensures hooks { self.new.hooks ≡ self.old.hooks }
     {
         let mut waits = Vec::new(self.alloc);
-        if !compare_each(
-            &self.cells,
-            &mut self.frames,
-            &mut self.pairs,
-            &mut waits,
-            terms,
-        )? {
+        if !compare_each(&self.cells, &mut self.frames, &mut waits, terms)? {
             return Ok(Same::No);
         }
         if waits.is_empty() {
@@ -248,7 +226,7 @@ impl<N: NameValue> Store<N> {
         ensures held { (k : Kept N) → mark ≡ point_of k → HasGrown k self.old → self.new.held ≡ k.held }
         ensures hooks { (k : Kept N) → mark ≡ point_of k → HasGrown k self.old → self.new.hooks ≡ k.hooks }
     {
-        take_back(&mut self.cells, &mut self.levels, mark.sizes);
+        self.cells.back(mark.sizes);
         self.hooks.truncate(mark.hooks);
     }
 }
