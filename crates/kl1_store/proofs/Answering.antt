@@ -39,9 +39,11 @@ answers_wait {N = N} f h xs start longer s lt c = (
     forth : (v : ℕ) → IsOf v start ⊎ IsOf v (awaited_by (term_list f h xs)) → IsOf v (awaited_by (term_list f h xs))
     forth v (inl a) = let E : List ℕ → Type 0 = λ k. IsOf v k in absurd (subst E s a)
     forth v (inr a) = a
+
     first : (ls : List ℕ) → 0 < length ls → ((v : ℕ) → IsOf v ls → IsOf v (awaited_by (term_list f h xs))) → (v : ℕ) × IsOf v (awaited_by (term_list f h xs))
     first [] lt k = absurd (omega arith)
     first (w ∷ ls) lt k = (w, k w (inl refl))
+
     waits : (ws : List ℕ) → awaited_by (term_list f h xs) ≡ ws → (v : ℕ) × IsOf v (awaited_by (term_list f h xs)) → passive_each (term_list f h xs) ≡ unknown
     waits [] a m = let E : List ℕ → Type 0 = λ k. IsOf m.0 k in absurd (subst E a m.1)
     waits (w ∷ ws) a m = each_is_unknown (term_list f h xs) w ws c.clash a

@@ -348,8 +348,10 @@ left_looks {N = N} built h l r start waits longer ds before ps between now p q x
   where
     front : (f : N → List ℕ) → waiting f h [] before ≡ record { left = term_of f h x; right = term_of f h y } ∷ waiting f h [] between
     front f = turn_front f h before ps between p q x y e are is turn
+
     whole : (f : N → List ℕ) → Reads built f → (v : ℕ) → IsOf v (longer ++ awaited_among (waiting f h [] now)) → IsOf v (waits ++ awaited_among (waiting f h [] before))
     whole f reads v a = let L : List ℕ → Type 0 = λ k. IsOf v k in subst L (c.awaited f reads ∙ ap (λ es. waits ++ awaited_among es) (sym (front f))) a
+
     by_part : (f : N → List ℕ) → Reads built f → (v : ℕ) → IsOf v waits ⊎ IsOf v (awaited_among (waiting f h [] before)) → IsOf v start ⊎ IsOf v (awaited (term_of f h l) (term_of f h r))
     by_part f reads v (inl a) = i.found f reads v a
     by_part f reads v (inr a) = i.rest f reads v a
@@ -374,8 +376,10 @@ left_skips {N = N} built h l r start waits ds before ps between p q x y i e are 
   where
     front : (f : N → List ℕ) → waiting f h [] before ≡ record { left = term_of f h x; right = term_of f h y } ∷ waiting f h [] between
     front f = turn_front f h before ps between p q x y e are is turn
+
     later : (f : N → List ℕ) (v : ℕ) → IsOf v (awaited_among (waiting f h [] between)) → IsOf v (awaited_among (waiting f h [] before))
     later f v a = let L : List Equation → Type 0 = λ k. IsOf v (awaited_among k) in subst L (sym (front f)) (of_second v (awaited (term_of f h x) (term_of f h y)) (awaited_among (waiting f h [] between)) a)
+
     is_done : (f : N → List ℕ) → Reads built f → IsDone waits (term_of f h x) (term_of f h y)
     is_done f reads =
         let k = known.known in
@@ -435,10 +439,13 @@ left_closes {N = N} built h l r start waits ds es before ps p formed i e le is =
   where
     closed : Reaches built h before ps
     closed = closed_at built h before ps p i.pairs e le
+
     same : (f : N → List ℕ) → waiting f h [] before ≡ waiting f h [] ps
     same = closed_waiting h before ps p i.pairs e le
+
     under : (f : N → List ℕ) → Reads built f → Under (IsDone waits) (structure_term f h) (argument_terms f h) (term_of f h l) (term_of f h r) (ps ++ p ∷ [])
     under f reads = let U : List Frame → Type 0 = λ k. Under (IsDone waits) (structure_term f h) (argument_terms f h) (term_of f h l) (term_of f h r) k in subst U e (i.under f reads)
+
     done : (f : N → List ℕ) → Reads built f → IsDone waits (structure_term f h p.left) (structure_term f h p.right)
     done f reads = pair_done f h waits p formed (pair_popped h before ps p i.pairs e) le (under_top (IsDone waits) (structure_term f h) (argument_terms f h) (term_of f h l) (term_of f h r) ps p (under f reads))
 
@@ -467,6 +474,7 @@ left_start {N = N} built h l r x y before now ds waits longer e none_done p q c 
     whole_clash f reads =
         c.clash f reads ∙ ap (λ ps. clash (term_of f h x) (term_of f h y) || clash_among (waiting f h [] ps)) e ∙ or-nothing (clash (term_of f h x) (term_of f h y))
         ∙ ap (λ t. clash t (term_of f h y)) (p f) ∙ ap (clash (term_of f h l)) (q f)
+
     whole : (f : N → List ℕ) → Reads built f → (v : ℕ) → IsOf v (longer ++ awaited_among (waiting f h [] now)) → IsOf v (waits ++ awaited (term_of f h l) (term_of f h r))
     whole f reads v a =
         let L : List ℕ → Type 0 = λ k. IsOf v k in

@@ -20,12 +20,15 @@ joined v waits longer xs ys G one all = (there, λ g. back (all.1 g))
     found : IsOf v waits ⊎ IsOf v xs → G
     found (inl a) = all.0 (inl a)
     found (inr a) = all.0 (inr (of_first v xs ys a))
+
     there : IsOf v longer ⊎ IsOf v ys → G
     there (inl a) = found (one.0 a)
     there (inr a) = all.0 (inr (of_second v xs ys a))
+
     parts : IsOf v xs ⊎ IsOf v ys → IsOf v longer ⊎ IsOf v ys
     parts (inl a) = inl (one.1 (inr a))
     parts (inr a) = inr a
+
     back : IsOf v waits ⊎ IsOf v (xs ++ ys) → IsOf v longer ⊎ IsOf v ys
     back (inl a) = inl (one.1 (inl a))
     back (inr a) = parts (of_split v xs ys a)

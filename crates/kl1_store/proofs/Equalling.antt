@@ -107,6 +107,7 @@ nested_closed {N = N} h before ps p formed n e pair le = record {
   where
     under : (f : N → List ℕ) → Under Equal (structure_term f h) (argument_terms f h) (term_of f h n.left) (term_of f h n.right) (ps ++ p ∷ [])
     under f = let U : List Frame → Type 0 = λ l. Under Equal (structure_term f h) (argument_terms f h) (term_of f h n.left) (term_of f h n.right) l in subst U e (n.under f)
+
     equal : (f : N → List ℕ) → structure_term f h p.left ≡ structure_term f h p.right
     equal f = pair_equal f h p formed pair le (under_top Equal (structure_term f h) (argument_terms f h) (term_of f h n.left) (term_of f h n.right) ps p (under f))
 
@@ -120,6 +121,7 @@ bound_nested {N = N} h v z x y ps n same = record { left = n.left; right = n.rig
   where
     new : Held N
     new = with_binding h v z
+
     under : (f : N → List ℕ) → Under Equal (structure_term f new) (argument_terms f new) (term_of f new n.left) (term_of f new n.right) ps
     under f =
         let g : Term → Term = replace v (term_of f h z) in

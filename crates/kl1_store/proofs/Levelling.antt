@@ -151,6 +151,7 @@ levels-structure {N = N} h name arguments ls a = record {
   where
     shape : Shape N
     shape = record { name = name; arguments = arguments }
+
     at : (s i : ℕ) (x : Cell N) → (length ls.structures.items ≤ s) ⊎ (s < length ls.structures.items) → slice_get (arguments_of (with_structure h name arguments) s) i ≡ Some x →
         LiesAt (level_at ls.variables.items) (level_at ls.structures.items) (level_at ls.structures.items s) x
     at s i x (inl past) got = lies_at_0 _ _ _ x (get_or_past ls.structures.items s 0 past)
@@ -227,6 +228,7 @@ levels-taken {N = N} h now ls kept p grown a e1 e2 = record {
         let A : List ℕ → Type 0 = λ l. P l (take (length h.structures) ls.structures.items) in
         let B : List ℕ → Type 0 = λ l. P kept.variables.items l in
         subst B (sym e2) (subst A (sym e1) q)
+
     argument : (s i : ℕ) (x : Cell N) → slice_get (arguments_of h s) i ≡ Some x → (length h.structures ≤ s) ⊎ (s < length h.structures) →
         LiesAt (level_at (take h.variables ls.variables.items)) (level_at (take (length h.structures) ls.structures.items)) (level_at (take (length h.structures) ls.structures.items) s) x
     argument s i x got (inl past) = lies_at_0 _ _ _ x (past_kept (length h.structures) ls.structures.items s past)
@@ -236,6 +238,7 @@ levels-taken {N = N} h now ls kept p grown a e1 e2 = record {
         let there = a.level.arguments s i x (subst P (sym (ap shape_arguments (slice_get-taken h.structures now.structures s grown.structures lt))) got) in
         subst Q (sym (get_or-take (length h.structures) ls.structures.items s 0 lt))
         (lies_kept h.variables (length h.structures) (level_at ls.structures.items s) ls.variables.items ls.structures.items x (within_at h (arguments_of h s) i x (arguments_in h s p) got) there)
+
     value : (v : ℕ) → (h.variables ≤ v) ⊎ (v < h.variables) → (is_bound v h.bindings ≡ false) ⊎ (is_bound v h.bindings ≡ true) →
         LiesAt (level_at (take h.variables ls.variables.items)) (level_at (take (length h.structures) ls.structures.items)) (level_at (take h.variables ls.variables.items) v) (found v h.bindings)
     value v (inl past) b = lies_at_0 _ _ _ (found v h.bindings) (past_kept h.variables ls.variables.items v past)

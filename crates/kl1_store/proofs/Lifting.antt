@@ -162,9 +162,11 @@ variable_lifted {N = N} h v l old new ts us le set same tasks fits inner less = 
         let Q : ℕ → Type 0 = λ u. Fits (level_at new.variables.items) (level_at new.structures.items) (ts ++ us) (level_at new.variables.items u) (found u h.bindings) in
         inr (subst Q (sym e) (subst P (sym set.here) fits))
     value w (inr ne) = inl (set.others w ne)
+
     reached : (f : N → List ℕ) (w : ℕ) → (is_in_tasks f h w ts ≡ true) ⊎ (is_in_tasks f h w us ≡ true) → (occurs w (term_of f h (Variable v)) || is_in_tasks f h w ts) ≡ true
     reached f w (inl e) = or_right (occurs w (term_of f h (Variable v))) (is_in_tasks f h w ts) e
     reached f w (inr e) = or_left (occurs w (term_of f h (Variable v))) (is_in_tasks f h w ts) (inner f w e)
+
     seen : (w : ℕ) → is_bound w h.bindings ≡ false → (w ≡ v) ⊎ (w ≡ v → ⊥) → (level_at new.variables.items w ≡ level_at old.variables.items w) ⊎ ((f : N → List ℕ) → occurs w (term_of f h (Variable v)) ≡ true)
     seen w u (inl e) =
         let P : ℕ → Type 0 = λ n. is_bound n h.bindings ≡ false in
@@ -230,6 +232,7 @@ structure_lifted {N = N} h s l m old new ts us p inside le more_than set same ta
         let L : ℕ → Type 0 = λ n. Fits (level_at new.variables.items) (level_at new.structures.items) (ts ++ tasks_of m (arguments_of h s)) n y in
         inr (subst L (sym (ap (level_at new.structures.items) q ∙ set.here)) (inr (awaits_second m y ts (tasks_of m (arguments_of h s)) (awaits_each m (arguments_of h s) i y (subst G q got)))))
     argument t i y got (inr ne) = inl (set.others t ne)
+
     reached : (f : N → List ℕ) (w : ℕ) {name : List ℕ} → term_of f h (Structure s) ≡ structure name (terms_of f h (arguments_of h s)) → (is_in_tasks f h w ts ≡ true) ⊎ (is_in_tasks f h w (tasks_of m (arguments_of h s)) ≡ true) →
         (occurs w (term_of f h (Structure s)) || is_in_tasks f h w ts) ≡ true
     reached f w is (inl q) = or_right (occurs w (term_of f h (Structure s))) (is_in_tasks f h w ts) q
@@ -282,25 +285,31 @@ lifting_goes_on {N = N} h x l old now next all rest left t i e s = (
   where
     NewFits : ℕ → Cell N → Type 0
     NewFits n y = Fits (level_at next.variables.items) (level_at next.structures.items) left n y
+
     taken : (n : ℕ) (y : Cell N) → Awaits n y rest ⊎ Awaits n y (t ∷ []) → NewFits n y
     taken n y (inl a) = s.keeps n y (inr a)
     taken n y (inr (inl p)) =
         let P : Cell N → Type 0 = λ z. NewFits n z in
         subst P p.0 (fits_lower (level_at next.variables.items) (level_at next.structures.items) left n t.level t.cell p.1 s.here)
     taken n y (inr (inr a)) = absurd a
+
     keeps : (n : ℕ) (y : Cell N) → Fits (level_at now.variables.items) (level_at now.structures.items) all n y → NewFits n y
     keeps n y (inl lies) = s.keeps n y (inl lies)
     keeps n y (inr a) =
         let P : List (Task N) → Type 0 = λ k. Awaits n y k in
         taken n y (awaits_split n y rest (t ∷ []) (subst P e a))
+
     argument : (r k : ℕ) (y : Cell N) → slice_get (arguments_of h r) k ≡ Some y → (level_at next.structures.items r ≡ level_at now.structures.items r) ⊎ NewFits (level_at next.structures.items r) y → NewFits (level_at next.structures.items r) y
     argument r k y got (inl same) = let P : ℕ → Type 0 = λ n. NewFits n y in subst P (sym same) (keeps (level_at now.structures.items r) y (i.arguments r k y got))
     argument r k y got (inr fits) = fits
+
     value : (v : ℕ) → (level_at next.variables.items v ≡ level_at now.variables.items v) ⊎ NewFits (level_at next.variables.items v) (found v h.bindings) → NewFits (level_at next.variables.items v) (found v h.bindings)
     value v (inl same) = let P : ℕ → Type 0 = λ n. NewFits n (found v h.bindings) in subst P (sym same) (keeps (level_at now.variables.items v) (found v h.bindings) (i.values v))
     value v (inr fits) = fits
+
     in_all : (f : N → List ℕ) (v : ℕ) → (occurs v (term_of f h t.cell) || is_in_tasks f h v rest) ≡ true → occurs v (term_of f h x) ≡ true
     in_all f v q = i.reached f v (ap (is_in_tasks f h v) e ∙ in_tasks-push f h v rest t ∙ q)
+
     seen : (v : ℕ) → is_bound v h.bindings ≡ false → (level_at next.variables.items v ≡ level_at now.variables.items v) ⊎ ((f : N → List ℕ) → occurs v (term_of f h t.cell) ≡ true) →
         (level_at next.variables.items v ≡ level_at old.variables.items v) ⊎ ((f : N → List ℕ) → occurs v (term_of f h x) ≡ true)
     seen v u (inl same) = before (i.seen v u)

@@ -201,26 +201,26 @@ pub structures_open : {N : Type 0} (h : Held N) (s t n : ℕ) (a b : N) → IsFo
 structures_open {N = N} h s t n a b p read ls lt es et e =
     let P : N → Type 0 = λ m. slice_get h.structures s ≡ Some (record { name = m; arguments = arguments_of h s }) in
     record {
-  left = refl;
-  right = refl;
-  start = refl;
-  is = record {
-    left = ls;
-    right = lt;
-    left_count = sym es;
-    right_count = sym et;
-    next = omega arith;
-    name = b;
-    left_shape = subst P e read.left;
-    right_shape = read.right;
-  };
-  leads = λ f rest.
-      front-structures f h s t a b rest p read
-      ∙ cond-true (bytes_eq (f a) (f b) && count_of (terms_of f h (arguments_of h s)) == count_of (terms_of f h (arguments_of h t)))
-      (goes_on (argument_equations (terms_of f h (arguments_of h s)) (terms_of f h (arguments_of h t)) rest)) fails
-      (and_from (bytes_eq (f a) (f b)) _ ((bytes_eq-Decides (f a) (f b)).1 (ap f e))
-      (eq-eqb _ _ (count_of-terms_of f h (arguments_of h s) ∙ sym es ∙ et ∙ sym (count_of-terms_of f h (arguments_of h t)))));
-}
+      left = refl;
+      right = refl;
+      start = refl;
+      is = record {
+        left = ls;
+        right = lt;
+        left_count = sym es;
+        right_count = sym et;
+        next = omega arith;
+        name = b;
+        left_shape = subst P e read.left;
+        right_shape = read.right;
+      };
+      leads = λ f rest.
+          front-structures f h s t a b rest p read
+          ∙ cond-true (bytes_eq (f a) (f b) && count_of (terms_of f h (arguments_of h s)) == count_of (terms_of f h (arguments_of h t)))
+          (goes_on (argument_equations (terms_of f h (arguments_of h s)) (terms_of f h (arguments_of h t)) rest)) fails
+          (and_from (bytes_eq (f a) (f b)) _ ((bytes_eq-Decides (f a) (f b)).1 (ap f e))
+          (eq-eqb _ _ (count_of-terms_of f h (arguments_of h s) ∙ sym es ∙ et ∙ sym (count_of-terms_of f h (arguments_of h t)))));
+    }
 
 pub takes_left_at : {N : Type 0} (h : Held N) (l r : Cell N) (v : ℕ) → l ≡ Variable v → IsFormed h → IsIn h l → IsWalked h l → IsIn h r → IsNoVariable r → Takes h l r v r
 takes_left_at {N = N} h l r v e p inside walked known value =

@@ -50,17 +50,22 @@ shortened ps ms at inside less a = record {
   where
     next : ℕ
     next = get_or ps at at
+
     over : ℕ
     over = get_or ps next next
+
     lower : (s : ℕ) → (s ≡ at) × (get_or (set ps at over) s s ≡ over) ⊎ (s ≡ at → ⊥) × (get_or (set ps at over) s s ≡ get_or ps s s) → get_or (set ps at over) s s ≤ s
     lower s (inl e) = let l = a.lower next in omega (arith, e.0, e.1, l, less)
     lower s (inr ne) = let l = a.lower s in omega (arith, ne.1, l)
+
     same : (S : ℕ → Term) → Respects S ms → (s : ℕ) → (s ≡ at) × (get_or (set ps at over) s s ≡ over) ⊎ (s ≡ at → ⊥) × (get_or (set ps at over) s s ≡ get_or ps s s) → S (get_or (set ps at over) s s) ≡ S s
     same S r s (inl e) = ap S e.1 ∙ a.same S r next ∙ a.same S r at ∙ ap S (sym e.0)
     same S r s (inr ne) = ap S ne.1 ∙ a.same S r s
+
     moved : (get_or ps at at ≡ at) ⊎ IsFrom at ms → IsFrom at ms
     moved (inl e) = absurd (omega (arith, e, less))
     moved (inr f) = f
+
     linked : (s : ℕ) → (s ≡ at) × (get_or (set ps at over) s s ≡ over) ⊎ (s ≡ at → ⊥) × (get_or (set ps at over) s s ≡ get_or ps s s) → (get_or (set ps at over) s s ≡ s) ⊎ IsFrom s ms
     linked s (inl e) = let F : ℕ → Type 0 = λ n. IsFrom n ms in inr (subst F (sym e.0) (moved (a.linked at)))
     linked s (inr ne) = let F : ℕ → Type 0 = λ n. (n ≡ s) ⊎ IsFrom s ms in subst F (sym ne.1) (a.linked s)
@@ -151,12 +156,15 @@ linked_to ps qs ms ns from to inside less e is a =
   where
     m : Merge
     m = record { from = from; to = to }
+
     lower : (s : ℕ) → (s ≡ from) × (get_or (set ps from to) s s ≡ to) ⊎ (s ≡ from → ⊥) × (get_or (set ps from to) s s ≡ get_or ps s s) → get_or (set ps from to) s s ≤ s
     lower s (inl q) = omega (arith, q.0, q.1, less)
     lower s (inr q) = let l = a.lower s in omega (arith, q.1, l)
+
     same : (S : ℕ → Term) → Respects S ms → S from ≡ S to → (s : ℕ) → (s ≡ from) × (get_or (set ps from to) s s ≡ to) ⊎ (s ≡ from → ⊥) × (get_or (set ps from to) s s ≡ get_or ps s s) → S (get_or (set ps from to) s s) ≡ S s
     same S r one s (inl q) = ap S q.1 ∙ sym one ∙ ap S (sym q.0)
     same S r one s (inr q) = ap S q.1 ∙ a.same S r s
+
     linked : (s : ℕ) → (s ≡ from) × (get_or (set ps from to) s s ≡ to) ⊎ (s ≡ from → ⊥) × (get_or (set ps from to) s s ≡ get_or ps s s) → (get_or (set ps from to) s s ≡ s) ⊎ IsFrom s (ms ++ m ∷ [])
     linked s (inl q) = let F : ℕ → Type 0 = λ n. IsFrom n (ms ++ m ∷ []) in inr (subst F (sym q.0) (from-last ms m))
     linked s (inr q) = at (a.linked s)

@@ -21,7 +21,6 @@ pub loop-task-preserved : goal.loop-task-preserved
 loop-task-preserved g c =
     (lifting_goes_on c.args.cells.now.held c.args.cell c.args.level c.args.levels.now c.loop-task.levels c.lift_one.new.levels c.loop-task.tasks.items c.pop.new.self.items c.lift_one.new.tasks.items c.in-Some.task c.loop-task.invariant c.in-Some.ensures.items c.in_ok-lift_one.ensures).0
 
-
 pub returns : goal.returns
 returns g c =
     let e : c.loop-task.tasks.items ≡ [] = nil_from_length c.loop-task.tasks.items (omega (arith, c.loop-task.tasks.ok.0, c.in_default.ensures.cases.0)) in
