@@ -11,3 +11,9 @@ pub mod States
 pub mod Series
 pub mod WholeTexts
 pub mod Sources
+pub mod Statements
+pub mod Heads
+pub mod GoalNodes
+pub mod Started
+pub mod Marked
+pub mod Followings

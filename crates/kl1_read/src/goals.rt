@@ -1,10 +1,18 @@
 // Goals.
 
-ghost use Rattle.std.specs.Prelude.{◌≡◌, IfOk, IfErr};
-ghost use Rattle.kl1_model.specs.Module.{good, read_goal};
+ghost use Rattle.std.specs.Prelude.{◌≡◌, map, IfOk, IfErr};
+ghost use Rattle.kl1_model.specs.Module.{good, startable, term_of_tokens, read_goal};
 ghost use Rattle.kl1_read.specs.Sources.{IsFaultOf};
+ghost use Rattle.kl1_read.specs.Started.{started};
+ghost use Rattle.kl1_read.specs.Views.{spelled_token};
 
+use crate::expression::read_expression;
+use crate::goal_kinds::is_goal;
+use crate::numbering::numbered_tokens;
+use crate::piece::Piece;
 use crate::read_fault::ReadFault;
+use crate::spelled::Spelled;
+use crate::whole_text::{WholeText, all_tokens};
 use kl1_term::Term;
 use std::alloc::Global;
 
@@ -14,7 +22,37 @@ pub fn read_goal(alloc: Global, text: &[u8]) -> Result<Term, ReadFault>
     ensures goal { IfOk result (λ goal. read_goal text.now ≡ good goal) }
     ensures fault { IfErr result (IsFaultOf (read_goal text.now)) }
 {
-    let _ = alloc;
-    let _ = text;
-    Err(ReadFault::Memory)
+    let WholeText { line, tokens } = all_tokens(alloc, text)?;
+    match tokens {
+        None => Err(ReadFault::Bad { line }),
+        Some(tokens) => goal_of(alloc, line, tokens),
+    }
+}
+
+/// The goal that tokens are, of which the first one is on this line.
+fn goal_of(alloc: Global, line: u64, tokens: Vec<Spelled>) -> Result<Term, ReadFault>
+    ensures goal { IfOk result (λ goal. startable line (term_of_tokens (map spelled_token tokens.items)) ≡ good goal) }
+    ensures fault { IfErr result (IsFaultOf (startable line (term_of_tokens (map spelled_token tokens.items)))) }
+{
+    let numbered = numbered_tokens(alloc, tokens.as_slice())?;
+    drop(tokens);
+    start_of(line, read_expression(alloc, numbered.as_slice())?)
+}
+
+/// The goal that a term is, where there is one.
+fn start_of(line: u64, read: Option<Piece>) -> Result<Term, ReadFault>
+    ensures goal { IfOk result (λ goal. started line read ≡ good goal) }
+    ensures fault { IfErr result (IsFaultOf (started line read)) }
+{
+    match read {
+        None => Err(ReadFault::Bad { line }),
+        Some(piece) => {
+            let term = piece.into_term();
+            if is_goal(&term) {
+                Ok(term)
+            } else {
+                Err(ReadFault::Bad { line })
+            }
+        }
+    }
 }

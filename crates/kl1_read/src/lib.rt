@@ -2,24 +2,41 @@
 #![tactic(auto)]
 
 mod begun;
+mod body;
 mod bytes;
+mod clause;
 mod clause_parts;
+mod clause_terms;
 mod closed;
 mod expression;
+mod following;
 mod frame;
 mod front;
+mod goal_kinds;
+#[cfg(test)]
+mod goal_tests;
+mod goals;
+mod guard;
+mod head_kinds;
+mod head_terms;
 mod item;
 mod joined;
 mod left;
 mod mark;
+mod marks;
+mod module_line;
+#[cfg(test)]
+mod module_tests;
+mod modules;
 mod numbered;
 mod numbering;
 mod opened;
+mod patterns;
 mod piece;
 mod quotes;
 mod read_fault;
-mod goals;
-mod modules;
+mod repeats;
+mod reserved;
 mod series;
 mod signs;
 mod source;
@@ -31,7 +48,8 @@ mod whole_text;
 mod words;
 
 pub use clause_parts::ClauseParts;
-pub use read_fault::ReadFault;
+pub use goal_kinds::is_goal;
 pub use goals::read_goal;
 pub use modules::read_module;
+pub use read_fault::ReadFault;
 pub use source::Source;

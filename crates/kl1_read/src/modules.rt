@@ -1,19 +1,91 @@
 // Modules.
 
-ghost use Rattle.std.specs.Prelude.{◌≡◌, IfOk, IfErr};
-ghost use Rattle.kl1_model.specs.Module.{good, read_module};
-ghost use Rattle.kl1_read.specs.Sources.{IsFaultOf, module_of_parts};
+ghost use Rattle.std.specs.Prelude.{◌≡◌, ◌+◌, ◌^◌, ◌<◌, [], length, map, IfOk, IfErr};
+ghost use Rattle.kl1_model.specs.Module.{good, read_module, clause_of, clauses_from, with_clause};
+ghost use Rattle.kl1_read.specs.Items.{items_left};
+ghost use Rattle.kl1_read.specs.Sources.{IsFaultOf, clause_of_parts, module_of_parts};
+ghost use Rattle.kl1_read.specs.Followings.{clauses_where};
+ghost use Rattle.kl1_read.specs.Views.{spelled_token};
 
+use crate::clause::read_clause;
+use crate::clause_parts::ClauseParts;
+use crate::following::may_follow;
+use crate::item::{Next, Place, next_item};
+use crate::module_line::named_module;
+use crate::numbering::numbered_tokens;
 use crate::read_fault::ReadFault;
 use crate::source::Source;
-use std::alloc::Global;
+use crate::spelled::Spelled;
+use kl1_text::AtomText;
+use std::alloc::{AllocError, Global};
 
 /// The module that a text is.
 pub fn read_module(alloc: Global, text: &[u8]) -> Result<Source, ReadFault>
     ensures module { IfOk result (λ parts. read_module text.now ≡ good (module_of_parts text.now parts)) }
     ensures fault { IfErr result (IsFaultOf (read_module text.now)) }
 {
-    let _ = alloc;
-    let _ = text;
-    Err(ReadFault::Memory)
+    let place = Place {
+        line: 1,
+        bytes: text,
+    };
+    match next_item(alloc, place)? {
+        Next::Nothing => Err(ReadFault::Bad { line: 1 }),
+        Next::Bad(line) => Err(ReadFault::Bad { line }),
+        Next::Whole(item, behind) => match named_module(item.tokens.as_slice()) {
+            None => Err(ReadFault::Bad { line: item.line }),
+            Some(name) => {
+                let clauses = read_clauses(alloc, name, behind)?;
+                Ok(Source { name, clauses })
+            }
+        },
+    }
+}
+
+/// The clauses of the items that are left of a module of this name.
+fn read_clauses(
+    alloc: Global,
+    name: AtomText,
+    place: Place<'_>,
+) -> Result<Vec<ClauseParts>, ReadFault>
+    requires { place.line + length place.bytes.now < 2 ^ 64 }
+    ensures clauses { IfOk result (λ clauses. clauses_from name [] (items_left place.entry.line place.entry.bytes.now) ≡ good (map clause_of_parts clauses.items)) }
+    ensures fault { IfErr result (IsFaultOf (clauses_from name [] (items_left place.entry.line place.entry.bytes.now))) }
+{
+    let mut place = place;
+    let mut clauses = Vec::new(alloc);
+    'items: loop {
+        match next_item(alloc, place)? {
+            Next::Nothing => return Ok(clauses),
+            Next::Bad(line) => return Err(ReadFault::Bad { line }),
+            Next::Whole(item, behind) => {
+                if !put_clause(alloc, name, &mut clauses, item.tokens.as_slice())? {
+                    return Err(ReadFault::Bad { line: item.line });
+                }
+                place = behind;
+            }
+        }
+    }
+}
+
+/// Puts the clause that the tokens of an item are behind the others, where they are one that may follow them in a module of
+/// this name. Answers whether it did.
+fn put_clause(
+    alloc: Global,
+    name: AtomText,
+    clauses: &mut Vec<ClauseParts>,
+    tokens: &[Spelled],
+) -> Result<bool, AllocError>
+    ensures { IfOk result (λ put. clauses_where put clauses.new.items ≡ with_clause (map clause_of_parts clauses.old.items) (clause_of name (map spelled_token tokens.now))) }
+{
+    let numbered = numbered_tokens(alloc, tokens)?;
+    match read_clause(alloc, name, numbered.as_slice())? {
+        None => Ok(false),
+        Some(clause) => {
+            if !may_follow(clauses.as_slice(), &clause) {
+                return Ok(false);
+            }
+            clauses.push(clause)?;
+            Ok(true)
+        }
+    }
 }

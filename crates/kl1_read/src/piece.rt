@@ -7,7 +7,7 @@ ghost use Rattle.kl1_model.specs.Meaning.{Depth, pair, cells, depth, is_narrow, 
 ghost use Rattle.kl1_term.specs.Nodes.{code_of};
 ghost use Rattle.kl1_read.specs.Pieces.{writable};
 
-use kl1_term::Node;
+use kl1_term::{Node, Term};
 use kl1_text::AtomText;
 use std::alloc::{AllocError, Global};
 use std::marker::Model;
@@ -113,6 +113,26 @@ impl Piece {
         ensures { IsTrue (is_writable self.now) }
     {
         let _nodes = &self.nodes;
+    }
+
+    /// The term itself: its nodes are turned round in their place.
+    pub(crate) fn into_term(self) -> Term
+        ensures { result ≡ self }
+    {
+        let Piece {
+            mut nodes,
+            whole: _whole,
+            rest: _rest,
+        } = self;
+        nodes.reverse();
+        Term::of_nodes(nodes)
+    }
+
+    /// How deep the term is.
+    pub(crate) fn depth(&self) -> u64
+        ensures { result ≡ depth self.now }
+    {
+        self.whole
     }
 
     /// Puts the nodes behind others, which come before them in the order of reading; gives the depth.

@@ -17,6 +17,10 @@ pub enum ReadFault {
 }
 
 impl From<AllocError> for ReadFault {
+    ghost use Rattle.kl1_read.specs.declared.read_fault.ReadFault.TheVariants.{Memory};
+
+    ghost from_gives = { λ _ e. e ≡ Memory };
+
     fn from(_refused: AllocError) -> Self
         ensures { result ≡ ReadFault.Memory }
     {

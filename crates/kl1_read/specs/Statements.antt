@@ -1,0 +1,84 @@
+-- A clause as terms, before it is known whether they may stand there.
+use Rattle.std.specs.Prelude.{◌≡◌, ℕ, ◌&&◌, not, Bool, true, false, if◌then◌else◌, List, [], ◌∷◌, map, Option, Some, None, option_map, option_and_then}
+use Rattle.std.specs.Borrow.{Bor}
+use Rattle.kl1_model.specs.Term.{Term, atom, structure, more, terms_of}
+use Rattle.kl1_model.specs.Token.{name_token}
+use Rattle.kl1_model.specs.Grammar as grammar
+use Rattle.kl1_model.specs.Reader.{Answer, then_read, then_skip, if_there, behind_open, behind_close, behind_neck, behind_bar, all_read}
+use Rattle.kl1_model.specs.Meaning.{is_writable, variables_in}
+use Rattle.kl1_model.specs.Goal.{is_head}
+use Rattle.kl1_model.specs.Module.{Clause, each_of, has_repeats, fit_test, fit_goal, true_goal}
+use Rattle.kl1_read.specs.declared.numbered.Numbered.{Numbered}
+use Rattle.kl1_read.specs.declared.head_terms.HeadTerms.{HeadTerms}
+use Rattle.kl1_read.specs.declared.clause_terms.ClauseTerms.{ClauseTerms}
+use Rattle.kl1_read.specs.Views.{numbered_token}
+use Rattle.kl1_read.specs.Meanings.{series_read, fit}
+
+-- the head of a clause: its name and its arguments
+pub record Heading : Type 0 where
+  pub name : List ℕ
+  pub arguments : List Term
+
+-- a head, tests, and the goals of a body
+pub record Statement : Type 0 where
+  pub heading : Heading
+  pub tests : List Term
+  pub body : List Term
+
+abbrev pub heading_of : HeadTerms → Heading
+heading_of h = record { name = h.name; arguments = h.arguments.items }
+
+abbrev pub statement_of : ClauseTerms → Statement
+statement_of c = record { heading = heading_of c.head; tests = c.tests.items; body = c.body.items }
+
+-- what was read, with what is behind it
+abbrev pub heading_view : Option (HeadTerms × Bor (List Numbered)) → Answer Heading
+heading_view None = None
+heading_view (Some r) = Some (heading_of r.0, map numbered_token r.1.now)
+
+abbrev pub statement_view : Option (ClauseTerms × Bor (List Numbered)) → Answer Statement
+statement_view None = None
+statement_view (Some r) = Some (statement_of r.0, map numbered_token r.1.now)
+
+-- the terms of expressions parted by commas, where a text can write each
+abbrev pub written_series : List grammar.Numbered → Answer (List Term)
+written_series ts = fit (series_read ts)
+
+-- arguments in parentheses behind the name of a head
+abbrev pub arguments_read : List ℕ → List grammar.Numbered → Answer Heading
+arguments_read p ts = then_skip (behind_open ts) (λ us. then_read (written_series us) (λ s vs. then_skip (behind_close vs) (λ ws. Some (record { name = p; arguments = s }, ws))))
+
+-- a head, where one is in front whose arguments a text can write
+abbrev pub heading_read : List grammar.Numbered → Answer Heading
+heading_read (name_token p quotes false ∷ ts) = Some (record { name = p; arguments = [] }, ts)
+heading_read (name_token p quotes true ∷ ts) = arguments_read p ts
+heading_read _ = None
+
+-- a body behind a neck, or tests, a bar and a body
+abbrev pub guarded_read : Heading → List grammar.Numbered → Answer Statement
+guarded_read h ts = then_read (written_series ts) (λ s us. if_there (behind_bar us) (Some (record { heading = h; tests = []; body = s }, us)) (λ vs. then_read (written_series vs) (λ b ws. Some (record { heading = h; tests = s; body = b }, ws))))
+
+-- a clause as terms
+abbrev pub statement_read : List grammar.Numbered → Answer Statement
+statement_read ts = then_read (heading_read ts) (λ h us. if_there (behind_neck us) (Some (record { heading = h; tests = []; body = true_goal ∷ [] }, us)) (λ vs. guarded_read h vs))
+
+-- a head as a term
+abbrev pub heading_term : List ℕ → List Term → Term
+heading_term p [] = atom p
+heading_term p (t ∷ ts) = structure p (more t (terms_of ts))
+
+-- whether a name may be the head of these arguments, and a text can write it with them
+abbrev pub is_fit_name : List ℕ → List Term → Bool
+is_fit_name p ts = is_writable (heading_term p ts) && is_head (heading_term p ts)
+
+-- whether a head may stand there
+abbrev pub is_fit_heading : List ℕ → List Term → Bool
+is_fit_heading p ts = is_fit_name p ts && not (has_repeats (variables_in (terms_of ts)))
+
+-- the patterns of a head that may stand there
+abbrev pub fit_patterns : List ℕ → List Term → Option (List Term)
+fit_patterns p ts = if is_fit_heading p ts then Some ts else None
+
+-- the clause of a head, tests and a body, in a module of this name
+abbrev pub clause_of_statement : List ℕ → Statement → Option Clause
+clause_of_statement m s = option_and_then (λ ps. option_and_then (λ ts. option_map (λ gs. record { name = s.heading.name; patterns = terms_of ps; tests = ts; body = gs }) (each_of (fit_goal m) s.body)) (each_of fit_test s.tests)) (fit_patterns s.heading.name s.heading.arguments)

@@ -1,0 +1,47 @@
+// Which clauses may follow others.
+
+ghost use Rattle.std.specs.Prelude.{◌≡◌, ◌==◌, ◌&&◌, map, length, bytes_eq};
+ghost use Rattle.kl1_model.specs.Module.{may_follow};
+ghost use Rattle.kl1_read.specs.Sources.{clause_of_parts};
+ghost use Rattle.kl1_read.specs.Followings.{is_one_of, ends_with, holds};
+
+use crate::clause_parts::ClauseParts;
+use kl1_text::AtomText;
+
+/// The most clauses of a module.
+const MOST_CLAUSES: usize = 512;
+
+/// Whether a clause may follow these: there is room, and clauses of one name and number of arguments stand together.
+pub(crate) fn may_follow(before: &[ClauseParts], clause: &ClauseParts) -> bool
+    ensures { result ≡ may_follow (map clause_of_parts before.now) (clause_of_parts clause.now) }
+{
+    if before.len() >= MOST_CLAUSES {
+        return false;
+    }
+    let count = clause.patterns.len();
+    ends_with(before, &clause.name, count) || !holds(before, &clause.name, count)
+}
+
+/// Whether the last of clauses is one of a predicate.
+fn ends_with(clauses: &[ClauseParts], name: &AtomText, count: usize) -> bool
+    ensures { result ≡ ends_with name.now count clauses.now }
+{
+    match clauses {
+        [] => false,
+        [.., last] => is_one_of(last, name, count),
+    }
+}
+
+/// Whether one of clauses is one of a predicate.
+fn holds(clauses: &[ClauseParts], name: &AtomText, count: usize) -> bool
+    ensures { result ≡ holds name.now count clauses.now }
+{
+    clauses.iter().any(|clause| is_one_of(clause, name, count))
+}
+
+/// Whether a clause is one of a predicate.
+fn is_one_of(clause: &ClauseParts, name: &AtomText, count: usize) -> bool
+    ensures { result ≡ is_one_of name.now count clause.now }
+{
+    clause.name.is(name) && clause.patterns.len() == count
+}

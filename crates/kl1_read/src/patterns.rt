@@ -1,0 +1,75 @@
+// The patterns of a head.
+
+ghost use Rattle.std.specs.Prelude.{◌≡◌, option_map, IsTrue, IfOk};
+ghost use Rattle.kl1_model.specs.Term.{terms_of};
+ghost use Rattle.kl1_model.specs.Meaning.{deepest, are_narrow};
+ghost use Rattle.kl1_read.specs.Statements.{fit_patterns, is_fit_name};
+
+use crate::piece::Piece;
+use crate::repeats::has_repeats;
+use crate::reserved::{may_name_atom, may_name_structure};
+use kl1_term::Term;
+use kl1_text::AtomText;
+use std::alloc::{AllocError, Global};
+
+/// The patterns of a head of this name and these arguments, where it may stand there: its name may be a head's, a text can
+/// write it, and no variable stands twice in it.
+pub(crate) fn patterns_of(
+    alloc: Global,
+    name: AtomText,
+    arguments: Vec<Piece>,
+) -> Result<Option<Vec<Term>>, AllocError>
+    ensures { IfOk result (λ r. option_map (λ patterns. patterns.items) r ≡ fit_patterns name arguments.items) }
+{
+    if !is_fit(&name, arguments.as_slice()) {
+        return Ok(None);
+    }
+    let patterns = into_terms(alloc, arguments)?;
+    if has_repeats(alloc, patterns.as_slice())? {
+        return Ok(None);
+    }
+    Ok(Some(patterns))
+}
+
+/// Whether a name may be the head of these arguments, and a text can write it with them.
+fn is_fit(name: &AtomText, arguments: &[Piece]) -> bool
+    ensures { result ≡ is_fit_name name.now arguments.now }
+{
+    name.shows_text();
+    if arguments.len() == 0 {
+        return may_name_atom(name);
+    }
+    if !may_name_structure(name, arguments.len()) {
+        return false;
+    }
+    if arguments.len() > 8 {
+        return false;
+    }
+    deepest(arguments) < 256
+}
+
+/// How deep the deepest of terms is, 0 where there is none.
+fn deepest(pieces: &[Piece]) -> u64
+    ensures value { result ≡ deepest (terms_of pieces.now) }
+    ensures narrow { IsTrue (are_narrow (terms_of pieces.now)) }
+{
+    let mut most = 0;
+    for piece in pieces {
+        piece.is_written();
+        most = most.max(piece.depth());
+    }
+    most
+}
+
+/// The terms themselves.
+fn into_terms(alloc: Global, pieces: Vec<Piece>) -> Result<Vec<Term>, AllocError>
+    ensures { IfOk result (λ terms. terms.items ≡ pieces.items) }
+{
+    let mut pieces = pieces;
+    let mut terms = Vec::new(alloc);
+    while let Some(piece) = pieces.pop() {
+        terms.push(piece.into_term())?;
+    }
+    terms.reverse();
+    Ok(terms)
+}
