@@ -1,7 +1,11 @@
 // What only running shows: that each call can succeed, and instructions against the language's rules.
 
+ghost use Rattle.kl1_clause.specs.Predicates.{AreWhole};
+
 use crate::code::clauses_of;
-use crate::{ClauseParts, Code, Instruction, Name, Names, Source};
+use crate::predicate::{from_first, front_run};
+use crate::{Code, CodeFault, CompiledClause, Instruction, Name, Names};
+use kl1_read::{ClauseParts, Source};
 use kl1_model::BuiltIn;
 use kl1_term::Term;
 use kl1_text::AtomText;
@@ -186,5 +190,126 @@ fn a_module_of_its_name_alone(rt: HostRuntime) -> Result<(), Fail> {
     assert_eq!(rt; code.clause_count(), 0);
     assert!(rt; code.clauses().is_empty());
     assert_eq!(rt; code.names().len(), 1);
+    Ok(())
+}
+
+/// How many clauses a predicate has.
+fn found(texts: &[AtomText], clauses: &[CompiledClause], name: &AtomText, count: usize) -> usize
+    requires { AreWhole texts.now clauses.now }
+{
+    front_run(texts, from_first(texts, clauses, name, count), name, count).len()
+}
+
+/// Whether the predicates `app` of 3 and of no arguments, and `b`, have two clauses, one and one, and no others are there.
+fn are_found(texts: &[AtomText], clauses: &[CompiledClause]) -> bool
+    requires { AreWhole texts.now clauses.now }
+{
+    let app = AtomText::of(b"app");
+    let b = AtomText::of(b"b");
+    found(texts, clauses, &app, 3) == 2
+        && found(texts, clauses, &app, 0) == 1
+        && found(texts, clauses, &app, 1) == 0
+        && found(texts, clauses, &b, 0) == 1
+        && found(texts, clauses, &b, 3) == 0
+        && found(texts, clauses, &AtomText::of(b"c"), 0) == 0
+}
+
+#[test]
+fn clauses_of_a_name_and_a_number_of_arguments(rt: HostRuntime) -> Result<(), Fail> {
+    let mut parts = Vec::new(rt.alloc());
+    parts.push(append_nothing(&rt)?)?;
+    parts.push(append_one(&rt)?)?;
+    parts.push(empty_clause(&rt, b"app")?)?;
+    parts.push(empty_clause(&rt, b"b")?)?;
+    let mut names = Names::new(rt.alloc());
+    let clauses = clauses_of(rt.alloc(), &mut names, parts.as_slice())?;
+    let texts = names.texts();
+    assert!(rt; are_found(texts, clauses.as_slice()));
+    Ok(())
+}
+
+const APPEND: &[u8] = b":- module app.\napp([],Y,Z) :- true | Z = Y.\napp([A|X],Y,Z) :- true | Z = [A|W], app(X,Y,W).";
+
+#[test]
+fn append_is_compiled_from_its_source(rt: HostRuntime) -> Result<(), Fail> {
+    assert_eq!(rt; APPEND.len(), 91);
+    let code = Code::compile(rt.alloc(), APPEND)?;
+    assert!(rt; code.module_name().is(&name(b"app")?));
+    assert!(rt; code.names() == [name(b"app")?].as_slice());
+    assert_eq!(rt; code.clause_count(), 2);
+    let clauses = code.predicate(&name(b"app")?, 3);
+    assert_eq!(rt; clauses.len(), 2);
+    let second = clauses.get(1).ok_or("no second clause")?;
+    assert_eq!(rt; second.name, Name::Place(0));
+    assert_eq!(rt; second.count, 3);
+    assert_eq!(rt; second.head_variables, 4);
+    assert_eq!(rt; second.fresh_variables, 1);
+    let cell = Name::Language(BuiltIn::ListCell);
+    let patterns = [
+        Instruction::Structure(cell, 2),
+        Instruction::Variable(1),
+        Instruction::Variable(2),
+        Instruction::Variable(3),
+        Instruction::Variable(4),
+    ];
+    assert!(rt; second.patterns.as_slice() == patterns.as_slice());
+    let tests = [Instruction::Atom(Name::Language(BuiltIn::True))];
+    assert!(rt; second.tests.as_slice() == tests.as_slice());
+    let goals = [
+        Instruction::Structure(Name::Language(BuiltIn::Equal), 2),
+        Instruction::Variable(4),
+        Instruction::Structure(cell, 2),
+        Instruction::Variable(1),
+        Instruction::Variable(5),
+        Instruction::Structure(Name::Language(BuiltIn::Colon), 2),
+        Instruction::Atom(Name::Place(0)),
+        Instruction::Structure(Name::Place(0), 3),
+        Instruction::Variable(2),
+        Instruction::Variable(3),
+        Instruction::Variable(5),
+    ];
+    assert!(rt; second.goals.as_slice() == goals.as_slice());
+    assert!(rt; code.predicate(&name(b"app")?, 2).is_empty());
+    Ok(())
+}
+
+#[test]
+fn names_of_a_source_in_order(rt: HostRuntime) -> Result<(), Fail> {
+    let source = b"% z first\n:- module m. % only a comment\n\nq(a,b).\np(a) :- true | q(c,a), r(true).\n";
+    let code = Code::compile(rt.alloc(), source)?;
+    let texts = [
+        name(b"m")?,
+        name(b"q")?,
+        name(b"a")?,
+        name(b"b")?,
+        name(b"p")?,
+        name(b"c")?,
+        name(b"r")?,
+    ];
+    assert!(rt; code.names() == texts.as_slice());
+    Ok(())
+}
+
+#[test]
+fn a_bad_item_is_told_by_its_line(rt: HostRuntime) -> Result<(), Fail> {
+    match Code::compile(rt.alloc(), b":- module z.\np(X) :- Y > 0 | true.") {
+        Ok(_code) => Err("compiled".into()),
+        Err(fault) => {
+            assert_eq!(rt; fault, CodeFault::Bad { line: 2 });
+            Ok(())
+        }
+    }
+}
+
+#[test]
+fn a_list_of_30000_elements_in_a_clause(rt: HostRuntime) -> Result<(), Fail> {
+    let mut source = Vec::from_slice(rt.alloc(), b":- module l. p([7")?;
+    for _place in 1..30000 {
+        source.extend_from_slice(b",7")?;
+    }
+    source.extend_from_slice(b"]).")?;
+    let code = Code::compile(rt.alloc(), source.as_slice())?;
+    let clause = code.clauses().get(0).ok_or("no clause")?;
+    assert_eq!(rt; clause.patterns.len(), 60001);
     Ok(())
 }
