@@ -5,8 +5,8 @@ ghost use Rattle.kl1_clause.specs.Predicates.{AreWhole};
 use crate::code::clauses_of;
 use crate::predicate::{from_first, front_run};
 use crate::{Code, CodeFault, CompiledClause, Instruction, Name, Names};
-use kl1_read::{ClauseParts, Source};
 use kl1_model::BuiltIn;
+use kl1_read::{ClauseParts, Source};
 use kl1_term::Term;
 use kl1_text::AtomText;
 use std::test::Fail;
@@ -228,7 +228,8 @@ fn clauses_of_a_name_and_a_number_of_arguments(rt: HostRuntime) -> Result<(), Fa
     Ok(())
 }
 
-const APPEND: &[u8] = b":- module app.\napp([],Y,Z) :- true | Z = Y.\napp([A|X],Y,Z) :- true | Z = [A|W], app(X,Y,W).";
+const APPEND: &[u8] =
+    b":- module app.\napp([],Y,Z) :- true | Z = Y.\napp([A|X],Y,Z) :- true | Z = [A|W], app(X,Y,W).";
 
 #[test]
 fn append_is_compiled_from_its_source(rt: HostRuntime) -> Result<(), Fail> {
@@ -275,7 +276,8 @@ fn append_is_compiled_from_its_source(rt: HostRuntime) -> Result<(), Fail> {
 
 #[test]
 fn names_of_a_source_in_order(rt: HostRuntime) -> Result<(), Fail> {
-    let source = b"% z first\n:- module m. % only a comment\n\nq(a,b).\np(a) :- true | q(c,a), r(true).\n";
+    let source =
+        b"% z first\n:- module m. % only a comment\n\nq(a,b).\np(a) :- true | q(c,a), r(true).\n";
     let code = Code::compile(rt.alloc(), source)?;
     let texts = [
         name(b"m")?,
