@@ -12,3 +12,4 @@ pub mod Tails
 pub mod Pairs
 pub mod Reductions
 pub mod Leavings
+pub mod Openings

@@ -11,3 +11,4 @@ pub mod Sendings
 pub mod Reports
 pub mod Lists
 pub mod Leaving
+pub mod Starts

@@ -15,6 +15,7 @@ mod limits;
 mod moves;
 mod moving;
 mod numbers;
+mod opening;
 mod origin;
 mod printing;
 mod raising;
