@@ -13,3 +13,4 @@ pub mod Pairs
 pub mod Reductions
 pub mod Leavings
 pub mod Openings
+pub mod Startings

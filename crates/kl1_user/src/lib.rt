@@ -30,6 +30,7 @@ mod shape;
 mod shoen;
 mod shoens;
 mod startable;
+mod starting;
 mod task;
 mod told;
 mod used_names;
