@@ -17,3 +17,5 @@ pub mod Origins
 pub mod Keeping
 pub mod Standings
 pub mod Taking
+pub mod Openings
+pub mod Startings

@@ -13,3 +13,4 @@ pub mod Lists
 pub mod Leaving
 pub mod Loadings
 pub mod Committing
+pub mod Starts
