@@ -7,15 +7,14 @@ use std::test::Fail;
 
 /// A stream that gives or takes at most so many bytes a call, and one of whose calls fails.
 #[derive(Drop)]
-pub(super) struct Faulty<T> {
-    /// The stream.
-    pub(super) inner: T,
+struct Faulty<T> {
+    inner: T,
     /// The most bytes of a call.
-    pub(super) most: usize,
+    most: usize,
     /// The calls up to the one that fails, and that one. At 0 none does.
-    pub(super) calls: u64,
+    calls: u64,
     /// Why it fails.
-    pub(super) kind: ErrorKind,
+    kind: ErrorKind,
 }
 
 impl<T> Faulty<T> {
@@ -120,8 +119,8 @@ fn an_interrupted_call_is_made_again(rt: HostRuntime) -> Result<(), Fail> {
 
 /// A stream of so many zeros.
 #[derive(Drop)]
-pub(super) struct Zeros {
-    pub(super) left: usize,
+struct Zeros {
+    left: usize,
 }
 
 impl Read for Zeros {
