@@ -14,3 +14,4 @@ pub mod Reductions
 pub mod Leavings
 pub mod Openings
 pub mod Startings
+pub mod Beginnings

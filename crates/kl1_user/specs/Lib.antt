@@ -12,3 +12,4 @@ pub mod Reports
 pub mod Lists
 pub mod Leaving
 pub mod Starts
+pub mod Begins
