@@ -19,3 +19,4 @@ pub mod Standings
 pub mod Taking
 pub mod Openings
 pub mod Startings
+pub mod Beginnings

@@ -14,3 +14,4 @@ pub mod Leaving
 pub mod Loadings
 pub mod Committing
 pub mod Starts
+pub mod Begins

@@ -2,6 +2,7 @@
 #![tactic(auto)]
 
 mod account_name;
+mod begun;
 mod call;
 mod candidates;
 mod closing;
@@ -31,6 +32,7 @@ mod settling;
 mod shape;
 mod shoen;
 mod shoens;
+mod start;
 mod startable;
 mod starting;
 mod task;
