@@ -1,12 +1,14 @@
 -- What comes of a start.
 use Rattle.std.proofs.Common.{◌≡◌, ℕ, suc, ◌<◌, ◌≤◌, Bool, true, false, if◌then◌else◌, List, length, sym, ap, ◌∙◌, arith}
-use Rattle.std.specs.Prelude.{nat_lt}
-use Rattle.std.proofs.lemmas.Bool.{lt-ltb, le-ltb}
+use Rattle.std.specs.Prelude.{nat_lt, nat_le, ◌&&◌}
+use Rattle.std.proofs.lemmas.Bool.{and_parts, lt-ltb, le-ltb}
 use Rattle.kl1_model.specs.Term.{Term}
 use Rattle.kl1_model.specs.Module.{Module}
 use Rattle.kl1_model.specs.State.{State, names_of, with_names}
-use Rattle.kl1_model.specs.Event.{start, opened, refuse, recorded, syntax, journal_full, Stepped, with_entry, most_entries}
-use Rattle.kl1_model.specs.Opening.{may_start, start_goal}
+use Rattle.kl1_model.specs.Event.{start, opened, refuse, recorded, syntax, journal_full, Stepped, with_entry, most_entries, most_line_bytes, is_number, is_range}
+use Rattle.kl1_model.specs.Opening.{may_start, start_line, start_goal}
+use Rattle.kl1_model.specs.Goal.{is_goal}
+use Rattle.kl1_model.specs.Meaning.{is_writable, is_numbered}
 use Rattle.kl1_model.specs.Step.{step}
 use Rattle.kl1_store.specs.Held.{Held}
 use Rattle.kl1_user.specs.declared.goal.Goal.{Goal}
@@ -44,3 +46,11 @@ begins_on h k modules ns ms goals shoens last entries allowance low high goal w 
     ∙ ap (λ z. if z then done_by s allowance low high goal else refuse s journal_full) (ap (λ n. nat_lt n most_entries) at ∙ lt-ltb entries most_entries lt)
     ∙ ap (λ n. let z : Stepped = record { state = with_entry (start_goal s allowance low high goal); reply = opened (suc n) } in z) same;
 }
+
+-- a goal that may be started is numbered
+pub may_numbered : (allowance low high : ℕ) (goal : Term) → may_start allowance low high goal ≡ true → is_numbered goal ≡ true
+may_numbered allowance low high goal m =
+    let short = nat_le (length (start_line allowance low high goal)) most_line_bytes in
+    let front = is_number allowance && is_range low high && is_goal goal && is_writable goal in
+    let p = and_parts (front && is_numbered goal) short m in
+    (and_parts front (is_numbered goal) p.0).1

@@ -35,11 +35,11 @@ joined_owned : (n : ℕ) (xs ys : List Goal) → AreOwned n xs → AreOwned (suc
 joined_owned n [] ys i j = j
 joined_owned n (x ∷ xs) ys i j = (record { low = i.0.low; high = (let h = i.0.high in omega arith) }, joined_owned n xs ys i.1 j)
 
-shoens_pushed : (h : Held (List ℕ)) (ss : List Shoen) (s : Shoen) → AreShoensIn h ss → IsShoenIn h s → AreShoensIn h (ss ++ s ∷ [])
+pub shoens_pushed : (h : Held (List ℕ)) (ss : List Shoen) (s : Shoen) → AreShoensIn h ss → IsShoenIn h s → AreShoensIn h (ss ++ s ∷ [])
 shoens_pushed h [] s i j = (j, tt)
 shoens_pushed h (r ∷ ss) s i j = (i.0, shoens_pushed h ss s i.1 j)
 
-numbered_pushed : (k : ℕ) (ss : List Shoen) (s : Shoen) → AreNumbered k ss → s.number ≡ suc (k + length ss) → AreNumbered k (ss ++ s ∷ [])
+pub numbered_pushed : (k : ℕ) (ss : List Shoen) (s : Shoen) → AreNumbered k ss → s.number ≡ suc (k + length ss) → AreNumbered k (ss ++ s ∷ [])
 numbered_pushed k [] s i e = (omega arith, tt)
 numbered_pushed k (r ∷ ss) s i e = (i.0, numbered_pushed (suc k) ss s i.1 (omega arith))
 

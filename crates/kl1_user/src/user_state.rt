@@ -4,15 +4,16 @@ ghost use Rattle.std.specs.Prelude.{◌≡◌, IfOk, OnErr, IsTrue, option_map};
 ghost use Rattle.kl1_model.specs.State.{fresh};
 ghost use Rattle.kl1_model.specs.Step.{step};
 ghost use Rattle.kl1_model.specs.Choice.{first, quiet};
-ghost use Rattle.kl1_model.specs.Event.{load as load_event, reduce, read, value};
+ghost use Rattle.kl1_model.specs.Event.{load as load_event, start as start_event, reduce, read, value};
 ghost use Rattle.kl1_user.specs.Views.{event_of, reply_of, chosen_of};
 
 use crate::account_name::AccountName;
+use crate::begun::Begun;
 use crate::event::{Event, Query};
 use crate::goal::Goal;
 use crate::loading::{Loading, load};
 use crate::limits::{MOST_SHOWN, is_number};
-use crate::numbers::{ClauseNo, GoalNo};
+use crate::numbers::{ClauseNo, GoalNo, ShoenNo};
 use crate::outcome::Outcome;
 use crate::printing::print_cell;
 use crate::ready::{first_ready, is_any_ready};
@@ -20,10 +21,12 @@ use crate::reduction::reduce_number;
 use crate::refusal::Refusal;
 use crate::reply::Reply;
 use crate::shoen::Shoen;
+use crate::start::start;
 use crate::shoens::origin_at;
-use crate::work::put_work;
+use crate::work::{put_start, put_work};
 use kl1_clause::Code;
 use kl1_store::Store;
+use kl1_term::Term;
 use kl1_text::AtomText;
 use std::alloc::{AllocError, Global};
 use std::marker::Model;
@@ -90,7 +93,12 @@ impl UserState {
                 Query::Value(number) => self.read(number.0),
             },
             Event::Load { source } => self.load(source.as_slice()),
-            _ => Err(AllocError),
+            Event::Start {
+                allowance,
+                low,
+                high,
+                goal,
+            } => self.start(*allowance, *low, *high, goal),
         }
     }
 
@@ -151,6 +159,42 @@ impl UserState {
                 }
             },
             Err(error) => Err(error),
+        }
+    }
+
+    /// Starts a goal in a shoen of its own.
+    fn start(&mut self, allowance: u64, low: u64, high: u64, goal: &Term) -> Result<Reply, AllocError>
+        ensures step { IfOk result (λ reply. step self.old (start_event allowance low high goal.now) ≡ record { state = self.new; reply = reply_of reply }) }
+        ensures err { OnErr result (self.new ≡ self.old) }
+    {
+        self.shoens.reserve(1)?;
+        let mark = self.store.mark();
+        match start(
+            self.alloc,
+            &mut self.store,
+            &self.modules,
+            &mut self.names,
+            &self.goals,
+            &self.shoens,
+            self.last_goal,
+            self.entries,
+            allowance,
+            low,
+            high,
+            goal,
+        ) {
+            Ok(begun) => match begun {
+                Begun::Refused(refusal) => Ok(Reply::Refused(refusal)),
+                Begun::Started(work) => {
+                    self.last_goal = put_start(&mut self.goals, &mut self.shoens, work);
+                    self.entries += 1;
+                    Ok(Reply::Opened(ShoenNo(self.shoens.len() as u64)))
+                }
+            },
+            Err(error) => {
+                self.store.back(mark);
+                Err(error)
+            }
         }
     }
 

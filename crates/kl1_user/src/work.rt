@@ -1,6 +1,6 @@
 // What a reduction is to leave.
 
-ghost use Rattle.std.specs.Prelude.{◌≡◌, ◌<◌, length, slice_set};
+ghost use Rattle.std.specs.Prelude.{◌≡◌, ◌<◌, ◌∷◌, [], ◌++◌, length, slice_set, vec_len, vec_capacity};
 
 use crate::goal::Goal;
 use crate::shoen::Shoen;
@@ -24,6 +24,20 @@ pub(crate) fn put_work(goals: &mut Vec<Goal>, shoens: &mut Vec<Shoen>, work: Wor
 {
     let place = work.place;
     shoens[place] = work.shoen;
+    let last = work.last_goal;
+    *goals = work.goals;
+    last
+}
+
+/// Puts what a start made in place: its shoen comes behind the others. Gives the last number of a goal. There has to be room
+/// for the shoen.
+pub(crate) fn put_start(goals: &mut Vec<Goal>, shoens: &mut Vec<Shoen>, work: Work) -> u64
+    requires { vec_len shoens.old < vec_capacity shoens.old }
+    ensures goals { goals.new.items ≡ work.goals.items }
+    ensures shoens { shoens.new.items ≡ shoens.old.items ++ work.shoen ∷ [] }
+    ensures last { result ≡ work.last_goal }
+{
+    shoens.push_reserved(work.shoen);
     let last = work.last_goal;
     *goals = work.goals;
     last

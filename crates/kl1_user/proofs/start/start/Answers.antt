@@ -1,9 +1,9 @@
-use Rattle.std.proofs.Common.{rules, ◌≡◌, ◌<◌, length, IfOk, OnErr, ℕ, ◌+◌, ◌-◌, ◌*◌, ◌≤◌, ◌/◌, ◌%◌, Bool, true, false, nat_eq, nat_lt, List, [], ◌∷◌, ◌++◌, slice_index_or, slice_set, bit_and, bit_or, Fits, w8, w32, w64, Bor, MutBor}
-use Rattle.kl1_store.specs.Sound.{Grown}
-use Rattle.kl1_user.specs.Kept.{AreGoalsIn, AreOwned, AreShoensIn, AreNumbered}
-use Rattle.kl1_user.specs.Begins.{BeginsAs}
+use Rattle.std.proofs.Common.{rules, ◌≡◌, true}
+use Rattle.kl1_model.specs.Opening.{may_start}
+use Rattle.kl1_user.proofs.Beginnings.{may_numbered}
 use Rattle.kl1_user.proofs.start.start.Goals as goal
 
--- src/start.rt:54:16
 pub started-requires-clause-goal : goal.started-requires-clause-goal
-started-requires-clause-goal c = ?
+started-requires-clause-goal c =
+    let may : may_start c.args.allowance c.args.low c.args.high c.args.goal.now ≡ true = search rules in
+    may_numbered c.args.allowance c.args.low c.args.high c.args.goal.now may
