@@ -37,7 +37,7 @@ pub all_below : {N : Type 0} (names : List N) (compiled : CompiledClause) (count
 all_below names compiled count c e =
     let body : Terms = terms_of c.clause.body in
     let most : highest_in (map (code_in c.texts) compiled.goals.items) ≡ highest_of_all body =
-      ap highest_in (c.is.goals.nodes_are ∙ sym (append-nil (nodes_of_all body))) ∙ (highest_all body [] ∙ omega arith) in
+    ap highest_in (c.is.goals.nodes_are ∙ sym (append-nil (nodes_of_all body))) ∙ (highest_all body [] ∙ omega arith) in
     rows_below c.texts compiled.goals.items count (omega (arith, e, most, c.is.head_variables, c.is.fresh_variables))
 
 -- terms as arguments and back
@@ -58,18 +58,18 @@ instance_is {N = N} built names compiled places old mid new cells stack goals vs
       inside = subst P (sym e) (AreWithin-reverse new.variables (length new.structures) stack b.inside);
       variables = b.count ∙ mid_variables;
       goals_are = λ f reads clause is.
-        let s = b.stacked f reads in
-        let rs = replacements_of f old places in
-        let last = old.variables - 1 in
-        let env : ℕ → Term = body_variable clause rs last in
-        let agrees : Agrees f mid cells env = λ v h. vs.mean f reads v h ∙ ap (λ head. stands_for head rs last v) is.head_variables in
-        let body_is : read_nodes (map (code_in (map f names)) compiled.goals.items) [] ≡ clause.body =
+          let s = b.stacked f reads in
+          let rs = replacements_of f old places in
+          let last = old.variables - 1 in
+          let env : ℕ → Term = body_variable clause rs last in
+          let agrees : Agrees f mid cells env = λ v h. vs.mean f reads v h ∙ ap (λ head. stands_for head rs last v) is.head_variables in
+          let body_is : read_nodes (map (code_in (map f names)) compiled.goals.items) [] ≡ clause.body =
           ap (λ (cs : List NodeCode). read_nodes cs []) is.goals.nodes_are ∙ (all-read-back (terms_of clause.body) [] ∙ (append-nil (list_of (terms_of clause.body)) ∙ list_is clause.body)) in
-        record {
-          terms = ap (term_list f new) e ∙ (s.terms env agrees ∙ ap (λ (ts : List Term). map (substituted env) ts) body_is);
-          kept = λ x h.
-            let same : length mid.structures ≡ length old.structures = ap length mid_structures in
-            s.kept x (within_more old.variables (length old.structures) mid.variables (length mid.structures) x (omega (arith, mid_variables)) (omega (arith, same)) h)
-            ∙ (ap (λ h. term_of f h x) vs.held ∙ kept_with f old compiled.fresh_variables x);
-        };
+          record {
+            terms = ap (term_list f new) e ∙ (s.terms env agrees ∙ ap (λ (ts : List Term). map (substituted env) ts) body_is);
+            kept = λ x h.
+                let same : length mid.structures ≡ length old.structures = ap length mid_structures in
+                s.kept x (within_more old.variables (length old.structures) mid.variables (length mid.structures) x (omega (arith, mid_variables)) (omega (arith, same)) h)
+                ∙ (ap (λ h. term_of f h x) vs.held ∙ kept_with f old compiled.fresh_variables x);
+          };
     }

@@ -87,14 +87,14 @@ more_built {N = N} built names old mid new variables row left i d step before af
       count = puts.count ∙ b.builds.count;
       inside = puts.inside;
       stacked = λ f reads.
-        let s = b.builds.stacked f reads in
-        let p = puts.put f in
-        let nodes = read_nodes (map (code_in (map f names)) (drop left row)) [] in
-        record {
-          terms = λ env agrees.
-            p.terms env nodes (still_agrees f old mid variables env inside s.kept agrees) (s.terms env agrees)
-            ∙ ap (λ (c : NodeCode). map (substituted env) (read_node c nodes)) (code f reads);
-          kept = λ x h. p.kept x (still_in old mid x b.grown h) ∙ s.kept x h;
-        };
+          let s = b.builds.stacked f reads in
+          let p = puts.put f in
+          let nodes = read_nodes (map (code_in (map f names)) (drop left row)) [] in
+          record {
+            terms = λ env agrees.
+                p.terms env nodes (still_agrees f old mid variables env inside s.kept agrees) (s.terms env agrees)
+                ∙ ap (λ (c : NodeCode). map (substituted env) (read_node c nodes)) (code f reads);
+            kept = λ x h. p.kept x (still_in old mid x b.grown h) ∙ s.kept x h;
+          };
     } in
     record { within = omega (arith, within); grown = grown; builds = subst P (sym rest) all }

@@ -78,8 +78,8 @@ more_nodes_built old mid new variables nodes left node d step before after insid
       inside = puts.inside;
       stacked = record {
         terms = λ env agrees.
-          p.terms env terms (still_agrees f old mid variables env inside s.kept agrees) (s.terms env agrees)
-          ∙ ap (λ (c : NodeCode). map (substituted env) (read_nodes (c ∷ map code_of (drop left nodes)) [])) code;
+            p.terms env terms (still_agrees f old mid variables env inside s.kept agrees) (s.terms env agrees)
+            ∙ ap (λ (c : NodeCode). map (substituted env) (read_nodes (c ∷ map code_of (drop left nodes)) [])) code;
         kept = λ x h. p.kept x (still_in old mid x b.grown h) ∙ s.kept x h;
       };
     } in
@@ -140,7 +140,7 @@ pub goal_variables : (goal : Term) (count : ℕ) (old new : Held (List ℕ)) (na
 goal_variables goal count old new name start first cells formed some name_is start_is first_is count_is is cells_are =
     let one : first ≡ cell.Atom name ∷ [] = first_is ∙ ap (λ xs. xs ++ cell.Atom name ∷ []) start_is in
     are_variables text_of 0 (highest goal) [] old new (cell.Atom name) first first cells formed some tt (ap (λ a. cell.Atom a) name_is) one refl (λ v d h. refl)
-      (is ∙ ap (with_variables old) count_is) (cells_are ∙ ap (λ n. first ++ fresh_cells old.variables n) count_is)
+    (is ∙ ap (with_variables old) count_is) (cells_are ∙ ap (λ n. first ++ fresh_cells old.variables n) count_is)
 
 -- the cell that was built of the nodes of a goal is the goal's
 pub goal_is : (goal : Term) (old mid new : Held (List ℕ)) (variables : List (Cell (List ℕ))) (nodes : List Node) (stack : List (Cell (List ℕ))) (d x : Cell (List ℕ)) →
@@ -160,11 +160,11 @@ goal_is goal old mid new variables nodes stack d x vs b nodes_are numbered there
       inside = subst P first (first_within new.variables (length new.structures) d (reverse stack) there (AreWithin-reverse new.variables (length new.structures) stack b.inside));
       variables = b.count ∙ mid_variables;
       term =
-        ap (term_of f new) (sym first)
-        ∙ (first_term_is f new d (reverse stack) ∙ (ap (first_or (term_of f new d)) terms ∙ next_goal last goal numbered));
+          ap (term_of f new) (sym first)
+          ∙ (first_term_is f new d (reverse stack) ∙ (ap (first_or (term_of f new d)) terms ∙ next_goal last goal numbered));
       kept = λ y h.
-        s.kept y (within_more old.variables (length old.structures) mid.variables (length mid.structures) y (omega (arith, mid_variables)) (omega (arith, same)) h)
-        ∙ (ap (λ h. term_of f h y) vs.held ∙ kept_with f old (highest goal) y);
+          s.kept y (within_more old.variables (length old.structures) mid.variables (length mid.structures) y (omega (arith, mid_variables)) (omega (arith, same)) h)
+          ∙ (ap (λ h. term_of f h y) vs.held ∙ kept_with f old (highest goal) y);
     }
 
 -- the nodes of a goal have no variable beyond its greatest

@@ -58,10 +58,10 @@ fresh_more {N = N} old mid new before cells after count (suc k) number some fres
       structures = ap (λ h. h.structures) grown ∙ fresh.structures;
       bindings = ap (λ h. h.bindings) grown ∙ fresh.bindings;
       cells_are =
-        ap (λ xs. xs ++ fresh_cells new.variables k) pushed
-        ∙ (append_assoc cells (Variable number ∷ []) (fresh_cells new.variables k)
-        ∙ (ap (λ n. cells ++ Variable n ∷ fresh_cells new.variables k) is
-        ∙ (ap (λ n. cells ++ Variable mid.variables ∷ fresh_cells n k) next ∙ fresh.cells_are)));
+          ap (λ xs. xs ++ fresh_cells new.variables k) pushed
+          ∙ (append_assoc cells (Variable number ∷ []) (fresh_cells new.variables k)
+          ∙ (ap (λ n. cells ++ Variable n ∷ fresh_cells new.variables k) is
+          ∙ (ap (λ n. cells ++ Variable mid.variables ∷ fresh_cells n k) next ∙ fresh.cells_are)));
       grown = let G : Held N → Type 0 = λ h. Grown old h in subst G (sym grown) (Grown-trans old mid (with_variable mid) fresh.grown (Grown-variable mid));
     })
 
@@ -153,35 +153,35 @@ are_variables {N = N} built head fresh places old new none empty first cells for
     let first_length : length first ≡ head + 1 = length_is ∙ (ap length empty_is ∙ length-replicate (head + 1) none) in
     let all_length : length all ≡ head + 1 + fresh = omega (arith, length-append first (fresh_cells old.variables fresh), first_length, length-fresh N old.variables fresh) in
     let low : (v : ℕ) → v ≤ head → slice_index_or all v d ≡ cell_at places v none = λ v h.
-      at_left first (fresh_cells old.variables fresh) v d (omega (arith, h, first_length))
-      ∙ (set v d (omega (arith, h, first_length, length_is)) ∙ ap (cell_at places v) (ap (λ xs. slice_index_or xs v d) empty_is ∙ at_same (head + 1) v none d (omega (arith, h)))) in
+    at_left first (fresh_cells old.variables fresh) v d (omega (arith, h, first_length))
+    ∙ (set v d (omega (arith, h, first_length, length_is)) ∙ ap (cell_at places v) (ap (λ xs. slice_index_or xs v d) empty_is ∙ at_same (head + 1) v none d (omega (arith, h)))) in
     let high : (v : ℕ) → head < v → v < length all → slice_index_or all v d ≡ Variable (old.variables + (v - (head + 1))) = λ v h k.
-      at_right first (fresh_cells old.variables fresh) (v - (head + 1)) v d (omega (arith, h, first_length))
-      ∙ at_fresh old.variables fresh (v - (head + 1)) d (omega (arith, h, k, all_length)) in
+    at_right first (fresh_cells old.variables fresh) (v - (head + 1)) v d (omega (arith, h, first_length))
+    ∙ at_fresh old.variables fresh (v - (head + 1)) d (omega (arith, h, k, all_length)) in
     let none_in : IsIn old none = let P : Cell N → Type 0 = λ x. IsIn old x in subst P (sym none_is) tt in
     let within : (v : ℕ) → v < length all → IsIn made (slice_index_or all v d) = λ v k.
-      let P : Cell N → Type 0 = λ x. IsIn made x in
-      elim (split v head) [
-        inl h ↦ subst P (sym (low v h)) (within_more old.variables (length old.structures) made.variables (length made.structures) (cell_at places v none) (omega arith) (omega arith) (place_within old places v none there none_in))
-        | inr h ↦ subst P (sym (high v h k)) (omega (arith, h, k, all_length))
-      ] in
+    let P : Cell N → Type 0 = λ x. IsIn made x in
+    elim (split v head) [
+      | inl h ↦ subst P (sym (low v h)) (within_more old.variables (length old.structures) made.variables (length made.structures) (cell_at places v none) (omega arith) (omega arith) (place_within old places v none there none_in))
+      | inr h ↦ subst P (sym (high v h k)) (omega (arith, h, k, all_length))
+    ] in
     let mean : (f : N → List ℕ) → Reads built f → Agrees f made all (stands_for head (replacements_of f old places) (old.variables - 1)) = λ f reads v k.
-      let none_means : term_of f old none ≡ nil = ap (term_of f old) none_is ∙ (term_of-Atom f old (built EmptyList) ∙ ap atom (reads.texts EmptyList)) in
-      let rs = replacements_of f old places in
-      let last = old.variables - 1 in
-      elim (split v head) [
-        inl h ↦
+    let none_means : term_of f old none ≡ nil = ap (term_of f old) none_is ∙ (term_of-Atom f old (built EmptyList) ∙ ap atom (reads.texts EmptyList)) in
+    let rs = replacements_of f old places in
+    let last = old.variables - 1 in
+    elim (split v head) [
+      | inl h ↦
           ap (term_of f made) (low v h)
           ∙ (kept_with f old fresh (cell_at places v none)
           ∙ (place_means f old places v none
           ∙ (ap (term_at rs v) none_means ∙ ap (λ b. if b then term_at rs v nil else variable (last + (v - head))) (sym (le-leb v head h)))))
-        | inr h ↦
+      | inr h ↦
           let e : old.variables + (v - (head + 1)) ≡ last + (v - head) = omega (arith, h, some) in
           let u = beyond_unbound old.variables old.structures [] old.bindings (old.variables + (v - (head + 1))) formed.bound (omega arith) in
           ap (term_of f made) (high v h k)
           ∙ (term_of-unbound f made (old.variables + (v - (head + 1))) u
           ∙ (ap variable e ∙ ap (λ b. if b then term_at rs v nil else variable (last + (v - head))) (sym (lt-leb v head h))))
-      ] in
+    ] in
     let result : AreVariables built head fresh places old made all = record { held = refl; length_is = all_length; inside = all_within made.variables (length made.structures) all d within; mean = mean } in
     let P : Held N → Type 0 = λ h. AreVariables built head fresh places old h all in
     let Q : List (Cell N) → Type 0 = λ xs. AreVariables built head fresh places old new xs in

@@ -125,13 +125,13 @@ joined {N = N} f old missing name count before formed inside there =
     let at_end : slice_get new.structures (length old.structures) ≡ Some shape = last_of old.structures shape in
     let arguments_are : arguments_of new (length old.structures) ≡ xs = ap shape_arguments at_end in
     let found : slice_get new.structures (length old.structures) ≡ Some (record { name = name; arguments = arguments_of new (length old.structures) }) =
-      at_end ∙ ap (λ ys. let s : Shape N = record { name = name; arguments = ys } in Some s) (sym arguments_are) in
+    at_end ∙ ap (λ ys. let s : Shape N = record { name = name; arguments = ys } in Some s) (sym arguments_are) in
     let first : term_of f new (Structure (length old.structures)) ≡ structure (f name) (front_with (term_of f old missing) count (term_list f old before)) =
-      term_of-Structure f new (length old.structures) name (IsFormed-structure old name xs formed xs_in) found
-      ∙ (ap (λ ys. structure (f name) (terms_of f new ys)) arguments_are
-      ∙ (ap (structure (f name)) (kept_terms f old new xs kept xs_in) ∙ ap (structure (f name)) (front_terms_are f old missing count before))) in
+    term_of-Structure f new (length old.structures) name (IsFormed-structure old name xs formed xs_in) found
+    ∙ (ap (λ ys. structure (f name) (terms_of f new ys)) arguments_are
+    ∙ (ap (structure (f name)) (kept_terms f old new xs kept xs_in) ∙ ap (structure (f name)) (front_terms_are f old missing count before))) in
     let rest : term_list f new (others count before) ≡ behind count (term_list f old before) =
-      kept_list f old new (others count before) kept (others_within old.variables (length old.structures) count before inside) ∙ other_terms_are f old count before in
+    kept_list f old new (others count before) kept (others_within old.variables (length old.structures) count before inside) ∙ other_terms_are f old count before in
     record {
       terms = ap (λ t. t ∷ term_list f new (others count before)) first ∙ ap (λ ts. structure (f name) (front_with (term_of f old missing) count (term_list f old before)) ∷ ts) rest;
       kept = kept;
@@ -149,20 +149,22 @@ joins_are {N = N} old new missing name count s stack left now arguments formed i
     let made : Held N = with_structure old name (firsts missing count before) in
     let is : new ≡ made = built ∙ ap (λ xs. with_structure old name xs) moved in
     let after : reverse now ≡ Structure (length old.structures) ∷ others count before =
-      ap reverse pushed ∙ (reverse-append left (Structure s ∷ []) ∙ (ap (λ xs. Structure s ∷ xs) rest ∙ ap (λ n. Structure n ∷ others count before) at)) in
+    ap reverse pushed ∙ (reverse-append left (Structure s ∷ []) ∙ (ap (λ xs. Structure s ∷ xs) rest ∙ ap (λ n. Structure n ∷ others count before) at)) in
     let grown : length made.structures ≡ length old.structures + 1 = length-append old.structures (record { name = name; arguments = firsts missing count before } ∷ []) in
     let rest_in : AreIn made (others count before) =
-      AreWithin-more old.variables (length old.structures) old.variables (length made.structures) (others count before) (omega arith) (omega (arith, grown)) (others_within old.variables (length old.structures) count before here) in
+    AreWithin-more old.variables (length old.structures) old.variables (length made.structures) (others count before) (omega arith) (omega (arith, grown)) (others_within old.variables (length old.structures) count before here) in
     let all_in : AreIn made (Structure (length old.structures) ∷ others count before) = (omega (arith, grown), rest_in) in
     let P : List (Cell N) → Type 0 = λ xs. AreIn made xs in
     let Q : Held N → Type 0 = λ h. AreIn h now in
     let is_in : AreIn made now = AreWithin-back old.variables (length made.structures) now (subst P (sym after) all_in) in
-    let J : Held N → List (Cell N) → Type 0 = λ h xs. Joins h new missing name count before xs in
-    (record {
-      variables = ap (λ h. h.variables) is;
-      joined = λ f.
-        let p = joined f old missing name count before formed here there in
-        let R : Held N → Type 0 = λ h. Joined f old h missing name count before (reverse now) in
-        let S : List (Cell N) → Type 0 = λ xs. Joined f old made missing name count before xs in
-        subst R (sym is) (subst S (sym after) p);
-    }, subst Q (sym is) is_in)
+    let J : Held N → List (Cell N) → Type 0 = λ h xs. Joins h new missing name count before xs in (
+      record {
+        variables = ap (λ h. h.variables) is;
+        joined = λ f.
+            let p = joined f old missing name count before formed here there in
+            let R : Held N → Type 0 = λ h. Joined f old h missing name count before (reverse now) in
+            let S : List (Cell N) → Type 0 = λ xs. Joined f old made missing name count before xs in
+            subst R (sym is) (subst S (sym after) p);
+      },
+      subst Q (sym is) is_in,
+    )

@@ -90,15 +90,15 @@ puts_structure old new variables before after missing name count some is joins i
   count = joins.variables;
   inside = inside;
   put = λ f.
-    let j = joins.joined f in
-    record {
-      terms = λ env ts agrees same.
-        let zero_is : term_of f old missing ≡ env 0 = ap (term_of f old) is ∙ agrees 0 some in
-        j.terms
-        ∙ (ap (λ us. structure (f name) (front_with (term_of f old missing) count us) ∷ behind count us) same
-        ∙ (ap (λ t. structure (f name) (front_with t count (map (substituted env) ts)) ∷ behind count (map (substituted env) ts)) zero_is
-        ∙ (ap (λ us. structure (f name) us ∷ behind count (map (substituted env) ts)) (front_is env count ts)
-        ∙ ap (λ us. structure (f name) (each_substituted env (front_of count ts)) ∷ us) (behind_is env count ts))));
-      kept = j.kept;
-    };
+      let j = joins.joined f in
+      record {
+        terms = λ env ts agrees same.
+            let zero_is : term_of f old missing ≡ env 0 = ap (term_of f old) is ∙ agrees 0 some in
+            j.terms
+            ∙ (ap (λ us. structure (f name) (front_with (term_of f old missing) count us) ∷ behind count us) same
+            ∙ (ap (λ t. structure (f name) (front_with t count (map (substituted env) ts)) ∷ behind count (map (substituted env) ts)) zero_is
+            ∙ (ap (λ us. structure (f name) us ∷ behind count (map (substituted env) ts)) (front_is env count ts)
+            ∙ ap (λ us. structure (f name) (each_substituted env (front_of count ts)) ∷ us) (behind_is env count ts))));
+        kept = j.kept;
+      };
 }

@@ -75,12 +75,6 @@ pub fn build_goal(
     variables.push(Cell::Atom(AtomText::of_built_in(BuiltIn::EmptyList)))?;
     put_fresh(store, &mut variables, goal.highest())?;
     let mut stack = Vec::new(alloc);
-    put_nodes(
-        alloc,
-        store,
-        variables.as_slice(),
-        goal.nodes(),
-        &mut stack,
-    )?;
+    put_nodes(alloc, store, variables.as_slice(), goal.nodes(), &mut stack)?;
     Ok(stack.pop().unwrap_or(Cell::Integer(0)))
 }

@@ -16,8 +16,8 @@ build-requires g c =
 all_is : (g : given.Over) (c : goal.In_ok-push g) → Joins c.args.store.now.held c.build.new.self.held c.args.missing c.args.name c.args.count (reverse c.args.stack.now.items) (reverse c.push.new.self.items) × AreIn c.build.new.self.held c.push.new.self.items
 all_is g c =
     joins_are c.args.store.now.held c.build.new.self.held c.args.missing c.args.name c.args.count c.in_ok-structure.structure
-      c.args.stack.now.items c.move_top.new.stack.items c.push.new.self.items c.as_slice.result.now
-      (search rules) c.requires.stack c.requires.missing (search rules) c.in_ok-move_top.ensures.left (search rules) (search rules) c.in_ok-push.ensures.items
+    c.args.stack.now.items c.move_top.new.stack.items c.push.new.self.items c.as_slice.result.now
+    (search rules) c.requires.stack c.requires.missing (search rules) c.in_ok-move_top.ensures.left (search rules) (search rules) c.in_ok-push.ensures.items
 
 pub returns-clause-joins : goal.returns-clause-joins
 returns-clause-joins g c = (all_is g c).0

@@ -16,6 +16,6 @@ returns-clause-goals g c =
     let mid = c.variables_of.new.store.held in
     let new = c.put_row.new.store.held in
     let rows = subst (λ xs. BuildsRow g.N.NameValue.built c.args.names.now mid new xs c.args.clause.now.goals.items c.put_row.new.stack.items) c.as_slice.ensures.value
-      (subst (λ (row : List Instruction). BuildsRow g.N.NameValue.built c.args.names.now mid new c.as_slice.result.now row c.put_row.new.stack.items) c.as_slice-2.ensures.value c.in_ok-put_row.ensures.rows) in
+    (subst (λ (row : List Instruction). BuildsRow g.N.NameValue.built c.args.names.now mid new c.as_slice.result.now row c.put_row.new.stack.items) c.as_slice-2.ensures.value c.in_ok-put_row.ensures.rows) in
     instance_is g.N.NameValue.built c.args.names.now c.args.clause.now c.args.places.now old mid new c.in_ok-variables.variables.items c.put_row.new.stack.items c.reverse.new.self.items
-      c.in_ok-variables.ensures.variables rows c.reverse.ensures.items
+    c.in_ok-variables.ensures.variables rows c.reverse.ensures.items

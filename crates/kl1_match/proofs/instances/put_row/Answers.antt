@@ -24,8 +24,9 @@ put_step-requires-clause-variables g c =
 pub loop-left-preserved : goal.loop-left-preserved
 loop-left-preserved g c =
     let b = c.loop-left.invariant.0 in
-    let grown = Grown-trans c.args.store.now.held c.loop-left.store.held c.put_step.new.store.held b.grown c.put_step.ensures.grown in
-    (more_built g.N.NameValue.built c.args.names.now c.args.store.now.held c.loop-left.store.held c.put_step.new.store.held c.args.variables.now c.args.row.now c.loop-left.left
-       (slice_index_or c.args.row.now (c.loop-left.left - 1) (Variable 0)) (Variable 0) c.step_in-step.result c.loop-left.stack.items c.put_step.new.stack.items
-       c.requires.variables c.loop-left-test.true refl c.step_in-step.ensures.code b grown c.in_ok-put_step.ensures.puts
-    , c.put_step.ensures.hooks ∙ c.loop-left.invariant.1)
+    let grown = Grown-trans c.args.store.now.held c.loop-left.store.held c.put_step.new.store.held b.grown c.put_step.ensures.grown in (
+      more_built g.N.NameValue.built c.args.names.now c.args.store.now.held c.loop-left.store.held c.put_step.new.store.held c.args.variables.now c.args.row.now c.loop-left.left
+          (slice_index_or c.args.row.now (c.loop-left.left - 1) (Variable 0)) (Variable 0) c.step_in-step.result c.loop-left.stack.items c.put_step.new.stack.items
+          c.requires.variables c.loop-left-test.true refl c.step_in-step.ensures.code b grown c.in_ok-put_step.ensures.puts,
+      c.put_step.ensures.hooks ∙ c.loop-left.invariant.1,
+    )

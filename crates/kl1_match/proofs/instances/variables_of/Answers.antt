@@ -8,8 +8,8 @@ pub returns-clause-variables : goal.returns-clause-variables
 returns-clause-variables g c =
     let count : c.in_ok-count.count ≡ c.args.clause.now.head_variables + 1 = search rules in
     let resized : c.resize.new.self.items ≡ replicate c.in_ok-count.count (Atom c.of.result) =
-      filled_up c.in_ok-count.count (vec_len c.new-cells.result) c.new-cells.result.items c.resize.new.self.items (Atom c.of.result) c.in_ok-resize.ensures.items c.new-cells.ensures.items c.new-cells.ensures.len in
+    filled_up c.in_ok-count.count (vec_len c.new-cells.result) c.new-cells.result.items c.resize.new.self.items (Atom c.of.result) c.in_ok-resize.ensures.items c.new-cells.ensures.items c.new-cells.ensures.len in
     are_variables g.N.NameValue.built c.args.clause.now.head_variables c.args.clause.now.fresh_variables c.args.places.now c.args.store.now.held c.put_fresh.new.store.held
-      (Atom c.of.result) c.resize.new.self.items c.set_places.new.cells.items c.put_fresh.new.cells.items
-      c.mark.ensures.formed c.requires.some c.requires.places (search rules) (resized ∙ ap (λ n. replicate n (Atom c.of.result)) count) c.set_places.ensures.length c.set_places.ensures.set
-      c.in_ok-put_fresh.ensures.held c.in_ok-put_fresh.ensures.cells
+    (Atom c.of.result) c.resize.new.self.items c.set_places.new.cells.items c.put_fresh.new.cells.items
+    c.mark.ensures.formed c.requires.some c.requires.places (search rules) (resized ∙ ap (λ n. replicate n (Atom c.of.result)) count) c.set_places.ensures.length c.set_places.ensures.set
+    c.in_ok-put_fresh.ensures.held c.in_ok-put_fresh.ensures.cells
