@@ -5,3 +5,6 @@ pub mod Fuel
 pub mod WordFuel
 pub mod Names
 pub mod DeviceLaws
+pub mod Runs
+pub mod Progress
+pub mod Endings

@@ -64,3 +64,14 @@ GrowsIfKnown (Some xs) (Some ys) bs = ys ≡ xs ++ bs
 pub record AppendsFront (old new : Option (List ℕ)) (bytes : List ℕ) : Type 0 where
   pub count : ℕ
   pub grows : GrowsIfKnown old new (take count bytes)
+
+-- the first bytes were passed on, and the others stay
+pub record PassesOn (old new : Option (List ℕ)) (before after : List ℕ) : Type 0 where
+  pub passed : List ℕ
+  pub appends : Appends old new passed
+  pub same : passed ++ after ≡ before
+
+-- these bytes are all that is left, where that is known
+abbrev pub IsLeft : Option (List ℕ) → List ℕ → Type 0
+IsLeft None bs = ⊤
+IsLeft (Some xs) bs = xs ≡ bs

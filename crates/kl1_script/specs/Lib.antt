@@ -3,3 +3,7 @@ pub mod Parts
 pub mod Records
 pub mod Accounts
 pub mod Devices
+pub mod Commands
+pub mod Performing
+pub mod Told
+pub mod Scripts

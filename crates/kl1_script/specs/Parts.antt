@@ -16,7 +16,7 @@ verb_view verbs.Runs = model.runs
 verb_view verbs.AsksValue = model.asks_value
 verb_view verbs.Unknown = model.unknown
 
--- the line that has these parts: a start is one only if its goal is read
+-- the line that has these parts: a start is one only if its priorities are a range and its goal is read
 abbrev pub line_of : LineParts → Line
 line_of (parts.Load n) = load_of n
 line_of (parts.Start allowance low high goal) = line_with whole (start_with allowance low high (read_goal goal.now))

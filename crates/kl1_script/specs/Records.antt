@@ -9,7 +9,7 @@ use Rattle.kl1_script.specs.declared.record.CommandParts.TheVariants as parts
 use Rattle.kl1_script.specs.declared.record.NextRecord.{NextRecord}
 use Rattle.kl1_script.specs.declared.record.NextRecord.TheVariants as next
 
--- the command that has these parts, none where it has none: a start is one only if its goal is read
+-- the command that has these parts, none where it has none: a start is one only if its priorities are a range and its goal is read
 abbrev pub command_of : CommandParts → Option Command
 command_of (parts.Load source) = Some (does (load source.now))
 command_of (parts.Start allowance low high goal) = start_with allowance low high (read_goal goal.now)

@@ -1,8 +1,7 @@
 // What a line is.
 
 ghost use Rattle.std.specs.Prelude.{◌≡◌};
-ghost use Rattle.kl1_model.specs.Command.{loads, starts, runs, asks_value, line_by, parse, line_with, whole, start_with};
-ghost use Rattle.kl1_model.specs.Module.{read_goal};
+ghost use Rattle.kl1_model.specs.Command.{loads, starts, runs, asks_value, line_by, parse};
 ghost use Rattle.kl1_script.specs.Parts.{line_of};
 
 use crate::numbers::{number_in, only_number, up_to};
@@ -14,7 +13,8 @@ use crate::words::split_word;
 pub enum LineParts<'a> {
     /// A load, whose source of so many bytes follows, at most 65,536.
     Load(u64),
-    /// A start, if the bytes are a goal: the allowance in reductions, the two priorities, and the goal.
+    /// A start, if the priorities are a range and the bytes are a goal: the allowance in reductions, the two priorities, and
+    /// the goal.
     Start(u64, u64, u64, &'a [u8]),
     /// A run of at most so many steps.
     Run(u64),
@@ -32,9 +32,6 @@ const MOST_SOURCE_BYTES: u64 = 65536;
 
 /// The most steps of a run.
 const MOST_STEPS: u64 = 262144;
-
-/// The greatest priority of a start.
-const MOST_PRIORITY: u64 = 4095;
 
 /// What a line is, without its end.
 pub fn parts_of(line: &[u8]) -> LineParts<'_>
@@ -99,18 +96,5 @@ fn start_parts(rest: &[u8]) -> LineParts<'_>
     let Some(high) = number_in(third) else {
         return LineParts::NoCommand;
     };
-    start_of(allowance, low, high, goal)
-}
-
-/// A start, where its priorities are those of one.
-fn start_of(allowance: u64, low: u64, high: u64, goal: &[u8]) -> LineParts<'_>
-    ensures { line_of result ≡ line_with whole (start_with allowance low high (read_goal goal.now)) }
-{
-    if low > high {
-        return LineParts::NoCommand;
-    }
-    if high > MOST_PRIORITY {
-        return LineParts::NoCommand;
-    }
     LineParts::Start(allowance, low, high, goal)
 }

@@ -9,12 +9,14 @@ ghost use Rattle.kl1_script.specs.Records.{records_from, IsShorter};
 use crate::line_parts::{LineParts, parts_of};
 use crate::lines::{is_blank_line, split_line, split_name};
 
-/// What a record asks for, where the goal of a start and the source of a load are yet to be read.
+/// What a record asks for, where the priorities and the goal of a start are yet to be looked at, and the source of a load to
+/// be read.
 #[derive(Clone, Copy, Debug, PartialEq, Eq)]
 pub enum CommandParts<'a> {
     /// A load of this source.
     Load(&'a [u8]),
-    /// A start, if the bytes are a goal: the allowance in reductions, the two priorities, and the goal.
+    /// A start, if the priorities are a range and the bytes are a goal: the allowance in reductions, the two priorities, and
+    /// the goal.
     Start(u64, u64, u64, &'a [u8]),
     /// A run of at most so many steps.
     Run(u64),

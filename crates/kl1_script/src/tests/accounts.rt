@@ -1,6 +1,7 @@
 // The first line of a script.
 
-use crate::{accounts_in, is_account_name};
+use crate::accounts_in;
+use kl1_user::AccountName;
 use std::process::Abort;
 use std::test::Fail;
 
@@ -22,11 +23,11 @@ fn the_names_come_in_order(rt: HostRuntime) -> Result<(), Fail> {
     let names = accounts_in(rt.alloc(), b" accounts\talice  bob7 ")?.ok_or("no accounts")?;
     assert_eq!(rt; names.len(), 2);
     assert_eq!(rt;
-        names.as_slice()[0].unpacked().as_slice(),
+        names.as_slice()[0].text().unpacked().as_slice(),
         b"alice".as_slice()
     );
     assert_eq!(rt;
-        names.as_slice()[1].unpacked().as_slice(),
+        names.as_slice()[1].text().unpacked().as_slice(),
         b"bob7".as_slice()
     );
     Ok(())
@@ -62,7 +63,7 @@ fn a_name_has_small_letters_and_digits(rt: HostRuntime) -> Result<(), Fail> {
     ] {
         expect_count(&rt, line, None)?;
     }
-    assert!(rt; is_account_name(b"a"));
-    assert!(rt; !is_account_name(b""));
+    assert!(rt; AccountName::read(b"a").is_some());
+    assert!(rt; AccountName::read(b"").is_none());
     Ok(())
 }

@@ -7,14 +7,15 @@ use std::test::Fail;
 
 /// A stream that gives or takes at most so many bytes a call, and one of whose calls fails.
 #[derive(Drop)]
-struct Faulty<T> {
-    inner: T,
+pub(super) struct Faulty<T> {
+    /// The stream.
+    pub(super) inner: T,
     /// The most bytes of a call.
-    most: usize,
+    pub(super) most: usize,
     /// The calls up to the one that fails, and that one. At 0 none does.
-    calls: u64,
+    pub(super) calls: u64,
     /// Why it fails.
-    kind: ErrorKind,
+    pub(super) kind: ErrorKind,
 }
 
 impl<T> Faulty<T> {
@@ -119,8 +120,8 @@ fn an_interrupted_call_is_made_again(rt: HostRuntime) -> Result<(), Fail> {
 
 /// A stream of so many zeros.
 #[derive(Drop)]
-struct Zeros {
-    left: usize,
+pub(super) struct Zeros {
+    pub(super) left: usize,
 }
 
 impl Read for Zeros {

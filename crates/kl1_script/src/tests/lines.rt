@@ -86,8 +86,10 @@ fn a_start_has_three_numbers_and_the_rest(rt: HostRuntime) {
         LineParts::Start(0, 7, 7, b" X = 1")
     );
     assert_eq!(rt; parts_of(b"start 1 0 1"), LineParts::Start(1, 0, 1, b""));
-    assert_eq!(rt; parts_of(b"start 1 5 4 m:p"), LineParts::NoCommand);
-    assert_eq!(rt; parts_of(b"start 1 0 4096 m:p"), LineParts::NoCommand);
+    assert_eq!(rt;
+        parts_of(b"start 1 5 4 m:p"),
+        LineParts::Start(1, 5, 4, b" m:p")
+    );
     assert_eq!(rt; parts_of(b"start 1 m:p 4 m:p"), LineParts::NoCommand);
     assert_eq!(rt; parts_of(b"start 1 0"), LineParts::NoCommand);
 }

@@ -8,7 +8,7 @@ use Rattle.kl1_script.proofs.accounts.names_in.Goals as goal
 pub returns-in_default : goal.returns-in_default
 returns-in_default c =
     let h : is_blank_line c.loop-rest.rest.now ≡ false = cc in
-    let k : is_account_name (word_in c.loop-rest.rest.now) ≡ false = rw (sym c.split_word.ensures.word) c.in_default.ensures.none in
+    let k : is_account_name (word_in c.loop-rest.rest.now) ≡ false = rw (sym c.split_word.ensures.word) (sym c.in_default.ensures.variant) in
     no_name c.loop-rest.names.items (words_of c.args.line.now) c.loop-rest.rest.now c.loop-rest.invariant.same h k
 
 pub returns-then-len-eq-MOST_ACCOUNTS : goal.returns-then-len-eq-MOST_ACCOUNTS
@@ -20,7 +20,7 @@ pub loop-rest-preserved : goal.loop-rest-preserved
 loop-rest-preserved c =
     let h : is_blank_line c.loop-rest.rest.now ≡ false = cc in
     let more = one_more c.loop-rest.names.items (words_of c.args.line.now) c.loop-rest.rest.now c.loop-rest.invariant.same h in
-    let k : is_account_name (word_in c.loop-rest.rest.now) ≡ true = rw (sym c.split_word.ensures.word) c.in-Some.ensures.some.1 in
+    let k : is_account_name (word_in c.loop-rest.rest.now) ≡ true = rw (sym c.split_word.ensures.word) (sym c.in-Some.ensures.variant) in
     let all = all_more c.loop-rest.names.items (word_in c.loop-rest.rest.now) c.loop-rest.invariant.all k in
     record {
       same = grind (arith, common_steps);

@@ -1,0 +1,13 @@
+use Rattle.std.proofs.Common.{◌≡◌, length}
+use Rattle.kl1_script.proofs.Endings.{Underway}
+use Rattle.kl1_script.proofs.scripts.answer_records.Given as goal
+
+-- the records before the rest are done, and no write failed
+abbrev pub invariant-records : goal.invariant-records
+invariant-records g l = record {
+  underway : Underway (g.W.Sink.contents l.fn.sink) (g.W.Sink.contents l.sink) l.accounts l.fn.first l.text l.rest l.user l.out.items;
+  kept : g.W.Sink.failures l.sink ≡ g.W.Sink.failures l.fn.sink;
+}
+
+abbrev pub decreases-records : goal.decreases-records
+decreases-records g l = length l.rest

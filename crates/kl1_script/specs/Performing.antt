@@ -1,0 +1,38 @@
+-- What a command, and the first step of a run, did to an account.
+use Rattle.std.specs.Prelude.{◌≡◌, ℕ, suc, ◌<◌, Option, Some, None}
+use Rattle.kl1_model.specs.State.{State}
+use Rattle.kl1_model.specs.Event as model
+use Rattle.kl1_model.specs.Command.{Command, does, run, Going, run_choice, stopped_by, run_from, act}
+use Rattle.kl1_model.specs.Choice.{first}
+use Rattle.kl1_user.specs.Views.{refusal_of, reply_of}
+use Rattle.kl1_script.specs.declared.performed.Performed.{Performed}
+use Rattle.kl1_script.specs.declared.performed.Performed.TheVariants as performed
+use Rattle.kl1_script.specs.declared.first_step.FirstStep.{FirstStep}
+use Rattle.kl1_script.specs.declared.first_step.FirstStep.TheVariants as first_step
+
+-- why an event was refused, where it was
+abbrev pub refusal_in : model.Reply → Option model.Refusal
+refusal_in (model.refused r) = Some r
+refusal_in (model.loaded name) = None
+refusal_in (model.opened n) = None
+refusal_in model.reduced = None
+refusal_in (model.ran n) = None
+refusal_in (model.shown text) = None
+
+-- only a run stops short: behind some of its steps, fewer than it may do
+abbrev pub StopsShort : State → Command → ℕ → State → Type 0
+StopsShort s (does e) n after = ⊥
+StopsShort s (run k) n after = (0 < n) × (n < k) × (run_from n 0 s ≡ record { state = after; reply = model.ran n })
+
+-- a command was done, with its reply; or a run's first steps were; or nothing was
+abbrev pub Performs : State → Command → Performed → State → Type 0
+Performs s c (performed.Whole reply) after = act s c ≡ record { state = after; reply = reply_of reply }
+Performs s c (performed.Short n) after = StopsShort s c n after
+Performs s c performed.Memory after = after ≡ s
+
+-- what became of the first goal that can step: how each run goes on behind it
+abbrev pub IsFirstStep : State → FirstStep → State → Type 0
+IsFirstStep s first_step.Quiet after = (first s ≡ None) × (after ≡ s)
+IsFirstStep s first_step.Done after = (next : Going) (n : ℕ) → run_choice next s n (first s) ≡ next (suc n) after
+IsFirstStep s (first_step.Refused r) after = ((next : Going) (n : ℕ) → run_choice next s n (first s) ≡ stopped_by s n (refusal_of r)) × (after ≡ s)
+IsFirstStep s first_step.Memory after = after ≡ s

@@ -1,0 +1,66 @@
+-- What a script's run reads and writes.
+use Rattle.std.specs.Prelude.{◌≡◌, ℕ, ◌<◌, List, [], ◌∷◌, take, Some, None, Ok, Err}
+use Rattle.std.specs.declared.option.Option.{Option}
+use Rattle.std.specs.declared.result.Result.{Result}
+use Rattle.std.specs.Io.KnownBytes.{Appends}
+use Rattle.kl1_model.specs.Script.{Record, line_in, behind_feed, words_of, accounts_in, records_of, written_from, output}
+use Rattle.kl1_script.specs.Devices.{IsLeft, IsWhole, AppendsFront}
+use Rattle.kl1_script.specs.declared.script_fault.ScriptFault.{ScriptFault}
+use Rattle.kl1_script.specs.declared.script_fault.ScriptFault.TheVariants as faults
+
+-- what is written for the first of these records, so many
+abbrev pub first_written : ℕ → Option (List (List ℕ)) → List Record → List ℕ
+first_written n None records = []
+first_written n (Some accounts) records = written_from accounts [] (take n records)
+
+-- what is written for the first records of a script, so many
+abbrev pub front_of : ℕ → List ℕ → List ℕ
+front_of n script = first_written n (accounts_in (words_of (line_in script))) (records_of (behind_feed script)).list
+
+-- a script was read to its end, and its output was written, and nothing else
+pub record Answered (read left : Option (List ℕ)) (old new : Option (List ℕ)) : Type 0 where
+  pub script : List ℕ
+  pub whole : IsWhole read left script
+  pub written : Appends old new (output script)
+
+-- of a script that was to be read, the replies of its first records were written, and nothing else
+pub record StopsBefore (read : Option (List ℕ)) (old new : Option (List ℕ)) : Type 0 where
+  pub script : List ℕ
+  pub left : IsLeft read script
+  pub count : ℕ
+  pub written : Appends old new (front_of count script)
+
+-- of a script that was to be read, the output up to some place was written
+pub record BreaksOff (read : Option (List ℕ)) (old new : Option (List ℕ)) : Type 0 where
+  pub script : List ℕ
+  pub left : IsLeft read script
+  pub written : AppendsFront old new (output script)
+
+-- how a script that was read ends, of which this is the output, and this what is written for so many of its first records:
+-- all is written, and no call failed; or memory was refused behind some of them; or a write failed
+abbrev pub Ends : {T : Type 0} → Option (List ℕ) → Option (List ℕ) → ℕ → ℕ → List ℕ → (ℕ → List ℕ) → Result T ScriptFault → Type 0
+Ends old new f g all front (Ok x) = Appends old new all × (g ≡ f)
+Ends old new f g all front (Err faults.Memory) = ((n : ℕ) × Appends old new (front n)) × (g ≡ f)
+Ends old new f g all front (Err faults.Write) = AppendsFront old new all × (f < g)
+Ends old new f g all front (Err faults.Read) = ⊥
+Ends old new f g all front (Err faults.TooLong) = ⊥
+
+-- how the last bytes are written: all of them, and no call failed; or a write failed
+abbrev pub Finishes : {T : Type 0} → Option (List ℕ) → Option (List ℕ) → ℕ → ℕ → List ℕ → Result T ScriptFault → Type 0
+Finishes old new f g bytes (Ok x) = Appends old new bytes × (g ≡ f)
+Finishes old new f g bytes (Err faults.Memory) = ⊥
+Finishes old new f g bytes (Err faults.Write) = AppendsFront old new bytes × (f < g)
+Finishes old new f g bytes (Err faults.Read) = ⊥
+Finishes old new f g bytes (Err faults.TooLong) = ⊥
+
+-- how a script ends whose memory was refused: these bytes were written, or a write failed
+abbrev pub Stops : Option (List ℕ) → Option (List ℕ) → ℕ → ℕ → List ℕ → ScriptFault → Type 0
+Stops old new f g bytes faults.Memory = Appends old new bytes × (g ≡ f)
+Stops old new f g bytes faults.Write = AppendsFront old new bytes × (f < g)
+Stops old new f g bytes faults.Read = ⊥
+Stops old new f g bytes faults.TooLong = ⊥
+
+-- a name is the first of these
+abbrev pub IsFirstOf : List ℕ → List (List ℕ) → Type 0
+IsFirstOf name [] = ⊥
+IsFirstOf name (first ∷ others) = name ≡ first

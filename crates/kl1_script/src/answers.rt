@@ -1,0 +1,68 @@
+// What a record does to the account that is served, and what is written for it.
+
+ghost use Rattle.std.specs.Prelude.{◌≡◌, ◌++◌, OnOk, OnErr};
+ghost use Rattle.kl1_model.specs.Command.{act, reply_lines};
+ghost use Rattle.kl1_model.specs.Script.{is_served, written_reply};
+ghost use Rattle.kl1_script.specs.Commands.{command_view};
+ghost use Rattle.kl1_script.specs.Records.{command_of};
+ghost use Rattle.kl1_script.specs.Told.{state_by, told_by};
+
+use crate::command::{Command, command_in};
+use crate::notices::put_no_account;
+use crate::performed::{Performed, perform};
+use crate::record::Record;
+use crate::replies::put_reply;
+use crate::verb::is_same;
+use kl1_user::{AccountName, Refusal, Reply, UserState};
+use std::alloc::{AllocError, Global};
+
+/// Whether a name is that of the account that is served, which is the first.
+fn is_served(accounts: &[AccountName], name: &[u8]) -> bool
+    ensures { result ≡ is_served accounts.now name.now }
+{
+    match accounts {
+        [] => false,
+        [first, _others @ ..] => is_same(first.text().unpacked().as_slice(), name),
+    }
+}
+
+/// Does the command of a record, and puts what is written for it behind the bytes. After an `Err` the bytes are as they
+/// were, and a run's first steps may be done.
+pub(crate) fn put_record(
+    alloc: Global,
+    accounts: &[AccountName],
+    user: &mut UserState,
+    found: Record<'_>,
+    out: &mut Vec<u8>,
+) -> Result<(), AllocError>
+    ensures user { OnOk result (user.new ≡ state_by accounts.now user.old (record { name = found.entry.name.now; command = command_of found.entry.command })) }
+    ensures reply { OnOk result (out.new.items ≡ out.old.items ++ told_by accounts.now user.old (record { name = found.entry.name.now; command = command_of found.entry.command })) }
+    ensures err { OnErr result (out.new.items ≡ out.old.items) }
+{
+    if !is_served(accounts, found.name) {
+        return put_no_account(out);
+    }
+    match command_in(alloc, found.command) {
+        Ok(Some(command)) => put_performed(user, &command, found.name, out),
+        Ok(None) => put_reply(out, found.name, &Reply::Refused(Refusal::Syntax)),
+        Err(error) => Err(error),
+    }
+}
+
+/// Does a command, and puts its reply behind the bytes.
+fn put_performed(
+    user: &mut UserState,
+    command: &Command,
+    name: &[u8],
+    out: &mut Vec<u8>,
+) -> Result<(), AllocError>
+    ensures user { OnOk result (user.new ≡ (act user.old (command_view command.now)).state) }
+    ensures reply { OnOk result (out.new.items ≡ out.old.items ++ written_reply name.now (reply_lines (act user.old (command_view command.now)).reply)) }
+    ensures err { OnErr result (out.new.items ≡ out.old.items) }
+{
+    match perform(user, command) {
+        Performed::Whole(reply) => put_reply(out, name, &reply),
+        Performed::Short { steps: _steps } => Err(AllocError),
+        Performed::Memory => Err(AllocError),
+    }
+}

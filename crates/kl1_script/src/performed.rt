@@ -1,0 +1,68 @@
+// What a command does to an account.
+
+ghost use Rattle.std.specs.Prelude.{◌≡◌};
+ghost use Rattle.kl1_model.specs.Command as model;
+ghost use Rattle.kl1_model.specs.State.{State};
+ghost use Rattle.kl1_user.specs.Views.{refusal_of, reply_of};
+ghost use Rattle.kl1_script.specs.Commands.{command_view};
+ghost use Rattle.kl1_script.specs.Performing.{Performs};
+
+use crate::command::Command;
+use crate::first_step::{FirstStep, reduce_first};
+use kl1_user::{Refusal, Reply, UserState};
+
+/// What became of a command.
+#[derive(Drop)]
+pub enum Performed {
+    /// It is done, with this reply.
+    Whole(Reply),
+    /// Memory was refused in the midst of a run, behind so many of its steps, at least one.
+    Short { steps: u64 },
+    /// Memory was refused, and the account is as it was.
+    Memory,
+}
+
+/// Does a command.
+pub fn perform(user: &mut UserState, command: &Command) -> Performed
+    ensures { Performs user.old (command_view command.now) result user.new }
+{
+    match command {
+        Command::Does(event) => match user.apply(event) {
+            Ok(reply) => Performed::Whole(reply),
+            Err(_) => Performed::Memory,
+        },
+        Command::Run(most) => run(user, *most),
+    }
+}
+
+/// Reduces the first goal that can step, again and again, at most so many times.
+fn run(user: &mut UserState, most: u64) -> Performed
+    ensures { Performs user.old (model.run most) result user.new }
+{
+    let mut done = 0;
+    while done < most {
+        match reduce_first(user) {
+            FirstStep::Quiet => return Performed::Whole(Reply::Ran(done)),
+            FirstStep::Done => done += 1,
+            FirstStep::Refused(refusal) => return Performed::Whole(stopped(done, refusal)),
+            FirstStep::Memory => {
+                if done == 0 {
+                    return Performed::Memory;
+                }
+                return Performed::Short { steps: done };
+            }
+        }
+    }
+    Performed::Whole(Reply::Ran(done))
+}
+
+/// The reply to a run whose next step is refused, behind so many that are done.
+fn stopped(done: u64, refusal: Refusal) -> Reply
+    ensures { (user : State) → model.stopped_by user done (refusal_of refusal) ≡ record { state = user; reply = reply_of result } }
+{
+    if done == 0 {
+        Reply::Refused(refusal)
+    } else {
+        Reply::Ran(done)
+    }
+}

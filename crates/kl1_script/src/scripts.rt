@@ -1,0 +1,128 @@
+// A script, from its bytes to what is written for it.
+
+ghost use Rattle.std.specs.Prelude.{◌≡◌, ◌<◌, ℕ, List, length, Some, OnOk, IsErrOf, codes};
+ghost use Rattle.std.specs.Io.KnownBytes.{Consumes, Appends};
+ghost use Rattle.kl1_model.specs.Script.{output, records_of, written_line, written_records};
+ghost use Rattle.kl1_script.specs.Devices.{ReadsFew};
+ghost use Rattle.kl1_script.specs.Scripts.{Answered, BreaksOff, Ends, Finishes, IsFirstOf, StopsBefore, Stops, first_written, front_of};
+ghost use Rattle.kl1_script.specs.declared.script_fault.ScriptFault.TheVariants as faults;
+
+use crate::accounts::accounts_in;
+use crate::answers::put_record;
+use crate::input::read_all;
+use crate::lines::split_line;
+use crate::notices::put_truncated;
+use crate::output::{finish, pass_on};
+use crate::record::{NextRecord, next_record};
+use crate::script_fault::ScriptFault;
+use crate::sink::Sink;
+use crate::source::Source;
+use kl1_user::{AccountName, UserState};
+use std::alloc::Global;
+
+/// Runs a script: reads all of it, and writes its output. Of several accounts the first alone is served.
+pub fn run_script<R: Source, W: Sink>(
+    alloc: Global,
+    source: &mut R,
+    sink: &mut W,
+) -> Result<(), ScriptFault>
+    ensures ok { OnOk result (Answered (R.remaining source.old) (R.remaining source.new) (W.contents sink.old) (W.contents sink.new)) }
+    ensures memory { IsErrOf result faults.Memory → StopsBefore (R.remaining source.old) (W.contents sink.old) (W.contents sink.new) }
+    ensures write { IsErrOf result faults.Write → BreaksOff (R.remaining source.old) (W.contents sink.old) (W.contents sink.new) }
+    ensures read { IsErrOf result faults.Read → W.contents sink.new ≡ W.contents sink.old }
+    ensures too_long { IsErrOf result faults.TooLong → W.contents sink.new ≡ W.contents sink.old }
+    ensures read_many { IsErrOf result faults.TooLong → (bytes : List ℕ) × (length bytes ≡ 16777217) × Consumes (R.remaining source.old) (R.remaining source.new) bytes }
+    ensures read_failed { IsErrOf result faults.Read → R.failures source.old < R.failures source.new }
+    ensures read_kept { (IsErrOf result faults.Read → ⊥) → R.failures source.new ≡ R.failures source.old }
+    ensures write_failed { IsErrOf result faults.Write → W.failures sink.old < W.failures sink.new }
+    ensures write_kept { (IsErrOf result faults.Write → ⊥) → W.failures sink.new ≡ W.failures sink.old }
+    ensures few { ReadsFew (R.remaining source.old) (R.remaining source.new) 16777217 }
+{
+    match read_all(alloc, source) {
+        Ok(script) => answer(alloc, script.as_slice(), sink),
+        Err(fault) => Err(fault),
+    }
+}
+
+/// Writes the output of a script.
+fn answer<W: Sink>(alloc: Global, script: &[u8], sink: &mut W) -> Result<(), ScriptFault>
+    ensures { Ends (W.contents sink.old) (W.contents sink.new) (W.failures sink.old) (W.failures sink.new) (output script.now) (λ n. front_of n script.now) result }
+{
+    let (line, rest) = split_line(script);
+    match accounts_in(alloc, line) {
+        Ok(Some(accounts)) => match accounts.as_slice() {
+            [] => answer_no_accounts(sink),
+            [first, _others @ ..] => answer_records(alloc, accounts.as_slice(), *first, rest, sink),
+        },
+        Ok(None) => answer_no_accounts(sink),
+        Err(_) => Err(ScriptFault::Memory),
+    }
+}
+
+/// Writes the output of a script whose first line names no accounts.
+fn answer_no_accounts<W: Sink>(sink: &mut W) -> Result<(), ScriptFault>
+    ensures { Finishes (W.contents sink.old) (W.contents sink.new) (W.failures sink.old) (W.failures sink.new) (written_line (codes "! accounts")) result }
+{
+    finish_all(sink, b"! accounts\n")
+}
+
+/// Writes what is written for the records of a text.
+fn answer_records<W: Sink>(
+    alloc: Global,
+    accounts: &[AccountName],
+    first: AccountName,
+    text: &[u8],
+    sink: &mut W,
+) -> Result<(), ScriptFault>
+    requires { IsFirstOf first accounts.now }
+    ensures { Ends (W.contents sink.old) (W.contents sink.new) (W.failures sink.old) (W.failures sink.new) (written_records accounts.now (records_of text.now)) (λ n. first_written n (Some accounts.now) (records_of text.now).list) result }
+{
+    let Ok(mut user) = UserState::fresh(alloc, first) else {
+        return Err(ScriptFault::Memory);
+    };
+    let mut out = Vec::new(alloc);
+    let mut rest = text;
+    'records: loop {
+        match next_record(rest) {
+            NextRecord::Found(record) => {
+                match put_record(alloc, accounts, &mut user, record, &mut out) {
+                    Ok(()) => (),
+                    Err(_) => return Err(stop(sink, out.as_slice())),
+                }
+                match pass_on(sink, &mut out) {
+                    Ok(()) => (),
+                    Err(_) => return Err(ScriptFault::Write),
+                }
+                rest = record.rest;
+            }
+            NextRecord::Truncated => {
+                match put_truncated(&mut out) {
+                    Ok(()) => (),
+                    Err(_) => return Err(stop(sink, out.as_slice())),
+                }
+                return finish_all(sink, out.as_slice());
+            }
+            NextRecord::End => return finish_all(sink, out.as_slice()),
+        }
+    }
+}
+
+/// Writes the last bytes.
+fn finish_all<W: Sink>(sink: &mut W, bytes: &[u8]) -> Result<(), ScriptFault>
+    ensures { Finishes (W.contents sink.old) (W.contents sink.new) (W.failures sink.old) (W.failures sink.new) bytes.now result }
+{
+    match finish(sink, bytes) {
+        Ok(()) => Ok(()),
+        Err(_) => Err(ScriptFault::Write),
+    }
+}
+
+/// Writes the last bytes where memory was refused, and answers that, or that the write failed.
+fn stop<W: Sink>(sink: &mut W, last: &[u8]) -> ScriptFault
+    ensures { Stops (W.contents sink.old) (W.contents sink.new) (W.failures sink.old) (W.failures sink.new) last.now result }
+{
+    match finish(sink, last) {
+        Ok(()) => ScriptFault::Memory,
+        Err(_) => ScriptFault::Write,
+    }
+}

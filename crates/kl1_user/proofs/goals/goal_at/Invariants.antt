@@ -1,0 +1,11 @@
+-- the goal of a number among those that are left is that among all
+use Rattle.std.proofs.Common.{◌≡◌, length}
+use Rattle.std.specs.Prelude.{find}
+use Rattle.kl1_user.specs.Lists.{has_number}
+use Rattle.kl1_user.proofs.goals.goal_at.Given as goal
+
+abbrev pub invariant-loop-left : goal.invariant-loop-left
+invariant-loop-left l = find (has_number l.fn.number) l.left ≡ find (has_number l.fn.number) l.fn.goals
+
+abbrev pub decreases-loop-left : goal.decreases-loop-left
+decreases-loop-left l = length l.left

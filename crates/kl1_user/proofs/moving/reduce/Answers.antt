@@ -1,0 +1,10 @@
+use Rattle.kl1_model.specs.Reduction.{moved}
+use Rattle.kl1_user.specs.Kept.{meaning, goal_with}
+use Rattle.kl1_user.proofs.Reductions.{reduced_turns}
+use Rattle.kl1_user.proofs.moving.reduce.Goals as goal
+
+pub returns-clause-ok : goal.returns-clause-ok
+returns-clause-ok c =
+    let h = c.args.store.now.held in
+    λ m e. reduced_turns (moved (goal_with (meaning h) c.args.goal.now) (meaning h c.args.cell) m) h c.do_move.new.store.held c.settle.new.store.held c.args.work.now c.do_move.new.work c.settle.new.work c.args.goal.now.shoen c.requires.shoen c.requires.inside
+    c.in_ok-do_move.ensures.grown (c.in_ok-do_move.ensures.ok m e) (λ i. c.in_ok-settle.ensures.ok)

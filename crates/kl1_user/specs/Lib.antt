@@ -1,0 +1,17 @@
+pub mod Views
+pub mod Moves
+pub mod NextNode
+pub mod Calls
+pub mod Candidates
+pub mod Kept
+pub mod Accounts
+pub mod Readies
+pub mod Works
+pub mod Sendings
+pub mod Reports
+pub mod Lists
+pub mod Leaving
+pub mod Loadings
+pub mod Committing
+pub mod Starts
+pub mod Begins

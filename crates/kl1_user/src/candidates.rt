@@ -1,0 +1,156 @@
+// The clauses of a call.
+
+ghost use Rattle.std.specs.Prelude.{◌≡◌, ℕ, ◌<◌, false, None, [], length, MatchOption, IfOk, slice_get, slice_index_or, filter};
+ghost use Rattle.kl1_model.specs.Module.{is_of};
+ghost use Rattle.kl1_model.specs.Match.{module_of, clauses_of};
+ghost use Rattle.kl1_store.specs.Held.{IsIn};
+ghost use Rattle.kl1_user.specs.Calls.{cell_of, arguments_at, call_at};
+ghost use Rattle.kl1_user.specs.Candidates.{IsModuleAt, IsOfAt, IsVerdictAt, IsNumbered, IsSet, IsCompiledAt, answer_of};
+ghost use Rattle.kl1_model.specs.State.{names_of_module, with_names};
+
+use crate::call::Call;
+use kl1_clause::{Code, CompiledClause};
+use kl1_match::{Place, Verdict, name_at, verdict_on};
+use kl1_store::Store;
+use kl1_text::AtomText;
+use std::alloc::{AllocError, Global};
+
+/// The place of the module of a name, from 0.
+pub(crate) fn place_of_module(codes: &[Code], name: &AtomText) -> Option<usize>
+    ensures { MatchOption result (module_of codes.now name.now ≡ None) (IsModuleAt codes.now name.now) }
+{
+    let mut place: usize = 0;
+    while place < codes.len() {
+        if codes[place].module_name().is(name) {
+            return Some(place);
+        }
+        place += 1;
+    }
+    None
+}
+
+/// The clause at a place, from 0.
+fn nth(clauses: &[CompiledClause], place: usize) -> &CompiledClause
+    requires { place < length clauses.now }
+    ensures { result.now ≡ slice_index_or clauses.now place result.now }
+{
+    &clauses[place]
+}
+
+/// The clause at a place of a module, from 0.
+fn clause_at(code: &Code, place: usize) -> &CompiledClause
+    requires { place < length code.now.clauses }
+    ensures { IsCompiledAt (with_names [] (names_of_module code.now)) result.now code.now.clauses place }
+{
+    nth(code.clauses(), place)
+}
+
+/// Whether the clause at a place of a module is of a call's predicate.
+fn is_of_at(code: &Code, place: usize, call: &Call) -> bool
+    requires { place < length code.now.clauses }
+    ensures { IsOfAt code.now place call.now.name call.now.count result }
+{
+    let clause = clause_at(code, place);
+    let name = name_at(code.names(), clause.name);
+    if clause.count != call.count {
+        return false;
+    }
+    name.is(&call.name)
+}
+
+/// The verdict of the clause at a place of a module on a call.
+pub(crate) fn verdict_at(
+    alloc: Global,
+    store: &Store<AtomText>,
+    code: &Code,
+    place: usize,
+    call: &Call,
+    places: &mut Vec<Place<AtomText>>,
+) -> Result<Verdict, AllocError>
+    requires place { place < length code.now.clauses }
+    requires goal { IsIn store.now.held (cell_of call.now) }
+    ensures { IfOk result (IsVerdictAt code.now store.now.held place (cell_of call.now) places.new.items) }
+{
+    let clause = clause_at(code, place);
+    let given = verdict_on(alloc, store, code.names(), clause, call.cell(), places)?;
+    Ok(given)
+}
+
+/// The least number of a clause of a module that accepts a call, or 0 where each rejects it, or nothing.
+fn least_clause(
+    alloc: Global,
+    store: &Store<AtomText>,
+    code: &Code,
+    call: &Call,
+) -> Result<Option<u64>, AllocError>
+    requires { IsIn store.now.held (cell_of call.now) }
+    ensures { IfOk result (λ found. found ≡ answer_of false 1 (filter (is_of call.now.name call.now.count) code.now.clauses) (arguments_at store.now.held call.now)) }
+{
+    let mut places = Vec::new(alloc);
+    let count = code.clause_count();
+    let mut seen: u64 = 0;
+    let mut waits = false;
+    let mut place: usize = 0;
+    while place < count {
+        if !is_of_at(code, place, call) {
+            place += 1;
+            continue;
+        }
+        match verdict_at(alloc, store, code, place, call, &mut places)? {
+            Verdict::Accepts => return Ok(Some(seen + 1)),
+            Verdict::Rejects => {
+                seen += 1;
+                place += 1;
+            }
+            Verdict::Suspends => {
+                waits = true;
+                seen += 1;
+                place += 1;
+            }
+        }
+    }
+    if waits {
+        return Ok(None);
+    }
+    Ok(Some(0))
+}
+
+/// The place in a module of the clause of a number in a call's predicate, both from 0.
+pub(crate) fn place_of_clause(code: &Code, call: &Call, number: u64) -> Option<usize>
+    ensures { MatchOption result (slice_get (filter (is_of call.now.name call.now.count) code.now.clauses) number ≡ None) (IsNumbered code.now call.now.name call.now.count number) }
+{
+    let count = code.clause_count();
+    let mut left = number;
+    let mut place: usize = 0;
+    while place < count {
+        if !is_of_at(code, place, call) {
+            place += 1;
+            continue;
+        }
+        if left == 0 {
+            return Some(place);
+        }
+        left -= 1;
+        place += 1;
+    }
+    None
+}
+
+/// The least number of a clause that accepts a call, or 0 where each rejects it or there is none, or nothing.
+pub(crate) fn least_number(
+    alloc: Global,
+    store: &Store<AtomText>,
+    codes: &[Code],
+    call: &Call,
+) -> Result<Option<u64>, AllocError>
+    requires { IsSet store.now.held call.now }
+    ensures { IfOk result (λ found. found ≡ answer_of false 1 (clauses_of codes.now (call_at store.now.held call.now)) (arguments_at store.now.held call.now)) }
+{
+    match place_of_module(codes, &call.module_name) {
+        None => Ok(Some(0)),
+        Some(place) => {
+            let found = least_clause(alloc, store, &codes[place], call)?;
+            Ok(found)
+        }
+    }
+}

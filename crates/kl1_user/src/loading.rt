@@ -1,0 +1,111 @@
+// Modules that are loaded.
+
+ghost use Rattle.std.specs.Prelude.{◌≡◌, ◌∷◌, [], ◌++◌, map, is_some, OnOk, OnErr, IfOk};
+ghost use Rattle.kl1_model.specs.Match.{module_of};
+ghost use Rattle.kl1_model.specs.State.{names_of_module, with_names};
+ghost use Rattle.kl1_user.specs.Kept.{AreGoalsIn};
+ghost use Rattle.kl1_user.specs.Lists.{stood};
+ghost use Rattle.kl1_user.specs.Loadings.{LoadsAs};
+
+use crate::goal::Goal;
+use crate::goals::standing_goals;
+use crate::limits::MOST_ENTRIES;
+use crate::refusal::Refusal;
+use crate::used_names::use_module;
+use kl1_clause::{Code, CodeFault};
+use kl1_store::Store;
+use kl1_text::AtomText;
+use std::alloc::{AllocError, Global};
+
+/// The most bytes of a source.
+const MOST_SOURCE_BYTES: usize = 65_536;
+
+/// What comes of a load: a refusal, or the name of a module that is there now, and the goals, each with the clause by which it
+/// can step now.
+#[derive(Drop)]
+pub(crate) enum Loading {
+    Refused(Refusal),
+    Loaded(AtomText, Vec<Goal>),
+}
+
+/// Whether there is a module of a name.
+fn has_module(modules: &[Code], name: &AtomText) -> bool
+    ensures { result ≡ is_some (module_of modules.now name.now) }
+{
+    let mut left = modules;
+    while let [first, rest @ ..] = left {
+        if first.module_name().is(name) {
+            return true;
+        }
+        left = rest;
+    }
+    false
+}
+
+/// Puts a module behind the others, its names to those that are used, and gives the goals, each with the clause by which it
+/// can step then.
+fn put_module(
+    alloc: Global,
+    store: &Store<AtomText>,
+    modules: &mut Vec<Code>,
+    names: &mut Vec<AtomText>,
+    goals: &[Goal],
+    code: Code,
+) -> Result<Vec<Goal>, AllocError>
+    requires { AreGoalsIn store.now.held goals.now }
+    ensures modules { OnOk result (modules.new.items ≡ modules.old.items ++ code ∷ []) }
+    ensures names { OnOk result (names.new.items ≡ with_names names.old.items (names_of_module code)) }
+    ensures goals { IfOk result (λ after. after.items ≡ map (stood store.now.held modules.new.items) goals.now) }
+    ensures modules_err { OnErr result (modules.new.items ≡ modules.old.items) }
+    ensures names_err { OnErr result (names.new.items ≡ names.old.items) }
+{
+    let many = modules.len();
+    let before = names.len();
+    use_module(names, &code)?;
+    if modules.push(code).is_err() {
+        names.truncate(before);
+        return Err(AllocError);
+    }
+    let after = standing_goals(alloc, store, modules.as_slice(), goals);
+    if after.is_err() {
+        modules.truncate(many);
+        names.truncate(before);
+    }
+    after
+}
+
+/// What comes of loading a source, where the journal has so many entries.
+pub(crate) fn load(
+    alloc: Global,
+    store: &Store<AtomText>,
+    modules: &mut Vec<Code>,
+    names: &mut Vec<AtomText>,
+    goals: &[Goal],
+    entries: u64,
+    source: &[u8],
+) -> Result<Loading, AllocError>
+    requires { AreGoalsIn store.now.held goals.now }
+    ensures ok { IfOk result (LoadsAs store.now.held modules.old.items modules.new.items names.old.items names.new.items goals.now entries source.now) }
+    ensures modules_err { OnErr result (modules.new.items ≡ modules.old.items) }
+    ensures names_err { OnErr result (names.new.items ≡ names.old.items) }
+{
+    if source.len() > MOST_SOURCE_BYTES {
+        return Ok(Loading::Refused(Refusal::Syntax));
+    }
+    let code = match Code::compile(alloc, source) {
+        Ok(code) => code,
+        Err(CodeFault::Bad { line }) => {
+            return Ok(Loading::Refused(Refusal::Source { line }));
+        }
+        Err(CodeFault::Memory) => return Err(AllocError),
+    };
+    let name = code.module_name();
+    if has_module(modules.as_slice(), &name) {
+        return Ok(Loading::Refused(Refusal::Exists));
+    }
+    if entries >= MOST_ENTRIES {
+        return Ok(Loading::Refused(Refusal::Journal));
+    }
+    let after = put_module(alloc, store, modules, names, goals, code)?;
+    Ok(Loading::Loaded(name, after))
+}

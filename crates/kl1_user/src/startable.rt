@@ -1,0 +1,79 @@
+// What may be started.
+
+ghost use Rattle.std.specs.Prelude.{◌≡◌, ◌++◌, ◌∷◌, [], nat_lt, nat_le, ◌&&◌, decimal, IfOk, OnOk};
+ghost use Rattle.kl1_model.specs.Event.{is_number, is_range};
+ghost use Rattle.kl1_model.specs.Opening.{start_line, may_start};
+
+use itoa::Buffer;
+use kl1_read::is_goal;
+use kl1_term::{Term, put_whole};
+use std::alloc::{AllocError, Global};
+
+/// The greatest priority that a start may give.
+const MOST_PRIORITY: u64 = 4095;
+
+/// The most bytes of a line of a journal, without its end.
+const MOST_LINE_BYTES: usize = 262_144;
+
+/// Whether a command may have this number.
+fn is_number(number: u64) -> bool
+    ensures { result ≡ is_number number }
+{
+    number < 9_223_372_036_854_775_808
+}
+
+/// Whether priorities from one to another are a range.
+fn is_range(low: u64, high: u64) -> bool
+    ensures { result ≡ is_range low high }
+{
+    low <= high && high <= MOST_PRIORITY
+}
+
+/// Puts a number and a blank behind bytes. After an error some of them may be there.
+fn put_number(line: &mut Vec<u8>, number: u64) -> Result<(), AllocError>
+    ensures { OnOk result (line.new.items ≡ line.old.items ++ decimal number ++ 32 ∷ []) }
+{
+    let mut buffer = Buffer::new();
+    line.extend_from_slice(buffer.format(number).as_bytes())?;
+    line.push(b' ')?;
+    Ok(())
+}
+
+/// The line of a journal for a start.
+#[tactic(auto, using(crate::proofs::StartLines::line_is))]
+fn start_line(
+    alloc: Global,
+    allowance: u64,
+    low: u64,
+    high: u64,
+    goal: &Term,
+) -> Result<Vec<u8>, AllocError>
+    ensures { IfOk result (λ line. line.items ≡ start_line allowance low high goal.now) }
+{
+    let mut line = Vec::from_slice(alloc, b"start ")?;
+    put_number(&mut line, allowance)?;
+    put_number(&mut line, low)?;
+    put_number(&mut line, high)?;
+    put_whole(alloc, &mut line, goal)?;
+    Ok(line)
+}
+
+/// Whether a start has numbers in range, and a goal that can be written in a line of a journal and read back.
+pub(crate) fn may_start(
+    alloc: Global,
+    allowance: u64,
+    low: u64,
+    high: u64,
+    goal: &Term,
+) -> Result<bool, AllocError>
+    ensures { IfOk result (λ may. may ≡ may_start allowance low high goal.now) }
+{
+    if !is_number(allowance) || !is_range(low, high) || !is_goal(goal) {
+        return Ok(false);
+    }
+    if !goal.is_writable(alloc)? || !goal.is_numbered() {
+        return Ok(false);
+    }
+    let line = start_line(alloc, allowance, low, high, goal)?;
+    Ok(line.len() <= MOST_LINE_BYTES)
+}
