@@ -2,10 +2,9 @@
 use Rattle.std.proofs.Common.{◌≡◌, ℕ, suc, ◌+◌, ◌-◌, List, [], ◌∷◌, ◌++◌, length, map, Vec, Global, refl, sym, ap, ◌∙◌, arith, subst, length-append}
 use Rattle.kl1_model.specs.Term.{Term}
 use Rattle.kl1_model.specs.Module.{Module}
-use Rattle.kl1_model.specs.State.{State, names_of, with_names}
+use Rattle.kl1_model.specs.State.{State}
 use Rattle.kl1_model.specs.Event.{start, opened, with_entry, Stepped}
 use Rattle.kl1_model.specs.Step.{step}
-use Rattle.kl1_store.specs.Held.{Held}
 use Rattle.kl1_store.specs.Hooks.{Kept}
 use Rattle.kl1_store.specs.Sound.{Grown}
 use Rattle.kl1_user.specs.declared.goal.Goal.{Goal}
