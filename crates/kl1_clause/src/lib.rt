@@ -1,6 +1,10 @@
 //! Modules compiled once for all accounts: clauses as rows of instructions, whose names are places in the module's own list.
 #![tactic(auto)]
 
+#[cfg(test)]
+mod answers;
+#[cfg(test)]
+mod cases;
 mod code;
 mod code_fault;
 mod compiled_clause;

@@ -1,382 +1,282 @@
 // Goals that the language's rules allow and refuse, with their exact answers, and texts that are long, deep or hostile.
 
-use crate::{ReadFault, read_goal};
-use kl1_term::print_whole;
+use crate::answers::Kind;
+use crate::cases::right;
 use std::test::Fail;
-
-/// What becomes of a text: the print of its goal, or `! ` with the line of its fault. No print begins so.
-fn answer_of(rt: &HostRuntime, text: &[u8]) -> Result<Vec<u8>, Fail> {
-    match read_goal(rt.alloc(), text) {
-        Ok(goal) => Ok(print_whole(rt.alloc(), &goal)?),
-        Err(ReadFault::Bad { line }) => Ok(format!(in rt.alloc(); "! {line}")?.into_bytes()),
-        Err(ReadFault::Memory) => Err(Fail::from("no memory")),
-    }
-}
-
-/// Whether a text has this answer.
-fn is_answer(rt: &HostRuntime, text: &[u8], wanted: &[u8]) -> Result<bool, Fail> {
-    Ok(answer_of(rt, text)?.as_slice() == wanted)
-}
-
-/// A text of `front`, `before` so many times, `middle`, and `behind` so many times.
-fn nested(
-    rt: &HostRuntime,
-    front: &[u8],
-    count: usize,
-    parts: (&[u8], &[u8], &[u8]),
-) -> Result<Vec<u8>, Fail> {
-    let (before, middle, behind) = parts;
-    let mut text = Vec::from_slice(rt.alloc(), front)?;
-    for _turn in 0..count {
-        text.extend_from_slice(before)?;
-    }
-    text.extend_from_slice(middle)?;
-    for _turn in 0..count {
-        text.extend_from_slice(behind)?;
-    }
-    Ok(text)
-}
-
-/// Whether a text that is a print is read as the goal that it is the print of, where it is a goal, and else refused on line 1.
-fn is_read(rt: &HostRuntime, text: &[u8], is_goal: bool) -> Result<bool, Fail> {
-    is_answer(rt, text, if is_goal { text } else { b"! 1" })
-}
 
 #[test]
 fn goals_that_may_be_started(rt: HostRuntime) -> Result<(), Fail> {
-    let rows: [(&[u8], &[u8]); 24] = [
-        (b"true", b"true"),
-        (b"'true'", b"true"),
-        (b"(true)", b"true"),
-        (b"X = 1", b"'='(_1,1)"),
-        (b"X=-1", b"'='(_1,-1)"),
-        (b"'='(X,1)", b"'='(_1,1)"),
-        (b"(X = (Y = X))", b"'='(_1,'='(_2,_1))"),
-        (b"X = a:b", b"'='(_1,a:b)"),
-        (b"m:p", b"m:p"),
-        (b" m : ( p ) ", b"m:p"),
-        (b"m:p(X,Y,X,_,_,_Z,_Z)", b"m:p(_1,_2,_1,_3,_4,_5,_5)"),
-        (b"m:[]", b"m:[]"),
-        (b"[]:m", b"[]:m"),
-        (b"m:[a|b]", b"m:[a|b]"),
-        (b"m:(a:b)", b"':'(m,a:b)"),
-        (b"m:true", b"m:true"),
-        (b"m:mod(1)", b"m:mod(1)"),
-        (b"m:'='(1,2)", b"m:'='(1,2)"),
-        (b"m:atom_from(A,B)", b"m:atom_from(_1,_2)"),
-        (b"shoen:p", b"shoen:p"),
-        (b"shoen:execute", b"shoen:execute"),
-        (b"shoen:execute(1,2,3,4,5)", b"shoen:execute(1,2,3,4,5)"),
-        (
-            b"shoen:execute(1,2,3,4,5,6,7)",
-            b"shoen:execute(1,2,3,4,5,6,7)",
-        ),
-        (b"m:execute(G,L,H,N,C,R)", b"m:execute(_1,_2,_3,_4,_5,_6)"),
-    ];
-    for (text, wanted) in rows {
-        assert!(rt; is_answer(&rt, text, wanted)?, "at {text:?}");
-    }
+    let cases = b"\
+        true#true;\
+        'true'#true;\
+        (true)#true;\
+        X = 1#'='(_1,1);\
+        X=-1#'='(_1,-1);\
+        '='(X,1)#'='(_1,1);\
+        (X = (Y = X))#'='(_1,'='(_2,_1));\
+        X = a:b#'='(_1,a:b);\
+        m:p#m:p;\
+        \x20m : ( p ) #m:p;\
+        m:p(X,Y,X,_,_,_Z,_Z)#m:p(_1,_2,_1,_3,_4,_5,_5);\
+        m:[]#m:[];\
+        []:m#[]:m;\
+        m:[a|b]#m:[a|b];\
+        m:(a:b)#':'(m,a:b);\
+        m:true#m:true;\
+        m:mod(1)#m:mod(1);\
+        m:'='(1,2)#m:'='(1,2);\
+        m:atom_from(A,B)#m:atom_from(_1,_2);\
+        shoen:p#shoen:p;\
+        shoen:execute#shoen:execute;\
+        shoen:execute(1,2,3,4,5)#shoen:execute(1,2,3,4,5);\
+        shoen:execute(1,2,3,4,5,6,7)#shoen:execute(1,2,3,4,5,6,7);\
+        m:execute(G,L,H,N,C,R)#m:execute(_1,_2,_3,_4,_5,_6);\
+    ";
+    assert_eq!(rt; right(&rt, Kind::Goal, cases)?, 24);
     Ok(())
 }
 
 #[test]
 fn terms_that_are_no_goals(rt: HostRuntime) -> Result<(), Fail> {
-    let texts: [&[u8]; 31] = [
-        b"p",
-        b"p(X)",
-        b"otherwise",
-        b"wait(X)",
-        b"X",
-        b"1",
-        b"[]",
-        b"[a]",
-        b"''",
-        b"m:1",
-        b"m:X",
-        b"X:p",
-        b"1:p",
-        b"m(1):p",
-        b"(a:b):p",
-        b"'='(a)",
-        b"'='(a,b,c)",
-        b"'='",
-        b"':'",
-        b"':'(m)",
-        b"':'(m,p,q)",
-        b"'.'(m,p)",
-        b"true(X)",
-        b"atom_from(A,B)",
-        b"shoen:execute(G,L,H,N,C,R)",
-        b"'shoen':'execute'(1,2,3,4,5,6)",
-        b"p@priority(1)",
-        b"m:p@priority(1)",
-        b"X := 1",
-        b"X \\= 1",
-        b"X = 1 + 2",
-    ];
-    for text in texts {
-        assert!(rt; is_answer(&rt, text, b"! 1")?, "at {text:?}");
-    }
+    let cases = b"\
+        p#! 1;\
+        p(X)#! 1;\
+        otherwise#! 1;\
+        wait(X)#! 1;\
+        X#! 1;\
+        1#! 1;\
+        []#! 1;\
+        [a]#! 1;\
+        ''#! 1;\
+        m:1#! 1;\
+        m:X#! 1;\
+        X:p#! 1;\
+        1:p#! 1;\
+        m(1):p#! 1;\
+        (a:b):p#! 1;\
+        '='(a)#! 1;\
+        '='(a,b,c)#! 1;\
+        '='#! 1;\
+        ':'#! 1;\
+        ':'(m)#! 1;\
+        ':'(m,p,q)#! 1;\
+        '.'(m,p)#! 1;\
+        true(X)#! 1;\
+        atom_from(A,B)#! 1;\
+        shoen:execute(G,L,H,N,C,R)#! 1;\
+        'shoen':'execute'(1,2,3,4,5,6)#! 1;\
+        p@priority(1)#! 1;\
+        m:p@priority(1)#! 1;\
+        X := 1#! 1;\
+        X \\= 1#! 1;\
+        X = 1 + 2#! 1;\
+    ";
+    assert_eq!(rt; right(&rt, Kind::Goal, cases)?, 31);
     Ok(())
 }
 
 #[test]
 fn texts_that_are_no_expression(rt: HostRuntime) -> Result<(), Fail> {
-    let texts: [&[u8]; 30] = [
-        b"true.",
-        b"X = 1.",
-        b"true, true",
-        b"true true",
-        b"m:p (a)",
-        b"a:b:c",
-        b"X = Y = Z",
-        b"X = - 1",
-        b"m:-p",
-        b"X =:= 1",
-        b"X = [a,]",
-        b"X = [|a]",
-        b"X = [a|b|c]",
-        b"X = [a",
-        b"X = a]",
-        b"X = f()",
-        b"X = f(a",
-        b"X = f(a))",
-        b"X = ()",
-        b"X = []([])",
-        b"X = (a,b)",
-        b"= X",
-        b"X =",
-        b"X = a'b'",
-        b"p.q",
-        b"X mod(Y)",
-        b"X = A(b)",
-        b"X = 1(b)",
-        b":- module m",
-        b"X = Y | Z",
-    ];
-    for text in texts {
-        assert!(rt; is_answer(&rt, text, b"! 1")?, "at {text:?}");
-    }
+    let cases = b"\
+        true.#! 1;\
+        X = 1.#! 1;\
+        true, true#! 1;\
+        true true#! 1;\
+        m:p (a)#! 1;\
+        a:b:c#! 1;\
+        X = Y = Z#! 1;\
+        X = - 1#! 1;\
+        m:-p#! 1;\
+        X =:= 1#! 1;\
+        X = [a,]#! 1;\
+        X = [|a]#! 1;\
+        X = [a|b|c]#! 1;\
+        X = [a#! 1;\
+        X = a]#! 1;\
+        X = f()#! 1;\
+        X = f(a#! 1;\
+        X = f(a))#! 1;\
+        X = ()#! 1;\
+        X = []([])#! 1;\
+        X = (a,b)#! 1;\
+        = X#! 1;\
+        X =#! 1;\
+        X = a'b'#! 1;\
+        p.q#! 1;\
+        X mod(Y)#! 1;\
+        X = A(b)#! 1;\
+        X = 1(b)#! 1;\
+        :- module m#! 1;\
+        X = Y | Z#! 1;\
+    ";
+    assert_eq!(rt; right(&rt, Kind::Goal, cases)?, 30);
     Ok(())
 }
 
 #[test]
 fn names_in_quotes_and_lists(rt: HostRuntime) -> Result<(), Fail> {
-    let rows: [(&[u8], &[u8]); 23] = [
-        (b"X = ''", b"'='(_1,'')"),
-        (b"X = ''''", b"'='(_1,'''')"),
-        (b"X = 'it''s'", b"'='(_1,'it''s')"),
-        (b"X = 'a'", b"'='(_1,a)"),
-        (b"'X' = X", b"'='('X',_1)"),
-        (b"X = ' %~'", b"'='(_1,' %~')"),
-        (b"X = '[]'", b"'='(_1,[])"),
-        (b"X = [ ]", b"'='(_1,[])"),
-        (b"X = '[]'(a)", b"'='(_1,'[]'(a))"),
-        (b"X = '.'", b"'='(_1,'.')"),
-        (b"X = '.'(a)", b"'='(_1,'.'(a))"),
-        (b"X = '.'(a,b)", b"'='(_1,[a|b])"),
-        (b"X = '.'(a,'[]')", b"'='(_1,[a])"),
-        (b"X = '.'(a,b,c)", b"'='(_1,'.'(a,b,c))"),
-        (b"X = [a,b|T]", b"'='(_1,[a,b|_2])"),
-        (b"X = [a|[b]]", b"'='(_1,[a,b])"),
-        (b"X = [[],[[]]|[]]", b"'='(_1,[[],[[]]])"),
-        (b"X = (a:b):c", b"'='(_1,':'(a:b,c))"),
-        (b"X = Y:a", b"'='(_1,':'(_2,a))"),
-        (b"X = 'a", b"! 1"),
-        (b"X = 'a\t'", b"! 1"),
-        (b"X = 'a\x7f'", b"! 1"),
-        (b"X = 'a\xc8'", b"! 1"),
-    ];
-    for (text, wanted) in rows {
-        assert!(rt; is_answer(&rt, text, wanted)?, "at {text:?}");
-    }
+    let cases = b"\
+        X = ''#'='(_1,'');\
+        X = ''''#'='(_1,'''');\
+        X = 'it''s'#'='(_1,'it''s');\
+        X = 'a'#'='(_1,a);\
+        'X' = X#'='('X',_1);\
+        X = ' %~'#'='(_1,' %~');\
+        X = '[]'#'='(_1,[]);\
+        X = [ ]#'='(_1,[]);\
+        X = '[]'(a)#'='(_1,'[]'(a));\
+        X = '.'#'='(_1,'.');\
+        X = '.'(a)#'='(_1,'.'(a));\
+        X = '.'(a,b)#'='(_1,[a|b]);\
+        X = '.'(a,'[]')#'='(_1,[a]);\
+        X = '.'(a,b,c)#'='(_1,'.'(a,b,c));\
+        X = [a,b|T]#'='(_1,[a,b|_2]);\
+        X = [a|[b]]#'='(_1,[a,b]);\
+        X = [[],[[]]|[]]#'='(_1,[[],[[]]]);\
+        X = (a:b):c#'='(_1,':'(a:b,c));\
+        X = Y:a#'='(_1,':'(_2,a));\
+        X = 'a#! 1;\
+        X = 'a\t'#! 1;\
+        X = 'a\x7f'#! 1;\
+        X = 'a\xc8'#! 1;\
+    ";
+    assert_eq!(rt; right(&rt, Kind::Goal, cases)?, 23);
     Ok(())
 }
 
 #[test]
 fn integers_of_64_bits(rt: HostRuntime) -> Result<(), Fail> {
-    let rows: [(&[u8], &[u8]); 11] = [
-        (b"X = 9223372036854775807", b"'='(_1,9223372036854775807)"),
-        (b"X = 9223372036854775808", b"! 1"),
-        (b"X = 18446744073709551616", b"! 1"),
-        (b"X = -9223372036854775808", b"'='(_1,-9223372036854775808)"),
-        (b"X = -9223372036854775809", b"! 1"),
-        (b"X = 1 -9223372036854775808", b"! 1"),
-        (b"X = 007", b"'='(_1,7)"),
-        (b"X = -007", b"'='(_1,-7)"),
-        (
-            b"X = 0000000000000000000000009223372036854775807",
-            b"'='(_1,9223372036854775807)",
-        ),
-        (b"X = -0", b"'='(_1,0)"),
-        (b"X = --1", b"! 1"),
-    ];
-    for (text, wanted) in rows {
-        assert!(rt; is_answer(&rt, text, wanted)?, "at {text:?}");
-    }
+    let cases = b"\
+        X = 9223372036854775807#'='(_1,9223372036854775807);\
+        X = 9223372036854775808#! 1;\
+        X = 18446744073709551616#! 1;\
+        X = -9223372036854775808#'='(_1,-9223372036854775808);\
+        X = -9223372036854775809#! 1;\
+        X = 1 -9223372036854775808#! 1;\
+        X = 007#'='(_1,7);\
+        X = -007#'='(_1,-7);\
+        X = 0000000000000000000000009223372036854775807#'='(_1,9223372036854775807);\
+        X = -0#'='(_1,0);\
+        X = --1#! 1;\
+    ";
+    assert_eq!(rt; right(&rt, Kind::Goal, cases)?, 11);
     Ok(())
 }
 
 #[test]
 fn line_of_the_first_token_or_byte(rt: HostRuntime) -> Result<(), Fail> {
-    let rows: [(&[u8], &[u8]); 24] = [
-        (b"", b"! 1"),
-        (b"\n\n\n", b"! 1"),
-        (b" \t\r\n \r", b"! 1"),
-        (b"% a\n% b\n", b"! 1"),
-        (b"% no end", b"! 1"),
-        (b"X\r\n=\r\n1\r\n", b"'='(_1,1)"),
-        (b"\tX = % one\r\n1 % two", b"'='(_1,1)"),
-        (b"% X\n\nX = 1\n%\n", b"'='(_1,1)"),
-        (b"\n\np\n\n", b"! 3"),
-        (b"\r\n\r\np", b"! 3"),
-        (b"\r\r\rp", b"! 1"),
-        (b"% a\n% b\nX = 1\n.\n", b"! 3"),
-        (b"\nX =\n\n\xc8", b"! 2"),
-        (b"\n\n\xc8\nX = 1", b"! 3"),
-        (b"\x00", b"! 1"),
-        (b"X = 1 % \xc8", b"! 1"),
-        (b"X = 1 % \x7f\n", b"! 1"),
-        (b"\nX = 1\n\n% \xc8\n", b"! 2"),
-        (b"% \xc8\nX = 1", b"! 1"),
-        (b"% a\n% b\n\n %\xc8 c\nX = 1", b"! 4"),
-        (b"\n'a", b"! 2"),
-        (b"\n\nX = 'a\n'", b"! 3"),
-        (b"\nX = 1\x0c", b"! 2"),
-        (b"\n.", b"! 2"),
-    ];
-    for (text, wanted) in rows {
-        assert!(rt; is_answer(&rt, text, wanted)?, "at {text:?}");
-    }
+    let cases = b"\
+        #! 1;\
+        \n\n\n#! 1;\
+        \x20\t\r\n \r#! 1;\
+        % a\n% b\n#! 1;\
+        % no end#! 1;\
+        X\r\n=\r\n1\r\n#'='(_1,1);\
+        \tX = % one\r\n1 % two#'='(_1,1);\
+        % X\n\nX = 1\n%\n#'='(_1,1);\
+        \n\np\n\n#! 3;\
+        \r\n\r\np#! 3;\
+        \r\r\rp#! 1;\
+        % a\n% b\nX = 1\n.\n#! 3;\
+        \nX =\n\n\xc8#! 2;\
+        \n\n\xc8\nX = 1#! 3;\
+        \x00#! 1;\
+        X = 1 % \xc8#! 1;\
+        X = 1 % \x7f\n#! 1;\
+        \nX = 1\n\n% \xc8\n#! 2;\
+        % \xc8\nX = 1#! 1;\
+        % a\n% b\n\n %\xc8 c\nX = 1#! 4;\
+        \n'a#! 2;\
+        \n\nX = 'a\n'#! 3;\
+        \nX = 1\x0c#! 2;\
+        \n.#! 2;\
+    ";
+    assert_eq!(rt; right(&rt, Kind::Goal, cases)?, 24);
     Ok(())
 }
 
 #[test]
 fn names_up_to_63_bytes(rt: HostRuntime) -> Result<(), Fail> {
-    for (count, is_goal) in [(62, true), (63, false)] {
-        let bare = nested(&rt, b"m:p", count, (b"q", b"", b""))?;
-        assert!(rt; is_read(&rt, bare.as_slice(), is_goal)?, "a bare name");
-        let quoted = nested(&rt, b"m:'X", count, (b" ", b"'", b""))?;
-        assert!(rt;
-            is_read(&rt, quoted.as_slice(), is_goal)?,
-            "a name in quotes"
-        );
-        let doubled = nested(&rt, b"m:'X", count, (b"''", b"'", b""))?;
-        assert!(rt;
-            is_read(&rt, doubled.as_slice(), is_goal)?,
-            "a name of quotes"
-        );
-        let first = nested(&rt, b"q", count, (b"q", b":p(a)", b""))?;
-        assert!(rt;
-            is_read(&rt, first.as_slice(), is_goal)?,
-            "the name of a module"
-        );
-        let variable = nested(&rt, b"X", count, (b"y", b"=1", b""))?;
-        let wanted: &[u8] = if is_goal { b"'='(_1,1)" } else { b"! 1" };
-        assert!(rt; is_answer(&rt, variable.as_slice(), wanted)?, "a variable");
-    }
+    let cases = b"\
+        m:p{62 q}#m:p{62 q};\
+        m:'X{62  }'#m:'X{62  }';\
+        m:'X{62 ''}'#m:'X{62 ''}';\
+        q{62 q}:p(a)#q{62 q}:p(a);\
+        X{62 y}=1#'='(_1,1);\
+        m:p{63 q}#! 1;\
+        m:'X{63  }'#! 1;\
+        m:'X{63 ''}'#! 1;\
+        q{63 q}:p(a)#! 1;\
+        X{63 y}=1#! 1;\
+    ";
+    assert_eq!(rt; right(&rt, Kind::Goal, cases)?, 10);
     Ok(())
 }
 
 #[test]
 fn arguments_up_to_8(rt: HostRuntime) -> Result<(), Fail> {
-    assert!(rt; is_read(&rt, b"m:p(1,2,3,4,5,6,7,8)", true)?, "8 arguments");
-    assert!(rt;
-        is_read(&rt, b"m:p(1,2,3,4,5,6,7,8,9)", false)?,
-        "9 arguments"
-    );
-    assert!(rt;
-        is_read(&rt, b"m:p([f(1,2,3,4,5,6,7,8)])", true)?,
-        "8 arguments within"
-    );
-    assert!(rt;
-        is_read(&rt, b"m:p([f(1,2,3,4,5,6,7,8,9)])", false)?,
-        "9 arguments within"
-    );
-    assert!(rt;
-        is_read(&rt, b"'='(_1,[1,2,3,4,5,6,7,8,9])", true)?,
-        "9 elements"
-    );
+    let cases = b"\
+        m:p(1,2,3,4,5,6,7,8)#m:p(1,2,3,4,5,6,7,8);\
+        m:p(1,2,3,4,5,6,7,8,9)#! 1;\
+        m:p([f(1,2,3,4,5,6,7,8)])#m:p([f(1,2,3,4,5,6,7,8)]);\
+        m:p([f(1,2,3,4,5,6,7,8,9)])#! 1;\
+        '='(_1,[1,2,3,4,5,6,7,8,9])#'='(_1,[1,2,3,4,5,6,7,8,9]);\
+    ";
+    assert_eq!(rt; right(&rt, Kind::Goal, cases)?, 5);
     Ok(())
 }
 
 #[test]
 fn depth_up_to_256(rt: HostRuntime) -> Result<(), Fail> {
-    for (more, is_goal) in [(0, true), (1, false)] {
-        let mut equal = nested(&rt, b"'='(_1,", 254 + more, (b"f(", b"a", b")"))?;
-        equal.push(b')')?;
-        assert!(rt; is_read(&rt, equal.as_slice(), is_goal)?, "calls behind =");
-        let mut called = nested(&rt, b"m:p(", 253 + more, (b"f(", b"a", b")"))?;
-        called.push(b')')?;
-        assert!(rt;
-            is_read(&rt, called.as_slice(), is_goal)?,
-            "calls in a goal"
-        );
-        let mut second = nested(&rt, b"m:p(", 253 + more, (b"f(1,", b"a", b")"))?;
-        second.push(b')')?;
-        assert!(rt;
-            is_read(&rt, second.as_slice(), is_goal)?,
-            "calls of two arguments"
-        );
-        let mut elements = nested(&rt, b"m:p(", 253 + more, (b"[1,", b"a", b"]"))?;
-        elements.push(b')')?;
-        assert!(rt;
-            is_read(&rt, elements.as_slice(), is_goal)?,
-            "lists in lists"
-        );
-        let mut tail = nested(&rt, b"m:[b,c|", 253 + more, (b"f(", b"a", b")"))?;
-        tail.push(b']')?;
-        assert!(rt;
-            is_read(&rt, tail.as_slice(), is_goal)?,
-            "the tail of a list"
-        );
-    }
+    let cases = b"\
+        '='(_1,{254 f(}a{254 )})#'='(_1,{254 f(}a{254 )});\
+        m:p({253 f(}a{253 )})#m:p({253 f(}a{253 )});\
+        m:p({253 f(1,}a{253 )})#m:p({253 f(1,}a{253 )});\
+        m:p({253 [1,}a{253 ]})#m:p({253 [1,}a{253 ]});\
+        m:[b,c|{253 f(}a{253 )}]#m:[b,c|{253 f(}a{253 )}];\
+        '='(_1,{255 f(}a{255 )})#! 1;\
+        m:p({254 f(}a{254 )})#! 1;\
+        m:p({254 f(1,}a{254 )})#! 1;\
+        m:p({254 [1,}a{254 ]})#! 1;\
+        m:[b,c|{254 f(}a{254 )}]#! 1;\
+    ";
+    assert_eq!(rt; right(&rt, Kind::Goal, cases)?, 10);
     Ok(())
 }
 
 #[test]
 fn long_and_deep_goals_are_read(rt: HostRuntime) -> Result<(), Fail> {
-    let flat = nested(&rt, b"m:p([", 29_999, (b"a,", b"a])", b""))?;
-    assert!(rt; is_read(&rt, flat.as_slice(), true)?, "a list of 30,000");
-    let parentheses = nested(&rt, b"X=", 20_000, (b"(", b"1", b")"))?;
-    assert!(rt;
-        is_answer(&rt, parentheses.as_slice(), b"'='(_1,1)")?,
-        "parentheses"
-    );
-    let round = nested(&rt, b"", 20_000, (b"(", b"m:p", b")"))?;
-    assert!(rt;
-        is_answer(&rt, round.as_slice(), b"m:p")?,
-        "parentheses round a goal"
-    );
-    let bars = nested(&rt, b"m:", 16_000, (b"[a|", b"b", b"]"))?;
-    let wanted = nested(&rt, b"m:[a", 15_999, (b",a", b"|b]", b""))?;
-    assert!(rt; is_answer(&rt, bars.as_slice(), wanted.as_slice())?, "bars");
-    let cells = nested(&rt, b"m:", 300, (b"'.'(a,", b"[]", b")"))?;
-    let list = nested(&rt, b"m:[a", 299, (b",a", b"]", b""))?;
-    assert!(rt; is_answer(&rt, cells.as_slice(), list.as_slice())?, "cells");
+    let cases = b"\
+        m:p([{29999 a,}a])#m:p([{29999 a,}a]);\
+        X={20000 (}1{20000 )}#'='(_1,1);\
+        {20000 (}m:p{20000 )}#m:p;\
+    ";
+    assert_eq!(rt; right(&rt, Kind::Goal, cases)?, 3);
+    Ok(())
+}
+
+#[test]
+fn long_lists_in_other_spellings(rt: HostRuntime) -> Result<(), Fail> {
+    let cases = b"\
+        m:{16000 [a|}b{16000 ]}#m:[a{15999 ,a}|b];\
+        m:{300 '.'(a,}[]{300 )}#m:[a{299 ,a}];\
+    ";
+    assert_eq!(rt; right(&rt, Kind::Goal, cases)?, 2);
     Ok(())
 }
 
 #[test]
 fn hostile_goals_are_refused(rt: HostRuntime) -> Result<(), Fail> {
-    let open = nested(&rt, b"", 60_000, (b"(", b"", b""))?;
-    assert!(rt; is_read(&rt, open.as_slice(), false)?, "open parentheses");
-    let calls = nested(&rt, b"m:", 20_000, (b"f(", b"a", b")"))?;
-    assert!(rt; is_read(&rt, calls.as_slice(), false)?, "nested calls");
-    let lists = nested(&rt, b"m:", 20_000, (b"[", b"a", b"]"))?;
-    assert!(rt; is_read(&rt, lists.as_slice(), false)?, "nested lists");
-    let quotes = nested(&rt, b"", 60_000, (b"'", b"", b""))?;
-    assert!(rt; is_read(&rt, quotes.as_slice(), false)?, "quotes");
-    let odd = nested(&rt, b"'", 60_000, (b"'", b"", b""))?;
-    assert!(rt;
-        is_read(&rt, odd.as_slice(), false)?,
-        "quotes without an end"
-    );
-    let comment = nested(&rt, b"", 65_000, (b"%", b"", b""))?;
-    assert!(rt; is_read(&rt, comment.as_slice(), false)?, "a comment");
-    let bars = nested(&rt, b"m:", 21_000, (b"[a|", b"", b""))?;
-    assert!(rt; is_read(&rt, bars.as_slice(), false)?, "open lists");
-    let lines = nested(&rt, b"", 65_000, (b"\n", b"p", b""))?;
-    assert!(rt; is_answer(&rt, lines.as_slice(), b"! 65001")?, "lines");
+    let cases = b"\
+        {60000 (}#! 1;\
+        m:{20000 f(}a{20000 )}#! 1;\
+        m:{20000 [}a{20000 ]}#! 1;\
+        {60000 '}#! 1;\
+        '{60000 '}#! 1;\
+        {65000 %}#! 1;\
+        m:{21000 [a|}#! 1;\
+        {65000 \n}p#! 65001;\
+    ";
+    assert_eq!(rt; right(&rt, Kind::Goal, cases)?, 8);
     Ok(())
 }

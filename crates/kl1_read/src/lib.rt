@@ -1,9 +1,13 @@
 //! Texts as modules and goals: what a text means, or the line of its first bad item.
 #![tactic(auto)]
 
+#[cfg(test)]
+mod answers;
 mod begun;
 mod body;
 mod bytes;
+#[cfg(test)]
+mod cases;
 mod clause;
 mod clause_parts;
 mod clause_terms;

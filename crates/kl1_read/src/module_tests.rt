@@ -1,327 +1,194 @@
 // Modules that the language's rules allow and refuse, with their exact clauses or lines.
 
-use crate::{ClauseParts, ReadFault, Source, read_module};
-use kl1_term::{Term, print_whole};
-use kl1_text::put_atom;
+use crate::answers::Kind;
+use crate::cases::right;
 use std::test::Fail;
-
-/// Puts the prints of terms behind the bytes, with commas between them.
-fn put_terms(rt: &HostRuntime, out: &mut Vec<u8>, terms: &[Term]) -> Result<(), Fail> {
-    let mut is_first = true;
-    for term in terms {
-        if !is_first {
-            out.push(b',')?;
-        }
-        is_first = false;
-        out.extend_from_slice(print_whole(rt.alloc(), term)?.as_slice())?;
-    }
-    Ok(())
-}
-
-/// Puts a clause behind the bytes: its head, `:-`, its tests, `|` and its goals.
-fn put_clause(rt: &HostRuntime, out: &mut Vec<u8>, clause: &ClauseParts) -> Result<(), Fail> {
-    put_atom(out, &clause.name)?;
-    if !clause.patterns.is_empty() {
-        out.push(b'(')?;
-        put_terms(rt, out, clause.patterns.as_slice())?;
-        out.push(b')')?;
-    }
-    out.extend_from_slice(b":-")?;
-    put_terms(rt, out, clause.tests.as_slice())?;
-    out.push(b'|')?;
-    put_terms(rt, out, clause.body.as_slice())
-}
-
-/// The name of a module and its clauses, each behind a space.
-fn printed(rt: &HostRuntime, module: &Source) -> Result<Vec<u8>, Fail> {
-    let mut out = Vec::new(rt.alloc());
-    put_atom(&mut out, &module.name)?;
-    for clause in &module.clauses {
-        out.push(b' ')?;
-        put_clause(rt, &mut out, clause)?;
-    }
-    Ok(out)
-}
-
-/// What becomes of a text: the print of its module, or `! ` with the line of its fault. No print begins so.
-fn answer_of(rt: &HostRuntime, text: &[u8]) -> Result<Vec<u8>, Fail> {
-    match read_module(rt.alloc(), text) {
-        Ok(module) => printed(rt, &module),
-        Err(ReadFault::Bad { line }) => Ok(format!(in rt.alloc(); "! {line}")?.into_bytes()),
-        Err(ReadFault::Memory) => Err(Fail::from("no memory")),
-    }
-}
-
-/// Whether a text has this answer.
-fn is_answer(rt: &HostRuntime, text: &[u8], wanted: &[u8]) -> Result<bool, Fail> {
-    Ok(answer_of(rt, text)?.as_slice() == wanted)
-}
-
-/// Whether the module `e` with these items from line 2 on has this answer.
-fn is_read(rt: &HostRuntime, items: &[u8], wanted: &[u8]) -> Result<bool, Fail> {
-    let mut text = Vec::from_slice(rt.alloc(), b":- module e.\n")?;
-    text.extend_from_slice(items)?;
-    is_answer(rt, text.as_slice(), wanted)
-}
-
-/// The number of clauses of the module `e` with these items from line 2 on, or the line of the first bad item.
-pub(crate) fn outcome_of(rt: &HostRuntime, items: &[u8]) -> Result<Result<usize, u64>, Fail> {
-    let mut text = Vec::from_slice(rt.alloc(), b":- module e.\n")?;
-    text.extend_from_slice(items)?;
-    match read_module(rt.alloc(), text.as_slice()) {
-        Ok(module) => Ok(Ok(module.clauses.len())),
-        Err(ReadFault::Bad { line }) => Ok(Err(line)),
-        Err(ReadFault::Memory) => Err(Fail::from("no memory")),
-    }
-}
-
-/// Bytes with `front`, `before` so many times, `middle`, `behind` so many times, and `end`.
-pub(crate) fn nested(
-    rt: &HostRuntime,
-    ends: (&[u8], &[u8]),
-    count: usize,
-    parts: (&[u8], &[u8], &[u8]),
-) -> Result<Vec<u8>, Fail> {
-    let (front, end) = ends;
-    let (before, middle, behind) = parts;
-    let mut text = Vec::from_slice(rt.alloc(), front)?;
-    for _turn in 0..count {
-        text.extend_from_slice(before)?;
-    }
-    text.extend_from_slice(middle)?;
-    for _turn in 0..count {
-        text.extend_from_slice(behind)?;
-    }
-    text.extend_from_slice(end)?;
-    Ok(text)
-}
 
 #[test]
 fn modules_of_the_language(rt: HostRuntime) -> Result<(), Fail> {
-    let rows: [(&[u8], &[u8]); 6] = [
-        (b":- module e.", b"e"),
-        (
-            b":- module app.\napp([],Y,Z) :- true | Z = Y.\napp([A|X],Y,Z) :- true | Z = [A|W], app(X,Y,W).\n",
-            b"app app([],_1,_2):-true|'='(_2,_1) app([_1|_2],_3,_4):-true|'='(_4,[_1|_5]),app:app(_2,_3,_5)",
-        ),
-        (
-            b":- module k.\ng :- true | h(a), h(b).\nh(X) :- true | true.\n",
-            b"k g:-true|k:h(a),k:h(b) h(_1):-true|true",
-        ),
-        (b":- module t.\nq(a,b).", b"t q(a,b):-|true"),
-        (b":- module z.\np(X) :- Y > 0 | true.", b"! 2"),
-        (
-            b":- module o.\np(a,R) :- true | R = 1.\notherwise.\np(X,R) :- true | R = 2.\n",
-            b"! 3",
-        ),
-    ];
-    for (text, wanted) in rows {
-        assert!(rt; is_answer(&rt, text, wanted)?, "at {text:?}");
-    }
+    let cases = b"\
+        :- module e.#e;\
+        :- module app.\napp([],Y,Z) :- true | Z = Y.\napp([A|X],Y,Z) :- true | Z = [A|W], app(X,Y,W).\n#app app([],_1,_2):-true|'='(_2,_1) app([_1|_2],_3,_4):-true|'='(_4,[_1|_5]),app:app(_2,_3,_5);\
+        :- module k.\ng :- true | h(a), h(b).\nh(X) :- true | true.\n#k g:-true|k:h(a),k:h(b) h(_1):-true|true;\
+        :- module t.\nq(a,b).#t q(a,b):-|true;\
+        :- module z.\np(X) :- Y > 0 | true.#! 2;\
+        :- module o.\np(a,R) :- true | R = 1.\notherwise.\np(X,R) :- true | R = 2.\n#! 3;\
+    ";
+    assert_eq!(rt; right(&rt, Kind::Module, cases)?, 6);
     Ok(())
 }
 
 #[test]
 fn lines_of_a_module(rt: HostRuntime) -> Result<(), Fail> {
-    let rows: [(&[u8], &[u8]); 20] = [
-        (b":- 'module' e.", b"e"),
-        (b":- module '[]'.", b"[]"),
-        (b":- module mod.", b"mod"),
-        (b":- module 'a b'.", b"'a b'"),
-        (b":- module ''.", b"''"),
-        (b":-module e.% c", b"e"),
-        (b"% c\n:-\nmodule\ne\n.\n", b"e"),
-        (b":- module [].", b"! 1"),
-        (b":- module shoen.", b"! 1"),
-        (b":- module 'shoen'.", b"! 1"),
-        (b"\n\n:- module shoen.", b"! 3"),
-        (b":- module E.", b"! 1"),
-        (b":- module 1.", b"! 1"),
-        (b":- module e f.", b"! 1"),
-        (b":- module e(a).", b"! 1"),
-        (b":- module.", b"! 1"),
-        (b":- modules e.", b"! 1"),
-        (b"module e.", b"! 1"),
-        (b":- module e", b"! 1"),
-        (b"p.\n:- module e.", b"! 1"),
-    ];
-    for (text, wanted) in rows {
-        assert!(rt; is_answer(&rt, text, wanted)?, "at {text:?}");
-    }
+    let cases = b"\
+        :- 'module' e.#e;\
+        :- module '[]'.#[];\
+        :- module mod.#mod;\
+        :- module 'a b'.#'a b';\
+        :- module ''.#'';\
+        :-module e.% c#e;\
+        % c\n:-\nmodule\ne\n.\n#e;\
+        :- module [].#! 1;\
+        :- module shoen.#! 1;\
+        :- module 'shoen'.#! 1;\
+        \n\n:- module shoen.#! 3;\
+        :- module E.#! 1;\
+        :- module 1.#! 1;\
+        :- module e f.#! 1;\
+        :- module e(a).#! 1;\
+        :- module.#! 1;\
+        :- modules e.#! 1;\
+        module e.#! 1;\
+        :- module e#! 1;\
+        p.\n:- module e.#! 1;\
+    ";
+    assert_eq!(rt; right(&rt, Kind::Module, cases)?, 20);
     Ok(())
 }
 
 #[test]
 fn lines_of_bad_items(rt: HostRuntime) -> Result<(), Fail> {
-    let rows: [(&[u8], &[u8]); 20] = [
-        (b"", b"! 1"),
-        (b"% c\n\n% d", b"! 1"),
-        (b":- module e.\r\np.\r\nq(X,X).\r\n", b"! 3"),
-        (b":- module e.\rp(X,X).", b"! 1"),
-        (b":- module e.\n:- module e.", b"! 2"),
-        (b":- module e. % \xc8", b"! 1"),
-        (b":- module e. % c\n% \xc8\np.", b"! 2"),
-        (b":- module e.\np(a, % \xc8\nb).", b"! 2"),
-        (b":- module e.\n\np(\xc8).", b"! 3"),
-        (b":- module e.\n\xc8\np.", b"! 2"),
-        (b":- module e.\np.q.", b"! 2"),
-        (b":- module e.\np.\n\n'a\n'.", b"! 4"),
-        (b":- module e.\n\np(\na\n", b"! 3"),
-        (b":- module e.\n\n%\n p\n:-\nX.\n", b"! 4"),
-        (b":- module e.\nX.\nY.\np.q", b"! 2"),
-        (b":- module e.\np.\nX.\n\xc8", b"! 3"),
-        (b":- module e.\np(a)\n.\nq(\n.\n", b"! 4"),
-        (b":- module e. p. q. X.\n", b"! 1"),
-        (b":- module e.\np. q.\n.\n", b"! 3"),
-        (
-            b":- module n.\nw(0) :- true | true, true.\nw(N) :- N > 0 | M := N - 1, w(M).\n",
-            b"! 3",
-        ),
-    ];
-    for (text, wanted) in rows {
-        assert!(rt; is_answer(&rt, text, wanted)?, "at {text:?}");
-    }
+    let cases = b"\
+        #! 1;\
+        % c\n\n% d#! 1;\
+        :- module e.\r\np.\r\nq(X,X).\r\n#! 3;\
+        :- module e.\rp(X,X).#! 1;\
+        :- module e.\n:- module e.#! 2;\
+        :- module e. % \xc8#! 1;\
+        :- module e. % c\n% \xc8\np.#! 2;\
+        :- module e.\np(a, % \xc8\nb).#! 2;\
+        :- module e.\n\np(\xc8).#! 3;\
+        :- module e.\n\xc8\np.#! 2;\
+        :- module e.\np.q.#! 2;\
+        :- module e.\np.\n\n'a\n'.#! 4;\
+        :- module e.\n\np(\na\n#! 3;\
+        :- module e.\n\n%\n p\n:-\nX.\n#! 4;\
+        :- module e.\nX.\nY.\np.q#! 2;\
+        :- module e.\np.\nX.\n\xc8#! 3;\
+        :- module e.\np(a)\n.\nq(\n.\n#! 4;\
+        :- module e. p. q. X.\n#! 1;\
+        :- module e.\np. q.\n.\n#! 3;\
+        :- module n.\nw(0) :- true | true, true.\nw(N) :- N > 0 | M := N - 1, w(M).\n#! 3;\
+    ";
+    assert_eq!(rt; right(&rt, Kind::Module, cases)?, 20);
     Ok(())
 }
 
 #[test]
 fn heads_that_are_allowed(rt: HostRuntime) -> Result<(), Fail> {
-    let rows: [(&[u8], &[u8]); 12] = [
-        (b"p.", b"e p:-|true"),
-        (b"'p'(_,_).", b"e p(_1,_2):-|true"),
-        (b"'a b'.", b"e 'a b':-|true"),
-        (b"p(X,f(Y,[Z|_])).", b"e p(_1,f(_2,[_3|_4])):-|true"),
-        (b"p((a),[a,b|c],-1,'[]').", b"e p(a,[a,b|c],-1,[]):-|true"),
-        (b"p(a=b,a:b).", b"e p('='(a,b),a:b):-|true"),
-        (b"true(X).", b"e true(_1):-|true"),
-        (b"otherwise(X).", b"e otherwise(_1):-|true"),
-        (b"wait.", b"e wait:-|true"),
-        (b"atom_from.", b"e atom_from:-|true"),
-        (b"atom_from(X).", b"e atom_from(_1):-|true"),
-        (b"p(1,2,3,4,5,6,7,8).", b"e p(1,2,3,4,5,6,7,8):-|true"),
-    ];
-    for (items, wanted) in rows {
-        assert!(rt; is_read(&rt, items, wanted)?, "at {items:?}");
-    }
+    let cases = b"\
+        p.#e p:-|true;\
+        'p'(_,_).#e p(_1,_2):-|true;\
+        'a b'.#e 'a b':-|true;\
+        p(X,f(Y,[Z|_])).#e p(_1,f(_2,[_3|_4])):-|true;\
+        p((a),[a,b|c],-1,'[]').#e p(a,[a,b|c],-1,[]):-|true;\
+        p(a=b,a:b).#e p('='(a,b),a:b):-|true;\
+        true(X).#e true(_1):-|true;\
+        otherwise(X).#e otherwise(_1):-|true;\
+        wait.#e wait:-|true;\
+        atom_from.#e atom_from:-|true;\
+        atom_from(X).#e atom_from(_1):-|true;\
+        p(1,2,3,4,5,6,7,8).#e p(1,2,3,4,5,6,7,8):-|true;\
+    ";
+    assert_eq!(rt; right(&rt, Kind::Items, cases)?, 12);
     Ok(())
 }
 
 #[test]
 fn heads_that_are_refused(rt: HostRuntime) -> Result<(), Fail> {
-    let rows: [&[u8]; 27] = [
-        b"p(1,2,3,4,5,6,7,8,9).",
-        b"p(X,X).",
-        b"p(X,f(a,X)).",
-        b"p([X|X]).",
-        b"p(_,X,_,[Y,X]).",
-        b"true.",
-        b"'true'.",
-        b"otherwise.",
-        b"'otherwise'.",
-        b"atom_from(A,B).",
-        b"'='(a,b).",
-        b"a = b.",
-        b"':'(a,b).",
-        b"m:p.",
-        b"'.'(a,b).",
-        b"[a].",
-        b"[].",
-        b"'[]'.",
-        b"'[]'(a).",
-        b"mod(1).",
-        b"'+'.",
-        b"X.",
-        b"1.",
-        b"(p).",
-        b"p (a).",
-        b"p().",
-        b"p@priority(1).",
-    ];
-    for items in rows {
-        assert!(rt; is_read(&rt, items, b"! 2")?, "at {items:?}");
-    }
+    let cases = b"\
+        p(1,2,3,4,5,6,7,8,9).#! 2;\
+        p(X,X).#! 2;\
+        p(X,f(a,X)).#! 2;\
+        p([X|X]).#! 2;\
+        p(_,X,_,[Y,X]).#! 2;\
+        true.#! 2;\
+        'true'.#! 2;\
+        otherwise.#! 2;\
+        'otherwise'.#! 2;\
+        atom_from(A,B).#! 2;\
+        '='(a,b).#! 2;\
+        a = b.#! 2;\
+        ':'(a,b).#! 2;\
+        m:p.#! 2;\
+        '.'(a,b).#! 2;\
+        [a].#! 2;\
+        [].#! 2;\
+        '[]'.#! 2;\
+        '[]'(a).#! 2;\
+        mod(1).#! 2;\
+        '+'.#! 2;\
+        X.#! 2;\
+        1.#! 2;\
+        (p).#! 2;\
+        p (a).#! 2;\
+        p().#! 2;\
+        p@priority(1).#! 2;\
+    ";
+    assert_eq!(rt; right(&rt, Kind::Items, cases)?, 27);
     Ok(())
 }
 
 #[test]
 fn guards_and_bodies_that_are_allowed(rt: HostRuntime) -> Result<(), Fail> {
-    let rows: [(&[u8], &[u8]); 16] = [
-        (b"p :- true.", b"e p:-|true"),
-        (b"p :- q.", b"e p:-|e:q"),
-        (b"p :- true | q.", b"e p:-true|e:q"),
-        (
-            b"p :- true, 'true', (true) | q, r(X).",
-            b"e p:-true,true,true|e:q,e:r(_1)",
-        ),
-        (b"p(X) :- q(Y,X,_).", b"e p(_1):-|e:q(_2,_1,_3)"),
-        (b"p :- X = 1, m:r(X).", b"e p:-|'='(_1,1),m:r(_1)"),
-        (b"p :- (q), (m:q).", b"e p:-|e:q,m:q"),
-        (b"p :- m:[], m:true, e:p.", b"e p:-|m:[],m:true,e:p"),
-        (
-            b"p :- true(X), atom_from(X), wait.",
-            b"e p:-|e:true(_1),e:atom_from(_1),e:wait",
-        ),
-        (b"p :- m:atom_from(A,B).", b"e p:-|m:atom_from(_1,_2)"),
-        (
-            b"p :- shoen:execute(1,2,3,4,5).",
-            b"e p:-|shoen:execute(1,2,3,4,5)",
-        ),
-        (
-            b"p :- m:execute(1,2,3,4,5,6).",
-            b"e p:-|m:execute(1,2,3,4,5,6)",
-        ),
-        (b"p :- q(1,2,3,4,5,6,7,8).", b"e p:-|e:q(1,2,3,4,5,6,7,8)"),
-        (
-            b"p. p :- q. p(a). p(b) :- true | p.",
-            b"e p:-|true p:-|e:q p(a):-|true p(b):-true|e:p",
-        ),
-        (b"p:-true|true.%c\nq.", b"e p:-true|true q:-|true"),
-        (b"p :- X = X.", b"e p:-|'='(_1,_1)"),
-    ];
-    for (items, wanted) in rows {
-        assert!(rt; is_read(&rt, items, wanted)?, "at {items:?}");
-    }
+    let cases = b"\
+        p :- true.#e p:-|true;\
+        p :- q.#e p:-|e:q;\
+        p :- true | q.#e p:-true|e:q;\
+        p :- true, 'true', (true) | q, r(X).#e p:-true,true,true|e:q,e:r(_1);\
+        p(X) :- q(Y,X,_).#e p(_1):-|e:q(_2,_1,_3);\
+        p :- X = 1, m:r(X).#e p:-|'='(_1,1),m:r(_1);\
+        p :- (q), (m:q).#e p:-|e:q,m:q;\
+        p :- m:[], m:true, e:p.#e p:-|m:[],m:true,e:p;\
+        p :- true(X), atom_from(X), wait.#e p:-|e:true(_1),e:atom_from(_1),e:wait;\
+        p :- m:atom_from(A,B).#e p:-|m:atom_from(_1,_2);\
+        p :- shoen:execute(1,2,3,4,5).#e p:-|shoen:execute(1,2,3,4,5);\
+        p :- m:execute(1,2,3,4,5,6).#e p:-|m:execute(1,2,3,4,5,6);\
+        p :- q(1,2,3,4,5,6,7,8).#e p:-|e:q(1,2,3,4,5,6,7,8);\
+        p. p :- q. p(a). p(b) :- true | p.#e p:-|true p:-|e:q p(a):-|true p(b):-true|e:p;\
+        p:-true|true.%c\nq.#e p:-true|true q:-|true;\
+        p :- X = X.#e p:-|'='(_1,_1);\
+    ";
+    assert_eq!(rt; right(&rt, Kind::Items, cases)?, 16);
     Ok(())
 }
 
 #[test]
 fn guards_and_bodies_that_are_refused(rt: HostRuntime) -> Result<(), Fail> {
-    let rows: [&[u8]; 32] = [
-        b"p :- q | true.",
-        b"p :- X = 1 | true.",
-        b"p :- wait(X) | true.",
-        b"p :- true(X) | true.",
-        b"p :- otherwise | true.",
-        b"p :- | true.",
-        b"p :- true |.",
-        b"p :- true | true | true.",
-        b"p :- (true | true).",
-        b"p :- .",
-        b"p :- q,.",
-        b"p :- q r.",
-        b"p :- q :- r.",
-        b"p q.",
-        b"p :- otherwise.",
-        b"p :- X.",
-        b"p :- 1.",
-        b"p :- [].",
-        b"p :- [a].",
-        b"p :- mod(1).",
-        b"p :- '='(1).",
-        b"p :- X := 1.",
-        b"p :- X = 1 + 2.",
-        b"p :- X > 0.",
-        b"p :- X:q.",
-        b"p :- m:X.",
-        b"p :- m:1.",
-        b"p :- atom_from(A,B).",
-        b"p :- shoen:execute(1,2,3,4,5,6).",
-        b"p :- q@priority(1).",
-        b"p :- true | q, r@priority(9).",
-        b"p :- q(1,2,3,4,5,6,7,8,9).",
-    ];
-    for items in rows {
-        assert!(rt; is_read(&rt, items, b"! 2")?, "at {items:?}");
-    }
+    let cases = b"\
+        p :- q | true.#! 2;\
+        p :- X = 1 | true.#! 2;\
+        p :- wait(X) | true.#! 2;\
+        p :- true(X) | true.#! 2;\
+        p :- otherwise | true.#! 2;\
+        p :- | true.#! 2;\
+        p :- true |.#! 2;\
+        p :- true | true | true.#! 2;\
+        p :- (true | true).#! 2;\
+        p :- .#! 2;\
+        p :- q,.#! 2;\
+        p :- q r.#! 2;\
+        p :- q :- r.#! 2;\
+        p q.#! 2;\
+        p :- otherwise.#! 2;\
+        p :- X.#! 2;\
+        p :- 1.#! 2;\
+        p :- [].#! 2;\
+        p :- [a].#! 2;\
+        p :- mod(1).#! 2;\
+        p :- '='(1).#! 2;\
+        p :- X := 1.#! 2;\
+        p :- X = 1 + 2.#! 2;\
+        p :- X > 0.#! 2;\
+        p :- X:q.#! 2;\
+        p :- m:X.#! 2;\
+        p :- m:1.#! 2;\
+        p :- atom_from(A,B).#! 2;\
+        p :- shoen:execute(1,2,3,4,5,6).#! 2;\
+        p :- q@priority(1).#! 2;\
+        p :- true | q, r@priority(9).#! 2;\
+        p :- q(1,2,3,4,5,6,7,8,9).#! 2;\
+    ";
+    assert_eq!(rt; right(&rt, Kind::Items, cases)?, 32);
     Ok(())
 }
