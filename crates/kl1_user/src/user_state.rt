@@ -230,3 +230,6 @@ impl UserState {
         }
     }
 }
+
+#[cfg(test)]
+pub(crate) mod inside;
