@@ -71,7 +71,7 @@ made_opens goal old mid last allowance low high cell some f g =
       term = term;
       kept = λ x i. means_two mid x ∙ g.kept x i;
       shoen_is = λ s e.
-        shoens_same s allowance low high (last + 1) (suc s.last_shoen) (meaning (two_more mid) cell) (with_next_variables (old.variables - 1) goal)
+          shoens_same s allowance low high (last + 1) (suc s.last_shoen) (meaning (two_more mid) cell) (with_next_variables (old.variables - 1) goal)
           (meaning (two_more mid) (Variable mid.variables)) (meaning (two_more mid) (Variable (mid.variables + 1)))
           (variable (suc ((old.variables - 1) + highest goal))) (variable (suc (suc ((old.variables - 1) + highest goal))))
           (omega arith) term (beyond mid mid.variables f (omega arith) ∙ ap variable a) (beyond mid (mid.variables + 1) f (omega arith) ∙ ap variable b);

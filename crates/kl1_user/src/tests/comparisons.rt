@@ -33,7 +33,9 @@ fn expect_sight(
     };
     assert_eq!(rt; first, plain.first()?);
     assert_eq!(rt; user.quiet(), first.is_none());
-    let (goal, reports) = plain.texts(shoen.saturating_sub(1) as usize)?.ok_or("no shoen")?;
+    let (goal, reports) = plain
+        .texts(shoen.saturating_sub(1) as usize)?
+        .ok_or("no shoen")?;
     let reply = user.apply(&Event::Read(Query::Value(ShoenNo(shoen))))?;
     expect_reply(rt, &reply, &Reply::Shown(goal))?;
     let stream = stream_of(rt, user, shoen)?;
@@ -79,11 +81,7 @@ fn expect_step(
 }
 
 /// Checks that two accounts go alike by first steps.
-fn expect_run(
-    rt: &(impl Abort + AllocGlobal),
-    source: &str,
-    goals: &[&str],
-) -> Result<(), Fail> {
+fn expect_run(rt: &(impl Abort + AllocGlobal), source: &str, goals: &[&str]) -> Result<(), Fail> {
     let mut user = fresh(rt.alloc())?;
     let mut plain = Plain::fresh(rt.alloc());
     expect_starts(rt, &mut user, &mut plain, source, goals)?;
@@ -101,11 +99,7 @@ fn expect_run(
 }
 
 /// Checks that two accounts answer all named reductions of small numbers alike, the greater numbers of clauses first.
-fn expect_named(
-    rt: &(impl Abort + AllocGlobal),
-    source: &str,
-    goals: &[&str],
-) -> Result<(), Fail> {
+fn expect_named(rt: &(impl Abort + AllocGlobal), source: &str, goals: &[&str]) -> Result<(), Fail> {
     let mut user = fresh(rt.alloc())?;
     let mut plain = Plain::fresh(rt.alloc());
     expect_starts(rt, &mut user, &mut plain, source, goals)?;
@@ -129,7 +123,10 @@ fn appends(rt: HostRuntime) -> Result<(), Fail> {
 
 #[test]
 fn streams(rt: HostRuntime) -> Result<(), Fail> {
-    let goals = ["stream:both([1,f(X,Y),X],Sum)", "stream:take([item(A),b],S)"];
+    let goals = [
+        "stream:both([1,f(X,Y),X],Sum)",
+        "stream:take([item(A),b],S)",
+    ];
     expect_run(&rt, STREAM, &goals)?;
     expect_named(&rt, STREAM, &goals)
 }
@@ -157,7 +154,19 @@ fn structures_in_structures(rt: HostRuntime) -> Result<(), Fail> {
 
 #[test]
 fn unifications_of_all_kinds(rt: HostRuntime) -> Result<(), Fail> {
-    expect_run(&rt, FACT, &["f(X,Y,Z) = f(Y,Z,X)", "X = f(X)", "f(X,a) = f(1,b)"])?;
-    expect_run(&rt, FACT, &["f(X,g(X),Y) = f(Z,Y,g(Z))", "f(A,B) = f(g(B),g(A))"])?;
-    expect_run(&rt, FACT, &["[1,2|X] = [Y,Y|Z]", "f(X,Y,X) = f(Y,X,1)", "f(a) = f(a,b)"])
+    expect_run(
+        &rt,
+        FACT,
+        &["f(X,Y,Z) = f(Y,Z,X)", "X = f(X)", "f(X,a) = f(1,b)"],
+    )?;
+    expect_run(
+        &rt,
+        FACT,
+        &["f(X,g(X),Y) = f(Z,Y,g(Z))", "f(A,B) = f(g(B),g(A))"],
+    )?;
+    expect_run(
+        &rt,
+        FACT,
+        &["[1,2|X] = [Y,Y|Z]", "f(X,Y,X) = f(Y,X,1)", "f(a) = f(a,b)"],
+    )
 }

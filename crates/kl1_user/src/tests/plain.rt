@@ -252,8 +252,7 @@ impl Plain {
             let is_first = match best {
                 None => true,
                 Some((priority, number, _clause)) => {
-                    goal.priority > priority
-                        || (goal.priority == priority && goal.number < number)
+                    goal.priority > priority || (goal.priority == priority && goal.number < number)
                 }
             };
             if is_first {
@@ -421,7 +420,10 @@ impl Plain {
             return Ok(Reply::Refused(Refusal::Syntax));
         }
         let row = instance(self.alloc, goal.nodes(), 0, &[], self.last_variable)?;
-        let control = self.last_variable.saturating_add(goal.highest()).saturating_add(1);
+        let control = self
+            .last_variable
+            .saturating_add(goal.highest())
+            .saturating_add(1);
         self.last_variable = control.saturating_add(1);
         let tail = one(self.alloc, Node::Variable(self.last_variable))?;
         self.shoens.push(PlainShoen {

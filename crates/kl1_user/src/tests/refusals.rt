@@ -157,7 +157,10 @@ fn a_bad_source_is_told_by_its_line(rt: HostRuntime) -> Result<(), Fail> {
         &rt,
         &[
             (Act::Load(""), "- 2 source 1"),
-            (Act::Load(":- module z.\np(X) :- Y > 0 | true.\n"), "- 2 source 2"),
+            (
+                Act::Load(":- module z.\np(X) :- Y > 0 | true.\n"),
+                "- 2 source 2",
+            ),
             (Act::Load(":- module z.\n"), "+ loaded z"),
         ],
     )

@@ -29,7 +29,10 @@ fn a_failure_is_reported_and_ends_its_shoen(rt: HostRuntime) -> Result<(), Fail>
             (Act::Start("t:q(X,c)"), "+ shoen 1"),
             (Act::Stream(1), "+ [started|_4]"),
             (Act::Run(10), "+ 1"),
-            (Act::Stream(1), "+ [started,exception(failure,t:q(_1,c)),terminated]"),
+            (
+                Act::Stream(1),
+                "+ [started,exception(failure,t:q(_1,c)),terminated]",
+            ),
         ],
     )
 }
@@ -59,9 +62,18 @@ fn unknown_predicates_fail(rt: HostRuntime) -> Result<(), Fail> {
             (Act::Start("app:app(1)"), "+ shoen 2"),
             (Act::Start("app:true"), "+ shoen 3"),
             (Act::Run(10), "+ 3"),
-            (Act::Stream(1), "+ [started,exception(failure,app:foo(1)),terminated]"),
-            (Act::Stream(2), "+ [started,exception(failure,app:app(1)),terminated]"),
-            (Act::Stream(3), "+ [started,exception(failure,app:true),terminated]"),
+            (
+                Act::Stream(1),
+                "+ [started,exception(failure,app:foo(1)),terminated]",
+            ),
+            (
+                Act::Stream(2),
+                "+ [started,exception(failure,app:app(1)),terminated]",
+            ),
+            (
+                Act::Stream(3),
+                "+ [started,exception(failure,app:true),terminated]",
+            ),
         ],
     )
 }
@@ -74,7 +86,10 @@ fn a_goal_of_an_unknown_module_fails(rt: HostRuntime) -> Result<(), Fail> {
             (Act::Start("z:q(X)"), "+ shoen 1"),
             (Act::First, "2 by 0"),
             (Act::Run(10), "+ 1"),
-            (Act::Stream(1), "+ [started,exception(failure,z:q(_1)),terminated]"),
+            (
+                Act::Stream(1),
+                "+ [started,exception(failure,z:q(_1)),terminated]",
+            ),
         ],
     )
 }
@@ -87,9 +102,15 @@ fn reports_show_what_is_bound_later(rt: HostRuntime) -> Result<(), Fail> {
             (Act::Load(THREE_GOALS), "+ loaded t"),
             (Act::Start("t:p"), "+ shoen 1"),
             (Act::Run(3), "+ 3"),
-            (Act::Stream(1), "+ [started,exception(failure,z:q(_4)),exception(failure,'='(f(_4),g(_4)))|_6]"),
+            (
+                Act::Stream(1),
+                "+ [started,exception(failure,z:q(_4)),exception(failure,'='(f(_4),g(_4)))|_6]",
+            ),
             (Act::Run(9), "+ 1"),
-            (Act::Stream(1), "+ [started,exception(failure,z:q(1)),exception(failure,'='(f(1),g(1))),terminated]"),
+            (
+                Act::Stream(1),
+                "+ [started,exception(failure,z:q(1)),exception(failure,'='(f(1),g(1))),terminated]",
+            ),
         ],
     )
 }

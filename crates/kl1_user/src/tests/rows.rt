@@ -206,7 +206,10 @@ pub(super) fn solved(
     right: &[Node],
 ) -> Result<Option<Vec<(u64, Row)>>, AllocError> {
     let mut equations = Vec::new(alloc);
-    equations.push((Vec::from_slice(alloc, left)?, Vec::from_slice(alloc, right)?))?;
+    equations.push((
+        Vec::from_slice(alloc, left)?,
+        Vec::from_slice(alloc, right)?,
+    ))?;
     let mut found = Vec::new(alloc);
     for _ in 0..MOST_EQUATIONS {
         let Some((left, right)) = equations.pop() else {

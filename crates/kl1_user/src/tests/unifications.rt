@@ -38,7 +38,10 @@ fn no_cyclic_terms(rt: HostRuntime) -> Result<(), Fail> {
             (Act::Start("X = f(X)"), "+ shoen 1"),
             (Act::Run(10), "+ 1"),
             (Act::Value(1), "+ '='(_1,f(_1))"),
-            (Act::Stream(1), "+ [started,exception(failure,'='(_1,f(_1))),terminated]"),
+            (
+                Act::Stream(1),
+                "+ [started,exception(failure,'='(_1,f(_1))),terminated]",
+            ),
         ],
     )
 }

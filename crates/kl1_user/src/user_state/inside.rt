@@ -8,11 +8,7 @@ use std::process::Abort;
 use std::test::Fail;
 
 /// The report stream of a shoen from its beginning, printed and cut.
-pub(crate) fn stream_of(
-    rt: &impl Abort,
-    user: &UserState,
-    shoen: u64,
-) -> Result<Vec<u8>, Fail> {
+pub(crate) fn stream_of(rt: &impl Abort, user: &UserState, shoen: u64) -> Result<Vec<u8>, Fail> {
     let origin = origin_at(&user.shoens, shoen).ok_or("no shoen")?;
     assert!(rt; user.store.holds(origin.reports));
     Ok(print_cell(user.alloc, &user.store, origin.reports, MOST_SHOWN)?)
