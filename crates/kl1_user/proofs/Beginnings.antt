@@ -1,5 +1,5 @@
 -- What comes of a start.
-use Rattle.std.proofs.Common.{◌≡◌, ℕ, suc, ◌<◌, ◌≤◌, Bool, true, false, if◌then◌else◌, List, length, sym, ap, ◌∙◌, arith}
+use Rattle.std.proofs.Common.{◌≡◌, ℕ, suc, ◌<◌, ◌≤◌, Bool, true, false, if◌then◌else◌, List, length, ap, ◌∙◌}
 use Rattle.std.specs.Prelude.{nat_lt, nat_le, ◌&&◌}
 use Rattle.std.proofs.lemmas.Bool.{and_parts, lt-ltb, le-ltb}
 use Rattle.kl1_model.specs.Term.{Term}
@@ -31,9 +31,13 @@ begins_syntax h k ns ms entries allowance low high goal e f m = record { same = 
 
 pub begins_full : (h k : Held (List ℕ)) (ns ms : List (List ℕ)) (entries allowance low high : ℕ) (goal : Term) → k ≡ h → ms ≡ ns → may_start allowance low high goal ≡ true → most_entries ≤ entries →
     IsNotBegun h k ns ms entries allowance low high goal refusal.Journal
-begins_full h k ns ms entries allowance low high goal e f m le = record { same = e; used = f; steps = λ s at.
-    step_by s allowance low high goal true m
-    ∙ ap (λ z. if z then done_by s allowance low high goal else refuse s journal_full) (ap (λ n. nat_lt n most_entries) at ∙ le-ltb entries most_entries le) }
+begins_full h k ns ms entries allowance low high goal e f m le = record {
+  same = e;
+  used = f;
+  steps = λ s at.
+      step_by s allowance low high goal true m
+      ∙ ap (λ z. if z then done_by s allowance low high goal else refuse s journal_full) (ap (λ n. nat_lt n most_entries) at ∙ le-ltb entries most_entries le);
+}
 
 pub begins_on : (h k : Held (List ℕ)) (modules : List Module) (ns ms : List (List ℕ)) (goals : List Goal) (shoens : List Shoen) (last entries allowance low high : ℕ) (goal : Term) (w : Work) → may_start allowance low high goal ≡ true → entries < most_entries →
     IsStarted h k modules goals shoens last allowance low high goal w → ms ≡ with_names ns (names_of goal) → IsBegun h k modules ns ms goals shoens last entries allowance low high goal w
@@ -42,9 +46,9 @@ begins_on h k modules ns ms goals shoens last entries allowance low high goal w 
   used = u;
   room = lt;
   steps = λ s at same.
-    step_by s allowance low high goal true m
-    ∙ ap (λ z. if z then done_by s allowance low high goal else refuse s journal_full) (ap (λ n. nat_lt n most_entries) at ∙ lt-ltb entries most_entries lt)
-    ∙ ap (λ n. let z : Stepped = record { state = with_entry (start_goal s allowance low high goal); reply = opened (suc n) } in z) same;
+      step_by s allowance low high goal true m
+      ∙ ap (λ z. if z then done_by s allowance low high goal else refuse s journal_full) (ap (λ n. nat_lt n most_entries) at ∙ lt-ltb entries most_entries lt)
+      ∙ ap (λ n. let z : Stepped = record { state = with_entry (start_goal s allowance low high goal); reply = opened (suc n) } in z) same;
 }
 
 -- a goal that may be started is numbered

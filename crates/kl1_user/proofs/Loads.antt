@@ -105,9 +105,9 @@ loaded_steps u modules names goals text name d =
     let one : suc u.entries ≡ u.entries + 1 = omega arith in
     let after : State = T modules.items names.items (u.entries + 1) (map (goal_with (meaning h)) goals.items) in
     let same : with_entry (with_module (state_of u) d.m) ≡ after =
-      ap (λ x. T x (with_names u.names.items (names_of_module d.m)) (suc u.entries) gs) (sym d.modules_are)
-      ∙ (ap (λ x. T modules.items x (suc u.entries) gs) (sym d.names_are)
-      ∙ (ap (λ x. T modules.items names.items x gs) one
-      ∙ ap (λ x. T modules.items names.items (u.entries + 1) x) (sym (stood_read h modules.items u.goals.items) ∙ ap (map (goal_with (meaning h))) (sym d.goals_are)))) in
+    ap (λ x. T x (with_names u.names.items (names_of_module d.m)) (suc u.entries) gs) (sym d.modules_are)
+    ∙ (ap (λ x. T modules.items x (suc u.entries) gs) (sym d.names_are)
+    ∙ (ap (λ x. T modules.items names.items x gs) one
+    ∙ ap (λ x. T modules.items names.items (u.entries + 1) x) (sym (stood_read h modules.items u.goals.items) ∙ ap (map (goal_with (meaning h))) (sym d.goals_are)))) in
     let R : State → Stepped = λ s. record { state = s; reply = loaded name } in
     d.steps (state_of u) (record { modules_are = refl; entries_are = refl }) ∙ ap R same

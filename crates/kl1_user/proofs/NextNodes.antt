@@ -24,11 +24,12 @@ pub one_argument : {A : Type 0} (arguments : List A) (left : ℕ) (x : A) (befor
 one_argument arguments left x before stack after some within at is pushed =
     let again : left - 1 + 1 ≡ left = omega (arith, some) in
     let rest : drop (left - 1) arguments ≡ x ∷ drop left arguments =
-      drop_more arguments (left - 1) x (omega (arith, some, within)) ∙ (ap (λ y. y ∷ drop (left - 1 + 1) arguments) (found arguments (left - 1) x at) ∙ ap (λ n. x ∷ drop n arguments) again) in
+    drop_more arguments (left - 1) x (omega (arith, some, within)) ∙ (ap (λ y. y ∷ drop (left - 1 + 1) arguments) (found arguments (left - 1) x at) ∙ ap (λ n. x ∷ drop n arguments) again) in
     ap reverse pushed ∙ (reverse-append stack (x ∷ []) ∙ (ap (λ ys. x ∷ ys) is ∙ ap (λ ys. ys ++ reverse before) (sym rest)))
   where
     some-same : {A : Type 0} (x y : A) → Some x ≡ Some y → x ≡ y
     some-same x y e = cc
+
     found : {A : Type 0} (xs : List A) (i : ℕ) (x : A) → slice_get xs i ≡ Some x → get_or xs i x ≡ x
     found [] i x e = refl
     found (y ∷ xs) zero x e = some-same y x e
@@ -92,15 +93,15 @@ next_structure h x at s count name before after formed inside walked is found co
     let us = stacked_terms h before in
     let e : term_of (λ a. a) h x ≡ structure name ts = sym walked ∙ (ap (term_of (λ a. a) h) is ∙ term_of-Structure (λ a. a) h s name formed found) in
     let all : stacked_terms h after ≡ list_of ts ++ us =
-      ap (term_list (λ a. a) h) put ∙ (term_list-append h xs (reverse before) ∙ ap (λ vs. vs ++ us) (sym (list_terms h xs))) in
+    ap (term_list (λ a. a) h) put ∙ (term_list-append h xs (reverse before) ∙ ap (λ vs. vs ++ us) (sym (list_terms h xs))) in
     let many : count ≡ count_of ts = count_is ∙ sym (count_terms h xs) in
     record {
       terms =
-        ap (λ n. with_node (node.Structure name n) (stacked_terms h after)) many
-        ∙ (structure-reads name ts us (stacked_terms h after) all ∙ ap (λ t. t ∷ us) (sym e));
+          ap (λ n. with_node (node.Structure name n) (stacked_terms h after)) many
+          ∙ (structure-reads name ts us (stacked_terms h after) all ∙ ap (λ t. t ∷ us) (sym e));
       count = let l = ap length put in omega (arith, l, length-append xs (reverse before), length-reverse after, length-reverse before, count_is);
       inside = AreWithin-back h.variables (length h.structures) after (let P : List (Cell (List ℕ)) → Type 0 = λ zs. AreIn h zs in
-        subst P (sym put) (AreWithin-append h.variables (length h.structures) xs (reverse before) (arguments_in h s formed) (AreWithin-reverse h.variables (length h.structures) before inside)));
+          subst P (sym put) (AreWithin-append h.variables (length h.structures) xs (reverse before) (arguments_in h s formed) (AreWithin-reverse h.variables (length h.structures) before inside)));
       less = let w = ap weight all in let z = ap size e in omega (arith, w, z, weight-append ts us);
     }
 

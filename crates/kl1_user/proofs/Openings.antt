@@ -1,14 +1,14 @@
 -- What a start makes of a goal.
-use Rattle.std.proofs.Common.{◌≡◌, ℕ, suc, ◌+◌, ◌-◌, ◌<◌, ◌≤◌, false, List, [], refl, sym, ap, ◌∙◌, arith, subst}
+use Rattle.std.proofs.Common.{◌≡◌, ℕ, suc, ◌+◌, ◌-◌, ◌<◌, ◌≤◌, false, List, [], sym, ap, ◌∙◌, arith, subst}
 use Rattle.std.specs.Prelude.{Some}
 use Rattle.kl1_model.specs.Term.{Term, variable}
 use Rattle.kl1_model.specs.Meaning.{highest}
 use Rattle.kl1_model.specs.State as model
 use Rattle.kl1_model.specs.State.{State, living}
-use Rattle.kl1_model.specs.Opening.{started_shoen, with_next_variables}
+use Rattle.kl1_model.specs.Opening.{with_next_variables}
 use Rattle.kl1_store.specs.declared.cell.Cell.{Cell}
 use Rattle.kl1_store.specs.declared.cell.Cell.TheVariants.{Variable}
-use Rattle.kl1_store.specs.Held.{Held, IsIn, with_variable, is_bound}
+use Rattle.kl1_store.specs.Held.{Held, IsIn, with_variable}
 use Rattle.kl1_store.specs.Sound.{Grown, IsFormed}
 use Rattle.kl1_store.proofs.Grows.{Grown-variable, Grown-trans}
 use Rattle.kl1_store.proofs.Terms.{term_of-variable, term_of-unbound}
@@ -16,7 +16,7 @@ use Rattle.kl1_match.specs.Instances.{IsGoal}
 use Rattle.kl1_match.proofs.Places.{beyond_unbound}
 use Rattle.kl1_user.specs.declared.life.Life.TheVariants.{Living}
 use Rattle.kl1_user.specs.declared.shoen.Shoen.{Shoen}
-use Rattle.kl1_user.specs.Kept.{meaning, shoen_with, IsShoenIn}
+use Rattle.kl1_user.specs.Kept.{meaning}
 use Rattle.kl1_user.specs.Starts.{Opens}
 use Rattle.kl1_user.proofs.States.{in_grown}
 
@@ -71,7 +71,7 @@ made_opens goal old mid last allowance low high cell some f g =
       term = term;
       kept = λ x i. means_two mid x ∙ g.kept x i;
       shoen_is = λ s e.
-        shoens_same s allowance low high (last + 1) (suc s.last_shoen) (meaning (two_more mid) cell) (with_next_variables (old.variables - 1) goal)
+          shoens_same s allowance low high (last + 1) (suc s.last_shoen) (meaning (two_more mid) cell) (with_next_variables (old.variables - 1) goal)
           (meaning (two_more mid) (Variable mid.variables)) (meaning (two_more mid) (Variable (mid.variables + 1)))
           (variable (suc ((old.variables - 1) + highest goal))) (variable (suc (suc ((old.variables - 1) + highest goal))))
           (omega arith) term (beyond mid mid.variables f (omega arith) ∙ ap variable a) (beyond mid (mid.variables + 1) f (omega arith) ∙ ap variable b);

@@ -1,5 +1,5 @@
 -- What a start leaves.
-use Rattle.std.proofs.Common.{◌≡◌, ℕ, zero, suc, ◌+◌, ◌-◌, ◌<◌, ◌≤◌, List, [], ◌∷◌, ◌++◌, length, map, codes, Vec, Global, refl, sym, ap, ◌∙◌, arith, subst, length-append}
+use Rattle.std.proofs.Common.{◌≡◌, ℕ, suc, ◌+◌, ◌-◌, List, [], ◌∷◌, ◌++◌, length, map, codes, Vec, Global, refl, sym, ap, ◌∙◌, arith, subst, length-append}
 use Rattle.std.specs.Prelude.{slice_set}
 use Rattle.kl1_model.specs.Term.{Term, atom, variable}
 use Rattle.kl1_model.specs.Meaning.{highest}
@@ -18,7 +18,7 @@ use Rattle.kl1_user.specs.declared.shoen.Shoen.{Shoen}
 use Rattle.kl1_user.specs.declared.work.Work.{Work}
 use Rattle.kl1_user.specs.Kept.{meaning, goal_with, shoen_with, AreGoalsIn, AreOwned, AreShoensIn, AreNumbered, AreStanding, IsShoenIn}
 use Rattle.kl1_user.specs.Lists.{stood}
-use Rattle.kl1_user.specs.Works.{worked, IsWorkIn, HasPlace, Turns}
+use Rattle.kl1_user.specs.Works.{IsWorkIn, Turns}
 use Rattle.kl1_user.specs.Starts.{Opens, two_goals, IsStarted}
 use Rattle.kl1_user.proofs.States.{same_goals, same_shoens, goals_grown, shoens_grown}
 use Rattle.kl1_user.proofs.Leavings.{stood_in, stood_owned, all_stand}
@@ -100,29 +100,29 @@ start_leaves goal h mid k modules goals gs xs shoens r last second allowance low
       inside = record { some = t.inside.some; goals = subst P (sym after) (stood_in k modules v.goals.items t.inside.goals); shoen = t.inside.shoen; number = t.inside.number };
       place = there;
       owned = subst O (sym after) (stood_owned (suc (length shoens)) k modules v.goals.items
-        (t.owned (suc (length shoens)) (omega arith) (subst O (sym e) (joined_owned (length shoens) goals (two_goals last r.number high cell) o
+          (t.owned (suc (length shoens)) (omega arith) (subst O (sym e) (joined_owned (length shoens) goals (two_goals last r.number high cell) o
           (record { low = omega arith; high = omega arith }, (record { low = omega arith; high = omega arith }, tt))))));
       standing = subst D (sym after) (all_stand k modules v.goals.items);
       states = λ s same.
-        let ns = with_names s.names (names_of goal) in
-        let q : State = record s { names = ns; last_shoen = suc (length shoens) } in
-        let numbers : suc s.last_shoen ≡ r.number = omega arith in
-        let H : model.Shoen = started_shoen s allowance low high (with_next_variables (h.variables - 1) goal) (variable (suc ((h.variables - 1) + highest goal))) (variable (suc (suc ((h.variables - 1) + highest goal)))) in
-        same_reports (suc s.last_shoen) r.number (atom (codes "started")) (meaning mid (Atom a)) s.own_name
+          let ns = with_names s.names (names_of goal) in
+          let q : State = record s { names = ns; last_shoen = suc (length shoens) } in
+          let numbers : suc s.last_shoen ≡ r.number = omega arith in
+          let H : model.Shoen = started_shoen s allowance low high (with_next_variables (h.variables - 1) goal) (variable (suc ((h.variables - 1) + highest goal))) (variable (suc (suc ((h.variables - 1) + highest goal)))) in
+          same_reports (suc s.last_shoen) r.number (atom (codes "started")) (meaning mid (Atom a)) s.own_name
           (map (goal_with (meaning h)) goals ++ opening_goals last H (with_next_variables (h.variables - 1) goal)) (map (goal_with (meaning mid)) gs.items)
           (map (shoen_with (meaning h)) shoens ++ H ∷ []) (map (shoen_with (meaning mid)) (slice_set all (length shoens) r))
           s.modules ns (suc (suc ((h.variables - 1) + highest goal))) (mid.variables - 1) (suc (suc last)) second (suc s.last_shoen) (suc (length shoens)) s.entries
           numbers (sym (term_of-Atom (λ (z : List ℕ). z) mid a ∙ ap atom m))
           (ap (λ zs. zs ++ opening_goals last H (with_next_variables (h.variables - 1) goal)) (same_goals h (meaning h) (meaning mid) (λ x z. sym (p.kept x z)) goals i)
-            ∙ ap (λ zs. map (goal_with (meaning mid)) goals ++ zs) (two_read last (suc s.last_shoen) r.number high (with_next_variables (h.variables - 1) goal) (meaning mid cell) numbers (sym p.term))
-            ∙ sym (map_joined (goal_with (meaning mid)) goals (two_goals last r.number high cell)) ∙ ap (map (goal_with (meaning mid))) (sym e))
+          ∙ ap (λ zs. map (goal_with (meaning mid)) goals ++ zs) (two_read last (suc s.last_shoen) r.number high (with_next_variables (h.variables - 1) goal) (meaning mid cell) numbers (sym p.term))
+          ∙ sym (map_joined (goal_with (meaning mid)) goals (two_goals last r.number high cell)) ∙ ap (map (goal_with (meaning mid))) (sym e))
           (ap (λ zs. zs ++ H ∷ []) (same_shoens h (meaning h) (meaning mid) (λ x z. sym (p.kept x z)) shoens j)
-            ∙ ap (λ (z : model.Shoen). map (shoen_with (meaning mid)) shoens ++ z ∷ []) (sym (p.shoen_is s same))
-            ∙ sym (map_joined (shoen_with (meaning mid)) shoens (r ∷ [])) ∙ ap (map (shoen_with (meaning mid))) (sym (set_last shoens r r)))
+          ∙ ap (λ (z : model.Shoen). map (shoen_with (meaning mid)) shoens ++ z ∷ []) (sym (p.shoen_is s same))
+          ∙ sym (map_joined (shoen_with (meaning mid)) shoens (r ∷ [])) ∙ ap (map (shoen_with (meaning mid))) (sym (set_last shoens r r)))
           (sym p.variables) (sym f) (ap suc same)
-        ∙ t.states q all (record { inside = shoens_pushed mid shoens r (shoens_grown h mid g shoens j) p.shoen_in; numbered = numbered_pushed 0 shoens r n (omega arith); there = omega (arith, length-append shoens (r ∷ [])) })
-        ∙ ap (λ (zs : List model.Goal). let z : State = record q { goals = zs; shoens = map (shoen_with (meaning k)) (slice_set all v.place v.shoen); last_variable = k.variables - 1; last_goal = v.last_goal } in z)
+          ∙ t.states q all (record { inside = shoens_pushed mid shoens r (shoens_grown h mid g shoens j) p.shoen_in; numbered = numbered_pushed 0 shoens r n (omega arith); there = omega (arith, length-append shoens (r ∷ [])) })
+          ∙ ap (λ (zs : List model.Goal). let z : State = record q { goals = zs; shoens = map (shoen_with (meaning k)) (slice_set all v.place v.shoen); last_variable = k.variables - 1; last_goal = v.last_goal } in z)
           (sym (all_read k modules v.goals.items) ∙ ap (map (goal_with (meaning k))) (sym after))
-        ∙ ap (λ (zs : List Shoen). let z : State = record q { goals = map (goal_with (meaning k)) xs.items; shoens = map (shoen_with (meaning k)) zs; last_variable = k.variables - 1; last_goal = v.last_goal } in z)
+          ∙ ap (λ (zs : List Shoen). let z : State = record q { goals = map (goal_with (meaning k)) xs.items; shoens = map (shoen_with (meaning k)) zs; last_variable = k.variables - 1; last_goal = v.last_goal } in z)
           (ap (λ d. slice_set all d v.shoen) there ∙ set_last shoens r v.shoen);
     }

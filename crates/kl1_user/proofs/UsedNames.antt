@@ -9,9 +9,8 @@ use Rattle.std.proofs.lemmas.Slice.Eq.{bytes_eq-Decides}
 use Rattle.kl1_model.specs.declared.built_in.BuiltIn.{BuiltIn}
 use Rattle.kl1_model.specs.Term.{Term}
 use Rattle.kl1_model.specs.TermCode.{NodeCode, nodes_of}
-use Rattle.kl1_model.specs.Text.{is_built_in}
 use Rattle.kl1_model.specs.Module.{Module}
-use Rattle.kl1_model.specs.State.{names_of, names_of_module, with_name, with_names}
+use Rattle.kl1_model.specs.State.{names_of, names_of_module, with_names}
 use Rattle.kl1_term.specs.declared.node.Node.{Node}
 use Rattle.kl1_term.specs.Nodes.{code_of}
 use Rattle.kl1_text.specs.BuiltIns.{built_in_of}
@@ -71,10 +70,10 @@ then_among names [] text p e = absurd (false≢true e)
 then_among names (y ∷ seen) text p e =
     ap (list_any (bytes_eq text)) (with_more names y seen)
     ∙ elim (or_cases (bytes_eq text y) (list_any (bytes_eq text) seen) e) [
-      inl h ↦
-        let same : text ≡ y = (bytes_eq-Decides text y).0 h in
-        let here : list_any (bytes_eq text) (with_text names y) ≡ true = ap (λ z. list_any (bytes_eq text) (with_text names z)) (sym same) ∙ put_among names text (list_any (bytes_eq text) names) p refl in
-        still_among (bytes_eq text) (with_text names y) seen here
+      | inl h ↦
+          let same : text ≡ y = (bytes_eq-Decides text y).0 h in
+          let here : list_any (bytes_eq text) (with_text names y) ≡ true = ap (λ z. list_any (bytes_eq text) (with_text names z)) (sym same) ∙ put_among names text (list_any (bytes_eq text) names) p refl in
+          still_among (bytes_eq text) (with_text names y) seen here
       | inr h ↦ then_among (with_text names y) seen text p h
     ]
 
@@ -126,10 +125,10 @@ next_text first names now texts i text within is p e =
     let P : List (List ℕ) → Type 0 = λ xs. Grows first xs in
     record {
       are =
-        e ∙ (ap (λ zs. with_text zs text) p.are
-        ∙ (sym (with_one (with_texts first (take i texts)) text)
-        ∙ (sym (with_both first (take i texts) (text ∷ []))
-        ∙ ap (with_texts first) (ap (λ x. take i texts ++ x ∷ []) is ∙ sym (take_more texts i text within)))));
+          e ∙ (ap (λ zs. with_text zs text) p.are
+          ∙ (sym (with_one (with_texts first (take i texts)) text)
+          ∙ (sym (with_both first (take i texts) (text ∷ []))
+          ∙ ap (with_texts first) (ap (λ x. take i texts ++ x ∷ []) is ∙ sym (take_more texts i text within)))));
       front = subst P (sym e) (joined p.front (one_grows names text));
     }
 
@@ -139,12 +138,12 @@ pub next_node : (first names now : List (List ℕ)) (nodes : List Node) (i : ℕ
 next_node first names now nodes i node within is p e =
     let P : List (List ℕ) → Type 0 = λ xs. Grows first xs in
     let more : map code_of (take (i + 1) nodes) ≡ map code_of (take i nodes) ++ code_of node ∷ [] =
-      ap (map code_of) (take_more nodes i node within ∙ ap (λ (x : Node). take i nodes ++ x ∷ []) (sym is)) ∙ map-append code_of (take i nodes) (node ∷ []) in
+    ap (map code_of) (take_more nodes i node within ∙ ap (λ (x : Node). take i nodes ++ x ∷ []) (sym is)) ∙ map-append code_of (take i nodes) (node ∷ []) in
     record {
       are =
-        e ∙ (ap (λ zs. with_texts zs (names_of_nodes (code_of node ∷ []))) p.are
-        ∙ (sym (with_both first (names_of_nodes (map code_of (take i nodes))) (names_of_nodes (code_of node ∷ [])))
-        ∙ ap (with_texts first) (sym (names_of_two (map code_of (take i nodes)) (code_of node ∷ [])) ∙ ap names_of_nodes (sym more))));
+          e ∙ (ap (λ zs. with_texts zs (names_of_nodes (code_of node ∷ []))) p.are
+          ∙ (sym (with_both first (names_of_nodes (map code_of (take i nodes))) (names_of_nodes (code_of node ∷ [])))
+          ∙ ap (with_texts first) (sym (names_of_two (map code_of (take i nodes)) (code_of node ∷ [])) ∙ ap names_of_nodes (sym more))));
       front = subst P (sym e) (joined p.front (all_grow names (names_of_nodes (code_of node ∷ []))));
     }
 

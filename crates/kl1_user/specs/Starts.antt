@@ -25,7 +25,7 @@ pub record Opens (goal : Term) (old new : Held (List ℕ)) (last allowance low h
   pub shoen_is : (s : State) → s.last_shoen ≡ last →
       shoen_with (meaning new) h
       ≡ started_shoen s allowance low high (with_next_variables (old.variables - 1) goal)
-          (variable (suc ((old.variables - 1) + highest goal))) (variable (suc (suc ((old.variables - 1) + highest goal))))
+      (variable (suc ((old.variables - 1) + highest goal))) (variable (suc (suc ((old.variables - 1) + highest goal))))
 
 -- the monitor of a shoen that opens, and its goal, with the numbers behind the last
 abbrev pub two_goals : ℕ → ℕ → ℕ → Cell (List ℕ) → List Goal

@@ -12,5 +12,5 @@ pub returns-then-is_err-2-clause-names_err : goal.returns-then-is_err-2-clause-n
 returns-then-is_err-2-clause-names_err c =
     let e : c.len-before.result ≡ length c.args.names.now.items = search rules in
     let same : c.truncate-then-is_err-2-2.new.self.items ≡ c.args.names.now.items =
-      c.truncate-then-is_err-2-2.ensures.items ∙ front_is c.args.names.now.items (names_of_module c.args.code) c.use_module.new.names.items c.len-before.result c.in_ok-use_module.ensures.ok e in
+    c.truncate-then-is_err-2-2.ensures.items ∙ front_is c.args.names.now.items (names_of_module c.args.code) c.use_module.new.names.items c.len-before.result c.in_ok-use_module.ensures.ok e in
     search (same, rules)
