@@ -1,5 +1,5 @@
 -- What comes of a start.
-use Rattle.std.proofs.Common.{◌≡◌, ℕ, suc, ◌<◌, ◌≤◌, Bool, true, false, if◌then◌else◌, List, length, sym, ap, ◌∙◌, arith}
+use Rattle.std.proofs.Common.{◌≡◌, ℕ, suc, ◌<◌, ◌≤◌, Bool, true, false, if◌then◌else◌, List, length, ap, ◌∙◌}
 use Rattle.std.specs.Prelude.{nat_lt, nat_le, ◌&&◌}
 use Rattle.std.proofs.lemmas.Bool.{and_parts, lt-ltb, le-ltb}
 use Rattle.kl1_model.specs.Term.{Term}

@@ -1,14 +1,14 @@
 -- What a start makes of a goal.
-use Rattle.std.proofs.Common.{◌≡◌, ℕ, suc, ◌+◌, ◌-◌, ◌<◌, ◌≤◌, false, List, [], refl, sym, ap, ◌∙◌, arith, subst}
+use Rattle.std.proofs.Common.{◌≡◌, ℕ, suc, ◌+◌, ◌-◌, ◌<◌, ◌≤◌, false, List, [], sym, ap, ◌∙◌, arith, subst}
 use Rattle.std.specs.Prelude.{Some}
 use Rattle.kl1_model.specs.Term.{Term, variable}
 use Rattle.kl1_model.specs.Meaning.{highest}
 use Rattle.kl1_model.specs.State as model
 use Rattle.kl1_model.specs.State.{State, living}
-use Rattle.kl1_model.specs.Opening.{started_shoen, with_next_variables}
+use Rattle.kl1_model.specs.Opening.{with_next_variables}
 use Rattle.kl1_store.specs.declared.cell.Cell.{Cell}
 use Rattle.kl1_store.specs.declared.cell.Cell.TheVariants.{Variable}
-use Rattle.kl1_store.specs.Held.{Held, IsIn, with_variable, is_bound}
+use Rattle.kl1_store.specs.Held.{Held, IsIn, with_variable}
 use Rattle.kl1_store.specs.Sound.{Grown, IsFormed}
 use Rattle.kl1_store.proofs.Grows.{Grown-variable, Grown-trans}
 use Rattle.kl1_store.proofs.Terms.{term_of-variable, term_of-unbound}
@@ -16,7 +16,7 @@ use Rattle.kl1_match.specs.Instances.{IsGoal}
 use Rattle.kl1_match.proofs.Places.{beyond_unbound}
 use Rattle.kl1_user.specs.declared.life.Life.TheVariants.{Living}
 use Rattle.kl1_user.specs.declared.shoen.Shoen.{Shoen}
-use Rattle.kl1_user.specs.Kept.{meaning, shoen_with, IsShoenIn}
+use Rattle.kl1_user.specs.Kept.{meaning}
 use Rattle.kl1_user.specs.Starts.{Opens}
 use Rattle.kl1_user.proofs.States.{in_grown}
 

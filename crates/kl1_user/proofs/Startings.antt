@@ -1,5 +1,5 @@
 -- What a start leaves.
-use Rattle.std.proofs.Common.{◌≡◌, ℕ, zero, suc, ◌+◌, ◌-◌, ◌<◌, ◌≤◌, List, [], ◌∷◌, ◌++◌, length, map, codes, Vec, Global, refl, sym, ap, ◌∙◌, arith, subst, length-append}
+use Rattle.std.proofs.Common.{◌≡◌, ℕ, suc, ◌+◌, ◌-◌, List, [], ◌∷◌, ◌++◌, length, map, codes, Vec, Global, refl, sym, ap, ◌∙◌, arith, subst, length-append}
 use Rattle.std.specs.Prelude.{slice_set}
 use Rattle.kl1_model.specs.Term.{Term, atom, variable}
 use Rattle.kl1_model.specs.Meaning.{highest}
@@ -18,7 +18,7 @@ use Rattle.kl1_user.specs.declared.shoen.Shoen.{Shoen}
 use Rattle.kl1_user.specs.declared.work.Work.{Work}
 use Rattle.kl1_user.specs.Kept.{meaning, goal_with, shoen_with, AreGoalsIn, AreOwned, AreShoensIn, AreNumbered, AreStanding, IsShoenIn}
 use Rattle.kl1_user.specs.Lists.{stood}
-use Rattle.kl1_user.specs.Works.{worked, IsWorkIn, HasPlace, Turns}
+use Rattle.kl1_user.specs.Works.{IsWorkIn, Turns}
 use Rattle.kl1_user.specs.Starts.{Opens, two_goals, IsStarted}
 use Rattle.kl1_user.proofs.States.{same_goals, same_shoens, goals_grown, shoens_grown}
 use Rattle.kl1_user.proofs.Leavings.{stood_in, stood_owned, all_stand}

@@ -9,9 +9,8 @@ use Rattle.std.proofs.lemmas.Slice.Eq.{bytes_eq-Decides}
 use Rattle.kl1_model.specs.declared.built_in.BuiltIn.{BuiltIn}
 use Rattle.kl1_model.specs.Term.{Term}
 use Rattle.kl1_model.specs.TermCode.{NodeCode, nodes_of}
-use Rattle.kl1_model.specs.Text.{is_built_in}
 use Rattle.kl1_model.specs.Module.{Module}
-use Rattle.kl1_model.specs.State.{names_of, names_of_module, with_name, with_names}
+use Rattle.kl1_model.specs.State.{names_of, names_of_module, with_names}
 use Rattle.kl1_term.specs.declared.node.Node.{Node}
 use Rattle.kl1_term.specs.Nodes.{code_of}
 use Rattle.kl1_text.specs.BuiltIns.{built_in_of}
