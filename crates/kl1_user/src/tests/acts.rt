@@ -18,6 +18,8 @@ pub(super) enum Act<'a> {
     Start(&'a str),
     /// A goal is started with these priorities.
     StartIn(u64, u64, &'a str),
+    /// A goal is started with this allowance and priorities from 0 to 4,095.
+    StartWith(u64, &'a str),
     /// A goal is reduced by a clause.
     Reduce(u64, u64),
     /// The first goal steps, again and again, so many times at most.
@@ -128,8 +130,19 @@ pub(super) fn load(alloc: Global, user: &mut UserState, source: &[u8]) -> Result
 
 /// What an account answers to a start of a goal with an allowance of 10.
 pub(super) fn start(user: &mut UserState, low: u64, high: u64, goal: Term) -> Result<Reply, Fail> {
+    start_with(user, 10, low, high, goal)
+}
+
+/// What an account answers to a start of a goal.
+fn start_with(
+    user: &mut UserState,
+    allowance: u64,
+    low: u64,
+    high: u64,
+    goal: Term,
+) -> Result<Reply, Fail> {
     Ok(user.apply(&Event::Start {
-        allowance: 10,
+        allowance,
         low,
         high,
         goal,
@@ -160,6 +173,9 @@ fn answer(
         Act::Load(source) => load(alloc, user, source.as_bytes())?,
         Act::Start(goal) => start(user, 0, 10, goal_of(alloc, goal)?)?,
         Act::StartIn(low, high, goal) => start(user, low, high, goal_of(alloc, goal)?)?,
+        Act::StartWith(allowance, goal) => {
+            start_with(user, allowance, 0, 4095, goal_of(alloc, goal)?)?
+        }
         Act::Reduce(goal, clause) => reduce(user, goal, clause)?,
         Act::Run(most) => run(user, most)?,
         Act::Value(shoen) => value(user, shoen)?,

@@ -53,7 +53,9 @@ fn atoms(alloc: Global, first: &[u8], count: usize) -> Result<Term, Fail> {
 /// A structure of two terms.
 fn two(alloc: Global, name: &[u8], left: Term, right: Term) -> Result<Term, Fail> {
     let name = AtomText::read(name).ok_or("no name")?;
-    let terms = vec![in alloc; left, right]?;
+    let mut terms = Vec::new(alloc);
+    terms.push(left)?;
+    terms.push(right)?;
     Ok(Term::structure(alloc, name, terms.as_slice())?)
 }
 

@@ -2,86 +2,54 @@
 
 use super::acts::{Act, expect, expect_fresh, fresh, load, reply_text, start};
 use super::clauses::{APP, FACT};
-use crate::{ClauseNo, Event, GoalNo, Query, ShoenNo, UserState};
+use crate::UserState;
 use kl1_term::Term;
 use kl1_text::AtomText;
 use std::alloc::Global;
 use std::process::Abort;
 use std::test::Fail;
 
-/// Checks the answer to an event.
-fn expect_of(
-    rt: &(impl Abort + AllocGlobal),
-    user: &mut UserState,
-    event: &Event,
-    wanted: &str,
-) -> Result<(), Fail> {
-    let reply = user.apply(event)?;
-    let text = reply_text(rt.alloc(), &reply)?;
-    assert_eq!(rt; text.as_str(), wanted);
-    Ok(())
-}
-
-/// The goal that two variables are one.
-fn variables_meet(alloc: Global, left: u64, right: u64) -> Result<Term, Fail> {
-    let sides = vec![in alloc; Term::variable(alloc, left)?, Term::variable(alloc, right)?]?;
-    Ok(Term::structure(alloc, AtomText::of(b"="), sides.as_slice())?)
-}
+/// The greatest number that a command may have.
+const MOST: u64 = 9_223_372_036_854_775_807;
 
 #[test]
-fn numbers_of_2_to_the_63_are_no_events(rt: HostRuntime) -> Result<(), Fail> {
-    let mut user = fresh(rt.alloc())?;
-    let most = 9_223_372_036_854_775_808;
-    for event in vec![in rt.alloc();
-        Event::Read(Query::Value(ShoenNo(most))),
-        Event::Reduce {
-            goal: GoalNo(most),
-            clause: ClauseNo(0),
-        },
-        Event::Reduce {
-            goal: GoalNo(0),
-            clause: ClauseNo(most),
-        },
-        Event::Start {
-            allowance: most,
-            low: 0,
-            high: 1,
-            goal: Term::atom(rt.alloc(), AtomText::of(b"true"))?,
-        },
-    ]? {
-        expect_of(&rt, &mut user, &event, "- 1 syntax")?;
-    }
-    Ok(())
+fn numbers_are_below_2_to_the_63(rt: HostRuntime) -> Result<(), Fail> {
+    expect_fresh(
+        &rt,
+        &[
+            (Act::Value(MOST + 1), "- 1 syntax"),
+            (Act::Reduce(MOST + 1, 0), "- 1 syntax"),
+            (Act::Reduce(0, MOST + 1), "- 1 syntax"),
+            (Act::StartWith(MOST + 1, "true"), "- 1 syntax"),
+            (Act::Value(MOST), "- 4 noshoen"),
+            (Act::Reduce(MOST, MOST), "- 6 step"),
+            (Act::StartWith(MOST, "true"), "+ shoen 1"),
+        ],
+    )
 }
 
-#[test]
-fn numbers_below_2_to_the_63_are(rt: HostRuntime) -> Result<(), Fail> {
-    let mut user = fresh(rt.alloc())?;
-    let most = 9_223_372_036_854_775_807;
-    let event = Event::Read(Query::Value(ShoenNo(most)));
-    expect_of(&rt, &mut user, &event, "- 4 noshoen")?;
-    let event = Event::Start {
-        allowance: most,
-        low: 0,
-        high: 4095,
-        goal: Term::atom(rt.alloc(), AtomText::of(b"true"))?,
-    };
-    expect_of(&rt, &mut user, &event, "+ shoen 1")
+/// The answer to a start of the goal that two variables are one.
+fn answer_of_variables(alloc: Global, left: u64, right: u64) -> Result<String, Fail> {
+    let mut user = fresh(alloc)?;
+    let mut sides = Vec::new(alloc);
+    sides.push(Term::variable(alloc, left)?)?;
+    sides.push(Term::variable(alloc, right)?)?;
+    let goal = Term::structure(alloc, AtomText::of(b"="), sides.as_slice())?;
+    let reply = start(&mut user, 0, 1, goal)?;
+    reply_text(alloc, &reply)
 }
 
 #[test]
 fn variables_are_numbered_by_first_occurrence(rt: HostRuntime) -> Result<(), Fail> {
-    let mut user = fresh(rt.alloc())?;
     for (left, right, wanted) in [
         (2, 1, "- 1 syntax"),
         (0, 1, "- 1 syntax"),
         (1, 3, "- 1 syntax"),
         (1, 2, "+ shoen 1"),
-        (1, 1, "+ shoen 2"),
+        (1, 1, "+ shoen 1"),
     ] {
-        let goal = variables_meet(rt.alloc(), left, right)?;
-        let reply = start(&mut user, 0, 1, goal)?;
-        assert_eq!(rt; reply_text(rt.alloc(), &reply)?.as_str(), wanted);
+        let text = answer_of_variables(rt.alloc(), left, right)?;
+        assert_eq!(rt; text.as_str(), wanted);
     }
     Ok(())
 }
@@ -110,15 +78,23 @@ fn a_term_that_is_no_goal_is_refused(rt: HostRuntime) -> Result<(), Fail> {
     Ok(())
 }
 
+/// A term of so many levels.
+fn nested(alloc: Global, levels: u64) -> Result<Term, Fail> {
+    let mut term = Term::atom(alloc, AtomText::of(b"a"))?;
+    for _ in 1..levels {
+        let mut parts = Vec::new(alloc);
+        parts.push(term)?;
+        term = Term::structure(alloc, AtomText::of(b"f"), parts.as_slice())?;
+    }
+    Ok(term)
+}
+
 /// The answer to a start of the goal that a variable is a term of so many levels.
 fn answer_of_levels(alloc: Global, levels: u64) -> Result<String, Fail> {
     let mut user = fresh(alloc)?;
-    let mut term = Term::atom(alloc, AtomText::of(b"a"))?;
-    for _ in 1..levels {
-        let parts = vec![in alloc; term]?;
-        term = Term::structure(alloc, AtomText::of(b"f"), parts.as_slice())?;
-    }
-    let sides = vec![in alloc; Term::variable(alloc, 1)?, term]?;
+    let mut sides = Vec::new(alloc);
+    sides.push(Term::variable(alloc, 1)?)?;
+    sides.push(nested(alloc, levels)?)?;
     let goal = Term::structure(alloc, AtomText::of(b"="), sides.as_slice())?;
     let reply = start(&mut user, 0, 1, goal)?;
     reply_text(alloc, &reply)
