@@ -36,6 +36,8 @@ mod start;
 mod startable;
 mod starting;
 mod task;
+#[cfg(test)]
+mod tests;
 mod told;
 mod used_names;
 mod user_state;

@@ -236,3 +236,6 @@ impl UserState {
         }
     }
 }
+
+#[cfg(test)]
+pub(crate) mod inside;
