@@ -20,3 +20,4 @@ pub mod Taking
 pub mod Openings
 pub mod Startings
 pub mod Beginnings
+pub mod StartSteps

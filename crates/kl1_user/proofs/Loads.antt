@@ -1,12 +1,12 @@
 -- Loads, by the definition of the step.
-use Rattle.std.proofs.Common.{◌≡◌, ℕ, ◌<◌, ◌≤◌, nat_le, nat_lt, suc, ◌+◌, arith, Vec, Global, true, false, List, [], ◌∷◌, ◌++◌, length, map, refl, sym, ap, ◌∙◌, subst}
+use Rattle.std.proofs.Common.{◌≡◌, ℕ, ◌<◌, ◌≤◌, suc, ◌+◌, arith, Vec, Global, true, false, List, [], ◌∷◌, ◌++◌, length, map, refl, sym, ap, ◌∙◌, subst}
 use Rattle.std.specs.Prelude.{is_some}
 use Rattle.std.proofs.lemmas.Bool.{le-leb, lt-leb, lt-ltb, le-ltb}
 use Rattle.kl1_model.specs.Module.{Module, read_module, good, bad}
 use Rattle.kl1_model.specs.Match.{module_of}
 use Rattle.kl1_model.specs.State as model
 use Rattle.kl1_model.specs.State.{State, names_of_module, with_names}
-use Rattle.kl1_model.specs.Event.{load, loaded, source as bad_source, syntax, exists, journal_full, refuse, with_entry, most_source_bytes, most_entries, Stepped}
+use Rattle.kl1_model.specs.Event.{load, loaded, with_entry, most_source_bytes, most_entries, Stepped}
 use Rattle.kl1_model.specs.Step.{step, with_module, load_module}
 use Rattle.kl1_store.specs.Held.{Held}
 use Rattle.kl1_user.specs.declared.goal.Goal.{Goal}
@@ -17,7 +17,7 @@ use Rattle.kl1_user.specs.declared.loading.Loading.TheVariants.{Loaded}
 use Rattle.kl1_user.specs.declared.user_state.UserState.TheInside.{Inside}
 use Rattle.kl1_user.specs.Accounts.{state_of, IsKept}
 use Rattle.kl1_user.specs.Kept.{meaning, goal_with, AreGoalsIn, AreOwned, AreStanding}
-use Rattle.kl1_user.specs.Loadings.{HasModules, LoadRefused, LoadDone, LoadsAs}
+use Rattle.kl1_user.specs.Loadings.{LoadRefused, LoadDone, LoadsAs}
 use Rattle.kl1_user.proofs.Leavings.{stood_read, stood_in, stood_owned, all_stand}
 
 -- a source that is too long

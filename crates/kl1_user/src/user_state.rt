@@ -11,8 +11,8 @@ use crate::account_name::AccountName;
 use crate::begun::Begun;
 use crate::event::{Event, Query};
 use crate::goal::Goal;
-use crate::loading::{Loading, load};
 use crate::limits::{MOST_SHOWN, is_number};
+use crate::loading::{Loading, load};
 use crate::numbers::{ClauseNo, GoalNo, ShoenNo};
 use crate::outcome::Outcome;
 use crate::printing::print_cell;
@@ -21,8 +21,8 @@ use crate::reduction::reduce_number;
 use crate::refusal::Refusal;
 use crate::reply::Reply;
 use crate::shoen::Shoen;
-use crate::start::start;
 use crate::shoens::origin_at;
+use crate::start::start;
 use crate::work::{put_start, put_work};
 use kl1_clause::Code;
 use kl1_store::Store;
@@ -163,7 +163,13 @@ impl UserState {
     }
 
     /// Starts a goal in a shoen of its own.
-    fn start(&mut self, allowance: u64, low: u64, high: u64, goal: &Term) -> Result<Reply, AllocError>
+    fn start(
+        &mut self,
+        allowance: u64,
+        low: u64,
+        high: u64,
+        goal: &Term,
+    ) -> Result<Reply, AllocError>
         ensures step { IfOk result (λ reply. step self.old (start_event allowance low high goal.now) ≡ record { state = self.new; reply = reply_of reply }) }
         ensures err { OnErr result (self.new ≡ self.old) }
     {
