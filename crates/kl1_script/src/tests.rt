@@ -7,3 +7,4 @@ mod lines;
 mod records;
 mod replies;
 mod scripts;
+mod texts;

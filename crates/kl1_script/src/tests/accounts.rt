@@ -2,58 +2,71 @@
 
 use crate::accounts_in;
 use kl1_user::AccountName;
-use std::process::Abort;
-use std::test::Fail;
+use std::alloc::Global;
 
-/// Checks how many accounts a line names.
-fn expect_count(
-    rt: &(impl Abort + AllocGlobal),
-    line: &[u8],
-    count: Option<usize>,
-) -> Result<(), Fail> {
-    match accounts_in(rt.alloc(), line)? {
-        None => assert!(rt; count.is_none(), "{line:?}"),
-        Some(names) => assert_eq!(rt; Some(names.len()), count, "{line:?}"),
+/// How many accounts a line names, if it names accounts.
+fn count_of(alloc: Global, line: &[u8]) -> Option<usize> {
+    match accounts_in(alloc, line) {
+        Ok(Some(names)) => Some(names.len()),
+        Ok(None) => None,
+        Err(_) => Some(0),
     }
-    Ok(())
+}
+
+/// Whether a line names two accounts, and they are these.
+fn are_accounts(alloc: Global, line: &[u8], first: &[u8], second: &[u8]) -> bool {
+    match accounts_in(alloc, line) {
+        Ok(Some(names)) => match names.as_slice() {
+            [one, other] => is_named(one, first) && is_named(other, second),
+            _ => false,
+        },
+        _ => false,
+    }
+}
+
+/// Whether an account has this name.
+fn is_named(account: &AccountName, name: &[u8]) -> bool {
+    account.text().unpacked().as_slice() == name
 }
 
 #[test]
-fn the_names_come_in_order(rt: HostRuntime) -> Result<(), Fail> {
-    let names = accounts_in(rt.alloc(), b" accounts\talice  bob7 ")?.ok_or("no accounts")?;
-    assert_eq!(rt; names.len(), 2);
-    assert_eq!(rt;
-        names.as_slice()[0].text().unpacked().as_slice(),
-        b"alice".as_slice()
-    );
-    assert_eq!(rt;
-        names.as_slice()[1].text().unpacked().as_slice(),
-        b"bob7".as_slice()
-    );
-    Ok(())
+fn the_names_come_in_order(rt: HostRuntime) {
+    let line: &[u8] = b" accounts\talice  bob7 ";
+    assert!(rt; are_accounts(rt.alloc(), line, b"alice", b"bob7"));
 }
 
 #[test]
-fn names_are_1_to_16_distinct_ones(rt: HostRuntime) -> Result<(), Fail> {
-    expect_count(&rt, b"accounts a b c d e f g h i j k l m n o p", Some(16))?;
-    expect_count(&rt, b"accounts a b c d e f g h i j k l m n o p q", None)?;
-    expect_count(&rt, b"accounts a b c d e f g h i j k l m n o p q r", None)?;
-    expect_count(&rt, b"accounts", None)?;
-    expect_count(&rt, b"accounts ", None)?;
-    expect_count(&rt, b"accounts a b a", None)?;
-    expect_count(&rt, b"account a", None)?;
-    expect_count(&rt, b"accountsa", None)?;
-    expect_count(&rt, b"Accounts a", None)?;
-    expect_count(&rt, b"a accounts", None)?;
-    expect_count(&rt, b"", None)?;
-    expect_count(&rt, b" \t", None)
+fn names_are_1_to_16(rt: HostRuntime) {
+    let sixteen: &[u8] = b"accounts a b c d e f g h i j k l m n o p";
+    assert_eq!(rt; count_of(rt.alloc(), sixteen), Some(16));
+    for line in [
+        b"accounts a b c d e f g h i j k l m n o p q" as &[u8],
+        b"accounts a b c d e f g h i j k l m n o p q r",
+        b"accounts",
+        b"accounts ",
+    ] {
+        assert_eq!(rt; count_of(rt.alloc(), line), None);
+    }
 }
 
 #[test]
-fn a_name_has_small_letters_and_digits(rt: HostRuntime) -> Result<(), Fail> {
-    expect_count(&rt, b"accounts abcdefghijklmnop", Some(1))?;
-    expect_count(&rt, b"accounts abcdefghijklmnopq", None)?;
-    expect_count(&rt, b"accounts z0", Some(1))?;
+fn names_are_distinct_and_behind_their_word(rt: HostRuntime) {
+    for line in [
+        b"accounts a b a" as &[u8],
+        b"account a",
+        b"accountsa",
+        b"Accounts a",
+        b"a accounts",
+        b"",
+        b" \t",
+    ] {
+        assert_eq!(rt; count_of(rt.alloc(), line), None);
+    }
+}
+
+#[test]
+fn a_name_has_small_letters_and_digits(rt: HostRuntime) {
+    assert_eq!(rt; count_of(rt.alloc(), b"accounts z0"), Some(1));
     for line in [
         b"accounts Bob" as &[u8],
         b"accounts 9a",
@@ -61,9 +74,16 @@ fn a_name_has_small_letters_and_digits(rt: HostRuntime) -> Result<(), Fail> {
         b"accounts a B",
         b"accounts a-",
     ] {
-        expect_count(&rt, line, None)?;
+        assert_eq!(rt; count_of(rt.alloc(), line), None);
     }
+}
+
+#[test]
+fn a_name_has_1_to_16_bytes(rt: HostRuntime) {
+    let sixteen: &[u8] = b"accounts abcdefghijklmnop";
+    let seventeen: &[u8] = b"accounts abcdefghijklmnopq";
+    assert_eq!(rt; count_of(rt.alloc(), sixteen), Some(1));
+    assert_eq!(rt; count_of(rt.alloc(), seventeen), None);
     assert!(rt; AccountName::read(b"a").is_some());
     assert!(rt; AccountName::read(b"").is_none());
-    Ok(())
 }

@@ -1,21 +1,61 @@
 // Lines as commands.
 
-use crate::{Command, CommandParts, Parsed, command_in, parse};
+use crate::{Command, CommandParts, LineParts, Parsed, command_in, parse};
 use kl1_user::{Event, Query, ShoenNo};
-use std::process::Abort;
-use std::test::Fail;
+use std::alloc::Global;
 
-/// Checks that a line is no command.
-fn expect_refused(rt: &(impl Abort + AllocGlobal), line: &[u8]) -> Result<(), Fail> {
-    match parse(rt.alloc(), line)? {
-        Parsed::Refused => (),
-        _ => assert!(rt; false, "{line:?}"),
+/// The parts of a parsed line, without the goal of a start.
+fn parts_in(parsed: &Parsed) -> LineParts<'_> {
+    match parsed {
+        Parsed::Load(count) => LineParts::Load(*count),
+        Parsed::Command(command) => parts_of(command),
+        Parsed::Refused => LineParts::NoCommand,
     }
-    Ok(())
+}
+
+/// The parts of a command that has any, without the goal of a start.
+fn parts_of(command: &Command) -> LineParts<'_> {
+    match command {
+        Command::Run(steps) => LineParts::Run(*steps),
+        Command::Does(event) => match event {
+            Event::Start {
+                allowance,
+                low,
+                high,
+                goal: _goal,
+            } => LineParts::Start(*allowance, *low, *high, b""),
+            Event::Read(Query::Value(ShoenNo(shoen))) => LineParts::Value(*shoen),
+            _ => LineParts::NoCommand,
+        },
+    }
+}
+
+/// Whether a line is parsed, and has these parts.
+fn is_parsed(alloc: Global, line: &[u8], parts: LineParts<'_>) -> bool {
+    match parse(alloc, line) {
+        Ok(parsed) => parts_in(&parsed) == parts,
+        Err(_) => false,
+    }
+}
+
+/// Whether a load is the command that loads its source.
+fn loads(alloc: Global, source: &[u8]) -> bool {
+    match command_in(alloc, CommandParts::Load(source)) {
+        Ok(Some(command)) => is_load(&command, source),
+        _ => false,
+    }
+}
+
+/// Whether a command loads this source.
+fn is_load(command: &Command, wanted: &[u8]) -> bool {
+    match command {
+        Command::Does(Event::Load { source }) => source.as_slice() == wanted,
+        _ => false,
+    }
 }
 
 #[test]
-fn lines_that_are_no_commands(rt: HostRuntime) -> Result<(), Fail> {
+fn lines_that_are_no_commands(rt: HostRuntime) {
     for line in [
         b"" as &[u8],
         b"load 65537",
@@ -26,68 +66,35 @@ fn lines_that_are_no_commands(rt: HostRuntime) -> Result<(), Fail> {
         b"start 1 5 4 true",
         b"start 1 0 4096 true",
         b"start 1 0",
+        b"start 1 0 1",
+        b"start 1 0 1 p",
+        b"start 1 0 1 X = 1.",
         b"login alice key",
         b"status 1",
     ] {
-        expect_refused(&rt, line)?;
+        assert!(rt; is_parsed(rt.alloc(), line, LineParts::NoCommand));
     }
-    Ok(())
 }
 
 #[test]
-fn a_load_is_announced(rt: HostRuntime) -> Result<(), Fail> {
-    match parse(rt.alloc(), b" load\t65536 ")? {
-        Parsed::Load(count) => assert_eq!(rt; count, 65536),
-        _ => assert!(rt; false),
+fn each_command_is_parsed(rt: HostRuntime) {
+    for (line, parts) in [
+        (b" load\t65536 " as &[u8], LineParts::Load(65536)),
+        (b"run 0000000000000262144", LineParts::Run(262144)),
+        (
+            b"value 9223372036854775807",
+            LineParts::Value(9223372036854775807),
+        ),
+        (
+            b"start 100 7 4095 X = 1",
+            LineParts::Start(100, 7, 4095, b""),
+        ),
+    ] {
+        assert!(rt; is_parsed(rt.alloc(), line, parts));
     }
-    Ok(())
 }
 
 #[test]
-fn a_run_and_a_question(rt: HostRuntime) -> Result<(), Fail> {
-    match parse(rt.alloc(), b"run 0000000000000262144")? {
-        Parsed::Command(Command::Run(steps)) => assert_eq!(rt; steps, 262144),
-        _ => assert!(rt; false),
-    }
-    let parsed = parse(rt.alloc(), b"value 9223372036854775807")?;
-    match &parsed {
-        Parsed::Command(Command::Does(Event::Read(Query::Value(ShoenNo(shoen))))) => {
-            assert_eq!(rt; *shoen, 9223372036854775807)
-        }
-        _ => assert!(rt; false),
-    }
-    Ok(())
-}
-
-#[test]
-fn a_start_has_a_goal(rt: HostRuntime) -> Result<(), Fail> {
-    let parsed = parse(rt.alloc(), b"start 100 7 4095 X = 1")?;
-    match &parsed {
-        Parsed::Command(
-            Command::Does(
-                Event::Start {
-                    allowance,
-                    low,
-                    high,
-                    goal: _goal,
-                },
-            ),
-        ) => assert_eq!(rt; (*allowance, *low, *high), (100, 7, 4095)),
-        _ => assert!(rt; false),
-    }
-    expect_refused(&rt, b"start 1 0 1")?;
-    expect_refused(&rt, b"start 1 0 1 p")?;
-    expect_refused(&rt, b"start 1 0 1 X = 1.")
-}
-
-#[test]
-fn a_load_takes_its_source(rt: HostRuntime) -> Result<(), Fail> {
-    let command = command_in(rt.alloc(), CommandParts::Load(b":- module e."))?;
-    match &command {
-        Some(Command::Does(Event::Load { source })) => {
-            assert_eq!(rt; source.as_slice(), b":- module e.".as_slice())
-        }
-        _ => assert!(rt; false),
-    }
-    Ok(())
+fn a_load_takes_its_source(rt: HostRuntime) {
+    assert!(rt; loads(rt.alloc(), b":- module e."));
 }

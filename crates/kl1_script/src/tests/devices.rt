@@ -1,6 +1,7 @@
 // Readers and writers that give and take little, and fail.
 
 use crate::{Counted, DeviceFailed, ScriptFault, Sink, read_all, write_all};
+use std::alloc::Global;
 use std::io;
 use std::io::{ErrorKind, Read, Write};
 use std::test::Fail;
@@ -54,68 +55,118 @@ impl Write for Faulty<Vec<u8>> {
     }
 }
 
+/// What is read and written here.
+const TEXT: &[u8] = b"! accounts\n";
+
+/// Reads the text from a stream that gives at most so many bytes a call, and one of whose calls fails, none at 0: why it is
+/// not read, or whether it is what is read; how many calls failed; and how many bytes are left.
+fn reading(
+    alloc: Global,
+    most: usize,
+    calls: u64,
+    kind: ErrorKind,
+) -> (Result<bool, ScriptFault>, u64, usize) {
+    let mut source = Counted::new(Faulty {
+        inner: TEXT,
+        most,
+        calls,
+        kind,
+    });
+    let read = match read_all(alloc, &mut source) {
+        Ok(bytes) => Ok(bytes.as_slice() == TEXT),
+        Err(fault) => Err(fault),
+    };
+    (read, source.failures, source.inner.inner.len())
+}
+
 #[test]
-fn the_whole_input_is_read_in_pieces(rt: HostRuntime) -> Result<(), Fail> {
+fn the_whole_input_is_read_in_pieces(rt: HostRuntime) {
     for most in 1..13 {
-        let inner: &[u8] = b"accounts a\n";
-        let mut source = Counted::new(Faulty {
-            inner,
-            most,
-            calls: 0,
-            kind: ErrorKind::Other,
-        });
-        let bytes = read_all(rt.alloc(), &mut source).ok().ok_or("a fault")?;
-        assert_eq!(rt; bytes.as_slice(), inner);
-        assert_eq!(rt; source.failures, 0);
+        let read = reading(rt.alloc(), most, 0, ErrorKind::Other);
+        assert_eq!(rt; read, (Ok(true), 0, 0));
     }
-    Ok(())
 }
 
 #[test]
 fn a_read_that_fails_is_told_at_each_call(rt: HostRuntime) {
     for calls in 1..13 {
-        let inner: &[u8] = b"accounts a\n";
-        let mut source = Counted::new(Faulty {
-            inner,
-            most: 1,
-            calls,
-            kind: ErrorKind::Other,
-        });
-        assert_eq!(rt;
-            read_all(rt.alloc(), &mut source).err(),
-            Some(ScriptFault::Read)
-        );
-        assert_eq!(rt; source.failures, 1);
-        assert_eq!(rt; source.inner.inner.len() as u64 + calls, 12);
+        let read = reading(rt.alloc(), 1, calls, ErrorKind::Other);
+        assert_eq!(rt; read, (Err(ScriptFault::Read), 1, 12 - calls as usize));
     }
 }
 
 #[test]
-fn an_interrupted_call_is_made_again(rt: HostRuntime) -> Result<(), Fail> {
-    let inner: &[u8] = b"accounts a\n";
-    let kind = ErrorKind::Interrupted;
-    let mut source = Counted::new(Faulty {
-        inner,
-        most: 4,
-        calls: 2,
-        kind,
-    });
-    let bytes = read_all(rt.alloc(), &mut source).ok().ok_or("a fault")?;
-    assert_eq!(rt; bytes.as_slice(), inner);
-    assert_eq!(rt; source.failures, 0);
-    let inner = Vec::new(rt.alloc());
+fn an_interrupted_read_is_made_again(rt: HostRuntime) {
+    let read = reading(rt.alloc(), 4, 2, ErrorKind::Interrupted);
+    assert_eq!(rt; read, (Ok(true), 0, 0));
+}
+
+/// Writes the text to a stream that takes at most so many bytes a call, and one of whose calls fails, none at 0: whether it
+/// is written and on its way, how many calls failed, and how many bytes of the text are written, where these are its first.
+fn writing(
+    alloc: Global,
+    most: usize,
+    calls: u64,
+    kind: ErrorKind,
+) -> (Result<(), DeviceFailed>, u64, Option<usize>) {
     let mut sink = Counted::new(Faulty {
-        inner,
-        most: 4,
-        calls: 2,
+        inner: Vec::new(alloc),
+        most,
+        calls,
         kind,
     });
-    write_all(&mut sink, b"! accounts\n")
-        .ok()
-        .ok_or("a failure")?;
-    assert_eq!(rt; sink.inner.inner.as_slice(), b"! accounts\n".as_slice());
-    assert_eq!(rt; sink.failures, 0);
-    Ok(())
+    let wrote = match write_all(&mut sink, TEXT) {
+        Ok(()) => sink.flush(),
+        Err(failed) => Err(failed),
+    };
+    (
+        wrote,
+        sink.failures,
+        front_in(TEXT, sink.inner.inner.as_slice()),
+    )
+}
+
+/// How many of the first bytes of a text these are, if they are its first.
+pub(super) fn front_in(text: &[u8], front: &[u8]) -> Option<usize> {
+    if text.starts_with(front) {
+        Some(front.len())
+    } else {
+        None
+    }
+}
+
+#[test]
+fn all_is_written_in_pieces(rt: HostRuntime) {
+    for most in 1..13 {
+        let wrote = writing(rt.alloc(), most, 0, ErrorKind::Other);
+        assert_eq!(rt; wrote, (Ok(()), 0, Some(11)));
+    }
+}
+
+#[test]
+fn after_a_failed_write_the_bytes_before_it_are_written(rt: HostRuntime) {
+    for calls in 1..12 {
+        let wrote = writing(rt.alloc(), 1, calls, ErrorKind::Other);
+        assert_eq!(rt; wrote, (Err(DeviceFailed), 1, Some(calls as usize - 1)));
+    }
+}
+
+#[test]
+fn an_interrupted_write_is_made_again(rt: HostRuntime) {
+    let wrote = writing(rt.alloc(), 4, 2, ErrorKind::Interrupted);
+    assert_eq!(rt; wrote, (Ok(()), 0, Some(11)));
+}
+
+#[test]
+fn a_write_that_takes_no_byte_is_a_failure(rt: HostRuntime) {
+    let wrote = writing(rt.alloc(), 0, 0, ErrorKind::Other);
+    assert_eq!(rt; wrote, (Err(DeviceFailed), 1, Some(0)));
+}
+
+#[test]
+fn a_flush_that_fails_is_a_failure(rt: HostRuntime) {
+    let wrote = writing(rt.alloc(), 11, 2, ErrorKind::Other);
+    assert_eq!(rt; wrote, (Err(DeviceFailed), 1, Some(11)));
 }
 
 /// A stream of so many zeros.
@@ -132,79 +183,26 @@ impl Read for Zeros {
     }
 }
 
+/// Reads so many zeros: why they are not read, or how many are; how many are left; and how many calls failed.
+fn reading_zeros(alloc: Global, zeros: usize) -> (Result<usize, ScriptFault>, usize, u64) {
+    let mut source = Counted::new(Zeros { left: zeros });
+    let read = match read_all(alloc, &mut source) {
+        Ok(bytes) => Ok(bytes.len()),
+        Err(fault) => Err(fault),
+    };
+    (read, source.inner.left, source.failures)
+}
+
 #[test]
-fn as_many_bytes_as_a_script_may_have_are_read(rt: HostRuntime) -> Result<(), Fail> {
-    let mut source = Counted::new(Zeros { left: 16_777_216 });
-    let bytes = read_all(rt.alloc(), &mut source).ok().ok_or("a fault")?;
-    assert_eq!(rt; bytes.len(), 16_777_216);
-    Ok(())
+fn as_many_bytes_as_a_script_may_have_are_read(rt: HostRuntime) {
+    let read = reading_zeros(rt.alloc(), 16_777_216);
+    assert_eq!(rt; read, (Ok(16_777_216), 0, 0));
 }
 
 #[test]
 fn the_16777217th_byte_is_too_long_and_none_behind_it_is_read(rt: HostRuntime) {
-    let mut source = Counted::new(Zeros { left: 16_777_219 });
-    assert_eq!(rt;
-        read_all(rt.alloc(), &mut source).err(),
-        Some(ScriptFault::TooLong)
-    );
-    assert_eq!(rt; source.inner.left, 2);
-    assert_eq!(rt; source.failures, 0);
-}
-
-#[test]
-fn after_a_failed_write_the_bytes_before_it_are_written(rt: HostRuntime) {
-    for calls in 1..5 {
-        let inner = Vec::new(rt.alloc());
-        let mut sink = Counted::new(Faulty {
-            inner,
-            most: 3,
-            calls,
-            kind: ErrorKind::Other,
-        });
-        assert_eq!(rt; write_all(&mut sink, b"! accounts\n"), Err(DeviceFailed));
-        assert_eq!(rt; sink.failures, 1);
-        let wanted: &[u8] = match calls {
-            1 => b"",
-            2 => b"! a",
-            3 => b"! acco",
-            _ => b"! account",
-        };
-        assert_eq!(rt; sink.inner.inner.as_slice(), wanted);
-    }
-}
-
-#[test]
-fn all_is_written_in_pieces(rt: HostRuntime) {
-    for most in 1..13 {
-        let inner = Vec::new(rt.alloc());
-        let mut sink = Counted::new(Faulty {
-            inner,
-            most,
-            calls: 0,
-            kind: ErrorKind::Other,
-        });
-        assert_eq!(rt; write_all(&mut sink, b"! accounts\n"), Ok(()));
-        assert_eq!(rt; sink.flush(), Ok(()));
-        assert_eq!(rt; sink.failures, 0);
-        assert_eq!(rt; sink.inner.inner.as_slice(), b"! accounts\n".as_slice());
-    }
-}
-
-#[test]
-fn a_write_that_takes_no_byte_and_a_flush_that_fails_are_failures(rt: HostRuntime) {
-    let inner = Vec::new(rt.alloc());
-    let mut sink = Counted::new(Faulty {
-        inner,
-        most: 0,
-        calls: 0,
-        kind: ErrorKind::Other,
-    });
-    assert_eq!(rt; write_all(&mut sink, b""), Ok(()));
-    assert_eq!(rt; write_all(&mut sink, b"x"), Err(DeviceFailed));
-    assert_eq!(rt; sink.failures, 1);
-    sink.inner.calls = 1;
-    assert_eq!(rt; sink.flush(), Err(DeviceFailed));
-    assert_eq!(rt; sink.failures, 2);
+    let read = reading_zeros(rt.alloc(), 16_777_219);
+    assert_eq!(rt; read, (Err(ScriptFault::TooLong), 2, 0));
 }
 
 #[test]

@@ -1,8 +1,9 @@
 // Lines, words, numbers and commands.
 
+use super::texts::text_of;
 use crate::{LineParts, is_blank_line, number_in, parts_of, split_line, split_name, split_word};
+use std::alloc::Global;
 use std::process::Abort;
-use std::test::Fail;
 
 /// Checks how a text is cut.
 fn expect_cut(rt: &impl Abort, cut: (&[u8], &[u8]), front: &[u8], behind: &[u8]) {
@@ -46,87 +47,92 @@ fn words_are_parted_by_spaces_and_tabs(rt: HostRuntime) {
 
 #[test]
 fn a_number_has_1_to_19_digits(rt: HostRuntime) {
-    assert_eq!(rt; number_in(b"0"), Some(0));
-    assert_eq!(rt; number_in(b"0000000000000000007"), Some(7));
-    assert_eq!(rt; number_in(b"00000000000000000007"), None);
-    assert_eq!(rt;
-        number_in(b"9223372036854775807"),
-        Some(9223372036854775807)
-    );
-    assert_eq!(rt; number_in(b"9223372036854775808"), None);
-    assert_eq!(rt; number_in(b"9999999999999999999"), None);
-    assert_eq!(rt; number_in(b""), None);
-    assert_eq!(rt; number_in(b"1a"), None);
-    assert_eq!(rt; number_in(b"-1"), None);
-    assert_eq!(rt; number_in(b"+1"), None);
+    for (word, number) in [
+        (b"0" as &[u8], Some(0)),
+        (b"0000000000000000007", Some(7)),
+        (b"00000000000000000007", None),
+        (b"9223372036854775807", Some(9223372036854775807)),
+        (b"9223372036854775808", None),
+        (b"9999999999999999999", None),
+        (b"", None),
+        (b"1a", None),
+        (b"-1", None),
+        (b"+1", None),
+    ] {
+        assert_eq!(rt; number_in(word), number);
+    }
 }
 
 #[test]
 fn a_load_has_one_number_to_65536(rt: HostRuntime) {
-    assert_eq!(rt; parts_of(b"load 65536"), LineParts::Load(65536));
-    assert_eq!(rt; parts_of(b"\tload  0\t"), LineParts::Load(0));
-    assert_eq!(rt; parts_of(b"load 65537"), LineParts::NoCommand);
-    assert_eq!(rt;
-        parts_of(b"load 00000000000000000003"),
-        LineParts::NoCommand
-    );
-    assert_eq!(rt; parts_of(b"load"), LineParts::NoCommand);
-    assert_eq!(rt; parts_of(b"load 1 2"), LineParts::NoCommand);
+    for (line, parts) in [
+        (b"load 65536" as &[u8], LineParts::Load(65536)),
+        (b"\tload  0\t", LineParts::Load(0)),
+        (b"load 65537", LineParts::NoCommand),
+        (b"load 00000000000000000003", LineParts::NoCommand),
+        (b"load", LineParts::NoCommand),
+        (b"load 1 2", LineParts::NoCommand),
+    ] {
+        assert_eq!(rt; parts_of(line), parts);
+    }
 }
 
 #[test]
 fn a_start_has_three_numbers_and_the_rest(rt: HostRuntime) {
-    let goal: &[u8] = b" app:app([1],[2],R)";
-    assert_eq!(rt;
-        parts_of(b"start 100 0 4095 app:app([1],[2],R)"),
-        LineParts::Start(100, 0, 4095, goal)
-    );
-    assert_eq!(rt;
-        parts_of(b"start 0 7 7 X = 1"),
-        LineParts::Start(0, 7, 7, b" X = 1")
-    );
-    assert_eq!(rt; parts_of(b"start 1 0 1"), LineParts::Start(1, 0, 1, b""));
-    assert_eq!(rt;
-        parts_of(b"start 1 5 4 m:p"),
-        LineParts::Start(1, 5, 4, b" m:p")
-    );
-    assert_eq!(rt; parts_of(b"start 1 m:p 4 m:p"), LineParts::NoCommand);
-    assert_eq!(rt; parts_of(b"start 1 0"), LineParts::NoCommand);
+    for (line, parts) in [
+        (
+            b"start 100 0 4095 app:app([1],[2],R)" as &[u8],
+            LineParts::Start(100, 0, 4095, b" app:app([1],[2],R)"),
+        ),
+        (b"start 0 7 7 X = 1", LineParts::Start(0, 7, 7, b" X = 1")),
+        (b"start 1 0 1", LineParts::Start(1, 0, 1, b"")),
+        (b"start 1 5 4 m:p", LineParts::Start(1, 5, 4, b" m:p")),
+        (b"start 1 m:p 4 m:p", LineParts::NoCommand),
+        (b"start 1 0", LineParts::NoCommand),
+    ] {
+        assert_eq!(rt; parts_of(line), parts);
+    }
 }
 
 #[test]
 fn a_run_and_a_value_have_one_number(rt: HostRuntime) {
-    assert_eq!(rt; parts_of(b"run 262144"), LineParts::Run(262144));
-    assert_eq!(rt; parts_of(b"run 262145"), LineParts::NoCommand);
-    assert_eq!(rt; parts_of(b"run"), LineParts::NoCommand);
-    assert_eq!(rt;
-        parts_of(b"value 9223372036854775807"),
-        LineParts::Value(9223372036854775807)
-    );
-    assert_eq!(rt; parts_of(b"value x"), LineParts::NoCommand);
-    for other in [b"" as &[u8], b" ", b"quit", b"Run 1", b"running 1", b"run1"] {
-        assert_eq!(rt; parts_of(other), LineParts::NoCommand);
+    for (line, parts) in [
+        (b"run 262144" as &[u8], LineParts::Run(262144)),
+        (b"run 262145", LineParts::NoCommand),
+        (b"run", LineParts::NoCommand),
+        (
+            b"value 9223372036854775807",
+            LineParts::Value(9223372036854775807),
+        ),
+        (b"value x", LineParts::NoCommand),
+    ] {
+        assert_eq!(rt; parts_of(line), parts);
     }
-}
-
-/// A line that begins with `run 1`, and so many blanks.
-fn long_run(rt: &HostRuntime, blanks: usize) -> Result<Vec<u8>, Fail> {
-    let mut line = Vec::from_slice(rt.alloc(), b"run 1")?;
-    for _ in 0..blanks {
-        line.push(b' ')?;
-    }
-    Ok(line)
 }
 
 #[test]
-fn a_line_of_4097_bytes_is_no_command(rt: HostRuntime) -> Result<(), Fail> {
-    assert_eq!(rt;
-        parts_of(long_run(&rt, 4091)?.as_slice()),
-        LineParts::Run(1)
-    );
-    assert_eq!(rt;
-        parts_of(long_run(&rt, 4092)?.as_slice()),
-        LineParts::NoCommand
-    );
-    Ok(())
+fn other_words_are_no_commands(rt: HostRuntime) {
+    for line in [b"" as &[u8], b" ", b"quit", b"Run 1", b"running 1", b"run1"] {
+        assert_eq!(rt; parts_of(line), LineParts::NoCommand);
+    }
+}
+
+/// Whether a line that begins with these bytes, behind which so many blanks stand, has these parts.
+fn is_line(alloc: Global, front: &[u8], blanks: usize, parts: LineParts<'_>) -> bool {
+    match text_of(alloc, front, b" ", blanks, b"") {
+        Ok(line) => parts_of(line.as_slice()) == parts,
+        Err(_) => false,
+    }
+}
+
+#[test]
+fn a_line_of_4097_bytes_is_no_command(rt: HostRuntime) {
+    for (front, parts) in [
+        (b"run 1" as &[u8], LineParts::Run(1)),
+        (b"run 12", LineParts::NoCommand),
+        (b"load 9", LineParts::NoCommand),
+        (b"load ", LineParts::NoCommand),
+    ] {
+        assert!(rt; is_line(rt.alloc(), front, 4091, parts));
+    }
 }

@@ -1,27 +1,35 @@
 // Scripts from their bytes to what is written for them.
 
-use super::devices::{Faulty, Zeros};
+use super::devices::{Faulty, Zeros, front_in};
+use super::texts::text_of;
 use crate::{Counted, ScriptFault, run_script};
+use std::alloc::Global;
 use std::io::ErrorKind;
-use std::process::Abort;
-use std::test::Fail;
 
-/// Checks what is written for a script.
-fn expect(rt: &(impl Abort + AllocGlobal), script: &[u8], output: &[u8]) -> Result<(), Fail> {
+/// Whether a script is run to its end, and these bytes are written for it.
+fn is_written(alloc: Global, script: &[u8], output: &[u8]) -> bool {
     let mut source = Counted::new(script);
-    let mut sink = Counted::new(Vec::new(rt.alloc()));
-    assert_eq!(rt;
-        run_script(rt.alloc(), &mut source, &mut sink),
-        Ok(()),
-        "{script:?}"
-    );
-    assert_eq!(rt; sink.inner.as_slice(), output, "{script:?}");
-    assert!(rt; source.inner.is_empty());
-    Ok(())
+    let mut sink = Counted::new(Vec::new(alloc));
+    let end = run_script(alloc, &mut source, &mut sink);
+    end == Ok(()) && source.inner.is_empty() && sink.inner.as_slice() == output
 }
 
 #[test]
-fn the_first_line_names_the_accounts(rt: HostRuntime) -> Result<(), Fail> {
+fn the_first_line_names_the_accounts(rt: HostRuntime) {
+    for (script, output) in [
+        (b"accounts alice" as &[u8], b"" as &[u8]),
+        (b" accounts\talice \r\n", b""),
+        (
+            b"accounts a b c d e f g h i j k l m n o p\na run 0\n",
+            b"a + 0\n",
+        ),
+    ] {
+        assert!(rt; is_written(rt.alloc(), script, output));
+    }
+}
+
+#[test]
+fn another_first_line_ends_the_script(rt: HostRuntime) {
     for script in [
         b"" as &[u8],
         b"\naccounts alice\n",
@@ -31,75 +39,71 @@ fn the_first_line_names_the_accounts(rt: HostRuntime) -> Result<(), Fail> {
         b"accounts abcdefghijklmnopq\n",
         b"accounts Alice\n",
     ] {
-        expect(&rt, script, b"! accounts\n")?;
+        assert!(rt; is_written(rt.alloc(), script, b"! accounts\n"));
     }
-    expect(&rt, b"accounts alice", b"")?;
-    expect(&rt, b" accounts\talice \r\n", b"")?;
-    expect(
-        &rt,
-        b"accounts a b c d e f g h i j k l m n o p\na run 0\n",
-        b"a + 0\n",
-    )
 }
 
 #[test]
-fn a_record_of_another_name_is_no_accounts(rt: HostRuntime) -> Result<(), Fail> {
-    expect(
-        &rt,
-        b"accounts alice bob\nbob run 1\ncarol run 1\n run 1\nalice\trun 1\nalice run 0\nalicea run 0\n",
-        b"! account\n! account\n! account\n! account\nalice + 0\n! account\n",
-    )
+fn a_record_of_another_name_is_no_accounts(rt: HostRuntime) {
+    let script: &[u8] =
+        b"accounts alice bob\nbob run 1\ncarol run 1\n run 1\nalice\trun 1\nalice run 0\nalicea run 0\n";
+    let output: &[u8] = b"! account\n! account\n! account\n! account\nalice + 0\n! account\n";
+    assert!(rt; is_written(rt.alloc(), script, output));
 }
 
 #[test]
-fn loads_of_other_names_are_skipped(rt: HostRuntime) -> Result<(), Fail> {
-    expect(
-        &rt,
-        b"accounts alice\ncarol load 12\nalice run 1\n\nbob load 1\nx and more\nalice run 0",
-        b"! account\n! account\nalice + 0\n",
-    )
+fn loads_of_other_names_are_skipped(rt: HostRuntime) {
+    let script: &[u8] =
+        b"accounts alice\ncarol load 12\nalice run 1\n\nbob load 1\nx and more\nalice run 0";
+    let output: &[u8] = b"! account\n! account\nalice + 0\n";
+    assert!(rt; is_written(rt.alloc(), script, output));
 }
 
 #[test]
-fn a_load_without_its_bytes_ends_the_script(rt: HostRuntime) -> Result<(), Fail> {
-    expect(
-        &rt,
-        b"accounts alice\nalice run 0\nalice load 50\nalice run 0\n",
-        b"alice + 0\n! truncated\n",
-    )?;
-    expect(&rt, b"accounts alice\ncarol load 2\nx", b"! truncated\n")
+fn a_load_without_its_bytes_ends_the_script(rt: HostRuntime) {
+    let script: &[u8] = b"accounts alice\nalice run 0\nalice load 50\nalice run 0\n";
+    let output: &[u8] = b"alice + 0\n! truncated\n";
+    assert!(rt; is_written(rt.alloc(), script, output));
+    let script: &[u8] = b"accounts alice\ncarol load 2\nx";
+    let output: &[u8] = b"! truncated\n";
+    assert!(rt; is_written(rt.alloc(), script, output));
 }
 
 #[test]
-fn lines_that_are_no_commands_are_refused(rt: HostRuntime) -> Result<(), Fail> {
-    expect(
-        &rt,
-        b"accounts alice\nalice\nalice \nalice login alice key\nalice run 00000000000000000001\nalice load 1 2\nalice load 65537\nalice load 2\nab and more\nalice run 262145\n",
-        b"alice - 1 syntax\nalice - 1 syntax\nalice - 1 syntax\nalice - 1 syntax\nalice - 1 syntax\nalice - 1 syntax\nalice - 1 syntax\nalice - 1 syntax\n",
-    )
+fn lines_that_are_no_commands_are_refused(rt: HostRuntime) {
+    let script: &[u8] =
+        b"accounts alice\nalice\nalice \nalice login alice key\nalice run 00000000000000000001\nalice load 1 2\nalice load 65537\nalice load 2\nab and more\nalice run 262145\n";
+    let output: &[u8] =
+        b"alice - 1 syntax\nalice - 1 syntax\nalice - 1 syntax\nalice - 1 syntax\nalice - 1 syntax\nalice - 1 syntax\nalice - 1 syntax\nalice - 1 syntax\n";
+    assert!(rt; is_written(rt.alloc(), script, output));
 }
 
 #[test]
-fn blank_lines_and_returns(rt: HostRuntime) -> Result<(), Fail> {
-    expect(
-        &rt,
-        b"accounts alice\r\n\r\n \t\r\n\nalice run 0\r\nalice \t run\t0 \t\nalice run 0\r",
-        b"alice + 0\nalice + 0\nalice + 0\n",
-    )
+fn blank_lines_and_returns(rt: HostRuntime) {
+    let script: &[u8] =
+        b"accounts alice\r\n\r\n \t\r\n\nalice run 0\r\nalice \t run\t0 \t\nalice run 0\r";
+    let output: &[u8] = b"alice + 0\nalice + 0\nalice + 0\n";
+    assert!(rt; is_written(rt.alloc(), script, output));
 }
 
-/// A script with the command `run 0` and so many blanks behind it.
-fn long_line(rt: &impl AllocGlobal, blanks: usize, end: &[u8]) -> Result<Vec<u8>, Fail> {
-    let mut script = Vec::from_slice(rt.alloc(), b"accounts alice\nalice run 0")?;
-    for _ in 0..blanks {
-        script.push(b' ')?;
+/// Whether these bytes are written for a script in which a piece stands so many times between a front and an end.
+fn is_written_for_many(
+    alloc: Global,
+    front: &[u8],
+    piece: &[u8],
+    times: usize,
+    end: &[u8],
+    output: &[u8],
+) -> bool {
+    match text_of(alloc, front, piece, times, end) {
+        Ok(script) => is_written(alloc, script.as_slice(), output),
+        Err(_) => false,
     }
-    script.extend_from_slice(end)?;
-    Ok(script)
 }
 
 #[test]
-fn lines_of_4096_and_4097_bytes(rt: HostRuntime) -> Result<(), Fail> {
+fn lines_of_4096_and_4097_bytes(rt: HostRuntime) {
+    let front: &[u8] = b"accounts alice\nalice run 0";
     let run: &[u8] = b"alice + 0\n";
     let refused: &[u8] = b"alice - 1 syntax\n";
     for (blanks, end, output) in [
@@ -109,136 +113,151 @@ fn lines_of_4096_and_4097_bytes(rt: HostRuntime) -> Result<(), Fail> {
         (4092, b"\n", refused),
         (4092, b"", refused),
     ] {
-        expect(&rt, long_line(&rt, blanks, end)?.as_slice(), output)?;
+        assert!(rt; is_written_for_many(rt.alloc(), front, b" ", blanks, end, output));
     }
-    Ok(())
 }
 
 #[test]
-fn many_replies_are_passed_on_in_pieces(rt: HostRuntime) -> Result<(), Fail> {
-    let mut script = Vec::from_slice(rt.alloc(), b"accounts alice\n")?;
-    let mut output = Vec::new(rt.alloc());
-    for _ in 0..9000 {
-        script.extend_from_slice(b"alice x\nbob x\n")?;
-        output.extend_from_slice(b"alice - 1 syntax\n! account\n")?;
+fn a_load_line_of_4096_and_4097_bytes(rt: HostRuntime) {
+    let front: &[u8] = b"accounts alice\nalice load 4";
+    let end: &[u8] = b"\r\n\n\n\n\n\n";
+    let bad: &[u8] = b"alice - 2 source 1\n";
+    let refused: &[u8] = b"alice - 1 syntax\n";
+    for (blanks, output) in [(4090, bad), (4091, refused)] {
+        assert!(rt; is_written_for_many(rt.alloc(), front, b" ", blanks, end, output));
     }
-    expect(&rt, script.as_slice(), output.as_slice())
 }
 
 #[test]
-fn the_first_script(rt: HostRuntime) -> Result<(), Fail> {
-    expect(
-        &rt,
-        b"accounts alice bob\nalice load 91\n:- module app.\napp([],Y,Z) :- true | Z = Y.\napp([A|X],Y,Z) :- true | Z = [A|W], app(X,Y,W).\nalice start 100 0 10 app:app([1],[2],R)\nalice run 100\nalice value 1\n",
-        b"alice + loaded app\nalice + shoen 1\nalice + 4\nalice + app:app([1],[2],[1,2])\n",
-    )
+fn many_replies_are_passed_on_in_pieces(rt: HostRuntime) {
+    let front: &[u8] = b"accounts alice\n";
+    let many = text_of(rt.alloc(), b"", b"alice - 1 syntax\n! account\n", 9000, b"");
+    let Ok(output) = many else {
+        assert!(rt; false);
+        return;
+    };
+    let output = output.as_slice();
+    assert!(rt; is_written_for_many(rt.alloc(), front, b"alice x\nbob x\n", 9000, b"", output));
+}
+
+/// The first script of the specification.
+const FIRST: &[u8] =
+    b"accounts alice bob\nalice load 91\n:- module app.\napp([],Y,Z) :- true | Z = Y.\napp([A|X],Y,Z) :- true | Z = [A|W], app(X,Y,W).\nalice start 100 0 10 app:app([1],[2],R)\nalice run 100\nalice value 1\n";
+
+/// What is written for it.
+const FIRST_OUTPUT: &[u8] =
+    b"alice + loaded app\nalice + shoen 1\nalice + 4\nalice + app:app([1],[2],[1,2])\n";
+
+#[test]
+fn the_first_script(rt: HostRuntime) {
+    assert!(rt; is_written(rt.alloc(), FIRST, FIRST_OUTPUT));
 }
 
 #[test]
-fn a_unification_that_fails_binds_nothing(rt: HostRuntime) -> Result<(), Fail> {
-    expect(
-        &rt,
-        b"accounts alice\nalice start 10 0 10 f(X,a) = f(1,b)\nalice run 10\nalice value 1\n",
-        b"alice + shoen 1\nalice + 1\nalice + '='(f(_1,a),f(1,b))\n",
-    )?;
-    expect(
-        &rt,
-        b"accounts alice\nalice start 10 0 10 f(X,Y) = f(Y,X)\nalice run 10\nalice value 1\n",
-        b"alice + shoen 1\nalice + 1\nalice + '='(f(_1,_1),f(_1,_1))\n",
-    )
+fn a_unification_that_fails_binds_nothing(rt: HostRuntime) {
+    let script: &[u8] =
+        b"accounts alice\nalice start 10 0 10 f(X,a) = f(1,b)\nalice run 10\nalice value 1\n";
+    let output: &[u8] = b"alice + shoen 1\nalice + 1\nalice + '='(f(_1,a),f(1,b))\n";
+    assert!(rt; is_written(rt.alloc(), script, output));
+    let script: &[u8] =
+        b"accounts alice\nalice start 10 0 10 f(X,Y) = f(Y,X)\nalice run 10\nalice value 1\n";
+    let output: &[u8] = b"alice + shoen 1\nalice + 1\nalice + '='(f(_1,_1),f(_1,_1))\n";
+    assert!(rt; is_written(rt.alloc(), script, output));
 }
 
 #[test]
-fn no_term_is_part_of_itself(rt: HostRuntime) -> Result<(), Fail> {
-    expect(
-        &rt,
-        b"accounts alice\nalice start 10 0 10 X = f(X)\nalice run 10\nalice value 1\n",
-        b"alice + shoen 1\nalice + 1\nalice + '='(_1,f(_1))\n",
-    )
+fn no_term_is_part_of_itself(rt: HostRuntime) {
+    let script: &[u8] =
+        b"accounts alice\nalice start 10 0 10 X = f(X)\nalice run 10\nalice value 1\n";
+    let output: &[u8] = b"alice + shoen 1\nalice + 1\nalice + '='(_1,f(_1))\n";
+    assert!(rt; is_written(rt.alloc(), script, output));
 }
 
 #[test]
-fn a_bad_source_is_told_by_its_line(rt: HostRuntime) -> Result<(), Fail> {
-    expect(
-        &rt,
-        b"accounts alice\nalice load 0\n\nalice load 34\n:- module z.\np(X) :- Y > 0 | true.\nalice load 11\n:- module e\nalice load 12\n:- module e.\nalice load 12\n:- module e.\nalice value 1\n",
-        b"alice - 2 source 1\nalice - 2 source 2\nalice - 2 source 1\nalice + loaded e\nalice - 3 exists\nalice - 4 noshoen\n",
-    )
+fn a_bad_source_is_told_by_its_line(rt: HostRuntime) {
+    let script: &[u8] =
+        b"accounts alice\nalice load 0\n\nalice load 34\n:- module z.\np(X) :- Y > 0 | true.\nalice load 11\n:- module e\nalice load 12\n:- module e.\nalice load 12\n:- module e.\nalice value 1\n";
+    let output: &[u8] =
+        b"alice - 2 source 1\nalice - 2 source 2\nalice - 2 source 1\nalice + loaded e\nalice - 3 exists\nalice - 4 noshoen\n";
+    assert!(rt; is_written(rt.alloc(), script, output));
+}
+
+#[test]
+fn a_name_has_at_most_63_bytes(rt: HostRuntime) {
+    let script: &[u8] =
+        b"accounts alice\nalice load 78\n:- module e1.\naaaaaaaaaaaaaaaaaaaaaaaaaaaaaaaaaaaaaaaaaaaaaaaaaaaaaaaaaaaaaaa.\nalice load 79\n:- module e2.\naaaaaaaaaaaaaaaaaaaaaaaaaaaaaaaaaaaaaaaaaaaaaaaaaaaaaaaaaaaaaaaa.\n";
+    let output: &[u8] = b"alice + loaded e1\nalice - 2 source 2\n";
+    assert!(rt; is_written(rt.alloc(), script, output));
+}
+
+#[test]
+fn a_goal_that_no_clause_takes_fails(rt: HostRuntime) {
+    let script: &[u8] =
+        b"accounts alice\nalice load 20\n:- module t.\nq(a,b).\nalice start 10 0 10 t:q(X,c)\nalice run 10\nalice value 1\n";
+    let output: &[u8] = b"alice + loaded t\nalice + shoen 1\nalice + 1\nalice + t:q(_1,c)\n";
+    assert!(rt; is_written(rt.alloc(), script, output));
+}
+
+/// Runs a script of so many zeros: how the run ends, whether nothing is written, and how many zeros are left.
+fn run_zeros(alloc: Global, zeros: usize) -> (Result<(), ScriptFault>, bool, usize) {
+    let mut source = Counted::new(Zeros { left: zeros });
+    let mut sink = Counted::new(Vec::new(alloc));
+    let end = run_script(alloc, &mut source, &mut sink);
+    (end, sink.inner.is_empty(), source.inner.left)
 }
 
 #[test]
 fn the_16777217th_byte_is_too_long(rt: HostRuntime) {
-    let mut source = Counted::new(Zeros { left: 16_777_218 });
-    let mut sink = Counted::new(Vec::new(rt.alloc()));
-    assert_eq!(rt;
-        run_script(rt.alloc(), &mut source, &mut sink),
-        Err(ScriptFault::TooLong)
-    );
-    assert!(rt; sink.inner.is_empty());
-    assert_eq!(rt; source.inner.left, 1);
+    let ran = run_zeros(rt.alloc(), 16_777_218);
+    assert_eq!(rt; ran, (Err(ScriptFault::TooLong), true, 1));
 }
 
-/// A script that needs no account to do anything.
-const SCRIPT: &[u8] = b"accounts alice\nbob run 1\nalice x\nalice load 9\nx";
-
-/// What is written for it.
-const OUTPUT: &[u8] = b"! account\nalice - 1 syntax\n! truncated\n";
+/// Runs the first script between streams that give and take at most so many bytes a call, and one of whose calls fails, none
+/// at 0: how the run ends, how many calls of each stream failed, and how many bytes of its output are written, where these
+/// are its first.
+fn run_first(
+    alloc: Global,
+    most: usize,
+    read: u64,
+    write: u64,
+) -> (Result<(), ScriptFault>, (u64, u64), Option<usize>) {
+    let kind = ErrorKind::Other;
+    let mut source = Counted::new(Faulty {
+        inner: FIRST,
+        most,
+        calls: read,
+        kind,
+    });
+    let mut sink = Counted::new(Faulty {
+        inner: Vec::new(alloc),
+        most,
+        calls: write,
+        kind,
+    });
+    let end = run_script(alloc, &mut source, &mut sink);
+    let written = front_in(FIRST_OUTPUT, sink.inner.inner.as_slice());
+    (end, (source.failures, sink.failures), written)
+}
 
 #[test]
 fn after_a_failed_read_nothing_is_written(rt: HostRuntime) {
-    for calls in 1..9 {
-        let mut source = Counted::new(Faulty {
-            inner: SCRIPT,
-            most: 7,
-            calls,
-            kind: ErrorKind::Other,
-        });
-        let mut sink = Counted::new(Vec::new(rt.alloc()));
-        assert_eq!(rt;
-            run_script(rt.alloc(), &mut source, &mut sink),
-            Err(ScriptFault::Read)
-        );
-        assert_eq!(rt; source.failures, 1);
-        assert!(rt; sink.inner.is_empty());
+    for read in 1..9 {
+        let ran = run_first(rt.alloc(), 32, read, 0);
+        assert_eq!(rt; ran, (Err(ScriptFault::Read), (1, 0), Some(0)));
     }
 }
 
 #[test]
 fn after_a_failed_write_the_output_before_it_is_written(rt: HostRuntime) {
-    for calls in 1..41 {
-        let mut source = Counted::new(SCRIPT);
-        let mut sink = Counted::new(Faulty {
-            inner: Vec::new(rt.alloc()),
-            most: 1,
-            calls,
-            kind: ErrorKind::Other,
-        });
-        assert_eq!(rt;
-            run_script(rt.alloc(), &mut source, &mut sink),
-            Err(ScriptFault::Write)
-        );
-        assert_eq!(rt; sink.failures, 1);
-        assert_eq!(rt; sink.inner.inner.len() as u64 + 1, calls);
-        assert!(rt; OUTPUT.starts_with(sink.inner.inner.as_slice()));
+    for write in 1..78 {
+        let ran = run_first(rt.alloc(), 1, 0, write);
+        let written = write as usize - 1;
+        assert_eq!(rt; ran, (Err(ScriptFault::Write), (0, 1), Some(written)));
     }
 }
 
 #[test]
 fn streams_that_give_and_take_one_byte(rt: HostRuntime) {
-    let kind = ErrorKind::Other;
-    let (most, calls) = (1, 0);
-    let mut source = Counted::new(Faulty {
-        inner: SCRIPT,
-        most,
-        calls,
-        kind,
-    });
-    let mut sink = Counted::new(Faulty {
-        inner: Vec::new(rt.alloc()),
-        most,
-        calls,
-        kind,
-    });
-    assert_eq!(rt; run_script(rt.alloc(), &mut source, &mut sink), Ok(()));
-    assert_eq!(rt; sink.inner.inner.as_slice(), OUTPUT);
+    let ran = run_first(rt.alloc(), 1, 0, 0);
+    assert_eq!(rt; ran, (Ok(()), (0, 0), Some(76)));
 }
