@@ -59,10 +59,10 @@ fn push_letter(
 }
 
 /// The term of a postfix form.
-fn term(rt: &impl Abort, alloc: Global, store: &mut Store<AtomNo>, form: &[u8]) -> Cell<AtomNo> {
+fn term(rt: &impl Abort, alloc: Global, store: &mut Store<AtomNo>, form: &str) -> Cell<AtomNo> {
     let mut terms = Vec::new(alloc);
-    for letter in form {
-        push_letter(rt, store, &mut terms, *letter);
+    for letter in form.bytes() {
+        push_letter(rt, store, &mut terms, letter);
     }
     terms.pop().expect(rt, "a term")
 }
@@ -74,26 +74,29 @@ fn stand_for(rt: &impl Abort, store: &Store<AtomNo>, x: u8, y: u8) -> bool {
 }
 
 /// Unifies two terms, which makes X and Y stand for these.
-pub fn solved(rt: &impl Abort, alloc: Global, left: &[u8], right: &[u8], x: u8, y: u8) {
+pub fn solved(rt: &impl Abort, alloc: Global, left: &str, right: &str, x: u8, y: u8) {
     let mut store = store_of_two(rt, alloc);
     let first = term(rt, alloc, &mut store, left);
     let second = term(rt, alloc, &mut store, right);
-    assert!(rt; is_unified(rt, &mut store, first, second));
-    assert!(rt; stand_for(rt, &store, x, y));
-    assert!(rt; compared(rt, &mut store, [first, second].as_slice()) == b'=');
+    assert!(rt; is_unified(rt, &mut store, first, second), "at {left}");
+    assert!(rt; stand_for(rt, &store, x, y), "at {left}");
+    assert!(rt;
+        compared(rt, &mut store, [first, second].as_slice()) == b'=',
+        "at {left}"
+    );
 }
 
 /// Unifies two terms, which can't be made equal: X and Y stay unbound.
-pub fn never_equal(rt: &impl Abort, alloc: Global, left: &[u8], right: &[u8]) {
+pub fn never_equal(rt: &impl Abort, alloc: Global, left: &str, right: &str) {
     let mut store = store_of_two(rt, alloc);
     let first = term(rt, alloc, &mut store, left);
     let second = term(rt, alloc, &mut store, right);
-    assert!(rt; !is_unified(rt, &mut store, first, second));
-    assert!(rt; stand_for(rt, &store, b'X', b'Y'));
+    assert!(rt; !is_unified(rt, &mut store, first, second), "at {left}");
+    assert!(rt; stand_for(rt, &store, b'X', b'Y'), "at {left}");
 }
 
 /// What comparing two terms comes to.
-pub fn sameness(rt: &impl Abort, alloc: Global, left: &[u8], right: &[u8]) -> u8 {
+pub fn sameness(rt: &impl Abort, alloc: Global, left: &str, right: &str) -> u8 {
     let mut store = store_of_two(rt, alloc);
     let first = term(rt, alloc, &mut store, left);
     let second = term(rt, alloc, &mut store, right);

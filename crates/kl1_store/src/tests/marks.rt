@@ -91,36 +91,19 @@ fn built_and_back<N: NameValue>(
 }
 
 #[test]
-fn what_hangs_on_a_variable_is_told(rt: HostRuntime) {
+fn what_hangs_is_told_and_taken_back(rt: HostRuntime) {
     let mut store = Store::new(rt.alloc());
     let x = store.fresh().expect(&rt, "memory");
     let y = store.fresh().expect(&rt, "memory");
     hang(&rt, &mut store, x, 7);
     hang(&rt, &mut store, y, 8);
     hang(&rt, &mut store, x, 9);
+    hung_and_back(&rt, &mut store, x, 10);
     tells(&rt, rt.alloc(), &mut store, x, ONE, [7, 9].as_slice());
 }
 
 #[test]
-fn what_hangs_under_texts_is_told(rt: HostRuntime) {
-    let mut store = Store::new(rt.alloc());
-    let x = store.fresh().expect(&rt, "memory");
-    hang(&rt, &mut store, x, 5);
-    let b = Cell::Atom(AtomText::of(b"b"));
-    tells(&rt, rt.alloc(), &mut store, x, b, [5].as_slice());
-}
-
-#[test]
-fn what_hangs_is_taken_back(rt: HostRuntime) {
-    let mut store = Store::new(rt.alloc());
-    let x = store.fresh().expect(&rt, "memory");
-    hang(&rt, &mut store, x, 7);
-    hung_and_back(&rt, &mut store, x, 9);
-    tells(&rt, rt.alloc(), &mut store, x, ONE, [7].as_slice());
-}
-
-#[test]
-fn what_hangs_under_texts_is_taken_back(rt: HostRuntime) {
+fn what_hangs_under_texts_is_told_and_taken_back(rt: HostRuntime) {
     let mut store = Store::new(rt.alloc());
     let x = store.fresh().expect(&rt, "memory");
     hung_and_back(&rt, &mut store, x, 9);
@@ -130,31 +113,19 @@ fn what_hangs_under_texts_is_taken_back(rt: HostRuntime) {
 }
 
 #[test]
-fn a_binding_is_taken_back(rt: HostRuntime) {
-    let mut store = Store::new(rt.alloc());
-    let x = store.fresh().expect(&rt, "memory");
-    bound_and_back(&rt, &mut store, x, A);
-    bound_and_back(&rt, &mut store, x, ONE);
-}
-
-#[test]
-fn a_binding_under_texts_is_taken_back(rt: HostRuntime) {
-    let mut store = Store::new(rt.alloc());
-    let x = store.fresh().expect(&rt, "memory");
-    bound_and_back(&rt, &mut store, x, Cell::Atom(AtomText::of(b"a")));
-}
-
-#[test]
-fn growths_are_taken_back(rt: HostRuntime) {
+fn growths_and_bindings_are_taken_back(rt: HostRuntime) {
     let mut store = Store::new(rt.alloc());
     grown_and_back(&rt, &mut store);
     built_and_back(&rt, &mut store, F, [A, ONE].as_slice());
+    bound_and_back(&rt, &mut store, 0, A);
+    bound_and_back(&rt, &mut store, 0, ONE);
 }
 
 #[test]
-fn growths_under_texts_are_taken_back(rt: HostRuntime) {
+fn growths_and_bindings_under_texts_are_taken_back(rt: HostRuntime) {
     let mut store = Store::new(rt.alloc());
     grown_and_back(&rt, &mut store);
     let arguments = [Cell::Atom(AtomText::of(b"a"))];
     built_and_back(&rt, &mut store, AtomText::of(b"f"), arguments.as_slice());
+    bound_and_back(&rt, &mut store, 0, Cell::Atom(AtomText::of(b"b")));
 }

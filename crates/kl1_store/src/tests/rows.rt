@@ -3,96 +3,51 @@
 use super::forms::{never_equal, sameness, solved};
 
 #[test]
-fn constants_clash(rt: HostRuntime) {
-    never_equal(&rt, rt.alloc(), b"Xaf", b"1bf");
+fn equations_with_a_solution(rt: HostRuntime) {
+    let rows = [
+        ("X", "X", b'X', b'Y'),
+        ("X", "Y", b'X', b'X'),
+        ("Y", "X", b'X', b'X'),
+        ("XYf", "YXf", b'X', b'X'),
+        ("XXf", "Yaf", b'a', b'a'),
+        ("Xbf", "aYf", b'a', b'b'),
+        ("Xaf", "1Yf", b'1', b'a'),
+        ("abfXf", "abfbf", b'b', b'Y'),
+        ("1Xbff", "1aYff", b'a', b'b'),
+    ];
+    for (left, right, x, y) in rows {
+        solved(&rt, rt.alloc(), left, right, x, y);
+    }
 }
 
 #[test]
-fn never_in_itself(rt: HostRuntime) {
-    never_equal(&rt, rt.alloc(), b"X", b"Xh");
+fn equations_without_a_solution(rt: HostRuntime) {
+    let rows = [
+        ("Xaf", "1bf"),
+        ("Xaf", "11f"),
+        ("abf", "abg"),
+        ("abf", "ah"),
+        ("X", "Xh"),
+        ("X", "YXf"),
+        ("XXf", "YYaff"),
+        ("YYf", "XYXff"),
+    ];
+    for (left, right) in rows {
+        never_equal(&rt, rt.alloc(), left, right);
+    }
 }
 
 #[test]
-fn never_in_itself_later(rt: HostRuntime) {
-    never_equal(&rt, rt.alloc(), b"XXf", b"YYaff");
-}
-
-#[test]
-fn higher_takes_lower(rt: HostRuntime) {
-    solved(&rt, rt.alloc(), b"XYf", b"YXf", b'X', b'X');
-}
-
-#[test]
-fn lower_stays_on_the_left(rt: HostRuntime) {
-    solved(&rt, rt.alloc(), b"X", b"Y", b'X', b'X');
-}
-
-#[test]
-fn lower_stays_on_the_right(rt: HostRuntime) {
-    solved(&rt, rt.alloc(), b"Y", b"X", b'X', b'X');
-}
-
-#[test]
-fn both_sides_give(rt: HostRuntime) {
-    solved(&rt, rt.alloc(), b"Xbf", b"aYf", b'a', b'b');
-}
-
-#[test]
-fn the_rest_is_replaced(rt: HostRuntime) {
-    solved(&rt, rt.alloc(), b"XXf", b"Yaf", b'a', b'a');
-}
-
-#[test]
-fn names_clash(rt: HostRuntime) {
-    never_equal(&rt, rt.alloc(), b"abf", b"abg");
-}
-
-#[test]
-fn lengths_clash(rt: HostRuntime) {
-    never_equal(&rt, rt.alloc(), b"abf", b"ah");
-}
-
-#[test]
-fn inner_arguments_give(rt: HostRuntime) {
-    solved(&rt, rt.alloc(), b"1Xbff", b"1aYff", b'a', b'b');
-}
-
-#[test]
-fn the_rest_follows(rt: HostRuntime) {
-    solved(&rt, rt.alloc(), b"abfXf", b"abfbf", b'b', b'Y');
-}
-
-#[test]
-fn a_clash_of_the_rest_changes_nothing(rt: HostRuntime) {
-    never_equal(&rt, rt.alloc(), b"Xaf", b"11f");
-}
-
-#[test]
-fn variables_take_terms(rt: HostRuntime) {
-    solved(&rt, rt.alloc(), b"Xaf", b"1Yf", b'1', b'a');
-}
-
-#[test]
-fn a_variable_is_itself(rt: HostRuntime) {
-    solved(&rt, rt.alloc(), b"X", b"X", b'X', b'Y');
-}
-
-#[test]
-fn never_in_a_term_of_both(rt: HostRuntime) {
-    never_equal(&rt, rt.alloc(), b"X", b"YXf");
-}
-
-#[test]
-fn never_in_itself_after_a_binding(rt: HostRuntime) {
-    never_equal(&rt, rt.alloc(), b"YYf", b"XYXff");
-}
-
-#[test]
-fn constants_that_differ(rt: HostRuntime) {
-    assert!(rt; sameness(&rt, rt.alloc(), b"Xaf", b"11f") == b'!');
-}
-
-#[test]
-fn variables_on_both_sides_wait(rt: HostRuntime) {
-    assert!(rt; sameness(&rt, rt.alloc(), b"Xaf", b"1Yf") == 2);
+fn comparisons(rt: HostRuntime) {
+    let rows = [
+        ("Xaf", "11f", b'!'),
+        ("Xaf", "1Yf", 2),
+        ("Xaf", "Xaf", b'='),
+    ];
+    for (left, right, wanted) in rows {
+        assert!(rt;
+            sameness(&rt, rt.alloc(), left, right) == wanted,
+            "at {left}"
+        );
+    }
 }

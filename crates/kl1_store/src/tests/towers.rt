@@ -88,17 +88,10 @@ fn towers_of_variables(rt: HostRuntime) {
 }
 
 #[test]
-fn towers_that_are_the_same(rt: HostRuntime) {
-    assert!(rt; towers_compared(&rt, rt.alloc(), ONE, ONE) == b'=');
-}
-
-#[test]
-fn towers_that_differ(rt: HostRuntime) {
-    assert!(rt; towers_compared(&rt, rt.alloc(), ONE, A) == b'!');
-}
-
-#[test]
-fn towers_that_wait(rt: HostRuntime) {
-    let answer = towers_compared(&rt, rt.alloc(), Cell::Variable(0), ONE);
-    assert!(rt; answer > 0 && answer < 10);
+fn towers_are_compared(rt: HostRuntime) {
+    for (left, right, wanted) in [(ONE, ONE, b'='), (ONE, A, b'!')] {
+        assert!(rt; towers_compared(&rt, rt.alloc(), left, right) == wanted);
+    }
+    let waiting = towers_compared(&rt, rt.alloc(), Cell::Variable(0), ONE);
+    assert!(rt; waiting > 0 && waiting < 10);
 }
