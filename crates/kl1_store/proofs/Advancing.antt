@@ -15,11 +15,10 @@ use Rattle.kl1_store.specs.declared.cell.Cell.TheVariants.{Structure}
 use Rattle.kl1_store.specs.declared.frame.Frame.{Frame}
 use Rattle.kl1_store.specs.declared.meeting.Meeting.TheVariants.{Clash}
 use Rattle.kl1_store.specs.Held.{Held, arguments_of}
-use Rattle.kl1_store.specs.Meaning.{term_of, terms_of}
+use Rattle.kl1_store.specs.Meaning.{term_of, terms_of, unread}
 use Rattle.kl1_store.specs.Sound.{IsFormed}
 use Rattle.kl1_store.specs.Waiting.{rest_of, waiting, IsPair, ArePairs, Turn, IsTurn}
 use Rattle.kl1_store.specs.Onward.{onward}
-use Rattle.kl1_store.specs.Spots.{unread}
 use Rattle.kl1_store.specs.Meets.{MeetsAs, Takes, Opens}
 use Rattle.kl1_store.specs.Unifies.{ForEachReading}
 use Rattle.kl1_store.proofs.Terms.{term_of-Structure}
@@ -40,7 +39,7 @@ ArePairs-pop h [] p a = (tt, a.0)
 ArePairs-pop h (q ∷ ps) p a = let r = ArePairs-pop h ps p a.1 in ((a.0, r.0), r.1)
 
 pub onward_pair : {N : Type 0} (h : Held N) (p : Frame) → IsPair h p → suc p.next ≤ p.count → IsPair h (onward p)
-onward_pair h p q le = record { left = q.left; right = q.right; left_count = q.left_count; right_count = q.right_count; next = omega arith }
+onward_pair h p q le = record { left = q.left; right = q.right; left_count = q.left_count; right_count = q.right_count; next = omega arith; name = q.name; left_shape = q.left_shape; right_shape = q.right_shape }
 
 pub drop_here : {X : Type 0} (xs : List X) (i : ℕ) (x : X) → slice_get xs i ≡ Some x → drop i xs ≡ x ∷ drop (i + 1) xs
 drop_here {X = X} xs i x e =

@@ -8,10 +8,14 @@ pub mod Walking
 pub mod Meetings
 pub mod Numbered
 pub mod Advancing
-pub mod Searching
+pub mod Levelling
+pub mod Lifting
 pub mod Settling
 pub mod Unifying
 pub mod Comparing
 pub mod ComparingEach
 pub mod Answering
 pub mod Grows
+pub mod Merging
+pub mod Nesting
+pub mod Equalling

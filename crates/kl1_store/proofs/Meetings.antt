@@ -1,5 +1,5 @@
 -- What the front equation leads to, for each two kinds of cells.
-use Rattle.std.proofs.Common.{◌≡◌, ℕ, zero, suc, ◌<◌, ◌≤◌, ◌==◌, false, ◌&&◌, if◌then◌else◌, List, [], ◌∷◌, length, refl, sym, ap, ◌∙◌, arith, subst, ℤ}
+use Rattle.std.proofs.Common.{◌≡◌, ℕ, zero, suc, ◌<◌, ◌≤◌, ◌==◌, false, ◌&&◌, if◌then◌else◌, List, [], ◌∷◌, length, refl, sym, ap, ◌∙◌, inl, inr, arith, subst, ℤ}
 use Rattle.std.specs.Prelude.{Option, Some, slice_get, bytes_eq, nat_lt}
 use Rattle.std.specs.Ordering.{int_eq}
 use Rattle.std.proofs.lemmas.Slice.Eq.{bytes_eq-Decides}
@@ -100,6 +100,7 @@ pub takes_left : {N : Type 0} (h : Held N) (v : ℕ) (r : Cell N) → IsFormed h
 takes_left h v r p inside unbound known value = record {
   can = record { inside = inside; unbound = unbound; known = known; lower = lower_than v r value };
   one = λ p q. p;
+  sides = inl (refl, refl);
   leads = λ f es.
       ap (λ t. front t (term_of f h r) es) (term_of-unbound f h v unbound)
       ∙ front-left v (term_of f h r) es (let k = kind_kept f h r p known value in omega (arith, no_variable r value));
@@ -109,6 +110,7 @@ pub takes_right : {N : Type 0} (h : Held N) (v : ℕ) (l : Cell N) → IsFormed 
 takes_right h v l p inside unbound known value = record {
   can = record { inside = inside; unbound = unbound; known = known; lower = lower_than v l value };
   one = λ p q. q;
+  sides = inr (refl, refl);
   leads = λ f es.
       ap (λ t. front (term_of f h l) t es) (term_of-unbound f h v unbound)
       ∙ front-right v (term_of f h l) es (let k = kind_kept f h l p known value in omega (arith, no_variable l value));
@@ -135,6 +137,7 @@ pub takes_lower : {N : Type 0} (h : Held N) (v w : ℕ) → suc w ≤ h.variable
 takes_lower h v w inside p q lt = record {
   can = record { inside = inside; unbound = q; known = omega arith; lower = lt };
   one = λ p q. p;
+  sides = inr (refl, refl);
   leads = λ f es. both_unbound f h v w es p q ∙ front-lower v w es lt ∙ ap (λ t. bound_to w t es) (sym (term_of-unbound f h v p));
 }
 
@@ -142,6 +145,7 @@ pub takes_higher : {N : Type 0} (h : Held N) (v w : ℕ) → suc v ≤ h.variabl
 takes_higher h v w inside p q lt = record {
   can = record { inside = inside; unbound = p; known = omega arith; lower = lt };
   one = λ p q. p;
+  sides = inl (refl, refl);
   leads = λ f es. both_unbound f h v w es p q ∙ front-higher v w es lt ∙ ap (λ t. bound_to v t es) (sym (term_of-unbound f h w q));
 }
 
@@ -194,18 +198,29 @@ names_clash built h s t a b p read ne = λ f reads es.
 
 pub structures_open : {N : Type 0} (h : Held N) (s t n : ℕ) (a b : N) → IsFormed h → AreRead h s t a b → s < length h.structures → t < length h.structures →
     n ≡ length (arguments_of h s) → n ≡ length (arguments_of h t) → a ≡ b → Opens h (Structure s) (Structure t) (record { left = s; right = t; next = 0; count = n })
-structures_open h s t n a b p read ls lt es et e = record {
-  left = refl;
-  right = refl;
-  start = refl;
-  is = record { left = ls; right = lt; left_count = sym es; right_count = sym et; next = omega arith };
-  leads = λ f rest.
-      front-structures f h s t a b rest p read
-      ∙ cond-true (bytes_eq (f a) (f b) && count_of (terms_of f h (arguments_of h s)) == count_of (terms_of f h (arguments_of h t)))
-      (goes_on (argument_equations (terms_of f h (arguments_of h s)) (terms_of f h (arguments_of h t)) rest)) fails
-      (and_from (bytes_eq (f a) (f b)) _ ((bytes_eq-Decides (f a) (f b)).1 (ap f e))
-      (eq-eqb _ _ (count_of-terms_of f h (arguments_of h s) ∙ sym es ∙ et ∙ sym (count_of-terms_of f h (arguments_of h t)))));
-}
+structures_open {N = N} h s t n a b p read ls lt es et e =
+    let P : N → Type 0 = λ m. slice_get h.structures s ≡ Some (record { name = m; arguments = arguments_of h s }) in
+    record {
+      left = refl;
+      right = refl;
+      start = refl;
+      is = record {
+        left = ls;
+        right = lt;
+        left_count = sym es;
+        right_count = sym et;
+        next = omega arith;
+        name = b;
+        left_shape = subst P e read.left;
+        right_shape = read.right;
+      };
+      leads = λ f rest.
+          front-structures f h s t a b rest p read
+          ∙ cond-true (bytes_eq (f a) (f b) && count_of (terms_of f h (arguments_of h s)) == count_of (terms_of f h (arguments_of h t)))
+          (goes_on (argument_equations (terms_of f h (arguments_of h s)) (terms_of f h (arguments_of h t)) rest)) fails
+          (and_from (bytes_eq (f a) (f b)) _ ((bytes_eq-Decides (f a) (f b)).1 (ap f e))
+          (eq-eqb _ _ (count_of-terms_of f h (arguments_of h s) ∙ sym es ∙ et ∙ sym (count_of-terms_of f h (arguments_of h t)))));
+    }
 
 pub takes_left_at : {N : Type 0} (h : Held N) (l r : Cell N) (v : ℕ) → l ≡ Variable v → IsFormed h → IsIn h l → IsWalked h l → IsIn h r → IsNoVariable r → Takes h l r v r
 takes_left_at {N = N} h l r v e p inside walked known value =

@@ -105,7 +105,7 @@ waiting-binding f h v x es (p ∷ ps) =
 pub ArePairs-binding : {N : Type 0} (h : Held N) (v : ℕ) (x : Cell N) (ps : List Frame) → ArePairs h ps → ArePairs (with_binding h v x) ps
 ArePairs-binding h v x [] p = tt
 ArePairs-binding h v x (q ∷ ps) p =
-    (record { left = p.0.left; right = p.0.right; left_count = p.0.left_count; right_count = p.0.right_count; next = p.0.next }, ArePairs-binding h v x ps p.1)
+    (record { left = p.0.left; right = p.0.right; left_count = p.0.left_count; right_count = p.0.right_count; next = p.0.next; name = p.0.name; left_shape = p.0.left_shape; right_shape = p.0.right_shape }, ArePairs-binding h v x ps p.1)
 
 -- ---- the replacements so far, and what is still to be solved
 

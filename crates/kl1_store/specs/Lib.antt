@@ -8,10 +8,13 @@ pub mod Meets
 pub mod Value
 pub mod Unifies
 pub mod Onward
-pub mod SpotOnward
-pub mod Spots
+pub mod Levels
+pub mod Tasks
 pub mod Unification
 pub mod Compares
 pub mod ComparesEach
 pub mod Sameness
 pub mod Hooks
+pub mod Nested
+pub mod Merged
+pub mod Done

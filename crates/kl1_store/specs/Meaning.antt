@@ -43,3 +43,7 @@ term_of f h x = replaced (replacements f h) (mean f (shapes f h) x)
 unfoldable pub terms_of : {N : Type 0} → (N → List ℕ) → Held N → List (Cell N) → Terms
 terms_of f h [] = none
 terms_of f h (x ∷ xs) = more (term_of f h x) (terms_of f h xs)
+
+-- names read as nothing
+abbrev pub unread : {N : Type 0} → N → List ℕ
+unread n = []

@@ -1,10 +1,10 @@
 -- What an equation of two cells leads to, by the definition of unification.
-use Rattle.std.specs.Prelude.{◌≡◌, ℕ, suc, ◌≤◌, false, List}
+use Rattle.std.specs.Prelude.{◌≡◌, ℕ, suc, ◌≤◌, ◌⊎◌, false, List}
 use Rattle.kl1_model.specs.declared.built_in.BuiltIn.{BuiltIn}
 use Rattle.kl1_model.specs.Unify.{Equation, goes_on, fails, bound_to, front}
 use Rattle.kl1_text.specs.Reading.{Reads}
 use Rattle.kl1_store.specs.declared.cell.Cell.{Cell}
-use Rattle.kl1_store.specs.declared.cell.Cell.TheVariants.{Structure}
+use Rattle.kl1_store.specs.declared.cell.Cell.TheVariants.{Variable, Structure}
 use Rattle.kl1_store.specs.declared.frame.Frame.{Frame}
 use Rattle.kl1_store.specs.declared.meeting.Meeting.{Meeting}
 use Rattle.kl1_store.specs.declared.meeting.Meeting.TheVariants.{Same, Clash, Bind, Open}
@@ -23,6 +23,7 @@ pub record CanTake {N : Type 0} (h : Held N) (v : ℕ) (x : Cell N) : Type 0 whe
 pub record Takes {N : Type 0} (h : Held N) (l r : Cell N) (v : ℕ) (x : Cell N) : Type 0 where
   pub can : CanTake h v x
   pub one : IsNoVariable l → IsNoVariable r → ⊥
+  pub sides : ((l ≡ Variable v) × (x ≡ r)) ⊎ ((r ≡ Variable v) × (x ≡ l))
   pub leads : (f : N → List ℕ) (es : List Equation) → front (term_of f h l) (term_of f h r) es ≡ bound_to v (term_of f h x) es
 
 pub record Opens {N : Type 0} (h : Held N) (l r : Cell N) (p : Frame) : Type 0 where

@@ -16,13 +16,16 @@ unfoldable pub waiting : {N : Type 0} → (N → List ℕ) → Held N → List E
 waiting f h es [] = es
 waiting f h es (p ∷ ps) = waiting f h (rest_of f h p es) ps
 
--- two structures of one number of arguments
+-- two structures of one name and one number of arguments
 pub record IsPair {N : Type 0} (h : Held N) (p : Frame) : Type 0 where
   pub left : suc p.left ≤ length h.structures
   pub right : suc p.right ≤ length h.structures
   pub left_count : length (arguments_of h p.left) ≡ p.count
   pub right_count : length (arguments_of h p.right) ≡ p.count
   pub next : p.next ≤ p.count
+  pub name : N
+  pub left_shape : slice_get h.structures p.left ≡ Some (record { name = name; arguments = arguments_of h p.left })
+  pub right_shape : slice_get h.structures p.right ≡ Some (record { name = name; arguments = arguments_of h p.right })
 
 abbrev pub ArePairs : {N : Type 0} → Held N → List Frame → Type 0
 ArePairs h [] = Unit {0}

@@ -1,6 +1,7 @@
 // Two cells side by side, without binding anything.
 
-ghost use Rattle.std.specs.Prelude.{◌≡◌, ℕ, List, IfOk};
+ghost use Rattle.std.specs.Prelude.{◌≡◌, ℕ, List, IfOk, IsTrue};
+ghost use Rattle.kl1_store.specs.Done.{IsKnown};
 ghost use Rattle.kl1_store.specs.Held.{Held, IsIn, IsWalked};
 ghost use Rattle.kl1_store.specs.Waiting.{ArePairs};
 ghost use Rattle.kl1_store.specs.Compares.{ComparesAs, ComparedAs};
@@ -11,6 +12,7 @@ use crate::cells::Cells;
 use crate::frame::Frame;
 use crate::meeting::Meeting;
 use crate::meets::meet;
+use crate::pairs::Pairs;
 use kl1_text::NameValue;
 use std::alloc::AllocError;
 
@@ -61,10 +63,24 @@ fn compare_sides<N: NameValue>(
     }
 }
 
-/// Compares two cells: false where they clash; `waits` gets the variables for which they wait, `frames` is scratch.
+/// Whether two cells are structures that were compared.
+fn is_known<N: Copy>(pairs: &Pairs, left: Cell<N>, right: Cell<N>) -> bool
+    ensures { IsTrue result → IsKnown left right pairs.now }
+{
+    if let Cell::Structure(first) = left {
+        if let Cell::Structure(second) = right {
+            return pairs.has(first, second);
+        }
+    }
+    false
+}
+
+/// Compares two cells: false where they clash; `waits` gets the variables for which they wait, `frames` and `pairs` are
+/// scratch.
 pub fn compare<N: NameValue>(
     cells: &Cells<N>,
     frames: &mut Vec<Frame>,
+    pairs: &mut Pairs,
     waits: &mut Vec<u32>,
     left: Cell<N>,
     right: Cell<N>,
@@ -73,7 +89,9 @@ pub fn compare<N: NameValue>(
     requires right_in { IsIn cells.now.held right }
     ensures { IfOk result (ComparedAs N.built cells.now.held left right waits.old.items waits.new.items) }
 {
+    let _ = cells.mark();
     frames.clear();
+    pairs.clear();
     let first = cells.walk(left);
     let second = cells.walk(right);
     if !compare_sides(cells, frames, waits, first, second)? {
@@ -81,10 +99,14 @@ pub fn compare<N: NameValue>(
     }
     while let Some(frame) = frames.pop() {
         if frame.next >= frame.count {
+            pairs.add(frame.left, frame.right)?;
             continue;
         }
         let sides = turn(cells, frame);
         frames.push(frame.onward())?;
+        if is_known(pairs, sides.left, sides.right) {
+            continue;
+        }
         if !compare_sides(cells, frames, waits, sides.left, sides.right)? {
             return Ok(false);
         }

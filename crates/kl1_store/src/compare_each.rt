@@ -8,6 +8,7 @@ use crate::cell::Cell;
 use crate::cells::Cells;
 use crate::compare::compare;
 use crate::frame::Frame;
+use crate::pairs::Pairs;
 use kl1_text::NameValue;
 use std::alloc::AllocError;
 
@@ -15,6 +16,7 @@ use std::alloc::AllocError;
 fn compare_with<N: NameValue>(
     cells: &Cells<N>,
     frames: &mut Vec<Frame>,
+    pairs: &mut Pairs,
     waits: &mut Vec<u32>,
     cell: Cell<N>,
     others: &[Cell<N>],
@@ -26,7 +28,7 @@ fn compare_with<N: NameValue>(
     let mut rest = others;
     while let [other, more @ ..] = rest {
         let other = *other;
-        if !compare(cells, frames, waits, cell, other)? {
+        if !compare(cells, frames, pairs, waits, cell, other)? {
             return Ok(false);
         }
         rest = more;
@@ -38,6 +40,7 @@ fn compare_with<N: NameValue>(
 pub fn compare_each<N: NameValue>(
     cells: &Cells<N>,
     frames: &mut Vec<Frame>,
+    pairs: &mut Pairs,
     waits: &mut Vec<u32>,
     terms: &[Cell<N>],
 ) -> Result<bool, AllocError>
@@ -47,7 +50,7 @@ pub fn compare_each<N: NameValue>(
     let mut rest = terms;
     while let [first, more @ ..] = rest {
         let first = *first;
-        if !compare_with(cells, frames, waits, first, more)? {
+        if !compare_with(cells, frames, pairs, waits, first, more)? {
             return Ok(false);
         }
         rest = more;

@@ -14,10 +14,14 @@ use crate::compare_each::compare_each;
 use crate::frame::Frame;
 use crate::head::Head;
 use crate::hook::Hook;
+use crate::levels::Levels;
+use crate::merges::Merges;
+use crate::pairs::Pairs;
 use crate::point::Point;
 use crate::same::Same;
 use crate::settle::unify_cells;
-use crate::spot::Spot;
+use crate::take_back::take_back;
+use crate::task::Task;
 use crate::tell::tell_all;
 use crate::unified::Unified;
 use kl1_text::NameValue;
@@ -32,7 +36,10 @@ use std::marker::Model;
 pub struct Store<N: NameValue> {
     cells: Cells<N>,
     frames: Vec<Frame>,
-    spots: Vec<Spot>,
+    merges: Merges,
+    pairs: Pairs,
+    levels: Levels,
+    tasks: Vec<Task<N>>,
     hooks: Vec<Hook>,
     alloc: Global,
 }
@@ -43,6 +50,10 @@ impl<N: NameValue> Model for Store<N> {
     ghost Value = { Kept N };
 
     ghost view = { λ s. record { held = s.cells.held; hooks = s.hooks.items; room = s.cells.room } };
+
+    ghost use Rattle.kl1_store.specs.Levels.{AreLevels};
+
+    ghost invariant = { λ s. AreLevels s.cells.held s.levels };
 }
 
 impl<N: NameValue> Store<N> {
@@ -54,7 +65,10 @@ impl<N: NameValue> Store<N> {
         Store {
             cells: Cells::new(alloc),
             frames: Vec::new(alloc),
-            spots: Vec::new(alloc),
+            merges: Merges::new(alloc),
+            pairs: Pairs::new(alloc),
+            levels: Levels::new(alloc),
+            tasks: Vec::new(alloc),
             hooks: Vec::new(alloc),
             alloc,
         }
@@ -121,17 +135,19 @@ impl<N: NameValue> Store<N> {
         match unify_cells(
             &mut self.cells,
             &mut self.frames,
-            &mut self.spots,
+            &mut self.merges,
+            &mut self.levels,
+            &mut self.tasks,
             left,
             right,
         ) {
             Ok(true) => Ok(Unified::Bound),
             Ok(false) => {
-                self.cells.back(mark);
+                take_back(&mut self.cells, &mut self.levels, mark);
                 Ok(Unified::Clash)
             }
             Err(error) => {
-                self.cells.back(mark);
+                take_back(&mut self.cells, &mut self.levels, mark);
                 Err(error)
             }
         }
@@ -145,7 +161,13 @@ impl<N: NameValue> Store<N> {
         ensures hooks { self.new.hooks ≡ self.old.hooks }
     {
         let mut waits = Vec::new(self.alloc);
-        if !compare_each(&self.cells, &mut self.frames, &mut waits, terms)? {
+        if !compare_each(
+            &self.cells,
+            &mut self.frames,
+            &mut self.pairs,
+            &mut waits,
+            terms,
+        )? {
             return Ok(Same::No);
         }
         if waits.is_empty() {
@@ -226,7 +248,7 @@ impl<N: NameValue> Store<N> {
         ensures held { (k : Kept N) → mark ≡ point_of k → HasGrown k self.old → self.new.held ≡ k.held }
         ensures hooks { (k : Kept N) → mark ≡ point_of k → HasGrown k self.old → self.new.hooks ≡ k.hooks }
     {
-        self.cells.back(mark.sizes);
+        take_back(&mut self.cells, &mut self.levels, mark.sizes);
         self.hooks.truncate(mark.hooks);
     }
 }

@@ -1,0 +1,37 @@
+-- Pairs of structures that were compared to the end.
+use Rattle.std.specs.Prelude.{◌≡◌, ℕ, ◌⊎◌, false, List, [], ◌∷◌}
+use Rattle.std.specs.List.{Contains}
+use Rattle.kl1_model.specs.declared.built_in.BuiltIn.{BuiltIn}
+use Rattle.kl1_model.specs.Term.{Term}
+use Rattle.kl1_model.specs.Same.{clash, awaited}
+use Rattle.kl1_text.specs.Reading.{Reads}
+use Rattle.kl1_store.specs.declared.cell.Cell.{Cell}
+use Rattle.kl1_store.specs.declared.cell.Cell.TheVariants.{Structure}
+use Rattle.kl1_store.specs.declared.pair.Pair.{Pair}
+use Rattle.kl1_store.specs.Held.{Held}
+use Rattle.kl1_store.specs.Nested.{structure_term}
+
+-- a number in a list
+abbrev pub IsOf : ℕ → List ℕ → Type 0
+IsOf v [] = ⊥
+IsOf v (w ∷ ws) = (w ≡ v) ⊎ IsOf v ws
+
+-- two terms that don't clash, and the variables for which they wait are among these
+pub record IsDone (waits : List ℕ) (t u : Term) : Type 0 where
+  pub clash : clash t u ≡ false
+  pub awaited : (v : ℕ) → IsOf v (awaited t u) → IsOf v waits
+
+abbrev pub EachDone : (ℕ → Term) → List ℕ → List Pair → Type 0
+EachDone S waits [] = Unit {0}
+EachDone S waits (p ∷ ps) = IsDone waits (S p.left) (S p.right) × EachDone S waits ps
+
+abbrev pub AreDone : {N : Type 0} → (BuiltIn → N) → Held N → List ℕ → List Pair → Type 0
+AreDone {N = N} built h waits ps = (f : N → List ℕ) → Reads built f → EachDone (structure_term f h) waits ps
+
+-- two structures that were compared
+pub record IsKnown {N : Type 0} (x y : Cell N) (ps : List Pair) : Type 0 where
+  pub left : ℕ
+  pub right : ℕ
+  pub left_is : x ≡ Structure left
+  pub right_is : y ≡ Structure right
+  pub known : Contains ps (record { left = left; right = right })
