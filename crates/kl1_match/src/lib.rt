@@ -1,8 +1,12 @@
 //! What clauses make of goals: verdicts of heads, and instances of bodies, over cells.
 #![tactic(auto)]
 
+#[cfg(test)]
+mod answers;
 mod arguments;
 mod building;
+#[cfg(test)]
+mod cases;
 mod goals;
 mod instances;
 mod meets;
@@ -11,6 +15,8 @@ mod name_in;
 mod place;
 mod skips;
 mod step;
+#[cfg(test)]
+mod tests;
 mod variables;
 mod verdict;
 mod verdicts;
