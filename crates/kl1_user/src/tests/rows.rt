@@ -93,13 +93,20 @@ pub(super) fn pair(
 
 /// Whether two nodes are one constant, or structures of one name and number of arguments.
 pub(super) fn are_alike(left: &Node, right: &Node) -> bool {
-    match (*left, *right) {
-        (Node::Integer(one), Node::Integer(other)) => one == other,
-        (Node::Atom(one), Node::Atom(other)) => one.is(&other),
-        (Node::Structure(one, count), Node::Structure(other, many)) => {
-            one.is(&other) && count == many
-        }
-        _ => false,
+    match left {
+        Node::Variable(_number) => false,
+        Node::Integer(one) => match right {
+            Node::Integer(other) => *one == *other,
+            _ => false,
+        },
+        Node::Atom(one) => match right {
+            Node::Atom(other) => one.is(other),
+            _ => false,
+        },
+        Node::Structure(one, count) => match right {
+            Node::Structure(other, many) => one.is(other) && *count == *many,
+            _ => false,
+        },
     }
 }
 
