@@ -53,13 +53,13 @@ fn expect_starts(
 ) -> Result<(), Fail> {
     let reply = load(rt.alloc(), user, source.as_bytes())?;
     expect_reply(rt, &reply, &plain.load(source.as_bytes())?)?;
-    let mut high = 5;
+    let mut high: u64 = 5;
     for text in goals {
         let goal = goal_of(rt.alloc(), *text)?;
         let wanted = plain.start(0, high, &goal)?;
         let reply = start(user, 0, high, goal)?;
         expect_reply(rt, &reply, &wanted)?;
-        high = 9 - high;
+        high = high.saturating_add(1);
     }
     Ok(())
 }
