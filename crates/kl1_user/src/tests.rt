@@ -2,11 +2,8 @@
 
 mod acts;
 mod clauses;
-mod comparisons;
 mod long_terms;
 mod names;
-mod plain;
 mod refusals;
 mod reports;
-mod rows;
 mod unifications;
