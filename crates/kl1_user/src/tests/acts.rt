@@ -1,37 +1,78 @@
-// What tests do with an account, and its answers as text.
+// What tests do with an account, and its answers as text: rows of an act, `#`, the answer to it and `;`.
 
 use crate::user_state::inside::{set_entries, stream_of};
 use crate::{AccountName, ClauseNo, Event, GoalNo, Query, Refusal, Reply, ShoenNo, UserState};
 use kl1_read::read_goal;
 use kl1_term::Term;
 use std::alloc::Global;
-use std::process::Abort;
 use std::str;
 use std::test::Fail;
 
 /// What a test does with an account; each has one line of answer.
 #[derive(Clone, Copy)]
-pub(super) enum Act<'a> {
-    /// A module is loaded.
-    Load(&'a str),
-    /// A goal is started with an allowance of 10 and priorities from 0 to 10.
-    Start(&'a str),
-    /// A goal is started with these priorities.
-    StartIn(u64, u64, &'a str),
-    /// A goal is started with this allowance and priorities from 0 to 4,095.
-    StartWith(u64, &'a str),
-    /// A goal is reduced by a clause.
-    Reduce(u64, u64),
-    /// The first goal steps, again and again, so many times at most.
-    Run(u64),
-    /// The goal of a shoen is shown.
-    Value(u64),
-    /// The report stream of a shoen is shown.
-    Stream(u64),
-    /// The first goal is shown with its clause, or `quiet` where there is none.
+enum Verb {
+    /// `load TEXT`: a module is loaded from the text, or from the source of the test where there is none.
+    Load,
+    /// `start GOAL`: with an allowance of 10 and priorities from 0 to 10.
+    Start,
+    /// `start_in LOW HIGH GOAL`: with an allowance of 10 and these priorities.
+    StartIn,
+    /// `start_with ALLOWANCE GOAL`: with priorities from 0 to 4,095.
+    StartWith,
+    /// `reduce GOAL CLAUSE`: by their numbers.
+    Reduce,
+    /// `run N`: the first goal steps, again and again, so many times at most.
+    Run,
+    /// `value SHOEN`: the goal of a shoen is shown.
+    Value,
+    /// `stream SHOEN`: the report stream of a shoen is shown.
+    Stream,
+    /// `first`: the first goal is shown with its clause, or `quiet` where there is none.
     First,
-    /// The journal has so many entries.
-    Entries(u64),
+    /// `entries N`: the journal has so many entries.
+    Entries,
+}
+
+/// The verb of a word.
+fn verb_of(word: &[u8]) -> Option<Verb> {
+    let verbs = [
+        ("load", Verb::Load),
+        ("start", Verb::Start),
+        ("start_in", Verb::StartIn),
+        ("start_with", Verb::StartWith),
+        ("reduce", Verb::Reduce),
+        ("run", Verb::Run),
+        ("value", Verb::Value),
+        ("stream", Verb::Stream),
+        ("first", Verb::First),
+        ("entries", Verb::Entries),
+    ];
+    for (name, verb) in verbs {
+        if name.as_bytes() == word {
+            return Some(verb);
+        }
+    }
+    None
+}
+
+/// The number that digits write: 0 of none.
+fn number_of(digits: &[u8]) -> u64 {
+    let mut number: u64 = 0;
+    for digit in digits {
+        let digit = u64::from(digit.saturating_sub(b'0'));
+        number = number.saturating_mul(10).saturating_add(digit);
+    }
+    number
+}
+
+/// A text up to the first `mark`, and what stands behind that: the whole and nothing, where it has none.
+fn cut(text: &[u8], mark: u8) -> (&[u8], &[u8]) {
+    for place in 0..text.len() {
+        if text[place] == mark {
+            return (&text[..place], &text[place + 1..]);
+        }
+    }
+    (text, b"")
 }
 
 /// An account in which nothing has happened.
@@ -41,8 +82,8 @@ pub(super) fn fresh(alloc: Global) -> Result<UserState, Fail> {
 }
 
 /// The goal that a text is.
-pub(super) fn goal_of(alloc: Global, text: &str) -> Result<Term, Fail> {
-    Ok(read_goal(alloc, text.as_bytes()).ok().ok_or("no goal")?)
+pub(super) fn goal_of(alloc: Global, text: &[u8]) -> Result<Term, Fail> {
+    Ok(read_goal(alloc, text).ok().ok_or("no goal")?)
 }
 
 /// The number and word of a refusal.
@@ -149,65 +190,87 @@ fn start_with(
     })?)
 }
 
+/// What an account answers to a start of a goal whose priorities stand before it.
+fn start_in(alloc: Global, user: &mut UserState, words: &[u8]) -> Result<Reply, Fail> {
+    let (low, behind) = cut(words, b' ');
+    let (high, goal) = cut(behind, b' ');
+    start(user, number_of(low), number_of(high), goal_of(alloc, goal)?)
+}
+
+/// What an account answers to a start of a goal whose allowance stands before it.
+fn start_within(alloc: Global, user: &mut UserState, words: &[u8]) -> Result<Reply, Fail> {
+    let (allowance, goal) = cut(words, b' ');
+    start_with(user, number_of(allowance), 0, 4095, goal_of(alloc, goal)?)
+}
+
 /// What an account answers to a reduction.
-fn reduce(user: &mut UserState, goal: u64, clause: u64) -> Result<Reply, Fail> {
+fn reduce(user: &mut UserState, words: &[u8]) -> Result<Reply, Fail> {
+    let (goal, clause) = cut(words, b' ');
     Ok(user.apply(&Event::Reduce {
-        goal: GoalNo(goal),
-        clause: ClauseNo(clause),
+        goal: GoalNo(number_of(goal)),
+        clause: ClauseNo(number_of(clause)),
     })?)
 }
 
 /// What an account answers to a question for a shoen's goal.
-fn value(user: &mut UserState, shoen: u64) -> Result<Reply, Fail> {
+pub(super) fn value(user: &mut UserState, shoen: u64) -> Result<Reply, Fail> {
     Ok(user.apply(&Event::Read(Query::Value(ShoenNo(shoen))))?)
 }
 
-/// What an account answers to what a test does with it.
-fn answer(
-    rt: &(impl Abort + AllocGlobal),
+/// What an account answers to a verb with words behind it.
+fn answer_to(
+    rt: &HostRuntime,
     user: &mut UserState,
-    act: Act<'_>,
+    source: &[u8],
+    verb: Verb,
+    words: &[u8],
 ) -> Result<String, Fail> {
     let alloc = rt.alloc();
-    let reply = match act {
-        Act::Load(source) => load(alloc, user, source.as_bytes())?,
-        Act::Start(goal) => start(user, 0, 10, goal_of(alloc, goal)?)?,
-        Act::StartIn(low, high, goal) => start(user, low, high, goal_of(alloc, goal)?)?,
-        Act::StartWith(allowance, goal) => {
-            start_with(user, allowance, 0, 4095, goal_of(alloc, goal)?)?
-        }
-        Act::Reduce(goal, clause) => reduce(user, goal, clause)?,
-        Act::Run(most) => run(user, most)?,
-        Act::Value(shoen) => value(user, shoen)?,
-        Act::Stream(shoen) => Reply::Shown(stream_of(rt, user, shoen)?),
-        Act::First => return first_text(alloc, user),
-        Act::Entries(count) => {
-            set_entries(user, count);
-            Reply::Ran(count)
+    let reply = match verb {
+        Verb::Load => load(alloc, user, if words.is_empty() { source } else { words })?,
+        Verb::Start => start(user, 0, 10, goal_of(alloc, words)?)?,
+        Verb::StartIn => start_in(alloc, user, words)?,
+        Verb::StartWith => start_within(alloc, user, words)?,
+        Verb::Reduce => reduce(user, words)?,
+        Verb::Run => run(user, number_of(words))?,
+        Verb::Value => value(user, number_of(words))?,
+        Verb::Stream => Reply::Shown(stream_of(user, number_of(words))?),
+        Verb::First => return first_text(alloc, user),
+        Verb::Entries => {
+            set_entries(user, number_of(words));
+            Reply::Ran(number_of(words))
         }
     };
     reply_text(alloc, &reply)
 }
 
-/// Checks the answers of an account, one after another.
-pub(super) fn expect(
-    rt: &(impl Abort + AllocGlobal),
+/// Whether the answer to an act is this one, and `quiet` and `pick` say the same then.
+fn is_right(
+    rt: &HostRuntime,
     user: &mut UserState,
-    rows: &[(Act<'_>, &str)],
-) -> Result<(), Fail> {
-    for (act, wanted) in rows {
-        let text = answer(rt, user, *act)?;
-        assert_eq!(rt; text.as_str(), *wanted);
-        assert_eq!(rt; user.quiet(), user.pick().is_none());
-    }
-    Ok(())
+    source: &[u8],
+    row: &[u8],
+) -> Result<bool, Fail> {
+    let (act, wanted) = cut(row, b'#');
+    let (word, words) = cut(act, b' ');
+    let verb = verb_of(word).ok_or("no verb")?;
+    let text = answer_to(rt, user, source, verb, words)?;
+    Ok(text.as_bytes() == wanted && user.quiet() == user.pick().is_none())
 }
 
-/// Checks the answers of an account in which nothing has happened, one after another.
-pub(super) fn expect_fresh(
-    rt: &(impl Abort + AllocGlobal),
-    rows: &[(Act<'_>, &str)],
-) -> Result<(), Fail> {
+/// How many rows come right before the first that does not, of an account in which nothing has happened.
+pub(super) fn right(rt: &HostRuntime, source: &[u8], rows: &[u8]) -> Result<usize, Fail> {
     let mut user = fresh(rt.alloc())?;
-    expect(rt, &mut user, rows)
+    let mut left = rows;
+    for number in 0..rows.len() {
+        if left.is_empty() {
+            return Ok(number);
+        }
+        let (row, behind) = cut(left, b';');
+        if !is_right(rt, &mut user, source, row)? {
+            return Ok(number);
+        }
+        left = behind;
+    }
+    Ok(0)
 }

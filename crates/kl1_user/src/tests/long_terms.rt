@@ -1,12 +1,11 @@
 // Long terms and long runs.
 
-use super::acts::{Act, expect, fresh, goal_of, load, reply_text, start};
+use super::acts::{fresh, goal_of, load, reply_text, run, start, value};
 use super::clauses::APP;
 use crate::{Reply, UserState};
 use kl1_term::Term;
 use kl1_text::AtomText;
 use std::alloc::Global;
-use std::process::Abort;
 use std::test::Fail;
 
 /// A text: a front, a part so many times, and what stands behind them.
@@ -59,113 +58,137 @@ fn two(alloc: Global, name: &[u8], left: Term, right: Term) -> Result<Term, Fail
     Ok(Term::structure(alloc, name, terms.as_slice())?)
 }
 
-/// Checks what an account answers to the first start, of a goal, to first steps, and to a question for the goal.
-fn expect_goal(
-    rt: &(impl Abort + AllocGlobal),
+/// Whether an account answers so to the first start, of a goal, to first steps, and to a question for the goal.
+fn is_right(
+    alloc: Global,
     user: &mut UserState,
     goal: Term,
     steps: &str,
-    value: &str,
-) -> Result<(), Fail> {
+    wanted: &str,
+) -> Result<bool, Fail> {
     let reply = start(user, 0, 10, goal)?;
-    assert_eq!(rt; reply_text(rt.alloc(), &reply)?.as_str(), "+ shoen 1");
-    expect(
-        rt,
-        user,
-        &[(Act::Run(10_000), steps), (Act::Value(1), value)],
-    )
+    let started = reply_text(alloc, &reply)?;
+    let reply = run(user, 10_000)?;
+    let ran = reply_text(alloc, &reply)?;
+    let reply = value(user, 1)?;
+    let shown = reply_text(alloc, &reply)?;
+    Ok(started.as_str() == "+ shoen 1" && ran.as_str() == steps && shown.as_str() == wanted)
 }
 
 /// An account with the module of a source.
-fn loaded(rt: &(impl Abort + AllocGlobal), source: &str) -> Result<UserState, Fail> {
-    let mut user = fresh(rt.alloc())?;
-    let reply = load(rt.alloc(), &mut user, source.as_bytes())?;
-    match &reply {
-        Reply::Loaded(_name) => (),
-        _ => assert!(rt; false, "no module"),
+fn loaded(alloc: Global, source: &[u8]) -> Result<UserState, Fail> {
+    let mut user = fresh(alloc)?;
+    match load(alloc, &mut user, source)? {
+        Reply::Loaded(_name) => Ok(user),
+        _ => Err(Fail::from("no module")),
     }
-    Ok(user)
+}
+
+/// Whether a goal with a list of 30,000 elements is shown so.
+fn is_list_shown(alloc: Global) -> Result<bool, Fail> {
+    let mut user = fresh(alloc)?;
+    let variable = Term::variable(alloc, 1)?;
+    let goal = two(alloc, b"=", variable, atoms(alloc, b"a", 29_999)?)?;
+    let value = repeated(alloc, "'='([a", ",a", 29_999, "]")?;
+    let value = cut(alloc, value.as_str())?;
+    is_right(alloc, &mut user, goal, "+ 1", value.as_str())
 }
 
 #[test]
 fn a_goal_with_a_list_of_30000_elements(rt: HostRuntime) -> Result<(), Fail> {
-    let mut user = fresh(rt.alloc())?;
-    let variable = Term::variable(rt.alloc(), 1)?;
-    let goal = two(rt.alloc(), b"=", variable, atoms(rt.alloc(), b"a", 29_999)?)?;
-    let value = repeated(rt.alloc(), "'='([a", ",a", 29_999, "]")?;
-    let value = cut(rt.alloc(), value.as_str())?;
-    expect_goal(&rt, &mut user, goal, "+ 1", value.as_str())?;
-    drop(user);
+    assert!(rt; is_list_shown(rt.alloc())?);
     Ok(())
+}
+
+/// Whether two lists of 30,000 elements, the second with as many behind them, become one.
+fn are_lists_one(alloc: Global) -> Result<bool, Fail> {
+    let mut user = fresh(alloc)?;
+    let element = Term::variable(alloc, 1)?;
+    let tail = Term::variable(alloc, 2)?;
+    let left = list_of(alloc, &element, 30_000, &tail)?;
+    let goal = two(alloc, b"=", left, atoms(alloc, b"a", 59_999)?)?;
+    let value = repeated(alloc, "'='([a", ",a", 29_999, "]")?;
+    let value = cut(alloc, value.as_str())?;
+    is_right(alloc, &mut user, goal, "+ 1", value.as_str())
 }
 
 #[test]
 fn two_lists_of_30000_elements_become_one(rt: HostRuntime) -> Result<(), Fail> {
-    let mut user = fresh(rt.alloc())?;
-    let element = Term::variable(rt.alloc(), 1)?;
-    let tail = Term::variable(rt.alloc(), 2)?;
-    let left = list_of(rt.alloc(), &element, 30_000, &tail)?;
-    let goal = two(rt.alloc(), b"=", left, atoms(rt.alloc(), b"a", 59_999)?)?;
-    let value = repeated(rt.alloc(), "'='([a", ",a", 29_999, "]")?;
-    let value = cut(rt.alloc(), value.as_str())?;
-    expect_goal(&rt, &mut user, goal, "+ 1", value.as_str())?;
-    drop(user);
+    assert!(rt; are_lists_one(rt.alloc())?);
     Ok(())
+}
+
+/// Whether a body's list of 30,000 elements is shown so.
+fn is_body_shown(alloc: Global) -> Result<bool, Fail> {
+    let front = ":- module l.\np(X) :- true | X = [a";
+    let source = repeated(alloc, front, ",a", 29_999, "].")?;
+    let mut user = loaded(alloc, source.as_bytes())?;
+    let goal = goal_of(alloc, b"l:p(X)")?;
+    let value = repeated(alloc, "l:p([a", ",a", 29_999, "])")?;
+    let value = cut(alloc, value.as_str())?;
+    is_right(alloc, &mut user, goal, "+ 2", value.as_str())
 }
 
 #[test]
 fn a_body_with_a_list_of_30000_elements(rt: HostRuntime) -> Result<(), Fail> {
-    let front = ":- module l.\np(X) :- true | X = [a";
-    let source = repeated(rt.alloc(), front, ",a", 29_999, "].")?;
-    let mut user = loaded(&rt, source.as_str())?;
-    let goal = goal_of(rt.alloc(), "l:p(X)")?;
-    let value = repeated(rt.alloc(), "l:p([a", ",a", 29_999, "])")?;
-    let value = cut(rt.alloc(), value.as_str())?;
-    expect_goal(&rt, &mut user, goal, "+ 2", value.as_str())?;
-    drop(user);
+    assert!(rt; is_body_shown(rt.alloc())?);
     Ok(())
+}
+
+/// The goal of a module that a head with a list of 30,000 elements accepts.
+fn call_of_list(alloc: Global) -> Result<Term, Fail> {
+    let list = atoms(alloc, b"a", 29_999)?;
+    let variable = Term::variable(alloc, 1)?;
+    let call = two(alloc, b"p", list, variable)?;
+    let module = Term::atom(alloc, AtomText::read(b"l").ok_or("no name")?)?;
+    two(alloc, b":", module, call)
+}
+
+/// Whether a head with a list of 30,000 elements accepts a goal with one.
+fn is_head_taken(alloc: Global) -> Result<bool, Fail> {
+    let front = ":- module l.\np([a";
+    let source = repeated(alloc, front, ",a", 29_999, "],R) :- true | R = b.")?;
+    let mut user = loaded(alloc, source.as_bytes())?;
+    let goal = call_of_list(alloc)?;
+    let value = repeated(alloc, "l:p([a", ",a", 29_999, "],b)")?;
+    let value = cut(alloc, value.as_str())?;
+    is_right(alloc, &mut user, goal, "+ 2", value.as_str())
 }
 
 #[test]
 fn a_head_with_a_list_of_30000_elements(rt: HostRuntime) -> Result<(), Fail> {
-    let front = ":- module l.\np([a";
-    let source = repeated(rt.alloc(), front, ",a", 29_999, "],R) :- true | R = b.")?;
-    let mut user = loaded(&rt, source.as_str())?;
-    let list = atoms(rt.alloc(), b"a", 29_999)?;
-    let variable = Term::variable(rt.alloc(), 1)?;
-    let call = two(rt.alloc(), b"p", list, variable)?;
-    let module = Term::atom(rt.alloc(), AtomText::read(b"l").ok_or("no name")?)?;
-    let goal = two(rt.alloc(), b":", module, call)?;
-    let value = repeated(rt.alloc(), "l:p([a", ",a", 29_999, "],b)")?;
-    let value = cut(rt.alloc(), value.as_str())?;
-    expect_goal(&rt, &mut user, goal, "+ 2", value.as_str())?;
-    drop(user);
+    assert!(rt; is_head_taken(rt.alloc())?);
     Ok(())
 }
 
-/// The answer to a start of a list of 131,060 elements, the first of them this and the others of one byte.
-fn answer_of_list(alloc: Global, first: &[u8]) -> Result<String, Fail> {
+/// Whether the start of a list of 131,060 elements, the first of them this and the others of one byte, is answered so.
+fn is_list_answered(alloc: Global, first: &[u8], wanted: &str) -> Result<bool, Fail> {
     let mut user = fresh(alloc)?;
     let variable = Term::variable(alloc, 1)?;
     let goal = two(alloc, b"=", variable, atoms(alloc, first, 131_059)?)?;
     let reply = start(&mut user, 0, 10, goal)?;
-    reply_text(alloc, &reply)
+    let text = reply_text(alloc, &reply)?;
+    Ok(text.as_str() == wanted)
 }
 
 #[test]
 fn the_line_of_a_start_has_262144_bytes_at_most(rt: HostRuntime) -> Result<(), Fail> {
-    let text = answer_of_list(rt.alloc(), b"aa")?;
-    assert_eq!(rt; text.as_str(), "+ shoen 1");
-    let text = answer_of_list(rt.alloc(), b"aaa")?;
-    assert_eq!(rt; text.as_str(), "- 1 syntax");
+    assert!(rt; is_list_answered(rt.alloc(), b"aa", "+ shoen 1")?);
+    assert!(rt; is_list_answered(rt.alloc(), b"aaa", "- 1 syntax")?);
     Ok(())
+}
+
+/// Whether two lists are appended, the first of 3,000 elements.
+fn is_appended(alloc: Global) -> Result<bool, Fail> {
+    let mut user = loaded(alloc, APP)?;
+    let text = repeated(alloc, "app:app([1", ",1", 2_999, "],[2],R)")?;
+    let goal = goal_of(alloc, text.as_bytes())?;
+    let value = cut(alloc, text.as_str())?;
+    is_right(alloc, &mut user, goal, "+ 6002", value.as_str())
 }
 
 #[test]
 fn append_of_3000_elements(rt: HostRuntime) -> Result<(), Fail> {
-    let mut user = loaded(&rt, APP)?;
-    let text = repeated(rt.alloc(), "app:app([1", ",1", 2_999, "],[2],R)")?;
-    let goal = goal_of(rt.alloc(), text.as_str())?;
-    let value = cut(rt.alloc(), text.as_str())?;
-    expect_goal(&rt, &mut user, goal, "+ 6002", value.as_str())
+    assert!(rt; is_appended(rt.alloc())?);
+    Ok(())
 }

@@ -1,72 +1,68 @@
 // Numbers of variables, goals and shoens.
 
-use super::acts::{Act, expect_fresh};
+use super::acts::right;
 use super::clauses::FACT;
 use std::test::Fail;
 
 /// A body with variables of its own.
-const OWN: &str = ":- module t.\np(R) :- true | q(B,A), R = f(A,B,C,_,_).\nq(X,Y).\n";
+const OWN: &[u8] = b":- module t.\np(R) :- true | q(B,A), R = f(A,B,C,_,_).\nq(X,Y).\n";
 
 #[test]
 fn fresh_variables(rt: HostRuntime) -> Result<(), Fail> {
-    expect_fresh(
-        &rt,
-        &[
-            (Act::Load(OWN), "+ loaded t"),
-            (Act::Start("t:p(R)"), "+ shoen 1"),
-            (Act::Run(20), "+ 4"),
-            (Act::Value(1), "+ t:p(f(_6,_5,_7,_8,_9))"),
-        ],
-    )
+    let rows = b"\
+        load#+ loaded t;\
+        start t:p(R)#+ shoen 1;\
+        run 20#+ 4;\
+        value 1#+ t:p(f(_6,_5,_7,_8,_9));\
+    ";
+    assert_eq!(rt; right(&rt, OWN, rows)?, 4);
+    Ok(())
 }
 
 #[test]
 fn variables_of_later_starts(rt: HostRuntime) -> Result<(), Fail> {
-    expect_fresh(
-        &rt,
-        &[
-            (Act::Load(FACT), "+ loaded t"),
-            (Act::Start("t:q(X,c)"), "+ shoen 1"),
-            (Act::Start("t:q(Y,Z)"), "+ shoen 2"),
-            (Act::Value(2), "+ t:q(_5,_6)"),
-            (Act::Run(10), "+ 1"),
-            (Act::Start("t:q(Y,Z)"), "+ shoen 3"),
-            (Act::Value(3), "+ t:q(_12,_13)"),
-        ],
-    )
+    let rows = b"\
+        load#+ loaded t;\
+        start t:q(X,c)#+ shoen 1;\
+        start t:q(Y,Z)#+ shoen 2;\
+        value 2#+ t:q(_5,_6);\
+        run 10#+ 1;\
+        start t:q(Y,Z)#+ shoen 3;\
+        value 3#+ t:q(_12,_13);\
+    ";
+    assert_eq!(rt; right(&rt, FACT, rows)?, 7);
+    Ok(())
 }
 
 #[test]
 fn goals_of_a_body_have_the_next_numbers(rt: HostRuntime) -> Result<(), Fail> {
-    expect_fresh(
-        &rt,
-        &[
-            (Act::Load(OWN), "+ loaded t"),
-            (Act::Start("t:p(R)"), "+ shoen 1"),
-            (Act::Run(1), "+ 1"),
-            (Act::First, "3 by 1"),
-            (Act::Reduce(4, 0), "+ reduced"),
-            (Act::Reduce(3, 1), "+ reduced"),
-            (Act::First, "5 by 0"),
-        ],
-    )
+    let rows = b"\
+        load#+ loaded t;\
+        start t:p(R)#+ shoen 1;\
+        run 1#+ 1;\
+        first#3 by 1;\
+        reduce 4 0#+ reduced;\
+        reduce 3 1#+ reduced;\
+        first#5 by 0;\
+    ";
+    assert_eq!(rt; right(&rt, OWN, rows)?, 7);
+    Ok(())
 }
 
 #[test]
 fn a_refused_event_takes_no_number(rt: HostRuntime) -> Result<(), Fail> {
-    expect_fresh(
-        &rt,
-        &[
-            (Act::Load(FACT), "+ loaded t"),
-            (Act::Start("t:q(X,b)"), "+ shoen 1"),
-            (Act::StartIn(2, 1, "X = Y"), "- 1 syntax"),
-            (Act::Load(FACT), "- 3 exists"),
-            (Act::Value(2), "- 4 noshoen"),
-            (Act::Reduce(2, 0), "- 6 step"),
-            (Act::Stream(1), "+ [started|_4]"),
-            (Act::Start("X = Y"), "+ shoen 2"),
-            (Act::Value(2), "+ '='(_5,_6)"),
-            (Act::First, "4 by 0"),
-        ],
-    )
+    let rows = b"\
+        load#+ loaded t;\
+        start t:q(X,b)#+ shoen 1;\
+        start_in 2 1 X = Y#- 1 syntax;\
+        load#- 3 exists;\
+        value 2#- 4 noshoen;\
+        reduce 2 0#- 6 step;\
+        stream 1#+ [started|_4];\
+        start X = Y#+ shoen 2;\
+        value 2#+ '='(_5,_6);\
+        first#4 by 0;\
+    ";
+    assert_eq!(rt; right(&rt, FACT, rows)?, 10);
+    Ok(())
 }

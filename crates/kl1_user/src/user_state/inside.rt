@@ -4,13 +4,14 @@ use crate::limits::MOST_SHOWN;
 use crate::printing::print_cell;
 use crate::shoens::origin_at;
 use crate::user_state::UserState;
-use std::process::Abort;
 use std::test::Fail;
 
 /// The report stream of a shoen from its beginning, printed and cut.
-pub(crate) fn stream_of(rt: &impl Abort, user: &UserState, shoen: u64) -> Result<Vec<u8>, Fail> {
+pub(crate) fn stream_of(user: &UserState, shoen: u64) -> Result<Vec<u8>, Fail> {
     let origin = origin_at(&user.shoens, shoen).ok_or("no shoen")?;
-    assert!(rt; user.store.holds(origin.reports));
+    if !user.store.holds(origin.reports) {
+        return Err(Fail::from("no report stream"));
+    }
     Ok(print_cell(user.alloc, &user.store, origin.reports, MOST_SHOWN)?)
 }
 
