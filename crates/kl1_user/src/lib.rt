@@ -36,8 +36,6 @@ mod start;
 mod startable;
 mod starting;
 mod task;
-#[cfg(test)]
-mod tests;
 mod told;
 mod used_names;
 mod user_state;

@@ -236,6 +236,3 @@ impl UserState {
         }
     }
 }
-
-#[cfg(test)]
-pub(crate) mod inside;
