@@ -46,7 +46,7 @@ pub record IsNew (names : List (List ℕ)) (text : List ℕ) : Type 0 where
   pub there : get_or (names ++ text ∷ []) (length names) [] ≡ text
 
 -- a place in a list with one more is an old one or the last
-at_place : (names : List (List ℕ)) (text : List ℕ) (i : ℕ) → i < length (names ++ text ∷ []) → ((i < length names) × (get_or (names ++ text ∷ []) i [] ≡ get_or names i [])) ⊎ ((i ≡ length names) × (get_or (names ++ text ∷ []) i [] ≡ text))
+pub at_place : (names : List (List ℕ)) (text : List ℕ) (i : ℕ) → i < length (names ++ text ∷ []) → ((i < length names) × (get_or (names ++ text ∷ []) i [] ≡ get_or names i [])) ⊎ ((i ≡ length names) × (get_or (names ++ text ∷ []) i [] ≡ text))
 at_place names text i within = elim (cases_lt i (length names)) [
   | inl h ↦ inl (h, get_or-append names (text ∷ []) [] i h)
   | inr h ↦ inr (last_place names text i (omega (arith, length-append names (text ∷ []))))

@@ -2,39 +2,43 @@
 
 ghost use Rattle.std.specs.Prelude.{◌≡◌, [], length, false, bytes_eq, MatchOption, IfOk, OnOk, OnErr};
 ghost use Rattle.std.specs.List.{list_any};
-ghost use Rattle.kl1_clause.specs.NameList.{with_text, IsNameList, IsPlaceOf};
+ghost use Rattle.kl1_clause.specs.NameList.{with_text, IsNameList, IsPlaceOf, FindsPlaces};
 ghost use Rattle.kl1_clause.specs.Instructions.{IsPlaced, text_in};
 
 use crate::name::Name;
 use kl1_text::AtomText;
 use std::alloc::{AllocError, Global};
+use std::collections::HashMap;
 use std::marker::Model;
 
 /// The names of a code that are not built in, each once, in order of first use.
 #[derive(Drop)]
 pub struct Names {
     texts: Vec<AtomText>,
+    /// The place of each name, by the words that hold it. There may be others, at which that name doesn't stand.
+    places: HashMap<[u64; 8], usize>,
 }
 
 impl Model for Names {
     ghost use Rattle.std.specs.Prelude.{ℕ, List};
-    ghost use Rattle.kl1_clause.specs.NameList.{IsNameList};
+    ghost use Rattle.kl1_clause.specs.NameList.{IsIndexed};
 
     ghost Value = { List (List ℕ) };
 
     ghost view = { λ n. n.texts.items };
 
-    ghost invariant = { λ n. IsNameList n.texts.items };
+    ghost invariant = { λ n. IsIndexed n.places n.texts.items };
 }
 
 impl Names {
     /// No names.
-    #[tactic(auto, using(crate::proofs::NameLists::no_names))]
+    #[tactic(auto, using(crate::proofs::PlaceMaps::no_places))]
     pub fn new(alloc: Global) -> Self
         ensures { result ≡ [] }
     {
         Names {
             texts: Vec::new(alloc),
+            places: HashMap::new(alloc),
         }
     }
 
@@ -57,24 +61,30 @@ impl Names {
         if let Some(built_in) = text.built_in() {
             return Ok(Name::Language(built_in));
         }
-        if let Some(place) = place_of(&self.texts, text) {
+        if let Some(place) = place_of(&self.texts, &self.places, text) {
             return Ok(Name::Place(place));
         }
         let place = self.texts.len();
+        self.places.insert(text.words(), place)?;
         self.texts.push(*text)?;
         Ok(Name::Place(place))
     }
 }
 
-/// The place of a text in a list, from 0.
-#[tactic(auto, using(crate::proofs::NameLists::none_more, crate::proofs::NameLists::is_place))]
-fn place_of(texts: &[AtomText], text: &AtomText) -> Option<usize>
+/// The place of a text in a list, from 0, where a map has the place of each text in it.
+fn place_of(texts: &[AtomText], places: &HashMap<[u64; 8], usize>, text: &AtomText) -> Option<usize>
+    requires { FindsPlaces places.now texts.now }
     ensures { MatchOption result (list_any (bytes_eq text.now) texts.now ≡ false) (IsPlaceOf texts.now text.now) }
 {
-    for (place, other) in texts.iter().enumerate() {
-        if text.is(other) {
-            return Some(place);
+    text.shows_text();
+    match places.get(&text.words()) {
+        None => None,
+        Some(place) => {
+            if *place < texts.len() && text.is(&texts[*place]) {
+                Some(*place)
+            } else {
+                None
+            }
         }
     }
-    None
 }
