@@ -3,6 +3,7 @@
 mod forms;
 mod large;
 mod marks;
+mod rooms;
 mod rows;
 mod texts;
 mod towers;
