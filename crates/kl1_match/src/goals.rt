@@ -45,6 +45,7 @@ fn put_nodes(
     requires empty { stack.old.items ≡ [] }
     ensures grown { Grown store.old.held store.new.held }
     ensures hooks { store.new.hooks ≡ store.old.hooks }
+    ensures bindings { store.new.held.bindings ≡ store.old.held.bindings }
     ensures nodes { OnOk result (BuildsNodes store.old.held store.new.held variables.now nodes.now stack.new.items) }
 {
     let mut arguments = Vec::new(alloc);
@@ -68,6 +69,7 @@ pub fn build_goal(
     requires numbered { IsTrue (is_numbered goal.now) }
     ensures grown { Grown store.old.held store.new.held }
     ensures hooks { store.new.hooks ≡ store.old.hooks }
+    ensures bindings { store.new.held.bindings ≡ store.old.held.bindings }
     ensures goal { IfOk result (IsGoal goal.now store.old.held store.new.held) }
 {
     let _ = store.mark();

@@ -25,5 +25,6 @@ loop-left-preserved c =
       more_nodes_built c.args.store.now.held c.loop-left.store.held c.put_step.new.store.held c.args.variables.now c.args.nodes.now c.loop-left.left
           c.index-nodes-left.result c.index-nodes-left.result c.step_of-step.result c.loop-left.stack.items c.put_step.new.stack.items
           c.requires.variables c.loop-left-test.true c.index-nodes-left.is c.step_of-step.ensures.code b grown c.in_ok-put_step.ensures.puts,
-      c.put_step.ensures.hooks ∙ c.loop-left.invariant.1,
+      c.put_step.ensures.hooks ∙ c.loop-left.invariant.1.0,
+      c.put_step.ensures.bindings ∙ c.loop-left.invariant.1.1,
     )
