@@ -11,6 +11,8 @@ mod name_in;
 mod place;
 mod skips;
 mod step;
+#[cfg(test)]
+mod tests;
 mod variables;
 mod verdict;
 mod verdicts;
