@@ -45,6 +45,7 @@ pub(crate) fn join_top<N: NameValue>(
     requires missing { IsIn store.old.held missing }
     ensures grown { Grown store.old.held store.new.held }
     ensures hooks { store.new.hooks ≡ store.old.hooks }
+    ensures bindings { store.new.held.bindings ≡ store.old.held.bindings }
     ensures joins { OnOk result (Joins store.old.held store.new.held missing name count (reverse stack.old.items) (reverse stack.new.items)) }
     ensures inside { OnOk result (AreIn store.new.held stack.new.items) }
 {
@@ -69,6 +70,7 @@ pub(crate) fn put_step<N: NameValue>(
     requires stack { AreIn store.old.held stack.old.items }
     ensures grown { Grown store.old.held store.new.held }
     ensures hooks { store.new.hooks ≡ store.old.hooks }
+    ensures bindings { store.new.held.bindings ≡ store.old.held.bindings }
     ensures puts { OnOk result (PutsStep store.old.held store.new.held variables.now step stack.old.items stack.new.items) }
 {
     match step {

@@ -45,6 +45,7 @@ fn put_nodes(
     requires empty { stack.old.items ≡ [] }
     ensures grown { Grown store.old.held store.new.held }
     ensures hooks { store.new.hooks ≡ store.old.hooks }
+    ensures bindings { store.new.held.bindings ≡ store.old.held.bindings }
     ensures nodes { OnOk result (BuildsNodes store.old.held store.new.held variables.now nodes.now stack.new.items) }
 {
     let mut arguments = Vec::new(alloc);
@@ -57,8 +58,8 @@ fn put_nodes(
     Ok(())
 }
 
-/// The cell of a goal, with the next variables of the store in place of its own. Where memory is refused, the store may
-/// have grown.
+/// The cell of a goal, with the next variables of the store in place of its own. No variable is bound. Where memory is
+/// refused, the store may have grown.
 pub fn build_goal(
     alloc: Global,
     store: &mut Store<AtomText>,
@@ -68,6 +69,7 @@ pub fn build_goal(
     requires numbered { IsTrue (is_numbered goal.now) }
     ensures grown { Grown store.old.held store.new.held }
     ensures hooks { store.new.hooks ≡ store.old.hooks }
+    ensures bindings { store.new.held.bindings ≡ store.old.held.bindings }
     ensures goal { IfOk result (IsGoal goal.now store.old.held store.new.held) }
 {
     let _ = store.mark();

@@ -51,6 +51,7 @@ fn put_row<N: NameValue>(
     requires empty { stack.old.items ≡ [] }
     ensures grown { Grown store.old.held store.new.held }
     ensures hooks { store.new.hooks ≡ store.old.hooks }
+    ensures bindings { store.new.held.bindings ≡ store.old.held.bindings }
     ensures rows { OnOk result (BuildsRow N.built names.now store.old.held store.new.held variables.now row.now stack.new.items) }
 {
     let mut arguments = Vec::new(alloc);
@@ -75,6 +76,7 @@ fn variables_of<N: NameValue>(
     requires some { 0 < store.old.held.variables }
     ensures grown { Grown store.old.held store.new.held }
     ensures hooks { store.new.hooks ≡ store.old.hooks }
+    ensures bindings { store.new.held.bindings ≡ store.old.held.bindings }
     ensures variables { IfOk result (λ cells. AreVariables N.built clause.now.head_variables clause.now.fresh_variables places.now store.old.held store.new.held cells.items) }
 {
     let _ = store.mark();
@@ -90,7 +92,7 @@ fn variables_of<N: NameValue>(
 }
 
 /// The goals of a clause's body, with the terms at the places of its head's variables in them. Its other variables are the
-/// next of the store, in order of first occurrence. Where memory is refused, the store may have grown.
+/// next of the store, in order of first occurrence. No variable is bound. Where memory is refused, the store may have grown.
 pub fn instance<N: NameValue>(
     alloc: Global,
     store: &mut Store<N>,
@@ -103,6 +105,7 @@ pub fn instance<N: NameValue>(
     requires some { 0 < store.old.held.variables }
     ensures grown { Grown store.old.held store.new.held }
     ensures hooks { store.new.hooks ≡ store.old.hooks }
+    ensures bindings { store.new.held.bindings ≡ store.old.held.bindings }
     ensures goals { IfOk result (λ goals. IsInstance N.built names.now clause.now places.now store.old.held store.new.held goals.items) }
 {
     let variables = variables_of(alloc, store, clause, places)?;

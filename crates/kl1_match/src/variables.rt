@@ -35,6 +35,7 @@ pub(crate) fn put_fresh<N: NameValue>(
 ) -> Result<(), AllocError>
     ensures grown { Grown store.old.held store.new.held }
     ensures hooks { store.new.hooks ≡ store.old.hooks }
+    ensures bindings { store.new.held.bindings ≡ store.old.held.bindings }
     ensures held { OnOk result (store.new.held ≡ with_variables store.old.held count) }
     ensures cells { OnOk result (cells.new.items ≡ cells.old.items ++ fresh_cells store.old.held.variables count) }
 {

@@ -26,4 +26,5 @@ loop-left-preserved c =
           c.index-nodes-left.result c.index-nodes-left.result c.step_of-step.result c.loop-left.stack.items c.put_step.new.stack.items
           c.requires.variables c.loop-left-test.true c.index-nodes-left.is c.step_of-step.ensures.code b grown c.in_ok-put_step.ensures.puts,
       c.put_step.ensures.hooks ∙ c.loop-left.invariant.1,
+      c.put_step.ensures.bindings ∙ c.loop-left.invariant.2,
     )

@@ -2,11 +2,12 @@ use Rattle.std.proofs.Common.{◌≡◌}
 use Rattle.kl1_match.proofs.BuiltNodes.{AreBuilt}
 use Rattle.kl1_match.proofs.goals.put_nodes.Given as goal
 
--- what is behind the nodes that are left is built, and nothing hangs anew
+-- what is behind the nodes that are left is built, and nothing hangs anew or is bound
 abbrev pub invariant-loop-left : goal.invariant-loop-left
 invariant-loop-left l =
     AreBuilt l.initial.store.held l.store.held l.variables l.nodes l.left l.stack.items
     × (l.store.hooks ≡ l.initial.store.hooks)
+    × (l.store.held.bindings ≡ l.initial.store.held.bindings)
 
 abbrev pub decreases-loop-left : goal.decreases-loop-left
 decreases-loop-left l = l.left

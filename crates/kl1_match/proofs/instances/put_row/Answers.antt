@@ -29,4 +29,5 @@ loop-left-preserved g c =
           (slice_index_or c.args.row.now (c.loop-left.left - 1) (Variable 0)) (Variable 0) c.step_in-step.result c.loop-left.stack.items c.put_step.new.stack.items
           c.requires.variables c.loop-left-test.true refl c.step_in-step.ensures.code b grown c.in_ok-put_step.ensures.puts,
       c.put_step.ensures.hooks ∙ c.loop-left.invariant.1,
+      c.put_step.ensures.bindings ∙ c.loop-left.invariant.2,
     )
