@@ -4,6 +4,7 @@ ghost use Rattle.std.specs.Prelude.{◌≡◌, ℕ, suc, false, ◌+◌, ◌<◌
 ghost use Rattle.kl1_model.specs.Term.{occurs};
 ghost use Rattle.kl1_store.specs.Held.{Held, nothing_held, with_variable, with_structure, with_binding, is_bound, found, arguments_of, IsIn, AreIn, IsLower, IsWalked, sizes_of, HasRoom};
 ghost use Rattle.kl1_store.specs.Meaning.{term_of};
+ghost use Rattle.kl1_store.specs.Spending.{Spends};
 ghost use Rattle.kl1_store.specs.Sound.{IsFormed, Grown, IsBoundTo};
 ghost use Rattle.kl1_store.specs.Slots.{AreSlotted, AreOnce};
 
@@ -65,6 +66,7 @@ impl<N: NameValue> Cells<N> {
         ensures ok { IfOk result (λ v. (v ≡ self.old.held.variables) × (self.new.held ≡ with_variable self.old.held)) }
         ensures err { OnErr result (self.new.held ≡ self.old.held) }
         ensures room { 0 < self.old.room.variables → IsOk result }
+        ensures spends { Spends self.old.room self.new.room 1 0 0 }
     {
         let number = self.slots.len();
         if number >= MOST {
@@ -81,6 +83,7 @@ impl<N: NameValue> Cells<N> {
         ensures ok { IfOk result (λ s. (s ≡ length self.old.held.structures) × (self.new.held ≡ with_structure self.old.held name arguments.now)) }
         ensures err { OnErr result (self.new.held ≡ self.old.held) }
         ensures room { 0 < self.old.room.structures → length arguments.now ≤ self.old.room.arguments → IsOk result }
+        ensures spends { Spends self.old.room self.new.room 0 1 (length arguments.now) }
     {
         let number = self.nodes.len();
         let start = self.arguments.len();

@@ -1,8 +1,9 @@
 // The store: cells, and the scratch of its calls.
 
-ghost use Rattle.std.specs.Prelude.{◌≡◌, ℕ, ◌<◌, ◌≤◌, List, [], ◌∷◌, ◌++◌, Some, length, drop, IfOk, OnOk, OnErr, IsOk, IsTrue, slice_get};
+ghost use Rattle.std.specs.Prelude.{◌≡◌, ℕ, ◌+◌, ◌<◌, ◌≤◌, List, [], ◌∷◌, ◌++◌, Some, length, drop, IfOk, OnOk, OnErr, IsOk, IsTrue, slice_get};
 ghost use Rattle.kl1_store.specs.Held.{Held, nothing_held, with_variable, with_structure, arguments_of, IsIn, AreIn, IsWalked, HasRoom};
 ghost use Rattle.kl1_store.specs.Meaning.{term_of};
+ghost use Rattle.kl1_store.specs.Spending.{Spends};
 ghost use Rattle.kl1_store.specs.Sound.{IsFormed};
 ghost use Rattle.kl1_store.specs.Unification.{UnifiesAs};
 ghost use Rattle.kl1_store.specs.Sameness.{SameAs};
@@ -45,11 +46,12 @@ pub struct Store<N: NameValue> {
 }
 
 impl<N: NameValue> Model for Store<N> {
+    ghost use Rattle.std.specs.Prelude.{◌-◌, vec_len, vec_capacity};
     ghost use Rattle.kl1_store.specs.Hooks.{Kept};
 
     ghost Value = { Kept N };
 
-    ghost view = { λ s. record { held = s.cells.held; hooks = s.hooks.items; room = s.cells.room } };
+    ghost view = { λ s. record { held = s.cells.held; hooks = s.hooks.items; room = s.cells.room; hook_room = vec_capacity s.hooks - vec_len s.hooks } };
 
     ghost use Rattle.kl1_store.specs.Levels.{AreLevels};
 
@@ -79,7 +81,9 @@ impl<N: NameValue> Store<N> {
         ensures ok { IfOk result (λ v. (v ≡ self.old.held.variables) × (self.new.held ≡ with_variable self.old.held)) }
         ensures err { OnErr result (self.new.held ≡ self.old.held) }
         ensures room { 0 < self.old.room.variables → IsOk result }
+        ensures spends { Spends self.old.room self.new.room 1 0 0 }
         ensures hooks { self.new.hooks ≡ self.old.hooks }
+        ensures hook_room { self.new.hook_room ≡ self.old.hook_room }
     {
         self.cells.fresh()
     }
@@ -90,7 +94,9 @@ impl<N: NameValue> Store<N> {
         ensures ok { IfOk result (λ s. (s ≡ length self.old.held.structures) × (self.new.held ≡ with_structure self.old.held name arguments.now)) }
         ensures err { OnErr result (self.new.held ≡ self.old.held) }
         ensures room { 0 < self.old.room.structures → length arguments.now ≤ self.old.room.arguments → IsOk result }
+        ensures spends { Spends self.old.room self.new.room 0 1 (length arguments.now) }
         ensures hooks { self.new.hooks ≡ self.old.hooks }
+        ensures hook_room { self.new.hook_room ≡ self.old.hook_room }
     {
         self.cells.build(name, arguments)
     }
@@ -130,6 +136,7 @@ impl<N: NameValue> Store<N> {
         ensures ok { IfOk result (UnifiesAs N.built self.old.held self.new.held left right) }
         ensures err { OnErr result (self.new.held ≡ self.old.held) }
         ensures hooks { self.new.hooks ≡ self.old.hooks }
+        ensures hook_room { self.new.hook_room ≡ self.old.hook_room }
     {
         let mark = self.cells.mark();
         match unify_cells(
@@ -158,7 +165,9 @@ impl<N: NameValue> Store<N> {
         requires { AreIn self.old.held terms.now }
         ensures ok { IfOk result (SameAs N.built self.old.held terms.now) }
         ensures same { self.new.held ≡ self.old.held }
+        ensures room { self.new.room ≡ self.old.room }
         ensures hooks { self.new.hooks ≡ self.old.hooks }
+        ensures hook_room { self.new.hook_room ≡ self.old.hook_room }
     {
         let mut waits = Vec::new(self.alloc);
         if !compare_each(
@@ -186,8 +195,20 @@ impl<N: NameValue> Store<N> {
         ensures room { OnOk result (HasRoom self.new.room variables structures arguments) }
         ensures same { self.new.held ≡ self.old.held }
         ensures hooks { self.new.hooks ≡ self.old.hooks }
+        ensures hook_room { self.new.hook_room ≡ self.old.hook_room }
     {
         self.cells.reserve(variables, structures, arguments)
+    }
+
+    /// Makes room for so many more hooks: to hang these can't be refused then.
+    pub fn reserve_hooks(&mut self, hooks: usize) -> Result<(), AllocError>
+        ensures hook_room { OnOk result (hooks ≤ self.new.hook_room) }
+        ensures same { self.new.held ≡ self.old.held }
+        ensures hooks { self.new.hooks ≡ self.old.hooks }
+        ensures room { self.new.room ≡ self.old.room }
+    {
+        self.hooks.reserve(hooks)?;
+        Ok(())
     }
 
     /// Whether a cell is of this store.
@@ -217,6 +238,9 @@ impl<N: NameValue> Store<N> {
         ensures ok { OnOk result (self.new.hooks ≡ self.old.hooks ++ record { variable = variable; number = number } ∷ []) }
         ensures err { OnErr result (self.new.hooks ≡ self.old.hooks) }
         ensures same { self.new.held ≡ self.old.held }
+        ensures room { 0 < self.old.hook_room → IsOk result }
+        ensures hook_room { self.old.hook_room ≤ self.new.hook_room + 1 }
+        ensures cells_room { self.new.room ≡ self.old.room }
     {
         self.hooks.push(Hook { variable, number })?;
         Ok(())
