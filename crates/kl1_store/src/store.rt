@@ -1,9 +1,9 @@
 // The store: cells, and the scratch of its calls.
 
-ghost use Rattle.std.specs.Prelude.{◌≡◌, ℕ, ◌+◌, ◌<◌, ◌≤◌, List, [], ◌∷◌, ◌++◌, Some, length, drop, IfOk, OnOk, OnErr, IsOk, IsTrue, slice_get};
+ghost use Rattle.std.specs.Prelude.{◌≡◌, ℕ, ◌+◌, ◌<◌, ◌≤◌, ◌↔◌, List, [], ◌∷◌, ◌++◌, Some, length, drop, IfOk, OnOk, OnErr, IsOk, IsTrue, slice_get};
 ghost use Rattle.kl1_store.specs.Held.{Held, nothing_held, with_variable, with_structure, arguments_of, IsIn, AreIn, IsWalked, HasRoom};
 ghost use Rattle.kl1_store.specs.Meaning.{term_of};
-ghost use Rattle.kl1_store.specs.Spending.{Spends};
+ghost use Rattle.kl1_store.specs.Spending.{Spends, SpendsOnBindings, FreesRoom};
 ghost use Rattle.kl1_store.specs.Sound.{IsFormed};
 ghost use Rattle.kl1_store.specs.Unification.{UnifiesAs};
 ghost use Rattle.kl1_store.specs.Sameness.{SameAs};
@@ -81,7 +81,7 @@ impl<N: NameValue> Store<N> {
         ensures ok { IfOk result (λ v. (v ≡ self.old.held.variables) × (self.new.held ≡ with_variable self.old.held)) }
         ensures err { OnErr result (self.new.held ≡ self.old.held) }
         ensures room { 0 < self.old.room.variables → IsOk result }
-        ensures spends { Spends self.old.room self.new.room 1 0 0 }
+        ensures spends { Spends self.old.room self.new.room 1 0 0 0 }
         ensures hooks { self.new.hooks ≡ self.old.hooks }
         ensures hook_room { self.new.hook_room ≡ self.old.hook_room }
     {
@@ -94,7 +94,7 @@ impl<N: NameValue> Store<N> {
         ensures ok { IfOk result (λ s. (s ≡ length self.old.held.structures) × (self.new.held ≡ with_structure self.old.held name arguments.now)) }
         ensures err { OnErr result (self.new.held ≡ self.old.held) }
         ensures room { 0 < self.old.room.structures → length arguments.now ≤ self.old.room.arguments → IsOk result }
-        ensures spends { Spends self.old.room self.new.room 0 1 (length arguments.now) }
+        ensures spends { Spends self.old.room self.new.room 0 1 (length arguments.now) 0 }
         ensures hooks { self.new.hooks ≡ self.old.hooks }
         ensures hook_room { self.new.hook_room ≡ self.old.hook_room }
     {
@@ -135,6 +135,7 @@ impl<N: NameValue> Store<N> {
         requires right_in { IsIn self.old.held right }
         ensures ok { IfOk result (UnifiesAs N.built self.old.held self.new.held left right) }
         ensures err { OnErr result (self.new.held ≡ self.old.held) }
+        ensures spends { SpendsOnBindings self.old.held self.old.room self.new.held self.new.room }
         ensures hooks { self.new.hooks ≡ self.old.hooks }
         ensures hook_room { self.new.hook_room ≡ self.old.hook_room }
     {
@@ -185,19 +186,22 @@ impl<N: NameValue> Store<N> {
         Ok(Same::Wait(waits))
     }
 
-    /// Makes room for so many more variables, structures and arguments: these can't be refused then.
+    /// Makes room for so many more variables, structures, arguments and bindings: these can't be refused then.
     pub fn reserve(
         &mut self,
         variables: usize,
         structures: usize,
         arguments: usize,
+        bindings: usize,
     ) -> Result<(), AllocError>
-        ensures room { OnOk result (HasRoom self.new.room variables structures arguments) }
+        ensures room { OnOk result (HasRoom self.new.room variables structures arguments bindings) }
+        ensures spends { Spends self.old.room self.new.room 0 0 0 0 }
         ensures same { self.new.held ≡ self.old.held }
         ensures hooks { self.new.hooks ≡ self.old.hooks }
         ensures hook_room { self.new.hook_room ≡ self.old.hook_room }
     {
-        self.cells.reserve(variables, structures, arguments)
+        self.cells
+            .reserve(variables, structures, arguments, bindings)
     }
 
     /// Makes room for so many more hooks: to hang these can't be refused then.
@@ -213,14 +217,14 @@ impl<N: NameValue> Store<N> {
 
     /// Whether a cell is of this store.
     pub fn holds(&self, cell: Cell<N>) -> bool
-        ensures { IsTrue result → IsIn self.now.held cell }
+        ensures { IsTrue result ↔ IsIn self.now.held cell }
     {
         self.cells.holds(cell)
     }
 
     /// Whether cells are of this store.
     pub fn holds_all(&self, terms: &[Cell<N>]) -> bool
-        ensures { IsTrue result → AreIn self.now.held terms.now }
+        ensures { IsTrue result ↔ AreIn self.now.held terms.now }
     {
         let mut rest = terms;
         while let [first, more @ ..] = rest {
@@ -271,6 +275,8 @@ impl<N: NameValue> Store<N> {
         requires { (k : Kept N) × ((mark ≡ point_of k) × (IsFormed k.held × HasGrown k self.old)) }
         ensures held { (k : Kept N) → mark ≡ point_of k → HasGrown k self.old → self.new.held ≡ k.held }
         ensures hooks { (k : Kept N) → mark ≡ point_of k → HasGrown k self.old → self.new.hooks ≡ k.hooks }
+        ensures room { FreesRoom self.old.held self.old.room self.new.held self.new.room }
+        ensures hook_room { length self.old.hooks + self.old.hook_room ≤ length self.new.hooks + self.new.hook_room }
     {
         take_back(&mut self.cells, &mut self.levels, mark.sizes);
         self.hooks.truncate(mark.hooks);
