@@ -1,10 +1,10 @@
 -- Structures whose arguments stand one after another in one list.
-use Rattle.std.proofs.Common.{◌≡◌, ℕ, zero, suc, ◌+◌, ◌-◌, ◌<◌, ◌≤◌, List, [], ◌∷◌, ◌++◌, length, get_or, take, drop, refl, sym, ap, ◌∙◌, arith, subst, length-drop}
+use Rattle.std.proofs.Common.{◌≡◌, ℕ, zero, suc, ◌+◌, ◌-◌, ◌<◌, ◌≤◌, List, [], ◌∷◌, ◌++◌, length, get_or, take, drop, refl, sym, ap, ◌∙◌, arith, subst, length-take, length-drop}
 use Rattle.std.specs.Prelude.{Some, slice_get}
 use Rattle.std.proofs.lemmas.List.{take-append-le, drop-append-le, nil_from_length, take_all, take-take, drop-take, drop-drop, get_or-drop}
 use Rattle.kl1_store.specs.declared.cell.Cell.{Cell}
 use Rattle.kl1_store.specs.declared.node.Node.{Node}
-use Rattle.kl1_store.specs.Held.{Shape}
+use Rattle.kl1_store.specs.Held.{Shape, arguments_held}
 use Rattle.kl1_store.specs.Inside.{shapes_in, AreLaid}
 
 pub laid_up : {N : Type 0} (start : ℕ) (ns : List (Node N)) (end : ℕ) → AreLaid start ns end → start ≤ end
@@ -24,6 +24,14 @@ rest_laid start n ns xs h =
     let P : ℕ → Type 0 = λ m. AreLaid (start + n.count) ns m in
     let p = count_fits start n ns xs h in
     subst P (omega (arith, length-drop n.count xs)) h.1
+
+-- the structures have all arguments
+pub arguments_held-laid : {N : Type 0} (start : ℕ) (ns : List (Node N)) (xs : List (Cell N)) → AreLaid start ns (start + length xs) → arguments_held (shapes_in xs ns) ≡ length xs
+arguments_held-laid start [] xs h = omega arith
+arguments_held-laid start (n ∷ ns) xs h =
+    let p = count_fits start n ns xs h in
+    let r = arguments_held-laid (start + n.count) ns (drop n.count xs) (rest_laid start n ns xs h) in
+    omega (arith, p, r, length-take n.count xs, length-drop n.count xs)
 
 pub shapes_in-more : {N : Type 0} (start : ℕ) (ns : List (Node N)) (xs ys : List (Cell N)) → AreLaid start ns (start + length xs) → shapes_in (xs ++ ys) ns ≡ shapes_in xs ns
 shapes_in-more start [] xs ys h = refl

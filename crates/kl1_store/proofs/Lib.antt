@@ -3,6 +3,7 @@ pub mod Meanings
 pub mod Growing
 pub mod Terms
 pub mod Laid
+pub mod Rooms
 pub mod Lists
 pub mod Walking
 pub mod Meetings

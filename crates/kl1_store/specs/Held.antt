@@ -21,6 +21,7 @@ pub record Room : Type 0 where
   pub variables : ℕ
   pub structures : ℕ
   pub arguments : ℕ
+  pub bindings : ℕ
 
 -- what a store holds, and its room for more
 pub record Stored (N : Type 0) : Type 0 where
@@ -71,6 +72,11 @@ shape_arguments (Some s) = s.arguments
 abbrev pub arguments_of : {N : Type 0} → Held N → ℕ → List (Cell N)
 arguments_of h s = shape_arguments (slice_get h.structures s)
 
+-- how many arguments structures have in all
+abbrev pub arguments_held : {N : Type 0} → List (Shape N) → ℕ
+arguments_held [] = 0
+arguments_held (s ∷ ss) = length s.arguments + arguments_held ss
+
 -- a cell whose variable and structure are below these numbers
 abbrev pub IsWithin : {N : Type 0} → ℕ → ℕ → Cell N → Type 0
 IsWithin vs ss (Variable v) = suc v ≤ vs
@@ -109,7 +115,8 @@ abbrev pub sizes_of : {N : Type 0} → Held N → Mark
 sizes_of h = record { variables = h.variables; structures = length h.structures; bindings = length h.bindings }
 
 -- room for so many more
-pub record HasRoom (room : Room) (vs ss xs : ℕ) : Type 0 where
+pub record HasRoom (room : Room) (vs ss xs bs : ℕ) : Type 0 where
   pub variables : vs ≤ room.variables
   pub structures : ss ≤ room.structures
   pub arguments : xs ≤ room.arguments
+  pub bindings : bs ≤ room.bindings

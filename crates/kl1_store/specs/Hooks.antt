@@ -6,11 +6,12 @@ use Rattle.kl1_store.specs.declared.point.Point.{Point}
 use Rattle.kl1_store.specs.Held.{Held, Room, sizes_of}
 use Rattle.kl1_store.specs.Sound.{Grown}
 
--- what a store holds, what hangs on its variables, and its room for more
+-- what a store holds, what hangs on its variables, and its room for more of both
 pub record Kept (N : Type 0) : Type 0 where
   pub held : Held N
   pub hooks : List Hook
   pub room : Room
+  pub hook_room : ℕ
 
 -- the numbers that hang on a variable, the oldest first
 abbrev pub hanging_on : ℕ → List Hook → List ℕ

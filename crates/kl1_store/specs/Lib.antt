@@ -15,6 +15,7 @@ pub mod Compares
 pub mod ComparesEach
 pub mod Sameness
 pub mod Hooks
+pub mod Spending
 pub mod Nested
 pub mod Merged
 pub mod Done

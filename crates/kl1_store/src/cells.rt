@@ -1,9 +1,10 @@
 // The lists of a store, and what each growth does to them.
 
-ghost use Rattle.std.specs.Prelude.{◌≡◌, ℕ, suc, false, ◌+◌, ◌<◌, ◌≤◌, List, [], Some, length, take, drop, MatchOption, IfOk, OnOk, OnErr, IsOk, IsTrue, slice_get};
+ghost use Rattle.std.specs.Prelude.{◌≡◌, ℕ, suc, false, ◌+◌, ◌<◌, ◌≤◌, ◌↔◌, List, [], Some, length, take, drop, MatchOption, IfOk, OnOk, OnErr, IsOk, IsTrue, slice_get, vec_capacity};
 ghost use Rattle.kl1_model.specs.Term.{occurs};
 ghost use Rattle.kl1_store.specs.Held.{Held, nothing_held, with_variable, with_structure, with_binding, is_bound, found, arguments_of, IsIn, AreIn, IsLower, IsWalked, sizes_of, HasRoom};
 ghost use Rattle.kl1_store.specs.Meaning.{term_of};
+ghost use Rattle.kl1_store.specs.Spending.{Spends, SpendsOnBindings, FreesRoom};
 ghost use Rattle.kl1_store.specs.Sound.{IsFormed, Grown, IsBoundTo};
 ghost use Rattle.kl1_store.specs.Slots.{AreSlotted, AreOnce};
 
@@ -28,7 +29,7 @@ pub struct Cells<N: NameValue> {
 }
 
 impl<N: NameValue> Model for Cells<N> {
-    ghost use Rattle.std.specs.Prelude.{◌≡◌, ℕ, vec_len, vec_capacity, length};
+    ghost use Rattle.std.specs.Prelude.{◌≡◌, ℕ, ◌-◌, vec_len, vec_capacity, length};
     ghost use Rattle.kl1_store.specs.Held.{Stored};
 
     ghost Value = { Stored N };
@@ -41,6 +42,7 @@ impl<N: NameValue> Model for Cells<N> {
         variables = room_in (vec_capacity s.slots) (vec_len s.slots);
         structures = room_in (vec_capacity s.nodes) (vec_len s.nodes);
         arguments = room_in (vec_capacity s.arguments) (vec_len s.arguments);
+        bindings = vec_capacity s.bindings - vec_len s.bindings;
       };
     } };
 
@@ -65,6 +67,7 @@ impl<N: NameValue> Cells<N> {
         ensures ok { IfOk result (λ v. (v ≡ self.old.held.variables) × (self.new.held ≡ with_variable self.old.held)) }
         ensures err { OnErr result (self.new.held ≡ self.old.held) }
         ensures room { 0 < self.old.room.variables → IsOk result }
+        ensures spends { Spends self.old.room self.new.room 1 0 0 0 }
     {
         let number = self.slots.len();
         if number >= MOST {
@@ -81,6 +84,7 @@ impl<N: NameValue> Cells<N> {
         ensures ok { IfOk result (λ s. (s ≡ length self.old.held.structures) × (self.new.held ≡ with_structure self.old.held name arguments.now)) }
         ensures err { OnErr result (self.new.held ≡ self.old.held) }
         ensures room { 0 < self.old.room.structures → length arguments.now ≤ self.old.room.arguments → IsOk result }
+        ensures spends { Spends self.old.room self.new.room 0 1 (length arguments.now) 0 }
     {
         let number = self.nodes.len();
         let start = self.arguments.len();
@@ -98,14 +102,16 @@ impl<N: NameValue> Cells<N> {
         Ok(number as u32)
     }
 
-    /// Makes room for so many more variables, structures and arguments.
+    /// Makes room for so many more variables, structures, arguments and bindings.
     pub fn reserve(
         &mut self,
         variables: usize,
         structures: usize,
         arguments: usize,
+        bindings: usize,
     ) -> Result<(), AllocError>
-        ensures room { OnOk result (HasRoom self.new.room variables structures arguments) }
+        ensures room { OnOk result (HasRoom self.new.room variables structures arguments bindings) }
+        ensures spends { Spends self.old.room self.new.room 0 0 0 0 }
         ensures same { self.new.held ≡ self.old.held }
     {
         if variables > MOST - self.slots.len()
@@ -117,6 +123,7 @@ impl<N: NameValue> Cells<N> {
         self.slots.reserve(variables)?;
         self.nodes.reserve(structures)?;
         self.arguments.reserve(arguments)?;
+        self.bindings.reserve(bindings)?;
         Ok(())
     }
 
@@ -129,7 +136,8 @@ impl<N: NameValue> Cells<N> {
         requires free { (f : N → List ℕ) → occurs variable (term_of f self.old.held value) ≡ false }
         ensures ok { OnOk result (self.new.held ≡ with_binding self.old.held variable value) }
         ensures err { OnErr result (self.new.held ≡ self.old.held) }
-        ensures room { self.new.room ≡ self.old.room }
+        ensures room { 0 < self.old.room.bindings → IsOk result }
+        ensures spends { SpendsOnBindings self.old.held self.old.room self.new.held self.new.room }
     {
         self.bindings.push(Binding { variable, value })?;
         self.slots[variable as usize] = value;
@@ -210,7 +218,7 @@ impl<N: NameValue> Cells<N> {
 
     /// Whether a cell is of this store.
     pub fn holds(&self, cell: Cell<N>) -> bool
-        ensures { IsTrue result → IsIn self.now.held cell }
+        ensures { IsTrue result ↔ IsIn self.now.held cell }
     {
         let variables = self.slots.len();
         let structures = self.nodes.len();
@@ -237,7 +245,8 @@ impl<N: NameValue> Cells<N> {
     /// Takes back all that was done since `mark`.
     pub fn back(&mut self, mark: Mark)
         requires { (h : Held N) × ((mark ≡ sizes_of h) × (IsFormed h × Grown h self.old.held)) }
-        ensures { (h : Held N) → mark ≡ sizes_of h → Grown h self.old.held → self.new.held ≡ h }
+        ensures held { (h : Held N) → mark ≡ sizes_of h → Grown h self.old.held → self.new.held ≡ h }
+        ensures room { FreesRoom self.old.held self.old.room self.new.held self.new.room }
     {
         unbind(&mut self.slots, &mut self.bindings, mark.bindings);
         self.slots.truncate(mark.variables as usize);
@@ -257,6 +266,8 @@ fn unbind<N: NameValue>(slots: &mut Vec<Cell<N>>, bindings: &mut Vec<Binding<N>>
     ensures slotted { AreSlotted slots.new.items bindings.new.items }
     ensures bindings { bindings.new.items ≡ take keep bindings.old.items }
     ensures slots { length slots.new.items ≡ length slots.old.items }
+    ensures slots_capacity { vec_capacity slots.new ≡ vec_capacity slots.old }
+    ensures bindings_capacity { vec_capacity bindings.new ≡ vec_capacity bindings.old }
 {
     while bindings.len() > keep {
         if let Some(binding) = bindings.pop() {

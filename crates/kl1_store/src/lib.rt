@@ -38,6 +38,3 @@ pub use point::Point;
 pub use same::Same;
 pub use store::Store;
 pub use unified::Unified;
-
-#[cfg(test)]
-mod tests;

@@ -5,6 +5,7 @@ ghost use Rattle.kl1_store.specs.Held.{Held, IsIn};
 ghost use Rattle.kl1_store.specs.Waiting.{waiting, ArePairs};
 ghost use Rattle.kl1_store.specs.Meets.{CanTake};
 ghost use Rattle.kl1_store.specs.Levels.{AreLevels};
+ghost use Rattle.kl1_store.specs.Spending.{SpendsOnBindings};
 ghost use Rattle.kl1_store.specs.Nested.{IsNested};
 ghost use Rattle.kl1_store.specs.Merged.{AreMerged};
 ghost use Rattle.kl1_store.specs.Unifies.{OnlyBound, SettlesAs, BindsAs, equation_of};
@@ -36,7 +37,7 @@ fn bind_new<N: NameValue>(
     ensures ok { IfOk result (BindsAs cells.old.held cells.new.held variable value) }
     ensures err { OnErr result (cells.new.held ≡ cells.old.held) }
     ensures levels { AreLevels cells.new.held levels.new }
-    ensures room { cells.new.room ≡ cells.old.room }
+    ensures spends { SpendsOnBindings cells.old.held cells.old.room cells.new.held cells.new.room }
 {
     let found = occurs_in_term(cells, levels, tasks, variable, value)?;
     if found {
@@ -61,7 +62,7 @@ fn settle<N: NameValue>(
     ensures settled { IfOk result (SettlesAs N.built cells.old.held cells.new.held (λ f. waiting f cells.old.held [] frames.old.items)) }
     ensures grown { OnlyBound cells.old.held cells.new.held }
     ensures levels { AreLevels cells.new.held levels.new }
-    ensures room { cells.new.room ≡ cells.old.room }
+    ensures spends { SpendsOnBindings cells.old.held cells.old.room cells.new.held cells.new.room }
 {
     loop {
         match advance(cells, frames, merges)? {
@@ -92,7 +93,7 @@ pub fn unify_cells<N: NameValue>(
     ensures settled { IfOk result (SettlesAs N.built cells.old.held cells.new.held (λ f. equation_of f cells.old.held left right)) }
     ensures grown { OnlyBound cells.old.held cells.new.held }
     ensures levels { AreLevels cells.new.held levels.new }
-    ensures room { cells.new.room ≡ cells.old.room }
+    ensures spends { SpendsOnBindings cells.old.held cells.old.room cells.new.held cells.new.room }
 {
     let _ = cells.mark();
     frames.clear();

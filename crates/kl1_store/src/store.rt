@@ -1,8 +1,9 @@
 // The store: cells, and the scratch of its calls.
 
-ghost use Rattle.std.specs.Prelude.{◌≡◌, ℕ, ◌<◌, ◌≤◌, List, [], ◌∷◌, ◌++◌, Some, length, drop, IfOk, OnOk, OnErr, IsOk, IsTrue, slice_get};
+ghost use Rattle.std.specs.Prelude.{◌≡◌, ℕ, ◌+◌, ◌<◌, ◌≤◌, ◌↔◌, List, [], ◌∷◌, ◌++◌, Some, length, drop, IfOk, OnOk, OnErr, IsOk, IsTrue, slice_get};
 ghost use Rattle.kl1_store.specs.Held.{Held, nothing_held, with_variable, with_structure, arguments_of, IsIn, AreIn, IsWalked, HasRoom};
 ghost use Rattle.kl1_store.specs.Meaning.{term_of};
+ghost use Rattle.kl1_store.specs.Spending.{Spends, SpendsOnBindings, FreesRoom};
 ghost use Rattle.kl1_store.specs.Sound.{IsFormed};
 ghost use Rattle.kl1_store.specs.Unification.{UnifiesAs};
 ghost use Rattle.kl1_store.specs.Sameness.{SameAs};
@@ -45,11 +46,12 @@ pub struct Store<N: NameValue> {
 }
 
 impl<N: NameValue> Model for Store<N> {
+    ghost use Rattle.std.specs.Prelude.{◌-◌, vec_len, vec_capacity};
     ghost use Rattle.kl1_store.specs.Hooks.{Kept};
 
     ghost Value = { Kept N };
 
-    ghost view = { λ s. record { held = s.cells.held; hooks = s.hooks.items; room = s.cells.room } };
+    ghost view = { λ s. record { held = s.cells.held; hooks = s.hooks.items; room = s.cells.room; hook_room = vec_capacity s.hooks - vec_len s.hooks } };
 
     ghost use Rattle.kl1_store.specs.Levels.{AreLevels};
 
@@ -79,7 +81,9 @@ impl<N: NameValue> Store<N> {
         ensures ok { IfOk result (λ v. (v ≡ self.old.held.variables) × (self.new.held ≡ with_variable self.old.held)) }
         ensures err { OnErr result (self.new.held ≡ self.old.held) }
         ensures room { 0 < self.old.room.variables → IsOk result }
+        ensures spends { Spends self.old.room self.new.room 1 0 0 0 }
         ensures hooks { self.new.hooks ≡ self.old.hooks }
+        ensures hook_room { self.new.hook_room ≡ self.old.hook_room }
     {
         self.cells.fresh()
     }
@@ -90,7 +94,9 @@ impl<N: NameValue> Store<N> {
         ensures ok { IfOk result (λ s. (s ≡ length self.old.held.structures) × (self.new.held ≡ with_structure self.old.held name arguments.now)) }
         ensures err { OnErr result (self.new.held ≡ self.old.held) }
         ensures room { 0 < self.old.room.structures → length arguments.now ≤ self.old.room.arguments → IsOk result }
+        ensures spends { Spends self.old.room self.new.room 0 1 (length arguments.now) 0 }
         ensures hooks { self.new.hooks ≡ self.old.hooks }
+        ensures hook_room { self.new.hook_room ≡ self.old.hook_room }
     {
         self.cells.build(name, arguments)
     }
@@ -129,7 +135,9 @@ impl<N: NameValue> Store<N> {
         requires right_in { IsIn self.old.held right }
         ensures ok { IfOk result (UnifiesAs N.built self.old.held self.new.held left right) }
         ensures err { OnErr result (self.new.held ≡ self.old.held) }
+        ensures spends { SpendsOnBindings self.old.held self.old.room self.new.held self.new.room }
         ensures hooks { self.new.hooks ≡ self.old.hooks }
+        ensures hook_room { self.new.hook_room ≡ self.old.hook_room }
     {
         let mark = self.cells.mark();
         match unify_cells(
@@ -158,7 +166,9 @@ impl<N: NameValue> Store<N> {
         requires { AreIn self.old.held terms.now }
         ensures ok { IfOk result (SameAs N.built self.old.held terms.now) }
         ensures same { self.new.held ≡ self.old.held }
+        ensures room { self.new.room ≡ self.old.room }
         ensures hooks { self.new.hooks ≡ self.old.hooks }
+        ensures hook_room { self.new.hook_room ≡ self.old.hook_room }
     {
         let mut waits = Vec::new(self.alloc);
         if !compare_each(
@@ -176,30 +186,45 @@ impl<N: NameValue> Store<N> {
         Ok(Same::Wait(waits))
     }
 
-    /// Makes room for so many more variables, structures and arguments: these can't be refused then.
+    /// Makes room for so many more variables, structures, arguments and bindings: these can't be refused then.
     pub fn reserve(
         &mut self,
         variables: usize,
         structures: usize,
         arguments: usize,
+        bindings: usize,
     ) -> Result<(), AllocError>
-        ensures room { OnOk result (HasRoom self.new.room variables structures arguments) }
+        ensures room { OnOk result (HasRoom self.new.room variables structures arguments bindings) }
+        ensures spends { Spends self.old.room self.new.room 0 0 0 0 }
         ensures same { self.new.held ≡ self.old.held }
         ensures hooks { self.new.hooks ≡ self.old.hooks }
+        ensures hook_room { self.new.hook_room ≡ self.old.hook_room }
     {
-        self.cells.reserve(variables, structures, arguments)
+        self.cells
+            .reserve(variables, structures, arguments, bindings)
+    }
+
+    /// Makes room for so many more hooks: to hang these can't be refused then.
+    pub fn reserve_hooks(&mut self, hooks: usize) -> Result<(), AllocError>
+        ensures hook_room { OnOk result (hooks ≤ self.new.hook_room) }
+        ensures same { self.new.held ≡ self.old.held }
+        ensures hooks { self.new.hooks ≡ self.old.hooks }
+        ensures room { self.new.room ≡ self.old.room }
+    {
+        self.hooks.reserve(hooks)?;
+        Ok(())
     }
 
     /// Whether a cell is of this store.
     pub fn holds(&self, cell: Cell<N>) -> bool
-        ensures { IsTrue result → IsIn self.now.held cell }
+        ensures { IsTrue result ↔ IsIn self.now.held cell }
     {
         self.cells.holds(cell)
     }
 
     /// Whether cells are of this store.
     pub fn holds_all(&self, terms: &[Cell<N>]) -> bool
-        ensures { IsTrue result → AreIn self.now.held terms.now }
+        ensures { IsTrue result ↔ AreIn self.now.held terms.now }
     {
         let mut rest = terms;
         while let [first, more @ ..] = rest {
@@ -217,6 +242,9 @@ impl<N: NameValue> Store<N> {
         ensures ok { OnOk result (self.new.hooks ≡ self.old.hooks ++ record { variable = variable; number = number } ∷ []) }
         ensures err { OnErr result (self.new.hooks ≡ self.old.hooks) }
         ensures same { self.new.held ≡ self.old.held }
+        ensures room { 0 < self.old.hook_room → IsOk result }
+        ensures hook_room { self.old.hook_room ≤ self.new.hook_room + 1 }
+        ensures cells_room { self.new.room ≡ self.old.room }
     {
         self.hooks.push(Hook { variable, number })?;
         Ok(())
@@ -247,6 +275,8 @@ impl<N: NameValue> Store<N> {
         requires { (k : Kept N) × ((mark ≡ point_of k) × (IsFormed k.held × HasGrown k self.old)) }
         ensures held { (k : Kept N) → mark ≡ point_of k → HasGrown k self.old → self.new.held ≡ k.held }
         ensures hooks { (k : Kept N) → mark ≡ point_of k → HasGrown k self.old → self.new.hooks ≡ k.hooks }
+        ensures room { FreesRoom self.old.held self.old.room self.new.held self.new.room }
+        ensures hook_room { length self.old.hooks + self.old.hook_room ≤ length self.new.hooks + self.new.hook_room }
     {
         take_back(&mut self.cells, &mut self.levels, mark.sizes);
         self.hooks.truncate(mark.hooks);

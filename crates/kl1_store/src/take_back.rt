@@ -4,6 +4,7 @@ ghost use Rattle.std.specs.Prelude.{◌≡◌};
 ghost use Rattle.kl1_store.specs.Held.{Held, sizes_of};
 ghost use Rattle.kl1_store.specs.Sound.{IsFormed, Grown};
 ghost use Rattle.kl1_store.specs.Levels.{AreLevels};
+ghost use Rattle.kl1_store.specs.Spending.{FreesRoom};
 
 use crate::cells::Cells;
 use crate::levels::Levels;
@@ -16,6 +17,7 @@ pub fn take_back<N: NameValue>(cells: &mut Cells<N>, levels: &mut Levels, mark: 
     requires levels { AreLevels cells.old.held levels.old }
     ensures held { (h : Held N) → mark ≡ sizes_of h → Grown h cells.old.held → cells.new.held ≡ h }
     ensures levels { AreLevels cells.new.held levels.new }
+    ensures room { FreesRoom cells.old.held cells.old.room cells.new.held cells.new.room }
 {
     cells.back(mark);
     levels.keep(mark.variables as usize, mark.structures as usize);

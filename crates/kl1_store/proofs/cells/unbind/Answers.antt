@@ -19,4 +19,6 @@ loop-bindings-preserved-in-Some g c =
       once = r.1.once;
       first = sym (take-append-le c.args.keep c.pop.new.self.items (c.in-Some.binding ∷ []) (omega (arith, long, l.bindings.ok.0))) ∙ ap (take c.args.keep) (sym c.in-Some.ensures.items) ∙ l.invariant.first;
       slots = length-set l.slots.items c.in-Some.binding.variable _ ∙ l.invariant.slots;
+      slots_capacity = l.invariant.slots_capacity;
+      bindings_capacity = c.pop.ensures.capacity ∙ l.invariant.bindings_capacity;
     }

@@ -1,4 +1,4 @@
-use Rattle.std.proofs.Common.{◌≡◌, [], length, take}
+use Rattle.std.proofs.Common.{◌≡◌, [], length, take, vec_capacity}
 use Rattle.kl1_store.specs.Slots.{AreSlotted, AreOnce}
 use Rattle.kl1_store.proofs.cells.unbind.Given as goal
 
@@ -9,6 +9,8 @@ invariant-loop-bindings g l = record {
   once : AreOnce (length l.slots.items) [] l.bindings.items;
   first : take l.keep l.bindings.items ≡ take l.keep l.fn.bindings.items;
   slots : length l.slots.items ≡ length l.fn.slots.items;
+  slots_capacity : vec_capacity l.slots ≡ vec_capacity l.fn.slots;
+  bindings_capacity : vec_capacity l.bindings ≡ vec_capacity l.fn.bindings;
 }
 
 abbrev pub decreases-loop-bindings : goal.decreases-loop-bindings

@@ -1,7 +1,7 @@
-use Rattle.std.proofs.Common.{◌≡◌}
 use Rattle.kl1_store.specs.Nested.{IsNested}
 use Rattle.kl1_store.specs.Merged.{AreMerged}
 use Rattle.kl1_store.specs.Levels.{AreLevels}
+use Rattle.kl1_store.specs.Spending.{SpendsOnBindings}
 use Rattle.kl1_store.proofs.Settling.{Settling, unbound_below}
 use Rattle.kl1_store.proofs.settle.settle.Given as goal
 
@@ -12,7 +12,7 @@ invariant-loop-variable g l = record {
   merged : AreMerged l.cells.held l.merges;
   settling : Settling g.N.NameValue.built l.fn.cells.held l.cells.held l.fn.frames.items l.frames.items;
   levels : AreLevels l.cells.held l.levels;
-  room : l.cells.room ≡ l.fn.cells.room;
+  spends : SpendsOnBindings l.fn.cells.held l.fn.cells.room l.cells.held l.cells.room;
 }
 
 abbrev pub decreases-loop-variable : goal.decreases-loop-variable

@@ -1,7 +1,7 @@
 // Large terms: time. And a cycle through a binding that was made later.
 
 use super::{A, ONE, binds, clashes, compared, f_of, structure, variable};
-use crate::{Cell, Store};
+use kl1_store::{Cell, Store};
 use kl1_text::AtomNo;
 use std::process::Abort;
 

@@ -1,7 +1,7 @@
 // Parts that many places share are looked at once: else these would not come to an end.
 
 use super::{A, ONE, binds, clashes, compared, f_of, stands_for, variable};
-use crate::{Cell, Store};
+use kl1_store::{Cell, Store};
 use kl1_text::AtomNo;
 use std::alloc::Global;
 use std::process::Abort;

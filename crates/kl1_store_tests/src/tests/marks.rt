@@ -1,7 +1,7 @@
 // Taking back, and what is told, at names that are numbers and at names that are texts.
 
 use super::{A, F, ONE, stands_for};
-use crate::{Cell, Store, Unified};
+use kl1_store::{Cell, Store, Unified};
 use kl1_text::{AtomText, NameValue};
 use std::alloc::Global;
 use std::process::Abort;

@@ -1,7 +1,7 @@
 // A store whose names are texts.
 
 use super::{binds, compared, stands_for, structure};
-use crate::{Cell, Store};
+use kl1_store::{Cell, Store};
 use kl1_text::AtomText;
 use std::process::Abort;
 
@@ -22,7 +22,7 @@ fn is_headed(
 #[test]
 fn structures_named_by_texts(rt: HostRuntime) {
     let mut store = Store::new(rt.alloc());
-    store.reserve(1, 1, 2).expect(&rt, "memory");
+    store.reserve(1, 1, 2, 0).expect(&rt, "memory");
     let x = store.fresh().expect(&rt, "memory");
     let arguments = [Cell::Atom(AtomText::of(b"a")), Cell::Variable(x)];
     structure(&rt, &mut store, AtomText::of(b"f"), arguments.as_slice());

@@ -2,7 +2,7 @@
 // terms before them, `h` is the structure f of the one term before it, and any other letter is an atom.
 
 use super::{F, compared, is_one, is_unified, structure, variable};
-use crate::{Cell, Store};
+use kl1_store::{Cell, Store};
 use kl1_text::AtomNo;
 use std::alloc::Global;
 use std::process::Abort;

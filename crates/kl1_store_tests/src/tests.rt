@@ -3,11 +3,12 @@
 mod forms;
 mod large;
 mod marks;
+mod rooms;
 mod rows;
 mod texts;
 mod towers;
 
-use crate::{Cell, Same, Store, Unified};
+use kl1_store::{Cell, Same, Store, Unified};
 use kl1_text::{AtomNo, NameValue};
 use std::process::Abort;
 

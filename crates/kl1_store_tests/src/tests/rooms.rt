@@ -1,0 +1,79 @@
+// Growths for which room was made, and more room than a store has.
+
+use super::{A, F};
+use kl1_store::{Cell, Store};
+use kl1_text::{AtomText, NameValue};
+use std::process::Abort;
+
+/// Makes room for two variables and takes both: neither can be refused.
+fn two_variables<N: NameValue>(rt: &impl Abort, store: &mut Store<N>) {
+    store.reserve(2, 0, 0, 0).expect(rt, "memory");
+    match store.fresh() {
+        Ok(_) => {}
+        Err(_) => unreachable!(),
+    }
+    match store.fresh() {
+        Ok(_) => {}
+        Err(_) => unreachable!(),
+    }
+}
+
+/// Makes room for a structure and takes it: it can't be refused.
+fn one_structure<N: NameValue>(
+    rt: &impl Abort,
+    store: &mut Store<N>,
+    name: N,
+    arguments: &[Cell<N>],
+) {
+    assert!(rt; store.holds_all(arguments));
+    store.reserve(0, 1, arguments.len(), 0).expect(rt, "memory");
+    match store.build(name, arguments) {
+        Ok(_) => {}
+        Err(_) => unreachable!(),
+    }
+}
+
+/// Makes room for two hooks and hangs both: neither can be refused.
+fn two_hooks<N: NameValue>(rt: &impl Abort, store: &mut Store<N>, variable: u32) {
+    assert!(rt; store.holds(Cell::Variable(variable)));
+    store.reserve_hooks(2).expect(rt, "memory");
+    match store.hang(variable, 7) {
+        Ok(_) => {}
+        Err(_) => unreachable!(),
+    }
+    match store.hang(variable, 8) {
+        Ok(_) => {}
+        Err(_) => unreachable!(),
+    }
+}
+
+#[test]
+fn growths_with_room_are_not_refused(rt: HostRuntime) {
+    let mut store = Store::new(rt.alloc());
+    two_variables(&rt, &mut store);
+    one_structure(&rt, &mut store, F, [A, Cell::Variable(0)].as_slice());
+    two_hooks(&rt, &mut store, 1);
+}
+
+#[test]
+fn growths_under_texts_with_room_are_not_refused(rt: HostRuntime) {
+    let mut store = Store::new(rt.alloc());
+    two_variables(&rt, &mut store);
+    let name = AtomText::of(b"f");
+    one_structure(&rt, &mut store, name, [Cell::Variable(1)].as_slice());
+    two_hooks(&rt, &mut store, 0);
+}
+
+#[test]
+fn more_room_than_a_store_has_is_refused(rt: HostRuntime) {
+    let mut store: Store<AtomText> = Store::new(rt.alloc());
+    for (variables, structures, arguments) in [
+        (0x1_0000_0000, 0, 0),
+        (0, 0x1_0000_0000, 0),
+        (0, 0, 0x1_0000_0000),
+    ] {
+        let reserved = store.reserve(variables, structures, arguments, 0);
+        assert!(rt; reserved.is_err());
+    }
+    store.reserve(3, 2, 4, 5).expect(&rt, "memory");
+}
