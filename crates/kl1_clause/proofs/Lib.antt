@@ -7,3 +7,4 @@ pub mod CodeFacts
 pub mod Predicates
 pub mod Soundness
 pub mod Together
+pub mod PlaceMaps

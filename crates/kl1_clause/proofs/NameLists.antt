@@ -1,10 +1,10 @@
 -- Lists of names as names are found and added.
-use Rattle.std.proofs.Common.{◌≡◌, ℕ, ◌+◌, ◌<◌, ◌⊎◌, Bool, true, false, cond, ◌||◌, List, [], ◌∷◌, ◌++◌, Some, None, bytes_eq, length, take, get_or, sym, ap, ◌∙◌, arith, inl, inr, length-append}
+use Rattle.std.proofs.Common.{◌≡◌, ℕ, ◌<◌, ◌⊎◌, Bool, true, false, cond, ◌||◌, List, [], ◌∷◌, ◌++◌, Some, None, bytes_eq, length, get_or, sym, ap, ◌∙◌, arith, inl, inr, length-append}
 use Rattle.std.specs.List.{list_any}
 use Rattle.std.proofs.Math.ListN.{get_or-append}
 use Rattle.std.proofs.Math.Seq.{get_or-append_seam}
 use Rattle.std.proofs.lemmas.Bool.{cases_lt}
-use Rattle.std.proofs.lemmas.List.Folds.{list_any_at, list_any_more}
+use Rattle.std.proofs.lemmas.List.Folds.{list_any_at}
 use Rattle.std.proofs.lemmas.Slice.Eq.{bytes_eq-Decides}
 use Rattle.kl1_model.specs.declared.built_in.BuiltIn.{BuiltIn}
 use Rattle.kl1_model.specs.Text.{text_of}
@@ -15,10 +15,6 @@ use Rattle.kl1_clause.proofs.Language.{found_in_language, missed_in_language}
 -- no names at all
 pub no_names : IsNameList []
 no_names = record { once = λ i j p q e. absurd (omega arith); others = λ i p. absurd (omega arith) }
-
--- a text is none of so many, and not the next
-pub none_more : (names : List (List ℕ)) (text : List ℕ) (i : ℕ) → i < length names → list_any (bytes_eq text) (take i names) ≡ false → bytes_eq text (get_or names i []) ≡ false → list_any (bytes_eq text) (take (i + 1) names) ≡ false
-none_more names text i within before here = list_any_more (bytes_eq text) names i [] within ∙ (ap (λ (b : Bool). b || bytes_eq text (get_or names i [])) before ∙ here)
 
 -- a text that is a name is at its place
 pub is_place : (names : List (List ℕ)) (text : List ℕ) (i : ℕ) → i < length names → bytes_eq text (get_or names i []) ≡ true → IsPlaceOf names text i
@@ -46,7 +42,7 @@ pub record IsNew (names : List (List ℕ)) (text : List ℕ) : Type 0 where
   pub there : get_or (names ++ text ∷ []) (length names) [] ≡ text
 
 -- a place in a list with one more is an old one or the last
-at_place : (names : List (List ℕ)) (text : List ℕ) (i : ℕ) → i < length (names ++ text ∷ []) → ((i < length names) × (get_or (names ++ text ∷ []) i [] ≡ get_or names i [])) ⊎ ((i ≡ length names) × (get_or (names ++ text ∷ []) i [] ≡ text))
+pub at_place : (names : List (List ℕ)) (text : List ℕ) (i : ℕ) → i < length (names ++ text ∷ []) → ((i < length names) × (get_or (names ++ text ∷ []) i [] ≡ get_or names i [])) ⊎ ((i ≡ length names) × (get_or (names ++ text ∷ []) i [] ≡ text))
 at_place names text i within = elim (cases_lt i (length names)) [
   | inl h ↦ inl (h, get_or-append names (text ∷ []) [] i h)
   | inr h ↦ inr (last_place names text i (omega (arith, length-append names (text ∷ []))))

@@ -23,3 +23,4 @@ pub mod Steps
 pub mod Unwritable
 pub mod WholeSteps
 pub mod WordLemmas
+pub mod SeenSpellings

@@ -1,5 +1,5 @@
 -- The nodes of terms that are put together.
-use Rattle.std.proofs.Common.{◌≡◌, ℕ, ◌≤◌, ◌<◌, nat_le, List, [], ◌∷◌, ◌++◌, map, reverse, IsTrue, Option, Some, None, if◌then◌else◌, refl, ap, sym, ◌∙◌, arith}
+use Rattle.std.proofs.Common.{◌≡◌, ℕ, ◌≤◌, ◌<◌, nat_le, List, [], ◌∷◌, ◌++◌, map, length, reverse, IsTrue, Option, Some, None, if◌then◌else◌, refl, ap, sym, ◌∙◌, arith}
 use Rattle.std.proofs.lemmas.List.{map-append, reverse-append, append-nil}
 use Rattle.std.proofs.lemmas.Bool.{and_parts, and_from, leb-true, le-leb, lt-leb, and_right}
 use Rattle.kl1_model.specs.Term.{Term}
@@ -50,6 +50,11 @@ made_of nodes t whole rest e d n l m =
     let deep : depth t ≡ whole = ap (λ (x : Depth). x.whole) d in
     let w = narrow_writable t n (omega (arith, deep, l)) in
     record { is = ap (λ x. Some x) (term_of_nodes (reverse nodes) t e) ∙ sym (there_writable t w); piece = piece_of_nodes (reverse nodes) t whole rest e d w l m }
+
+-- the nodes of a term behind no others
+pub spilled_alone : (xs ys : List Node) (t : Term) (whole rest : ℕ) → term_in (reverse xs) ≡ t → IsPiece (reverse xs) whole rest → length ys ≡ 0 → map code_of (reverse xs) ≡ nodes_of t ++ map code_of (reverse ys)
+spilled_alone xs [] t whole rest is p n = p.one ∙ ap nodes_of is ∙ sym (append-nil (nodes_of t))
+spilled_alone xs (y ∷ ys) t whole rest is p n = absurd (omega arith)
 
 reversed_pair : (xs ys : List Node) (n : Node) → reverse ((ys ++ xs) ++ n ∷ []) ≡ n ∷ (reverse xs ++ reverse ys)
 reversed_pair xs ys n = reverse-append (ys ++ xs) (n ∷ []) ∙ ap (λ zs. n ∷ zs) (reverse-append ys xs)

@@ -17,3 +17,4 @@ pub mod GoalNodes
 pub mod Started
 pub mod Marked
 pub mod Followings
+pub mod Spellings

@@ -52,9 +52,10 @@ fn fit_goal(alloc: Global, module_name: AtomText, piece: Piece) -> Result<Option
 fn qualified(alloc: Global, module_name: AtomText, goal: &Term) -> Result<Term, AllocError>
     ensures { IfOk result (λ t. t ≡ pair (codes ":") (atom module_name) goal.now) }
 {
-    let mut nodes = Vec::new(alloc);
+    let behind = goal.nodes();
+    let mut nodes = Vec::with_capacity(alloc, behind.len().saturating_add(2))?;
     nodes.push(Node::Structure(AtomText::of(b":"), 2))?;
     nodes.push(Node::Atom(module_name))?;
-    nodes.extend_from_slice(goal.nodes())?;
+    nodes.extend_from_slice(behind)?;
     Ok(Term::of_nodes(nodes))
 }

@@ -21,11 +21,13 @@ use std::alloc::{AllocError, Global};
 pub(crate) fn read_clause(
     alloc: Global,
     module_name: AtomText,
-    tokens: &[Numbered],
+    tokens: Vec<Numbered>,
 ) -> Result<Option<ClauseParts>, AllocError>
-    ensures { IfOk result (λ r. option_map clause_of_parts r ≡ option_and_then (clause_of_tree module_name) (clause_tree (map numbered_token tokens.now))) }
+    ensures { IfOk result (λ r. option_map clause_of_parts r ≡ option_and_then (clause_of_tree module_name) (clause_tree (map numbered_token tokens.items))) }
 {
-    match read_terms(alloc, tokens)? {
+    let terms = read_terms(alloc, tokens.as_slice())?;
+    drop(tokens);
+    match terms {
         None => Ok(None),
         Some(terms) => clause_of(alloc, module_name, terms),
     }

@@ -10,7 +10,7 @@ ghost use Rattle.kl1_read.specs.Views.{spelled_token};
 use crate::clause::read_clause;
 use crate::clause_parts::ClauseParts;
 use crate::following::may_follow;
-use crate::item::{Next, Place, next_item};
+use crate::item::{Item, Next, Place, next_item};
 use crate::module_line::named_module;
 use crate::numbering::numbered_tokens;
 use crate::read_fault::ReadFault;
@@ -58,8 +58,9 @@ fn read_clauses(
             Next::Nothing => return Ok(clauses),
             Next::Bad(line) => return Err(ReadFault::Bad { line }),
             Next::Whole(item, behind) => {
-                if !put_clause(alloc, name, &mut clauses, item.tokens.as_slice())? {
-                    return Err(ReadFault::Bad { line: item.line });
+                let Item { line, tokens } = item;
+                if !put_clause(alloc, name, &mut clauses, tokens)? {
+                    return Err(ReadFault::Bad { line });
                 }
                 place = behind;
             }
@@ -73,12 +74,13 @@ fn put_clause(
     alloc: Global,
     name: AtomText,
     clauses: &mut Vec<ClauseParts>,
-    tokens: &[Spelled],
+    tokens: Vec<Spelled>,
 ) -> Result<bool, AllocError>
-    ensures { IfOk result (λ put. clauses_where put clauses.new.items ≡ with_clause (map clause_of_parts clauses.old.items) (clause_of name (map spelled_token tokens.now))) }
+    ensures { IfOk result (λ put. clauses_where put clauses.new.items ≡ with_clause (map clause_of_parts clauses.old.items) (clause_of name (map spelled_token tokens.items))) }
 {
-    let numbered = numbered_tokens(alloc, tokens)?;
-    match read_clause(alloc, name, numbered.as_slice())? {
+    let numbered = numbered_tokens(alloc, tokens.as_slice())?;
+    drop(tokens);
+    match read_clause(alloc, name, numbered)? {
         None => Ok(false),
         Some(clause) => {
             if !may_follow(clauses.as_slice(), &clause) {

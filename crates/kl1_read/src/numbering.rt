@@ -1,62 +1,85 @@
 // Numbers for variables.
 
-ghost use Rattle.std.specs.Prelude.{◌≡◌, ◌∷◌, ◌≤◌, suc, length, map, bytes_eq, List, ℕ, IfOk, OnErr};
+ghost use Rattle.std.specs.Prelude.{◌≡◌, ◌∷◌, [], ◌++◌, suc, nat_eq, length, map, List, ℕ, Some, IsTrue, IfOk, OnOk};
+ghost use Rattle.std.specs.Cmp.Lexicographic.{pointwise};
+ghost use Rattle.std.specs.HashMap.{get, Updates};
+ghost use Rattle.kl1_model.specs.Text.{is_text};
 ghost use Rattle.kl1_model.specs.Token.{Token};
-ghost use Rattle.kl1_model.specs.Numbering.{place_of, variable_number, seen_after, numbered_from, numbered_tokens};
+ghost use Rattle.kl1_model.specs.Numbering.{variable_number, seen_after, numbered_from, numbered_tokens};
+ghost use Rattle.kl1_text.specs.Words.{words_of};
+ghost use Rattle.kl1_read.specs.Spellings.{Finds};
 ghost use Rattle.kl1_read.specs.Views.{spelled_token, numbered_token};
 
 use crate::numbered::Numbered;
 use crate::spelled::Spelled;
 use kl1_text::AtomText;
 use std::alloc::{AllocError, Global};
+use std::collections::HashMap;
 
-/// The place of a variable among those seen before, from 1, or the next place.
-fn place_of(seen: &[AtomText], text: AtomText) -> u64
-    ensures { result ≡ place_of seen.now text }
+/// The number of a spelling, where it was seen.
+fn known(numbers: &HashMap<[u64; 8], u64>, text: AtomText) -> Option<u64>
+    ensures value { result ≡ get (pointwise nat_eq) numbers.now (words_of 8 text) }
+    ensures text { IsTrue (is_text text) }
 {
-    let mut place = 1;
-    let mut rest = seen;
-    while let [first, others @ ..] = rest {
-        if first.is(&text) {
-            return place;
-        }
-        place += 1;
-        rest = others;
-    }
-    place
+    text.shows_text();
+    numbers.get(&text.words()).copied()
 }
 
-/// The number of a variable: `_` is another one each time.
-fn variable_number(seen: &[AtomText], text: AtomText) -> u64
-    ensures { result ≡ variable_number seen.now text }
+/// Notes the number of a spelling.
+fn note(numbers: &mut HashMap<[u64; 8], u64>, text: AtomText, number: u64) -> Result<(), AllocError>
+    ensures { OnOk result (Updates (pointwise nat_eq) numbers.old numbers.new (words_of 8 text) (Some number)) }
 {
-    if text.is(&AtomText::of(b"_")) {
-        seen.len() as u64 + 1
-    } else {
-        place_of(seen, text)
-    }
+    numbers.insert(text.words(), number)?;
+    Ok(())
 }
 
-/// The number of a variable, which joins those seen where it is new.
-fn number_of(seen: &mut Vec<AtomText>, text: AtomText) -> Result<u64, AllocError>
-    ensures value { IfOk result (λ n. n ≡ variable_number seen.old.items text) }
-    ensures seen { IfOk result (λ _. seen.new.items ≡ seen_after seen.old.items text) }
+/// Puts a spelling behind those seen; gives its number.
+fn put(seen: &mut Vec<AtomText>, text: AtomText) -> Result<u64, AllocError>
+    ensures number { IfOk result (λ n. n ≡ suc (length seen.old.items)) }
+    ensures seen { OnOk result (seen.new.items ≡ seen.old.items ++ text ∷ []) }
 {
-    let number = variable_number(seen.as_slice(), text);
-    if (seen.len() as u64) < number {
-        seen.push(text)?;
-    }
+    let number = seen.len() as u64 + 1;
+    seen.push(text)?;
     Ok(number)
 }
 
+/// The number of a variable, which joins those seen where it is new: `_` is another one each time.
+fn number_of(
+    numbers: &mut HashMap<[u64; 8], u64>,
+    seen: &mut Vec<AtomText>,
+    text: AtomText,
+) -> Result<u64, AllocError>
+    requires { Finds numbers.old seen.old.items }
+    ensures finds { OnOk result (Finds numbers.new seen.new.items) }
+    ensures value { IfOk result (λ n. n ≡ variable_number seen.old.items text) }
+    ensures seen { IfOk result (λ _. seen.new.items ≡ seen_after seen.old.items text) }
+{
+    if text.is(&AtomText::of(b"_")) {
+        let another = put(seen, text)?;
+        return Ok(another);
+    }
+    if let Some(number) = known(numbers, text) {
+        return Ok(number);
+    }
+    let next = put(seen, text)?;
+    note(numbers, text, next)?;
+    Ok(next)
+}
+
 /// A token with a number for its variable.
-fn number_token(seen: &mut Vec<AtomText>, token: Spelled) -> Result<Numbered, AllocError>
-    ensures { IfOk result (λ r. (ts : List (Token (List ℕ))) → numbered_token r ∷ numbered_from seen.new.items ts ≡ numbered_from seen.old.items (spelled_token token ∷ ts)) }
+fn number_token(
+    numbers: &mut HashMap<[u64; 8], u64>,
+    seen: &mut Vec<AtomText>,
+    token: Spelled,
+) -> Result<Numbered, AllocError>
+    requires { Finds numbers.old seen.old.items }
+    ensures finds { OnOk result (Finds numbers.new seen.new.items) }
+    ensures token { IfOk result (λ r. (ts : List (Token (List ℕ))) → numbered_token r ∷ numbered_from seen.new.items ts ≡ numbered_from seen.old.items (spelled_token token ∷ ts)) }
 {
     match token {
         Spelled::Name(text, quotes, applied) => Ok(Numbered::Name(text, quotes, applied)),
         Spelled::Variable(text) => {
-            let number = number_of(seen, text)?;
+            let number = number_of(numbers, seen, text)?;
             Ok(Numbered::Variable(number))
         }
         Spelled::Digits(number) => Ok(Numbered::Digits(number)),
@@ -73,11 +96,12 @@ pub(crate) fn numbered_tokens(
 ) -> Result<Vec<Numbered>, AllocError>
     ensures { IfOk result (λ ts. map numbered_token ts.items ≡ numbered_tokens (map spelled_token tokens.now)) }
 {
+    let mut numbers = HashMap::new(alloc);
     let mut seen = Vec::new(alloc);
-    let mut out = Vec::new(alloc);
+    let mut out = Vec::with_capacity(alloc, tokens.len())?;
     let mut rest = tokens;
     while let [first, others @ ..] = rest {
-        let token = number_token(&mut seen, *first)?;
+        let token = number_token(&mut numbers, &mut seen, *first)?;
         out.push(token)?;
         rest = others;
     }

@@ -43,7 +43,7 @@ impl Piece {
     pub(crate) fn variable(alloc: Global, number: u64) -> Result<Self, AllocError>
         ensures { IfOk result (λ piece. piece ≡ variable number) }
     {
-        let mut nodes = Vec::new(alloc);
+        let mut nodes = Vec::with_capacity(alloc, 1)?;
         nodes.push(Node::Variable(number))?;
         Ok(Piece {
             nodes,
@@ -56,7 +56,7 @@ impl Piece {
     pub(crate) fn integer(alloc: Global, number: i64) -> Result<Self, AllocError>
         ensures { IfOk result (λ piece. piece ≡ integer number) }
     {
-        let mut nodes = Vec::new(alloc);
+        let mut nodes = Vec::with_capacity(alloc, 1)?;
         nodes.push(Node::Integer(number))?;
         Ok(Piece {
             nodes,
@@ -70,7 +70,7 @@ impl Piece {
         ensures { IfOk result (λ piece. piece ≡ atom text) }
     {
         let _bytes = text.unpacked();
-        let mut nodes = Vec::new(alloc);
+        let mut nodes = Vec::with_capacity(alloc, 1)?;
         nodes.push(Node::Atom(text))?;
         Ok(Piece {
             nodes,
@@ -135,7 +135,8 @@ impl Piece {
         self.whole
     }
 
-    /// Puts the nodes behind others, which come before them in the order of reading; gives the depth.
+    /// Puts the nodes behind others, which come before them in the order of reading; gives the depth. Where there are no
+    /// others, the nodes are not copied.
     fn spill(self, nodes: &mut Vec<Node>) -> Result<u64, AllocError>
         ensures nodes { OnOk result (map code_of (reverse nodes.new.items) ≡ nodes_of self ++ map code_of (reverse nodes.old.items)) }
         ensures depth { IfOk result (λ whole. whole ≡ depth self) }
@@ -147,6 +148,10 @@ impl Piece {
             whole,
             rest: _rest,
         } = self;
+        if nodes.len() == 0 {
+            *nodes = own;
+            return Ok(whole);
+        }
         nodes.extend_from_slice(own.as_slice())?;
         Ok(whole)
     }

@@ -10,8 +10,8 @@ use Rattle.kl1_read.proofs.body.qualified.Goals.{In_ok-extend_from_slice}
 
 nodes_are : (c : In_ok-extend_from_slice) → map code_of c.extend_from_slice.new.self.items ≡ nodes_of (pair (codes ":") (atom c.args.module_name) c.args.goal.now)
 nodes_are c =
-    qualified_nodes c.of.result c.args.module_name c.args.goal.now c.new-nodes.result.items c.nodes.result.now c.push-2.new.self.items c.extend_from_slice.new.self.items
-    c.of.ensures c.new-nodes.ensures.items c.nodes.ensures
+    qualified_nodes c.of.result c.args.module_name c.args.goal.now c.in_ok-nodes.nodes.items c.nodes-behind.result.now c.push-2.new.self.items c.extend_from_slice.new.self.items
+    c.of.ensures c.in_ok-nodes.ensures.items c.nodes-behind.ensures
     (c.in_ok-push-2.ensures.items ∙ ap (λ xs. xs ++ Atom c.args.module_name ∷ []) c.in_ok-push.ensures.items)
     c.in_ok-extend_from_slice.ensures.items
 

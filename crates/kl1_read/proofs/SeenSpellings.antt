@@ -1,0 +1,116 @@
+-- Spellings that were seen, as one more is.
+use Rattle.std.proofs.Common.{◌≡◌, ℕ, suc, ◌≤◌, cond, Bool, true, false, List, [], ◌∷◌, ◌++◌, length, codes, bytes_eq, IsTrue, Option, Some, None, if◌then◌else◌, refl, sym, ap, subst, ◌∙◌, arith, length-append}
+use Rattle.std.proofs.lemmas.Bool.{true≢false, lt-ltb, le-ltb}
+use Rattle.std.proofs.lemmas.Slice.Eq.{bytes_eq-Decides}
+use Rattle.std.specs.Prelude.{nat_eq}
+use Rattle.std.specs.Cmp.Lexicographic.{pointwise}
+use Rattle.std.specs.HashMap.{get, HashMap, Updates}
+use Rattle.std.specs.Map.{lookup}
+use Rattle.kl1_model.specs.Text.{is_text}
+use Rattle.kl1_model.specs.Numbering.{place_of, variable_number, seen_after}
+use Rattle.kl1_text.specs.Words.{words_of}
+use Rattle.kl1_text.proofs.Words.{same_names, same_bytes}
+use Rattle.kl1_read.specs.Spellings.{IsNumberAmong, Finds}
+
+kept_by : (b : Bool) (p q n : ℕ) → (q ≤ n → p ≡ q) → (if b then 1 else suc q) ≤ suc n → ◌≡◌ {A = ℕ} (if b then 1 else suc p) (if b then 1 else suc q)
+kept_by true p q n k h = refl
+kept_by false p q n k h = ap suc (k (omega (arith, h)))
+
+-- a spelling that was seen keeps its place
+place_kept : (seen : List (List ℕ)) (u v : List ℕ) → place_of seen v ≤ length seen → place_of (seen ++ u ∷ []) v ≡ place_of seen v
+place_kept [] u v h = absurd (omega (arith, h))
+place_kept (s ∷ seen) u v h = kept_by (bytes_eq s v) _ _ (length seen) (place_kept seen u v) h
+
+new_by : (b : Bool) (p q n m : ℕ) → (q ≡ suc n → p ≡ m) → (if b then 1 else suc q) ≡ suc (suc n) → ◌≡◌ {A = ℕ} (if b then 1 else suc p) (suc m)
+new_by true p q n m k h = absurd (omega (arith, h))
+new_by false p q n m k h = ap suc (k (omega (arith, h)))
+
+-- a spelling that wasn't seen is not the new one
+place_apart : (seen : List (List ℕ)) (u v : List ℕ) → bytes_eq u v ≡ false → place_of seen v ≡ suc (length seen) → place_of (seen ++ u ∷ []) v ≡ suc (suc (length seen))
+place_apart [] u v e h = ap (λ (b : Bool). let n : ℕ = if b then 1 else 2 in n) e
+place_apart (s ∷ seen) u v e h = new_by (bytes_eq s v) _ _ (length seen) (suc (suc (length seen))) (place_apart seen u v e) h
+
+-- a spelling that wasn't seen is the new one
+place_joins : (seen : List (List ℕ)) (u v : List ℕ) → bytes_eq u v ≡ true → place_of seen v ≡ suc (length seen) → place_of (seen ++ u ∷ []) v ≡ suc (length seen)
+place_joins [] u v e h = ap (λ (b : Bool). let n : ℕ = if b then 1 else 2 in n) e
+place_joins (s ∷ seen) u v e h = new_by (bytes_eq s v) _ _ (length seen) (suc (length seen)) (place_joins seen u v e) h
+
+-- another spelling is put behind
+number_stays : (seen : List (List ℕ)) (u v : List ℕ) (o : Option ℕ) → bytes_eq u v ≡ false → IsNumberAmong seen v o → IsNumberAmong (seen ++ u ∷ []) v o
+number_stays seen u v None e h =
+    let more : suc (length seen) ≡ length (seen ++ u ∷ []) = omega (arith, length-append seen (u ∷ [])) in
+    place_apart seen u v e h ∙ ap suc more
+number_stays seen u v (Some n) e h =
+    (place_kept seen u v (omega (arith, h.0, h.1)) ∙ h.0, omega (arith, h.1, length-append seen (u ∷ [])))
+
+-- a spelling is put behind, and perhaps is this one
+number_with : (seen : List (List ℕ)) (u v : List ℕ) (next : ℕ) (o : Option ℕ) (b : Bool) → bytes_eq u v ≡ b → next ≡ suc (length seen) → (b ≡ true → o ≡ None) → IsNumberAmong seen v o → IsNumberAmong (seen ++ u ∷ []) v (cond b (Some next) o)
+number_with seen u v next o true e n none h =
+    (place_joins seen u v e (subst (IsNumberAmong seen v) (none refl) h) ∙ sym n, omega (arith, n, length-append seen (u ∷ [])))
+number_with seen u v next o false e n none h = number_stays seen u v o e h
+
+-- nothing is found where nothing was seen
+pub finds_none : {S : Type 0} (numbers : HashMap (List ℕ) ℕ S) (seen : List (List ℕ)) → numbers.entries ≡ [] → seen ≡ [] → Finds numbers seen
+finds_none numbers seen e s = λ v t other.
+    let none : get (pointwise nat_eq) numbers (words_of 8 v) ≡ None = ap (lookup (pointwise nat_eq (words_of 8 v))) e in
+    let new : place_of seen v ≡ suc (length seen) = ap (λ xs. place_of xs v) s ∙ ap (λ (xs : List (List ℕ)). suc (length xs)) (sym s) in
+    subst (IsNumberAmong seen v) (sym none) new
+
+apart_from : (u v w : List ℕ) (b : Bool) → bytes_eq u v ≡ b → bytes_eq u w ≡ true → bytes_eq v w ≡ false → b ≡ false
+apart_from u v w true e is other = absurd (true≢false (sym is ∙ ap (λ x. bytes_eq x w) ((bytes_eq-Decides u v).0 e) ∙ other))
+apart_from u v w false e is other = refl
+
+-- the same is found behind `_`
+finds_behind : {S : Type 0} (numbers : HashMap (List ℕ) ℕ S) (seen : List (List ℕ)) (u : List ℕ) → bytes_eq u (codes "_") ≡ true → Finds numbers seen → Finds numbers (seen ++ u ∷ [])
+finds_behind numbers seen u is h = λ v t other.
+    number_stays seen u v _ (apart_from u v (codes "_") (bytes_eq u v) refl is other) (h v t other)
+
+-- one more is found
+finds_more : {S : Type 0} (old new : HashMap (List ℕ) ℕ S) (seen : List (List ℕ)) (u : List ℕ) (next : ℕ) → IsTrue (is_text u) → Finds old seen → get (pointwise nat_eq) old (words_of 8 u) ≡ None → next ≡ suc (length seen) → Updates (pointwise nat_eq) old new (words_of 8 u) (Some next) → Finds new (seen ++ u ∷ [])
+finds_more old new seen u next text h none n updates = λ v t other.
+    let same : bytes_eq (words_of 8 u) (words_of 8 v) ≡ bytes_eq u v = same_bytes u v _ (same_names u v _ text t refl) in
+    let now : get (pointwise nat_eq) new (words_of 8 v) ≡ cond (bytes_eq u v) (Some next) (get (pointwise nat_eq) old (words_of 8 v)) = updates.0 (words_of 8 v) ∙ ap (λ (b : Bool). cond b (Some next) (get (pointwise nat_eq) old (words_of 8 v))) same in
+    subst (IsNumberAmong (seen ++ u ∷ []) v) (sym now)
+    (number_with seen u v next _ (bytes_eq u v) refl n (λ e. ap (λ x. get (pointwise nat_eq) old (words_of 8 x)) (sym ((bytes_eq-Decides u v).0 e)) ∙ none) (h v t other))
+
+-- a spelling that has the next number joins those seen, and another one doesn't
+joined_by : (seen : List (List ℕ)) (v : List ℕ) (n : ℕ) → n ≡ variable_number seen v → n ≡ suc (length seen) → seen ++ v ∷ [] ≡ seen_after seen v
+joined_by seen v n e next =
+    sym (ap (λ b. if◌then◌else◌ {A = List (List ℕ)} b (seen ++ v ∷ []) seen) (lt-ltb (length seen) (variable_number seen v) (omega (arith, e, next))))
+
+old_by : (seen : List (List ℕ)) (v : List ℕ) (n : ℕ) → n ≡ variable_number seen v → n ≤ length seen → seen ≡ seen_after seen v
+old_by seen v n e low =
+    sym (ap (λ b. if◌then◌else◌ {A = List (List ℕ)} b (seen ++ v ∷ []) seen) (le-ltb (length seen) (variable_number seen v) (omega (arith, e, low))))
+
+-- a spelling has its number, and the numbers of those seen now are found
+pub record IsNumbered {S : Type 0} (numbers : HashMap (List ℕ) ℕ S) (before now : List (List ℕ)) (v : List ℕ) (n : ℕ) : Type 0 where
+  pub finds : Finds numbers now
+  pub value : n ≡ variable_number before v
+  pub seen : now ≡ seen_after before v
+
+-- `_`
+pub another : {S : Type 0} (numbers : HashMap (List ℕ) ℕ S) (seen now : List (List ℕ)) (u v : List ℕ) (n : ℕ) → Finds numbers seen → true ≡ bytes_eq v u → u ≡ codes "_" → n ≡ suc (length seen) → now ≡ seen ++ v ∷ [] → IsNumbered numbers seen now v n
+another numbers seen now u v n h is e next put =
+    let under : bytes_eq v (codes "_") ≡ true = ap (bytes_eq v) (sym e) ∙ sym is in
+    let value : n ≡ variable_number seen v = next ∙ sym (ap (λ b. if◌then◌else◌ {A = ℕ} b (suc (length seen)) (place_of seen v)) under) in
+    record { finds = subst (Finds numbers) (sym put) (finds_behind numbers seen v under h); value = value; seen = put ∙ joined_by seen v n value next }
+
+-- a spelling that was seen, or not
+placed : (seen : List (List ℕ)) (u v : List ℕ) → false ≡ bytes_eq v u → u ≡ codes "_" → (bytes_eq v (codes "_") ≡ false) × (variable_number seen v ≡ place_of seen v)
+placed seen u v is e =
+    let other : bytes_eq v (codes "_") ≡ false = ap (bytes_eq v) (sym e) ∙ sym is in
+    (other, ap (λ b. if◌then◌else◌ {A = ℕ} b (suc (length seen)) (place_of seen v)) other)
+
+pub again : {S : Type 0} (numbers : HashMap (List ℕ) ℕ S) (seen : List (List ℕ)) (u v : List ℕ) (n : ℕ) → Finds numbers seen → false ≡ bytes_eq v u → u ≡ codes "_" → IsTrue (is_text v) → Some n ≡ get (pointwise nat_eq) numbers (words_of 8 v) → IsNumbered numbers seen seen v n
+again numbers seen u v n h is e text found =
+    let at = placed seen u v is e in
+    let number : IsNumberAmong seen v (Some n) = subst (IsNumberAmong seen v) (sym found) (h v text at.0) in
+    let value : n ≡ variable_number seen v = sym (at.1 ∙ number.0) in
+    record { finds = h; value = value; seen = old_by seen v n value number.1 }
+
+pub first : {S : Type 0} (old new : HashMap (List ℕ) ℕ S) (seen now : List (List ℕ)) (u v : List ℕ) (n : ℕ) → Finds old seen → false ≡ bytes_eq v u → u ≡ codes "_" → IsTrue (is_text v) → None ≡ get (pointwise nat_eq) old (words_of 8 v) → n ≡ suc (length seen) → now ≡ seen ++ v ∷ [] → Updates (pointwise nat_eq) old new (words_of 8 v) (Some n) → IsNumbered new seen now v n
+first old new seen now u v n h is e text none next put updates =
+    let at = placed seen u v is e in
+    let number : IsNumberAmong seen v None = subst (IsNumberAmong seen v) (sym none) (h v text at.0) in
+    let value : n ≡ variable_number seen v = next ∙ sym (at.1 ∙ number) in
+    record { finds = subst (Finds new) (sym put) (finds_more old new seen v n text h (sym none) next updates); value = value; seen = put ∙ joined_by seen v n value next }

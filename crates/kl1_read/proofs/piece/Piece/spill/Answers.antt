@@ -1,0 +1,7 @@
+use Rattle.std.proofs.Common.{arith}
+use Rattle.kl1_read.proofs.Nodes.{spilled_alone}
+use Rattle.kl1_read.proofs.piece.Piece.spill.Goals as goal
+
+pub returns-then-len-eq0-clause-nodes : goal.returns-then-len-eq0-clause-nodes
+returns-then-len-eq0-clause-nodes c =
+    spilled_alone c.self.inside.nodes.items c.args.nodes.now.items c.args.self c.self.inside.whole c.self.inside.rest c.self.view_is c.self.invariant (omega (arith, c.args.nodes.now.ok.0))
