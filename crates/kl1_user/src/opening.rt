@@ -1,6 +1,6 @@
 // The shoen that a start opens.
 
-ghost use Rattle.std.specs.Prelude.{◌≡◌, ◌<◌, ◌+◌, ◌++◌, IfOk, IsTrue};
+ghost use Rattle.std.specs.Prelude.{◌≡◌, ◌<◌, ◌≤◌, ◌+◌, ◌^◌, ◌++◌, IfOk, OnErr, IsTrue};
 ghost use Rattle.kl1_model.specs.Meaning.{is_numbered};
 ghost use Rattle.kl1_store.specs.Sound.{Grown};
 ghost use Rattle.kl1_user.specs.Starts.{Opens, two_goals};
@@ -21,7 +21,8 @@ const MONITOR_PRIORITY: u64 = 4096;
 
 /// The number behind one. Numbers of 64 bits that run out are refused as for want of memory.
 pub(crate) fn next_number(last: u64) -> Result<u64, AllocError>
-    ensures { IfOk result (λ number. number ≡ last + 1) }
+    ensures ok { IfOk result (λ number. number ≡ last + 1) }
+    ensures err { OnErr result (2 ^ 64 ≤ last + 1) }
 {
     last.checked_add(1).ok_or(AllocError)
 }

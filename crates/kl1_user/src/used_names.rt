@@ -25,10 +25,10 @@ fn put_name(names: &mut Vec<AtomText>, text: &AtomText) -> Result<(), AllocError
     ensures ok { OnOk result (names.new.items ≡ with_text names.old.items text.now) }
     ensures err { OnErr result (names.new.items ≡ names.old.items) }
 {
-    if text.built_in().is_some() {
+    if is_among(names, text) {
         return Ok(());
     }
-    if is_among(names, text) {
+    if text.built_in().is_some() {
         return Ok(());
     }
     names.push(*text)?;

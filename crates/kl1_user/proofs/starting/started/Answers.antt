@@ -10,8 +10,8 @@ report-requires-clause-inside c =
 
 pub returns-clause-ok : goal.returns-clause-ok
 returns-clause-ok c =
-    let one = c.in_ok-first.ensures in
-    let two = c.in_ok-second.ensures in
+    let one = c.in_ok-first.ensures.ok in
+    let two = c.in_ok-second.ensures.ok in
     start_leaves c.args.goal.now c.args.store.now.held c.opened.new.store.held c.report.new.store.held c.args.modules.now c.args.goals.now c.in_ok-all.all c.in_ok-work.field-0 c.args.shoens.now c.in_ok-cell.shoen
     c.args.last_goal c.in_ok-second.second c.args.allowance c.args.low c.args.high c.in_ok-cell.cell c.of.result c.report.new.work
     c.requires.goals c.requires.owned c.requires.shoens c.requires.numbered c.in_ok-cell.ensures.grown c.in_ok-cell.ensures.ok c.in_ok-all.ensures (omega arith) c.of.ensures c.in_ok-report.ensures.ok
