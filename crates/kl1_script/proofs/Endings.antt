@@ -6,12 +6,12 @@ use Rattle.std.specs.declared.result.Result.{Result}
 use Rattle.std.specs.Io.KnownBytes.{Appends}
 use Rattle.kl1_model.specs.State.{State}
 use Rattle.kl1_model.specs.Script.{Record, record_first, line_in, behind_feed, words_of, accounts_in, records_of, written_line, written_records}
-use Rattle.kl1_script.specs.Devices.{AppendsFront, PassesOn}
+use Rattle.kl1_lines.specs.Devices.{AppendsFront, PassesOn}
 use Rattle.kl1_script.specs.Scripts.{Ends, Stops, StopsBefore, Finishes, IsFirstOf, first_written}
 use Rattle.kl1_script.specs.Told.{state_by, told_by}
-use Rattle.kl1_script.specs.declared.script_fault.ScriptFault.{ScriptFault}
-use Rattle.kl1_script.specs.declared.script_fault.ScriptFault.TheVariants as faults
-use Rattle.kl1_script.proofs.DeviceLaws.{appends_both, appends_none, front_behind, some_left}
+use Rattle.kl1_lines.specs.declared.script_fault.ScriptFault.{ScriptFault}
+use Rattle.kl1_lines.specs.declared.script_fault.ScriptFault.TheVariants as faults
+use Rattle.kl1_lines.proofs.DeviceLaws.{appends_both, appends_none, front_behind, some_left}
 use Rattle.kl1_script.proofs.Progress.{Progress, goes_on, told_first, told_all, told_some}
 
 -- some records are done, and of what was told for them these bytes were not passed on yet

@@ -1,10 +1,5 @@
-pub mod Cuts
-pub mod Digits
 pub mod Starts
-pub mod Fuel
-pub mod WordFuel
 pub mod Names
-pub mod DeviceLaws
 pub mod Runs
 pub mod Progress
 pub mod Endings

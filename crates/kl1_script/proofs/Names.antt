@@ -7,7 +7,7 @@ use Rattle.std.proofs.lemmas.List.Folds.{list_all-append}
 use Rattle.kl1_model.specs.Command.{is_space, first_word, word_in, behind_word_in, is_blank_line}
 use Rattle.kl1_model.specs.Script.{words_of, accounts_in, is_account_name, are_distinct}
 use Rattle.kl1_script.specs.Accounts.{named}
-use Rattle.kl1_script.proofs.WordFuel.{words_none, words_more}
+use Rattle.kl1_lines.proofs.WordFuel.{words_none, words_more}
 
 -- one word more
 pub one_more : (names words : List (List ℕ)) (rest : List ℕ) → names ++ words_of rest ≡ words → is_blank_line rest ≡ false → (names ++ word_in rest ∷ []) ++ words_of (behind_word_in rest) ≡ words

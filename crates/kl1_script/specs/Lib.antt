@@ -1,8 +1,4 @@
-pub mod Places
-pub mod Parts
-pub mod Records
 pub mod Accounts
-pub mod Devices
 pub mod Commands
 pub mod Performing
 pub mod Told

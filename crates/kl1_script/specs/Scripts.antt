@@ -4,9 +4,9 @@ use Rattle.std.specs.declared.option.Option.{Option}
 use Rattle.std.specs.declared.result.Result.{Result}
 use Rattle.std.specs.Io.KnownBytes.{Appends}
 use Rattle.kl1_model.specs.Script.{Record, line_in, behind_feed, words_of, accounts_in, records_of, written_from, output}
-use Rattle.kl1_script.specs.Devices.{IsLeft, IsWhole, AppendsFront}
-use Rattle.kl1_script.specs.declared.script_fault.ScriptFault.{ScriptFault}
-use Rattle.kl1_script.specs.declared.script_fault.ScriptFault.TheVariants as faults
+use Rattle.kl1_lines.specs.Devices.{IsLeft, IsWhole, AppendsFront}
+use Rattle.kl1_lines.specs.declared.script_fault.ScriptFault.{ScriptFault}
+use Rattle.kl1_lines.specs.declared.script_fault.ScriptFault.TheVariants as faults
 
 -- what is written for the first of these records, so many
 abbrev pub first_written : ℕ → Option (List (List ℕ)) → List Record → List ℕ

@@ -5,9 +5,7 @@ ghost use Rattle.std.specs.List.{list_any};
 ghost use Rattle.kl1_model.specs.Script.{are_distinct, words_of, accounts_in};
 ghost use Rattle.kl1_script.specs.Accounts.{named};
 
-use crate::lines::is_blank_line;
-use crate::verb::is_same;
-use crate::words::split_word;
+use kl1_lines::{is_blank_line, is_same, split_word};
 use kl1_user::AccountName;
 use std::alloc::{AllocError, Global};
 

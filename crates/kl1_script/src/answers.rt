@@ -4,15 +4,13 @@ ghost use Rattle.std.specs.Prelude.{◌≡◌, ◌++◌, OnOk, OnErr};
 ghost use Rattle.kl1_model.specs.Command.{act, reply_lines};
 ghost use Rattle.kl1_model.specs.Script.{is_served, written_reply};
 ghost use Rattle.kl1_script.specs.Commands.{command_view};
-ghost use Rattle.kl1_script.specs.Records.{command_of};
+ghost use Rattle.kl1_lines.specs.Records.{command_of};
 ghost use Rattle.kl1_script.specs.Told.{state_by, told_by};
 
 use crate::command::{Command, command_in};
-use crate::notices::put_no_account;
 use crate::performed::{Performed, perform};
-use crate::record::Record;
 use crate::replies::put_reply;
-use crate::verb::is_same;
+use kl1_lines::{Record, is_same, put_no_account};
 use kl1_user::{AccountName, Refusal, Reply, UserState};
 use std::alloc::{AllocError, Global};
 

@@ -4,10 +4,10 @@ ghost use Rattle.std.specs.Prelude.{◌≡◌, IfOk, option_map};
 ghost use Rattle.kl1_model.specs.Command.{does, start_with};
 ghost use Rattle.kl1_model.specs.Event.{read, value};
 ghost use Rattle.kl1_model.specs.Module.{read_goal};
-ghost use Rattle.kl1_script.specs.Records.{command_of};
+ghost use Rattle.kl1_lines.specs.Records.{command_of};
 ghost use Rattle.kl1_script.specs.Commands.{command_view};
 
-use crate::record::CommandParts;
+use kl1_lines::CommandParts;
 use kl1_read::{ReadFault, read_goal};
 use kl1_user::{Event, Query, ShoenNo};
 use std::alloc::{AllocError, Global};

@@ -5,7 +5,7 @@ ghost use Rattle.kl1_model.specs.Command.{parse};
 ghost use Rattle.kl1_script.specs.Commands.{parsed_line};
 
 use crate::command::{Command, start_command, value_command};
-use crate::line_parts::{LineParts, parts_of};
+use kl1_lines::{LineParts, parts_of};
 use std::alloc::{AllocError, Global};
 
 /// What a line is.

@@ -1,62 +1,15 @@
 // The lines of replies, as they are written behind an account's name.
 
-ghost use Rattle.std.specs.Prelude.{◌≡◌, ◌++◌, ◌∷◌, [], codes, decimal, length, take, OnOk, OnErr};
+ghost use Rattle.std.specs.Prelude.{◌≡◌, ◌++◌, OnOk, OnErr};
 ghost use Rattle.kl1_model.specs.Command.{reply_lines};
-ghost use Rattle.kl1_model.specs.Script.{written_line, written_reply};
+ghost use Rattle.kl1_model.specs.Script.{written_reply};
 ghost use Rattle.kl1_user.specs.Views.{refusal_of, reply_of};
 ghost use Rattle.kl1_model.specs.Event.{loaded, opened, reduced, ran, shown, refused, syntax, source, exists, no_shoen, step_refused, journal_full};
 
-use itoa::Buffer;
+use kl1_lines::{put_number_line, put_reply_line};
 use kl1_text::AtomText;
 use kl1_user::{Refusal, Reply};
 use std::alloc::AllocError;
-
-/// Puts the parts of a line behind the bytes. After an `Err` some of them may be there.
-fn put_parts(out: &mut Vec<u8>, account: &[u8], start: &[u8], text: &[u8]) -> Result<(), AllocError>
-    ensures ok { OnOk result (out.new.items ≡ (((((out.old.items ++ account.now) ++ 32 ∷ []) ++ start.now) ++ text.now) ++ 10 ∷ [])) }
-    ensures kept { take (length out.old.items) out.new.items ≡ out.old.items }
-{
-    out.extend_from_slice(account)?;
-    out.push(b' ')?;
-    out.extend_from_slice(start)?;
-    out.extend_from_slice(text)?;
-    out.push(b'\n')?;
-    Ok(())
-}
-
-/// Puts a reply of one line behind the bytes.
-fn put_reply_line(
-    out: &mut Vec<u8>,
-    account: &[u8],
-    start: &[u8],
-    text: &[u8],
-) -> Result<(), AllocError>
-    ensures ok { OnOk result (out.new.items ≡ out.old.items ++ written_reply account.now ((start.now ++ text.now) ∷ [])) }
-    ensures err { OnErr result (out.new.items ≡ out.old.items) }
-{
-    let before = out.len();
-    match put_parts(out, account, start, text) {
-        Ok(()) => Ok(()),
-        Err(error) => {
-            out.truncate(before);
-            Err(error)
-        }
-    }
-}
-
-/// Puts a reply of one line that ends with a number behind the bytes.
-fn put_number_line(
-    out: &mut Vec<u8>,
-    account: &[u8],
-    start: &[u8],
-    number: u64,
-) -> Result<(), AllocError>
-    ensures ok { OnOk result (out.new.items ≡ out.old.items ++ written_reply account.now ((start.now ++ decimal number) ∷ [])) }
-    ensures err { OnErr result (out.new.items ≡ out.old.items) }
-{
-    let mut buffer = Buffer::new();
-    put_reply_line(out, account, start, buffer.format(number).as_bytes())
-}
 
 /// Puts the reply to a load behind the bytes: the module's name.
 fn put_loaded(out: &mut Vec<u8>, account: &[u8], name: &AtomText) -> Result<(), AllocError>

@@ -3,20 +3,16 @@
 ghost use Rattle.std.specs.Prelude.{◌≡◌, ◌<◌, ℕ, List, length, Some, OnOk, IsErrOf, codes};
 ghost use Rattle.std.specs.Io.KnownBytes.{Consumes, Appends};
 ghost use Rattle.kl1_model.specs.Script.{output, records_of, written_line, written_records};
-ghost use Rattle.kl1_script.specs.Devices.{ReadsFew};
+ghost use Rattle.kl1_lines.specs.Devices.{ReadsFew};
 ghost use Rattle.kl1_script.specs.Scripts.{Answered, BreaksOff, Ends, Finishes, IsFirstOf, StopsBefore, Stops, first_written, front_of};
-ghost use Rattle.kl1_script.specs.declared.script_fault.ScriptFault.TheVariants as faults;
+ghost use Rattle.kl1_lines.specs.declared.script_fault.ScriptFault.TheVariants as faults;
 
 use crate::accounts::accounts_in;
 use crate::answers::put_record;
-use crate::input::read_all;
-use crate::lines::split_line;
-use crate::notices::put_truncated;
-use crate::output::{finish, pass_on};
-use crate::record::{NextRecord, next_record};
-use crate::script_fault::ScriptFault;
-use crate::sink::Sink;
-use crate::source::Source;
+use kl1_lines::{
+    NextRecord, ScriptFault, Sink, Source, finish, next_record, pass_on, put_truncated, read_all,
+    split_line,
+};
 use kl1_user::{AccountName, UserState};
 use std::alloc::Global;
 

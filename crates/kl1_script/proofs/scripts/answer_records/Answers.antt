@@ -1,6 +1,6 @@
 use Rattle.std.proofs.Common.{◌∙◌, true, false, sym, arith}
 use Rattle.std.proofs.lemmas.List.{append-nil}
-use Rattle.kl1_script.specs.Records.{command_of}
+use Rattle.kl1_lines.specs.Records.{command_of}
 use Rattle.kl1_script.proofs.Endings.{more_done, more_told, stops_there, breaks_off, ends_here}
 use Rattle.kl1_script.proofs.scripts.answer_records.Goals as goal
 

@@ -1,0 +1,25 @@
+-- What the parts of a line stand for.
+use Rattle.kl1_model.specs.Command.{Line, whole, load_of, no_command, run, does, line_with, start_with}
+use Rattle.kl1_model.specs.Command as model
+use Rattle.kl1_model.specs.Event.{read, value}
+use Rattle.kl1_model.specs.Module.{read_goal}
+use Rattle.kl1_lines.specs.declared.verb.Verb.{Verb}
+use Rattle.kl1_lines.specs.declared.verb.Verb.TheVariants as verbs
+use Rattle.kl1_lines.specs.declared.line_parts.LineParts.{LineParts}
+use Rattle.kl1_lines.specs.declared.line_parts.LineParts.TheVariants as parts
+
+-- the verb of the definitions
+abbrev pub verb_view : Verb → model.Verb
+verb_view verbs.Loads = model.loads
+verb_view verbs.Starts = model.starts
+verb_view verbs.Runs = model.runs
+verb_view verbs.AsksValue = model.asks_value
+verb_view verbs.Unknown = model.unknown
+
+-- the line that has these parts: a start is one only if its priorities are a range and its goal is read
+abbrev pub line_of : LineParts → Line
+line_of (parts.Load n) = load_of n
+line_of (parts.Start allowance low high goal) = line_with whole (start_with allowance low high (read_goal goal.now))
+line_of (parts.Run n) = whole (run n)
+line_of (parts.Value n) = whole (does (read (value n)))
+line_of parts.NoCommand = no_command

@@ -1,0 +1,79 @@
+// Lines, and the name in front of one.
+
+ghost use Rattle.std.specs.Prelude.{◌≡◌, ◌+◌, ◌<◌, ◌≤◌, length, take, drop};
+ghost use Rattle.std.specs.List.{list_all};
+ghost use Rattle.kl1_model.specs.Command.{is_space, is_blank_line};
+ghost use Rattle.kl1_model.specs.Script.{without_return, line_in, behind_feed, before_space, behind_space};
+ghost use Rattle.kl1_lines.specs.Places.{place_of};
+
+use crate::bytes::is_space;
+
+/// The place of the first such byte, or how many bytes there are.
+fn place_of(byte: u8, text: &[u8]) -> usize
+    ensures value { result ≡ place_of byte text.now }
+    ensures within { result ≤ length text.now }
+{
+    let mut place = 0;
+    let mut rest = text;
+    while let [first, others @ ..] = rest {
+        if *first == byte {
+            return place;
+        }
+        place += 1;
+        rest = others;
+    }
+    place
+}
+
+/// What is behind the byte at a place, nothing if none is there.
+fn behind_place(text: &[u8], place: usize) -> &[u8]
+    ensures { result.now ≡ drop (place + 1) text.now }
+{
+    if place < text.len() {
+        &text[place + 1..]
+    } else {
+        &[]
+    }
+}
+
+/// A line without a carriage return at its end.
+pub(crate) fn without_return(line: &[u8]) -> &[u8]
+    ensures { result.now ≡ without_return line.now }
+{
+    if line.is_empty() {
+        return line;
+    }
+    let last = line.len() - 1;
+    if line[last] == b'\r' {
+        &line[..last]
+    } else {
+        line
+    }
+}
+
+/// The line in front of a text, without its end, and what is behind that.
+pub fn split_line(text: &[u8]) -> (&[u8], &[u8])
+    ensures line { result.0.now ≡ line_in text.now }
+    ensures behind { result.1.now ≡ behind_feed text.now }
+    ensures within { length result.1.now ≤ length text.now }
+    ensures less { 0 < length text.now → length result.1.now < length text.now }
+{
+    let place = place_of(b'\n', text);
+    (without_return(&text[..place]), behind_place(text, place))
+}
+
+/// The bytes before the first space of a line, and those behind it.
+pub fn split_name(line: &[u8]) -> (&[u8], &[u8])
+    ensures name { result.0.now ≡ before_space line.now }
+    ensures behind { result.1.now ≡ behind_space line.now }
+{
+    let place = place_of(b' ', line);
+    (&line[..place], behind_place(line, place))
+}
+
+/// Whether a line has blanks alone.
+pub fn is_blank_line(line: &[u8]) -> bool
+    ensures { result ≡ is_blank_line line.now }
+{
+    line.iter().all(|byte| is_space(*byte))
+}
