@@ -77,7 +77,8 @@ pub(crate) fn with_opening(
     high: u64,
     cell: Cell<AtomText>,
 ) -> Result<Vec<Goal>, AllocError>
-    ensures { IfOk result (λ after. after.items ≡ goals.now ++ two_goals last_goal shoen high cell) }
+    ensures goals { IfOk result (λ after. after.items ≡ goals.now ++ two_goals last_goal shoen high cell) }
+    ensures fits { IfOk result (λ after. last_goal + 2 < 2 ^ 64) }
 {
     let first = next_number(last_goal)?;
     let second = next_number(first)?;

@@ -8,7 +8,7 @@ ghost use Rattle.kl1_user.specs.Starts.{IsStarted};
 
 use crate::goal::Goal;
 use crate::goals::standing_goals;
-use crate::opening::{next_number, opened, with_opening};
+use crate::opening::{opened, with_opening};
 use crate::reporting::report;
 use crate::shoen::Shoen;
 use crate::work::Work;
@@ -42,15 +42,13 @@ pub(crate) fn started(
     ensures hooks { store.new.hooks ≡ store.old.hooks }
 {
     let place = shoens.len();
-    let first = next_number(last_goal)?;
-    let second = next_number(first)?;
     let (cell, shoen) = opened(alloc, store, place as u64, allowance, low, high, goal)?;
     let all = with_opening(alloc, goals, last_goal, shoen.number, high, cell)?;
     let mut work = Work {
         goals: all,
         place,
         shoen,
-        last_goal: second,
+        last_goal: last_goal + 2,
     };
     report(store, &mut work, Cell::Atom(AtomText::of(b"started")))?;
     work.goals = standing_goals(alloc, store, modules, &work.goals)?;

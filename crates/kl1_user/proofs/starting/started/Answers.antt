@@ -1,18 +1,16 @@
-use Rattle.std.proofs.Common.{map, ap, ◌∙◌, arith}
+use Rattle.std.proofs.Common.{◌+◌, map, ap, ◌∙◌, arith}
 use Rattle.kl1_user.specs.Lists.{stood}
 use Rattle.kl1_user.proofs.Startings.{begun_in, start_leaves}
 use Rattle.kl1_user.proofs.starting.started.Goals as goal
 
 pub report-requires-clause-inside : goal.report-requires-clause-inside
 report-requires-clause-inside c =
-    begun_in c.args.goal.now c.args.store.now.held c.opened.new.store.held c.args.goals.now c.in_ok-all.all c.args.shoens.now c.in_ok-cell.shoen c.args.last_goal c.in_ok-second.second
-    c.args.allowance c.args.low c.args.high c.in_ok-cell.cell c.requires.goals c.in_ok-cell.ensures.grown c.in_ok-cell.ensures.ok c.in_ok-all.ensures
+    begun_in c.args.goal.now c.args.store.now.held c.opened.new.store.held c.args.goals.now c.in_ok-all.all c.args.shoens.now c.in_ok-cell.shoen c.args.last_goal (c.args.last_goal + 2)
+    c.args.allowance c.args.low c.args.high c.in_ok-cell.cell c.requires.goals c.in_ok-cell.ensures.grown c.in_ok-cell.ensures.ok c.in_ok-all.ensures.goals
 
 pub returns-clause-ok : goal.returns-clause-ok
 returns-clause-ok c =
-    let one = c.in_ok-first.ensures.ok in
-    let two = c.in_ok-second.ensures.ok in
     start_leaves c.args.goal.now c.args.store.now.held c.opened.new.store.held c.report.new.store.held c.args.modules.now c.args.goals.now c.in_ok-all.all c.in_ok-work.field-0 c.args.shoens.now c.in_ok-cell.shoen
-    c.args.last_goal c.in_ok-second.second c.args.allowance c.args.low c.args.high c.in_ok-cell.cell c.of.result c.report.new.work
-    c.requires.goals c.requires.owned c.requires.shoens c.requires.numbered c.in_ok-cell.ensures.grown c.in_ok-cell.ensures.ok c.in_ok-all.ensures (omega arith) c.of.ensures c.in_ok-report.ensures.ok
+    c.args.last_goal (c.args.last_goal + 2) c.args.allowance c.args.low c.args.high c.in_ok-cell.cell c.of.result c.report.new.work
+    c.requires.goals c.requires.owned c.requires.shoens c.requires.numbered c.in_ok-cell.ensures.grown c.in_ok-cell.ensures.ok c.in_ok-all.ensures.goals (omega arith) c.of.ensures c.in_ok-report.ensures.ok
     (c.in_ok-work.ensures ∙ ap (map (stood c.report.new.store.held c.args.modules.now)) c.deref.ensures.value)
