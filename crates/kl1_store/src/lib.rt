@@ -31,6 +31,7 @@ mod take_back;
 mod task;
 mod tell;
 mod unified;
+mod unify;
 
 pub use cell::Cell;
 pub use head::Head;

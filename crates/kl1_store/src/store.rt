@@ -20,11 +20,11 @@ use crate::merges::Merges;
 use crate::pairs::Pairs;
 use crate::point::Point;
 use crate::same::Same;
-use crate::settle::unify_cells;
 use crate::take_back::take_back;
 use crate::task::Task;
 use crate::tell::tell_all;
 use crate::unified::Unified;
+use crate::unify::unify_or_undo;
 use kl1_text::NameValue;
 use std::alloc::{AllocError, Global};
 use std::marker::Model;
@@ -139,8 +139,7 @@ impl<N: NameValue> Store<N> {
         ensures hooks { self.new.hooks ≡ self.old.hooks }
         ensures hook_room { self.new.hook_room ≡ self.old.hook_room }
     {
-        let mark = self.cells.mark();
-        match unify_cells(
+        unify_or_undo(
             &mut self.cells,
             &mut self.frames,
             &mut self.merges,
@@ -148,17 +147,7 @@ impl<N: NameValue> Store<N> {
             &mut self.tasks,
             left,
             right,
-        ) {
-            Ok(true) => Ok(Unified::Bound),
-            Ok(false) => {
-                take_back(&mut self.cells, &mut self.levels, mark);
-                Ok(Unified::Clash)
-            }
-            Err(error) => {
-                take_back(&mut self.cells, &mut self.levels, mark);
-                Err(error)
-            }
-        }
+        )
     }
 
     /// Whether cells mean the same terms, each two of them, as far as their variables let it be seen; nothing is bound.

@@ -2,7 +2,8 @@
 
 use super::{A, F};
 use kl1_store::{Cell, Store};
-use kl1_text::{AtomText, NameValue};
+use kl1_text::{AtomNo, NameValue};
+use std::alloc::Global;
 use std::process::Abort;
 
 /// Makes room for two variables and takes both: neither can be refused.
@@ -55,25 +56,16 @@ fn growths_with_room_are_not_refused(rt: HostRuntime) {
     two_hooks(&rt, &mut store, 1);
 }
 
-#[test]
-fn growths_under_texts_with_room_are_not_refused(rt: HostRuntime) {
-    let mut store = Store::new(rt.alloc());
-    two_variables(&rt, &mut store);
-    let name = AtomText::of(b"f");
-    one_structure(&rt, &mut store, name, [Cell::Variable(1)].as_slice());
-    two_hooks(&rt, &mut store, 0);
+/// Whether so much room is refused.
+fn is_refused(alloc: Global, variables: usize, structures: usize, arguments: usize) -> bool {
+    let mut store: Store<AtomNo> = Store::new(alloc);
+    store.reserve(variables, structures, arguments, 0).is_err()
 }
 
 #[test]
 fn more_room_than_a_store_has_is_refused(rt: HostRuntime) {
-    let mut store: Store<AtomText> = Store::new(rt.alloc());
-    for (variables, structures, arguments) in [
-        (0x1_0000_0000, 0, 0),
-        (0, 0x1_0000_0000, 0),
-        (0, 0, 0x1_0000_0000),
-    ] {
-        let reserved = store.reserve(variables, structures, arguments, 0);
-        assert!(rt; reserved.is_err());
-    }
-    store.reserve(3, 2, 4, 5).expect(&rt, "memory");
+    assert!(rt; is_refused(rt.alloc(), 0x1_0000_0000, 0, 0));
+    assert!(rt; is_refused(rt.alloc(), 0, 0x1_0000_0000, 0));
+    assert!(rt; is_refused(rt.alloc(), 0, 0, 0x1_0000_0000));
+    assert!(rt; !is_refused(rt.alloc(), 3, 2, 4));
 }
