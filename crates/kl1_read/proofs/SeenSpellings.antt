@@ -89,28 +89,23 @@ pub record IsNumbered {S : Type 0} (numbers : HashMap (List ℕ) ℕ S) (before 
   pub seen : now ≡ seen_after before v
 
 -- `_`
-pub another : {S : Type 0} (numbers : HashMap (List ℕ) ℕ S) (seen now : List (List ℕ)) (u v : List ℕ) (n : ℕ) → Finds numbers seen → true ≡ bytes_eq v u → u ≡ codes "_" → n ≡ suc (length seen) → now ≡ seen ++ v ∷ [] → IsNumbered numbers seen now v n
-another numbers seen now u v n h is e next put =
-    let under : bytes_eq v (codes "_") ≡ true = ap (bytes_eq v) (sym e) ∙ sym is in
-    let value : n ≡ variable_number seen v = next ∙ sym (ap (λ b. if◌then◌else◌ {A = ℕ} b (suc (length seen)) (place_of seen v)) under) in
-    record { finds = subst (Finds numbers) (sym put) (finds_behind numbers seen v under h); value = value; seen = put ∙ joined_by seen v n value next }
+pub another : {S : Type 0} (numbers : HashMap (List ℕ) ℕ S) (seen now : List (List ℕ)) (v : List ℕ) (n : ℕ) → Finds numbers seen → true ≡ bytes_eq v (codes "_") → n ≡ suc (length seen) → now ≡ seen ++ v ∷ [] → IsNumbered numbers seen now v n
+another numbers seen now v n h is next put =
+    let value : n ≡ variable_number seen v = next ∙ sym (ap (λ b. if◌then◌else◌ {A = ℕ} b (suc (length seen)) (place_of seen v)) (sym is)) in
+    record { finds = subst (Finds numbers) (sym put) (finds_behind numbers seen v (sym is) h); value = value; seen = put ∙ joined_by seen v n value next }
 
 -- a spelling that was seen, or not
-placed : (seen : List (List ℕ)) (u v : List ℕ) → false ≡ bytes_eq v u → u ≡ codes "_" → (bytes_eq v (codes "_") ≡ false) × (variable_number seen v ≡ place_of seen v)
-placed seen u v is e =
-    let other : bytes_eq v (codes "_") ≡ false = ap (bytes_eq v) (sym e) ∙ sym is in
-    (other, ap (λ b. if◌then◌else◌ {A = ℕ} b (suc (length seen)) (place_of seen v)) other)
+placed : (seen : List (List ℕ)) (v : List ℕ) → false ≡ bytes_eq v (codes "_") → variable_number seen v ≡ place_of seen v
+placed seen v is = ap (λ b. if◌then◌else◌ {A = ℕ} b (suc (length seen)) (place_of seen v)) (sym is)
 
-pub again : {S : Type 0} (numbers : HashMap (List ℕ) ℕ S) (seen : List (List ℕ)) (u v : List ℕ) (n : ℕ) → Finds numbers seen → false ≡ bytes_eq v u → u ≡ codes "_" → IsTrue (is_text v) → Some n ≡ get (pointwise nat_eq) numbers (words_of 8 v) → IsNumbered numbers seen seen v n
-again numbers seen u v n h is e text found =
-    let at = placed seen u v is e in
-    let number : IsNumberAmong seen v (Some n) = subst (IsNumberAmong seen v) (sym found) (h v text at.0) in
-    let value : n ≡ variable_number seen v = sym (at.1 ∙ number.0) in
+pub again : {S : Type 0} (numbers : HashMap (List ℕ) ℕ S) (seen : List (List ℕ)) (v : List ℕ) (n : ℕ) → Finds numbers seen → false ≡ bytes_eq v (codes "_") → IsTrue (is_text v) → Some n ≡ get (pointwise nat_eq) numbers (words_of 8 v) → IsNumbered numbers seen seen v n
+again numbers seen v n h is text found =
+    let number : IsNumberAmong seen v (Some n) = subst (IsNumberAmong seen v) (sym found) (h v text (sym is)) in
+    let value : n ≡ variable_number seen v = sym (placed seen v is ∙ number.0) in
     record { finds = h; value = value; seen = old_by seen v n value number.1 }
 
-pub first : {S : Type 0} (old new : HashMap (List ℕ) ℕ S) (seen now : List (List ℕ)) (u v : List ℕ) (n : ℕ) → Finds old seen → false ≡ bytes_eq v u → u ≡ codes "_" → IsTrue (is_text v) → None ≡ get (pointwise nat_eq) old (words_of 8 v) → n ≡ suc (length seen) → now ≡ seen ++ v ∷ [] → Updates (pointwise nat_eq) old new (words_of 8 v) (Some n) → IsNumbered new seen now v n
-first old new seen now u v n h is e text none next put updates =
-    let at = placed seen u v is e in
-    let number : IsNumberAmong seen v None = subst (IsNumberAmong seen v) (sym none) (h v text at.0) in
-    let value : n ≡ variable_number seen v = next ∙ sym (at.1 ∙ number) in
+pub first : {S : Type 0} (old new : HashMap (List ℕ) ℕ S) (seen now : List (List ℕ)) (v : List ℕ) (n : ℕ) → Finds old seen → false ≡ bytes_eq v (codes "_") → IsTrue (is_text v) → None ≡ get (pointwise nat_eq) old (words_of 8 v) → n ≡ suc (length seen) → now ≡ seen ++ v ∷ [] → Updates (pointwise nat_eq) old new (words_of 8 v) (Some n) → IsNumbered new seen now v n
+first old new seen now v n h is text none next put updates =
+    let number : IsNumberAmong seen v None = subst (IsNumberAmong seen v) (sym none) (h v text (sym is)) in
+    let value : n ≡ variable_number seen v = next ∙ sym (placed seen v is ∙ number) in
     record { finds = subst (Finds new) (sym put) (finds_more old new seen v n text h (sym none) next updates); value = value; seen = put ∙ joined_by seen v n value next }

@@ -1,13 +1,9 @@
 //! Texts as modules and goals: what a text means, or the line of its first bad item.
 #![tactic(auto)]
 
-#[cfg(test)]
-mod answers;
 mod begun;
 mod body;
 mod bytes;
-#[cfg(test)]
-mod cases;
 mod clause;
 mod clause_parts;
 mod clause_terms;
@@ -17,8 +13,6 @@ mod following;
 mod frame;
 mod front;
 mod goal_kinds;
-#[cfg(test)]
-mod goal_tests;
 mod goals;
 mod guard;
 mod head_kinds;
@@ -28,11 +22,7 @@ mod joined;
 mod left;
 mod mark;
 mod marks;
-#[cfg(test)]
-mod module_limit_tests;
 mod module_line;
-#[cfg(test)]
-mod module_tests;
 mod modules;
 mod numbered;
 mod numbering;
@@ -48,8 +38,6 @@ mod signs;
 mod source;
 mod spelled;
 mod state;
-#[cfg(test)]
-mod tests;
 mod whole_text;
 mod words;
 

@@ -1,6 +1,6 @@
 // Modules.
 
-ghost use Rattle.std.specs.Prelude.{◌≡◌, ◌+◌, ◌^◌, ◌<◌, [], length, map, IfOk, IfErr};
+ghost use Rattle.std.specs.Prelude.{◌≡◌, ◌+◌, ◌^◌, ◌<◌, [], length, map, false, IfOk, IfErr, OnErr};
 ghost use Rattle.kl1_model.specs.Module.{good, read_module, clause_of, clauses_from, with_clause};
 ghost use Rattle.kl1_read.specs.Items.{items_left};
 ghost use Rattle.kl1_read.specs.Sources.{IsFaultOf, clause_of_parts, module_of_parts};
@@ -76,7 +76,9 @@ fn put_clause(
     clauses: &mut Vec<ClauseParts>,
     tokens: Vec<Spelled>,
 ) -> Result<bool, AllocError>
-    ensures { IfOk result (λ put. clauses_where put clauses.new.items ≡ with_clause (map clause_of_parts clauses.old.items) (clause_of name (map spelled_token tokens.items))) }
+    ensures value { IfOk result (λ put. clauses_where put clauses.new.items ≡ with_clause (map clause_of_parts clauses.old.items) (clause_of name (map spelled_token tokens.items))) }
+    ensures refused { IfOk result (λ put. put ≡ false → clauses.new.items ≡ clauses.old.items) }
+    ensures err { OnErr result (clauses.new.items ≡ clauses.old.items) }
 {
     let numbered = numbered_tokens(alloc, tokens.as_slice())?;
     drop(tokens);

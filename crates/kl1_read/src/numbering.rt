@@ -1,6 +1,6 @@
 // Numbers for variables.
 
-ghost use Rattle.std.specs.Prelude.{◌≡◌, ◌∷◌, [], ◌++◌, suc, nat_eq, length, map, List, ℕ, Some, IsTrue, IfOk, OnOk};
+ghost use Rattle.std.specs.Prelude.{◌≡◌, ◌∷◌, [], ◌++◌, suc, nat_eq, bytes_eq, codes, length, map, List, ℕ, Some, IsTrue, IfOk, OnOk};
 ghost use Rattle.std.specs.Cmp.Lexicographic.{pointwise};
 ghost use Rattle.std.specs.HashMap.{get, Updates};
 ghost use Rattle.kl1_model.specs.Text.{is_text};
@@ -43,6 +43,13 @@ fn put(seen: &mut Vec<AtomText>, text: AtomText) -> Result<u64, AllocError>
     Ok(number)
 }
 
+/// Whether a spelling is that of another variable each time.
+fn is_another(text: &AtomText) -> bool
+    ensures { result ≡ bytes_eq text.now (codes "_") }
+{
+    text.is(&AtomText::of(b"_"))
+}
+
 /// The number of a variable, which joins those seen where it is new: `_` is another one each time.
 fn number_of(
     numbers: &mut HashMap<[u64; 8], u64>,
@@ -54,7 +61,7 @@ fn number_of(
     ensures value { IfOk result (λ n. n ≡ variable_number seen.old.items text) }
     ensures seen { IfOk result (λ _. seen.new.items ≡ seen_after seen.old.items text) }
 {
-    if text.is(&AtomText::of(b"_")) {
+    if is_another(&text) {
         let another = put(seen, text)?;
         return Ok(another);
     }

@@ -160,6 +160,27 @@ impl Piece {
     pub(crate) fn cells(elements: Vec<Piece>, tail: Piece) -> Result<Option<Self>, AllocError>
         ensures { IfOk result (λ piece. piece ≡ writable (cells (terms_of elements.items) tail)) }
     {
+        let room = room_for(elements.as_slice());
+        Piece::put_cells(elements, tail.with_room(room)?)
+    }
+
+    /// The term with room for so many nodes more.
+    fn with_room(self, count: usize) -> Result<Self, AllocError>
+        ensures { IfOk result (λ piece. piece ≡ self) }
+    {
+        let Piece {
+            mut nodes,
+            whole,
+            rest,
+        } = self;
+        nodes.reserve(count)?;
+        Ok(Piece { nodes, whole, rest })
+    }
+
+    /// A list of these elements with this behind them, which is put in front of what is behind it.
+    fn put_cells(elements: Vec<Piece>, tail: Piece) -> Result<Option<Self>, AllocError>
+        ensures { IfOk result (λ piece. piece ≡ writable (cells (terms_of elements.items) tail)) }
+    {
         let mut elements = elements;
         let mut list = tail;
         while let Some(element) = elements.pop() {
@@ -233,6 +254,15 @@ impl Piece {
             rest: deepest + 1,
         }))
     }
+}
+
+/// How many nodes the cells of these elements take.
+fn room_for(elements: &[Piece]) -> usize {
+    let mut count = elements.len();
+    for element in elements {
+        count = count.saturating_add(element.nodes.len());
+    }
+    count
 }
 
 /// The depth of a structure of two arguments, and its depth as what follows the elements of a list.

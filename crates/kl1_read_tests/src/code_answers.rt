@@ -1,29 +1,9 @@
-// What becomes of the texts of tests, as a text.
+// What the texts of tests are as compiled modules.
 
 use crate::cases::{count_of, cut};
-use crate::{Code, CodeFault, CompiledClause, Instruction, Name};
+use kl1_clause::{Code, CodeFault, CompiledClause, Instruction, Name};
 use kl1_text::{AtomText, put_atom};
 use std::test::Fail;
-
-/// What a text of a test is, and the answer to it.
-#[derive(Clone, Copy)]
-pub(crate) enum Kind {
-    /// A source: the name of the module, its names and its clauses, or `! ` and the line of the fault.
-    Source,
-    /// A source, `?`, a name, `/` and a number: how many clauses the predicate has.
-    Predicate,
-    /// A source: the number of its clauses, and that of the instructions of the first one's patterns.
-    Sizes,
-}
-
-/// What becomes of a text.
-pub(crate) fn answer_of(rt: &HostRuntime, kind: Kind, text: &[u8]) -> Result<Vec<u8>, Fail> {
-    match kind {
-        Kind::Source => source_answer(rt, text),
-        Kind::Predicate => predicate_answer(rt, text),
-        Kind::Sizes => sizes_answer(rt, text),
-    }
-}
 
 /// The code of a source.
 fn code_of(rt: &HostRuntime, source: &[u8]) -> Result<Code, CodeFault> {
@@ -31,7 +11,7 @@ fn code_of(rt: &HostRuntime, source: &[u8]) -> Result<Code, CodeFault> {
 }
 
 /// The answer to a source.
-fn source_answer(rt: &HostRuntime, source: &[u8]) -> Result<Vec<u8>, Fail> {
+pub(crate) fn source_answer(rt: &HostRuntime, source: &[u8]) -> Result<Vec<u8>, Fail> {
     match code_of(rt, source) {
         Ok(code) => printed(rt, &code, source),
         Err(CodeFault::Bad { line }) => Ok(format!(in rt.alloc(); "! {line}")?.into_bytes()),
@@ -40,7 +20,7 @@ fn source_answer(rt: &HostRuntime, source: &[u8]) -> Result<Vec<u8>, Fail> {
 }
 
 /// The answer to a source and a predicate.
-fn predicate_answer(rt: &HostRuntime, text: &[u8]) -> Result<Vec<u8>, Fail> {
+pub(crate) fn predicate_answer(rt: &HostRuntime, text: &[u8]) -> Result<Vec<u8>, Fail> {
     let (source, predicate) = cut(text, b'?');
     let (name, count) = cut(predicate, b'/');
     let name = AtomText::read(name).ok_or("no name")?;
@@ -50,7 +30,7 @@ fn predicate_answer(rt: &HostRuntime, text: &[u8]) -> Result<Vec<u8>, Fail> {
 }
 
 /// The answer to a long source.
-fn sizes_answer(rt: &HostRuntime, source: &[u8]) -> Result<Vec<u8>, Fail> {
+pub(crate) fn sizes_answer(rt: &HostRuntime, source: &[u8]) -> Result<Vec<u8>, Fail> {
     let code = code_of(rt, source)?;
     let first = code.clauses().get(0).ok_or("no clause")?;
     let size = first.patterns.len();

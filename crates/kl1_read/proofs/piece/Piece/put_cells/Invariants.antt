@@ -1,7 +1,7 @@
 use Rattle.std.proofs.Common.{◌≡◌, vec_len}
 use Rattle.kl1_model.specs.Term.{terms_of}
 use Rattle.kl1_model.specs.Meaning.{cells}
-use Rattle.kl1_read.proofs.piece.Piece.cells.Given as goal
+use Rattle.kl1_read.proofs.piece.Piece.put_cells.Given as goal
 
 -- the elements that are left, before the list so far, are the whole
 abbrev pub invariant-loop-element : goal.invariant-loop-element

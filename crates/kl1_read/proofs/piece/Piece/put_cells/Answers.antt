@@ -2,7 +2,7 @@ use Rattle.std.proofs.Common.{◌≡◌, Some, None}
 use Rattle.kl1_model.specs.Meaning.{cell}
 use Rattle.kl1_read.specs.Pieces.{writable}
 use Rattle.kl1_read.proofs.Arguments.{cells_gone, cells_longer}
-use Rattle.kl1_read.proofs.piece.Piece.cells.Goals as goal
+use Rattle.kl1_read.proofs.piece.Piece.put_cells.Goals as goal
 
 pub returns-in-None : goal.returns-in-None
 returns-in-None c =

@@ -15,6 +15,7 @@ fn goals_that_may_be_started(rt: HostRuntime) -> Result<(), Fail> {
         '='(X,1)#'='(_1,1);\
         (X = (Y = X))#'='(_1,'='(_2,_1));\
         X = a:b#'='(_1,a:b);\
+        m:p(X,_)=[a,b|T]\r\n#'='(m:p(_1,_2),[a,b|_3]);\
         m:p#m:p;\
         \x20m : ( p ) #m:p;\
         m:p(X,Y,X,_,_,_Z,_Z)#m:p(_1,_2,_1,_3,_4,_5,_5);\
@@ -32,7 +33,7 @@ fn goals_that_may_be_started(rt: HostRuntime) -> Result<(), Fail> {
         shoen:execute(1,2,3,4,5,6,7)#shoen:execute(1,2,3,4,5,6,7);\
         m:execute(G,L,H,N,C,R)#m:execute(_1,_2,_3,_4,_5,_6);\
     ";
-    assert_eq!(rt; right(&rt, Kind::Goal, cases)?, 24);
+    assert_eq!(rt; right(&rt, Kind::Goal, cases)?, 25);
     Ok(())
 }
 

@@ -80,6 +80,16 @@ fn a_variable_twice_behind_many(rt: HostRuntime) -> Result<(), Fail> {
 }
 
 #[test]
+fn many_variables_are_told_apart(rt: HostRuntime) -> Result<(), Fail> {
+    let cases = b"\
+        p([{9000 A&,}B],A9000).#1;\
+        \np([{9000 A&,}B],A8999).#! 3;\
+    ";
+    assert_eq!(rt; right(&rt, Kind::Clauses, cases)?, 2);
+    Ok(())
+}
+
+#[test]
 fn deep_lists_and_parentheses_are_read(rt: HostRuntime) -> Result<(), Fail> {
     let cases = b"\
         p({20000 (}1{20000 )}).#1;\

@@ -13,7 +13,7 @@ fn append_is_compiled_from_its_source(rt: HostRuntime) -> Result<(), Fail> {
         \x20<$0/3 2+0 [] _1 _2 ? true ? '='/2 _2 _1>\
         \x20<$0/3 4+1 '.'/2 _1 _2 _3 _4 ? true ? '='/2 _4 '.'/2 _1 _5 ':'/2 $0 $0/3 _2 _3 _5>;\
     ";
-    assert_eq!(rt; right(&rt, Kind::Source, cases)?, 1);
+    assert_eq!(rt; right(&rt, Kind::Code, cases)?, 1);
     Ok(())
 }
 
@@ -31,7 +31,7 @@ fn names_stand_in_order_of_first_use(rt: HostRuntime) -> Result<(), Fail> {
         \x20<$1/1 0+0 0 ? true ? true true>\
         \x20<$2/0 0+2 ? true ? ':'/2 shoen execute/3 ':'/2 $0 $3 _1 _2>;\
     ";
-    assert_eq!(rt; right(&rt, Kind::Source, cases)?, 4);
+    assert_eq!(rt; right(&rt, Kind::Code, cases)?, 4);
     Ok(())
 }
 
@@ -41,7 +41,7 @@ fn a_bad_item_is_told_by_its_line(rt: HostRuntime) -> Result<(), Fail> {
         :- module z.\np(X) :- Y > 0 | true.#! 2;\
         % none\n#! 1;\
     ";
-    assert_eq!(rt; right(&rt, Kind::Source, cases)?, 2);
+    assert_eq!(rt; right(&rt, Kind::Code, cases)?, 2);
     Ok(())
 }
 
@@ -64,8 +64,9 @@ fn long_and_deep_clauses_are_compiled(rt: HostRuntime) -> Result<(), Fail> {
     let cases = b"\
         :- module l. p([{29999 7,}7]).#1 60001;\
         :- module l. p({16000 [a|}b{16000 ]}).#1 32001;\
+        :- module l. p([{9000 a&,}b]).#1 18003;\
     ";
-    assert_eq!(rt; right(&rt, Kind::Sizes, cases)?, 2);
+    assert_eq!(rt; right(&rt, Kind::Sizes, cases)?, 3);
     Ok(())
 }
 
