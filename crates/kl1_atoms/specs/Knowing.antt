@@ -18,6 +18,7 @@ use Rattle.kl1_atoms.specs.Names.{number_in, text_in, number_by, text_by, Adds, 
 some_is : (m n : ℕ) → Some m ≡ Some n → m ≡ n
 some_is m n e = cc
 
+-- the same of texts
 text_is : (t u : List ℕ) → Some t ≡ Some u → t ≡ u
 text_is t u e = cc
 
@@ -201,6 +202,7 @@ number_in-kept (x ∷ ks) k t n e = elim (cases_Bool (bytes_eq x.text t)) [
   | inr other ↦ rw other (number_in-kept ks k t n (rw other at e))
 ]
 
+-- the same of texts that may be built-in names
 number_by-kept : (ks : List Known) (k : Known) (t : List ℕ) (n : ℕ) → number_by ks t ≡ Some n → number_by (ks ++ k ∷ []) t ≡ Some n
 number_by-kept ks k t n e = elim (option_cases (built_in_of t)) [
   | inl none ↦ rw none (number_in-kept ks k t n (rw none at e))
@@ -231,6 +233,7 @@ knows_first-more old t a new ts i adds here known = λ k u below e. elim (cases_
   ]
 ]
 
+-- a look-up leaves what was known of the first texts of a list
 pub knows_first-kept : (old : List Known) (t : List ℕ) (a : AtomNo) (new : List Known) (ts : List (List ℕ)) (i : ℕ) → Adds old t a new → KnowsFirst old ts i → KnowsFirst new ts i
 knows_first-kept old t a new ts i adds known = λ k u below e. elim (option_cases (number_by old u)) [
   | inl none ↦ absurd (false≢true (rw none at (known k u below e)))

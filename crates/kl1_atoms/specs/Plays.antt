@@ -132,17 +132,22 @@ pub record Steps {S : Type 0} (before after : Me S View) (P : Face → Face → 
   pub faces : after.0.faces ≡ with_first before.0.faces (own after.0)
   pub tells : P (own before.0) (own after.0)
 
+-- a step that looks at a bucket: what its answer tells of the seat's own face, and of those behind it
 abbrev pub LooksAt : {S : Type 0} → Step S → Me S View → ℕ → Me S View → Type 0
 LooksAt s before found after = Steps before after (λ f g. Looks f g s.word found) × Meets (own before.0) (others_of before.0.faces) s.word found
 
+-- a step that reads a word: it changes nothing, and answers the word of what the seat's own face has seen or knows there
 abbrev pub ReadsAt : {S : Type 0} → Step S → Me S View → ℕ → Me S View → Type 0
 ReadsAt s before found after = (after ≡ before) × Reads (own before.0) s.word found
 
+-- a step that drafts a word: the seat's own face has drafted one more
 abbrev pub DraftsAt : {S : Type 0} → Step S → Me S View → ℕ → Me S View → Type 0
 DraftsAt s before found after = Steps before after (λ f g. g ≡ drafted_more f s.first)
 
+-- a step that puts an own entry in a bucket if that is free: the seat's own face has published its draft, or has seen the winner
 abbrev pub PublishesAt : {S : Type 0} → Step S → Me S View → ℕ → Me S View → Type 0
 PublishesAt s before found after = Steps before after (λ f g. Publishes f g s.word found)
 
+-- a step that looks at a bucket that was seen: the seat's own face knows its text
 abbrev pub LearnsAt : {S : Type 0} → Step S → Me S View → ℕ → Me S View → Type 0
 LearnsAt s before found after = Steps before after (λ f g. Learns f g s.word)

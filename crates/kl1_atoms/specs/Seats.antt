@@ -18,10 +18,11 @@ faces_from n account (suc count) = new_face n account ∷ faces_from n (account 
 abbrev pub all_faces : ℕ → View
 all_faces n = record { faces = faces_from n 0 n }
 
--- a view cut in two: its own face, and the others
+-- the first part of a view that is cut in two: its own face
 abbrev pub own_part : View → View
 own_part v = record { faces = take 1 v.faces }
 
+-- the second part: the other faces
 abbrev pub other_part : View → View
 other_part v = record { faces = drop 1 v.faces }
 

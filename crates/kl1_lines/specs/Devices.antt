@@ -55,12 +55,13 @@ pub record IsWhole (old new : Option (List ℕ)) (bytes : List ℕ) : Type 0 whe
   pub consumes : Consumes old new bytes
   pub end : IsAtEnd new
 
--- where the bytes are known before and after, they grew by the first of these up to some place
+-- where the bytes are known before and after, they grew by these
 abbrev pub GrowsIfKnown : Option (List ℕ) → Option (List ℕ) → List ℕ → Type 0
 GrowsIfKnown None new bs = ⊤
 GrowsIfKnown (Some xs) None bs = ⊤
 GrowsIfKnown (Some xs) (Some ys) bs = ys ≡ xs ++ bs
 
+-- where the bytes are known before and after, they grew by the first of these up to some place
 pub record AppendsFront (old new : Option (List ℕ)) (bytes : List ℕ) : Type 0 where
   pub count : ℕ
   pub grows : GrowsIfKnown old new (take count bytes)

@@ -49,6 +49,7 @@ pub record IsOpened {N : Type 0} (f : N → List ℕ) (h : Held N) (name : N) (c
   pub matched : (ps : Terms) → count_of ps ≡ count → match_term (structure (f name) ps) t ≡ match_terms ps arguments
   pub stack_is : terms_of f h (reverse now) ≡ joined arguments (terms_of f h (reverse stack))
 
+-- the same of the term of a cell, however names are read, and what is on the stack then is of the store
 pub record Opens {N : Type 0} (built : BuiltIn → N) (h : Held N) (name : N) (count : ℕ) (x : Cell N) (stack now : List (Cell N)) : Type 0 where
   pub inside : AreIn h now
   pub opened : (f : N → List ℕ) → Reads built f → IsOpened f h name count (term_of f h x) stack now
@@ -80,6 +81,7 @@ pub record GoesInto {N : Type 0} (f : N → List ℕ) (h : Held N) (c : NodeCode
   pub stack_is : terms_of f h (reverse now) ≡ joined arguments (terms_of f h (reverse stack))
   pub places_are : replacements_of f h longer ≡ replacements_of f h places ++ taken
 
+-- the same of an instruction's pattern and the term of a cell, however names are read, and what is kept then is of the store
 pub record Continues {N : Type 0} (built : BuiltIn → N) (h : Held N) (names : List N) (i : Instruction) (x : Cell N) (stack now : List (Cell N)) (places longer : List (Place N)) : Type 0 where
   pub stack_in : AreIn h now
   pub places_in : AreThere h longer

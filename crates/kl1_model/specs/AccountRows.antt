@@ -14,16 +14,19 @@ abbrev pub lines : List (List ℕ) → List ℕ
 lines [] = []
 lines (l ∷ ls) = l ++ 10 ∷ lines ls
 
--- the modules of the rows
+-- a module of the rows that appends lists
 abbrev pub app_text : List ℕ
 app_text = lines (codes ":- module app." ∷ codes "app([],Y,Z) :- true | Z = Y." ∷ []) ++ codes "app([A|X],Y,Z) :- true | Z = [A|W], app(X,Y,W)."
 
+-- a module with one fact
 abbrev pub one_fact : List ℕ
 one_fact = lines (codes ":- module t." ∷ codes "q(a,b)." ∷ [])
 
+-- a module with two clauses that accept the same goals
 abbrev pub two_ways : List ℕ
 two_ways = lines (codes ":- module m." ∷ codes "m(X,R) :- true | R = one." ∷ codes "m(X,R) :- true | R = two." ∷ [])
 
+-- a module with three goals in one body
 abbrev pub three_goals : List ℕ
 three_goals = lines (codes ":- module t." ∷ codes "p :- true | z:q(X), f(X) = g(X), X = 1." ∷ [])
 
@@ -51,6 +54,7 @@ abbrev pub reports_of : Option Origin → List ℕ
 reports_of None = []
 reports_of (Some o) = print o.reports
 
+-- what is printed of the report stream of an account's shoen with this number
 abbrev pub stream : ℕ → State → List ℕ
 stream n s = reports_of (origin_at n s.shoens)
 
@@ -66,6 +70,7 @@ with_entries n s = record s { entries = n }
 abbrev pub equals : Term → Term → Term
 equals a b = structure (codes "=") (more a (more b none))
 
+-- the goal `true`
 abbrev pub true_term : Term
 true_term = atom (codes "true")
 
@@ -105,7 +110,7 @@ pub record AccountRowsHold : Type 0 where
   pub clause_that_is_not_there : (step (after_lines (having app_text) (codes "start 100 0 10 app:app([1],[2],R)" ∷ [])) (reduce 2 3)).reply ≡ refused step_refused
   -- a monitor to which nothing was sent is refused
   pub monitor_waits : (step (after_lines (having app_text) (codes "start 100 0 10 app:app([1],[2],R)" ∷ [])) (reduce 1 0)).reply ≡ refused step_refused
-  -- no goal has number 0 is refused
+  -- a goal of number 0, which no account has, is refused
   pub goal_0 : (step (after_lines (having app_text) (codes "start 100 0 10 app:app([1],[2],R)" ∷ [])) (reduce 0 0)).reply ≡ refused step_refused
   -- a goal that isn't there is refused
   pub goal_that_is_not_there : (step (after_lines (having app_text) (codes "start 100 0 10 app:app([1],[2],R)" ∷ [])) (reduce 99 1)).reply ≡ refused step_refused

@@ -2,303 +2,403 @@
 use Rattle.std.specs.Prelude.{◌≡◌, ℕ, List, [], ◌∷◌, ◌++◌, codes}
 use Rattle.kl1_model.specs.Script.{output}
 
+-- the bytes of a_failure_stops_nothing_else.script
 abbrev pub a_failure_stops_nothing_else_script : List ℕ
 a_failure_stops_nothing_else_script = codes "accounts alice bob" ++ 10 ∷ [] ++ codes "alice load 42" ++ 10 ∷ [] ++ codes ":- module f." ++ 10 ∷ [] ++ codes "g(R) :- true | 1 = 2, R = ok." ++ 10 ∷ [] ++ codes "alice start 10 0 10 f:g(R)" ++ 10 ∷ [] ++ codes "alice run 10" ++ 10 ∷ [] ++ codes "alice value 1" ++ 10 ∷ []
 
+-- the bytes of a_failure_stops_nothing_else.expected
 abbrev pub a_failure_stops_nothing_else_output : List ℕ
 a_failure_stops_nothing_else_output = codes "alice + loaded f" ++ 10 ∷ [] ++ codes "alice + shoen 1" ++ 10 ∷ [] ++ codes "alice + 3" ++ 10 ∷ [] ++ codes "alice + f:g(ok)" ++ 10 ∷ []
 
+-- the bytes of account_name_of_16_bytes.script
 abbrev pub account_name_of_16_bytes_script : List ℕ
 account_name_of_16_bytes_script = codes "accounts abcdefghijklmno1" ++ 10 ∷ [] ++ codes "abcdefghijklmno1 run 0" ++ 10 ∷ []
 
+-- the bytes of account_name_of_16_bytes.expected
 abbrev pub account_name_of_16_bytes_output : List ℕ
 account_name_of_16_bytes_output = codes "abcdefghijklmno1 + 0" ++ 10 ∷ []
 
+-- the bytes of account_name_of_17_bytes.script
 abbrev pub account_name_of_17_bytes_script : List ℕ
 account_name_of_17_bytes_script = codes "accounts abcdefghijklmnopq" ++ 10 ∷ [] ++ codes "abcdefghijklmnopq run 0" ++ 10 ∷ []
 
+-- the bytes of account_name_of_17_bytes.expected
 abbrev pub account_name_of_17_bytes_output : List ℕ
 account_name_of_17_bytes_output = codes "! accounts" ++ 10 ∷ []
 
+-- the bytes of account_with_a_capital.script
 abbrev pub account_with_a_capital_script : List ℕ
 account_with_a_capital_script = codes "accounts Alice" ++ 10 ∷ [] ++ codes "Alice run 0" ++ 10 ∷ []
 
+-- the bytes of account_with_a_capital.expected
 abbrev pub account_with_a_capital_output : List ℕ
 account_with_a_capital_output = codes "! accounts" ++ 10 ∷ []
 
+-- the bytes of accounts_alone.script
 abbrev pub accounts_alone_script : List ℕ
 accounts_alone_script = codes "accounts" ++ 10 ∷ [] ++ codes "alice run 0" ++ 10 ∷ []
 
+-- the bytes of accounts_alone.expected
 abbrev pub accounts_alone_output : List ℕ
 accounts_alone_output = codes "! accounts" ++ 10 ∷ []
 
+-- the bytes of append_two_lists.script
 abbrev pub append_two_lists_script : List ℕ
 append_two_lists_script = codes "accounts alice bob" ++ 10 ∷ [] ++ codes "alice load 91" ++ 10 ∷ [] ++ codes ":- module app." ++ 10 ∷ [] ++ codes "app([],Y,Z) :- true | Z = Y." ++ 10 ∷ [] ++ codes "app([A|X],Y,Z) :- true | Z = [A|W], app(X,Y,W)." ++ 10 ∷ [] ++ codes "alice start 100 0 10 app:app([1],[2],R)" ++ 10 ∷ [] ++ codes "alice run 100" ++ 10 ∷ [] ++ codes "alice value 1" ++ 10 ∷ []
 
+-- the bytes of append_two_lists.expected
 abbrev pub append_two_lists_output : List ℕ
 append_two_lists_output = codes "alice + loaded app" ++ 10 ∷ [] ++ codes "alice + shoen 1" ++ 10 ∷ [] ++ codes "alice + 4" ++ 10 ∷ [] ++ codes "alice + app:app([1],[2],[1,2])" ++ 10 ∷ []
 
+-- the bytes of bad_load_lines.script
 abbrev pub bad_load_lines_script : List ℕ
 bad_load_lines_script = codes "accounts alice bob" ++ 10 ∷ [] ++ codes "alice load 65537" ++ 10 ∷ [] ++ codes "alice load" ++ 10 ∷ [] ++ codes "alice load 1 2" ++ 10 ∷ [] ++ codes "alice load 00000000000000000012" ++ 10 ∷ [] ++ codes "alice load 12                                                                                                                                                                                                                                                                                                                                                                                                                                                                                                                                                                                                                                                                                                                                                                                                                                                                                                                                                                                                                                                                                                                                                                                                                                                                                                                                                                                                                                                                                                                                                                                                                                                                                                                                                                                                                                                                                                                                                                                                                                                                                                                                                                                                                                                                                                                                                                                                                                                                                                                                                                                                                                                                                                                                                                                                                                                                                                                                                                                                                                                                                                                                                                                                                                                                                                                                                                                                                                                                                                                                                                                                                                                                                                                                                                                                                                                                                                                                                                                                                                                                                                                                                                                                                                                          " ++ 10 ∷ [] ++ codes "alice run 0" ++ 10 ∷ []
 
+-- the bytes of bad_load_lines.expected
 abbrev pub bad_load_lines_output : List ℕ
 bad_load_lines_output = codes "alice - 1 syntax" ++ 10 ∷ [] ++ codes "alice - 1 syntax" ++ 10 ∷ [] ++ codes "alice - 1 syntax" ++ 10 ∷ [] ++ codes "alice - 1 syntax" ++ 10 ∷ [] ++ codes "alice - 1 syntax" ++ 10 ∷ [] ++ codes "alice + 0" ++ 10 ∷ []
 
+-- the bytes of bad_source.script
 abbrev pub bad_source_script : List ℕ
 bad_source_script = codes "accounts alice" ++ 10 ∷ [] ++ codes "alice load 34" ++ 10 ∷ [] ++ codes ":- module z." ++ 10 ∷ [] ++ codes "p(X) :- Y > 0 | true." ++ 10 ∷ []
 
+-- the bytes of bad_source.expected
 abbrev pub bad_source_output : List ℕ
 bad_source_output = codes "alice - 2 source 2" ++ 10 ∷ []
 
+-- the bytes of blank_first_line.script
 abbrev pub blank_first_line_script : List ℕ
 blank_first_line_script = 10 ∷ [] ++ codes "accounts alice" ++ 10 ∷ []
 
+-- the bytes of blank_first_line.expected
 abbrev pub blank_first_line_output : List ℕ
 blank_first_line_output = codes "! accounts" ++ 10 ∷ []
 
+-- the bytes of blank_lines.script
 abbrev pub blank_lines_script : List ℕ
 blank_lines_script = codes "accounts alice bob" ++ 10 ∷ [] ++ 10 ∷ [] ++ codes "   " ++ 10 ∷ [] ++ 9 ∷ [] ++ codes " " ++ 9 ∷ [] ++ 10 ∷ [] ++ codes " " ++ 13 ∷ [] ++ 10 ∷ [] ++ 13 ∷ [] ++ 13 ∷ [] ++ 10 ∷ [] ++ codes "alice run 0" ++ 10 ∷ []
 
+-- the bytes of blank_lines.expected
 abbrev pub blank_lines_output : List ℕ
 blank_lines_output = codes "! account" ++ 10 ∷ [] ++ codes "alice + 0" ++ 10 ∷ []
 
+-- the bytes of blanks_between_accounts.script
 abbrev pub blanks_between_accounts_script : List ℕ
 blanks_between_accounts_script = 9 ∷ [] ++ codes "accounts  alice" ++ 9 ∷ [] ++ codes "bob " ++ 13 ∷ [] ++ 10 ∷ [] ++ codes "alice run 0" ++ 10 ∷ []
 
+-- the bytes of blanks_between_accounts.expected
 abbrev pub blanks_between_accounts_output : List ℕ
 blanks_between_accounts_output = codes "alice + 0" ++ 10 ∷ []
 
+-- the bytes of bytes_behind_a_load.script
 abbrev pub bytes_behind_a_load_script : List ℕ
 bytes_behind_a_load_script = codes "accounts alice bob" ++ 10 ∷ [] ++ codes "alice load 12" ++ 10 ∷ [] ++ codes ":- module e.x" ++ 10 ∷ [] ++ codes "alice load 12" ++ 10 ∷ [] ++ codes ":- module e." ++ 13 ∷ [] ++ 13 ∷ [] ++ 10 ∷ [] ++ codes "alice load 12" ++ 10 ∷ [] ++ codes ":- module e. " ++ 10 ∷ [] ++ codes "alice load 12" ++ 13 ∷ [] ++ 10 ∷ [] ++ codes ":- module e." ++ 13 ∷ [] ++ 10 ∷ [] ++ codes "alice run 0" ++ 10 ∷ []
 
+-- the bytes of bytes_behind_a_load.expected
 abbrev pub bytes_behind_a_load_output : List ℕ
 bytes_behind_a_load_output = codes "alice - 1 syntax" ++ 10 ∷ [] ++ codes "alice - 1 syntax" ++ 10 ∷ [] ++ codes "alice - 1 syntax" ++ 10 ∷ [] ++ codes "alice + loaded e" ++ 10 ∷ [] ++ codes "alice + 0" ++ 10 ∷ []
 
+-- the bytes of clash_outweighs_waiting.script
 abbrev pub clash_outweighs_waiting_script : List ℕ
 clash_outweighs_waiting_script = codes "accounts alice" ++ 10 ∷ [] ++ codes "alice load 20" ++ 10 ∷ [] ++ codes ":- module t." ++ 10 ∷ [] ++ codes "q(a,b)." ++ 10 ∷ [] ++ codes "alice start 10 0 10 t:q(X,c)" ++ 10 ∷ [] ++ codes "alice run 10" ++ 10 ∷ [] ++ codes "alice value 1" ++ 10 ∷ []
 
+-- the bytes of clash_outweighs_waiting.expected
 abbrev pub clash_outweighs_waiting_output : List ℕ
 clash_outweighs_waiting_output = codes "alice + loaded t" ++ 10 ∷ [] ++ codes "alice + shoen 1" ++ 10 ∷ [] ++ codes "alice + 1" ++ 10 ∷ [] ++ codes "alice + t:q(_1,c)" ++ 10 ∷ []
 
+-- the bytes of commands_that_are_none.script
 abbrev pub commands_that_are_none_script : List ℕ
 commands_that_are_none_script = codes "accounts alice bob" ++ 10 ∷ [] ++ codes "alice quiet" ++ 10 ∷ [] ++ codes "alice modules" ++ 10 ∷ [] ++ codes "alice status 1" ++ 10 ∷ [] ++ codes "alice reduce 2 0" ++ 10 ∷ [] ++ codes "alice login" ++ 10 ∷ [] ++ codes "alice journal 1 1" ++ 10 ∷ [] ++ codes "alice RUN 1" ++ 10 ∷ []
 
+-- the bytes of commands_that_are_none.expected
 abbrev pub commands_that_are_none_output : List ℕ
 commands_that_are_none_output = codes "alice - 1 syntax" ++ 10 ∷ [] ++ codes "alice - 1 syntax" ++ 10 ∷ [] ++ codes "alice - 1 syntax" ++ 10 ∷ [] ++ codes "alice - 1 syntax" ++ 10 ∷ [] ++ codes "alice - 1 syntax" ++ 10 ∷ [] ++ codes "alice - 1 syntax" ++ 10 ∷ [] ++ codes "alice - 1 syntax" ++ 10 ∷ []
 
+-- the bytes of doubled_account.script
 abbrev pub doubled_account_script : List ℕ
 doubled_account_script = codes "accounts alice bob alice" ++ 10 ∷ [] ++ codes "alice run 0" ++ 10 ∷ []
 
+-- the bytes of doubled_account.expected
 abbrev pub doubled_account_output : List ℕ
 doubled_account_output = codes "! accounts" ++ 10 ∷ []
 
+-- the bytes of first_of_two_clauses.script
 abbrev pub first_of_two_clauses_script : List ℕ
 first_of_two_clauses_script = codes "accounts alice bob" ++ 10 ∷ [] ++ codes "alice load 64" ++ 10 ∷ [] ++ codes ":- module m." ++ 10 ∷ [] ++ codes "m(X,R) :- true | R = one." ++ 10 ∷ [] ++ codes "m(X,R) :- true | R = two." ++ 10 ∷ [] ++ codes "alice start 10 0 10 m:m(X,R)" ++ 10 ∷ [] ++ codes "alice run 10" ++ 10 ∷ [] ++ codes "alice value 1" ++ 10 ∷ []
 
+-- the bytes of first_of_two_clauses.expected
 abbrev pub first_of_two_clauses_output : List ℕ
 first_of_two_clauses_output = codes "alice + loaded m" ++ 10 ∷ [] ++ codes "alice + shoen 1" ++ 10 ∷ [] ++ codes "alice + 2" ++ 10 ∷ [] ++ codes "alice + m:m(_1,one)" ++ 10 ∷ []
 
+-- the bytes of forms_that_are_faults.script
 abbrev pub forms_that_are_faults_script : List ℕ
 forms_that_are_faults_script = codes "accounts alice bob" ++ 10 ∷ [] ++ codes "alice load 71" ++ 10 ∷ [] ++ codes ":- module o." ++ 10 ∷ [] ++ codes "p(a,R) :- true | R = 1." ++ 10 ∷ [] ++ codes "otherwise." ++ 10 ∷ [] ++ codes "p(X,R) :- true | R = 2." ++ 10 ∷ [] ++ codes "alice load 42" ++ 10 ∷ [] ++ codes ":- module k." ++ 10 ∷ [] ++ codes "g :- true | h(a)@priority(1)." ++ 10 ∷ [] ++ codes "alice load 20" ++ 10 ∷ [] ++ codes ":- module h." ++ 10 ∷ [] ++ codes "p(X,X)." ++ 10 ∷ [] ++ codes "alice load 34" ++ 10 ∷ [] ++ codes ":- module j." ++ 10 ∷ [] ++ codes "p(X) :- X = 1 | true." ++ 10 ∷ [] ++ codes "alice load 48" ++ 10 ∷ [] ++ codes ":- module j." ++ 10 ∷ [] ++ codes "p :- shoen:execute(true,0,1,1,C,R)." ++ 10 ∷ [] ++ codes "alice load 33" ++ 10 ∷ [] ++ codes ":- module j." ++ 10 ∷ [] ++ codes "p :- atom_from(X,Y)." ++ 10 ∷ [] ++ codes "alice load 41" ++ 10 ∷ [] ++ codes ":- module h." ++ 10 ∷ [] ++ codes "p(_,_) :- true, true | true." ++ 10 ∷ []
 
+-- the bytes of forms_that_are_faults.expected
 abbrev pub forms_that_are_faults_output : List ℕ
 forms_that_are_faults_output = codes "alice - 2 source 3" ++ 10 ∷ [] ++ codes "alice - 2 source 2" ++ 10 ∷ [] ++ codes "alice - 2 source 2" ++ 10 ∷ [] ++ codes "alice - 2 source 2" ++ 10 ∷ [] ++ codes "alice - 2 source 2" ++ 10 ∷ [] ++ codes "alice - 2 source 2" ++ 10 ∷ [] ++ codes "alice + loaded h" ++ 10 ∷ []
 
+-- the bytes of fresh_variables.script
 abbrev pub fresh_variables_script : List ℕ
 fresh_variables_script = codes "accounts alice bob" ++ 10 ∷ [] ++ codes "alice load 61" ++ 10 ∷ [] ++ codes ":- module t." ++ 10 ∷ [] ++ codes "p(R) :- true | q(B,A), R = f(A,B,C,_,_)." ++ 10 ∷ [] ++ codes "q(X,Y)." ++ 10 ∷ [] ++ codes "alice start 9 0 9 t:p(R)" ++ 10 ∷ [] ++ codes "alice run 20" ++ 10 ∷ [] ++ codes "alice value 1" ++ 10 ∷ []
 
+-- the bytes of fresh_variables.expected
 abbrev pub fresh_variables_output : List ℕ
 fresh_variables_output = codes "alice + loaded t" ++ 10 ∷ [] ++ codes "alice + shoen 1" ++ 10 ∷ [] ++ codes "alice + 4" ++ 10 ∷ [] ++ codes "alice + t:p(f(_6,_5,_7,_8,_9))" ++ 10 ∷ []
 
+-- the bytes of goal_waits_for_ever.script
 abbrev pub goal_waits_for_ever_script : List ℕ
 goal_waits_for_ever_script = codes "accounts alice" ++ 10 ∷ [] ++ codes "alice load 91" ++ 10 ∷ [] ++ codes ":- module app." ++ 10 ∷ [] ++ codes "app([],Y,Z) :- true | Z = Y." ++ 10 ∷ [] ++ codes "app([A|X],Y,Z) :- true | Z = [A|W], app(X,Y,W)." ++ 10 ∷ [] ++ codes "alice start 100 0 10 app:app(X,[2],R)" ++ 10 ∷ [] ++ codes "alice run 100" ++ 10 ∷ [] ++ codes "alice value 1" ++ 10 ∷ []
 
+-- the bytes of goal_waits_for_ever.expected
 abbrev pub goal_waits_for_ever_output : List ℕ
 goal_waits_for_ever_output = codes "alice + loaded app" ++ 10 ∷ [] ++ codes "alice + shoen 1" ++ 10 ∷ [] ++ codes "alice + 0" ++ 10 ∷ [] ++ codes "alice + app:app(_1,[2],_2)" ++ 10 ∷ []
 
+-- the bytes of goals_of_a_start.script
 abbrev pub goals_of_a_start_script : List ℕ
 goals_of_a_start_script = codes "accounts alice bob" ++ 10 ∷ [] ++ codes "alice start 9223372036854775807 0 4095 true" ++ 10 ∷ [] ++ codes "alice start 9223372036854775808 0 1 true" ++ 10 ∷ [] ++ codes "alice start 1 0 4096 true" ++ 10 ∷ [] ++ codes "alice start 1 2 1 true" ++ 10 ∷ [] ++ codes "alice start 1 0 1" ++ 10 ∷ [] ++ codes "alice start 1 0 1 p(X)" ++ 10 ∷ [] ++ codes "alice start 1 0 1 X" ++ 10 ∷ [] ++ codes "alice start 1 0 1 true." ++ 10 ∷ [] ++ codes "alice start 1 0 1 X = -1 % a comment" ++ 10 ∷ [] ++ codes "alice start 1 0 1 X := 1" ++ 10 ∷ [] ++ codes "alice start 1 0 1 atom_from(X,Y)" ++ 10 ∷ [] ++ codes "alice start 1 0 1 shoen:execute(true,0,1,2,C,R)" ++ 10 ∷ [] ++ codes "alice start 1 0 1 shoen:execute(true)" ++ 10 ∷ [] ++ codes "alice start 1 0 1 m:[]" ++ 10 ∷ [] ++ codes "alice start 1 0 1 '='(X,1)" ++ 10 ∷ [] ++ codes "alice start 1 0 1 m:p:q" ++ 10 ∷ [] ++ codes "alice start 1 0 1 m:p@priority(1)" ++ 10 ∷ []
 
+-- the bytes of goals_of_a_start.expected
 abbrev pub goals_of_a_start_output : List ℕ
 goals_of_a_start_output = codes "alice + shoen 1" ++ 10 ∷ [] ++ codes "alice - 1 syntax" ++ 10 ∷ [] ++ codes "alice - 1 syntax" ++ 10 ∷ [] ++ codes "alice - 1 syntax" ++ 10 ∷ [] ++ codes "alice - 1 syntax" ++ 10 ∷ [] ++ codes "alice - 1 syntax" ++ 10 ∷ [] ++ codes "alice - 1 syntax" ++ 10 ∷ [] ++ codes "alice - 1 syntax" ++ 10 ∷ [] ++ codes "alice + shoen 2" ++ 10 ∷ [] ++ codes "alice - 1 syntax" ++ 10 ∷ [] ++ codes "alice - 1 syntax" ++ 10 ∷ [] ++ codes "alice - 1 syntax" ++ 10 ∷ [] ++ codes "alice + shoen 3" ++ 10 ∷ [] ++ codes "alice + shoen 4" ++ 10 ∷ [] ++ codes "alice + shoen 5" ++ 10 ∷ [] ++ codes "alice - 1 syntax" ++ 10 ∷ [] ++ codes "alice - 1 syntax" ++ 10 ∷ []
 
+-- the bytes of greater_priority_then_least_number.script
 abbrev pub greater_priority_then_least_number_script : List ℕ
 greater_priority_then_least_number_script = codes "accounts alice bob" ++ 10 ∷ [] ++ codes "alice start 9 0 5 X = a" ++ 10 ∷ [] ++ codes "alice start 9 0 9 X = b" ++ 10 ∷ [] ++ codes "alice start 9 0 9 X = c" ++ 10 ∷ [] ++ codes "alice run 1" ++ 10 ∷ [] ++ codes "alice value 2" ++ 10 ∷ [] ++ codes "alice run 1" ++ 10 ∷ [] ++ codes "alice value 3" ++ 10 ∷ [] ++ codes "alice value 1" ++ 10 ∷ [] ++ codes "alice run 9" ++ 10 ∷ [] ++ codes "alice value 1" ++ 10 ∷ []
 
+-- the bytes of greater_priority_then_least_number.expected
 abbrev pub greater_priority_then_least_number_output : List ℕ
 greater_priority_then_least_number_output = codes "alice + shoen 1" ++ 10 ∷ [] ++ codes "alice + shoen 2" ++ 10 ∷ [] ++ codes "alice + shoen 3" ++ 10 ∷ [] ++ codes "alice + 1" ++ 10 ∷ [] ++ codes "alice + '='(b,b)" ++ 10 ∷ [] ++ codes "alice + 1" ++ 10 ∷ [] ++ codes "alice + '='(c,c)" ++ 10 ∷ [] ++ codes "alice + '='(_1,a)" ++ 10 ∷ [] ++ codes "alice + 1" ++ 10 ∷ [] ++ codes "alice + '='(a,a)" ++ 10 ∷ []
 
+-- the bytes of higher_variable_takes_the_lower.script
 abbrev pub higher_variable_takes_the_lower_script : List ℕ
 higher_variable_takes_the_lower_script = codes "accounts alice" ++ 10 ∷ [] ++ codes "alice start 10 0 10 f(X,Y) = f(Y,X)" ++ 10 ∷ [] ++ codes "alice run 10" ++ 10 ∷ [] ++ codes "alice value 1" ++ 10 ∷ []
 
+-- the bytes of higher_variable_takes_the_lower.expected
 abbrev pub higher_variable_takes_the_lower_output : List ℕ
 higher_variable_takes_the_lower_output = codes "alice + shoen 1" ++ 10 ∷ [] ++ codes "alice + 1" ++ 10 ∷ [] ++ codes "alice + '='(f(_1,_1),f(_1,_1))" ++ 10 ∷ []
 
+-- the bytes of integers_are_no_atoms.script
 abbrev pub integers_are_no_atoms_script : List ℕ
 integers_are_no_atoms_script = codes "accounts alice bob" ++ 10 ∷ [] ++ codes "alice load 62" ++ 10 ∷ [] ++ codes ":- module t." ++ 10 ∷ [] ++ codes "p(1,R) :- true | R = i." ++ 10 ∷ [] ++ codes "p('1',R) :- true | R = a." ++ 10 ∷ [] ++ codes "alice start 9 0 9 t:p('1',R)" ++ 10 ∷ [] ++ codes "alice start 9 0 9 t:p(01,R)" ++ 10 ∷ [] ++ codes "alice run 20" ++ 10 ∷ [] ++ codes "alice value 1" ++ 10 ∷ [] ++ codes "alice value 2" ++ 10 ∷ []
 
+-- the bytes of integers_are_no_atoms.expected
 abbrev pub integers_are_no_atoms_output : List ℕ
 integers_are_no_atoms_output = codes "alice + loaded t" ++ 10 ∷ [] ++ codes "alice + shoen 1" ++ 10 ∷ [] ++ codes "alice + shoen 2" ++ 10 ∷ [] ++ codes "alice + 4" ++ 10 ∷ [] ++ codes "alice + t:p('1',a)" ++ 10 ∷ [] ++ codes "alice + t:p(1,i)" ++ 10 ∷ []
 
+-- the bytes of last_line_without_a_feed.script
 abbrev pub last_line_without_a_feed_script : List ℕ
 last_line_without_a_feed_script = codes "accounts alice bob" ++ 10 ∷ [] ++ codes "alice run 0" ++ 13 ∷ []
 
+-- the bytes of last_line_without_a_feed.expected
 abbrev pub last_line_without_a_feed_output : List ℕ
 last_line_without_a_feed_output = codes "alice + 0" ++ 10 ∷ []
 
+-- the bytes of lines_of_4096_bytes.script
 abbrev pub lines_of_4096_bytes_script : List ℕ
 lines_of_4096_bytes_script = codes "accounts alice bob" ++ 10 ∷ [] ++ codes "alice run 0                                                                                                                                                                                                                                                                                                                                                                                                                                                                                                                                                                                                                                                                                                                                                                                                                                                                                                                                                                                                                                                                                                                                                                                                                                                                                                                                                                                                                                                                                                                                                                                                                                                                                                                                                                                                                                                                                                                                                                                                                                                                                                                                                                                                                                                                                                                                                                                                                                                                                                                                                                                                                                                                                                                                                                                                                                                                                                                                                                                                                                                                                                                                                                                                                                                                                                                                                                                                                                                                                                                                                                                                                                                                                                                                                                                                                                                                                                                                                                                                                                                                                                                                                                                                                                                           " ++ 10 ∷ [] ++ codes "alice run 0                                                                                                                                                                                                                                                                                                                                                                                                                                                                                                                                                                                                                                                                                                                                                                                                                                                                                                                                                                                                                                                                                                                                                                                                                                                                                                                                                                                                                                                                                                                                                                                                                                                                                                                                                                                                                                                                                                                                                                                                                                                                                                                                                                                                                                                                                                                                                                                                                                                                                                                                                                                                                                                                                                                                                                                                                                                                                                                                                                                                                                                                                                                                                                                                                                                                                                                                                                                                                                                                                                                                                                                                                                                                                                                                                                                                                                                                                                                                                                                                                                                                                                                                                                                                                                                            " ++ 10 ∷ [] ++ codes "alice run 0                                                                                                                                                                                                                                                                                                                                                                                                                                                                                                                                                                                                                                                                                                                                                                                                                                                                                                                                                                                                                                                                                                                                                                                                                                                                                                                                                                                                                                                                                                                                                                                                                                                                                                                                                                                                                                                                                                                                                                                                                                                                                                                                                                                                                                                                                                                                                                                                                                                                                                                                                                                                                                                                                                                                                                                                                                                                                                                                                                                                                                                                                                                                                                                                                                                                                                                                                                                                                                                                                                                                                                                                                                                                                                                                                                                                                                                                                                                                                                                                                                                                                                                                                                                                                                                           " ++ 13 ∷ [] ++ 10 ∷ [] ++ codes "alice run 0                                                                                                                                                                                                                                                                                                                                                                                                                                                                                                                                                                                                                                                                                                                                                                                                                                                                                                                                                                                                                                                                                                                                                                                                                                                                                                                                                                                                                                                                                                                                                                                                                                                                                                                                                                                                                                                                                                                                                                                                                                                                                                                                                                                                                                                                                                                                                                                                                                                                                                                                                                                                                                                                                                                                                                                                                                                                                                                                                                                                                                                                                                                                                                                                                                                                                                                                                                                                                                                                                                                                                                                                                                                                                                                                                                                                                                                                                                                                                                                                                                                                                                                                                                                                                                                            " ++ 13 ∷ [] ++ 10 ∷ [] ++ codes "carol run 0                                                                                                                                                                                                                                                                                                                                                                                                                                                                                                                                                                                                                                                                                                                                                                                                                                                                                                                                                                                                                                                                                                                                                                                                                                                                                                                                                                                                                                                                                                                                                                                                                                                                                                                                                                                                                                                                                                                                                                                                                                                                                                                                                                                                                                                                                                                                                                                                                                                                                                                                                                                                                                                                                                                                                                                                                                                                                                                                                                                                                                                                                                                                                                                                                                                                                                                                                                                                                                                                                                                                                                                                                                                                                                                                                                                                                                                                                                                                                                                                                                                                                                                                                                                                                                                            " ++ 10 ∷ []
 
+-- the bytes of lines_of_4096_bytes.expected
 abbrev pub lines_of_4096_bytes_output : List ℕ
 lines_of_4096_bytes_output = codes "alice + 0" ++ 10 ∷ [] ++ codes "alice - 1 syntax" ++ 10 ∷ [] ++ codes "alice + 0" ++ 10 ∷ [] ++ codes "alice - 1 syntax" ++ 10 ∷ [] ++ codes "! account" ++ 10 ∷ []
 
+-- the bytes of load_of_no_bytes.script
 abbrev pub load_of_no_bytes_script : List ℕ
 load_of_no_bytes_script = codes "accounts alice bob" ++ 10 ∷ [] ++ codes "alice load 0"
 
+-- the bytes of load_of_no_bytes.expected
 abbrev pub load_of_no_bytes_output : List ℕ
 load_of_no_bytes_output = codes "alice - 2 source 1" ++ 10 ∷ []
 
+-- the bytes of load_without_a_last_feed.script
 abbrev pub load_without_a_last_feed_script : List ℕ
 load_without_a_last_feed_script = codes "accounts alice bob" ++ 10 ∷ [] ++ codes "alice load 12" ++ 10 ∷ [] ++ codes ":- module e." ++ 13 ∷ []
 
+-- the bytes of load_without_a_last_feed.expected
 abbrev pub load_without_a_last_feed_output : List ℕ
 load_without_a_last_feed_output = codes "alice + loaded e" ++ 10 ∷ []
 
+-- the bytes of loaded_twice.script
 abbrev pub loaded_twice_script : List ℕ
 loaded_twice_script = codes "accounts alice bob" ++ 10 ∷ [] ++ codes "alice load 91" ++ 10 ∷ [] ++ codes ":- module app." ++ 10 ∷ [] ++ codes "app([],Y,Z) :- true | Z = Y." ++ 10 ∷ [] ++ codes "app([A|X],Y,Z) :- true | Z = [A|W], app(X,Y,W)." ++ 10 ∷ [] ++ codes "alice load 91" ++ 10 ∷ [] ++ codes ":- module app." ++ 10 ∷ [] ++ codes "app([],Y,Z) :- true | Z = Y." ++ 10 ∷ [] ++ codes "app([A|X],Y,Z) :- true | Z = [A|W], app(X,Y,W)." ++ 10 ∷ []
 
+-- the bytes of loaded_twice.expected
 abbrev pub loaded_twice_output : List ℕ
 loaded_twice_output = codes "alice + loaded app" ++ 10 ∷ [] ++ codes "alice - 3 exists" ++ 10 ∷ []
 
+-- the bytes of loads_of_other_names.script
 abbrev pub loads_of_other_names_script : List ℕ
 loads_of_other_names_script = codes "accounts alice bob" ++ 10 ∷ [] ++ codes "carol load 12" ++ 10 ∷ [] ++ codes ":- module e.x" ++ 10 ∷ [] ++ codes "bob load 11" ++ 10 ∷ [] ++ codes ":- module e." ++ 10 ∷ [] ++ codes " load 4" ++ 10 ∷ [] ++ codes "xxxx" ++ 10 ∷ [] ++ codes "alice run 0" ++ 10 ∷ []
 
+-- the bytes of loads_of_other_names.expected
 abbrev pub loads_of_other_names_output : List ℕ
 loads_of_other_names_output = codes "! account" ++ 10 ∷ [] ++ codes "! account" ++ 10 ∷ [] ++ codes "! account" ++ 10 ∷ [] ++ codes "alice + 0" ++ 10 ∷ []
 
+-- the bytes of loads_of_others_are_skipped.script
 abbrev pub loads_of_others_are_skipped_script : List ℕ
 loads_of_others_are_skipped_script = codes "accounts alice bob" ++ 10 ∷ [] ++ codes "carol load 12" ++ 10 ∷ [] ++ codes "alice run 1" ++ 10 ∷ [] ++ 10 ∷ [] ++ codes "alice run 1" ++ 10 ∷ [] ++ codes "alice load 12" ++ 10 ∷ [] ++ codes ":- module e.x" ++ 10 ∷ [] ++ codes "alice load 12" ++ 10 ∷ [] ++ codes ":- module e." ++ 13 ∷ [] ++ 10 ∷ []
 
+-- the bytes of loads_of_others_are_skipped.expected
 abbrev pub loads_of_others_are_skipped_output : List ℕ
 loads_of_others_are_skipped_output = codes "! account" ++ 10 ∷ [] ++ codes "alice + 0" ++ 10 ∷ [] ++ codes "alice - 1 syntax" ++ 10 ∷ [] ++ codes "alice + loaded e" ++ 10 ∷ []
 
+-- the bytes of module_without_clauses.script
 abbrev pub module_without_clauses_script : List ℕ
 module_without_clauses_script = codes "accounts alice bob" ++ 10 ∷ [] ++ codes "alice load 12" ++ 10 ∷ [] ++ codes ":- module e." ++ 10 ∷ []
 
+-- the bytes of module_without_clauses.expected
 abbrev pub module_without_clauses_output : List ℕ
 module_without_clauses_output = codes "alice + loaded e" ++ 10 ∷ []
 
+-- the bytes of modules_loaded_at_that_moment.script
 abbrev pub modules_loaded_at_that_moment_script : List ℕ
 modules_loaded_at_that_moment_script = codes "accounts alice bob" ++ 10 ∷ [] ++ codes "alice start 10 0 10 app:app([],a,R)" ++ 10 ∷ [] ++ codes "alice run 10" ++ 10 ∷ [] ++ codes "alice start 10 0 10 app:app([],a,R)" ++ 10 ∷ [] ++ codes "alice load 91" ++ 10 ∷ [] ++ codes ":- module app." ++ 10 ∷ [] ++ codes "app([],Y,Z) :- true | Z = Y." ++ 10 ∷ [] ++ codes "app([A|X],Y,Z) :- true | Z = [A|W], app(X,Y,W)." ++ 10 ∷ [] ++ codes "alice run 10" ++ 10 ∷ [] ++ codes "alice value 1" ++ 10 ∷ [] ++ codes "alice value 2" ++ 10 ∷ []
 
+-- the bytes of modules_loaded_at_that_moment.expected
 abbrev pub modules_loaded_at_that_moment_output : List ℕ
 modules_loaded_at_that_moment_output = codes "alice + shoen 1" ++ 10 ∷ [] ++ codes "alice + 1" ++ 10 ∷ [] ++ codes "alice + shoen 2" ++ 10 ∷ [] ++ codes "alice + loaded app" ++ 10 ∷ [] ++ codes "alice + 2" ++ 10 ∷ [] ++ codes "alice + app:app([],a,_1)" ++ 10 ∷ [] ++ codes "alice + app:app([],a,a)" ++ 10 ∷ []
 
+-- the bytes of names_before_the_first_space.script
 abbrev pub names_before_the_first_space_script : List ℕ
 names_before_the_first_space_script = codes "accounts alice bob" ++ 10 ∷ [] ++ codes "alice" ++ 10 ∷ [] ++ codes "alice " ++ 10 ∷ [] ++ codes "bob run 0" ++ 10 ∷ [] ++ codes "carol" ++ 10 ∷ [] ++ codes " alice run 0" ++ 10 ∷ [] ++ codes "alice" ++ 9 ∷ [] ++ codes "run 0" ++ 10 ∷ [] ++ codes "alice " ++ 9 ∷ [] ++ codes "run" ++ 9 ∷ [] ++ 9 ∷ [] ++ codes "0 " ++ 9 ∷ [] ++ 10 ∷ [] ++ codes "alice run 0" ++ 13 ∷ [] ++ 13 ∷ [] ++ 10 ∷ []
 
+-- the bytes of names_before_the_first_space.expected
 abbrev pub names_before_the_first_space_output : List ℕ
 names_before_the_first_space_output = codes "alice - 1 syntax" ++ 10 ∷ [] ++ codes "alice - 1 syntax" ++ 10 ∷ [] ++ codes "! account" ++ 10 ∷ [] ++ codes "! account" ++ 10 ∷ [] ++ codes "! account" ++ 10 ∷ [] ++ codes "! account" ++ 10 ∷ [] ++ codes "alice + 0" ++ 10 ∷ [] ++ codes "alice - 1 syntax" ++ 10 ∷ []
 
+-- the bytes of names_in_quotes.script
 abbrev pub names_in_quotes_script : List ℕ
 names_in_quotes_script = codes "accounts alice" ++ 10 ∷ [] ++ codes "alice start 10 0 10 X = ''" ++ 10 ∷ [] ++ codes "alice start 10 0 10 X = '[]'(a)" ++ 10 ∷ [] ++ codes "alice run 2" ++ 10 ∷ [] ++ codes "alice value 1" ++ 10 ∷ [] ++ codes "alice value 2" ++ 10 ∷ []
 
+-- the bytes of names_in_quotes.expected
 abbrev pub names_in_quotes_output : List ℕ
 names_in_quotes_output = codes "alice + shoen 1" ++ 10 ∷ [] ++ codes "alice + shoen 2" ++ 10 ∷ [] ++ codes "alice + 2" ++ 10 ∷ [] ++ codes "alice + '='('','')" ++ 10 ∷ [] ++ codes "alice + '='('[]'(a),'[]'(a))" ++ 10 ∷ []
 
+-- the bytes of names_of_63_and_64_bytes.script
 abbrev pub names_of_63_and_64_bytes_script : List ℕ
 names_of_63_and_64_bytes_script = codes "accounts alice bob" ++ 10 ∷ [] ++ codes "alice load 78" ++ 10 ∷ [] ++ codes ":- module e1." ++ 10 ∷ [] ++ codes "aaaaaaaaaaaaaaaaaaaaaaaaaaaaaaaaaaaaaaaaaaaaaaaaaaaaaaaaaaaaaaa." ++ 10 ∷ [] ++ codes "alice load 79" ++ 10 ∷ [] ++ codes ":- module e2." ++ 10 ∷ [] ++ codes "aaaaaaaaaaaaaaaaaaaaaaaaaaaaaaaaaaaaaaaaaaaaaaaaaaaaaaaaaaaaaaaa." ++ 10 ∷ []
 
+-- the bytes of names_of_63_and_64_bytes.expected
 abbrev pub names_of_63_and_64_bytes_output : List ℕ
 names_of_63_and_64_bytes_output = codes "alice + loaded e1" ++ 10 ∷ [] ++ codes "alice - 2 source 2" ++ 10 ∷ []
 
+-- the bytes of nested_patterns.script
 abbrev pub nested_patterns_script : List ℕ
 nested_patterns_script = codes "accounts alice bob" ++ 10 ∷ [] ++ codes "alice load 52" ++ 10 ∷ [] ++ codes ":- module t." ++ 10 ∷ [] ++ codes "p(f(X,[A|B]),R) :- true | R = g(B,A,X)." ++ 10 ∷ [] ++ codes "alice start 9 0 9 t:p(f(1,[2,3]),R)" ++ 10 ∷ [] ++ codes "alice start 9 0 9 t:p(f(1,Y),R)" ++ 10 ∷ [] ++ codes "alice start 9 0 9 t:p(f(Y,[]),R)" ++ 10 ∷ [] ++ codes "alice run 20" ++ 10 ∷ [] ++ codes "alice value 1" ++ 10 ∷ []
 
+-- the bytes of nested_patterns.expected
 abbrev pub nested_patterns_output : List ℕ
 nested_patterns_output = codes "alice + loaded t" ++ 10 ∷ [] ++ codes "alice + shoen 1" ++ 10 ∷ [] ++ codes "alice + shoen 2" ++ 10 ∷ [] ++ codes "alice + shoen 3" ++ 10 ∷ [] ++ codes "alice + 3" ++ 10 ∷ [] ++ codes "alice + t:p(f(1,[2,3]),g([3],2,1))" ++ 10 ∷ []
 
+-- the bytes of no_accounts.script
 abbrev pub no_accounts_script : List ℕ
 no_accounts_script = []
 
+-- the bytes of no_accounts.expected
 abbrev pub no_accounts_output : List ℕ
 no_accounts_output = codes "! accounts" ++ 10 ∷ []
 
+-- the bytes of no_cyclic_terms.script
 abbrev pub no_cyclic_terms_script : List ℕ
 no_cyclic_terms_script = codes "accounts alice" ++ 10 ∷ [] ++ codes "alice start 10 0 10 X = f(X)" ++ 10 ∷ [] ++ codes "alice run 10" ++ 10 ∷ [] ++ codes "alice value 1" ++ 10 ∷ []
 
+-- the bytes of no_cyclic_terms.expected
 abbrev pub no_cyclic_terms_output : List ℕ
 no_cyclic_terms_output = codes "alice + shoen 1" ++ 10 ∷ [] ++ codes "alice + 1" ++ 10 ∷ [] ++ codes "alice + '='(_1,f(_1))" ++ 10 ∷ []
 
+-- the bytes of numbers_of_19_digits.script
 abbrev pub numbers_of_19_digits_script : List ℕ
 numbers_of_19_digits_script = codes "accounts alice bob" ++ 10 ∷ [] ++ codes "alice run 0000000000000000000" ++ 10 ∷ [] ++ codes "alice run 00000000000000000000" ++ 10 ∷ [] ++ codes "alice value 9223372036854775807" ++ 10 ∷ [] ++ codes "alice value 9223372036854775808" ++ 10 ∷ [] ++ codes "alice run 262144" ++ 10 ∷ [] ++ codes "alice run 262145" ++ 10 ∷ [] ++ codes "alice run -1" ++ 10 ∷ [] ++ codes "alice run 1 2" ++ 10 ∷ [] ++ codes "alice run" ++ 10 ∷ [] ++ codes "alice start 1 0 1 X = 00000000000000000000000000000001" ++ 10 ∷ []
 
+-- the bytes of numbers_of_19_digits.expected
 abbrev pub numbers_of_19_digits_output : List ℕ
 numbers_of_19_digits_output = codes "alice + 0" ++ 10 ∷ [] ++ codes "alice - 1 syntax" ++ 10 ∷ [] ++ codes "alice - 4 noshoen" ++ 10 ∷ [] ++ codes "alice - 1 syntax" ++ 10 ∷ [] ++ codes "alice + 0" ++ 10 ∷ [] ++ codes "alice - 1 syntax" ++ 10 ∷ [] ++ codes "alice - 1 syntax" ++ 10 ∷ [] ++ codes "alice - 1 syntax" ++ 10 ∷ [] ++ codes "alice - 1 syntax" ++ 10 ∷ [] ++ codes "alice + shoen 1" ++ 10 ∷ []
 
+-- the bytes of producer_and_consumer.script
 abbrev pub producer_and_consumer_script : List ℕ
 producer_and_consumer_script = codes "accounts alice" ++ 10 ∷ [] ++ codes "alice load 277" ++ 10 ∷ [] ++ codes ":- module stream." ++ 10 ∷ [] ++ codes "make([],Out) :- true | Out = []." ++ 10 ∷ [] ++ codes "make([N|Ns],Out) :- true | Out = [item(N)|Rest], make(Ns,Rest)." ++ 10 ∷ [] ++ codes "take([],Sum) :- true | Sum = none." ++ 10 ∷ [] ++ codes "take([item(N)|Rest],Sum) :- true | Sum = some(N,More), take(Rest,More)." ++ 10 ∷ [] ++ codes "both(Ns,Sum) :- true | take(Items,Sum), make(Ns,Items)." ++ 10 ∷ [] ++ codes "alice start 100 0 10 stream:both([1,2],Sum)" ++ 10 ∷ [] ++ codes "alice run 100" ++ 10 ∷ [] ++ codes "alice value 1" ++ 10 ∷ []
 
+-- the bytes of producer_and_consumer.expected
 abbrev pub producer_and_consumer_output : List ℕ
 producer_and_consumer_output = codes "alice + loaded stream" ++ 10 ∷ [] ++ codes "alice + shoen 1" ++ 10 ∷ [] ++ codes "alice + 13" ++ 10 ∷ [] ++ codes "alice + stream:both([1,2],some(1,some(2,none)))" ++ 10 ∷ []
 
+-- the bytes of second_variable_wakes.script
 abbrev pub second_variable_wakes_script : List ℕ
 second_variable_wakes_script = codes "accounts alice bob" ++ 10 ∷ [] ++ codes "alice load 96" ++ 10 ∷ [] ++ codes ":- module s." ++ 10 ∷ [] ++ codes "e(1,Y,R) :- true | R = l." ++ 10 ∷ [] ++ codes "e(X,1,R) :- true | R = r." ++ 10 ∷ [] ++ codes "g(R) :- true | e(X,Y,R), Y = 1." ++ 10 ∷ [] ++ codes "alice start 10 0 10 s:g(R)" ++ 10 ∷ [] ++ codes "alice run 10" ++ 10 ∷ [] ++ codes "alice value 1" ++ 10 ∷ []
 
+-- the bytes of second_variable_wakes.expected
 abbrev pub second_variable_wakes_output : List ℕ
 second_variable_wakes_output = codes "alice + loaded s" ++ 10 ∷ [] ++ codes "alice + shoen 1" ++ 10 ∷ [] ++ codes "alice + 4" ++ 10 ∷ [] ++ codes "alice + s:g(r)" ++ 10 ∷ []
 
+-- the bytes of seventeen_accounts.script
 abbrev pub seventeen_accounts_script : List ℕ
 seventeen_accounts_script = codes "accounts a0 a1 a2 a3 a4 a5 a6 a7 a8 a9 a10 a11 a12 a13 a14 a15 b" ++ 10 ∷ [] ++ codes "a0 run 0" ++ 10 ∷ []
 
+-- the bytes of seventeen_accounts.expected
 abbrev pub seventeen_accounts_output : List ℕ
 seventeen_accounts_output = codes "! accounts" ++ 10 ∷ []
 
+-- the bytes of sixteen_accounts.script
 abbrev pub sixteen_accounts_script : List ℕ
 sixteen_accounts_script = codes "accounts a0 a1 a2 a3 a4 a5 a6 a7 a8 a9 a10 a11 a12 a13 a14 a15" ++ 10 ∷ [] ++ codes "a0 run 0" ++ 10 ∷ [] ++ codes "a15 run 0" ++ 10 ∷ []
 
+-- the bytes of sixteen_accounts.expected
 abbrev pub sixteen_accounts_output : List ℕ
 sixteen_accounts_output = codes "a0 + 0" ++ 10 ∷ [] ++ codes "! account" ++ 10 ∷ []
 
+-- the bytes of truncated_load.script
 abbrev pub truncated_load_script : List ℕ
 truncated_load_script = codes "accounts alice" ++ 10 ∷ [] ++ codes "alice start 10 0 10 true" ++ 10 ∷ [] ++ codes "alice load 50" ++ 10 ∷ [] ++ codes "xxxxxxxxxxxxxxxxxxxxxxxxxxxxxxxxxxxxxxxxxxxxxxxxx"
 
+-- the bytes of truncated_load.expected
 abbrev pub truncated_load_output : List ℕ
 truncated_load_output = codes "alice + shoen 1" ++ 10 ∷ [] ++ codes "! truncated" ++ 10 ∷ []
 
+-- the bytes of truncated_load_of_another_name.script
 abbrev pub truncated_load_of_another_name_script : List ℕ
 truncated_load_of_another_name_script = codes "accounts alice bob" ++ 10 ∷ [] ++ codes "carol load 13" ++ 10 ∷ [] ++ codes ":- module e."
 
+-- the bytes of truncated_load_of_another_name.expected
 abbrev pub truncated_load_of_another_name_output : List ℕ
 truncated_load_of_another_name_output = codes "! truncated" ++ 10 ∷ []
 
+-- the bytes of unification_fails_whole.script
 abbrev pub unification_fails_whole_script : List ℕ
 unification_fails_whole_script = codes "accounts alice" ++ 10 ∷ [] ++ codes "alice start 10 0 10 f(X,a) = f(1,b)" ++ 10 ∷ [] ++ codes "alice run 10" ++ 10 ∷ [] ++ codes "alice value 1" ++ 10 ∷ []
 
+-- the bytes of unification_fails_whole.expected
 abbrev pub unification_fails_whole_output : List ℕ
 unification_fails_whole_output = codes "alice + shoen 1" ++ 10 ∷ [] ++ codes "alice + 1" ++ 10 ∷ [] ++ codes "alice + '='(f(_1,a),f(1,b))" ++ 10 ∷ []
 
+-- the bytes of unknown_predicates_fail.script
 abbrev pub unknown_predicates_fail_script : List ℕ
 unknown_predicates_fail_script = codes "accounts alice bob" ++ 10 ∷ [] ++ codes "alice load 91" ++ 10 ∷ [] ++ codes ":- module app." ++ 10 ∷ [] ++ codes "app([],Y,Z) :- true | Z = Y." ++ 10 ∷ [] ++ codes "app([A|X],Y,Z) :- true | Z = [A|W], app(X,Y,W)." ++ 10 ∷ [] ++ codes "alice start 10 0 10 app:foo(1)" ++ 10 ∷ [] ++ codes "alice start 10 0 10 app:app(1)" ++ 10 ∷ [] ++ codes "alice start 10 0 10 app:true" ++ 10 ∷ [] ++ codes "alice run 10" ++ 10 ∷ []
 
+-- the bytes of unknown_predicates_fail.expected
 abbrev pub unknown_predicates_fail_output : List ℕ
 unknown_predicates_fail_output = codes "alice + loaded app" ++ 10 ∷ [] ++ codes "alice + shoen 1" ++ 10 ∷ [] ++ codes "alice + shoen 2" ++ 10 ∷ [] ++ codes "alice + shoen 3" ++ 10 ∷ [] ++ codes "alice + 3" ++ 10 ∷ []
 
+-- the bytes of value_is_cut.script
 abbrev pub value_is_cut_script : List ℕ
 value_is_cut_script = codes "accounts alice bob" ++ 10 ∷ [] ++ codes "alice start 9 0 9 X = [aa,a,a,a,a,a,a,a,a,a,a,a,a,a,a,a,a,a,a,a,a,a,a,a,a,a,a,a,a,a,a,a,a,a,a,a,a,a,a,a,a,a,a,a,a,a,a,a,a,a,a,a,a,a,a,a,a,a,a,a,a,a,a,a,a,a,a,a,a,a,a,a,a,a,a,a,a,a,a,a,a,a,a,a,a,a,a,a,a,a,a,a,a,a,a,a,a,a,a,a,a,a,a,a,a,a,a,a,a,a,a,a,a,a,a,a,a,a,a,a,a,a,a,a,a,a,a,a,a,a,a,a,a,a,a,a,a,a,a,a,a,a,a,a,a,a,a,a,a,a,a,a,a,a,a,a,a,a,a,a,a,a,a,a,a,a,a,a,a,a,a,a,a,a,a,a,a,a,a,a,a,a,a,a,a,a,a,a,a,a,a,a,a,a,a,a,a,a,a,a,a,a,a,a,a,a,a,a,a,a,a,a,a,a,a,a,a,a,a,a,a,a,a,a,a,a,a,a,a,a,a,a,a,a,a,a,a,a,a,a,a,a,a,a,a,a,a,a,a,a,a,a,a,a,a,a,a,a,a,a,a,a,a,a,a,a,a,a,a,a,a,a,a,a,a,a,a,a,a,a,a,a,a,a,a,a,a,a,a,a,a,a,a,a,a,a,a,a,a,a,a,a,a,a,a,a,a,a,a,a,a,a,a,a,a,a,a,a,a,a,a,a,a,a,a,a,a,a,a,a,a,a,a,a,a,a,a,a,a,a,a,a,a,a,a,a,a,a,a,a,a,a,a,a,a,a,a,a,a,a,a,a,a,a,a,a,a,a,a,a,a,a,a,a,a,a,a,a,a,a,a,a,a,a,a,a,a,a,a,a,a,a,a,a,a,a,a,a,a,a,a,a,a,a,a,a,a,a,a,a,a,a,a,a,a,a,a,a,a,a,a,a,a,a,a,a,a,a,a,a,a,a,a,a,a,a,a,a,a,a,a,a,a,a,a,a,a,a,a,a,a,a,a,a,a,a,a,a,a,a,a,a,a,a,a,a,a,a,a,a,a,a,a,a,a,a,a,a,a,a,a,a,a,a,a,a,a,a,a,a,a,a,a,a,a,a,a,a,a,a,a,a,a,a,a,a,a,a,a,a,a,a,a,a,a,a,a,a,a,a,a,a,a,a,a,a,a,a,a,a,a,a,a,a,a,a,a,a,a,a,a,a,a,a,a,a,a,a,a,a,a,a,a,a,a,a,a,a,a,a,a,a,a,a,a,a,a,a,a,a,a,a,a,a,a,a,a,a,a,a,a,a,a,a,a,a,a,a,a,a,a,a,a,a,a,a,a,a,a,a,a,a,a,a,a,a,a,a,a,a,a,a,a,a,a,a,a,a,a,a,a,a,a,a,a,a,a,a,a,a,a,a,a,a,a,a,a,a,a,a,a,a,a,a,a,a,a,a,a,a,a,a,a,a,a,a,a,a,a,a,a,a,a,a,a,a,a,a,a,a,a,a,a,a,a,a,a,a,a,a,a,a,a,a,a,a,a,a,a,a,a,a,a,a,a,a,a,a,a,a,a,a,a,a,a,a,a,a,a,a,a,a,a,a,a,a,a,a,a,a,a,a,a,a,a,a,a,a,a,a,a,a,a,a,a,a,a,a,a,a,a,a,a,a,a,a,a,a,a,a,a,a,a,a,a,a,a,a,a,a,a,a,a,a,a,a,a,a,a,a,a,a,a,a,a,a,a,a,a,a,a,a,a,a,a,a,a,a,a,a,a,a,a,a,a,a,a,a,a,a,a,a,a,a,a,a,a,a,a,a,a,a,a,a,a,a,a,a,a,a,a,a,a,a,a,a,a,a,a,a,a,a,a,a,a,a,a,a,a,a,a,a,a,a,a,a,a,a,a,a,a,a,a,a,a,a,a,a,a,a,a,a,a,a,a,a,a,a,a,a,a,a,a,a,a,a,a,a,a,a,a,a,a,a,a,a,a,a,a,a,a,a,a,a,a,a,a,a,a,a,a,a,a,a,a,a,a,a,a,a,a,a,a,a,a,a,a,a,a,a,a,a,a,a,a,a,a,a,a,a,a,a,a,a,a,a,a,a,a,a,a,a,a,a,a,a,a,a,a,a,a,a,a,a,a,a,a,a,a,a,a,a,a,a,a,a,a,a,a,a,a,a,a,a,a,a,a,a,a,a,a,a,a,a,a,a,a,a,a,a,a,a,a,a,a,a,a,a,a,a,a,a,a,a,a,a,a,a,a,a,a,a,a,a,a,a,a,a,a,a,a,a,a,a,a,a,a,a,a,a,a,a,a,a,a,a,a,a,a,a,a,a,a,a,a,a,a,a,a,a,a,a,a,a,a,a,a,a,a,a,a,a,a,a,a,a,a,a,a,a,a,a,a,a,a,a,a,a,a,a,a,a,a,a,a,a,a,a,a,a,a,a,a,a,a,a,a,a,a,a,a,a,a,a,a,a,a,a,a,a,a,a,a,a,a,a,a,a,a,a,a,a,a,a,a,a,a,a,a,a,a,a,a,a,a,a,a,a,a,a,a,a,a,a,a,a,a,a,a,a,a,a,a,a,a,a,a,a,a,a,a,a,a,a,a,a,a,a,a,a,a,a,a,a,a,a,a,a,a,a,a,a,a,a,a,a,a,a,a,a,a,a,a,a,a,a,a,a,a,a,a,a,a,a,a,a,a,a,a,a,a,a,a,a,a,a,a,a,a,a,a,a,a,a,a,a,a,a,a,a,a,a,a,a,a,a,a,a,a,a,a,a,a,a,a,a,a,a,a,a,a,a,a,a,a,a,a,a,a,a,a,a,a,a,a,a,a,a,a,a,a,a,a,a,a,a,a,a,a,a,a,a,a,a,a,a,a,a,a,a,a,a,a,a,a,a,a,a,a,a,a,a,a,a,a,a,a,a,a,a,a,a,a,a,a,a,a,a,a,a,a,a,a,a,a,a,a,a,a,a,a,a,a,a,a,a,a,a,a,a,a,a,a,a,a,a,a,a,a,a,a,a,a,a,a,a,a,a,a,a,a,a,a,a,a,a,a,a,a,a,a,a,a,a,a,a,a,a,a,a,a,a,a,a,a,a,a,a,a,a,a,a,a,a,a,a,a,a,a,a,a,a,a,a,a,a,a,a,a,a,a,a,a,a,a,a,a,a,a,a,a,a,a,a,a,a,a,a,a,a,a,a,a,a,a,a,a,a,a,a,a,a,a,a,a,a,a,a,a,a,a,a,a,a,a,a,a,a,a,a,a,a,a,a,a,a,a,a,a,a,a,a,a,a,a,a,a,a,a,a,a,a,a,a,a,a,a,a,a,a,a,a,a,a,a,a,a,a,a,a,a,a,a,a,a,a,a,a,a,a,a,a,a,a,a,a,a,a,a,a,a,a,a,a,a,a,a,a,a,a,a,a,a,a,a,a,a,a,a,a,a,a,a,a,a,a,a,a,a,a,a,a,a,a,a,a,a,a,a,a,a,a,a,a,a,a,a,a,a,a,a,a,a,a,a,a,a,a,a,a,a,a,a,a,a,a,a,a,a,a,a,a,a,a,a,a,a,a,a,a,a,a,a,a,a,a,a,a,a,a,a,a,a,a,a,a,a,a,a,a,a,a,a,a,a,a,a,a,a,a,a,a,a,a,a,a,a,a,a,a,a,a,a,a,a,a,a,a,a,a,a,a,a,a,a,a,a,a,a,a,a,a,a,a,a,a,a,a,a,a,a,a,a,a,a,a,a,a,a,a,a,a,a,a,a,a,a,a,a,a,a,a,a,a,a,a,a,a,a,a,a,a,a,a,a,a,a,a,a,a,a,a,a,a,a,a,a,a,a,a,a,a,a,a,a,a,a,a,a,a,a,a,a,a,a,a,a,a,a,a,a,a,a,a,a,a,a,a,a,a,a,a,a,a,a,a,a,a,a,a,a,a,a,a,a,a,a,a,a,a,a,a,a,a,a,a,a,a,a,a,a,a,a,a,a,a,a,a,a,a,a,a,a,a,a,a,a,a,a,a,a,a,a,a,a,a,a,a,a,a,a,a,a,a,a,a,a,a,a,a,a,a,a,a,a,a,a,a,a,a,a,a,a,a,a,a,a,a,a,a,a,a,a,a,a,a,a,a,a,a,a,a,a,a,a,a,a,a,a,a,a,a,a,a,a,a,a,a,a,a,a,a,a,a,a,a,a,a,a,a,a,a,a,a,a,a,a,a,a,a,a,a,a,a,a,a,a,a,a,a,a,a,a,a,a,a,a,a,a,a,a,a,a,a,a,a,a,a,a,a,a,a,a,a,a,a,a,a,a,a,a,a,a,a,a,a,a,a,a,a,a,a,a,a,a,a,a,a,a,a,a,a,a,a,a,a,a,a,a,a,a,a,a,a,a,a,a,a,a,a,a,a,a,a,a,a,a,a,a,a,a,a,a,a,a,a,a,a,a,a,a,a,a,a,a]" ++ 10 ∷ [] ++ codes "alice value 1" ++ 10 ∷ [] ++ codes "alice start 9 0 9 X = [aa,aa,a,a,a,a,a,a,a,a,a,a,a,a,a,a,a,a,a,a,a,a,a,a,a,a,a,a,a,a,a,a,a,a,a,a,a,a,a,a,a,a,a,a,a,a,a,a,a,a,a,a,a,a,a,a,a,a,a,a,a,a,a,a,a,a,a,a,a,a,a,a,a,a,a,a,a,a,a,a,a,a,a,a,a,a,a,a,a,a,a,a,a,a,a,a,a,a,a,a,a,a,a,a,a,a,a,a,a,a,a,a,a,a,a,a,a,a,a,a,a,a,a,a,a,a,a,a,a,a,a,a,a,a,a,a,a,a,a,a,a,a,a,a,a,a,a,a,a,a,a,a,a,a,a,a,a,a,a,a,a,a,a,a,a,a,a,a,a,a,a,a,a,a,a,a,a,a,a,a,a,a,a,a,a,a,a,a,a,a,a,a,a,a,a,a,a,a,a,a,a,a,a,a,a,a,a,a,a,a,a,a,a,a,a,a,a,a,a,a,a,a,a,a,a,a,a,a,a,a,a,a,a,a,a,a,a,a,a,a,a,a,a,a,a,a,a,a,a,a,a,a,a,a,a,a,a,a,a,a,a,a,a,a,a,a,a,a,a,a,a,a,a,a,a,a,a,a,a,a,a,a,a,a,a,a,a,a,a,a,a,a,a,a,a,a,a,a,a,a,a,a,a,a,a,a,a,a,a,a,a,a,a,a,a,a,a,a,a,a,a,a,a,a,a,a,a,a,a,a,a,a,a,a,a,a,a,a,a,a,a,a,a,a,a,a,a,a,a,a,a,a,a,a,a,a,a,a,a,a,a,a,a,a,a,a,a,a,a,a,a,a,a,a,a,a,a,a,a,a,a,a,a,a,a,a,a,a,a,a,a,a,a,a,a,a,a,a,a,a,a,a,a,a,a,a,a,a,a,a,a,a,a,a,a,a,a,a,a,a,a,a,a,a,a,a,a,a,a,a,a,a,a,a,a,a,a,a,a,a,a,a,a,a,a,a,a,a,a,a,a,a,a,a,a,a,a,a,a,a,a,a,a,a,a,a,a,a,a,a,a,a,a,a,a,a,a,a,a,a,a,a,a,a,a,a,a,a,a,a,a,a,a,a,a,a,a,a,a,a,a,a,a,a,a,a,a,a,a,a,a,a,a,a,a,a,a,a,a,a,a,a,a,a,a,a,a,a,a,a,a,a,a,a,a,a,a,a,a,a,a,a,a,a,a,a,a,a,a,a,a,a,a,a,a,a,a,a,a,a,a,a,a,a,a,a,a,a,a,a,a,a,a,a,a,a,a,a,a,a,a,a,a,a,a,a,a,a,a,a,a,a,a,a,a,a,a,a,a,a,a,a,a,a,a,a,a,a,a,a,a,a,a,a,a,a,a,a,a,a,a,a,a,a,a,a,a,a,a,a,a,a,a,a,a,a,a,a,a,a,a,a,a,a,a,a,a,a,a,a,a,a,a,a,a,a,a,a,a,a,a,a,a,a,a,a,a,a,a,a,a,a,a,a,a,a,a,a,a,a,a,a,a,a,a,a,a,a,a,a,a,a,a,a,a,a,a,a,a,a,a,a,a,a,a,a,a,a,a,a,a,a,a,a,a,a,a,a,a,a,a,a,a,a,a,a,a,a,a,a,a,a,a,a,a,a,a,a,a,a,a,a,a,a,a,a,a,a,a,a,a,a,a,a,a,a,a,a,a,a,a,a,a,a,a,a,a,a,a,a,a,a,a,a,a,a,a,a,a,a,a,a,a,a,a,a,a,a,a,a,a,a,a,a,a,a,a,a,a,a,a,a,a,a,a,a,a,a,a,a,a,a,a,a,a,a,a,a,a,a,a,a,a,a,a,a,a,a,a,a,a,a,a,a,a,a,a,a,a,a,a,a,a,a,a,a,a,a,a,a,a,a,a,a,a,a,a,a,a,a,a,a,a,a,a,a,a,a,a,a,a,a,a,a,a,a,a,a,a,a,a,a,a,a,a,a,a,a,a,a,a,a,a,a,a,a,a,a,a,a,a,a,a,a,a,a,a,a,a,a,a,a,a,a,a,a,a,a,a,a,a,a,a,a,a,a,a,a,a,a,a,a,a,a,a,a,a,a,a,a,a,a,a,a,a,a,a,a,a,a,a,a,a,a,a,a,a,a,a,a,a,a,a,a,a,a,a,a,a,a,a,a,a,a,a,a,a,a,a,a,a,a,a,a,a,a,a,a,a,a,a,a,a,a,a,a,a,a,a,a,a,a,a,a,a,a,a,a,a,a,a,a,a,a,a,a,a,a,a,a,a,a,a,a,a,a,a,a,a,a,a,a,a,a,a,a,a,a,a,a,a,a,a,a,a,a,a,a,a,a,a,a,a,a,a,a,a,a,a,a,a,a,a,a,a,a,a,a,a,a,a,a,a,a,a,a,a,a,a,a,a,a,a,a,a,a,a,a,a,a,a,a,a,a,a,a,a,a,a,a,a,a,a,a,a,a,a,a,a,a,a,a,a,a,a,a,a,a,a,a,a,a,a,a,a,a,a,a,a,a,a,a,a,a,a,a,a,a,a,a,a,a,a,a,a,a,a,a,a,a,a,a,a,a,a,a,a,a,a,a,a,a,a,a,a,a,a,a,a,a,a,a,a,a,a,a,a,a,a,a,a,a,a,a,a,a,a,a,a,a,a,a,a,a,a,a,a,a,a,a,a,a,a,a,a,a,a,a,a,a,a,a,a,a,a,a,a,a,a,a,a,a,a,a,a,a,a,a,a,a,a,a,a,a,a,a,a,a,a,a,a,a,a,a,a,a,a,a,a,a,a,a,a,a,a,a,a,a,a,a,a,a,a,a,a,a,a,a,a,a,a,a,a,a,a,a,a,a,a,a,a,a,a,a,a,a,a,a,a,a,a,a,a,a,a,a,a,a,a,a,a,a,a,a,a,a,a,a,a,a,a,a,a,a,a,a,a,a,a,a,a,a,a,a,a,a,a,a,a,a,a,a,a,a,a,a,a,a,a,a,a,a,a,a,a,a,a,a,a,a,a,a,a,a,a,a,a,a,a,a,a,a,a,a,a,a,a,a,a,a,a,a,a,a,a,a,a,a,a,a,a,a,a,a,a,a,a,a,a,a,a,a,a,a,a,a,a,a,a,a,a,a,a,a,a,a,a,a,a,a,a,a,a,a,a,a,a,a,a,a,a,a,a,a,a,a,a,a,a,a,a,a,a,a,a,a,a,a,a,a,a,a,a,a,a,a,a,a,a,a,a,a,a,a,a,a,a,a,a,a,a,a,a,a,a,a,a,a,a,a,a,a,a,a,a,a,a,a,a,a,a,a,a,a,a,a,a,a,a,a,a,a,a,a,a,a,a,a,a,a,a,a,a,a,a,a,a,a,a,a,a,a,a,a,a,a,a,a,a,a,a,a,a,a,a,a,a,a,a,a,a,a,a,a,a,a,a,a,a,a,a,a,a,a,a,a,a,a,a,a,a,a,a,a,a,a,a,a,a,a,a,a,a,a,a,a,a,a,a,a,a,a,a,a,a,a,a,a,a,a,a,a,a,a,a,a,a,a,a,a,a,a,a,a,a,a,a,a,a,a,a,a,a,a,a,a,a,a,a,a,a,a,a,a,a,a,a,a,a,a,a,a,a,a,a,a,a,a,a,a,a,a,a,a,a,a,a,a,a,a,a,a,a,a,a,a,a,a,a,a,a,a,a,a,a,a,a,a,a,a,a,a,a,a,a,a,a,a,a,a,a,a,a,a,a,a,a,a,a,a,a,a,a,a,a,a,a,a,a,a,a,a,a,a,a,a,a,a,a,a,a,a,a,a,a,a,a,a,a,a,a,a,a,a,a,a,a,a,a,a,a,a,a,a,a,a,a,a,a,a,a,a,a,a,a,a,a,a,a,a,a,a,a,a,a,a,a,a,a,a,a,a,a,a,a,a,a,a,a,a,a,a,a,a,a,a,a,a,a,a,a,a,a,a,a,a,a,a,a,a,a,a,a,a,a,a,a,a,a,a,a,a,a,a,a,a,a,a,a,a,a,a,a,a,a,a,a,a,a,a,a,a,a,a,a,a,a,a,a,a,a,a,a,a,a,a,a,a,a,a,a,a,a,a,a,a,a,a,a,a,a,a,a,a,a,a,a,a,a,a,a,a,a,a,a,a,a,a,a,a,a,a,a,a,a,a,a,a,a,a,a,a,a,a,a,a,a,a,a,a,a,a,a,a,a,a,a,a,a,a,a,a,a,a,a,a,a,a,a,a,a,a,a,a,a,a,a,a,a,a,a,a,a,a,a,a,a,a,a,a,a,a,a,a,a,a,a,a,a,a,a,a,a,a,a,a,a,a,a,a,a,a,a,a,a,a,a,a,a,a,a,a,a,a,a,a,a,a,a,a,a,a,a,a,a,a,a,a,a,a,a,a,a,a,a,a,a,a,a,a,a,a,a,a,a,a,a,a,a,a,a,a,a,a,a]" ++ 10 ∷ [] ++ codes "alice value 2" ++ 10 ∷ []
 
+-- the bytes of value_is_cut.expected
 abbrev pub value_is_cut_output : List ℕ
 value_is_cut_output = codes "alice + shoen 1" ++ 10 ∷ [] ++ codes "alice + '='(_1,[aa,a,a,a,a,a,a,a,a,a,a,a,a,a,a,a,a,a,a,a,a,a,a,a,a,a,a,a,a,a,a,a,a,a,a,a,a,a,a,a,a,a,a,a,a,a,a,a,a,a,a,a,a,a,a,a,a,a,a,a,a,a,a,a,a,a,a,a,a,a,a,a,a,a,a,a,a,a,a,a,a,a,a,a,a,a,a,a,a,a,a,a,a,a,a,a,a,a,a,a,a,a,a,a,a,a,a,a,a,a,a,a,a,a,a,a,a,a,a,a,a,a,a,a,a,a,a,a,a,a,a,a,a,a,a,a,a,a,a,a,a,a,a,a,a,a,a,a,a,a,a,a,a,a,a,a,a,a,a,a,a,a,a,a,a,a,a,a,a,a,a,a,a,a,a,a,a,a,a,a,a,a,a,a,a,a,a,a,a,a,a,a,a,a,a,a,a,a,a,a,a,a,a,a,a,a,a,a,a,a,a,a,a,a,a,a,a,a,a,a,a,a,a,a,a,a,a,a,a,a,a,a,a,a,a,a,a,a,a,a,a,a,a,a,a,a,a,a,a,a,a,a,a,a,a,a,a,a,a,a,a,a,a,a,a,a,a,a,a,a,a,a,a,a,a,a,a,a,a,a,a,a,a,a,a,a,a,a,a,a,a,a,a,a,a,a,a,a,a,a,a,a,a,a,a,a,a,a,a,a,a,a,a,a,a,a,a,a,a,a,a,a,a,a,a,a,a,a,a,a,a,a,a,a,a,a,a,a,a,a,a,a,a,a,a,a,a,a,a,a,a,a,a,a,a,a,a,a,a,a,a,a,a,a,a,a,a,a,a,a,a,a,a,a,a,a,a,a,a,a,a,a,a,a,a,a,a,a,a,a,a,a,a,a,a,a,a,a,a,a,a,a,a,a,a,a,a,a,a,a,a,a,a,a,a,a,a,a,a,a,a,a,a,a,a,a,a,a,a,a,a,a,a,a,a,a,a,a,a,a,a,a,a,a,a,a,a,a,a,a,a,a,a,a,a,a,a,a,a,a,a,a,a,a,a,a,a,a,a,a,a,a,a,a,a,a,a,a,a,a,a,a,a,a,a,a,a,a,a,a,a,a,a,a,a,a,a,a,a,a,a,a,a,a,a,a,a,a,a,a,a,a,a,a,a,a,a,a,a,a,a,a,a,a,a,a,a,a,a,a,a,a,a,a,a,a,a,a,a,a,a,a,a,a,a,a,a,a,a,a,a,a,a,a,a,a,a,a,a,a,a,a,a,a,a,a,a,a,a,a,a,a,a,a,a,a,a,a,a,a,a,a,a,a,a,a,a,a,a,a,a,a,a,a,a,a,a,a,a,a,a,a,a,a,a,a,a,a,a,a,a,a,a,a,a,a,a,a,a,a,a,a,a,a,a,a,a,a,a,a,a,a,a,a,a,a,a,a,a,a,a,a,a,a,a,a,a,a,a,a,a,a,a,a,a,a,a,a,a,a,a,a,a,a,a,a,a,a,a,a,a,a,a,a,a,a,a,a,a,a,a,a,a,a,a,a,a,a,a,a,a,a,a,a,a,a,a,a,a,a,a,a,a,a,a,a,a,a,a,a,a,a,a,a,a,a,a,a,a,a,a,a,a,a,a,a,a,a,a,a,a,a,a,a,a,a,a,a,a,a,a,a,a,a,a,a,a,a,a,a,a,a,a,a,a,a,a,a,a,a,a,a,a,a,a,a,a,a,a,a,a,a,a,a,a,a,a,a,a,a,a,a,a,a,a,a,a,a,a,a,a,a,a,a,a,a,a,a,a,a,a,a,a,a,a,a,a,a,a,a,a,a,a,a,a,a,a,a,a,a,a,a,a,a,a,a,a,a,a,a,a,a,a,a,a,a,a,a,a,a,a,a,a,a,a,a,a,a,a,a,a,a,a,a,a,a,a,a,a,a,a,a,a,a,a,a,a,a,a,a,a,a,a,a,a,a,a,a,a,a,a,a,a,a,a,a,a,a,a,a,a,a,a,a,a,a,a,a,a,a,a,a,a,a,a,a,a,a,a,a,a,a,a,a,a,a,a,a,a,a,a,a,a,a,a,a,a,a,a,a,a,a,a,a,a,a,a,a,a,a,a,a,a,a,a,a,a,a,a,a,a,a,a,a,a,a,a,a,a,a,a,a,a,a,a,a,a,a,a,a,a,a,a,a,a,a,a,a,a,a,a,a,a,a,a,a,a,a,a,a,a,a,a,a,a,a,a,a,a,a,a,a,a,a,a,a,a,a,a,a,a,a,a,a,a,a,a,a,a,a,a,a,a,a,a,a,a,a,a,a,a,a,a,a,a,a,a,a,a,a,a,a,a,a,a,a,a,a,a,a,a,a,a,a,a,a,a,a,a,a,a,a,a,a,a,a,a,a,a,a,a,a,a,a,a,a,a,a,a,a,a,a,a,a,a,a,a,a,a,a,a,a,a,a,a,a,a,a,a,a,a,a,a,a,a,a,a,a,a,a,a,a,a,a,a,a,a,a,a,a,a,a,a,a,a,a,a,a,a,a,a,a,a,a,a,a,a,a,a,a,a,a,a,a,a,a,a,a,a,a,a,a,a,a,a,a,a,a,a,a,a,a,a,a,a,a,a,a,a,a,a,a,a,a,a,a,a,a,a,a,a,a,a,a,a,a,a,a,a,a,a,a,a,a,a,a,a,a,a,a,a,a,a,a,a,a,a,a,a,a,a,a,a,a,a,a,a,a,a,a,a,a,a,a,a,a,a,a,a,a,a,a,a,a,a,a,a,a,a,a,a,a,a,a,a,a,a,a,a,a,a,a,a,a,a,a,a,a,a,a,a,a,a,a,a,a,a,a,a,a,a,a,a,a,a,a,a,a,a,a,a,a,a,a,a,a,a,a,a,a,a,a,a,a,a,a,a,a,a,a,a,a,a,a,a,a,a,a,a,a,a,a,a,a,a,a,a,a,a,a,a,a,a,a,a,a,a,a,a,a,a,a,a,a,a,a,a,a,a,a,a,a,a,a,a,a,a,a,a,a,a,a,a,a,a,a,a,a,a,a,a,a,a,a,a,a,a,a,a,a,a,a,a,a,a,a,a,a,a,a,a,a,a,a,a,a,a,a,a,a,a,a,a,a,a,a,a,a,a,a,a,a,a,a,a,a,a,a,a,a,a,a,a,a,a,a,a,a,a,a,a,a,a,a,a,a,a,a,a,a,a,a,a,a,a,a,a,a,a,a,a,a,a,a,a,a,a,a,a,a,a,a,a,a,a,a,a,a,a,a,a,a,a,a,a,a,a,a,a,a,a,a,a,a,a,a,a,a,a,a,a,a,a,a,a,a,a,a,a,a,a,a,a,a,a,a,a,a,a,a,a,a,a,a,a,a,a,a,a,a,a,a,a,a,a,a,a,a,a,a,a,a,a,a,a,a,a,a,a,a,a,a,a,a,a,a,a,a,a,a,a,a,a,a,a,a,a,a,a,a,a,a,a,a,a,a,a,a,a,a,a,a,a,a,a,a,a,a,a,a,a,a,a,a,a,a,a,a,a,a,a,a,a,a,a,a,a,a,a,a,a,a,a,a,a,a,a,a,a,a,a,a,a,a,a,a,a,a,a,a,a,a,a,a,a,a,a,a,a,a,a,a,a,a,a,a,a,a,a,a,a,a,a,a,a,a,a,a,a,a,a,a,a,a,a,a,a,a,a,a,a,a,a,a,a,a,a,a,a,a,a,a,a,a,a,a,a,a,a,a,a,a,a,a,a,a,a,a,a,a,a,a,a,a,a,a,a,a,a,a,a,a,a,a,a,a,a,a,a,a,a,a,a,a,a,a,a,a,a,a,a,a,a,a,a,a,a,a,a,a,a,a,a,a,a,a,a,a,a,a,a,a,a,a,a,a,a,a,a,a,a,a,a,a,a,a,a,a,a,a,a,a,a,a,a,a,a,a,a,a,a,a,a,a,a,a,a,a,a,a,a,a,a,a,a,a,a,a,a,a,a,a,a,a,a,a,a,a,a,a,a,a,a,a,a,a,a,a,a,a,a,a,a,a,a,a,a,a,a,a,a,a,a,a,a,a,a,a,a,a,a,a,a,a,a,a,a,a,a,a,a,a,a,a,a,a,a,a,a,a,a,a,a,a,a,a,a,a,a,a,a,a,a,a,a,a,a,a,a,a,a,a,a,a,a,a,a,a,a,a,a,a,a,a,a,a,a,a,a,a,a,a,a,a,a,a,a,a,a,a,a,a,a,a,a,a,a,a,a,a,a,a,a,a,a,a,a,a,a,a,a,a,a,a,a,a,a,a,a,a,a,a,a,a,a,a,a,a,a,a,a,a,a,a,a,a,a,a,a,a,a,a,a,a,a,a,a,a,a,a,a,a,a,a,a,a,a,a,a,a,a,a,a,a,a,a,a,a,a,a,a,a,a,a,a,a,a,a,a,a,a,a,a,a,a,a,a,a,a,a,a,a,a,a,a])" ++ 10 ∷ [] ++ codes "alice + shoen 2" ++ 10 ∷ [] ++ codes "alice + '='(_5,[aa,aa,a,a,a,a,a,a,a,a,a,a,a,a,a,a,a,a,a,a,a,a,a,a,a,a,a,a,a,a,a,a,a,a,a,a,a,a,a,a,a,a,a,a,a,a,a,a,a,a,a,a,a,a,a,a,a,a,a,a,a,a,a,a,a,a,a,a,a,a,a,a,a,a,a,a,a,a,a,a,a,a,a,a,a,a,a,a,a,a,a,a,a,a,a,a,a,a,a,a,a,a,a,a,a,a,a,a,a,a,a,a,a,a,a,a,a,a,a,a,a,a,a,a,a,a,a,a,a,a,a,a,a,a,a,a,a,a,a,a,a,a,a,a,a,a,a,a,a,a,a,a,a,a,a,a,a,a,a,a,a,a,a,a,a,a,a,a,a,a,a,a,a,a,a,a,a,a,a,a,a,a,a,a,a,a,a,a,a,a,a,a,a,a,a,a,a,a,a,a,a,a,a,a,a,a,a,a,a,a,a,a,a,a,a,a,a,a,a,a,a,a,a,a,a,a,a,a,a,a,a,a,a,a,a,a,a,a,a,a,a,a,a,a,a,a,a,a,a,a,a,a,a,a,a,a,a,a,a,a,a,a,a,a,a,a,a,a,a,a,a,a,a,a,a,a,a,a,a,a,a,a,a,a,a,a,a,a,a,a,a,a,a,a,a,a,a,a,a,a,a,a,a,a,a,a,a,a,a,a,a,a,a,a,a,a,a,a,a,a,a,a,a,a,a,a,a,a,a,a,a,a,a,a,a,a,a,a,a,a,a,a,a,a,a,a,a,a,a,a,a,a,a,a,a,a,a,a,a,a,a,a,a,a,a,a,a,a,a,a,a,a,a,a,a,a,a,a,a,a,a,a,a,a,a,a,a,a,a,a,a,a,a,a,a,a,a,a,a,a,a,a,a,a,a,a,a,a,a,a,a,a,a,a,a,a,a,a,a,a,a,a,a,a,a,a,a,a,a,a,a,a,a,a,a,a,a,a,a,a,a,a,a,a,a,a,a,a,a,a,a,a,a,a,a,a,a,a,a,a,a,a,a,a,a,a,a,a,a,a,a,a,a,a,a,a,a,a,a,a,a,a,a,a,a,a,a,a,a,a,a,a,a,a,a,a,a,a,a,a,a,a,a,a,a,a,a,a,a,a,a,a,a,a,a,a,a,a,a,a,a,a,a,a,a,a,a,a,a,a,a,a,a,a,a,a,a,a,a,a,a,a,a,a,a,a,a,a,a,a,a,a,a,a,a,a,a,a,a,a,a,a,a,a,a,a,a,a,a,a,a,a,a,a,a,a,a,a,a,a,a,a,a,a,a,a,a,a,a,a,a,a,a,a,a,a,a,a,a,a,a,a,a,a,a,a,a,a,a,a,a,a,a,a,a,a,a,a,a,a,a,a,a,a,a,a,a,a,a,a,a,a,a,a,a,a,a,a,a,a,a,a,a,a,a,a,a,a,a,a,a,a,a,a,a,a,a,a,a,a,a,a,a,a,a,a,a,a,a,a,a,a,a,a,a,a,a,a,a,a,a,a,a,a,a,a,a,a,a,a,a,a,a,a,a,a,a,a,a,a,a,a,a,a,a,a,a,a,a,a,a,a,a,a,a,a,a,a,a,a,a,a,a,a,a,a,a,a,a,a,a,a,a,a,a,a,a,a,a,a,a,a,a,a,a,a,a,a,a,a,a,a,a,a,a,a,a,a,a,a,a,a,a,a,a,a,a,a,a,a,a,a,a,a,a,a,a,a,a,a,a,a,a,a,a,a,a,a,a,a,a,a,a,a,a,a,a,a,a,a,a,a,a,a,a,a,a,a,a,a,a,a,a,a,a,a,a,a,a,a,a,a,a,a,a,a,a,a,a,a,a,a,a,a,a,a,a,a,a,a,a,a,a,a,a,a,a,a,a,a,a,a,a,a,a,a,a,a,a,a,a,a,a,a,a,a,a,a,a,a,a,a,a,a,a,a,a,a,a,a,a,a,a,a,a,a,a,a,a,a,a,a,a,a,a,a,a,a,a,a,a,a,a,a,a,a,a,a,a,a,a,a,a,a,a,a,a,a,a,a,a,a,a,a,a,a,a,a,a,a,a,a,a,a,a,a,a,a,a,a,a,a,a,a,a,a,a,a,a,a,a,a,a,a,a,a,a,a,a,a,a,a,a,a,a,a,a,a,a,a,a,a,a,a,a,a,a,a,a,a,a,a,a,a,a,a,a,a,a,a,a,a,a,a,a,a,a,a,a,a,a,a,a,a,a,a,a,a,a,a,a,a,a,a,a,a,a,a,a,a,a,a,a,a,a,a,a,a,a,a,a,a,a,a,a,a,a,a,a,a,a,a,a,a,a,a,a,a,a,a,a,a,a,a,a,a,a,a,a,a,a,a,a,a,a,a,a,a,a,a,a,a,a,a,a,a,a,a,a,a,a,a,a,a,a,a,a,a,a,a,a,a,a,a,a,a,a,a,a,a,a,a,a,a,a,a,a,a,a,a,a,a,a,a,a,a,a,a,a,a,a,a,a,a,a,a,a,a,a,a,a,a,a,a,a,a,a,a,a,a,a,a,a,a,a,a,a,a,a,a,a,a,a,a,a,a,a,a,a,a,a,a,a,a,a,a,a,a,a,a,a,a,a,a,a,a,a,a,a,a,a,a,a,a,a,a,a,a,a,a,a,a,a,a,a,a,a,a,a,a,a,a,a,a,a,a,a,a,a,a,a,a,a,a,a,a,a,a,a,a,a,a,a,a,a,a,a,a,a,a,a,a,a,a,a,a,a,a,a,a,a,a,a,a,a,a,a,a,a,a,a,a,a,a,a,a,a,a,a,a,a,a,a,a,a,a,a,a,a,a,a,a,a,a,a,a,a,a,a,a,a,a,a,a,a,a,a,a,a,a,a,a,a,a,a,a,a,a,a,a,a,a,a,a,a,a,a,a,a,a,a,a,a,a,a,a,a,a,a,a,a,a,a,a,a,a,a,a,a,a,a,a,a,a,a,a,a,a,a,a,a,a,a,a,a,a,a,a,a,a,a,a,a,a,a,a,a,a,a,a,a,a,a,a,a,a,a,a,a,a,a,a,a,a,a,a,a,a,a,a,a,a,a,a,a,a,a,a,a,a,a,a,a,a,a,a,a,a,a,a,a,a,a,a,a,a,a,a,a,a,a,a,a,a,a,a,a,a,a,a,a,a,a,a,a,a,a,a,a,a,a,a,a,a,a,a,a,a,a,a,a,a,a,a,a,a,a,a,a,a,a,a,a,a,a,a,a,a,a,a,a,a,a,a,a,a,a,a,a,a,a,a,a,a,a,a,a,a,a,a,a,a,a,a,a,a,a,a,a,a,a,a,a,a,a,a,a,a,a,a,a,a,a,a,a,a,a,a,a,a,a,a,a,a,a,a,a,a,a,a,a,a,a,a,a,a,a,a,a,a,a,a,a,a,a,a,a,a,a,a,a,a,a,a,a,a,a,a,a,a,a,a,a,a,a,a,a,a,a,a,a,a,a,a,a,a,a,a,a,a,a,a,a,a,a,a,a,a,a,a,a,a,a,a,a,a,a,a,a,a,a,a,a,a,a,a,a,a,a,a,a,a,a,a,a,a,a,a,a,a,a,a,a,a,a,a,a,a,a,a,a,a,a,a,a,a,a,a,a,a,a,a,a,a,a,a,a,a,a,a,a,a,a,a,a,a,a,a,a,a,a,a,a,a,a,a,a,a,a,a,a,a,a,a,a,a,a,a,a,a,a,a,a,a,a,a,a,a,a,a,a,a,a,a,a,a,a,a,a,a,a,a,a,a,a,a,a,a,a,a,a,a,a,a,a,a,a,a,a,a,a,a,a,a,a,a,a,a,a,a,a,a,a,a,a,a,a,a,a,a,a,a,a,a,a,a,a,a,a,a,a,a,a,a,a,a,a,a,a,a,a,a,a,a,a,a,a,a,a,a,a,a,a,a,a,a,a,a,a,a,a,a,a,a,a,a,a,a,a,a,a,a,a,a,a,a,a,a,a,a,a,a,a,a,a,a,a,a,a,a,a,a,a,a,a,a,a,a,a,a,a,a,a,a,a,a,a,a,a,a,a,a,a,a,a,a,a,a,a,a,a,a,a,a,a,a,a,a,a,a,a,a,a,a,a,a,a,a,a,a,a,a,a,a,a,a,a,a,a,a,a,a,a,a,a,a,a,a,a,a,a,a,a,a,a,a,a,a,a,a,a,a,a,a,a,a,a,a,a,a,a,a,a,a,a,a,a,a,a,a,a,a,a,a,a,a,a,a,a,a,a,a,a,a,a,a,a,a,a,a,a,a,a,a,a,a,a,a,a,a,a,a,a,a,a,a,a,a,a,a,a,a,a,a,a,a,a,a,a,a,a,a,a,a,a,a,a,a,a,a,a,a,a,a,a,a,a,a,a,a,a,a,a,a,a,a,a,a,a,a,a,a,a,a,a,a,a,a,a,a,a,a,a,a,a]..." ++ 10 ∷ []
 
+-- the bytes of variables_of_a_second_start.script
 abbrev pub variables_of_a_second_start_script : List ℕ
 variables_of_a_second_start_script = codes "accounts alice bob" ++ 10 ∷ [] ++ codes "alice load 20" ++ 10 ∷ [] ++ codes ":- module t." ++ 10 ∷ [] ++ codes "q(a,b)." ++ 10 ∷ [] ++ codes "alice start 10 0 10 t:q(X,c)" ++ 10 ∷ [] ++ codes "alice start 10 0 10 t:q(Y,Z)" ++ 10 ∷ [] ++ codes "alice value 2" ++ 10 ∷ [] ++ codes "alice run 10" ++ 10 ∷ [] ++ codes "alice start 10 0 10 t:q(Y,Z)" ++ 10 ∷ [] ++ codes "alice value 3" ++ 10 ∷ []
 
+-- the bytes of variables_of_a_second_start.expected
 abbrev pub variables_of_a_second_start_output : List ℕ
 variables_of_a_second_start_output = codes "alice + loaded t" ++ 10 ∷ [] ++ codes "alice + shoen 1" ++ 10 ∷ [] ++ codes "alice + shoen 2" ++ 10 ∷ [] ++ codes "alice + t:q(_5,_6)" ++ 10 ∷ [] ++ codes "alice + 1" ++ 10 ∷ [] ++ codes "alice + shoen 3" ++ 10 ∷ [] ++ codes "alice + t:q(_12,_13)" ++ 10 ∷ []
 
+-- the bytes of words_and_line_ends.script
 abbrev pub words_and_line_ends_script : List ℕ
 words_and_line_ends_script = codes "  accounts" ++ 9 ∷ [] ++ codes "alice  " ++ 13 ∷ [] ++ 10 ∷ [] ++ 10 ∷ [] ++ codes "  " ++ 9 ∷ [] ++ 10 ∷ [] ++ codes "alice  run " ++ 9 ∷ [] ++ codes " 1  " ++ 13 ∷ [] ++ 10 ∷ [] ++ codes "alice" ++ 13 ∷ [] ++ 10 ∷ [] ++ codes "alice run 00000000000000000001" ++ 10 ∷ [] ++ codes "alice value 1" ++ 10 ∷ [] ++ codes "alice value x" ++ 10 ∷ [] ++ codes "carol run 1" ++ 10 ∷ [] ++ codes " alice run 1" ++ 10 ∷ [] ++ codes "alice" ++ 9 ∷ [] ++ codes "run 1" ++ 10 ∷ [] ++ codes "alice run 0"
 
+-- the bytes of words_and_line_ends.expected
 abbrev pub words_and_line_ends_output : List ℕ
 words_and_line_ends_output = codes "alice + 0" ++ 10 ∷ [] ++ codes "alice - 1 syntax" ++ 10 ∷ [] ++ codes "alice - 1 syntax" ++ 10 ∷ [] ++ codes "alice - 4 noshoen" ++ 10 ∷ [] ++ codes "alice - 1 syntax" ++ 10 ∷ [] ++ codes "! account" ++ 10 ∷ [] ++ codes "! account" ++ 10 ∷ [] ++ codes "! account" ++ 10 ∷ [] ++ codes "alice + 0" ++ 10 ∷ []
 

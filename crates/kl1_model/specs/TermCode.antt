@@ -52,10 +52,12 @@ abbrev mutual
   nodes_of_all none = []
   nodes_of_all (more t ts) = nodes_of t ++ nodes_of_all ts
 
+-- of terms with others behind them, the first so many are the terms
 pub front_of-all : (ts : Terms) (us : List Term) → front_of (count_of ts) (list_of ts ++ us) ≡ ts
 front_of-all none us = refl
 front_of-all (more t ts) us = ap (λ x. more t x) (front_of-all ts us)
 
+-- of terms with others behind them, those behind the first so many are the others
 pub behind-all : (ts : Terms) (us : List Term) → behind (count_of ts) (list_of ts ++ us) ≡ us
 behind-all none us = refl
 behind-all (more t ts) us = behind-all ts us
@@ -90,6 +92,7 @@ mutual
 abbrev pub term_from : List NodeCode → Term
 term_from cs = first_term (read_nodes cs [])
 
+-- the term of a term's nodes is the term
 pub term_from-nodes_of : (t : Term) → term_from (nodes_of t) ≡ t
 term_from-nodes_of t = ap first_term (reads-back t [])
 

@@ -149,15 +149,19 @@ NoReplacementsAreMoreGeneral = (last : ℕ) (es : List Equation) (rs others : Li
 
 -- ---- worked rows, with X and Y numbered 1 and 2
 
+-- X
 abbrev pub variable_x : Term
 variable_x = variable 1
 
+-- Y
 abbrev pub variable_y : Term
 variable_y = variable 2
 
+-- the atom a
 abbrev pub atom_a : Term
 atom_a = atom (codes "a")
 
+-- the atom b
 abbrev pub atom_b : Term
 atom_b = atom (codes "b")
 

@@ -38,6 +38,7 @@ closed_then (closed.Whole p rest) k = k p (map numbered_token rest.now)
 abbrev pub Closes : Opened → Term → List grammar.Numbered → Closed → Type 0
 Closes opened e ts c = (k : Going) → Dooms k → fit (closed_then c k) ≡ fit (after_opened opened k e ts)
 
+-- fewer tokens than this are left, or what was opened is bad
 abbrev pub ClosedLess : ℕ → Closed → Type 0
 ClosedLess n closed.Bad = Unit {0}
 ClosedLess n (closed.More opened rest) = length rest.now < n

@@ -20,16 +20,19 @@ abbrev pub answer_map : {A B : Type 0} → (A → B) → Answer A → Answer B
 answer_map f None = None
 answer_map f (Some r) = Some (f r.0, r.1)
 
--- the terms in front of tokens: of an expression, a part, a primary, or expressions parted by commas
+-- the term of the expression in front of tokens
 unfoldable pub expression_read : List grammar.Numbered → Answer Term
 expression_read ts = answer_map expression_term (reading ts)
 
+-- the term of the part in front of tokens
 unfoldable pub part_read : List grammar.Numbered → Answer Term
 part_read ts = answer_map part_term (part_at reading ts)
 
+-- the term of the primary in front of tokens
 unfoldable pub primary_read : List grammar.Numbered → Answer Term
 primary_read ts = answer_map primary_term (primary_at reading ts)
 
+-- the terms of the expressions in front of tokens, parted by commas
 unfoldable pub series_read : List grammar.Numbered → Answer (List Term)
 series_read ts = answer_map (λ s. list_of (series_terms s)) (series_at reading ts)
 
@@ -37,11 +40,12 @@ series_read ts = answer_map (λ s. list_of (series_terms s)) (series_at reading 
 abbrev pub Going : Type 0
 Going = Term → List grammar.Numbered → Answer (List Term)
 
--- goes on with a part behind what stands to the left of a relation, or perhaps with a relation
+-- goes on with a part, or with the relation of it and the part behind, where a relation was read
 abbrev pub after_relation : Going → Term → List grammar.Numbered → Answer Relation → Answer (List Term)
 after_relation k p ts None = k p ts
 after_relation k p ts (Some r) = then_read (part_read r.1) (λ q us. k (pair (relation_name r.0) p q) us)
 
+-- goes on with a part behind what stands to the left of a relation, or perhaps with a relation
 abbrev pub after_part : Option Term → Going → Going
 after_part None k p ts = after_relation k p ts (relation_in_front ts)
 after_part (Some a) k p ts = k (pair (codes "=") a p) ts
@@ -51,6 +55,7 @@ abbrev pub after_colon : Option Term → Going → Going
 after_colon None k p ts = if_there (behind_colon ts) (k p ts) (λ us. then_read (primary_read us) (λ q vs. k (pair (codes ":") p q) vs))
 after_colon (Some m) k p ts = k (pair (codes ":") m p) ts
 
+-- goes on with a primary behind what stands to its left
 abbrev pub after_primary : Left → Going → Going
 after_primary left k = after_colon left.colon (after_part left.relation k)
 

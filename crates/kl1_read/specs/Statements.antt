@@ -25,17 +25,20 @@ pub record Statement : Type 0 where
   pub tests : List Term
   pub body : List Term
 
+-- the head that the terms of a head are
 abbrev pub heading_of : HeadTerms → Heading
 heading_of h = record { name = h.name; arguments = h.arguments.items }
 
+-- the clause that the terms of a clause are
 abbrev pub statement_of : ClauseTerms → Statement
 statement_of c = record { heading = heading_of c.head; tests = c.tests.items; body = c.body.items }
 
--- what was read, with what is behind it
+-- a head that was read, with what is behind it
 abbrev pub heading_view : Option (HeadTerms × Bor (List Numbered)) → Answer Heading
 heading_view None = None
 heading_view (Some r) = Some (heading_of r.0, map numbered_token r.1.now)
 
+-- a clause that was read, with what is behind it
 abbrev pub statement_view : Option (ClauseTerms × Bor (List Numbered)) → Answer Statement
 statement_view None = None
 statement_view (Some r) = Some (statement_of r.0, map numbered_token r.1.now)

@@ -19,8 +19,10 @@ unbroken (Some line) ts = None
 abbrev pub whole_from : Option ℕ → List (Token (List ℕ)) → Tokens → Whole
 whole_from began before ts = record { line = unwrap_or began (first_line ts.placed ts.broken_at); tokens = unbroken ts.broken_at (before ++ bare_tokens ts.placed) }
 
+-- the whole of these tokens alone
 abbrev pub whole_of : Tokens → Whole
 whole_of ts = whole_from None [] ts
 
+-- the line and the tokens of a text that was read
 abbrev pub whole_view : WholeText → Whole
 whole_view w = record { line = w.line; tokens = option_map (λ v. map spelled_token v.items) w.tokens }

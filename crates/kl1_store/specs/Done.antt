@@ -21,10 +21,12 @@ pub record IsDone (waits : List ℕ) (t u : Term) : Type 0 where
   pub clash : clash t u ≡ false
   pub awaited : (v : ℕ) → IsOf v (awaited t u) → IsOf v waits
 
+-- the terms of each pair don't clash, and the variables for which they wait are among these
 abbrev pub EachDone : (ℕ → Term) → List ℕ → List Pair → Type 0
 EachDone S waits [] = Unit {0}
 EachDone S waits (p ∷ ps) = IsDone waits (S p.left) (S p.right) × EachDone S waits ps
 
+-- the same of a store's structures, however names are read
 abbrev pub AreDone : {N : Type 0} → (BuiltIn → N) → Held N → List ℕ → List Pair → Type 0
 AreDone {N = N} built h waits ps = (f : N → List ℕ) → Reads built f → EachDone (structure_term f h) waits ps
 

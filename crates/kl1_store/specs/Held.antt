@@ -64,11 +64,12 @@ abbrev pub found : {N : Type 0} → ℕ → List (Binding N) → Cell N
 found v [] = Variable v
 found v (b ∷ bs) = if b.variable == v then b.value else found v bs
 
--- the arguments of a structure
+-- the arguments of a structure, none where there is none
 abbrev pub shape_arguments : {N : Type 0} → Option (Shape N) → List (Cell N)
 shape_arguments None = []
 shape_arguments (Some s) = s.arguments
 
+-- the arguments of a store's structure with this number
 abbrev pub arguments_of : {N : Type 0} → Held N → ℕ → List (Cell N)
 arguments_of h s = shape_arguments (slice_get h.structures s)
 
@@ -88,11 +89,12 @@ IsWithin vs ss (Structure s) = suc s ≤ ss
 abbrev pub IsIn : {N : Type 0} → Held N → Cell N → Type 0
 IsIn h x = IsWithin h.variables (length h.structures) x
 
--- cells of this store
+-- cells whose variables and structures are below these numbers
 abbrev pub AreWithin : {N : Type 0} → ℕ → ℕ → List (Cell N) → Type 0
 AreWithin vs ss [] = Unit {0}
 AreWithin vs ss (x ∷ xs) = IsWithin vs ss x × AreWithin vs ss xs
 
+-- cells of this store
 abbrev pub AreIn : {N : Type 0} → Held N → List (Cell N) → Type 0
 AreIn h xs = AreWithin h.variables (length h.structures) xs
 

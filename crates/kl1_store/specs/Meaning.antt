@@ -13,6 +13,7 @@ mean f ts (Integer i) = integer i
 mean f ts (Atom a) = atom (f a)
 mean f ts (Structure s) = get_or ts s (atom [])
 
+-- the terms of cells before any binding, side by side
 abbrev pub means : {N : Type 0} → (N → List ℕ) → List Term → List (Cell N) → Terms
 means f ts [] = none
 means f ts (x ∷ xs) = more (mean f ts x) (means f ts xs)
@@ -28,6 +29,7 @@ replacements_from f ts rs [] = rs
 replacements_from f ts rs (b ∷ bs) =
     replacements_from f ts (rs ++ record { number = b.variable; by = replaced rs (mean f ts b.value) } ∷ []) bs
 
+-- the terms of a store's structures before any binding
 abbrev pub shapes : {N : Type 0} → (N → List ℕ) → Held N → List Term
 shapes f h = shapes_from f [] h.structures
 

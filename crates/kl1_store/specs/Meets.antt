@@ -20,12 +20,14 @@ pub record CanTake {N : Type 0} (h : Held N) (v : ℕ) (x : Cell N) : Type 0 whe
   pub known : IsIn h x
   pub lower : IsLower v x
 
+-- one side of an equation is a variable that may take the other, and the equation leads to that if the variable isn't in it
 pub record Takes {N : Type 0} (h : Held N) (l r : Cell N) (v : ℕ) (x : Cell N) : Type 0 where
   pub can : CanTake h v x
   pub one : IsNoVariable l → IsNoVariable r → ⊥
   pub sides : ((l ≡ Variable v) × (x ≡ r)) ⊎ ((r ≡ Variable v) × (x ≡ l))
   pub leads : (f : N → List ℕ) (es : List Equation) → front (term_of f h l) (term_of f h r) es ≡ bound_to v (term_of f h x) es
 
+-- the sides of an equation are structures of one name and one number of arguments, and it leads to those of the arguments
 pub record Opens {N : Type 0} (h : Held N) (l r : Cell N) (p : Frame) : Type 0 where
   pub left : l ≡ Structure p.left
   pub right : r ≡ Structure p.right

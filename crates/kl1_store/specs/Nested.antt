@@ -36,13 +36,15 @@ abbrev pub Expects : (Term → Term → Type 0) → (ℕ → Term) → (ℕ → 
 Expects R S P t u [] x y = (t ≡ x) × (u ≡ y)
 Expects R S P t u (p ∷ ps) x y = (t ≡ S p.left) × (u ≡ S p.right) × ((a : Term) × ((b : Term) × (LooksAt R (P p.left) (P p.right) p.next a b × Expects R S P a b ps x y)))
 
--- the terms of structures, and of their arguments
+-- the term of the structure with a number
 abbrev pub structure_term : {N : Type 0} → (N → List ℕ) → Held N → ℕ → Term
 structure_term f h s = term_of f h (Structure s)
 
+-- the terms of the arguments of the structure with a number
 abbrev pub argument_terms : {N : Type 0} → (N → List ℕ) → Held N → ℕ → Terms
 argument_terms f h s = terms_of f h (arguments_of h s)
 
+-- two terms are equal
 abbrev pub Equal : Term → Term → Type 0
 Equal t u = t ≡ u
 

@@ -52,10 +52,11 @@ abbrev mutual
   hefts k none = 0
   hefts k (more t ts) = k + (heft k t + hefts k ts)
 
--- how much waits
+-- how much a cell adds to what waits
 abbrev pub heft_of : {N : Type 0} → Held N → Cell N → ℕ
 heft_of h x = suc (heft (suc h.variables) (term_of unread h x) + reach x)
 
+-- how much waits
 abbrev pub load : {N : Type 0} → Held N → List (Task N) → ℕ
 load h [] = 0
 load h (t ∷ ts) = heft_of h t.cell + load h ts

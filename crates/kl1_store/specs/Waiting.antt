@@ -27,6 +27,7 @@ pub record IsPair {N : Type 0} (h : Held N) (p : Frame) : Type 0 where
   pub left_shape : slice_get h.structures p.left ≡ Some (record { name = name; arguments = arguments_of h p.left })
   pub right_shape : slice_get h.structures p.right ≡ Some (record { name = name; arguments = arguments_of h p.right })
 
+-- pairs, each of two structures of one name and one number of arguments
 abbrev pub ArePairs : {N : Type 0} → Held N → List Frame → Type 0
 ArePairs h [] = Unit {0}
 ArePairs h (p ∷ ps) = IsPair h p × ArePairs h ps

@@ -53,6 +53,7 @@ waits_in Colon fs = 2 + waits_behind fs
 waits_in (Behind a) fs = 1 + waits_behind fs
 waits_in Done fs = 0
 
+-- how many terms a printer waits for
 abbrev pub waits_of : Printer → ℕ
 waits_of p = waits_in p.mode (reverse p.frames.items)
 

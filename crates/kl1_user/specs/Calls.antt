@@ -46,11 +46,12 @@ name_in (integer i) = None
 name_in (atom a) = Some a
 name_in (structure f ts) = Some f
 
--- the goal of a call, as a cell
+-- a goal as a cell: an atom, or a structure where there is one
 abbrev pub cell_in : List ℕ → Option ℕ → Cell (List ℕ)
 cell_in name None = Atom name
 cell_in name (Some s) = Structure s
 
+-- the goal of a call, as a cell
 abbrev pub cell_of : Call → Cell (List ℕ)
 cell_of c = cell_in c.name c.structure
 

@@ -75,6 +75,7 @@ abbrev pub IsTaskIn : Held (List ℕ) → Task → Type 0
 IsTaskIn h Monitor = Unit {0}
 IsTaskIn h (Reduces x) = IsIn h x
 
+-- the cells of goals are of the store
 abbrev pub AreGoalsIn : Held (List ℕ) → List Goal → Type 0
 AreGoalsIn h goals = AllByRecursion (λ g. IsTaskIn h g.task) goals
 
@@ -83,6 +84,7 @@ pub record IsOwned (count : ℕ) (g : Goal) : Type 0 where
   pub low : 0 < g.shoen
   pub high : g.shoen < suc count
 
+-- each goal is of one of so many shoens
 abbrev pub AreOwned : ℕ → List Goal → Type 0
 AreOwned count goals = AllByRecursion (IsOwned count) goals
 
@@ -92,6 +94,7 @@ pub record IsKeptIn (h : Held (List ℕ)) (o : Origin) : Type 0 where
   pub reports : IsIn h o.reports
   pub control : IsIn h o.control
 
+-- the same, where the console keeps something
 abbrev pub IsOriginIn : Held (List ℕ) → Option Origin → Type 0
 IsOriginIn h None = Unit {0}
 IsOriginIn h (Some o) = IsKeptIn h o
@@ -102,6 +105,7 @@ pub record IsShoenIn (h : Held (List ℕ)) (s : Shoen) : Type 0 where
   pub tail : IsIn h s.tail
   pub origin : IsOriginIn h s.origin
 
+-- the cells of shoens are of the store
 abbrev pub AreShoensIn : Held (List ℕ) → List Shoen → Type 0
 AreShoensIn h shoens = AllByRecursion (IsShoenIn h) shoens
 
@@ -110,9 +114,10 @@ abbrev pub AreNumbered : ℕ → List Shoen → Type 0
 AreNumbered last [] = Unit {0}
 AreNumbered last (s ∷ ss) = (s.number ≡ suc last) × AreNumbered (suc last) ss
 
--- each goal stands as the clauses of the modules have it
+-- a goal stands as the clauses of the modules have it
 abbrev pub IsStanding : Held (List ℕ) → List Module → Goal → Type 0
 IsStanding h modules g = g.standing ≡ task_clause modules (task_with (meaning h) g.task)
 
+-- each goal stands as the clauses of the modules have it
 abbrev pub AreStanding : Held (List ℕ) → List Module → List Goal → Type 0
 AreStanding h modules goals = AllByRecursion (IsStanding h modules) goals

@@ -8,6 +8,7 @@ use Rattle.kl1_user.specs.declared.task.Task.TheVariants.{Monitor, Reduces}
 use Rattle.kl1_user.specs.declared.goal.Goal.{Goal}
 use Rattle.kl1_user.specs.Kept.{meaning, task_with, task_clause}
 
+-- whether a task is a monitor's
 abbrev pub is_monitor_task : Task → Bool
 is_monitor_task Monitor = true
 is_monitor_task (Reduces x) = false
