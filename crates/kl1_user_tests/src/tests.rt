@@ -3,11 +3,16 @@
 mod acts;
 mod answers;
 mod clauses;
+mod comparisons;
 mod events;
 mod long_terms;
+mod matching;
 mod names;
+mod plain;
 mod refusals;
 mod reports;
+mod rows;
+mod solving;
 mod texts;
 mod unifications;
 mod unwritable;

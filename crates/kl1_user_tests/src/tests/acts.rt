@@ -13,7 +13,7 @@
 // In source and rows `{COUNT PART}` stands for a part that is repeated.
 
 use super::answers::{is_first, is_stepped};
-use super::events::{fresh, is_loaded, is_reduced, is_start_answered, is_value, run};
+use super::events::{fresh, is_loaded, is_reduced, is_started, is_value_of, run};
 use super::texts::{cut, expanded, is_counted, number_of};
 use kl1_user::UserState;
 use std::alloc::Global;
@@ -26,11 +26,11 @@ fn is_right(alloc: Global, user: &mut UserState, source: &[u8], act: &[u8], want
             let source = if words.is_empty() { source } else { words };
             is_loaded(alloc, user, source, wanted)
         }
-        b"start" => is_start_answered(alloc, user, words, wanted),
+        b"start" => is_started(alloc, user, words, wanted),
         b"reduce" => is_reduced(user, words, wanted),
         b"step" => is_stepped(user, wanted),
         b"run" => is_counted(wanted, b"+ ", run(user, number_of(words))),
-        b"value" => is_value(user, words, wanted),
+        b"value" => is_value_of(user, number_of(words), wanted),
         b"first" => is_first(user, wanted),
         _ => false,
     }

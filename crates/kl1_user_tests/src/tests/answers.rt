@@ -51,17 +51,44 @@ pub(super) fn is_stepped(user: &mut UserState, wanted: &[u8]) -> bool {
     }
 }
 
+/// Whether the first goal and its clause have these numbers, or the goal's is 0 and there is none.
+pub(super) fn is_first_by(user: &UserState, first: u64, second: u64) -> bool {
+    match user.pick() {
+        None => first == 0 && user.quiet(),
+        Some((goal, clause)) => goal.0 == first && clause.0 == second && !user.quiet(),
+    }
+}
+
 /// Whether the first goal and its clause are those of a text such as `2 by 1`, or the text is `quiet` and there is none.
 pub(super) fn is_first(user: &UserState, wanted: &[u8]) -> bool {
-    match user.pick() {
-        None => user.quiet() && wanted == b"quiet".as_slice(),
-        Some((goal, clause)) => {
-            let (first, behind) = cut(wanted, b' ');
-            let (by, second) = cut(behind, b' ');
-            let is_said = by == b"by".as_slice()
-                && number_of(first) == goal.0
-                && number_of(second) == clause.0;
-            is_said && !user.quiet()
-        }
+    if wanted == b"quiet".as_slice() {
+        return is_first_by(user, 0, 0);
+    }
+    let (goal, behind) = cut(wanted, b' ');
+    let (by, clause) = cut(behind, b' ');
+    by == b"by".as_slice() && is_first_by(user, number_of(goal), number_of(clause))
+}
+
+/// Whether an account answers an event by the shoen of a number.
+pub(super) fn is_opened(user: &mut UserState, event: &Event, number: u64) -> bool {
+    match user.apply(event) {
+        Ok(Reply::Opened(shoen)) => shoen.0 == number,
+        _ => false,
+    }
+}
+
+/// Whether a reply is that a module is loaded.
+fn is_loading(reply: &Reply) -> bool {
+    match reply {
+        Reply::Loaded(_name) => true,
+        _ => false,
+    }
+}
+
+/// Whether an account answers an event by a module that is loaded.
+pub(super) fn is_module_loaded(user: &mut UserState, event: &Event) -> bool {
+    match user.apply(event) {
+        Ok(reply) => is_loading(&reply),
+        Err(_refused) => false,
     }
 }

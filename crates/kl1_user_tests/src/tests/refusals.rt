@@ -56,6 +56,15 @@ fn a_bad_source_is_told_by_its_line(rt: HostRuntime) {
 }
 
 #[test]
+fn names_have_63_bytes_at_most(rt: HostRuntime) {
+    let rows: &[u8] = b"\
+        load :- module z.\nq(b).\np({64 a}).\n#- 2 source 3;\
+        load :- module z.\nq(b).\np({63 a}).\n#+ loaded z;\
+    ";
+    assert_eq!(rt; right(rt.alloc(), b"", rows), Some(2));
+}
+
+#[test]
 fn a_module_is_loaded_once(rt: HostRuntime) {
     let rows: &[u8] = b"\
         load#+ loaded app;\

@@ -57,3 +57,15 @@ fn a_failure_stops_nothing_else(rt: HostRuntime) {
     ";
     assert_eq!(rt; right(rt.alloc(), FAILURE, rows), Some(4));
 }
+
+#[test]
+fn names_that_are_not_bare(rt: HostRuntime) {
+    let rows: &[u8] = b"\
+        start 10 0 10 X = ''#+ shoen 1;\
+        start 10 0 10 X = '[]'(a)#+ shoen 2;\
+        run 10#+ 2;\
+        value 1#+ '='('','');\
+        value 2#+ '='('[]'(a),'[]'(a));\
+    ";
+    assert_eq!(rt; right(rt.alloc(), b"", rows), Some(5));
+}

@@ -1,6 +1,7 @@
 // Starts of terms that no text of a goal can write.
 
-use super::events::{fresh, is_started};
+use super::answers::is_answered;
+use super::events::{fresh, start_event};
 use kl1_term::Term;
 use kl1_text::AtomText;
 use std::alloc::Global;
@@ -8,7 +9,7 @@ use std::alloc::Global;
 /// Whether the start of a goal is answered so.
 fn is_term_answered(alloc: Global, goal: Term, wanted: &[u8]) -> bool {
     match fresh(alloc) {
-        Some(mut user) => is_started(&mut user, 10, 0, 10, goal, wanted),
+        Some(mut user) => is_answered(&mut user, &start_event(10, 0, 10, goal), wanted),
         None => false,
     }
 }
