@@ -42,6 +42,26 @@ fn has_module(modules: &[Code], name: &AtomText) -> bool
     false
 }
 
+/// Puts a module behind the others, and its names to those that are used.
+fn put_code(
+    modules: &mut Vec<Code>,
+    names: &mut Vec<AtomText>,
+    code: Code,
+) -> Result<(), AllocError>
+    ensures modules { OnOk result (modules.new.items ≡ modules.old.items ++ code ∷ []) }
+    ensures names { OnOk result (names.new.items ≡ with_names names.old.items (names_of_module code)) }
+    ensures modules_err { OnErr result (modules.new.items ≡ modules.old.items) }
+    ensures names_err { OnErr result (names.new.items ≡ names.old.items) }
+{
+    let before = names.len();
+    use_module(names, &code)?;
+    if modules.push(code).is_err() {
+        names.truncate(before);
+        return Err(AllocError);
+    }
+    Ok(())
+}
+
 /// Puts a module behind the others, its names to those that are used, and gives the goals, each with the clause by which it
 /// can step then.
 fn put_module(
@@ -61,11 +81,7 @@ fn put_module(
 {
     let many = modules.len();
     let before = names.len();
-    use_module(names, &code)?;
-    if modules.push(code).is_err() {
-        names.truncate(before);
-        return Err(AllocError);
-    }
+    put_code(modules, names, code)?;
     let after = standing_goals(alloc, store, modules.as_slice(), goals);
     if after.is_err() {
         modules.truncate(many);

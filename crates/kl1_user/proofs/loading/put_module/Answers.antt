@@ -6,11 +6,6 @@ use Rattle.kl1_user.proofs.loading.put_module.Goals as goal
 pub returns-then-is_err-clause-names_err : goal.returns-then-is_err-clause-names_err
 returns-then-is_err-clause-names_err c =
     let e : c.len-before.result ≡ length c.args.names.now.items = search rules in
-    c.truncate.ensures.items ∙ front_is c.args.names.now.items (names_of_module c.args.code) c.use_module.new.names.items c.len-before.result c.in_ok-use_module.ensures.ok e
-
-pub returns-then-is_err-2-clause-names_err : goal.returns-then-is_err-2-clause-names_err
-returns-then-is_err-2-clause-names_err c =
-    let e : c.len-before.result ≡ length c.args.names.now.items = search rules in
-    let same : c.truncate-then-is_err-2-2.new.self.items ≡ c.args.names.now.items =
-    c.truncate-then-is_err-2-2.ensures.items ∙ front_is c.args.names.now.items (names_of_module c.args.code) c.use_module.new.names.items c.len-before.result c.in_ok-use_module.ensures.ok e in
+    let same : c.truncate-then-is_err.new.self.items ≡ c.args.names.now.items =
+    c.truncate-then-is_err.ensures.items ∙ front_is c.args.names.now.items (names_of_module c.args.code) c.put_code.new.names.items c.len-before.result c.in_ok-put_code.ensures.names e in
     search (same, rules)
