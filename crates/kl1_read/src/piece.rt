@@ -1,6 +1,6 @@
 // A term that is being read.
 
-ghost use Rattle.std.specs.Prelude.{◌≡◌, ◌≢◌, ℕ, ◌≤◌, List, ◌++◌, map, reverse, vec_len, IfOk, OnOk, IsTrue};
+ghost use Rattle.std.specs.Prelude.{◌≡◌, ◌≢◌, ℕ, ◌≤◌, ◌<◌, true, false, List, ◌++◌, map, reverse, vec_len, IfOk, OnOk, IsTrue};
 ghost use Rattle.kl1_model.specs.Term.{variable, integer, atom, structure, terms_of};
 ghost use Rattle.kl1_model.specs.TermCode.{nodes_of};
 ghost use Rattle.kl1_model.specs.Meaning.{Depth, pair, cells, depth, is_narrow, is_writable, pair_depth};
@@ -99,7 +99,7 @@ impl Piece {
             rest: second_rest,
         } = second;
         let (whole, rest) = pair_depth(name, first_whole, second_whole, second_rest);
-        if whole > 256 {
+        if is_too_deep(whole) {
             return Ok(None);
         }
         let mut nodes = behind;
@@ -204,7 +204,7 @@ impl Piece {
         if arguments.len() == 0 {
             return Ok(None);
         }
-        if arguments.len() > 8 {
+        if are_too_many(arguments.len()) {
             return Ok(None);
         }
         if arguments.len() == 2 {
@@ -254,6 +254,22 @@ impl Piece {
             rest: deepest + 1,
         }))
     }
+}
+
+/// Whether no text can write a term that is so deep.
+fn is_too_deep(depth: u64) -> bool
+    ensures deep { result ≡ true → 256 < depth }
+    ensures low { result ≡ false → depth ≤ 256 }
+{
+    depth > 256
+}
+
+/// Whether no text can write so many arguments.
+fn are_too_many(count: usize) -> bool
+    ensures many { result ≡ true → 8 < count }
+    ensures few { result ≡ false → count ≤ 8 }
+{
+    count > 8
 }
 
 /// How many nodes the cells of these elements take.
