@@ -1,12 +1,8 @@
 //! What clauses make of goals: verdicts of heads, and instances of bodies, over cells.
 #![tactic(auto)]
 
-#[cfg(test)]
-mod answers;
 mod arguments;
 mod building;
-#[cfg(test)]
-mod cases;
 mod goals;
 mod instances;
 mod meets;
@@ -15,8 +11,6 @@ mod name_in;
 mod place;
 mod skips;
 mod step;
-#[cfg(test)]
-mod tests;
 mod variables;
 mod verdict;
 mod verdicts;

@@ -96,13 +96,37 @@ fn new_variables_in_order_of_first_use(rt: HostRuntime) -> Result<(), Fail> {
 }
 
 #[test]
-fn goals_with_their_variables_in_order(rt: HostRuntime) -> Result<(), Fail> {
+fn goals_take_the_next_variables_in_order(rt: HostRuntime) -> Result<(), Fail> {
     let cases = b"\
-        m:p(X,Y,X,[Z|Y])#built ':'/2 m p/4 _1 _2 _1 '.'/2 _3 _2;\
-        X = 1#built '='/2 _1 1;\
-        true#built true;\
+        true?m:p(X,Y,X,[Z|Y])#built ':'/2 m p/4 _1 _2 _1 '.'/2 _3 _2;\
+        true?X = 1#built '='/2 _1 1;\
+        X = 1?true#built true;\
+        m:p(X,Y)?m:q(Z,f(X,Z),-7,a)#built ':'/2 m q/4 _3 f/2 _4 _3 -7 a;\
     ";
-    assert_eq!(rt; right(&rt, Kind::Goal, cases)?, 3);
+    assert_eq!(rt; right(&rt, Kind::Goal, cases)?, 4);
+    Ok(())
+}
+
+#[test]
+fn variables_that_were_bound_are_what_they_were_bound_to(rt: HostRuntime) -> Result<(), Fail> {
+    let cases = b"\
+        :- module e. p(7,7).?e:p(X,X)#accepts true;\
+        :- module e. p(8).?e:p(X)#rejects;\
+        :- module e. p(f(7),_).?e:p(f(X),Y)#accepts true;\
+        :- module e. p(X) :- true | q(X).?e:p(Y)#accepts ':'/2 e q/1 7;\
+    ";
+    assert_eq!(rt; right(&rt, Kind::Bound, cases)?, 4);
+    Ok(())
+}
+
+#[test]
+fn places_in_the_order_of_the_variables(rt: HostRuntime) -> Result<(), Fail> {
+    let cases = b"\
+        :- module e. p(f(X,[A|B]),R) :- true | R = g(B,A,X).?e:p(f(1,[2,3]),R)#accepts 1 1 2 2 3 '.'/2 3 [] 4 _1;\
+        :- module e. p(_,X,_).?e:p(a,b,Y)#accepts 1 a 2 b 3 _1;\
+        :- module e. p(a).?e:p(a)#accepts;\
+    ";
+    assert_eq!(rt; right(&rt, Kind::Places, cases)?, 3);
     Ok(())
 }
 
@@ -111,6 +135,16 @@ fn long_lists_are_built(rt: HostRuntime) -> Result<(), Fail> {
     let cases = b"\
         :- module e. p(X) :- true | q(X).?e:p([{29999 1,}1])#accepts ':'/2 e q/1 {30000 '.'/2 1 }[];\
         :- module e. p(X) :- true | q([{29999 X,}X]).?e:p(1)#accepts ':'/2 e q/1 {30000 '.'/2 1 }[];\
+    ";
+    assert_eq!(rt; right(&rt, Kind::Clause, cases)?, 2);
+    Ok(())
+}
+
+#[test]
+fn long_lists_are_matched(rt: HostRuntime) -> Result<(), Fail> {
+    let cases = b"\
+        :- module e. p([{29999 a,}a]).?e:p([{29999 a,}a])#accepts true;\
+        :- module e. p([{29999 a,}a]).?e:p([{29999 _,}b])#rejects;\
     ";
     assert_eq!(rt; right(&rt, Kind::Clause, cases)?, 2);
     Ok(())
