@@ -5,9 +5,9 @@ use Rattle.std.specs.Prelude.{Ok, Err}
 use Rattle.std.specs.declared.result.Result.{Result}
 use Rattle.std.specs.Io.KnownBytes.{Appends}
 use Rattle.kl1_model.specs.State.{State}
-use Rattle.kl1_model.specs.Script.{Record, record_first, line_in, behind_feed, words_of, accounts_in, records_of, written_line, written_records}
-use Rattle.kl1_lines.specs.Devices.{AppendsFront, PassesOn}
-use Rattle.kl1_script.specs.Scripts.{Ends, Stops, StopsBefore, Finishes, IsFirstOf, first_written}
+use Rattle.kl1_model.specs.Script.{Record, record_first, line_in, behind_feed, words_of, accounts_in, records_of, written_from, written_line, written_records}
+use Rattle.kl1_lines.specs.Devices.{PassesOn}
+use Rattle.kl1_script.specs.Scripts.{Closes, Ends, Fails, Stops, StopsBefore, Finishes, IsFirstOf, first_written}
 use Rattle.kl1_script.specs.Told.{state_by, told_by}
 use Rattle.kl1_lines.specs.declared.script_fault.ScriptFault.{ScriptFault}
 use Rattle.kl1_lines.specs.declared.script_fault.ScriptFault.TheVariants as faults
@@ -37,50 +37,52 @@ more_done old now after accounts name text rest behind user next out more left r
       progress = subst P same done;
     }
 
--- a record more, of whose bytes none were passed on yet
-pub more_told : (old now : Option (List ℕ)) (accounts : List (List ℕ)) (name text rest behind : List ℕ) (user next : State) (out more : List ℕ) (r : Record) → IsFirstOf name accounts → Underway old now accounts name text rest user out → records_of rest ≡ record_first r (records_of behind) → next ≡ state_by accounts user r → more ≡ out ++ told_by accounts user r → Underway old now accounts name text behind next more
-more_told old now accounts name text rest behind user next out more r first u is state told =
-    more_done old now now accounts name text rest behind user next out more more r first u is state told (record { passed = []; appends = appends_none now; same = refl })
+-- no more bytes were written, and memory was refused, or a write failed
+pub stop_fails : (old new : Option (List ℕ)) (f g : ℕ) (waiting more : List ℕ) (fault : ScriptFault) → Stops old new f g waiting fault → Fails old new f g waiting more fault
+stop_fails old new f g waiting more faults.Memory s = s
+stop_fails old new f g waiting more faults.Write s = (front_behind old old new [] waiting more (waiting ++ more) (appends_none old) s.0 refl, s.1)
+stop_fails old new f g waiting more faults.Read s = absurd s
+stop_fails old new f g waiting more faults.TooLong s = absurd s
 
--- memory was refused, and the last bytes were written, or some of them
-stops_with : (T : Type 0) (old now after : Option (List ℕ)) (f g : ℕ) (accounts : List (List ℕ)) (name text rest : List ℕ) (user : State) (out : List ℕ) (fault : ScriptFault) → Underway old now accounts name text rest user out → Stops now after f g out fault → Ends {T = T} old after f g (written_records accounts (records_of text)) (λ n. first_written n (Some accounts) (records_of text).list) (Err fault)
-stops_with T old now after f g accounts name text rest user out faults.Memory u s =
+-- the last bytes are those that wait, and more
+pub finish_closes : {T : Type 0} (r : Result T ScriptFault) (old new : Option (List ℕ)) (f g : ℕ) (waiting more : List ℕ) → Finishes old new f g (waiting ++ more) r → Closes old new f g waiting more r
+finish_closes (Ok x) old new f g waiting more s = s
+finish_closes (Err faults.Memory) old new f g waiting more s = absurd s
+finish_closes (Err faults.Write) old new f g waiting more s = s
+finish_closes (Err faults.Read) old new f g waiting more s = absurd s
+finish_closes (Err faults.TooLong) old new f g waiting more s = absurd s
+
+-- memory was refused behind the records that are done, or a write failed, and these bytes and the others are the output
+fails_by : (T : Type 0) (old now after : Option (List ℕ)) (f g : ℕ) (accounts : List (List ℕ)) (name text rest : List ℕ) (user : State) (out more others : List ℕ) (fault : ScriptFault) → (u : Underway old now accounts name text rest user out) → (u.passed ++ (out ++ more)) ++ others ≡ written_records accounts (records_of text) → Fails now after f g out more fault → Ends {T = T} old after f g (written_records accounts (records_of text)) (λ n. first_written n (Some accounts) (records_of text).list) (Err fault)
+fails_by T old now after f g accounts name text rest user out more others faults.Memory u all s =
     let P : List ℕ → Type 0 = λ x. Appends old after x in
     ((length u.progress.before, subst P (told_some accounts name text rest user (u.passed ++ out) u.progress) (appends_both old now after u.passed out u.appends s.0)), s.1)
-stops_with T old now after f g accounts name text rest user out faults.Write u s =
-    (front_behind old now after u.passed out _ (written_records accounts (records_of text)) u.appends s.0 (told_first accounts name text rest user (u.passed ++ out) u.progress), s.1)
-stops_with T old now after f g accounts name text rest user out faults.Read u s = absurd s
-stops_with T old now after f g accounts name text rest user out faults.TooLong u s = absurd s
+fails_by T old now after f g accounts name text rest user out more others faults.Write u all s =
+    (front_behind old now after u.passed (out ++ more) others (written_records accounts (records_of text)) u.appends s.0 all, s.1)
+fails_by T old now after f g accounts name text rest user out more others faults.Read u all s = absurd s
+fails_by T old now after f g accounts name text rest user out more others faults.TooLong u all s = absurd s
 
--- so where these are the last bytes, and no write had failed
-pub stops_there : (T : Type 0) (old now after : Option (List ℕ)) (f h g : ℕ) (accounts : List (List ℕ)) (name text rest : List ℕ) (user : State) (out last : List ℕ) (fault : ScriptFault) → Underway old now accounts name text rest user out → h ≡ f → last ≡ out → Stops now after h g last fault → Ends {T = T} old after f g (written_records accounts (records_of text)) (λ n. first_written n (Some accounts) (records_of text).list) (Err fault)
-stops_there T old now after f h g accounts name text rest user out last fault u e same s =
-    let P : ℕ → Type 0 = λ x. Stops now after x g last fault in
-    let Q : List ℕ → Type 0 = λ x. Stops now after f g x fault in
-    stops_with T old now after f g accounts name text rest user out fault u (subst Q same (subst P e s))
-
--- a write failed behind a record
-pub breaks_off : (old now after : Option (List ℕ)) (accounts : List (List ℕ)) (name text rest : List ℕ) (user : State) (out : List ℕ) → Underway old now accounts name text rest user out → AppendsFront now after out → AppendsFront old after (written_records accounts (records_of text))
-breaks_off old now after accounts name text rest user out u s =
-    front_behind old now after u.passed out _ (written_records accounts (records_of text)) u.appends s (told_first accounts name text rest user (u.passed ++ out) u.progress)
-
--- the last bytes are written, or some of them
-pub ends_by : {T : Type 0} (r : Result T ScriptFault) (old now after : Option (List ℕ)) (f g : ℕ) (passed last all : List ℕ) (front : ℕ → List ℕ) → Appends old now passed → passed ++ last ≡ all → Finishes now after f g last r → Ends old after f g all front r
-ends_by (Ok x) old now after f g passed last all front h e s =
-    let P : List ℕ → Type 0 = λ y. Appends old after y in
-    (subst P e (appends_both old now after passed last h s.0), s.1)
-ends_by (Err faults.Memory) old now after f g passed last all front h e s = absurd s
-ends_by (Err faults.Write) old now after f g passed last all front h e s =
-    (front_behind old now after passed last [] all h s.0 (append-nil (passed ++ last) ∙ e), s.1)
-ends_by (Err faults.Read) old now after f g passed last all front h e s = absurd s
-ends_by (Err faults.TooLong) old now after f g passed last all front h e s = absurd s
+-- so at a record
+pub fails_there : (T : Type 0) (old now after : Option (List ℕ)) (f h g : ℕ) (accounts : List (List ℕ)) (name text rest behind : List ℕ) (user : State) (out : List ℕ) (r : Record) (fault : ScriptFault) → IsFirstOf name accounts → Underway old now accounts name text rest user out → h ≡ f → records_of rest ≡ record_first r (records_of behind) → Fails now after h g out (told_by accounts user r) fault → Ends {T = T} old after f g (written_records accounts (records_of text)) (λ n. first_written n (Some accounts) (records_of text).list) (Err fault)
+fails_there T old now after f h g accounts name text rest behind user out r fault first u kept is s =
+    let P : ℕ → Type 0 = λ x. Fails now after x g out (told_by accounts user r) fault in
+    let done = goes_on accounts name text rest behind user (state_by accounts user r) (u.passed ++ out) r first u.progress is refl in
+    let others : List ℕ = written_from accounts done.before (records_of behind).list ++ (if (records_of behind).is_truncated then written_line (codes "! truncated") else []) in
+    let all = ap (λ x. x ++ others) (sym (append_assoc u.passed out (told_by accounts user r))) ∙ told_first accounts name text behind (state_by accounts user r) ((u.passed ++ out) ++ told_by accounts user r) done in
+    fails_by T old now after f g accounts name text rest user out (told_by accounts user r) others fault u all (subst P kept s)
 
 -- no record is left, and the last bytes are written, or some of them
-pub ends_here : {T : Type 0} (r : Result T ScriptFault) (old now after : Option (List ℕ)) (f h g : ℕ) (accounts : List (List ℕ)) (name text rest : List ℕ) (user : State) (out last : List ℕ) (front : ℕ → List ℕ) (v : Bool) → Underway old now accounts name text rest user out → h ≡ f → records_of rest ≡ record { list = []; is_truncated = v } → last ≡ out ++ (if v then written_line (codes "! truncated") else []) → Finishes now after h g last r → Ends old after f g (written_records accounts (records_of text)) front r
-ends_here r old now after f h g accounts name text rest user out last front v u kept e same s =
-    let P : ℕ → Type 0 = λ x. Finishes now after x g last r in
-    let all = ap (λ x. u.passed ++ x) same ∙ sym (append_assoc u.passed out _) ∙ told_all accounts name text rest user (u.passed ++ out) v u.progress e in
-    ends_by r old now after f g u.passed last (written_records accounts (records_of text)) front u.appends all (subst P kept s)
+pub ends_here : {T : Type 0} (r : Result T ScriptFault) (old now after : Option (List ℕ)) (f h g : ℕ) (accounts : List (List ℕ)) (name text rest : List ℕ) (user : State) (out : List ℕ) (v : Bool) → Underway old now accounts name text rest user out → h ≡ f → records_of rest ≡ record { list = []; is_truncated = v } → Closes now after h g out (if v then written_line (codes "! truncated") else []) r → Ends old after f g (written_records accounts (records_of text)) (λ n. first_written n (Some accounts) (records_of text).list) r
+ends_here (Ok x) old now after f h g accounts name text rest user out v u kept e s =
+    let end : List ℕ = if v then written_line (codes "! truncated") else [] in
+    let P : List ℕ → Type 0 = λ y. Appends old after y in
+    let all = sym (append_assoc u.passed out end) ∙ told_all accounts name text rest user (u.passed ++ out) v u.progress e in
+    (subst P all (appends_both old now after u.passed (out ++ end) u.appends s.0), s.1 ∙ kept)
+ends_here {T} (Err fault) old now after f h g accounts name text rest user out v u kept e s =
+    let end : List ℕ = if v then written_line (codes "! truncated") else [] in
+    let P : ℕ → Type 0 = λ x. Fails now after x g out end fault in
+    let all = append-nil (u.passed ++ (out ++ end)) ∙ sym (append_assoc u.passed out end) ∙ told_all accounts name text rest user (u.passed ++ out) v u.progress e in
+    fails_by T old now after f g accounts name text rest user out end [] fault u all (subst P kept s)
 
 none_first : (accounts : Option (List (List ℕ))) (records : List Record) → first_written 0 accounts records ≡ []
 none_first None records = refl

@@ -1,10 +1,10 @@
 -- What a script's run reads and writes.
-use Rattle.std.specs.Prelude.{◌≡◌, ℕ, ◌<◌, List, [], ◌∷◌, take, Some, None, Ok, Err}
+use Rattle.std.specs.Prelude.{◌≡◌, ℕ, ◌<◌, List, [], ◌∷◌, ◌++◌, take, Some, None, Ok, Err}
 use Rattle.std.specs.declared.option.Option.{Option}
 use Rattle.std.specs.declared.result.Result.{Result}
 use Rattle.std.specs.Io.KnownBytes.{Appends}
 use Rattle.kl1_model.specs.Script.{Record, line_in, behind_feed, words_of, accounts_in, records_of, written_from, output}
-use Rattle.kl1_lines.specs.Devices.{IsLeft, IsWhole, AppendsFront}
+use Rattle.kl1_lines.specs.Devices.{IsLeft, IsWhole, AppendsFront, PassesOn}
 use Rattle.kl1_lines.specs.declared.script_fault.ScriptFault.{ScriptFault}
 use Rattle.kl1_lines.specs.declared.script_fault.ScriptFault.TheVariants as faults
 
@@ -59,6 +59,23 @@ Stops old new f g bytes faults.Memory = Appends old new bytes × (g ≡ f)
 Stops old new f g bytes faults.Write = AppendsFront old new bytes × (f < g)
 Stops old new f g bytes faults.Read = ⊥
 Stops old new f g bytes faults.TooLong = ⊥
+
+-- why more bytes were not written behind those that wait: memory was refused, and those that wait were written; or a write failed
+abbrev pub Fails : Option (List ℕ) → Option (List ℕ) → ℕ → ℕ → List ℕ → List ℕ → ScriptFault → Type 0
+Fails old new f g waiting more faults.Memory = Appends old new waiting × (g ≡ f)
+Fails old new f g waiting more faults.Write = AppendsFront old new (waiting ++ more) × (f < g)
+Fails old new f g waiting more faults.Read = ⊥
+Fails old new f g waiting more faults.TooLong = ⊥
+
+-- more bytes were put behind those that wait, and of all these some were passed on, and the others wait; or that failed
+abbrev pub Passes : {T : Type 0} → Option (List ℕ) → Option (List ℕ) → ℕ → ℕ → List ℕ → List ℕ → List ℕ → Result T ScriptFault → Type 0
+Passes old new f g waiting more left (Ok x) = PassesOn old new (waiting ++ more) left × (g ≡ f)
+Passes old new f g waiting more left (Err fault) = Fails old new f g waiting more fault
+
+-- the bytes that wait were written, and more; or that failed
+abbrev pub Closes : {T : Type 0} → Option (List ℕ) → Option (List ℕ) → ℕ → ℕ → List ℕ → List ℕ → Result T ScriptFault → Type 0
+Closes old new f g waiting more (Ok x) = Appends old new (waiting ++ more) × (g ≡ f)
+Closes old new f g waiting more (Err fault) = Fails old new f g waiting more fault
 
 -- a name is the first of these
 abbrev pub IsFirstOf : List ℕ → List (List ℕ) → Type 0

@@ -1,17 +1,20 @@
 // A script, from its bytes to what is written for it.
 
-ghost use Rattle.std.specs.Prelude.{◌≡◌, ◌<◌, ℕ, List, length, Some, OnOk, IsErrOf, codes};
+ghost use Rattle.std.specs.Prelude.{◌≡◌, ◌<◌, ℕ, List, [], length, Some, OnOk, IsErrOf, codes, if◌then◌else◌};
 ghost use Rattle.std.specs.Io.KnownBytes.{Consumes, Appends};
 ghost use Rattle.kl1_model.specs.Script.{output, records_of, written_line, written_records};
 ghost use Rattle.kl1_lines.specs.Devices.{ReadsFew};
-ghost use Rattle.kl1_script.specs.Scripts.{Answered, BreaksOff, Ends, Finishes, IsFirstOf, StopsBefore, Stops, first_written, front_of};
+ghost use Rattle.kl1_script.specs.Scripts.{Answered, BreaksOff, Closes, Ends, Finishes, IsFirstOf, Passes, StopsBefore, Stops, first_written, front_of};
+ghost use Rattle.kl1_model.specs.State.{fresh};
+ghost use Rattle.kl1_script.specs.Told.{state_by, told_by};
+ghost use Rattle.kl1_lines.specs.Records.{command_of};
 ghost use Rattle.kl1_lines.specs.declared.script_fault.ScriptFault.TheVariants as faults;
 
 use crate::accounts::accounts_in;
 use crate::answers::put_record;
 use kl1_lines::{
-    NextRecord, ScriptFault, Sink, Source, finish, next_record, pass_on, put_truncated, read_all,
-    split_line,
+    NextRecord, Record, ScriptFault, Sink, Source, finish, next_record, pass_on, put_truncated,
+    read_all, split_line,
 };
 use kl1_user::{AccountName, UserState};
 use std::alloc::Global;
@@ -73,34 +76,81 @@ fn answer_records<W: Sink>(
     requires { IsFirstOf first accounts.now }
     ensures { Ends (W.contents sink.old) (W.contents sink.new) (W.failures sink.old) (W.failures sink.new) (written_records accounts.now (records_of text.now)) (λ n. first_written n (Some accounts.now) (records_of text.now).list) result }
 {
-    let Ok(mut user) = UserState::fresh(alloc, first) else {
-        return Err(ScriptFault::Memory);
-    };
+    match UserState::fresh(alloc, first) {
+        Ok(user) => {
+            let mut user = user;
+            answer_each(alloc, accounts, first, &mut user, text, sink)
+        }
+        Err(_) => Err(ScriptFault::Memory),
+    }
+}
+
+/// Writes what is written for the records of a text, where the account that is served is fresh.
+fn answer_each<W: Sink>(
+    alloc: Global,
+    accounts: &[AccountName],
+    first: AccountName,
+    user: &mut UserState,
+    text: &[u8],
+    sink: &mut W,
+) -> Result<(), ScriptFault>
+    requires first { IsFirstOf first accounts.now }
+    requires fresh { user.now ≡ fresh first }
+    ensures { Ends (W.contents sink.old) (W.contents sink.new) (W.failures sink.old) (W.failures sink.new) (written_records accounts.now (records_of text.now)) (λ n. first_written n (Some accounts.now) (records_of text.now).list) result }
+{
     let mut out = Vec::new(alloc);
     let mut rest = text;
     'records: loop {
         match next_record(rest) {
             NextRecord::Found(record) => {
-                match put_record(alloc, accounts, &mut user, record, &mut out) {
-                    Ok(()) => (),
-                    Err(_) => return Err(stop(sink, out.as_slice())),
+                match answer_record(alloc, accounts, user, record, &mut out, sink) {
+                    Ok(()) => rest = record.rest,
+                    Err(fault) => return Err(fault),
                 }
-                match pass_on(sink, &mut out) {
-                    Ok(()) => (),
-                    Err(_) => return Err(ScriptFault::Write),
-                }
-                rest = record.rest;
             }
-            NextRecord::Truncated => {
-                match put_truncated(&mut out) {
-                    Ok(()) => (),
-                    Err(_) => return Err(stop(sink, out.as_slice())),
-                }
-                return finish_all(sink, out.as_slice());
-            }
-            NextRecord::End => return finish_all(sink, out.as_slice()),
+            NextRecord::Truncated => return finish_records(sink, &mut out, true),
+            NextRecord::End => return finish_records(sink, &mut out, false),
         }
     }
+}
+
+/// Does the command of a record, and puts what is written for it behind the bytes that wait, which are written where they
+/// are many, or where memory is refused.
+fn answer_record<W: Sink>(
+    alloc: Global,
+    accounts: &[AccountName],
+    user: &mut UserState,
+    found: Record<'_>,
+    out: &mut Vec<u8>,
+    sink: &mut W,
+) -> Result<(), ScriptFault>
+    ensures user { OnOk result (user.new ≡ state_by accounts.now user.old (record { name = found.entry.name.now; command = command_of found.entry.command })) }
+    ensures bytes { Passes (W.contents sink.old) (W.contents sink.new) (W.failures sink.old) (W.failures sink.new) out.old.items (told_by accounts.now user.old (record { name = found.entry.name.now; command = command_of found.entry.command })) out.new.items result }
+{
+    match put_record(alloc, accounts, user, found, out) {
+        Ok(()) => match pass_on(sink, out) {
+            Ok(()) => Ok(()),
+            Err(_) => Err(ScriptFault::Write),
+        },
+        Err(_) => Err(stop(sink, out.as_slice())),
+    }
+}
+
+/// Writes the bytes that wait, and the line of a script that ends in the middle of a load.
+fn finish_records<W: Sink>(
+    sink: &mut W,
+    out: &mut Vec<u8>,
+    is_truncated: bool,
+) -> Result<(), ScriptFault>
+    ensures { Closes (W.contents sink.old) (W.contents sink.new) (W.failures sink.old) (W.failures sink.new) out.old.items (if is_truncated then written_line (codes "! truncated") else []) result }
+{
+    if is_truncated {
+        match put_truncated(out) {
+            Ok(()) => (),
+            Err(_) => return Err(stop(sink, out.as_slice())),
+        }
+    }
+    finish_all(sink, out.as_slice())
 }
 
 /// Writes the last bytes.

@@ -1,6 +1,6 @@
 use Rattle.std.proofs.Common.{◌≡◌, length}
 use Rattle.kl1_script.proofs.Endings.{Underway}
-use Rattle.kl1_script.proofs.scripts.answer_records.Given as goal
+use Rattle.kl1_script.proofs.scripts.answer_each.Given as goal
 
 -- the records before the rest are done, and no write failed
 abbrev pub invariant-records : goal.invariant-records
