@@ -40,7 +40,7 @@ series_read ts = answer_map (λ s. list_of (series_terms s)) (series_at reading 
 abbrev pub Going : Type 0
 Going = Term → List grammar.Numbered → Answer (List Term)
 
--- goes on with a part, or with the relation of it and the part behind, where a relation was read
+-- goes on with a part, or, where a relation was read, with the structure of it and the part behind
 abbrev pub after_relation : Going → Term → List grammar.Numbered → Answer Relation → Answer (List Term)
 after_relation k p ts None = k p ts
 after_relation k p ts (Some r) = then_read (part_read r.1) (λ q us. k (pair (relation_name r.0) p q) us)

@@ -25,11 +25,11 @@ pub record Statement : Type 0 where
   pub tests : List Term
   pub body : List Term
 
--- the head that the terms of a head are
+-- a head that was read: its name and its arguments in a list
 abbrev pub heading_of : HeadTerms → Heading
 heading_of h = record { name = h.name; arguments = h.arguments.items }
 
--- the clause that the terms of a clause are
+-- a clause that was read: its head, its tests and its body in lists
 abbrev pub statement_of : ClauseTerms → Statement
 statement_of c = record { heading = heading_of c.head; tests = c.tests.items; body = c.body.items }
 
