@@ -1,6 +1,6 @@
 // Where what is written goes.
 
-ghost use Rattle.std.specs.Prelude.{◌≡◌, ◌<◌, ◌≤◌, ℕ, List, length, take, IfOk, OnOk, OnErr};
+ghost use Rattle.std.specs.Prelude.{◌≡◌, ◌+◌, ℕ, List, length, take, IfOk, OnOk, OnErr};
 ghost use Rattle.std.specs.declared.option.Option.{Option};
 ghost use Rattle.std.specs.Io.KnownBytes.{Appends, Keeps};
 ghost use Rattle.kl1_lines.specs.Devices.{known_while, failures_of, Takes, KeepsIfKnown};
@@ -20,14 +20,14 @@ pub trait Sink {
     fn write(&mut self, bytes: &[u8]) -> Result<usize, DeviceFailed>
         ensures ok { IfOk result (λ n. Takes (contents self.old) (contents self.new) n bytes.now) }
         ensures kept { OnOk result (failures self.new ≡ failures self.old) }
-        ensures failed { OnErr result (failures self.old < failures self.new) }
+        ensures failed { OnErr result (failures self.new ≡ failures self.old + 1) }
         ensures same { OnErr result (KeepsIfKnown (contents self.old) (contents self.new)) };
 
     /// Sees that what was written goes on its way.
     fn flush(&mut self) -> Result<(), DeviceFailed>
         ensures ok { OnOk result (Keeps (contents self.old) (contents self.new)) }
         ensures kept { OnOk result (failures self.new ≡ failures self.old) }
-        ensures failed { OnErr result (failures self.old < failures self.new) }
+        ensures failed { OnErr result (failures self.new ≡ failures self.old + 1) }
         ensures same { OnErr result (KeepsIfKnown (contents self.old) (contents self.new)) };
 }
 

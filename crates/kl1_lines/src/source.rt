@@ -1,6 +1,6 @@
 // Where the bytes of a script come from.
 
-ghost use Rattle.std.specs.Prelude.{◌≡◌, ◌<◌, ◌≤◌, ℕ, List, length, take, IfOk, OnOk, OnErr};
+ghost use Rattle.std.specs.Prelude.{◌≡◌, ◌+◌, ℕ, List, length, take, IfOk, OnOk, OnErr};
 ghost use Rattle.std.specs.declared.option.Option.{Option};
 ghost use Rattle.std.specs.Io.KnownBytes.{Consumes, IsAtEnd};
 ghost use Rattle.kl1_lines.specs.Devices.{known_while, failures_of, Gives, KeepsIfKnown};
@@ -20,7 +20,7 @@ pub trait Source {
     fn read(&mut self, into: &mut [u8]) -> Result<usize, DeviceFailed>
         ensures ok { IfOk result (λ n. Gives (remaining self.old) (remaining self.new) n into.new) }
         ensures kept { OnOk result (failures self.new ≡ failures self.old) }
-        ensures failed { OnErr result (failures self.old < failures self.new) }
+        ensures failed { OnErr result (failures self.new ≡ failures self.old + 1) }
         ensures same { OnErr result (KeepsIfKnown (remaining self.old) (remaining self.new)) };
 }
 
