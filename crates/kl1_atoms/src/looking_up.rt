@@ -20,6 +20,7 @@ impl AtomTable {
     /// A table for 1 to 16 accounts, and a seat for each of them that knows the built-in names alone.
     pub fn new(alloc: Global, accounts: usize) -> Result<(AtomTable, Vec<AtomSeat>), AllocError>
         requires { (0 < accounts) × (accounts ≤ 16) }
+        ensures accounts { IfOk result (λ made. made.0.accounts ≡ accounts) }
         ensures count { IfOk result (λ made. vec_len made.1 ≡ accounts) }
         ensures seats { IfOk result (λ made. (k : ℕ) (seat : AtomSeat) → slice_get made.1.items k ≡ Some seat → IsNewSharedSeat made.0.table.shared.table_id seat.badge.table_id made.0.accounts (face_in seat.badge.views) seat.account k) }
     {

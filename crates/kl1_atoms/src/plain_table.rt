@@ -29,6 +29,7 @@ impl PlainTable {
     /// A table for 1 to 16 accounts, and a seat for each of them that knows the built-in names alone.
     pub fn new(alloc: Global, accounts: usize) -> Result<(PlainTable, Vec<PlainSeat>), AllocError>
         requires { accounts ≤ 16 }
+        ensures places { IfOk result (λ made. vec_len made.0.places ≡ 1024 * accounts) }
         ensures count { IfOk result (λ made. vec_len made.1 ≡ accounts) }
         ensures seats { IfOk result (λ made. (k : ℕ) (seat : PlainSeat) → slice_get made.1.items k ≡ Some seat → IsNewSeat made.0.places.items k seat.account seat.used seat.known.items) }
     {
