@@ -1,0 +1,112 @@
+// Texts of rows: cut, compared, read as numbers, and with escapes and repeated parts.
+
+use std::alloc::{AllocError, Global};
+
+/// The number that digits write in base 10: 0 of none. Each byte below `0` counts as that digit.
+pub fn number_of(digits: &[u8]) -> u64 {
+    let mut number: u64 = 0;
+    for digit in digits {
+        let digit = u64::from(digit.saturating_sub(b'0'));
+        number = number.saturating_mul(10).saturating_add(digit);
+    }
+    number
+}
+
+/// A text up to the first `mark`, and what stands behind that: the whole and nothing, where it has none.
+pub fn cut(text: &[u8], mark: u8) -> (&[u8], &[u8]) {
+    for place in 0..text.len() {
+        if text[place] == mark {
+            return (&text[..place], &text[place + 1..]);
+        }
+    }
+    (text, b"")
+}
+
+/// Whether a text is these two, one behind the other.
+pub fn is_joined(text: &[u8], front: &[u8], behind: &[u8]) -> bool {
+    match text.strip_prefix(front) {
+        Some(rest) => rest == behind,
+        None => false,
+    }
+}
+
+/// Whether a text is a front and the digits of a number behind it.
+pub fn is_counted(text: &[u8], front: &[u8], number: u64) -> bool {
+    match text.strip_prefix(front) {
+        Some(rest) => !rest.is_empty() && number_of(rest) == number,
+        None => false,
+    }
+}
+
+/// The value of a digit in base 16, by a small letter from 10 on; 0 of any other byte.
+fn hexadecimal(digit: u8) -> u8 {
+    match digit {
+        b'0'..=b'9' => digit - b'0',
+        b'a'..=b'f' => digit - b'a' + 10,
+        _ => 0,
+    }
+}
+
+/// The byte that stands for the letter behind a backslash.
+fn escaped(letter: u8) -> u8 {
+    match letter {
+        b'n' => b'\n',
+        b'r' => b'\r',
+        b't' => b'\t',
+        _ => letter,
+    }
+}
+
+/// Puts a part so many times behind a text.
+fn put_repeated(text: &mut Vec<u8>, part: &[u8], count: u64) -> Result<(), AllocError> {
+    for _ in 0..count {
+        text.extend_from_slice(part)?;
+    }
+    Ok(())
+}
+
+/// Puts what the front of a text stands for, and answers what is left of the text.
+fn put_front<'a>(whole: &mut Vec<u8>, text: &'a [u8]) -> Result<&'a [u8], AllocError> {
+    match text {
+        [b'\\', b'x', high, low, rest @ ..] => {
+            whole.push(
+                hexadecimal(*high)
+                    .saturating_mul(16)
+                    .saturating_add(hexadecimal(*low)),
+            )?;
+            Ok(rest)
+        }
+        [b'\\', letter, rest @ ..] => {
+            whole.push(escaped(*letter))?;
+            Ok(rest)
+        }
+        [b'{', rest @ ..] => {
+            let (inside, behind) = cut(rest, b'}');
+            let (count, part) = cut(inside, b' ');
+            put_repeated(whole, part, number_of(count))?;
+            Ok(behind)
+        }
+        [byte, rest @ ..] => {
+            whole.push(*byte)?;
+            Ok(rest)
+        }
+        [] => Ok(text),
+    }
+}
+
+/// What a text stands for: `\n`, `\r` and `\t` for those bytes, `\xHH` for the byte of that number, a backslash before any
+/// other byte for that byte, and `{COUNT PART}` for so many times the part, in which nothing is escaped.
+///
+/// # Errors
+/// Where memory is refused.
+pub fn decoded(alloc: Global, text: &[u8]) -> Result<Vec<u8>, AllocError> {
+    let mut whole = Vec::new(alloc);
+    let mut left = text;
+    for _ in 0..text.len() {
+        if left.is_empty() {
+            return Ok(whole);
+        }
+        left = put_front(&mut whole, left)?;
+    }
+    Ok(whole)
+}
