@@ -65,33 +65,70 @@ fn put_repeated(text: &mut Vec<u8>, part: &[u8], count: u64) -> Result<(), Alloc
     Ok(())
 }
 
-/// Puts what the front of a text stands for, and answers what is left of the text.
-fn put_front<'a>(whole: &mut Vec<u8>, text: &'a [u8]) -> Result<&'a [u8], AllocError> {
-    match text {
-        [b'\\', b'x', high, low, rest @ ..] => {
+/// Puts the byte of a number in base 16 behind a text, by its first digit and what follows, and answers what is left.
+fn put_byte<'a>(whole: &mut Vec<u8>, high: u8, rest: &'a [u8]) -> Result<&'a [u8], AllocError> {
+    match rest.split_first() {
+        None => Ok(rest),
+        Some((low, left)) => {
             whole.push(
-                hexadecimal(*high)
+                hexadecimal(high)
                     .saturating_mul(16)
                     .saturating_add(hexadecimal(*low)),
             )?;
-            Ok(rest)
+            Ok(left)
         }
-        [b'\\', letter, rest @ ..] => {
-            whole.push(escaped(*letter))?;
-            Ok(rest)
-        }
-        [b'{', rest @ ..] => {
-            let (inside, behind) = cut(rest, b'}');
-            let (count, part) = cut(inside, b' ');
-            put_repeated(whole, part, number_of(count))?;
-            Ok(behind)
-        }
-        [byte, rest @ ..] => {
-            whole.push(*byte)?;
-            Ok(rest)
-        }
-        [] => Ok(text),
     }
+}
+
+/// Puts what stands for the letter behind a backslash and what follows, and answers what is left.
+fn put_escaped<'a>(
+    whole: &mut Vec<u8>,
+    letter: u8,
+    rest: &'a [u8],
+) -> Result<&'a [u8], AllocError> {
+    if letter != b'x' {
+        whole.push(escaped(letter))?;
+        return Ok(rest);
+    }
+    match rest.split_first() {
+        None => Ok(rest),
+        Some((high, left)) => put_byte(whole, *high, left),
+    }
+}
+
+/// Puts so many times the part that stands up to a brace, and answers what is left behind that.
+fn put_part<'a>(whole: &mut Vec<u8>, rest: &'a [u8]) -> Result<&'a [u8], AllocError> {
+    let (inside, behind) = cut(rest, b'}');
+    let (count, part) = cut(inside, b' ');
+    put_repeated(whole, part, number_of(count))?;
+    Ok(behind)
+}
+
+/// Puts what a byte and what follows stand for, and answers what is left.
+fn put_front<'a>(whole: &mut Vec<u8>, byte: u8, rest: &'a [u8]) -> Result<&'a [u8], AllocError> {
+    match byte {
+        b'{' => put_part(whole, rest),
+        b'\\' => match rest.split_first() {
+            None => Ok(rest),
+            Some((letter, left)) => put_escaped(whole, *letter, left),
+        },
+        _ => {
+            whole.push(byte)?;
+            Ok(rest)
+        }
+    }
+}
+
+/// Puts what a text stands for behind another.
+fn put_decoded(whole: &mut Vec<u8>, text: &[u8]) -> Result<(), AllocError> {
+    let mut left = text;
+    for _ in 0..text.len() {
+        match left.split_first() {
+            None => return Ok(()),
+            Some((byte, rest)) => left = put_front(whole, *byte, rest)?,
+        }
+    }
+    Ok(())
 }
 
 /// What a text stands for: `\n`, `\r` and `\t` for those bytes, `\xHH` for the byte of that number, a backslash before any
@@ -101,12 +138,6 @@ fn put_front<'a>(whole: &mut Vec<u8>, text: &'a [u8]) -> Result<&'a [u8], AllocE
 /// Where memory is refused.
 pub fn decoded(alloc: Global, text: &[u8]) -> Result<Vec<u8>, AllocError> {
     let mut whole = Vec::new(alloc);
-    let mut left = text;
-    for _ in 0..text.len() {
-        if left.is_empty() {
-            return Ok(whole);
-        }
-        left = put_front(&mut whole, left)?;
-    }
+    put_decoded(&mut whole, text)?;
     Ok(whole)
 }
