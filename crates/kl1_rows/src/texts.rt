@@ -1,5 +1,6 @@
 // Texts of rows: cut, compared, read as numbers, and with escapes and repeated parts.
 
+use itoa::Buffer;
 use std::alloc::{AllocError, Global};
 
 /// The number that digits write in base 10: 0 of none. Each byte below `0` counts as that digit.
@@ -57,14 +58,6 @@ fn escaped(letter: u8) -> u8 {
     }
 }
 
-/// Puts a part so many times behind a text.
-fn put_repeated(text: &mut Vec<u8>, part: &[u8], count: u64) -> Result<(), AllocError> {
-    for _ in 0..count {
-        text.extend_from_slice(part)?;
-    }
-    Ok(())
-}
-
 /// Puts the byte of a number in base 16 behind a text, by its first digit and what follows, and answers what is left.
 fn put_byte<'a>(whole: &mut Vec<u8>, high: u8, rest: &'a [u8]) -> Result<&'a [u8], AllocError> {
     match rest.split_first() {
@@ -96,27 +89,50 @@ fn put_escaped<'a>(
     }
 }
 
+/// Puts what a byte that is no brace and what follows stand for, and answers what is left.
+fn put_plain<'a>(whole: &mut Vec<u8>, byte: u8, rest: &'a [u8]) -> Result<&'a [u8], AllocError> {
+    if byte != b'\\' {
+        whole.push(byte)?;
+        return Ok(rest);
+    }
+    match rest.split_first() {
+        None => Ok(rest),
+        Some((letter, left)) => put_escaped(whole, *letter, left),
+    }
+}
+
+/// Puts a part once, the number of the time in the place of each `&`.
+fn put_once(whole: &mut Vec<u8>, part: &[u8], time: u64) -> Result<(), AllocError> {
+    let mut left = part;
+    for _ in 0..part.len() {
+        match left {
+            [] => return Ok(()),
+            [b'&', rest @ ..] => {
+                whole.extend_from_slice(Buffer::new().format(time).as_bytes())?;
+                left = rest;
+            }
+            [byte, rest @ ..] => left = put_plain(whole, *byte, rest)?,
+        }
+    }
+    Ok(())
+}
+
 /// Puts so many times the part that stands up to a brace, and answers what is left behind that.
 fn put_part<'a>(whole: &mut Vec<u8>, rest: &'a [u8]) -> Result<&'a [u8], AllocError> {
     let (inside, behind) = cut(rest, b'}');
     let (count, part) = cut(inside, b' ');
-    put_repeated(whole, part, number_of(count))?;
+    for time in 0..number_of(count) {
+        put_once(whole, part, time)?;
+    }
     Ok(behind)
 }
 
 /// Puts what a byte and what follows stand for, and answers what is left.
 fn put_front<'a>(whole: &mut Vec<u8>, byte: u8, rest: &'a [u8]) -> Result<&'a [u8], AllocError> {
-    match byte {
-        b'{' => put_part(whole, rest),
-        b'\\' => match rest.split_first() {
-            None => Ok(rest),
-            Some((letter, left)) => put_escaped(whole, *letter, left),
-        },
-        _ => {
-            whole.push(byte)?;
-            Ok(rest)
-        }
+    if byte == b'{' {
+        return put_part(whole, rest);
     }
+    put_plain(whole, byte, rest)
 }
 
 /// Puts what a text stands for behind another.
@@ -132,7 +148,8 @@ fn put_decoded(whole: &mut Vec<u8>, text: &[u8]) -> Result<(), AllocError> {
 }
 
 /// What a text stands for: `\n`, `\r` and `\t` for those bytes, `\xHH` for the byte of that number, a backslash before any
-/// other byte for that byte, and `{COUNT PART}` for so many times the part, in which nothing is escaped.
+/// other byte for that byte, and `{COUNT PART}` for so many times the part, in which `&` stands for the number of the time,
+/// from 0.
 ///
 /// # Errors
 /// Where memory is refused.
