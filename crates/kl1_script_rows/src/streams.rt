@@ -1,19 +1,29 @@
-// Streams that give and take little, and fail.
+// A stream that gives and takes little, and fails.
 
+use kl1_lines::is_same;
 use std::io;
 use std::io::{ErrorKind, Read, Write};
 
 /// A stream that gives or takes at most so many bytes a call, and one of whose calls fails.
 #[derive(Drop)]
-pub struct Faulty<T> {
+pub(crate) struct Faulty<T> {
     /// The stream.
-    pub inner: T,
+    pub(crate) inner: T,
     /// The most bytes of a call.
-    pub most: usize,
+    pub(crate) most: u64,
     /// The calls up to the one that fails, and that one. At 0 none does.
-    pub calls: u64,
+    pub(crate) calls: u64,
     /// Why it fails.
-    pub kind: ErrorKind,
+    pub(crate) cause: ErrorKind,
+}
+
+/// The cause of a failure that a word names.
+pub(crate) fn cause_of(word: &[u8]) -> ErrorKind {
+    if is_same(word, b"interrupted") {
+        ErrorKind::Interrupted
+    } else {
+        ErrorKind::Other
+    }
 }
 
 impl<T> Faulty<T> {
@@ -28,9 +38,9 @@ impl<T> Faulty<T> {
 impl Read for Faulty<&[u8]> {
     fn read(&mut self, into: &mut [u8]) -> io::Result<usize> {
         if self.fails() {
-            return Err(io::Error::from(self.kind));
+            return Err(io::Error::from(self.cause));
         }
-        let size = into.len().min(self.most);
+        let size = into.len().min(self.most as usize);
         self.inner.read(&mut into[..size])
     }
 }
@@ -38,31 +48,16 @@ impl Read for Faulty<&[u8]> {
 impl Write for Faulty<Vec<u8>> {
     fn write(&mut self, bytes: &[u8]) -> io::Result<usize> {
         if self.fails() {
-            return Err(io::Error::from(self.kind));
+            return Err(io::Error::from(self.cause));
         }
-        let size = bytes.len().min(self.most);
+        let size = bytes.len().min(self.most as usize);
         self.inner.write(&bytes[..size])
     }
 
     fn flush(&mut self) -> io::Result<()> {
         if self.fails() {
-            return Err(io::Error::from(self.kind));
+            return Err(io::Error::from(self.cause));
         }
         Ok(())
-    }
-}
-
-/// A stream of so many zeros.
-#[derive(Drop)]
-pub struct Zeros {
-    /// How many are left.
-    pub left: usize,
-}
-
-impl Read for Zeros {
-    fn read(&mut self, into: &mut [u8]) -> io::Result<usize> {
-        let size = into.len().min(self.left);
-        self.left -= size;
-        Ok(size)
     }
 }
