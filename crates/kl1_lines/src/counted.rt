@@ -21,5 +21,5 @@ impl<T> Counted<T> {
 }
 
 /// A call of a device failed.
-#[derive(Clone, Copy, Debug, PartialEq, Eq)]
+#[derive(Clone, Copy)]
 pub struct DeviceFailed;

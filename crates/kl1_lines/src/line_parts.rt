@@ -9,7 +9,7 @@ use crate::verb::{Verb, verb_of};
 use crate::words::split_word;
 
 /// What a line is, where the goal of a start is yet to be read.
-#[derive(Clone, Copy, PartialEq, Eq)]
+#[derive(Clone, Copy)]
 pub enum LineParts<'a> {
     /// A load, whose source of so many bytes follows, at most 65,536.
     Load(u64),

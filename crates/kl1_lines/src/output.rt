@@ -1,6 +1,6 @@
 // All of what is written.
 
-ghost use Rattle.std.specs.Prelude.{◌≡◌, ◌<◌, OnOk, OnErr};
+ghost use Rattle.std.specs.Prelude.{◌≡◌, ◌<◌, length, OnOk, OnErr};
 ghost use Rattle.std.specs.Io.KnownBytes.{Appends};
 ghost use Rattle.kl1_lines.specs.Devices.{AppendsFront, PassesOn};
 
@@ -40,6 +40,7 @@ pub fn finish<S: Sink>(sink: &mut S, bytes: &[u8]) -> Result<(), DeviceFailed>
 /// Writes the bytes where they are many, and empties them. After a failure, those up to some place are written.
 pub fn pass_on<S: Sink>(sink: &mut S, bytes: &mut Vec<u8>) -> Result<(), DeviceFailed>
     ensures ok { OnOk result (PassesOn (S.contents sink.old) (S.contents sink.new) bytes.old.items bytes.new.items) }
+    ensures few { OnOk result (length bytes.new.items < 65536) }
     ensures kept { OnOk result (S.failures sink.new ≡ S.failures sink.old) }
     ensures front { OnErr result (AppendsFront (S.contents sink.old) (S.contents sink.new) bytes.old.items) }
     ensures failed { OnErr result (S.failures sink.old < S.failures sink.new) }

@@ -11,7 +11,7 @@ use crate::lines::{is_blank_line, split_line, split_name};
 
 /// What a record asks for, where the priorities and the goal of a start are yet to be looked at, and the source of a load to
 /// be read.
-#[derive(Clone, Copy, PartialEq, Eq)]
+#[derive(Clone, Copy)]
 pub enum CommandParts<'a> {
     /// A load of this source.
     Load(&'a [u8]),
@@ -27,7 +27,7 @@ pub enum CommandParts<'a> {
 }
 
 /// A record of a script.
-#[derive(Clone, Copy, PartialEq, Eq)]
+#[derive(Clone, Copy)]
 pub struct Record<'a> {
     /// The name that it begins with.
     pub name: &'a [u8],
@@ -38,7 +38,7 @@ pub struct Record<'a> {
 }
 
 /// The next record of a script.
-#[derive(Clone, Copy, PartialEq, Eq)]
+#[derive(Clone, Copy)]
 pub enum NextRecord<'a> {
     /// There is none.
     End,

@@ -3,7 +3,7 @@
 use thiserror::Error;
 
 /// Why a script is not run to its end.
-#[derive(Clone, Copy, Debug, PartialEq, Eq, Drop, Error)]
+#[derive(Clone, Copy, Debug, Drop, Error)]
 pub enum ScriptFault {
     /// A read failed.
     #[error("read fault")]
