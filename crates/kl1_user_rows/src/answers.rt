@@ -1,6 +1,6 @@
 // Answers of an account beside the texts that are wanted.
 
-use super::texts::{cut, is_counted, is_joined, number_of};
+use kl1_rows::{cut, is_counted, is_joined, number_of};
 use kl1_user::{Event, Refusal, Reply, UserState};
 
 /// The number and word of a refusal, without the line of a source.
@@ -36,23 +36,15 @@ fn is_reply(reply: &Reply, wanted: &[u8]) -> bool {
 }
 
 /// Whether an account answers an event so.
-pub(super) fn is_answered(user: &mut UserState, event: &Event, wanted: &[u8]) -> bool {
+pub fn is_answered(user: &mut UserState, event: &Event, wanted: &[u8]) -> bool {
     match user.apply(event) {
         Ok(reply) => is_reply(&reply, wanted),
         Err(_refused) => false,
     }
 }
 
-/// Whether the first goal's reduction is answered so; not where there is none.
-pub(super) fn is_stepped(user: &mut UserState, wanted: &[u8]) -> bool {
-    match user.pick() {
-        None => false,
-        Some((goal, clause)) => is_answered(user, &Event::Reduce { goal, clause }, wanted),
-    }
-}
-
 /// Whether the first goal and its clause have these numbers, or the goal's is 0 and there is none.
-pub(super) fn is_first_by(user: &UserState, first: u64, second: u64) -> bool {
+pub fn is_first_by(user: &UserState, first: u64, second: u64) -> bool {
     match user.pick() {
         None => first == 0 && user.quiet(),
         Some((goal, clause)) => goal.0 == first && clause.0 == second && !user.quiet(),
@@ -60,35 +52,11 @@ pub(super) fn is_first_by(user: &UserState, first: u64, second: u64) -> bool {
 }
 
 /// Whether the first goal and its clause are those of a text such as `2 by 1`, or the text is `quiet` and there is none.
-pub(super) fn is_first(user: &UserState, wanted: &[u8]) -> bool {
+pub fn is_first(user: &UserState, wanted: &[u8]) -> bool {
     if wanted == b"quiet".as_slice() {
         return is_first_by(user, 0, 0);
     }
     let (goal, behind) = cut(wanted, b' ');
     let (by, clause) = cut(behind, b' ');
     by == b"by".as_slice() && is_first_by(user, number_of(goal), number_of(clause))
-}
-
-/// Whether an account answers an event by the shoen of a number.
-pub(super) fn is_opened(user: &mut UserState, event: &Event, number: u64) -> bool {
-    match user.apply(event) {
-        Ok(Reply::Opened(shoen)) => shoen.0 == number,
-        _ => false,
-    }
-}
-
-/// Whether a reply is that a module is loaded.
-fn is_loading(reply: &Reply) -> bool {
-    match reply {
-        Reply::Loaded(_name) => true,
-        _ => false,
-    }
-}
-
-/// Whether an account answers an event by a module that is loaded.
-pub(super) fn is_module_loaded(user: &mut UserState, event: &Event) -> bool {
-    match user.apply(event) {
-        Ok(reply) => is_loading(&reply),
-        Err(_refused) => false,
-    }
 }

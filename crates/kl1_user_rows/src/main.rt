@@ -1,0 +1,19 @@
+//! Rows of acts on an account, by the public calls of `kl1_user`, and whether each comes to the answer that is wanted.
+#![tactic(auto)]
+
+mod accounts;
+mod acts;
+mod answers;
+mod made;
+mod matching;
+mod nodes;
+mod plain;
+mod solving;
+
+use crate::accounts::Accounts;
+
+fn main(rt: HostRuntime) -> Result<(), anyhow::Error> {
+    let mut accounts = Accounts::none();
+    kl1_rows::report(rt.alloc(), rt.stdin(), rt.stdout(), &mut accounts)?;
+    Ok(())
+}

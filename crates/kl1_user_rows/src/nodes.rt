@@ -1,0 +1,66 @@
+// Whole terms as nodes in the order of reading.
+
+use kl1_term::Node;
+use std::alloc::Global;
+
+/// A whole term: its nodes in the order of reading.
+pub type Row = Vec<Node>;
+
+/// The first term of nodes, and those behind it.
+pub fn split_term(nodes: &[Node]) -> (&[Node], &[Node]) {
+    let mut wanted: usize = 1;
+    for place in 0..nodes.len() {
+        if wanted == 0 {
+            return (&nodes[..place], &nodes[place..]);
+        }
+        let inside = match &nodes[place] {
+            Node::Structure(_name, count) => *count,
+            _ => 0,
+        };
+        wanted = (wanted - 1).saturating_add(inside);
+    }
+    (nodes, &[])
+}
+
+/// The number of a node that is a variable, or 0.
+pub fn number_in(node: &Node) -> u64 {
+    match node {
+        Node::Variable(number) => *number,
+        _ => 0,
+    }
+}
+
+/// The greatest number of a variable in nodes.
+pub fn highest_in(nodes: &[Node]) -> u64 {
+    let mut most = 0;
+    for node in nodes {
+        most = number_in(node).max(most);
+    }
+    most
+}
+
+/// A term with another in place of a variable.
+pub fn replaced(alloc: Global, nodes: &[Node], number: u64, by: &[Node]) -> Option<Row> {
+    let mut row = Vec::new(alloc);
+    for node in nodes {
+        if number_in(node) == number {
+            row.extend_from_slice(by).ok()?;
+        } else {
+            row.push(*node).ok()?;
+        }
+    }
+    Some(row)
+}
+
+/// Whether two nodes are one variable, one constant, or structures of one name and number of arguments.
+pub fn are_alike(left: &Node, right: &Node) -> bool {
+    match (left, right) {
+        (Node::Variable(one), Node::Variable(other)) => *one == *other,
+        (Node::Integer(one), Node::Integer(other)) => *one == *other,
+        (Node::Atom(one), Node::Atom(other)) => one.is(other),
+        (Node::Structure(one, count), Node::Structure(other, many)) => {
+            *count == *many && one.is(other)
+        }
+        _ => false,
+    }
+}
