@@ -1,7 +1,7 @@
 // The work in plain Rust.
 
 use crate::plain::{Plain, Value};
-use std::alloc::{AllocError, Global};
+use std::alloc::AllocError;
 
 const F: u32 = 70;
 
@@ -12,8 +12,7 @@ const END: Value = Value::Atom(64);
 const ONE: Value = Value::Integer(1);
 
 /// Unifies two lists of so many elements, one of variables and one of integers.
-pub fn lists(alloc: Global, count: u32) -> Result<bool, AllocError> {
-    let mut plain = Plain::new(alloc);
+pub fn lists(plain: &mut Plain, count: u32) -> Result<bool, AllocError> {
     let mut left = END;
     let mut right = END;
     for _ in 0..count {
@@ -34,11 +33,10 @@ fn tower(plain: &mut Plain, bottom: Value, levels: u32) -> Result<Value, AllocEr
 }
 
 /// Unifies two terms f(t, t) of so many levels, one with a variable at its end.
-pub fn towers(alloc: Global, levels: u32) -> Result<bool, AllocError> {
-    let mut plain = Plain::new(alloc);
+pub fn towers(plain: &mut Plain, levels: u32) -> Result<bool, AllocError> {
     let x = plain.fresh()?;
-    let left = tower(&mut plain, x, levels)?;
-    let right = tower(&mut plain, ONE, levels)?;
+    let left = tower(plain, x, levels)?;
+    let right = tower(plain, ONE, levels)?;
     plain.unify(left, right)
 }
 
@@ -58,18 +56,22 @@ fn place_of(plain: &Plain, root: Value, key: i64) -> Value {
     at
 }
 
+/// Hangs a key on a variable of a search tree: whether that could be.
+fn grow(plain: &mut Plain, root: Value, key: i64) -> Result<bool, AllocError> {
+    let place = place_of(plain, root, key);
+    let left = plain.fresh()?;
+    let right = plain.fresh()?;
+    let node = plain.build(NODE, [Value::Integer(key), left, right].as_slice())?;
+    plain.unify(place, node)
+}
+
 /// Grows a search tree of so many keys, each hung on a variable.
-pub fn tree(alloc: Global, count: u32) -> Result<bool, AllocError> {
-    let mut plain = Plain::new(alloc);
+pub fn tree(plain: &mut Plain, count: u32) -> Result<bool, AllocError> {
     let root = plain.fresh()?;
     let mut key: i64 = 1;
     for _ in 0..count {
         key = key.wrapping_mul(2_741) % 4_001;
-        let place = place_of(&plain, root, key);
-        let left = plain.fresh()?;
-        let right = plain.fresh()?;
-        let node = plain.build(NODE, [Value::Integer(key), left, right].as_slice())?;
-        if !plain.unify(place, node)? {
+        if !grow(plain, root, key)? {
             return Ok(false);
         }
     }

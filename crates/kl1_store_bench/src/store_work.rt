@@ -2,7 +2,7 @@
 
 use kl1_store::{Cell, Store, Unified};
 use kl1_text::AtomNo;
-use std::alloc::{AllocError, Global};
+use std::alloc::AllocError;
 
 const F: AtomNo = AtomNo { number: 70 };
 
@@ -67,11 +67,10 @@ fn list_of_ones(store: &mut Store<AtomNo>, count: u32) -> Result<Cell<AtomNo>, A
 }
 
 /// Unifies two lists of so many elements, one of variables and one of integers.
-pub fn lists(alloc: Global, count: u32) -> Result<bool, AllocError> {
-    let mut store = Store::new(alloc);
-    let left = list_of_variables(&mut store, count)?;
-    let right = list_of_ones(&mut store, count)?;
-    is_unified(&mut store, left, right)
+pub fn lists(store: &mut Store<AtomNo>, count: u32) -> Result<bool, AllocError> {
+    let left = list_of_variables(store, count)?;
+    let right = list_of_ones(store, count)?;
+    is_unified(store, left, right)
 }
 
 /// A term f(t, t) of so many levels, and `bottom` at its end.
@@ -88,12 +87,11 @@ fn tower(
 }
 
 /// Unifies two terms f(t, t) of so many levels, one with a variable at its end.
-pub fn towers(alloc: Global, levels: u32) -> Result<bool, AllocError> {
-    let mut store = Store::new(alloc);
-    let x = variable(&mut store)?;
-    let left = tower(&mut store, x, levels)?;
-    let right = tower(&mut store, ONE, levels)?;
-    is_unified(&mut store, left, right)
+pub fn towers(store: &mut Store<AtomNo>, levels: u32) -> Result<bool, AllocError> {
+    let x = variable(store)?;
+    let left = tower(store, x, levels)?;
+    let right = tower(store, ONE, levels)?;
+    is_unified(store, left, right)
 }
 
 /// An argument of a structure, what it stands for.
@@ -145,13 +143,12 @@ fn grow(store: &mut Store<AtomNo>, root: Cell<AtomNo>, key: i64) -> Result<bool,
 }
 
 /// Grows a search tree of so many keys, each hung on a variable.
-pub fn tree(alloc: Global, count: u32) -> Result<bool, AllocError> {
-    let mut store = Store::new(alloc);
-    let root = variable(&mut store)?;
+pub fn tree(store: &mut Store<AtomNo>, count: u32) -> Result<bool, AllocError> {
+    let root = variable(store)?;
     let mut key: i64 = 1;
     for _ in 0..count {
         key = key.wrapping_mul(2_741) % 4_001;
-        if !grow(&mut store, root, key)? {
+        if !grow(store, root, key)? {
             return Ok(false);
         }
     }
