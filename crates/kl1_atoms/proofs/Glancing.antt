@@ -1,15 +1,16 @@
 -- A look-up that publishes nothing, bucket by bucket.
-use Rattle.std.proofs.Common.{◌≡◌, ◌≢◌, ℕ, ◌+◌, ◌-◌, ◌*◌, ◌≤◌, ◌↔◌, List, length, Some, IsTrue, Bool, false, refl, sym, ap, ◌∙◌, subst, inl, inr, arith}
+use Rattle.std.proofs.Common.{◌≡◌, ◌≢◌, ℕ, ◌+◌, ◌-◌, ◌*◌, ◌<◌, ◌≤◌, ◌↔◌, List, length, Some, IsTrue, Bool, false, refl, sym, ap, ◌∙◌, subst, inl, inr, arith}
 use Rattle.std.proofs.lemmas.Bool.{false≢true}
 use Rattle.kl1_model.specs.Text.{is_text}
 use Rattle.atomic_table.specs.Table.{Me}
 use Rattle.kl1_atoms.specs.declared.face.Face.{Face}
 use Rattle.kl1_atoms.specs.declared.face.Heard.{Heard}
 use Rattle.kl1_atoms.specs.declared.face.View.{View}
+use Rattle.kl1_atoms.specs.declared.round.Round.TheVariants.{Found as FoundIn}
 use Rattle.kl1_atoms.specs.declared.sought.Glance.TheVariants.{Free, Other}
 use Rattle.kl1_atoms.specs.declared.sought.Sought.TheVariants.{Found}
 use Rattle.kl1_atoms.specs.Names.{number_by, added}
-use Rattle.kl1_atoms.specs.Rounds.{Starts, Ends}
+use Rattle.kl1_atoms.specs.Rounds.{Starts, Walks, Ends, Compares}
 use Rattle.kl1_atoms.specs.Way.{further}
 use Rattle.kl1_atoms.specs.Plays.{own, with_first, In, Passed, heard_more, Looks, Steps, learned, Learns}
 use Rattle.kl1_atoms.specs.Seeking.{Saw, Glances, Finds}
@@ -104,5 +105,32 @@ found_ends a b c t i e number more found learns starts is none =
           draft = ap (λ (x : Face). x.draft) change;
         },
         (let z : (own a.0).used ≡ (own a.0).used + more = omega arith in used ∙ z),
+      );
+    }
+
+-- a text that was compared is known from then on
+pub learned_ends : (before mid after : Me (Unit {0}) View) (t : List ℕ) (n d i e : ℕ) (drafted : Bool) (h : Heard) → mid ≡ before → Steps mid after (λ f g. Learns f g i) → Walks (own before.0) t d drafted
+    → In (own before.0).heard h → h.bucket ≡ i → h.entry ≡ e → h.text ≡ t → (own before.0).accounts ≡ n → e < 1024 * n → Steps before after (λ f g. Compares f g t d drafted (FoundIn e))
+learned_ends before mid after t n d i e drafted h same learns walks is at entry text accounts within =
+    let steps : Steps before after (λ f g. Learns f g i) = subst (λ (m : Me (Unit {0}) View). Steps m after (λ f g. Learns f g i)) same learns in
+    let change : own after.0 ≡ learned (own before.0) h = steps.tells.change h is at in
+    let knows : (own after.0).knows ≡ added (own before.0).knows t record { number = 64 + e } =
+    ap (λ (x : Face). x.knows) change ∙ ap (λ u. added (own before.0).knows u record { number = 64 + h.entry }) text ∙ ap (λ m. added (own before.0).knows t record { number = 64 + m }) entry
+    in
+    let used : (own after.0).used ≡ (own before.0).used = ap (λ (x : Face). x.used) change in
+    let grown : length (own before.0).knows ≤ length (own after.0).knows = subst (λ ks. length (own before.0).knows ≤ length ks) (sym knows) (no_fewer (own before.0).knows t (64 + e)) in
+    record {
+      slots = steps.slots;
+      faces = steps.faces;
+      tells = (
+        record {
+          same = record { accounts = ap (λ (x : Face). x.accounts) change; account = ap (λ (x : Face). x.account) change };
+          adds = record { known = knows; number = subst (λ u. number_by (own after.0).knows u ≡ Some (64 + e)) text (steps.tells.number h is at ∙ ap (λ m. Some (64 + m)) entry) };
+          names = steps.tells.names;
+          used_up = (let u = walks.used_up in omega arith);
+          draft = ap (λ (x : Face). x.draft) change;
+        },
+        used,
+        subst (λ m. e < 1024 * m) (sym accounts) within,
       );
     }

@@ -11,14 +11,15 @@ use Rattle.kl1_atoms.specs.declared.known.Known.{Known}
 use Rattle.kl1_atoms.specs.declared.face.Face.{Face}
 use Rattle.kl1_atoms.specs.declared.face.Heard.{Heard}
 use Rattle.kl1_atoms.specs.declared.face.View.{View}
-use Rattle.kl1_atoms.specs.declared.round.Round.TheVariants.{Made, Other}
+use Rattle.kl1_atoms.specs.declared.round.Round.{Round}
+use Rattle.kl1_atoms.specs.declared.round.Round.TheVariants.{Found, Made, Other}
 use Rattle.kl1_atoms.specs.Names.{number_in, text_in, text_by, HasRoom, Adds, AreNames}
 use Rattle.kl1_atoms.specs.Knowing.{adds_one, option_cases}
 use Rattle.kl1_atoms.specs.Way.{further}
 use Rattle.kl1_atoms.specs.Rule.{own_entry, Listed}
 use Rattle.kl1_atoms.specs.Plays.{own, first_of, has_first, with_first, In, Passed, heard_more, Sees, Looks, own_pair, published_by, Publishes, Steps, IsReady}
 use Rattle.kl1_atoms.specs.Seats.{face_in}
-use Rattle.kl1_atoms.specs.Rounds.{Walks, Drafts, Ends, GoesOn, OnTheWay, Compares, Gives}
+use Rattle.kl1_atoms.specs.Rounds.{Walks, SameAccount, Drafts, Ends, GoesOn, OnTheWay, Compares, Gives}
 
 -- faces with their own first one
 pub same_first : (fs : List Face) → IsTrue (has_first fs) → fs ≡ with_first fs (first_of fs)
@@ -151,6 +152,58 @@ looked_free f g n i found t d drafted looks none walks accounts way = elim looks
       record { same = free.1; new = new; room = entry_left f t d drafted walks new }
   | inr sees ↦ absurd (let s = sees.1 in omega arith)
 ]
+
+-- two steps, one after another
+pub two_steps : (a b c : Me (Unit {0}) View) (P Q R : Face → Face → Type 0) → Steps a b P → Steps b c Q → R (own a.0) (own c.0) → Steps a c R
+two_steps a b c P Q R one two told = record { slots = two.slots ∙ one.slots; faces = two.faces ∙ ap (λ fs. with_first fs (own c.0)) one.faces ∙ first_twice a.0.faces (own b.0) (own c.0); tells = told }
+
+-- a face that has only seen and drafted
+pub record Kin (f g : Face) : Type 0 where
+  pub same : SameAccount f g
+  pub used : g.used ≡ f.used
+  pub knows : g.knows ≡ f.knows
+
+-- a face that has seen
+pub kin_seen : (f g : Face) (i found : ℕ) → Sees f g i found → Kin f g
+kin_seen f g i found sees = record {
+  same = record { accounts = ap (λ (x : Face). x.accounts) sees.5; account = ap (λ (x : Face). x.account) sees.5 };
+  used = ap (λ (x : Face). x.used) sees.5;
+  knows = ap (λ (x : Face). x.knows) sees.5;
+}
+
+-- a face that looked at a free bucket, drafted, and saw who was first
+pub kin_drafted : (f g h k : Face) (n i found at : ℕ) (t : List ℕ) (d : ℕ) (drafted : Bool) → Looks f g i found → found ≤ 0 → Walks f t d drafted → f.accounts ≡ n → i ≡ further n t d → Drafts g h (words_of 8 t) → Sees h k i at → Kin f k
+kin_drafted f g h k n i found at t d drafted looks none walks accounts way drafts sees =
+    let free = looked_free f g n i found t d drafted looks none walks accounts way in
+    let one : Drafts f h (words_of 8 t) = subst (λ (x : Face). Drafts x h (words_of 8 t)) free.same drafts in
+    let two = kin_seen h k i at sees in
+    record {
+      same = record { accounts = two.same.accounts ∙ one.same.accounts; account = two.same.account ∙ one.same.account };
+      used = two.used ∙ one.used;
+      knows = two.knows ∙ one.knows;
+    }
+
+-- what a comparison gives, seen from a face before it
+pub compared_gives : (f m g : Face) (t : List ℕ) (d : ℕ) (drafted : Bool) (r : Round) → Kin f m → Compares m g t d drafted r → Gives f g t d r
+compared_gives f m g t d drafted (Found e) kin told = (
+  record {
+    same = record { accounts = told.0.same.accounts ∙ kin.same.accounts; account = told.0.same.account ∙ kin.same.account };
+    adds = subst (λ ks. Adds ks t record { number = 64 + e } g.knows) kin.knows told.0.adds;
+    names = told.0.names;
+    used_up = told.0.used_up;
+    draft = told.0.draft;
+  },
+  told.1 ∙ kin.used,
+  subst (λ m. e < 1024 * m) kin.same.accounts told.2,
+)
+compared_gives f m g t d drafted Made kin told = absurd told
+compared_gives f m g t d drafted (Other still) kin told = record {
+  same = record { accounts = told.0.same.accounts ∙ kin.same.accounts; account = told.0.same.account ∙ kin.same.account };
+  used = told.0.used ∙ kin.used;
+  knows = told.0.knows ∙ kin.knows;
+  walks = subst (λ b. Walks g t (d + 1) b) (sym told.1) told.0.walks;
+  few = subst (λ m. d + 1 ≤ 1024 * m + 1) kin.same.accounts told.0.few;
+}
 
 -- three steps, one after another
 pub three_steps : (a b c d : Me (Unit {0}) View) (P Q R T : Face → Face → Type 0) → Steps a b P → Steps b c Q → Steps c d R → T (own a.0) (own d.0) → Steps a d T

@@ -25,6 +25,20 @@ set_other (y ∷ xs) zero (suc j) x h = refl
 set_other (y ∷ xs) (suc i) zero x h = refl
 set_other (y ∷ xs) (suc i) (suc j) x h = set_other xs i j x (λ e. h (ap suc e))
 
+-- an element of a list with one more: one of the list's, or the one more
+pub pushed : {X : Type 0} (xs : List X) (x : X) (k : ℕ) (y : X) → slice_get (xs ++ x ∷ []) k ≡ Some y → (slice_get xs k ≡ Some y) ⊎ ((k ≡ length xs) × (x ≡ y))
+pushed [] x zero y e = inr (refl, cc)
+pushed [] x (suc k) y e = cc
+pushed (z ∷ xs) x zero y e = inl e
+pushed (z ∷ xs) x (suc k) y e = elim (pushed xs x k y e) [ inl was ↦ inl was | inr is ↦ inr (ap suc is.0, is.1) ]
+
+-- a list of one element alone, with one more of it
+pub all_free : {X : Type 0} (xs : List X) (x : X) → ((i : ℕ) → i < length xs → slice_get xs i ≡ Some x) → (i : ℕ) → i < length xs + 1 → slice_get (xs ++ x ∷ []) i ≡ Some x
+all_free [] x each zero below = refl
+all_free [] x each (suc i) below = absurd (omega arith)
+all_free (y ∷ xs) x each zero below = each zero (omega arith)
+all_free (y ∷ xs) x each (suc i) below = all_free xs x (λ j h. each (suc j) (omega arith)) i (omega arith)
+
 -- what a place holds is one
 one_held : (o : Option (Option (List ℕ))) (t u : List ℕ) → o ≡ Some (Some t) → o ≡ Some (Some u) → t ≡ u
 one_held o t u p q = let e : Some (Some t) ≡ Some (Some u) = sym p ∙ q in cc

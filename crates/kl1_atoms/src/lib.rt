@@ -2,8 +2,6 @@
 #![tactic(auto)]
 
 mod agreeing;
-#[cfg(test)]
-mod agreement_tests;
 mod atom_seat;
 mod atom_source;
 mod atom_table;
@@ -18,8 +16,6 @@ mod round;
 mod seeking;
 mod shared_atoms;
 mod sought;
-#[cfg(test)]
-mod tests;
 mod turns;
 mod walking;
 

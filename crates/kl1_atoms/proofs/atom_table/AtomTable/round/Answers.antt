@@ -1,8 +1,9 @@
+use Rattle.std.proofs.Common.{true}
 use Rattle.kl1_text.specs.Words.{words_of}
-use Rattle.kl1_atoms.specs.Rounds.{Gives, Drafts}
+use Rattle.kl1_atoms.specs.Rounds.{Compares, Gives, Drafts}
 use Rattle.kl1_atoms.specs.declared.round.Round.TheVariants.{Made}
 use Rattle.kl1_atoms.specs.Plays.{own, Looks, Publishes}
-use Rattle.kl1_atoms.proofs.Rounding.{looked_seen, walks_seen, drafted_walks, published_walks, is_ready, three_steps, published_else}
+use Rattle.kl1_atoms.proofs.Rounding.{looked_seen, walks_seen, drafted_walks, published_walks, is_ready, two_steps, three_steps, published_else, kin_seen, kin_drafted, compared_gives}
 use Rattle.kl1_atoms.proofs.atom_table.AtomTable.round.Goals as goal
 
 pub compare-requires-clause-walks : goal.compare-requires-clause-walks
@@ -31,3 +32,23 @@ compare-requires-2-clause-walks c =
     c.look-value.ensures.tells.tells c.if-value-gt0.false c.requires.walks c.requires.accounts c.requires.way c.have_draft.ensures.tells.tells in
     walks_seen (own c.have_draft.new.seat.me.0) (own c.publish-value.new.seat.me.0) c.args.bucket c.publish-value.result c.args.text.now c.args.passed _ w.0
     (published_else (own c.have_draft.new.seat.me.0) (own c.publish-value.new.seat.me.0) c.args.bucket c.publish-value.result c.publish-value.ensures.tells.tells c.if-value-eq0.false)
+
+pub returns-then-value-gt0-clause-gives : goal.returns-then-value-gt0-clause-gives
+returns-then-value-gt0-clause-gives c =
+    two_steps c.args.seat.now.me c.look-value.new.seat.me c.compare.new.seat.me (λ f g. Looks f g c.args.bucket c.look-value.result)
+    (λ f g. Compares f g c.args.text.now c.args.passed c.args.drafted c.compare.result) (λ f g. Gives f g c.args.text.now c.args.passed c.compare.result) c.look-value.ensures.tells c.compare.ensures.gives
+    (compared_gives (own c.args.seat.now.me.0) (own c.look-value.new.seat.me.0) (own c.compare.new.seat.me.0) c.args.text.now c.args.passed c.args.drafted c.compare.result
+    (kin_seen (own c.args.seat.now.me.0) (own c.look-value.new.seat.me.0) c.args.bucket c.look-value.result
+    (looked_seen (own c.args.seat.now.me.0) (own c.look-value.new.seat.me.0) c.args.bucket c.look-value.result c.look-value.ensures.tells.tells c.if-value-gt0.true)) c.compare.ensures.gives.tells)
+
+pub returns-clause-gives : goal.returns-clause-gives
+returns-clause-gives c =
+    let kin = kin_drafted (own c.args.seat.now.me.0) (own c.look-value.new.seat.me.0) (own c.have_draft.new.seat.me.0) (own c.publish-value.new.seat.me.0) c.args.self.now.accounts c.args.bucket c.look-value.result c.publish-value.result
+    c.args.text.now c.args.passed c.args.drafted c.look-value.ensures.tells.tells c.if-value-gt0.false c.requires.walks c.requires.accounts c.requires.way c.have_draft.ensures.tells.tells
+    (published_else (own c.have_draft.new.seat.me.0) (own c.publish-value.new.seat.me.0) c.args.bucket c.publish-value.result c.publish-value.ensures.tells.tells c.if-value-eq0.false) in
+    three_steps c.args.seat.now.me c.have_draft.new.seat.me c.publish-value.new.seat.me c.compare-2.new.seat.me (λ f g. Unit {0}) (λ f g. Publishes f g c.args.bucket c.publish-value.result)
+    (λ f g. Compares f g c.args.text.now c.args.passed true c.compare-2.result) (λ f g. Gives f g c.args.text.now c.args.passed c.compare-2.result)
+    (two_steps c.args.seat.now.me c.look-value.new.seat.me c.have_draft.new.seat.me (λ f g. Looks f g c.args.bucket c.look-value.result) (λ f g. Drafts f g (words_of 8 c.args.text.now)) (λ f g. Unit {0})
+    c.look-value.ensures.tells c.have_draft.ensures.tells tt)
+    c.publish-value.ensures.tells c.compare-2.ensures.gives
+    (compared_gives (own c.args.seat.now.me.0) (own c.publish-value.new.seat.me.0) (own c.compare-2.new.seat.me.0) c.args.text.now c.args.passed true c.compare-2.result kin c.compare-2.ensures.gives.tells)

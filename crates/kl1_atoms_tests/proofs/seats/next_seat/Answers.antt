@@ -1,7 +1,7 @@
 use Rattle.std.proofs.Common.{◌≡◌, ℕ, zero, suc, List, [], ◌∷◌, ◌++◌, Some, slice_get, sym, subst}
 use Rattle.std.specs.Option.{option_to_list}
 use Rattle.kl1_atoms.specs.declared.atom_seat.AtomSeat.{AtomSeat}
-use Rattle.kl1_atoms.proofs.agreement_tests.last_agrees.Goals as goal
+use Rattle.kl1_atoms_tests.proofs.seats.next_seat.Goals as goal
 
 -- an element of the front of a list
 in_front : (xs ys : List AtomSeat) (k : ℕ) (x : AtomSeat) → slice_get xs k ≡ Some x → slice_get (xs ++ ys) k ≡ Some x
@@ -9,10 +9,6 @@ in_front [] ys k x e = cc
 in_front (y ∷ xs) ys zero x e = e
 in_front (y ∷ xs) ys (suc k) x e = in_front xs ys k x e
 
-pub loop-other-preserved : goal.loop-other-preserved
-loop-other-preserved c = record {
-  last = c.agreed_of.ensures.a;
-  seats = λ k seat e.
-      c.loop-other.invariant.seats k seat (subst (λ (l : List AtomSeat). slice_get l k ≡ Some seat) (sym c.pop-in-loop-other.ensures.items)
-      (in_front c.pop-in-loop-other.new.self.items (option_to_list c.pop-in-loop-other.result) k seat e));
-}
+pub returns-clause-seats : goal.returns-clause-seats
+returns-clause-seats c = λ k seat e.
+    c.requires.seats k seat (subst (λ (l : List AtomSeat). slice_get l k ≡ Some seat) (sym c.pop.ensures.items) (in_front c.pop.new.self.items (option_to_list c.pop.result) k seat e))

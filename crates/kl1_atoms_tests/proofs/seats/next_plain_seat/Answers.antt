@@ -1,0 +1,14 @@
+use Rattle.std.proofs.Common.{◌≡◌, ℕ, zero, suc, List, [], ◌∷◌, ◌++◌, Some, slice_get, sym, subst}
+use Rattle.std.specs.Option.{option_to_list}
+use Rattle.kl1_atoms.specs.declared.plain_seat.PlainSeat.{PlainSeat}
+use Rattle.kl1_atoms_tests.proofs.seats.next_plain_seat.Goals as goal
+
+-- an element of the front of a list
+in_front : (xs ys : List PlainSeat) (k : ℕ) (x : PlainSeat) → slice_get xs k ≡ Some x → slice_get (xs ++ ys) k ≡ Some x
+in_front [] ys k x e = cc
+in_front (y ∷ xs) ys zero x e = e
+in_front (y ∷ xs) ys (suc k) x e = in_front xs ys k x e
+
+pub returns-clause-seats : goal.returns-clause-seats
+returns-clause-seats c = λ k seat e.
+    c.requires.seats k seat (subst (λ (l : List PlainSeat). slice_get l k ≡ Some seat) (sym c.pop.ensures.items) (in_front c.pop.new.self.items (option_to_list c.pop.result) k seat e))
