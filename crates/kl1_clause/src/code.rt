@@ -89,7 +89,8 @@ impl Code {
         ensures value { result.now ≡ with_names [] (names_of_module self.now) }
         ensures names { IsNameList result.now }
     {
-        self.names.texts()
+        let names = &self.names;
+        names.texts()
     }
 
     /// The module's name.

@@ -6,7 +6,7 @@ use std::alloc::AllocError;
 use thiserror::Error;
 
 /// Why a source is not compiled.
-#[derive(Clone, Copy, Debug, PartialEq, Eq, Drop, Error)]
+#[derive(Clone, Copy, Debug, Drop, Error)]
 pub enum CodeFault {
     /// The source is no module: the line, from 1, on which its first bad item begins.
     #[error("bad item on line {line}")]
