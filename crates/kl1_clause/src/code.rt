@@ -111,7 +111,7 @@ impl Code {
     pub fn clauses(&self) -> &[CompiledClause]
         ensures { AreCompiled (with_names [] (names_of_module self.now)) result.now self.now.clauses }
     {
-        &self.clauses
+        self.clauses.as_slice()
     }
 
     /// The clauses of one predicate compiled, in order: its first clause, which has the number 1, stands first.

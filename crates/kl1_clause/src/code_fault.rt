@@ -1,8 +1,5 @@
 // Why a source is not compiled.
 
-ghost use Rattle.std.specs.Prelude.{◌≡◌};
-
-use std::alloc::AllocError;
 use thiserror::Error;
 
 /// Why a source is not compiled.
@@ -14,12 +11,4 @@ pub enum CodeFault {
     /// Memory was refused.
     #[error("no memory")]
     Memory,
-}
-
-impl From<AllocError> for CodeFault {
-    fn from(_refused: AllocError) -> Self
-        ensures { result ≡ CodeFault.Memory }
-    {
-        CodeFault::Memory
-    }
 }
