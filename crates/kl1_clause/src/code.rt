@@ -89,7 +89,8 @@ impl Code {
         ensures value { result.now ≡ with_names [] (names_of_module self.now) }
         ensures names { IsNameList result.now }
     {
-        self.names.texts()
+        let names = &self.names;
+        names.texts()
     }
 
     /// The module's name.
@@ -110,7 +111,7 @@ impl Code {
     pub fn clauses(&self) -> &[CompiledClause]
         ensures { AreCompiled (with_names [] (names_of_module self.now)) result.now self.now.clauses }
     {
-        &self.clauses
+        self.clauses.as_slice()
     }
 
     /// The clauses of one predicate compiled, in order: its first clause, which has the number 1, stands first.

@@ -4,7 +4,7 @@ use crate::name::Name;
 
 /// What stands at the top of a term of a clause: the number of a variable, an integer, an atom, or the name of a structure
 /// with the number of its arguments, whose instructions follow.
-#[derive(Clone, Copy, PartialEq, Eq, Debug)]
+#[derive(Clone, Copy)]
 pub enum Instruction {
     Variable(u64),
     Integer(i64),

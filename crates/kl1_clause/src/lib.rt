@@ -15,4 +15,3 @@ pub use code_fault::CodeFault;
 pub use compiled_clause::CompiledClause;
 pub use instruction::Instruction;
 pub use name::Name;
-pub use names::Names;

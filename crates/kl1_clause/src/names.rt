@@ -17,7 +17,7 @@ use std::marker::Model;
 
 /// The names of a code that are not built in, each once, in order of first use.
 #[derive(Drop)]
-pub struct Names {
+pub(crate) struct Names {
     texts: Vec<AtomText>,
     /// The place of each name, by the words that hold it. There may be others, at which that name doesn't stand.
     places: HashMap<[u64; 8], usize>,
@@ -37,7 +37,7 @@ impl Model for Names {
 impl Names {
     /// No names.
     #[tactic(auto, using(crate::proofs::PlaceMaps::no_places))]
-    pub fn new(alloc: Global) -> Self
+    pub(crate) fn new(alloc: Global) -> Self
         ensures { result ≡ [] }
     {
         Names {
@@ -47,7 +47,7 @@ impl Names {
     }
 
     /// The names in their order.
-    pub fn texts(&self) -> &[AtomText]
+    pub(crate) fn texts(&self) -> &[AtomText]
         ensures value { result.now ≡ self.now }
         ensures names { IsNameList self.now }
     {
@@ -56,7 +56,7 @@ impl Names {
 
     /// A text as a name: one of the language, or its place, at the end where it is new.
     #[tactic(auto, using(crate::proofs::NameLists::is_language, crate::proofs::NameLists::is_old, crate::proofs::NameLists::is_new))]
-    pub fn placed(&mut self, text: &AtomText) -> Result<Name, AllocError>
+    pub(crate) fn placed(&mut self, text: &AtomText) -> Result<Name, AllocError>
         ensures names { OnOk result (self.new ≡ with_text self.old text.now) }
         ensures placed { IfOk result (IsPlaced (length self.new)) }
         ensures text { IfOk result (λ name. text_in self.new name ≡ text.now) }

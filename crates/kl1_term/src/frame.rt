@@ -2,7 +2,7 @@
 
 /// What is to be printed behind the term that is being printed.
 #[derive(Clone, Copy)]
-pub enum Frame {
+pub(crate) enum Frame {
     /// So many more arguments, each after a comma, and then `)`.
     Arguments(usize),
     /// The rest of a list, whose element the term is.

@@ -4,7 +4,7 @@ use kl1_text::AtomText;
 
 /// How the next term is printed.
 #[derive(Clone, Copy)]
-pub enum Mode {
+pub(crate) enum Mode {
     /// As it stands alone.
     Whole,
     /// As the rest of a list.

@@ -13,7 +13,7 @@ use kl1_text::AtomText;
 
 /// How a structure's text begins.
 #[derive(Clone, Copy)]
-pub enum Opening {
+pub(crate) enum Opening {
     /// With its first element, as a list.
     Cell,
     /// With what stands before the colon, or as a call, by its arguments.
@@ -24,7 +24,7 @@ pub enum Opening {
 
 /// How a term's text begins as the rest of a list.
 #[derive(Clone, Copy)]
-pub enum RestForm {
+pub(crate) enum RestForm {
     /// The list ends.
     End,
     /// Another element.
@@ -34,7 +34,7 @@ pub enum RestForm {
 }
 
 /// How the text of a structure begins.
-pub fn find_opening(name: &AtomText, count: usize) -> Opening
+pub(crate) fn find_opening(name: &AtomText, count: usize) -> Opening
     ensures { result ≡ opening_of name.now count }
 {
     if count != 2 {
@@ -50,7 +50,7 @@ pub fn find_opening(name: &AtomText, count: usize) -> Opening
 }
 
 /// How a term's text begins as the rest of a list.
-pub fn rest_form(node: &Node) -> RestForm
+pub(crate) fn rest_form(node: &Node) -> RestForm
     ensures { result ≡ rest_form_of node.now }
 {
     match node {
@@ -72,7 +72,7 @@ pub fn rest_form(node: &Node) -> RestForm
 }
 
 /// The name of an atom.
-pub fn find_atom(node: &Node) -> Option<AtomText>
+pub(crate) fn find_atom(node: &Node) -> Option<AtomText>
     ensures some { IfSome result (λ a. node.now ≡ Atom a) }
     ensures none { IsNone result → (ts : List TermSpec) → is_before_colon (first_term (with_node node.now ts)) ≡ false }
 {
@@ -86,7 +86,7 @@ pub fn find_atom(node: &Node) -> Option<AtomText>
 
 /// Whether a term may stand behind the colon.
 #[tactic(auto, using(crate::proofs::Openings::behind_by_opening))]
-pub fn stands_behind_colon(node: &Node) -> bool
+pub(crate) fn stands_behind_colon(node: &Node) -> bool
     ensures { (ts : List TermSpec) → result ≡ is_behind_colon (first_term (with_node node.now ts)) }
 {
     match node {

@@ -7,14 +7,14 @@ use std::alloc::{AllocError, Global};
 
 /// The front of a text that is to be cut after `most` bytes, where that is given. What is put behind more than that is left out.
 #[derive(Drop)]
-pub struct Page {
-    pub bytes: Vec<u8>,
-    pub most: Option<usize>,
+pub(crate) struct Page {
+    pub(crate) bytes: Vec<u8>,
+    pub(crate) most: Option<usize>,
 }
 
 impl Page {
     /// Nothing yet.
-    pub fn new(alloc: Global, most: Option<usize>) -> Self
+    pub(crate) fn new(alloc: Global, most: Option<usize>) -> Self
         ensures { (rest : List ℕ) → page_text result rest ≡ limited most rest }
     {
         Page {
@@ -25,7 +25,7 @@ impl Page {
 
     /// Whether the text is too long already, so that what follows doesn't matter.
     #[tactic(auto, using(crate::proofs::Pages::full_anyway))]
-    pub fn is_full(&self) -> bool
+    pub(crate) fn is_full(&self) -> bool
         ensures settled { IsTrue result → (rest more : List ℕ) → page_text self.now rest ≡ page_text self.now more }
         ensures full { IsTrue (is_over self.now) → IsTrue result }
     {
@@ -37,7 +37,7 @@ impl Page {
 
     /// Puts bytes behind the others.
     #[tactic(auto, using(crate::proofs::Pages::whole_yet))]
-    pub fn put(&mut self, bytes: &[u8]) -> Result<(), AllocError>
+    pub(crate) fn put(&mut self, bytes: &[u8]) -> Result<(), AllocError>
         ensures { OnOk result ((rest : List ℕ) → page_text self.new rest ≡ page_text self.old (bytes.now ++ rest)) }
     {
         if self.is_full() {
@@ -48,7 +48,7 @@ impl Page {
 
     /// The whole text, with three dots where it was cut.
     #[tactic(auto, using(crate::proofs::Pages::cut_at))]
-    pub fn into_text(self) -> Result<Vec<u8>, AllocError>
+    pub(crate) fn into_text(self) -> Result<Vec<u8>, AllocError>
         ensures { IfOk result (λ text. text.items ≡ page_text self []) }
     {
         let Page { bytes, most } = self;

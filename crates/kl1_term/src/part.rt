@@ -51,7 +51,7 @@ impl<'a> Part<'a> {
 }
 
 /// The term of nodes.
-pub fn part_of<'a>(nodes: &'a [Node]) -> Part<'a>
+pub(crate) fn part_of<'a>(nodes: &'a [Node]) -> Part<'a>
     requires { IsTerm nodes.now }
     ensures { result ≡ term_in nodes.now }
 {
@@ -60,7 +60,7 @@ pub fn part_of<'a>(nodes: &'a [Node]) -> Part<'a>
 
 /// What the term of nodes is.
 #[tactic(auto, using(crate::proofs::Lent::some_nodes))]
-pub fn view_of<'a>(nodes: &'a [Node]) -> View<'a>
+pub(crate) fn view_of<'a>(nodes: &'a [Node]) -> View<'a>
     requires { IsTerm nodes.now }
     ensures { term_by result ≡ term_in nodes.now }
 {

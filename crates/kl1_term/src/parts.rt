@@ -46,7 +46,7 @@ impl<'a> Parts<'a> {
 }
 
 /// The terms of nodes.
-pub fn parts_of<'a>(nodes: &'a [Node]) -> Parts<'a>
+pub(crate) fn parts_of<'a>(nodes: &'a [Node]) -> Parts<'a>
     requires { IsRow nodes.now }
     ensures { result ≡ terms_in nodes.now }
 {

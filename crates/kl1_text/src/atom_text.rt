@@ -112,7 +112,7 @@ impl AtomText {
     pub fn shows_text(&self)
         ensures { IsTrue (is_text self.now) }
     {
-        let _ = &self.words;
+        let _words = &self.words;
     }
 
     /// The built-in name that this is, where it is one.

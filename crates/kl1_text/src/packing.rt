@@ -6,14 +6,14 @@ ghost use Rattle.kl1_model.specs.Text.{is_name_byte, is_text};
 ghost use Rattle.kl1_text.specs.Words.{number_of, words_of};
 
 /// Whether a byte may stand in a name.
-pub fn is_name_byte(byte: u8) -> bool
+fn is_name_byte(byte: u8) -> bool
     ensures { result ≡ is_name_byte byte }
 {
     32 <= byte && byte <= 126
 }
 
 /// Whether bytes are a name.
-pub fn is_text(bytes: &[u8]) -> bool
+pub(crate) fn is_text(bytes: &[u8]) -> bool
     ensures { result ≡ is_text bytes.now }
 {
     bytes.len() <= 63 && are_name_bytes(bytes)
@@ -27,7 +27,7 @@ fn are_name_bytes(bytes: &[u8]) -> bool
 }
 
 /// The eight words that hold the bytes of a name.
-pub fn words_of(bytes: &[u8]) -> [u64; 8]
+pub(crate) fn words_of(bytes: &[u8]) -> [u64; 8]
     requires { IsTrue (list_all is_name_byte bytes.now) }
     ensures { result ≡ words_of 8 bytes.now }
 {
@@ -51,7 +51,7 @@ pub fn words_of(bytes: &[u8]) -> [u64; 8]
 }
 
 /// At most `count` bytes as a number, the first in the lowest place.
-pub fn number_of(bytes: &[u8], count: usize) -> u64
+fn number_of(bytes: &[u8], count: usize) -> u64
     requires names { IsTrue (list_all is_name_byte bytes.now) }
     requires few { count ≤ 8 }
     ensures value { result ≡ number_of count bytes.now }
@@ -67,7 +67,7 @@ pub fn number_of(bytes: &[u8], count: usize) -> u64
 }
 
 /// The bytes behind the first eight.
-pub fn behind(bytes: &[u8]) -> &[u8]
+fn behind(bytes: &[u8]) -> &[u8]
     requires { IsTrue (list_all is_name_byte bytes.now) }
     ensures value { result.now ≡ drop 8 bytes.now }
     ensures names { IsTrue (list_all is_name_byte result.now) }

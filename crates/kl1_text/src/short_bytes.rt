@@ -37,7 +37,8 @@ impl ShortBytes {
         ensures value { result ≡ length self.now }
         ensures short { result ≤ 128 }
     {
-        self.length
+        let ShortBytes { length, .. } = self;
+        *length
     }
 
     /// The bytes.
