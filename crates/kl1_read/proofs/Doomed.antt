@@ -9,6 +9,7 @@ use Rattle.kl1_read.specs.declared.opened.Opened.{Opened}
 use Rattle.kl1_read.specs.declared.opened.Opened.TheVariants.{Group, Arguments, Elements, Tail}
 use Rattle.kl1_read.specs.declared.left.Left.{Left}
 use Rattle.kl1_read.specs.declared.frame.Frame.{Frame}
+use Rattle.kl1_read.specs.Waits.{opened_of, left_of}
 use Rattle.kl1_read.specs.Meanings.{expression_read, part_read, primary_read, series_read, Going, after_relation, after_part, after_colon, after_primary, after_elements, after_arguments, after_opened, after_last, after_expression, fit, Dooms}
 use Rattle.kl1_read.proofs.Unwritable.{structure_unwritable, first_unwritable, second_unwritable, tail_unwritable, element_unwritable, list_unwritable}
 
@@ -75,4 +76,4 @@ last_dooms done t ts h =
 pub expression_dooms : (frames : List Frame) (done : List Term) → Dooms (after_expression frames done)
 expression_dooms [] done = last_dooms done
 expression_dooms (f ∷ fs) done =
-    opened_dooms (after_primary f.left (after_expression fs done)) (primary_dooms f.left (after_expression fs done) (expression_dooms fs done)) f.opened
+    opened_dooms (after_primary (left_of f) (after_expression fs done)) (primary_dooms (left_of f) (after_expression fs done) (expression_dooms fs done)) (opened_of f)

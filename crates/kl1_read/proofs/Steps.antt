@@ -11,6 +11,7 @@ use Rattle.kl1_model.specs.Reader.{Answer, then_read, if_there, behind_comma}
 use Rattle.kl1_read.specs.declared.opened.Opened.{Opened}
 use Rattle.kl1_read.specs.declared.left.Left.{Left}
 use Rattle.kl1_read.specs.declared.frame.Frame.{Frame}
+use Rattle.kl1_read.specs.Waits.{opened_of, left_of}
 use Rattle.kl1_read.specs.declared.begun.Begun.{Begun}
 use Rattle.kl1_read.specs.declared.joined.Joined.{Joined}
 use Rattle.kl1_read.specs.declared.closed.Closed.{Closed}
@@ -25,10 +26,12 @@ abbrev pub no_left : Left
 no_left = record { relation = None; colon = None }
 
 -- what was opened waits behind those before
-pub frame_opens : (fs gs : List Frame) (opened : Opened) (left : Left) (done : List Term) (us : List Numbered) → gs ≡ fs ++ record { opened = opened; left = left } ∷ [] → primary_then no_left (after_expression (reverse gs) done) us ≡ open_then opened (after_primary left (after_expression (reverse fs) done)) us
-frame_opens fs gs opened left done us e =
-    ap (λ xs. primary_then no_left (after_expression xs done) us) (ap reverse e ∙ reverse-append fs (record { opened = opened; left = left } ∷ []))
-    ∙ sym (expression_goes (after_expression (record { opened = opened; left = left } ∷ reverse fs) done) us)
+pub frame_opens : (fs gs : List Frame) (f : Frame) (opened : Opened) (left : Left) (done : List Term) (us : List Numbered) → gs ≡ fs ++ f ∷ [] → opened_of f ≡ opened → left_of f ≡ left → primary_then no_left (after_expression (reverse gs) done) us ≡ open_then opened (after_primary left (after_expression (reverse fs) done)) us
+frame_opens fs gs f opened left done us e o l =
+    ap (λ xs. primary_then no_left (after_expression xs done) us) (ap reverse e ∙ reverse-append fs (f ∷ []))
+    ∙ sym (expression_goes (after_expression (f ∷ reverse fs) done) us)
+    ∙ ap (λ x. open_then x (after_primary (left_of f) (after_expression (reverse fs) done)) us) o
+    ∙ ap (λ x. open_then opened (after_primary x (after_expression (reverse fs) done)) us) l
 
 -- more terms are read behind those that are done
 pub more_terms : (done : List Term) (us : List Numbered) → primary_then no_left (after_expression [] done) us ≡ then_read (series_read us) (λ s vs. Some (done ++ s, vs))

@@ -5,7 +5,7 @@ use Rattle.kl1_model.specs.ReadLaws.{tokens_at}
 use Rattle.kl1_model.specs.Module.{Item, items_from}
 use Rattle.kl1_read.specs.declared.item.Next.{Next}
 use Rattle.kl1_read.specs.declared.item.Next.TheVariants.{Nothing, Bad, Whole}
-use Rattle.kl1_read.specs.Views.{spelled_token}
+use Rattle.kl1_read.specs.Views.{kept_token}
 
 -- the items of tokens, where an item may have begun with tokens before these
 abbrev pub items_among : Option ℕ → List (Token (List ℕ)) → Tokens → List Item
@@ -20,7 +20,7 @@ abbrev pub items_of_next : Next → List Item
 items_of_next Nothing = []
 items_of_next (Bad line) = record { line = line; tokens = None } ∷ []
 items_of_next (Whole item place) =
-    record { line = item.line; tokens = Some (map spelled_token item.tokens.items) } ∷ items_left place.line place.bytes.now
+    record { line = item.line; tokens = Some (map kept_token item.tokens.items) } ∷ items_left place.line place.bytes.now
 
 -- what is behind an item is less than the text, and no further lines than it has bytes
 abbrev pub GoesOn : ℕ → List ℕ → Next → Type 0

@@ -18,3 +18,5 @@ pub mod Started
 pub mod Marked
 pub mod Followings
 pub mod Spellings
+pub mod Held
+pub mod Waits

@@ -10,6 +10,7 @@ use Rattle.kl1_read.specs.declared.opened.Opened.{Opened}
 use Rattle.kl1_read.specs.declared.opened.Opened.TheVariants.{Group, Arguments, Elements, Tail}
 use Rattle.kl1_read.specs.declared.left.Left.{Left}
 use Rattle.kl1_read.specs.declared.frame.Frame.{Frame}
+use Rattle.kl1_read.specs.Waits.{opened_of, left_of}
 
 -- an expression in front of tokens, read with as many steps as it needs
 abbrev pub reading : Inner
@@ -81,7 +82,7 @@ after_last done e ts = if_there (behind_comma ts) (Some (done ++ e ∷ [], ts)) 
 -- goes on behind an expression, where these were opened, the last one first
 abbrev pub after_expression : List Frame → List Term → Going
 after_expression [] done = after_last done
-after_expression (f ∷ fs) done = after_opened f.opened (after_primary f.left (after_expression fs done))
+after_expression (f ∷ fs) done = after_opened (opened_of f) (after_primary (left_of f) (after_expression fs done))
 
 -- reads an expression in what was opened, and goes on
 abbrev pub open_then : Opened → Going → List grammar.Numbered → Answer (List Term)

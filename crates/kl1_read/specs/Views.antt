@@ -5,6 +5,8 @@ use Rattle.kl1_model.specs.Token as model
 use Rattle.kl1_model.specs.Grammar as grammar
 use Rattle.kl1_read.specs.declared.spelled.Spelled.{Spelled}
 use Rattle.kl1_read.specs.declared.spelled.Spelled.TheVariants as spelled
+use Rattle.kl1_read.specs.declared.kept.Kept.{Kept}
+use Rattle.kl1_read.specs.declared.kept.Kept.TheVariants as kept
 use Rattle.kl1_read.specs.declared.numbered.Numbered.{Numbered}
 use Rattle.kl1_read.specs.declared.numbered.Numbered.TheVariants as numbered
 use Rattle.kl1_read.specs.declared.front.Front.{Front}
@@ -19,9 +21,18 @@ spelled_token (spelled.Minus digit) = minus_token digit
 spelled_token (spelled.Sign s) = sign_token s
 spelled_token spelled.End = end_token
 
+-- a token whose variables are spelled, in little room
+abbrev pub kept_token : Kept → Token (List ℕ)
+kept_token (kept.Name quotes applied text) = name_token text quotes applied
+kept_token (kept.Variable text) = variable_token text
+kept_token (kept.Digits n) = digits_token n
+kept_token (kept.Minus digit) = minus_token digit
+kept_token (kept.Sign s) = sign_token s
+kept_token kept.End = end_token
+
 -- a token whose variables are numbered
 abbrev pub numbered_token : Numbered → grammar.Numbered
-numbered_token (numbered.Name text quotes applied) = name_token text quotes applied
+numbered_token (numbered.Name quotes applied text) = name_token text quotes applied
 numbered_token (numbered.Variable n) = variable_token n
 numbered_token (numbered.Digits n) = digits_token n
 numbered_token (numbered.Minus digit) = minus_token digit

@@ -3,7 +3,7 @@ use Rattle.std.specs.Prelude.{ℕ, List, [], ◌++◌, Option, Some, None, map, 
 use Rattle.kl1_model.specs.Token.{Token, Tokens}
 use Rattle.kl1_model.specs.Module.{bare_tokens, first_line}
 use Rattle.kl1_read.specs.declared.whole_text.WholeText.{WholeText}
-use Rattle.kl1_read.specs.Views.{spelled_token}
+use Rattle.kl1_read.specs.Views.{kept_token}
 
 -- a line, and tokens where there are some
 pub record Whole : Type 0 where
@@ -25,4 +25,4 @@ whole_of ts = whole_from None [] ts
 
 -- the line and the tokens of a text that was read
 abbrev pub whole_view : WholeText → Whole
-whole_view w = record { line = w.line; tokens = option_map (λ v. map spelled_token v.items) w.tokens }
+whole_view w = record { line = w.line; tokens = option_map (λ v. map kept_token v.items) w.tokens }

@@ -10,6 +10,7 @@ use crate::mark::{Mark, behind_mark, is_sign};
 use crate::numbered::Numbered;
 use crate::opened::Opened;
 use crate::piece::Piece;
+use crate::spelling::Spelling;
 use kl1_model::Sign;
 use kl1_text::AtomText;
 use std::alloc::{AllocError, Global};
@@ -32,7 +33,7 @@ pub(crate) fn begin<'a>(alloc: Global, tokens: &'a [Numbered]) -> Result<Begun<'
 {
     match tokens {
         [] => Ok(Begun::Bad),
-        [first, rest @ ..] => begin_with(alloc, *first, rest),
+        [first, rest @ ..] => begin_with(alloc, first, rest),
     }
 }
 
@@ -40,34 +41,35 @@ pub(crate) fn begin<'a>(alloc: Global, tokens: &'a [Numbered]) -> Result<Begun<'
 #[tactic(auto, unfolding(crate::specs::Meanings::primary_read))]
 fn begin_with<'a>(
     alloc: Global,
-    first: Numbered,
+    first: &'a Numbered,
     rest: &'a [Numbered],
 ) -> Result<Begun<'a>, AllocError>
-    ensures value { IfOk result (λ b. Begins b (numbered_token first ∷ map numbered_token rest.now)) }
+    ensures value { IfOk result (λ b. Begins b (numbered_token first.now ∷ map numbered_token rest.now)) }
     ensures less { IfOk result (BegunLess (suc (length rest.now))) }
 {
     match first {
-        Numbered::Name(text, quotes, applied) => {
-            if applied {
-                call(alloc, text, quotes, rest)
+        Numbered::Name(quotes, applied, text) => {
+            if *applied {
+                let text = text.again(alloc)?;
+                call(alloc, text, *quotes, rest)
             } else {
-                let piece = Piece::atom(alloc, text)?;
+                let piece = Piece::atom(alloc, text.name())?;
                 Ok(Begun::Whole(piece, rest))
             }
         }
         Numbered::Variable(number) => {
-            let piece = Piece::variable(alloc, number)?;
+            let piece = Piece::variable(alloc, *number)?;
             Ok(Begun::Whole(piece, rest))
         }
-        Numbered::Digits(number) => positive(alloc, number, rest),
+        Numbered::Digits(number) => positive(alloc, *number, rest),
         Numbered::Minus(digit) => {
-            if digit {
+            if *digit {
                 negative(alloc, rest)
             } else {
                 Ok(Begun::Bad)
             }
         }
-        Numbered::Sign(sign) => open(alloc, sign, rest),
+        Numbered::Sign(sign) => open(alloc, *sign, rest),
         Numbered::End => Ok(Begun::Bad),
     }
 }
@@ -75,7 +77,7 @@ fn begin_with<'a>(
 /// A name and the bracket that opens its arguments.
 fn call<'a>(
     alloc: Global,
-    text: AtomText,
+    text: Spelling,
     _quotes: bool,
     rest: &'a [Numbered],
 ) -> Result<Begun<'a>, AllocError>
@@ -108,7 +110,7 @@ fn negative<'a>(alloc: Global, tokens: &'a [Numbered]) -> Result<Begun<'a>, Allo
 {
     match tokens {
         [] => Ok(Begun::Bad),
-        [first, rest @ ..] => negative_with(alloc, *first, rest),
+        [first, rest @ ..] => negative_with(alloc, first, rest),
     }
 }
 
@@ -116,16 +118,16 @@ fn negative<'a>(alloc: Global, tokens: &'a [Numbered]) -> Result<Begun<'a>, Allo
 #[tactic(auto, unfolding(crate::specs::Meanings::primary_read))]
 fn negative_with<'a>(
     alloc: Global,
-    first: Numbered,
+    first: &'a Numbered,
     rest: &'a [Numbered],
 ) -> Result<Begun<'a>, AllocError>
-    ensures value { IfOk result (λ b. Begins b (minus_token true ∷ numbered_token first ∷ map numbered_token rest.now)) }
+    ensures value { IfOk result (λ b. Begins b (minus_token true ∷ numbered_token first.now ∷ map numbered_token rest.now)) }
     ensures less { IfOk result (BegunLess (suc (length rest.now))) }
 {
     match first {
-        Numbered::Name(_text, _quotes, _applied) => Ok(Begun::Bad),
+        Numbered::Name(_quotes, _applied, _text) => Ok(Begun::Bad),
         Numbered::Variable(_number) => Ok(Begun::Bad),
-        Numbered::Digits(number) => below_zero(alloc, number, rest),
+        Numbered::Digits(number) => below_zero(alloc, *number, rest),
         Numbered::Minus(_digit) => Ok(Begun::Bad),
         Numbered::Sign(_sign) => Ok(Begun::Bad),
         Numbered::End => Ok(Begun::Bad),

@@ -11,6 +11,7 @@ use crate::mark::{Mark, behind_mark};
 use crate::numbered::Numbered;
 use crate::opened::Opened;
 use crate::piece::Piece;
+use crate::spelling::Spelling;
 use kl1_text::AtomText;
 use std::alloc::{AllocError, Global};
 
@@ -59,7 +60,7 @@ fn close_group<'a>(piece: Piece, tokens: &'a [Numbered]) -> Result<Closed<'a>, A
 /// Puts an expression behind arguments, and closes them where no comma follows.
 fn close_arguments<'a>(
     alloc: Global,
-    name: AtomText,
+    name: Spelling,
     arguments: Vec<Piece>,
     piece: Piece,
     tokens: &'a [Numbered],
@@ -73,7 +74,7 @@ fn close_arguments<'a>(
         Some(behind) => Ok(Closed::More(Opened::Arguments(name, arguments), behind)),
         None => match behind_mark(Mark::Close, tokens) {
             None => Ok(Closed::Bad),
-            Some(behind) => match Piece::structure(alloc, name, arguments)? {
+            Some(behind) => match Piece::structure(alloc, name.name(), arguments)? {
                 None => Ok(Closed::Bad),
                 Some(whole) => Ok(Closed::Whole(whole, behind)),
             },

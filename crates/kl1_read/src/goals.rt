@@ -4,14 +4,14 @@ ghost use Rattle.std.specs.Prelude.{◌≡◌, map, IfOk, IfErr};
 ghost use Rattle.kl1_model.specs.Module.{good, startable, term_of_tokens, read_goal};
 ghost use Rattle.kl1_read.specs.Sources.{IsFaultOf};
 ghost use Rattle.kl1_read.specs.Started.{started};
-ghost use Rattle.kl1_read.specs.Views.{spelled_token};
+ghost use Rattle.kl1_read.specs.Views.{kept_token};
 
 use crate::expression::read_expression;
 use crate::goal_kinds::is_goal;
+use crate::kept::Kept;
 use crate::numbering::numbered_tokens;
 use crate::piece::Piece;
 use crate::read_fault::ReadFault;
-use crate::spelled::Spelled;
 use crate::whole_text::{WholeText, all_tokens};
 use kl1_term::Term;
 use std::alloc::Global;
@@ -30,9 +30,9 @@ pub fn read_goal(alloc: Global, text: &[u8]) -> Result<Term, ReadFault>
 }
 
 /// The goal that tokens are, of which the first one is on this line.
-fn goal_of(alloc: Global, line: u64, tokens: Vec<Spelled>) -> Result<Term, ReadFault>
-    ensures goal { IfOk result (λ goal. startable line (term_of_tokens (map spelled_token tokens.items)) ≡ good goal) }
-    ensures fault { IfErr result (IsFaultOf (startable line (term_of_tokens (map spelled_token tokens.items)))) }
+fn goal_of(alloc: Global, line: u64, tokens: Vec<Kept>) -> Result<Term, ReadFault>
+    ensures goal { IfOk result (λ goal. startable line (term_of_tokens (map kept_token tokens.items)) ≡ good goal) }
+    ensures fault { IfErr result (IsFaultOf (startable line (term_of_tokens (map kept_token tokens.items)))) }
 {
     let numbered = numbered_tokens(alloc, tokens.as_slice())?;
     drop(tokens);

@@ -28,21 +28,22 @@ pub(crate) fn read_head<'a>(
 {
     match tokens {
         [] => Ok(None),
-        [first, rest @ ..] => read_head_with(alloc, *first, rest),
+        [first, rest @ ..] => read_head_with(alloc, first, rest),
     }
 }
 
 /// A head that begins with this token.
 fn read_head_with<'a>(
     alloc: Global,
-    first: Numbered,
+    first: &'a Numbered,
     rest: &'a [Numbered],
 ) -> Result<Option<(HeadTerms, &'a [Numbered])>, AllocError>
-    ensures { IfOk result (λ r. heading_view r ≡ heading_read (numbered_token first ∷ map numbered_token rest.now)) }
+    ensures { IfOk result (λ r. heading_view r ≡ heading_read (numbered_token first.now ∷ map numbered_token rest.now)) }
 {
     match first {
-        Numbered::Name(name, _quotes, applied) => {
-            if applied {
+        Numbered::Name(_quotes, applied, name) => {
+            let name = name.name();
+            if *applied {
                 read_arguments(alloc, name, rest)
             } else {
                 let head = HeadTerms {

@@ -5,7 +5,7 @@ ghost use Rattle.kl1_model.specs.Module.{last_item};
 ghost use Rattle.kl1_read.specs.Items.{items_left, items_of_next, GoesOn};
 
 use crate::front::{Front, front_of};
-use crate::spelled::Spelled;
+use crate::kept::{Kept, kept_of};
 use std::alloc::{AllocError, Global};
 
 /// The next item of a text.
@@ -23,7 +23,7 @@ pub(crate) enum Next<'a> {
 #[derive(Drop)]
 pub(crate) struct Item {
     pub(crate) line: u64,
-    pub(crate) tokens: Vec<Spelled>,
+    pub(crate) tokens: Vec<Kept>,
 }
 
 /// What is left of a text, and the line of its first byte, from 1.
@@ -68,7 +68,8 @@ pub(crate) fn next_item<'a>(alloc: Global, place: Place<'a>) -> Result<Next<'a>,
                     ));
                 }
                 began = Some(first);
-                tokens.push(token)?;
+                let kept = kept_of(alloc, token)?;
+                tokens.push(kept)?;
                 rest = behind;
             }
         }

@@ -42,7 +42,7 @@ pub(crate) fn is_sign(token: &Numbered, sign: Sign) -> bool
     ensures { IsTrue result ↔ (numbered_token token.now ≡ sign_token sign) }
 {
     match token {
-        Numbered::Name(_text, _quotes, _applied) => false,
+        Numbered::Name(_quotes, _applied, _text) => false,
         Numbered::Variable(_number) => false,
         Numbered::Digits(_number) => false,
         Numbered::Minus(_digit) => false,

@@ -5,17 +5,17 @@ ghost use Rattle.kl1_model.specs.Module.{good, read_module, clause_of, clauses_f
 ghost use Rattle.kl1_read.specs.Items.{items_left};
 ghost use Rattle.kl1_read.specs.Sources.{IsFaultOf, clause_of_parts, module_of_parts};
 ghost use Rattle.kl1_read.specs.Followings.{clauses_where};
-ghost use Rattle.kl1_read.specs.Views.{spelled_token};
+ghost use Rattle.kl1_read.specs.Views.{kept_token};
 
 use crate::clause::read_clause;
 use crate::clause_parts::ClauseParts;
 use crate::following::may_follow;
 use crate::item::{Item, Next, Place, next_item};
+use crate::kept::Kept;
 use crate::module_line::named_module;
 use crate::numbering::numbered_tokens;
 use crate::read_fault::ReadFault;
 use crate::source::Source;
-use crate::spelled::Spelled;
 use kl1_text::AtomText;
 use std::alloc::{AllocError, Global};
 
@@ -74,9 +74,9 @@ fn put_clause(
     alloc: Global,
     name: AtomText,
     clauses: &mut Vec<ClauseParts>,
-    tokens: Vec<Spelled>,
+    tokens: Vec<Kept>,
 ) -> Result<bool, AllocError>
-    ensures value { IfOk result (λ put. clauses_where put clauses.new.items ≡ with_clause (map clause_of_parts clauses.old.items) (clause_of name (map spelled_token tokens.items))) }
+    ensures value { IfOk result (λ put. clauses_where put clauses.new.items ≡ with_clause (map clause_of_parts clauses.old.items) (clause_of name (map kept_token tokens.items))) }
     ensures refused { IfOk result (λ put. put ≡ false → clauses.new.items ≡ clauses.old.items) }
     ensures err { OnErr result (clauses.new.items ≡ clauses.old.items) }
 {

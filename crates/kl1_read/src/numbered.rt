@@ -1,13 +1,13 @@
 // Tokens with numbers for variables.
 
 use kl1_model::Sign;
-use kl1_text::AtomText;
+use crate::spelling::Spelling;
 
 /// A token whose variables are known by their numbers in the item, from 1.
-#[derive(Clone, Copy)]
+#[derive(Drop)]
 pub(crate) enum Numbered {
-    /// A name, whether it stood in quotes, and whether a `(` stands directly behind it.
-    Name(AtomText, bool, bool),
+    /// Whether a name stood in quotes, whether a `(` stands directly behind it, and the name.
+    Name(bool, bool, Spelling),
     /// A variable.
     Variable(u64),
     /// Digits by their value, at most 2^63.

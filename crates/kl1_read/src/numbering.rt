@@ -8,10 +8,10 @@ ghost use Rattle.kl1_model.specs.Token.{Token};
 ghost use Rattle.kl1_model.specs.Numbering.{variable_number, seen_after, numbered_from, numbered_tokens};
 ghost use Rattle.kl1_text.specs.Words.{words_of};
 ghost use Rattle.kl1_read.specs.Spellings.{Finds};
-ghost use Rattle.kl1_read.specs.Views.{spelled_token, numbered_token};
+ghost use Rattle.kl1_read.specs.Views.{kept_token, numbered_token};
 
+use crate::kept::Kept;
 use crate::numbered::Numbered;
-use crate::spelled::Spelled;
 use kl1_text::AtomText;
 use std::alloc::{AllocError, Global};
 use std::collections::HashMap;
@@ -75,40 +75,44 @@ fn number_of(
 
 /// A token with a number for its variable.
 fn number_token(
+    alloc: Global,
     numbers: &mut HashMap<[u64; 8], u64>,
     seen: &mut Vec<AtomText>,
-    token: Spelled,
+    token: &Kept,
 ) -> Result<Numbered, AllocError>
     requires { Finds numbers.old seen.old.items }
     ensures finds { OnOk result (Finds numbers.new seen.new.items) }
-    ensures token { IfOk result (λ r. (ts : List (Token (List ℕ))) → numbered_token r ∷ numbered_from seen.new.items ts ≡ numbered_from seen.old.items (spelled_token token ∷ ts)) }
+    ensures token { IfOk result (λ r. (ts : List (Token (List ℕ))) → numbered_token r ∷ numbered_from seen.new.items ts ≡ numbered_from seen.old.items (kept_token token.now ∷ ts)) }
 {
     match token {
-        Spelled::Name(text, quotes, applied) => Ok(Numbered::Name(text, quotes, applied)),
-        Spelled::Variable(text) => {
-            let number = number_of(numbers, seen, text)?;
+        Kept::Name(quotes, applied, text) => {
+            let text = text.again(alloc)?;
+            Ok(Numbered::Name(*quotes, *applied, text))
+        }
+        Kept::Variable(text) => {
+            let number = number_of(numbers, seen, text.name())?;
             Ok(Numbered::Variable(number))
         }
-        Spelled::Digits(number) => Ok(Numbered::Digits(number)),
-        Spelled::Minus(digit) => Ok(Numbered::Minus(digit)),
-        Spelled::Sign(sign) => Ok(Numbered::Sign(sign)),
-        Spelled::End => Ok(Numbered::End),
+        Kept::Digits(number) => Ok(Numbered::Digits(*number)),
+        Kept::Minus(digit) => Ok(Numbered::Minus(*digit)),
+        Kept::Sign(sign) => Ok(Numbered::Sign(*sign)),
+        Kept::End => Ok(Numbered::End),
     }
 }
 
 /// The tokens of an item with numbers for their variables, from 1 by first occurrence.
 pub(crate) fn numbered_tokens(
     alloc: Global,
-    tokens: &[Spelled],
+    tokens: &[Kept],
 ) -> Result<Vec<Numbered>, AllocError>
-    ensures { IfOk result (λ ts. map numbered_token ts.items ≡ numbered_tokens (map spelled_token tokens.now)) }
+    ensures { IfOk result (λ ts. map numbered_token ts.items ≡ numbered_tokens (map kept_token tokens.now)) }
 {
     let mut numbers = HashMap::new(alloc);
     let mut seen = Vec::new(alloc);
     let mut out = Vec::with_capacity(alloc, tokens.len())?;
     let mut rest = tokens;
     while let [first, others @ ..] = rest {
-        let token = number_token(&mut numbers, &mut seen, *first)?;
+        let token = number_token(alloc, &mut numbers, &mut seen, first)?;
         out.push(token)?;
         rest = others;
     }

@@ -1,7 +1,7 @@
 // What a bracket opened.
 
 use crate::piece::Piece;
-use kl1_text::AtomText;
+use crate::spelling::Spelling;
 
 /// What a bracket opened and nothing has closed yet.
 #[derive(Drop)]
@@ -9,7 +9,7 @@ pub(crate) enum Opened {
     /// An expression in parentheses.
     Group,
     /// The arguments of a name, those that are read.
-    Arguments(AtomText, Vec<Piece>),
+    Arguments(Spelling, Vec<Piece>),
     /// The elements of a list, those that are read.
     Elements(Vec<Piece>),
     /// What follows the elements of a list behind a bar.

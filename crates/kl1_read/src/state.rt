@@ -1,19 +1,20 @@
 // Terms that are being read.
 
-ghost use Rattle.std.specs.Prelude.{◌≡◌, ◌∷◌, map, reverse, length, IsTrue, IfOk};
+ghost use Rattle.std.specs.Prelude.{◌≡◌, map, reverse, length, IsTrue, IfOk};
 ghost use Rattle.std.specs.List.{list_all};
 ghost use Rattle.kl1_model.specs.Meaning.{is_writable};
 ghost use Rattle.kl1_read.specs.Views.{numbered_token};
-ghost use Rattle.kl1_read.specs.Meanings.{fit, primary_then, after_primary, after_expression, after_last};
+ghost use Rattle.kl1_read.specs.Meanings.{fit, primary_then, after_primary, after_expression, after_opened, after_last};
 ghost use Rattle.kl1_read.specs.States.{state_answer, step_answer, StepLess, DoneFits};
 
 use crate::begun::{Begun, begin};
 use crate::closed::{Closed, close};
-use crate::frame::Frame;
+use crate::frame::{Frame, frame_of, parts_of};
 use crate::joined::{Joined, join};
 use crate::left::Left;
 use crate::mark::{Mark, behind_mark};
 use crate::numbered::Numbered;
+use crate::opened::Opened;
 use crate::piece::Piece;
 use std::alloc::{AllocError, Global};
 
@@ -83,7 +84,8 @@ fn step_in<'a>(
         })),
         Begun::Opens(opened, inside) => {
             let mut frames = frames;
-            frames.push(Frame { opened, left })?;
+            let frame = frame_of(alloc, opened, left)?;
+            frames.push(frame)?;
             Ok(Step::On(State {
                 frames,
                 left: Left::none(),
@@ -138,7 +140,10 @@ fn step_out<'a>(
     let mut frames = frames;
     match frames.pop() {
         None => step_last(alloc, done, piece, rest),
-        Some(frame) => step_closed(alloc, frames, frame, done, piece, rest),
+        Some(frame) => {
+            let (opened, left) = parts_of(frame);
+            step_closed(alloc, frames, opened, left, done, piece, rest)
+        }
     }
 }
 
@@ -146,22 +151,23 @@ fn step_out<'a>(
 fn step_closed<'a>(
     alloc: Global,
     frames: Vec<Frame>,
-    frame: Frame,
+    opened: Opened,
+    left: Left,
     done: Vec<Piece>,
     piece: Piece,
     rest: &'a [Numbered],
 ) -> Result<Step<'a>, AllocError>
     requires { IsTrue (list_all is_writable done.items) }
     ensures fits { IfOk result DoneFits }
-    ensures value { IfOk result (λ s. fit (step_answer s) ≡ fit (after_expression (frame ∷ reverse frames.items) done.items piece (map numbered_token rest.now))) }
+    ensures value { IfOk result (λ s. fit (step_answer s) ≡ fit (after_opened opened (after_primary left (after_expression (reverse frames.items) done.items)) piece (map numbered_token rest.now))) }
     ensures less { IfOk result (StepLess (length rest.now)) }
 {
-    let Frame { opened, left } = frame;
     match close(alloc, opened, piece, rest)? {
         Closed::Bad => Ok(Step::Bad),
         Closed::More(opened, behind) => {
             let mut frames = frames;
-            frames.push(Frame { opened, left })?;
+            let frame = frame_of(alloc, opened, left)?;
+            frames.push(frame)?;
             Ok(Step::On(State {
                 frames,
                 left: Left::none(),

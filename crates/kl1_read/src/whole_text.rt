@@ -5,14 +5,14 @@ ghost use Rattle.kl1_model.specs.ReadLaws.{tokens_at};
 ghost use Rattle.kl1_read.specs.WholeTexts.{whole_view, whole_of};
 
 use crate::front::{Front, front_of};
-use crate::spelled::Spelled;
+use crate::kept::{Kept, kept_of};
 use std::alloc::{AllocError, Global};
 
 /// The tokens of a whole text, or none where a byte is no token; with the line of the first of them.
 #[derive(Drop)]
 pub(crate) struct WholeText {
     pub(crate) line: u64,
-    pub(crate) tokens: Option<Vec<Spelled>>,
+    pub(crate) tokens: Option<Vec<Kept>>,
 }
 
 /// The tokens of a text.
@@ -45,7 +45,8 @@ pub(crate) fn all_tokens(alloc: Global, bytes: &[u8]) -> Result<WholeText, Alloc
             Front::Blank(behind) => rest = behind,
             Front::Token(token, behind) => {
                 began = Some(began.unwrap_or(line));
-                tokens.push(token)?;
+                let kept = kept_of(alloc, token)?;
+                tokens.push(kept)?;
                 rest = behind;
             }
         }

@@ -1,7 +1,7 @@
 use Rattle.std.proofs.Common.{◌≡◌, ◌++◌, map, length}
 use Rattle.kl1_model.specs.Numbering.{numbered_from, numbered_tokens}
 use Rattle.kl1_read.specs.Spellings.{Finds}
-use Rattle.kl1_read.specs.Views.{spelled_token, numbered_token}
+use Rattle.kl1_read.specs.Views.{kept_token, numbered_token}
 use Rattle.kl1_read.proofs.numbering.numbered_tokens.Given as goal
 
 -- the tokens so far, and those that are left with their numbers, are the whole; the numbers of the variables seen are found
@@ -9,7 +9,7 @@ abbrev pub invariant-loop-rest : goal.invariant-loop-rest
 invariant-loop-rest l =
     record {
       finds : Finds l.numbers l.seen.items;
-      same : map numbered_token l.out.items ++ numbered_from l.seen.items (map spelled_token l.rest) ≡ numbered_tokens (map spelled_token l.tokens);
+      same : map numbered_token l.out.items ++ numbered_from l.seen.items (map kept_token l.rest) ≡ numbered_tokens (map kept_token l.tokens);
     }
 
 abbrev pub decreases-loop-rest : goal.decreases-loop-rest

@@ -15,4 +15,4 @@ returns-in-Whole-clause-value c =
 
 pub returns-in_ok-push-in-Opens-clause-value : goal.returns-in_ok-push-in-Opens-clause-value
 returns-in_ok-push-in-Opens-clause-value c =
-    rw c.none.ensures (ap fit (frame_opens c.args.frames.items c.push.new.self.items c.in-Opens.opened c.args.left c.args.done.items (map numbered_token c.in-Opens.inside.now) c.in_ok-push-in-Opens.ensures.items) ∙ begun_on c.in_ok-begin.field-0 (Opens c.in-Opens.opened c.in-Opens.inside) c.args.left (reverse c.args.frames.items) c.args.done.items (map numbered_token c.args.rest.now) c.in-Opens.is c.in_ok-begin.ensures.value)
+    rw c.none.ensures (ap fit (frame_opens c.args.frames.items c.push.new.self.items c.in_ok-frame-in-Opens.frame c.in-Opens.opened c.args.left c.args.done.items (map numbered_token c.in-Opens.inside.now) c.in_ok-push-in-Opens.ensures.items c.in_ok-frame-in-Opens.ensures.opened c.in_ok-frame-in-Opens.ensures.left) ∙ begun_on c.in_ok-begin.field-0 (Opens c.in-Opens.opened c.in-Opens.inside) c.args.left (reverse c.args.frames.items) c.args.done.items (map numbered_token c.args.rest.now) c.in-Opens.is c.in_ok-begin.ensures.value)

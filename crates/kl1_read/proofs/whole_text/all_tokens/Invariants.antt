@@ -1,6 +1,6 @@
 use Rattle.std.proofs.Common.{◌≡◌, ◌+◌, ◌≤◌, length, map}
 use Rattle.kl1_model.specs.ReadLaws.{tokens_at}
-use Rattle.kl1_read.specs.Views.{spelled_token}
+use Rattle.kl1_read.specs.Views.{kept_token}
 use Rattle.kl1_read.specs.WholeTexts.{whole_from, whole_of}
 use Rattle.kl1_read.proofs.whole_text.all_tokens.Given as goal
 
@@ -8,7 +8,7 @@ use Rattle.kl1_read.proofs.whole_text.all_tokens.Given as goal
 abbrev pub invariant-tokens : goal.invariant-tokens
 invariant-tokens l =
     record {
-      same : whole_from l.began (map spelled_token l.tokens.items) (tokens_at l.line l.rest) ≡ whole_of (tokens_at 1 l.bytes);
+      same : whole_from l.began (map kept_token l.tokens.items) (tokens_at l.line l.rest) ≡ whole_of (tokens_at 1 l.bytes);
       lines : l.line + length l.rest ≤ 1 + length l.bytes;
     }
 

@@ -1,0 +1,86 @@
+// Names in little room.
+
+ghost use Rattle.std.specs.Prelude.{◌≡◌, IfOk};
+ghost use Rattle.kl1_read.specs.Held.{text_held, IsHeld, short_words};
+
+use kl1_text::AtomText;
+use std::alloc::{AllocError, Global};
+use std::marker::Model;
+
+/// Where a name is held.
+#[derive(Drop)]
+pub(crate) enum Held {
+    /// At most eight bytes, in the name's first word.
+    Short(u64),
+    /// In memory of its own.
+    Long(Box<AtomText>),
+}
+
+/// A name that takes two words, and memory of its own where it has more than eight bytes.
+#[derive(Drop)]
+pub(crate) struct Spelling {
+    held: Held,
+}
+
+impl Model for Spelling {
+    ghost use Rattle.std.specs.Prelude.{ℕ, List};
+    ghost use Rattle.kl1_read.specs.Held.{text_held, IsHeld};
+
+    ghost Value = { List ℕ };
+
+    ghost view = { λ s. text_held s.held };
+
+    ghost invariant = { λ s. IsHeld s.held };
+}
+
+impl Spelling {
+    /// A name in little room.
+    pub(crate) fn of(alloc: Global, text: AtomText) -> Result<Self, AllocError>
+        ensures { IfOk result (λ spelling. spelling ≡ text) }
+    {
+        text.shows_text();
+        let words = text.words();
+        let word = words[0];
+        if words == short_words(word) {
+            return Ok(Spelling {
+                held: Held::Short(word),
+            });
+        }
+        let long = Box::new(alloc, text)?;
+        Ok(Spelling {
+            held: Held::Long(long),
+        })
+    }
+
+    /// The name.
+    pub(crate) fn name(&self) -> AtomText
+        ensures { result ≡ self.now }
+    {
+        name_held(&self.held)
+    }
+
+    /// The same name once more.
+    pub(crate) fn again(&self, alloc: Global) -> Result<Self, AllocError>
+        ensures { IfOk result (λ spelling. spelling ≡ self.now) }
+    {
+        Spelling::of(alloc, self.name())
+    }
+}
+
+/// The name that is held.
+fn name_held(held: &Held) -> AtomText
+    requires { IsHeld held.now }
+    ensures { result ≡ text_held held.now }
+{
+    match held {
+        Held::Short(word) => AtomText::of_words(short_words(*word)),
+        Held::Long(text) => **text,
+    }
+}
+
+/// The words of a name of at most eight bytes.
+fn short_words(word: u64) -> [u64; 8]
+    ensures { result ≡ short_words word }
+{
+    [word, 0, 0, 0, 0, 0, 0, 0]
+}
