@@ -66,40 +66,6 @@ fn reduction(
     Ok(Outcome::Done(work))
 }
 
-/// What comes of reducing a goal with its term's cell by the clause of a number, where the journal has so many entries. Where
-/// memory is refused, the store may have grown.
-fn reduce_cell(
-    alloc: Global,
-    store: &mut Store<AtomText>,
-    modules: &[Code],
-    goals: &[Goal],
-    shoens: &[Shoen],
-    last_goal: u64,
-    entries: u64,
-    goal: &Goal,
-    cell: Cell<AtomText>,
-    clause: u64,
-) -> Result<Outcome, AllocError>
-    requires some { 0 < store.old.held.variables }
-    requires goals { AreGoalsIn store.old.held goals.now }
-    requires owned { AreOwned (length shoens.now) goals.now }
-    requires shoens { AreShoensIn store.old.held shoens.now }
-    requires numbered { AreNumbered 0 shoens.now }
-    requires goal { find (has_number goal.now.number) goals.now ≡ Some goal.now }
-    requires task { goal.now.task ≡ Reduces cell }
-    ensures ok { IfOk result (λ outcome. (number : ℕ) → (is_number number && is_number clause) ≡ true → find (has_number number) goals.now ≡ Some goal.now → ReducesAs store.old.held store.new.held modules.now goals.now shoens.now last_goal entries number clause outcome) }
-    ensures grown { Grown store.old.held store.new.held }
-    ensures hooks { store.new.hooks ≡ store.old.hooks }
-{
-    let found = move_of(alloc, store, modules, cell, clause)?;
-    match &found {
-        None => Ok(Outcome::Refused(Refusal::Step)),
-        Some(made) => reduction(
-            alloc, store, modules, goals, shoens, last_goal, entries, goal, &cell, clause, made,
-        ),
-    }
-}
-
 /// What comes of reducing the goal of a number by the clause of a number, where the journal has so many entries. Where memory
 /// is refused, the store may have grown.
 pub(crate) fn reduce_number(
@@ -131,7 +97,11 @@ pub(crate) fn reduce_number(
     let Some(cell) = cell_of(goal) else {
         return Ok(Outcome::Refused(Refusal::Step));
     };
-    reduce_cell(
-        alloc, store, modules, goals, shoens, last_goal, entries, goal, cell, clause,
-    )
+    let found = move_of(alloc, store, modules, cell, clause)?;
+    match &found {
+        None => Ok(Outcome::Refused(Refusal::Step)),
+        Some(made) => reduction(
+            alloc, store, modules, goals, shoens, last_goal, entries, goal, &cell, clause, made,
+        ),
+    }
 }

@@ -52,9 +52,9 @@ pub(crate) fn start(
     if MOST_ENTRIES <= entries {
         return Ok(Begun::Refused(Refusal::Journal));
     }
+    put_nodes(names, goal.nodes())?;
     let work = started(
         alloc, store, modules, goals, shoens, last_goal, allowance, low, high, goal,
     )?;
-    put_nodes(names, goal.nodes())?;
     Ok(Begun::Started(work))
 }
