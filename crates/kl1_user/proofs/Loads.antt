@@ -17,7 +17,9 @@ use Rattle.kl1_user.specs.declared.loading.Loading.TheVariants.{Loaded}
 use Rattle.kl1_user.specs.declared.user_state.UserState.TheInside.{Inside}
 use Rattle.kl1_user.specs.Accounts.{state_of, IsKept}
 use Rattle.kl1_user.specs.Kept.{meaning, goal_with, AreGoalsIn, AreOwned, AreStanding}
-use Rattle.kl1_user.specs.Loadings.{LoadRefused, LoadDone, LoadsAs}
+use Rattle.kl1_clause.specs.NameList.{with_texts}
+use Rattle.kl1_user.specs.Loadings.{IsPut, LoadRefused, LoadDone, LoadsAs}
+use Rattle.kl1_user.proofs.UsedNames.{of_module}
 use Rattle.kl1_user.proofs.Leavings.{stood_read, stood_in, stood_owned, all_stand}
 
 -- a source that is too long
@@ -52,16 +54,25 @@ load_full modules names entries text m h r there full = record {
   steps = λ s at. rw (le-leb (length text) most_source_bytes h) (ap (load_module s) r ∙ rw (at.modules_are, there, at.entries_are, le-ltb entries most_entries full) refl);
 }
 
+-- a module that is put behind the others, and its names to those that are used
+pub module_put : (h : Held (List ℕ)) (modules after lent : List Module) (names used listed : List (List ℕ)) (goals standing : List Goal) (m : Module) →
+    after ≡ modules ++ m ∷ [] → used ≡ with_texts names listed → listed ≡ with_names [] (names_of_module m) → lent ≡ after → standing ≡ map (stood h lent) goals → IsPut h modules after names used goals m standing
+module_put h modules after lent names used listed goals standing m behind put texts same e = record {
+  modules_are = behind;
+  names_are = put ∙ (ap (with_texts names) texts ∙ of_module names m);
+  goals_are = e ∙ ap (λ ms. map (stood h ms) goals) same;
+}
+
 -- a module that is loaded
 pub load_done : (h : Held (List ℕ)) (modules after : List Module) (names used : List (List ℕ)) (goals standing : List Goal) (entries : ℕ) (text : List ℕ) (m : Module) →
     length text ≤ most_source_bytes → read_module text ≡ good m → is_some (module_of modules m.name) ≡ false → entries < most_entries →
-    after ≡ modules ++ m ∷ [] → used ≡ with_names names (names_of_module m) → standing ≡ map (stood h after) goals → LoadDone h modules after names used goals entries text m.name standing
-load_done h modules after names used goals standing entries text m short r there room modules_are names_are goals_are = record {
+    IsPut h modules after names used goals m standing → LoadDone h modules after names used goals entries text m.name standing
+load_done h modules after names used goals standing entries text m short r there room put = record {
   m = m;
   room = room;
-  modules_are = modules_are;
-  names_are = names_are;
-  goals_are = goals_are;
+  modules_are = put.modules_are;
+  names_are = put.names_are;
+  goals_are = put.goals_are;
   steps = λ s at. rw (le-leb (length text) most_source_bytes short) (ap (load_module s) r ∙ rw (at.modules_are, there, at.entries_are, lt-ltb entries most_entries room) refl);
 }
 

@@ -183,5 +183,16 @@ unified_as h mid full new v m s next name u w p q r e told =
 pub grown_message : (h new : Held (List ℕ)) (m : Cell (List ℕ)) → new ≡ with_message h m → Grown h new
 grown_message h new m e = grown_sent h new m (let P : Held (List ℕ) → Type 0 = λ k. Grown (with_message h m) k in subst P (sym e) (Grown-same (with_message h m)))
 
+-- where memory is refused, the store has grown by the new variable, or by that and the list cell
+pub grown_next : (h mid new : Held (List ℕ)) → mid ≡ with_variable h → new ≡ mid → Grown h new
+grown_next h mid new e f =
+    let P : Held (List ℕ) → Type 0 = λ k. Grown h k in
+    subst P (sym (f ∙ e)) (Grown-variable h)
+
+pub grown_full : (h mid full new : Held (List ℕ)) (name : List ℕ) (parts : List (Cell (List ℕ))) → mid ≡ with_variable h → full ≡ with_structure mid name parts → new ≡ full → Grown h new
+grown_full h mid full new name parts e g f =
+    let P : Held (List ℕ) → Type 0 = λ k. Grown h k in
+    subst P (sym (f ∙ g)) (Grown-trans h mid (with_structure mid name parts) (subst P (sym e) (Grown-variable h)) (Grown-structure mid name parts))
+
 pub same_hooks : {A : Type 0} (old new : List A) → new ≡ old → take (length old) new ≡ old
 same_hooks old new e = ap (take (length old)) e ∙ take_all (length old) old (omega arith)

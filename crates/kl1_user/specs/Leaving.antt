@@ -1,5 +1,5 @@
 -- What is left of an account after a change, before it is put in place.
-use Rattle.std.specs.Prelude.{◌≡◌, ℕ, ◌<◌, List, length, Some}
+use Rattle.std.specs.Prelude.{◌≡◌, ℕ, ◌<◌, List, length}
 use Rattle.kl1_model.specs.Module.{Module}
 use Rattle.kl1_model.specs.State.{State, without_goal}
 use Rattle.kl1_model.specs.Report.{settle}
@@ -17,7 +17,6 @@ use Rattle.kl1_user.specs.declared.outcome.Outcome.{Outcome}
 use Rattle.kl1_user.specs.declared.outcome.Outcome.TheVariants.{Refused, Done}
 use Rattle.kl1_user.specs.declared.refusal.Refusal.{Refusal}
 use Rattle.kl1_user.specs.Views.{refusal_of}
-use Rattle.kl1_user.specs.Moves.{move_by}
 use Rattle.kl1_user.specs.Works.{worked, IsWorkIn}
 
 -- a change is ready to be put in place, and comes to this state
@@ -32,11 +31,6 @@ pub record Leaves (new : Held (List ℕ)) (modules : List Module) (shoens : List
 abbrev pub reduced_to : Held (List ℕ) → List Goal → List Shoen → ℕ → Goal → Cell (List ℕ) → model.Move → State → State
 reduced_to old goals shoens last_goal g x m s =
     settle g.shoen (moved (goal_with (meaning old) g) (meaning old x) m (without_goal g.number (with_kept (record s { last_goal = last_goal }) old goals shoens)))
-
--- a goal was reduced
-abbrev pub IsReduced : Held (List ℕ) → Held (List ℕ) → List Module → List Goal → List Shoen → ℕ → Goal → Cell (List ℕ) → ℕ → Work → Type 0
-IsReduced old new modules goals shoens last_goal g x clause w =
-    (m : model.Move) → move_by modules (meaning old x) clause ≡ Some m → Leaves new modules shoens w (reduced_to old goals shoens last_goal g x m)
 
 -- a state whose goals and shoens are kept so, with these modules and so many entries
 pub record IsAt (s : State) (h : Held (List ℕ)) (modules : List Module) (goals : List Goal) (shoens : List Shoen) (last_goal entries : ℕ) : Type 0 where

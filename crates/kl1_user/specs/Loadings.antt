@@ -17,6 +17,12 @@ pub record HasModules (s : State) (modules : List Module) (entries : ℕ) : Type
   pub modules_are : s.modules ≡ modules
   pub entries_are : s.entries ≡ entries
 
+-- a module is put behind the others and its names to those that are used, and the goals stand as its clauses have it
+pub record IsPut (h : Held (List ℕ)) (modules after : List Module) (names used : List (List ℕ)) (goals : List Goal) (m : Module) (standing : List Goal) : Type 0 where
+  pub modules_are : after ≡ modules ++ m ∷ []
+  pub names_are : used ≡ with_names names (names_of_module m)
+  pub goals_are : standing ≡ map (stood h after) goals
+
 -- a load is refused, and nothing has changed
 pub record LoadRefused (modules after : List Module) (names used : List (List ℕ)) (entries : ℕ) (source : List ℕ) (r : Refusal) : Type 0 where
   pub modules_same : after ≡ modules

@@ -10,7 +10,7 @@ use kl1_text::AtomText;
 use std::marker::Model;
 
 /// The name of an account: a small letter, and then small letters and digits, at most 16 bytes.
-#[derive(Clone, Copy, PartialEq, Eq)]
+#[derive(Clone, Copy)]
 pub struct AccountName {
     text: AtomText,
 }

@@ -72,21 +72,21 @@ pub(crate) fn verdict_at(
     ensures { IfOk result (IsVerdictAt code.now store.now.held place (cell_of call.now) places.new.items) }
 {
     let clause = clause_at(code, place);
-    let given = verdict_on(alloc, store, code.names(), clause, call.cell(), places)?;
-    Ok(given)
+    verdict_on(alloc, store, code.names(), clause, call.cell(), places)
 }
 
-/// The least number of a clause of a module that accepts a call, or 0 where each rejects it, or nothing.
+/// The least number of a clause of a module that accepts a call, or 0 where each rejects it, or nothing. The places are made
+/// anew for each clause.
 fn least_clause(
     alloc: Global,
     store: &Store<AtomText>,
     code: &Code,
     call: &Call,
+    places: &mut Vec<Place<AtomText>>,
 ) -> Result<Option<u64>, AllocError>
     requires { IsIn store.now.held (cell_of call.now) }
     ensures { IfOk result (λ found. found ≡ answer_of false 1 (filter (is_of call.now.name call.now.count) code.now.clauses) (arguments_at store.now.held call.now)) }
 {
-    let mut places = Vec::new(alloc);
     let count = code.clause_count();
     let mut seen: u64 = 0;
     let mut waits = false;
@@ -96,7 +96,7 @@ fn least_clause(
             place += 1;
             continue;
         }
-        match verdict_at(alloc, store, code, place, call, &mut places)? {
+        match verdict_at(alloc, store, code, place, call, places)? {
             Verdict::Accepts => return Ok(Some(seen + 1)),
             Verdict::Rejects => {
                 seen += 1;
@@ -149,8 +149,8 @@ pub(crate) fn least_number(
     match place_of_module(codes, &call.module_name) {
         None => Ok(Some(0)),
         Some(place) => {
-            let found = least_clause(alloc, store, &codes[place], call)?;
-            Ok(found)
+            let mut places = Vec::new(alloc);
+            least_clause(alloc, store, &codes[place], call, &mut places)
         }
     }
 }

@@ -39,10 +39,7 @@ pub(crate) fn close(store: &mut Store<AtomText>, work: &Work) -> Result<(), Allo
     }
     let _formed = store.mark();
     match store.walk(work.shoen.tail) {
-        Cell::Variable(variable) => {
-            end(store, variable)?;
-            Ok(())
-        }
+        Cell::Variable(variable) => { end(store, variable) }
         Cell::Integer(_number) => Ok(()),
         Cell::Atom(_name) => Ok(()),
         Cell::Structure(_structure) => Ok(()),

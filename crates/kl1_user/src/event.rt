@@ -4,7 +4,7 @@ use crate::numbers::{ClauseNo, GoalNo, ShoenNo};
 use kl1_term::Term;
 
 /// What is asked of an account without a change.
-#[derive(Clone, Copy, Debug, PartialEq, Eq)]
+#[derive(Clone, Copy)]
 pub enum Query {
     /// The goal of a shoen as started, with what is bound now.
     Value(ShoenNo),

@@ -1,17 +1,15 @@
 // Modules that are loaded.
 
-ghost use Rattle.std.specs.Prelude.{◌≡◌, ◌∷◌, [], ◌++◌, map, is_some, OnOk, OnErr, IfOk};
+ghost use Rattle.std.specs.Prelude.{◌≡◌, length, take, is_some, IfOk};
 ghost use Rattle.kl1_model.specs.Match.{module_of};
-ghost use Rattle.kl1_model.specs.State.{names_of_module, with_names};
 ghost use Rattle.kl1_user.specs.Kept.{AreGoalsIn};
-ghost use Rattle.kl1_user.specs.Lists.{stood};
-ghost use Rattle.kl1_user.specs.Loadings.{LoadsAs};
+ghost use Rattle.kl1_user.specs.Loadings.{IsPut, LoadsAs};
 
 use crate::goal::Goal;
 use crate::goals::standing_goals;
 use crate::limits::MOST_ENTRIES;
 use crate::refusal::Refusal;
-use crate::used_names::use_module;
+use crate::used_names::put_texts;
 use kl1_clause::{Code, CodeFault};
 use kl1_store::Store;
 use kl1_text::AtomText;
@@ -42,28 +40,8 @@ fn has_module(modules: &[Code], name: &AtomText) -> bool
     false
 }
 
-/// Puts a module behind the others, and its names to those that are used.
-fn put_code(
-    modules: &mut Vec<Code>,
-    names: &mut Vec<AtomText>,
-    code: Code,
-) -> Result<(), AllocError>
-    ensures modules { OnOk result (modules.new.items ≡ modules.old.items ++ code ∷ []) }
-    ensures names { OnOk result (names.new.items ≡ with_names names.old.items (names_of_module code)) }
-    ensures modules_err { OnErr result (modules.new.items ≡ modules.old.items) }
-    ensures names_err { OnErr result (names.new.items ≡ names.old.items) }
-{
-    let before = names.len();
-    use_module(names, &code)?;
-    if modules.push(code).is_err() {
-        names.truncate(before);
-        return Err(AllocError);
-    }
-    Ok(())
-}
-
 /// Puts a module behind the others, its names to those that are used, and gives the goals, each with the clause by which it
-/// can step then.
+/// can step then. Where memory is refused, the module and some of its names may be there.
 fn put_module(
     alloc: Global,
     store: &Store<AtomText>,
@@ -73,24 +51,17 @@ fn put_module(
     code: Code,
 ) -> Result<Vec<Goal>, AllocError>
     requires { AreGoalsIn store.now.held goals.now }
-    ensures modules { OnOk result (modules.new.items ≡ modules.old.items ++ code ∷ []) }
-    ensures names { OnOk result (names.new.items ≡ with_names names.old.items (names_of_module code)) }
-    ensures goals { IfOk result (λ after. after.items ≡ map (stood store.now.held modules.new.items) goals.now) }
-    ensures modules_err { OnErr result (modules.new.items ≡ modules.old.items) }
-    ensures names_err { OnErr result (names.new.items ≡ names.old.items) }
+    ensures ok { IfOk result (λ after. IsPut store.now.held modules.old.items modules.new.items names.old.items names.new.items goals.now code after.items) }
+    ensures modules_kept { take (length modules.old.items) modules.new.items ≡ modules.old.items }
+    ensures names_kept { take (length names.old.items) names.new.items ≡ names.old.items }
 {
-    let many = modules.len();
-    let before = names.len();
-    put_code(modules, names, code)?;
-    let after = standing_goals(alloc, store, modules.as_slice(), goals);
-    if after.is_err() {
-        modules.truncate(many);
-        names.truncate(before);
-    }
-    after
+    put_texts(names, code.names())?;
+    modules.push(code)?;
+    standing_goals(alloc, store, modules.as_slice(), goals)
 }
 
-/// What comes of loading a source, where the journal has so many entries.
+/// What comes of loading a source, where the journal has so many entries. Where memory is refused, a module and names may be
+/// behind those that were there.
 pub(crate) fn load(
     alloc: Global,
     store: &Store<AtomText>,
@@ -102,8 +73,8 @@ pub(crate) fn load(
 ) -> Result<Loading, AllocError>
     requires { AreGoalsIn store.now.held goals.now }
     ensures ok { IfOk result (LoadsAs store.now.held modules.old.items modules.new.items names.old.items names.new.items goals.now entries source.now) }
-    ensures modules_err { OnErr result (modules.new.items ≡ modules.old.items) }
-    ensures names_err { OnErr result (names.new.items ≡ names.old.items) }
+    ensures modules_kept { take (length modules.old.items) modules.new.items ≡ modules.old.items }
+    ensures names_kept { take (length names.old.items) names.new.items ≡ names.old.items }
 {
     if source.len() > MOST_SOURCE_BYTES {
         return Ok(Loading::Refused(Refusal::Syntax));

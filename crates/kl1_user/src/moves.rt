@@ -43,10 +43,7 @@ pub(crate) fn clause_for(
     ensures { IfOk result (λ clause. clause ≡ term_clause codes.now (term_of (λ a. a) store.now.held goal)) }
 {
     match kind_of(store, goal) {
-        Kind::Calls(call) => {
-            let found = least_number(alloc, store, codes, &call)?;
-            Ok(found)
-        }
+        Kind::Calls(call) => { least_number(alloc, store, codes, &call) }
         Kind::Unifies(_, _) => Ok(Some(0)),
         Kind::Goes => Ok(Some(0)),
         Kind::Nothing => Ok(None),
@@ -67,11 +64,9 @@ pub(crate) fn move_of(
     match kind_of(store, goal) {
         Kind::Calls(call) => {
             if clause == 0 {
-                let found = failing(alloc, store, codes, &call)?;
-                return Ok(found);
+                return failing(alloc, store, codes, &call);
             }
-            let found = committing(alloc, store, codes, &call, clause)?;
-            Ok(found)
+            committing(alloc, store, codes, &call, clause)
         }
         Kind::Unifies(left, right) => {
             if clause == 0 {
@@ -154,9 +149,6 @@ fn committing(
 {
     match place_of_module(codes, &call.module_name) {
         None => Ok(None),
-        Some(place) => {
-            let found = committing_in(alloc, store, &codes[place], place, call, number)?;
-            Ok(found)
-        }
+        Some(place) => { committing_in(alloc, store, &codes[place], place, call, number) }
     }
 }

@@ -49,17 +49,10 @@ fn do_move(
         } => {
             let module = &modules[*code];
             let compiled = &module.clauses()[*number];
-            commit(alloc, store, module.names(), compiled, places, goal, work)?;
-            Ok(())
+            commit(alloc, store, module.names(), compiled, places, goal, work)
         }
-        Move::Fails => {
-            raise(store, work, cell)?;
-            Ok(())
-        }
-        Move::Unifies(left, right) => {
-            unify(store, work, cell, *left, *right)?;
-            Ok(())
-        }
+        Move::Fails => { raise(store, work, cell) }
+        Move::Unifies(left, right) => { unify(store, work, cell, *left, *right) }
         Move::Goes => Ok(()),
     }
 }
@@ -84,6 +77,5 @@ pub(crate) fn reduce(
     ensures hooks { store.new.hooks ≡ store.old.hooks }
 {
     do_move(alloc, store, modules, goal, cell, clause, made, work)?;
-    settle(alloc, store, work)?;
-    Ok(())
+    settle(alloc, store, work)
 }

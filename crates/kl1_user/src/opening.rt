@@ -82,20 +82,21 @@ pub(crate) fn with_opening(
 {
     let first = next_number(last_goal)?;
     let second = next_number(first)?;
-    let mut after = Vec::from_slice(alloc, goals)?;
-    after.push(Goal {
+    let monitor = Goal {
         number: first,
         task: Task::Monitor,
         shoen,
         priority: MONITOR_PRIORITY,
         standing: None,
-    })?;
-    after.push(Goal {
+    };
+    let goal = Goal {
         number: second,
         task: Task::Reduces(cell),
         shoen,
         priority: high,
         standing: None,
-    })?;
+    };
+    let mut after = Vec::from_slice(alloc, goals)?;
+    after.extend_from_slice(&[monitor, goal])?;
     Ok(after)
 }

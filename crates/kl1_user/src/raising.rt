@@ -30,8 +30,7 @@ pub(crate) fn raise(
     let _formed = store.mark();
     let parts = [Cell::Atom(AtomText::of(b"failure")), goal];
     let exception = store.build(AtomText::of(b"exception"), &parts)?;
-    report(store, work, Cell::Structure(exception))?;
-    Ok(())
+    report(store, work, Cell::Structure(exception))
 }
 
 /// Unifies two terms for a goal of the shoen at work, or reports that it failed.
@@ -52,9 +51,6 @@ pub(crate) fn unify(
 {
     match store.unify(left, right)? {
         Unified::Bound => Ok(()),
-        Unified::Clash => {
-            raise(store, work, goal)?;
-            Ok(())
-        }
+        Unified::Clash => { raise(store, work, goal) }
     }
 }

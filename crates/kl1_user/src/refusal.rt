@@ -1,7 +1,7 @@
 // Why an account refuses an event.
 
 /// Why an account refuses an event.
-#[derive(Clone, Copy, Debug, PartialEq, Eq)]
+#[derive(Clone, Copy)]
 pub enum Refusal {
     /// A number, a goal or a length that the language does not allow.
     Syntax,

@@ -25,8 +25,7 @@ fn terminate(alloc: Global, store: &mut Store<AtomText>, work: &mut Work) -> Res
     work.shoen.life = Life::Terminated;
     let message = Cell::Atom(AtomText::of(b"terminated"));
     report(store, work, message)?;
-    close(store, work)?;
-    Ok(())
+    close(store, work)
 }
 
 /// Ends the shoen at work, if it lives and has no goal left.
@@ -47,8 +46,7 @@ pub(crate) fn settle(
             if has_goal(&work.goals, work.shoen.number) {
                 return Ok(());
             }
-            terminate(alloc, store, work)?;
-            Ok(())
+            terminate(alloc, store, work)
         }
     }
 }

@@ -1,6 +1,6 @@
 // What comes of a start.
 
-ghost use Rattle.std.specs.Prelude.{◌≡◌, ◌<◌, length, IfOk, OnErr};
+ghost use Rattle.std.specs.Prelude.{◌≡◌, ◌<◌, length, take, IfOk};
 ghost use Rattle.kl1_store.specs.Sound.{Grown};
 ghost use Rattle.kl1_user.specs.Kept.{AreGoalsIn, AreOwned, AreShoensIn, AreNumbered};
 ghost use Rattle.kl1_user.specs.Begins.{BeginsAs};
@@ -12,14 +12,15 @@ use crate::refusal::Refusal;
 use crate::shoen::Shoen;
 use crate::startable::may_start;
 use crate::starting::started;
-use crate::used_names::use_goal;
+use crate::used_names::put_nodes;
 use kl1_clause::Code;
 use kl1_store::Store;
 use kl1_term::Term;
 use kl1_text::AtomText;
 use std::alloc::{AllocError, Global};
 
-/// What comes of a start, where the journal has so many entries. Where memory is refused, the store may have grown.
+/// What comes of a start, where the journal has so many entries. Where memory is refused, the store may have
+/// grown, and some names of the goal may be behind those that were there.
 pub(crate) fn start(
     alloc: Global,
     store: &mut Store<AtomText>,
@@ -40,7 +41,7 @@ pub(crate) fn start(
     requires shoens { AreShoensIn store.old.held shoens.now }
     requires numbered { AreNumbered 0 shoens.now }
     ensures ok { IfOk result (BeginsAs store.old.held store.new.held modules.now names.old.items names.new.items goals.now shoens.now last_goal entries allowance low high goal.now) }
-    ensures err { OnErr result (names.new.items ≡ names.old.items) }
+    ensures kept { take (length names.old.items) names.new.items ≡ names.old.items }
     ensures grown { Grown store.old.held store.new.held }
     ensures hooks { store.new.hooks ≡ store.old.hooks }
 {
@@ -51,9 +52,9 @@ pub(crate) fn start(
     if MOST_ENTRIES <= entries {
         return Ok(Begun::Refused(Refusal::Journal));
     }
+    put_nodes(names, goal.nodes())?;
     let work = started(
         alloc, store, modules, goals, shoens, last_goal, allowance, low, high, goal,
     )?;
-    use_goal(names, goal)?;
     Ok(Begun::Started(work))
 }

@@ -1,9 +1,10 @@
 // What may be started.
 
-ghost use Rattle.std.specs.Prelude.{◌≡◌, ◌++◌, ◌∷◌, [], nat_lt, nat_le, ◌&&◌, decimal, IfOk, OnOk};
-ghost use Rattle.kl1_model.specs.Event.{is_number, is_range};
+ghost use Rattle.std.specs.Prelude.{◌≡◌, ◌++◌, ◌∷◌, [], codes, nat_lt, nat_le, ◌&&◌, decimal, IfOk, OnOk};
+ghost use Rattle.kl1_model.specs.Event.{is_range};
 ghost use Rattle.kl1_model.specs.Opening.{start_line, may_start};
 
+use crate::limits::is_number;
 use itoa::Buffer;
 use kl1_read::is_goal;
 use kl1_term::{Term, put_whole};
@@ -14,13 +15,6 @@ const MOST_PRIORITY: u64 = 4095;
 
 /// The most bytes of a line of a journal, without its end.
 const MOST_LINE_BYTES: usize = 262_144;
-
-/// Whether a command may have this number.
-fn is_number(number: u64) -> bool
-    ensures { result ≡ is_number number }
-{
-    number < 9_223_372_036_854_775_808
-}
 
 /// Whether priorities from one to another are a range.
 fn is_range(low: u64, high: u64) -> bool
@@ -39,23 +33,24 @@ fn put_number(line: &mut Vec<u8>, number: u64) -> Result<(), AllocError>
     Ok(())
 }
 
-/// The line of a journal for a start.
+/// Puts the rest of the line of a journal for a start behind its first word. After an error some of it may be there.
 #[tactic(auto, using(crate::proofs::StartLines::line_is))]
-fn start_line(
+fn put_start(
     alloc: Global,
+    line: &mut Vec<u8>,
     allowance: u64,
     low: u64,
     high: u64,
     goal: &Term,
-) -> Result<Vec<u8>, AllocError>
-    ensures { IfOk result (λ line. line.items ≡ start_line allowance low high goal.now) }
+) -> Result<(), AllocError>
+    requires { line.old.items ≡ codes "start " }
+    ensures { OnOk result (line.new.items ≡ start_line allowance low high goal.now) }
 {
-    let mut line = Vec::from_slice(alloc, b"start ")?;
-    put_number(&mut line, allowance)?;
-    put_number(&mut line, low)?;
-    put_number(&mut line, high)?;
-    put_whole(alloc, &mut line, goal)?;
-    Ok(line)
+    put_number(line, allowance)?;
+    put_number(line, low)?;
+    put_number(line, high)?;
+    put_whole(alloc, line, goal)?;
+    Ok(())
 }
 
 /// Whether a start has numbers in range, and a goal that can be written in a line of a journal and read back.
@@ -74,6 +69,7 @@ pub(crate) fn may_start(
     if !goal.is_writable(alloc)? || !goal.is_numbered() {
         return Ok(false);
     }
-    let line = start_line(alloc, allowance, low, high, goal)?;
+    let mut line = Vec::from_slice(alloc, b"start ")?;
+    put_start(alloc, &mut line, allowance, low, high, goal)?;
     Ok(line.len() <= MOST_LINE_BYTES)
 }

@@ -36,7 +36,7 @@ fn put_name(names: &mut Vec<AtomText>, text: &AtomText) -> Result<(), AllocError
 }
 
 /// Puts texts to names, as far as memory goes.
-fn put_texts(names: &mut Vec<AtomText>, texts: &[AtomText]) -> Result<(), AllocError>
+pub(crate) fn put_texts(names: &mut Vec<AtomText>, texts: &[AtomText]) -> Result<(), AllocError>
     ensures ok { OnOk result (names.new.items ≡ with_texts names.old.items texts.now) }
     ensures kept { take (length names.old.items) names.new.items ≡ names.old.items }
 {
@@ -61,7 +61,7 @@ fn put_node(names: &mut Vec<AtomText>, node: &Node) -> Result<(), AllocError>
 }
 
 /// Puts the names of nodes to names, as far as memory goes.
-fn put_nodes(names: &mut Vec<AtomText>, nodes: &[Node]) -> Result<(), AllocError>
+pub(crate) fn put_nodes(names: &mut Vec<AtomText>, nodes: &[Node]) -> Result<(), AllocError>
     ensures ok { OnOk result (names.new.items ≡ with_texts names.old.items (names_of_nodes (map code_of nodes.now))) }
     ensures kept { take (length names.old.items) names.new.items ≡ names.old.items }
 {
@@ -69,32 +69,4 @@ fn put_nodes(names: &mut Vec<AtomText>, nodes: &[Node]) -> Result<(), AllocError
         put_node(names, node)?;
     }
     Ok(())
-}
-
-/// Puts the names of a module to those that are used.
-#[tactic(auto, using(crate::proofs::UsedNames::of_module))]
-pub(crate) fn use_module(names: &mut Vec<AtomText>, code: &Code) -> Result<(), AllocError>
-    ensures ok { OnOk result (names.new.items ≡ with_names names.old.items (names_of_module code.now)) }
-    ensures err { OnErr result (names.new.items ≡ names.old.items) }
-{
-    let before = names.len();
-    let used = put_texts(names, code.names());
-    if used.is_err() {
-        names.truncate(before);
-    }
-    used
-}
-
-/// Puts the names of a goal to those that are used.
-#[tactic(auto, using(crate::proofs::UsedNames::of_goal))]
-pub(crate) fn use_goal(names: &mut Vec<AtomText>, goal: &Term) -> Result<(), AllocError>
-    ensures ok { OnOk result (names.new.items ≡ with_names names.old.items (names_of goal.now)) }
-    ensures err { OnErr result (names.new.items ≡ names.old.items) }
-{
-    let before = names.len();
-    let used = put_nodes(names, goal.nodes());
-    if used.is_err() {
-        names.truncate(before);
-    }
-    used
 }

@@ -141,6 +141,8 @@ impl UserState {
         ensures step { IfOk result (λ reply. step self.old (load_event source.now) ≡ record { state = self.new; reply = reply_of reply }) }
         ensures err { OnErr result (self.new ≡ self.old) }
     {
+        let loaded = self.modules.len();
+        let used = self.names.len();
         match load(
             self.alloc,
             &self.store,
@@ -158,7 +160,11 @@ impl UserState {
                     Ok(Reply::Loaded(name))
                 }
             },
-            Err(error) => Err(error),
+            Err(error) => {
+                self.modules.truncate(loaded);
+                self.names.truncate(used);
+                Err(error)
+            }
         }
     }
 
@@ -175,6 +181,7 @@ impl UserState {
     {
         self.shoens.reserve(1)?;
         let mark = self.store.mark();
+        let before = self.names.len();
         match start(
             self.alloc,
             &mut self.store,
@@ -199,6 +206,7 @@ impl UserState {
             },
             Err(error) => {
                 self.store.back(mark);
+                self.names.truncate(before);
                 Err(error)
             }
         }

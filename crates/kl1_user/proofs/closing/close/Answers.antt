@@ -1,14 +1,15 @@
 use Rattle.std.proofs.Common.{List, ℕ}
 use Rattle.kl1_store.specs.declared.cell.Cell.TheVariants.{Integer, Atom, Structure}
 use Rattle.kl1_user.proofs.Pairs.{broken_closes, off_closes, ended_closes}
+use Rattle.std.proofs.lemmas.Result.{on_ok_weaker}
 use Rattle.kl1_user.proofs.closing.close.Goals as goal
 
 pub returns-then-work-clause-ok : goal.returns-then-work-clause-ok
 returns-then-work-clause-ok c = broken_closes c.args.store.now.held c.args.work.now c.requires c.if-work.true
 
-pub returns-in_ok-end-in-Variable-clause-ok : goal.returns-in_ok-end-in-Variable-clause-ok
-returns-in_ok-end-in-Variable-clause-ok c =
-    ended_closes c.args.store.now.held c.end.new.store.held c.args.work.now c.in-Variable.variable c.requires c.if-work.false c.in_ok-end-in-Variable.ensures.grown c.in-Variable.ensures.walked (c.in-Variable.ensures.means (λ (a : List ℕ). a)) c.in_ok-end-in-Variable.ensures.ok
+pub returns-in-Variable-clause-ok : goal.returns-in-Variable-clause-ok
+returns-in-Variable-clause-ok c =
+    on_ok_weaker c.end.result (ended_closes c.args.store.now.held c.end.new.store.held c.args.work.now c.in-Variable.variable c.requires c.if-work.false c.end.ensures.grown c.in-Variable.ensures.walked (c.in-Variable.ensures.means (λ (a : List ℕ). a))) c.end.ensures.ok
 
 pub returns-in-Integer-clause-ok : goal.returns-in-Integer-clause-ok
 returns-in-Integer-clause-ok c =

@@ -1,11 +1,10 @@
-use Rattle.std.proofs.Common.{rules, ◌≡◌, ◌∙◌, length}
-use Rattle.kl1_model.specs.State.{names_of_module}
-use Rattle.kl1_user.proofs.UsedNames.{front_is}
+use Rattle.std.proofs.Common.{rules, ◌≡◌, [], ◌∷◌, ◌++◌}
+use Rattle.std.proofs.lemmas.Result.{IfOk-weaker}
+use Rattle.kl1_user.proofs.Loads.{module_put}
 use Rattle.kl1_user.proofs.loading.put_module.Goals as goal
 
-pub returns-then-is_err-clause-names_err : goal.returns-then-is_err-clause-names_err
-returns-then-is_err-clause-names_err c =
-    let e : c.len-before.result ≡ length c.args.names.now.items = search rules in
-    let same : c.truncate-then-is_err.new.self.items ≡ c.args.names.now.items =
-    c.truncate-then-is_err.ensures.items ∙ front_is c.args.names.now.items (names_of_module c.args.code) c.put_code.new.names.items c.len-before.result c.in_ok-put_code.ensures.names e in
-    search (same, rules)
+pub returns-clause-ok : goal.returns-clause-ok
+returns-clause-ok c =
+    let behind : c.push.new.self.items ≡ c.args.modules.now.items ++ c.args.code ∷ [] = search rules in
+    IfOk-weaker c.standing_goals.result _ _ (λ s e. module_put c.args.store.now.held c.args.modules.now.items c.push.new.self.items c.as_slice.result.now c.args.names.now.items c.put_texts.new.names.items c.names.result.now c.args.goals.now s.items c.args.code
+    behind c.in_ok-put_texts.ensures.ok c.names.ensures.value c.as_slice.ensures.value e) c.standing_goals.ensures

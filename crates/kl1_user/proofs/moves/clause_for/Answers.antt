@@ -3,13 +3,15 @@ use Rattle.kl1_store.specs.Meaning.{term_of}
 use Rattle.kl1_model.specs.Reduction.{goes, unifies}
 use Rattle.kl1_user.specs.Calls.{call_at}
 use Rattle.kl1_user.proofs.Standings.{term_clause-call, term_clause-built_in, term_clause-none}
+use Rattle.std.proofs.lemmas.Result.{IfOk-weaker}
 use Rattle.kl1_user.proofs.moves.clause_for.Goals as goal
 
 pub least_number-requires : goal.least_number-requires
 least_number-requires c = record { counted = c.in-Calls.ensures.counted; inside = c.in-Calls.ensures.inside }
 
-pub returns-in_ok-found-in-Calls : goal.returns-in_ok-found-in-Calls
-returns-in_ok-found-in-Calls c = c.in_ok-found-in-Calls.ensures ∙ sym (term_clause-call c.args.codes.now (term_of (λ a. a) c.args.store.now.held c.args.goal) (call_at c.args.store.now.held c.in-Calls.call) c.in-Calls.ensures.is)
+pub returns-in-Calls : goal.returns-in-Calls
+returns-in-Calls c =
+    IfOk-weaker c.least_number.result _ _ (λ x e. e ∙ sym (term_clause-call c.args.codes.now (term_of (λ a. a) c.args.store.now.held c.args.goal) (call_at c.args.store.now.held c.in-Calls.call) c.in-Calls.ensures.is)) c.least_number.ensures
 
 pub returns-in-Goes : goal.returns-in-Goes
 returns-in-Goes c = sym (term_clause-built_in c.args.codes.now (term_of (λ a. a) c.args.store.now.held c.args.goal) goes c.in-Goes.ensures.call c.in-Goes.ensures.built_in)

@@ -11,6 +11,7 @@ use Rattle.kl1_user.specs.Kept.{meaning, goal_with}
 use Rattle.kl1_user.specs.Moves.{MovesAs}
 use Rattle.kl1_user.specs.Works.{Turns}
 use Rattle.kl1_user.proofs.Reductions.{is_taken}
+use Rattle.std.proofs.lemmas.Result.{on_ok_weaker}
 use Rattle.kl1_user.proofs.moving.do_move.Goals as goal
 
 pub offset_bounds-clauses-number : goal.offset_bounds-clauses-number
@@ -40,8 +41,8 @@ commit-requires-clause-clause c =
     let t = is_taken c.args.modules.now c.in-Commits.code c.in-Commits.number c.index-modules-code.result taken.within names c.clauses.result.now taken.candidate.clause taken.module_at c.index-modules-code.is taken.clause_at c.clauses.ensures in
     record { texts = names; count = ap (λ (ns : List (List ℕ)). length ns) (sym c.names.ensures.value); clause = taken.candidate.clause; is = t.compiled c.index-clauses-number.result c.index-clauses-number.is }
 
-pub returns-in_ok-commit-in-Commits-clause-ok : goal.returns-in_ok-commit-in-Commits-clause-ok
-returns-in_ok-commit-in-Commits-clause-ok c =
+pub returns-in-Commits-clause-ok : goal.returns-in-Commits-clause-ok
+returns-in-Commits-clause-ok c =
     let h = c.args.store.now.held in
     let P : Move → Type 0 = λ z. MovesAs h c.args.modules.now (meaning h c.args.cell) c.args.clause (Some z) in
     let taken = subst P c.in-Commits.is c.requires.made in
@@ -50,5 +51,5 @@ returns-in_ok-commit-in-Commits-clause-ok c =
     let N : List (List ℕ) → Type 0 = λ ns. IsCompiled ns c.index-clauses-number.result taken.candidate.clause in
     let compiled = subst N (sym c.names.ensures.value) (t.compiled c.index-clauses-number.result c.index-clauses-number.is) in
     let R : model.Move → Type 0 = λ z. Turns (moved (goal_with (meaning h) c.args.goal.now) (meaning h c.args.cell) z) h c.commit.new.store.held c.args.work.now c.commit.new.work in
-    λ m e. let same : commits taken.candidate ≡ m = let a = taken.moves in cc in
-    subst R same (c.in_ok-commit-in-Commits.ensures.ok taken.candidate compiled (ap (λ (ps : List (Place (List ℕ))). replacements_of (λ a. a) h ps) c.deref.ensures.value ∙ taken.places_are))
+    on_ok_weaker c.commit.result (λ f m e. let same : commits taken.candidate ≡ m = let a = taken.moves in cc in
+    subst R same (f taken.candidate compiled (ap (λ (ps : List (Place (List ℕ))). replacements_of (λ a. a) h ps) c.deref.ensures.value ∙ taken.places_are))) c.commit.ensures.ok

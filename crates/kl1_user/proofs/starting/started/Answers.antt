@@ -1,6 +1,7 @@
 use Rattle.std.proofs.Common.{◌+◌, map, ap, ◌∙◌, arith}
 use Rattle.kl1_user.specs.Lists.{stood}
 use Rattle.kl1_user.proofs.Startings.{begun_in, start_leaves}
+use Rattle.kl1_store.proofs.Grows.{Grown-trans}
 use Rattle.kl1_user.proofs.starting.started.Goals as goal
 
 pub report-requires-clause-inside : goal.report-requires-clause-inside
@@ -14,3 +15,21 @@ returns-clause-ok c =
     c.args.last_goal (c.args.last_goal + 2) c.args.allowance c.args.low c.args.high c.in_ok-cell.cell c.of.result c.report.new.work
     c.requires.goals c.requires.owned c.requires.shoens c.requires.numbered c.in_ok-cell.ensures.grown c.in_ok-cell.ensures.ok c.in_ok-all.ensures.goals (omega arith) c.of.ensures c.in_ok-report.ensures.ok
     (c.in_ok-work.ensures ∙ ap (map (stood c.report.new.store.held c.args.modules.now)) c.deref.ensures.value)
+
+pub returns-clause-grown : goal.returns-clause-grown
+returns-clause-grown c = Grown-trans c.args.store.now.held c.opened.new.store.held c.report.new.store.held c.in_ok-cell.ensures.grown c.in_ok-report.ensures.grown
+
+pub returns-in_err-report-clause-grown : goal.returns-in_err-report-clause-grown
+returns-in_err-report-clause-grown c = Grown-trans c.args.store.now.held c.opened.new.store.held c.report.new.store.held c.in_ok-cell.ensures.grown c.in_err-report.ensures.grown
+
+pub returns-in_err-work-clause-grown : goal.returns-in_err-work-clause-grown
+returns-in_err-work-clause-grown c = Grown-trans c.args.store.now.held c.opened.new.store.held c.report.new.store.held c.in_ok-cell.ensures.grown c.in_ok-report.ensures.grown
+
+pub returns-clause-hooks : goal.returns-clause-hooks
+returns-clause-hooks c = c.in_ok-report.ensures.hooks ∙ c.in_ok-cell.ensures.hooks
+
+pub returns-in_err-report-clause-hooks : goal.returns-in_err-report-clause-hooks
+returns-in_err-report-clause-hooks c = c.in_err-report.ensures.hooks ∙ c.in_ok-cell.ensures.hooks
+
+pub returns-in_err-work-clause-hooks : goal.returns-in_err-work-clause-hooks
+returns-in_err-work-clause-hooks c = c.in_ok-report.ensures.hooks ∙ c.in_ok-cell.ensures.hooks
