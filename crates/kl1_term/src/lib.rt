@@ -14,8 +14,6 @@ mod print;
 mod printer;
 mod sameness;
 mod term;
-#[cfg(test)]
-mod tests;
 mod variables;
 mod view;
 mod writable;

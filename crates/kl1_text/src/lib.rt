@@ -10,8 +10,6 @@ mod name_value;
 mod packing;
 mod printing;
 mod short_bytes;
-#[cfg(test)]
-mod tests;
 
 pub use atom_no::AtomNo;
 pub use atom_text::AtomText;

@@ -4,7 +4,7 @@ use Rattle.kl1_model.specs.State.{names_of_module, with_names}
 use Rattle.kl1_clause.specs.declared.compiled_clause.CompiledClause.{CompiledClause}
 use Rattle.kl1_clause.specs.Clauses.{AreCompiled}
 use Rattle.kl1_match.specs.Instances.{IsClause}
-use Rattle.kl1_match_tests.proofs.answers.first_of.Goals as goal
+use Rattle.kl1_read_rows.proofs.heads.first_of.Goals as goal
 
 -- the first of some compiled clauses is a clause
 first_is : (names : List (List ℕ)) (cs : List CompiledClause) (ds : List Clause) (x : CompiledClause) → 1 ≤ length cs → x ≡ get_or cs 0 x → AreCompiled names cs ds → IsClause names x
