@@ -29,15 +29,22 @@ fn is_loaded(name: &AtomText, wanted: &[u8]) -> bool {
     is_joined(wanted, b"+ loaded ", name.unpacked().as_slice())
 }
 
-/// Whether a reply has this text.
-fn is_reply(reply: &Reply, wanted: &[u8]) -> bool {
+/// Whether a reply that a change is done has this text.
+fn is_change(reply: &Reply, wanted: &[u8]) -> bool {
     match reply {
         Reply::Loaded(name) => is_loaded(name, wanted),
         Reply::Opened(shoen) => is_counted(wanted, b"+ shoen ", shoen.0),
         Reply::Reduced => wanted == b"+ reduced".as_slice(),
-        Reply::Ran(_steps) => false,
+        _ => false,
+    }
+}
+
+/// Whether a reply has this text.
+fn is_reply(reply: &Reply, wanted: &[u8]) -> bool {
+    match reply {
         Reply::Shown(text) => is_joined(wanted, b"+ ", text.as_slice()),
         Reply::Refused(refusal) => is_refusal(*refusal, wanted),
+        _ => is_change(reply, wanted),
     }
 }
 
