@@ -1,10 +1,10 @@
 // The accounts that rows are tried on: one, and in the groups of the kind `both` a slow one beside it.
 
 use crate::acts::{event_of, is_run_right};
-use crate::answers::{is_answered, is_first, is_first_by};
+use crate::answers::{is_answered, is_first, is_first_by, is_shown};
 use crate::plain::Plain;
 use kl1_rows::{Answers, cut};
-use kl1_user::{AccountName, Event, Query, ShoenNo, UserState};
+use kl1_user::{AccountName, Event, UserState};
 use std::alloc::Global;
 
 /// The kind of the groups whose acts both accounts answer.
@@ -23,12 +23,19 @@ fn fresh(alloc: Global) -> Option<UserState> {
     UserState::fresh(alloc, name).ok()
 }
 
+/// The slow account of a group of a kind.
+fn plain_for(alloc: Global, kind: &[u8]) -> Option<Plain> {
+    if kind == BOTH {
+        return Some(Plain::fresh(alloc));
+    }
+    None
+}
+
 /// Whether an account shows the goal of each shoen as a slow one does.
 fn are_shown_alike(user: &mut UserState, plain: &Plain) -> Option<bool> {
     for number in 1..=plain.count() {
         let wanted = plain.value(number)?;
-        let event = Event::Read(Query::Value(ShoenNo(number)));
-        if !is_answered(user, &event, wanted.as_slice()) {
+        if !is_shown(user, number, wanted.as_slice()) {
             return Some(false);
         }
     }
@@ -103,11 +110,9 @@ impl Accounts {
 
 impl Answers for Accounts {
     fn begin(&mut self, alloc: Global, kind: &[u8]) {
-        self.user = fresh(alloc);
-        self.plain = if kind == BOTH {
-            Some(Plain::fresh(alloc))
-        } else {
-            None
+        *self = Accounts {
+            user: fresh(alloc),
+            plain: plain_for(alloc, kind),
         };
     }
 

@@ -55,8 +55,10 @@ fn first_step(user: &UserState) -> Option<Event> {
 
 /// The load of a source.
 fn load_of(alloc: Global, words: &[u8]) -> Option<Event> {
-    let source = Vec::from_slice(alloc, words).ok()?;
-    Some(Event::Load { source })
+    match Vec::from_slice(alloc, words) {
+        Ok(source) => Some(Event::Load { source }),
+        Err(_refused) => None,
+    }
 }
 
 /// The start of a goal that is made.

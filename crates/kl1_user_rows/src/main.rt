@@ -11,9 +11,9 @@ mod plain;
 mod solving;
 
 use crate::accounts::Accounts;
+use std::io::Error;
 
-fn main(rt: HostRuntime) -> Result<(), anyhow::Error> {
+fn main(rt: HostRuntime) -> Result<(), Error> {
     let mut accounts = Accounts::none();
-    kl1_rows::report(rt.alloc(), rt.stdin(), rt.stdout(), &mut accounts)?;
-    Ok(())
+    kl1_rows::report(rt.alloc(), rt.stdin(), rt.stdout(), &mut accounts)
 }

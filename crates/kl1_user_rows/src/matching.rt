@@ -3,17 +3,7 @@
 use crate::nodes::{Row, are_alike, number_in, split_term};
 use kl1_read::{ClauseParts, Source};
 use kl1_term::Node;
-use kl1_text::AtomText;
-use std::alloc::Global;
-
-/// A call of a predicate.
-#[derive(Clone, Copy)]
-pub struct Call<'a> {
-    module: AtomText,
-    name: AtomText,
-    count: usize,
-    pub arguments: &'a [Node],
-}
+use std::alloc::AllocError;
 
 /// What a clause makes of a call.
 #[derive(Clone, Copy)]
@@ -39,40 +29,25 @@ pub fn arguments_of<'a>(term: &'a [Node], name: &[u8]) -> Option<&'a [Node]> {
     }
 }
 
-/// The call that a term is.
-pub fn call_of(term: &[Node]) -> Option<Call<'_>> {
-    let [Node::Atom(module), called, arguments @ ..] = arguments_of(term, b":")? else {
+/// Whether a clause is of the predicate that is called.
+fn is_of(parts: &ClauseParts, called: &Node) -> bool {
+    match called {
+        Node::Atom(name) => parts.patterns.is_empty() && parts.name.is(name),
+        Node::Structure(name, count) => parts.patterns.len() == *count && parts.name.is(name),
+        _ => false,
+    }
+}
+
+/// The clause of a number, from 1, in the predicate that a goal calls.
+pub fn clause_of<'a>(modules: &'a [Source], goal: &[Node], number: u64) -> Option<&'a ClauseParts> {
+    let [Node::Atom(module), called, ..] = arguments_of(goal, b":")? else {
         return None;
     };
-    let (name, count) = match called {
-        Node::Atom(name) => (*name, 0),
-        Node::Structure(name, count) => (*name, *count),
-        _ => return None,
-    };
-    Some(Call {
-        module: *module,
-        name,
-        count,
-        arguments,
-    })
-}
-
-/// Whether a clause is of a call's predicate in its module.
-fn is_of(parts: &ClauseParts, call: &Call<'_>) -> bool {
-    parts.patterns.len() == call.count && parts.name.is(&call.name)
-}
-
-/// The clause of a number, from 1, in a call's predicate.
-pub fn clause_at<'a>(
-    modules: &'a [Source],
-    call: &Call<'_>,
-    number: u64,
-) -> Option<&'a ClauseParts> {
     let mut left = number;
     for source in modules {
-        if source.name.is(&call.module) {
+        if source.name.is(module) {
             for parts in &source.clauses {
-                if is_of(parts, call) {
+                if is_of(parts, called) {
                     if left == 1 {
                         return Some(parts);
                     }
@@ -84,13 +59,20 @@ pub fn clause_at<'a>(
     None
 }
 
-/// The patterns of a clause, one after another.
-pub fn patterns_of(alloc: Global, parts: &ClauseParts) -> Option<Row> {
-    let mut row = Vec::new(alloc);
-    for pattern in &parts.patterns {
-        row.extend_from_slice(pattern.nodes()).ok()?;
+/// The arguments of a goal that is a call, behind the nodes of `:`, the module and the predicate.
+pub fn called_with(goal: &[Node]) -> &[Node] {
+    match goal {
+        [_colon, _module, _called, arguments @ ..] => arguments,
+        _ => &[],
     }
-    Some(row)
+}
+
+/// Puts the patterns of a clause behind a row, one after another.
+pub fn put_patterns(row: &mut Row, parts: &ClauseParts) -> Result<(), AllocError> {
+    for pattern in &parts.patterns {
+        row.extend_from_slice(pattern.nodes())?;
+    }
+    Ok(())
 }
 
 /// What patterns make of as many terms; the term at the place of each variable is put down, in the order of the variables.
@@ -126,34 +108,32 @@ pub fn matched(patterns: &[Node], terms: &[Node], places: &mut Row) -> Option<Ve
 }
 
 /// Puts the term of a number, from 1, among terms one behind the other behind a row.
-fn put_place(row: &mut Row, places: &[Node], number: u64) -> Option<()> {
+fn put_place(row: &mut Row, places: &[Node], number: u64) -> Result<(), AllocError> {
     let mut left = places;
     for _ in 1..number {
         left = split_term(left).1;
     }
-    row.extend_from_slice(split_term(left).0).ok()
+    row.extend_from_slice(split_term(left).0)
 }
 
-/// A term with the terms at the places of its first variables, of which there are so many, and with the next variables
-/// behind the last one in place of the others.
-pub fn instance(
-    alloc: Global,
+/// Puts a term behind a row, with the terms at the places of its first variables, of which there are so many, and with the next
+/// variables behind the last one in place of the others.
+pub fn put_instance(
+    row: &mut Row,
     nodes: &[Node],
     heads: u64,
     places: &[Node],
     last: u64,
-) -> Option<Row> {
-    let mut row = Vec::new(alloc);
+) -> Result<(), AllocError> {
     for node in nodes {
         let number = number_in(node);
         if number == 0 {
-            row.push(*node).ok()?;
+            row.push(*node)?;
         } else if number > heads {
-            let fresh = last.saturating_add(number - heads);
-            row.push(Node::Variable(fresh)).ok()?;
+            row.push(Node::Variable(last.saturating_add(number - heads)))?;
         } else {
-            put_place(&mut row, places, number)?;
+            put_place(row, places, number)?;
         }
     }
-    Some(row)
+    Ok(())
 }

@@ -1,7 +1,7 @@
 // Whole terms as nodes in the order of reading.
 
 use kl1_term::Node;
-use std::alloc::Global;
+use std::alloc::AllocError;
 
 /// A whole term: its nodes in the order of reading.
 pub type Row = Vec<Node>;
@@ -39,17 +39,29 @@ pub fn highest_in(nodes: &[Node]) -> u64 {
     most
 }
 
-/// A term with another in place of a variable.
-pub fn replaced(alloc: Global, nodes: &[Node], number: u64, by: &[Node]) -> Option<Row> {
-    let mut row = Vec::new(alloc);
+/// Puts a term behind a row, with another in place of a variable.
+pub fn put_replaced(
+    row: &mut Row,
+    nodes: &[Node],
+    number: u64,
+    by: &[Node],
+) -> Result<(), AllocError> {
     for node in nodes {
         if number_in(node) == number {
-            row.extend_from_slice(by).ok()?;
+            row.extend_from_slice(by)?;
         } else {
-            row.push(*node).ok()?;
+            row.push(*node)?;
         }
     }
-    Some(row)
+    Ok(())
+}
+
+/// Puts another term in place of a variable in a row.
+pub fn replace_in(row: &mut Row, number: u64, by: &[Node]) -> Result<(), AllocError> {
+    let mut next = Vec::new(*row.allocator());
+    put_replaced(&mut next, row.as_slice(), number, by)?;
+    *row = next;
+    Ok(())
 }
 
 /// Whether two nodes are one variable, one constant, or structures of one name and number of arguments.

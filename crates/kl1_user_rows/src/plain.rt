@@ -1,17 +1,22 @@
 // A slow account over whole terms, to compare with: each step goes over all goals and clauses, and replaces variables
 // everywhere, as the language's rules say it.
 
-use crate::matching::{Verdict, arguments_of, call_of, clause_at, instance, matched, patterns_of};
-use crate::nodes::{Row, highest_in, replaced, split_term};
+use crate::matching::{
+    Verdict, arguments_of, called_with, clause_of, matched, put_instance, put_patterns,
+};
+use crate::nodes::{Row, highest_in, replace_in, split_term};
 use crate::solving::solve;
 use kl1_read::{ClauseParts, Source, read_module};
 use kl1_rows::is_counted;
 use kl1_term::{Node, Printer};
 use kl1_user::Event;
-use std::alloc::Global;
+use std::alloc::{AllocError, Global};
 
 /// More than the clauses of any predicate of the rows.
 const MANY: u64 = 9;
+
+/// The most bytes of a goal that are shown.
+const MOST_SHOWN: usize = 4000;
 
 /// A goal other than a monitor.
 #[derive(Drop)]
@@ -38,20 +43,16 @@ pub struct Plain {
 fn verdict_by(
     alloc: Global,
     modules: &[Source],
-    term: &[Node],
+    goal: &[Node],
     number: u64,
     places: &mut Row,
 ) -> Option<Verdict> {
-    let Some(call) = call_of(term) else {
+    let Some(parts) = clause_of(modules, goal, number) else {
         return Some(Verdict::Missing);
     };
-    match clause_at(modules, &call, number) {
-        None => Some(Verdict::Missing),
-        Some(parts) => {
-            let patterns = patterns_of(alloc, parts)?;
-            matched(patterns.as_slice(), call.arguments, places)
-        }
-    }
+    let mut patterns = Vec::new(alloc);
+    put_patterns(&mut patterns, parts).ok()?;
+    matched(patterns.as_slice(), called_with(goal), places)
 }
 
 /// The least number of a clause by which a goal can step, 0 where none can or will; `MANY` where it waits.
@@ -86,14 +87,6 @@ fn can_step(
     }
 }
 
-/// The clause of a number that a goal may commit to.
-fn clause_of<'a>(modules: &'a [Source], term: &[Node], number: u64) -> Option<&'a ClauseParts> {
-    match call_of(term) {
-        None => None,
-        Some(call) => clause_at(modules, &call, number),
-    }
-}
-
 /// Puts the instances of the goals in a clause's body behind others, and gives how many of their variables are new.
 fn put_body(
     alloc: Global,
@@ -101,22 +94,34 @@ fn put_body(
     places: &[Node],
     last: u64,
     body: &mut Vec<Row>,
-) -> Option<u64> {
-    let patterns = patterns_of(alloc, parts)?;
-    let heads = highest_in(patterns.as_slice());
+) -> Result<u64, AllocError> {
+    let mut heads = 0;
+    for pattern in &parts.patterns {
+        heads = highest_in(pattern.nodes()).max(heads);
+    }
     let mut most = heads;
     for goal in &parts.body {
         most = highest_in(goal.nodes()).max(most);
-        let term = instance(alloc, goal.nodes(), heads, places, last)?;
-        body.push(term).ok()?;
+        let mut term = Vec::new(alloc);
+        put_instance(&mut term, goal.nodes(), heads, places, last)?;
+        body.push(term)?;
     }
-    Some(most.saturating_sub(heads))
+    Ok(most.saturating_sub(heads))
+}
+
+/// The text of a term, cut as an account cuts it.
+fn printed(alloc: Global, row: &[Node]) -> Result<Vec<u8>, AllocError> {
+    let mut printer = Printer::new(alloc, Some(MOST_SHOWN));
+    printer.put_all(row)?;
+    printer.into_text()
 }
 
 /// Whether a goal goes before another.
 fn goes_before(goal: &PlainGoal, other: &PlainGoal) -> bool {
+    if goal.priority == other.priority {
+        return goal.number < other.number;
+    }
     goal.priority > other.priority
-        || (goal.priority == other.priority && goal.number < other.number)
 }
 
 impl Plain {
@@ -138,7 +143,7 @@ impl Plain {
     }
 
     /// Puts a goal behind the others.
-    fn put_goal(&mut self, term: Row, shoen: u64, priority: u64) -> Option<()> {
+    fn put_goal(&mut self, term: Row, shoen: u64, priority: u64) -> Result<(), AllocError> {
         self.last_goal = self.last_goal.saturating_add(1);
         let number = self.last_goal;
         let goal = PlainGoal {
@@ -147,26 +152,31 @@ impl Plain {
             shoen,
             priority,
         };
-        self.goals.push(goal).ok()
+        self.goals.push(goal)?;
+        Ok(())
     }
 
     /// Loads a module.
-    fn load(&mut self, source: &[u8]) -> Option<()> {
-        let module = read_module(self.alloc, source).ok()?;
-        self.modules.push(module).ok()
+    fn load(&mut self, source: &[u8]) -> bool {
+        match read_module(self.alloc, source) {
+            Ok(module) => self.modules.push(module).is_ok(),
+            Err(_fault) => false,
+        }
     }
 
     /// Starts a goal that may be started, and gives its shoen's number. The shoen's monitor, its control stream and its report
     /// stream take numbers, and so does its first report.
-    fn start(&mut self, priority: u64, goal: &[Node]) -> Option<u64> {
-        let term = instance(self.alloc, goal, 0, &[], self.last_variable)?;
-        let copy = instance(self.alloc, goal, 0, &[], self.last_variable)?;
+    fn start(&mut self, priority: u64, goal: &[Node]) -> Result<u64, AllocError> {
+        let mut term = Vec::new(self.alloc);
+        put_instance(&mut term, goal, 0, &[], self.last_variable)?;
+        let mut copy = Vec::new(self.alloc);
+        copy.extend_from_slice(term.as_slice())?;
         self.take_variables(highest_in(goal).saturating_add(3));
-        self.shoens.push(copy).ok()?;
+        self.shoens.push(copy)?;
         self.last_goal = self.last_goal.saturating_add(1);
         let shoen = self.count();
         self.put_goal(term, shoen, priority)?;
-        Some(shoen)
+        Ok(shoen)
     }
 
     /// The first goal that can step, with its clause; 0 and 0 where there is none.
@@ -188,18 +198,18 @@ impl Plain {
     }
 
     /// Replaces a variable everywhere.
-    fn replace(&mut self, number: u64, by: &[Node]) -> Option<()> {
+    fn replace(&mut self, number: u64, by: &[Node]) -> Result<(), AllocError> {
         for goal in &mut self.goals {
-            goal.term = replaced(self.alloc, goal.term.as_slice(), number, by)?;
+            replace_in(&mut goal.term, number, by)?;
         }
         for shoen in &mut self.shoens {
-            *shoen = replaced(self.alloc, shoen.as_slice(), number, by)?;
+            replace_in(shoen, number, by)?;
         }
-        Some(())
+        Ok(())
     }
 
     /// Replaces variables everywhere, one after another, each by the term behind it.
-    fn replace_all(&mut self, found: &[Node]) -> Option<()> {
+    fn replace_all(&mut self, found: &[Node]) -> Result<(), AllocError> {
         let mut left = found;
         for _ in 0..found.len() {
             let [Node::Variable(number), behind @ ..] = left else {
@@ -209,14 +219,14 @@ impl Plain {
             self.replace(*number, by)?;
             left = rest;
         }
-        Some(())
+        Ok(())
     }
 
     /// Makes two terms one, which stand one behind the other, or reports that they can't be.
     fn unify(&mut self, pair: &[Node]) -> Option<()> {
         let mut found = Vec::new(self.alloc);
         if solve(self.alloc, pair, &mut found)? {
-            return self.replace_all(found.as_slice());
+            return self.replace_all(found.as_slice()).ok();
         }
         self.take_variables(1);
         Some(())
@@ -239,10 +249,11 @@ impl Plain {
     fn commit(&mut self, goal: &PlainGoal, clause: u64, places: &[Node]) -> Option<()> {
         let mut body = Vec::new(self.alloc);
         let parts = clause_of(self.modules.as_slice(), goal.term.as_slice(), clause)?;
-        let count = put_body(self.alloc, parts, places, self.last_variable, &mut body)?;
+        let last = self.last_variable;
+        let count = put_body(self.alloc, parts, places, last, &mut body).ok()?;
         self.take_variables(count);
         for term in body {
-            self.put_goal(term, goal.shoen, goal.priority)?;
+            self.put_goal(term, goal.shoen, goal.priority).ok()?;
         }
         Some(())
     }
@@ -294,12 +305,9 @@ impl Plain {
     /// is reduced just where that is wanted.
     pub fn is_answered(&mut self, event: &Event, wanted: &[u8]) -> Option<bool> {
         match event {
-            Event::Load { source } => {
-                self.load(source.as_slice())?;
-                Some(true)
-            }
+            Event::Load { source } => Some(self.load(source.as_slice())),
             Event::Start { high, goal, .. } => {
-                let shoen = self.start(*high, goal.nodes())?;
+                let shoen = self.start(*high, goal.nodes()).ok()?;
                 Some(is_counted(wanted, b"+ shoen ", shoen))
             }
             Event::Reduce { goal, clause } => {
@@ -315,15 +323,10 @@ impl Plain {
         self.shoens.len() as u64
     }
 
-    /// What is answered to the question for the goal of a shoen, whose number is from 1.
+    /// The goal of a shoen, whose number is from 1, as it is shown.
     pub fn value(&self, shoen: u64) -> Option<Vec<u8>> {
         let place = shoen.saturating_sub(1) as usize;
         let row = self.shoens.get(place)?;
-        let mut printer = Printer::new(self.alloc, Some(4000));
-        printer.put_all(row.as_slice()).ok()?;
-        let text = printer.into_text().ok()?;
-        let mut answer = Vec::from_slice(self.alloc, b"+ ").ok()?;
-        answer.extend_from_slice(text.as_slice()).ok()?;
-        Some(answer)
+        printed(self.alloc, row.as_slice()).ok()
     }
 }

@@ -1,6 +1,6 @@
 // Unification of whole terms: where two terms first differ, a variable is replaced everywhere, until they are one.
 
-use crate::nodes::{Row, are_alike, number_in, replaced, split_term};
+use crate::nodes::{Row, are_alike, number_in, put_replaced, split_term};
 use kl1_term::Node;
 use std::alloc::Global;
 
@@ -33,13 +33,9 @@ fn bound(number: u64, nodes: &[Node]) -> Difference<'_> {
     Difference::Variable(number, by)
 }
 
-/// What comes of two terms that differ in their first nodes; of two variables the higher takes the lower.
-fn met<'a>(left: &'a [Node], right: &'a [Node]) -> Difference<'a> {
-    let ([first, ..], [second, ..]) = (left, right) else {
-        return Difference::Clash;
-    };
-    let one = number_in(first);
-    let other = number_in(second);
+/// What comes of two terms that differ in their first nodes, with the number of each that is a variable; of two variables the
+/// higher takes the lower.
+fn met<'a>(one: u64, left: &'a [Node], other: u64, right: &'a [Node]) -> Difference<'a> {
     if one == 0 && other == 0 {
         return Difference::Clash;
     }
@@ -52,10 +48,17 @@ fn met<'a>(left: &'a [Node], right: &'a [Node]) -> Difference<'a> {
 /// Where two terms, one behind the other, first differ.
 fn first_difference(pair: &[Node]) -> Difference<'_> {
     let (left, right) = split_term(pair);
-    for place in 0..left.len() {
-        if place >= right.len() || !are_alike(&left[place], &right[place]) {
-            return met(&left[place..], &right[place.min(right.len())..]);
+    let mut left = left;
+    let mut right = right;
+    for _ in 0..pair.len() {
+        let ([one, behind @ ..], [other, after @ ..]) = (left, right) else {
+            break;
+        };
+        if !are_alike(one, other) {
+            return met(number_in(one), left, number_in(other), right);
         }
+        left = behind;
+        right = after;
     }
     Difference::Nowhere
 }
@@ -71,7 +74,9 @@ pub fn solve(alloc: Global, pair: &[Node], found: &mut Row) -> Option<bool> {
             Difference::Variable(number, by) => {
                 found.push(Node::Variable(number)).ok()?;
                 found.extend_from_slice(by).ok()?;
-                row = replaced(alloc, row.as_slice(), number, by)?;
+                let mut next = Vec::new(alloc);
+                put_replaced(&mut next, row.as_slice(), number, by).ok()?;
+                row = next;
             }
         }
     }
