@@ -1,6 +1,6 @@
 -- Waiting equations, one binding after another.
 use Rattle.std.proofs.Common.{◌≡◌, ℕ, zero, suc, ◌+◌, ◌<◌, ◌≤◌, ◌==◌, Bool, true, false, ◌||◌, List, [], ◌∷◌, ◌++◌, drop, refl, sym, ap, ◌∙◌, ◌⊎◌, inl, inr, arith, subst, append_assoc}
-use Rattle.std.specs.Prelude.{Option, Some, None, option_map}
+use Rattle.std.specs.Prelude.{Option, Some, None, option_map, Result, Ok, Err, IfOk, OnErr}
 use Rattle.std.proofs.lemmas.List.{append-nil}
 use Rattle.std.proofs.lemmas.Bool.{cases_eq, eq-eqb, cond-true, cond-false}
 use Rattle.kl1_model.specs.declared.built_in.BuiltIn.{BuiltIn}
@@ -285,6 +285,17 @@ pub one_cycle : {N : Type 0} (built : BuiltIn → N) (h new : Held N) (l r x y :
     SettlesAs built h new (λ f. equation_of f h l r) false
 one_cycle built h new l r x y v z one takes b = λ f reads last le.
     one_decides f last h l r x y one le ∙ ap (after (solve last) (solve last)) (takes.leads f [] ∙ bound_fails v (term_of f h z) [] (b.1 f))
+
+-- what the binding comes to, where it is made and where it isn't
+pub one_taken : {N : Type 0} (built : BuiltIn → N) (h new : Held N) (l r x y : Cell N) (v : ℕ) (z : Cell N) (b : Bool) → OneEquation h l r x y → Takes h x y v z → BindsAs h new v z b →
+    SettlesAs built h new (λ f. equation_of f h l r) b
+one_taken built h new l r x y v z true one takes p = (one_binds built h new l r x y v z one takes p).0
+one_taken built h new l r x y v z false one takes p = one_cycle built h new l r x y v z one takes p
+
+pub grown_taken : {N E : Type 0} (h new : Held N) (v : ℕ) (z : Cell N) (r : Result Bool E) → IfOk r (BindsAs h new v z) → OnErr r (new ≡ h) → OnlyBound h new
+grown_taken {N = N} h new v z (Ok true) b e = let P : Held N → Type 0 = λ k. OnlyBound h k in subst P (sym b.0) (OnlyBound-binding h h v z (OnlyBound-same h))
+grown_taken {N = N} h new v z (Ok false) b e = let P : Held N → Type 0 = λ k. OnlyBound h k in subst P (sym b.0) (OnlyBound-same h)
+grown_taken {N = N} h new v z (Err x) b e = let P : Held N → Type 0 = λ k. OnlyBound h k in subst P (sym e) (OnlyBound-same h)
 
 pub one_opens : {N : Type 0} (h : Held N) (l r x y : Cell N) (p : Frame) → OneEquation h l r x y → Opens h x y p → (f : N → List ℕ) (last : ℕ) → h.variables ≤ suc last →
     solve last (equation_of f h l r) ≡ solve last (waiting f h [] (p ∷ []))

@@ -24,6 +24,7 @@ mod pair;
 mod pairs;
 mod point;
 mod same;
+mod scratch;
 mod settle;
 mod sides;
 mod store;

@@ -103,17 +103,10 @@ pub fn unify_cells<N: NameValue>(
     match meet(cells, first, second) {
         Meeting::Same => Ok(true),
         Meeting::Clash => Ok(false),
-        Meeting::Bind(variable, value) => {
-            let taken = bind_new(cells, levels, tasks, variable, value)?;
-            if taken {
-                return Ok(true);
-            }
-            Ok(false)
-        }
+        Meeting::Bind(variable, value) => bind_new(cells, levels, tasks, variable, value),
         Meeting::Open(frame) => {
             frames.push(frame)?;
-            let settled = settle(cells, frames, merges, levels, tasks)?;
-            Ok(settled)
+            settle(cells, frames, merges, levels, tasks)
         }
     }
 }

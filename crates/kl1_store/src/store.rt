@@ -12,16 +12,13 @@ ghost use Rattle.kl1_store.specs.Hooks.{Kept, told_by, point_of, HasGrown};
 use crate::cell::Cell;
 use crate::cells::Cells;
 use crate::compare_each::compare_each;
-use crate::frame::Frame;
 use crate::head::Head;
 use crate::hook::Hook;
 use crate::levels::Levels;
-use crate::merges::Merges;
-use crate::pairs::Pairs;
 use crate::point::Point;
 use crate::same::Same;
+use crate::scratch::Scratch;
 use crate::take_back::take_back;
-use crate::task::Task;
 use crate::tell::tell_all;
 use crate::unified::Unified;
 use crate::unify::unify_or_undo;
@@ -36,11 +33,8 @@ use std::marker::Model;
 #[derive(Drop)]
 pub struct Store<N: NameValue> {
     cells: Cells<N>,
-    frames: Vec<Frame>,
-    merges: Merges,
-    pairs: Pairs,
     levels: Levels,
-    tasks: Vec<Task<N>>,
+    scratch: Scratch<N>,
     hooks: Vec<Hook>,
     alloc: Global,
 }
@@ -66,11 +60,8 @@ impl<N: NameValue> Store<N> {
     {
         Store {
             cells: Cells::new(alloc),
-            frames: Vec::new(alloc),
-            merges: Merges::new(alloc),
-            pairs: Pairs::new(alloc),
             levels: Levels::new(alloc),
-            tasks: Vec::new(alloc),
+            scratch: Scratch::new(alloc),
             hooks: Vec::new(alloc),
             alloc,
         }
@@ -141,10 +132,8 @@ impl<N: NameValue> Store<N> {
     {
         unify_or_undo(
             &mut self.cells,
-            &mut self.frames,
-            &mut self.merges,
+            &mut self.scratch,
             &mut self.levels,
-            &mut self.tasks,
             left,
             right,
         )
@@ -162,8 +151,8 @@ impl<N: NameValue> Store<N> {
         let mut waits = Vec::new(self.alloc);
         if !compare_each(
             &self.cells,
-            &mut self.frames,
-            &mut self.pairs,
+            &mut self.scratch.frames,
+            &mut self.scratch.pairs,
             &mut waits,
             terms,
         )? {

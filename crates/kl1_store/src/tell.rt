@@ -13,9 +13,8 @@ fn tell_one(variable: u32, hooks: &[Hook], told: &mut Vec<u32>) -> Result<(), Al
 {
     let mut rest = hooks;
     while let [first, more @ ..] = rest {
-        let hook = *first;
-        if hook.variable == variable {
-            told.push(hook.number)?;
+        if first.variable == variable {
+            told.push(first.number)?;
         }
         rest = more;
     }
@@ -32,8 +31,7 @@ pub fn tell_all<N: Copy>(
 {
     let mut rest = bindings;
     while let [first, more @ ..] = rest {
-        let binding = *first;
-        tell_one(binding.variable, hooks, told)?;
+        tell_one(first.variable, hooks, told)?;
         rest = more;
     }
     Ok(())

@@ -1,7 +1,7 @@
 // What unification comes to.
 
 /// Whether two terms were made equal.
-#[derive(Clone, Copy, PartialEq, Eq, Debug)]
+#[derive(Clone, Copy, PartialEq, Eq)]
 pub enum Unified {
     /// They are equal from now on.
     Bound,

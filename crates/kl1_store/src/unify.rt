@@ -8,23 +8,19 @@ ghost use Rattle.kl1_store.specs.Unification.{UnifiesAs};
 
 use crate::cell::Cell;
 use crate::cells::Cells;
-use crate::frame::Frame;
 use crate::levels::Levels;
-use crate::merges::Merges;
+use crate::scratch::Scratch;
 use crate::settle::unify_cells;
 use crate::take_back::take_back;
-use crate::task::Task;
 use crate::unified::Unified;
 use kl1_text::NameValue;
 use std::alloc::AllocError;
 
-/// Makes two cells mean the same, or takes back what was bound; `frames`, `merges` and `tasks` are scratch.
+/// Makes two cells mean the same, or takes back what was bound; `scratch` is lent to work with.
 pub fn unify_or_undo<N: NameValue>(
     cells: &mut Cells<N>,
-    frames: &mut Vec<Frame>,
-    merges: &mut Merges,
+    scratch: &mut Scratch<N>,
     levels: &mut Levels,
-    tasks: &mut Vec<Task<N>>,
     left: Cell<N>,
     right: Cell<N>,
 ) -> Result<Unified, AllocError>
@@ -37,7 +33,15 @@ pub fn unify_or_undo<N: NameValue>(
     ensures levels { AreLevels cells.new.held levels.new }
 {
     let mark = cells.mark();
-    match unify_cells(cells, frames, merges, levels, tasks, left, right) {
+    match unify_cells(
+        cells,
+        &mut scratch.frames,
+        &mut scratch.merges,
+        levels,
+        &mut scratch.tasks,
+        left,
+        right,
+    ) {
         Ok(true) => Ok(Unified::Bound),
         Ok(false) => {
             take_back(cells, levels, mark);

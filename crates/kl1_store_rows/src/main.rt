@@ -13,9 +13,9 @@ mod views;
 mod written;
 
 use crate::stores::Stores;
+use std::io;
 
-fn main(rt: HostRuntime) -> Result<(), anyhow::Error> {
+fn main(rt: HostRuntime) -> io::Result<()> {
     let mut stores = Stores::new(rt.alloc());
-    kl1_rows::report(rt.alloc(), rt.stdin(), rt.stdout(), &mut stores)?;
-    Ok(())
+    kl1_rows::report(rt.alloc(), rt.stdin(), rt.stdout(), &mut stores)
 }

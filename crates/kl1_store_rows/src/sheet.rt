@@ -16,6 +16,40 @@ pub struct Sheet<N: Written> {
     told: Vec<u32>,
 }
 
+/// In what way an act is done.
+#[derive(Clone, Copy)]
+enum Way {
+    Plain,
+    /// It is taken back.
+    Back,
+    /// Room is made for it.
+    Room,
+    /// It looks at something.
+    See,
+}
+
+/// In what way an act is done, by the word before it, and the act.
+fn way_of(act: &[u8]) -> (Way, &[u8]) {
+    if let Some(act) = act.strip_prefix(b"back ") {
+        return (Way::Back, act);
+    }
+    if let Some(act) = act.strip_prefix(b"room ") {
+        return (Way::Room, act);
+    }
+    if let Some(act) = act.strip_prefix(b"see ") {
+        return (Way::See, act);
+    }
+    (Way::Plain, act)
+}
+
+/// The first letter of a word.
+fn letter_of(word: &[u8]) -> u8 {
+    match word {
+        [letter, ..] => *letter,
+        [] => b' ',
+    }
+}
+
 impl<N: Written> Sheet<N> {
     /// An empty store.
     pub fn new(alloc: Global) -> Self {
@@ -26,39 +60,24 @@ impl<N: Written> Sheet<N> {
         }
     }
 
-    /// Reads the cells that an act is on, and answers the first letter of its word.
-    fn read(&mut self, act: &[u8]) -> Result<u8, AllocError> {
-        let (word, operands) = cut(act, b' ');
-        read_cells(&self.store, operands, &mut self.cells)?;
-        match word {
-            [letter, ..] => Ok(*letter),
-            [] => Ok(b' '),
-        }
+    /// Empties the store.
+    pub fn clear(&mut self, alloc: Global) {
+        self.store = Store::new(alloc);
     }
 
-    /// What an act comes to: after `back` one that is taken back, after `room` one for which room is made, after `see` a
-    /// look.
+    /// What an act comes to.
     fn answer(&mut self, act: &[u8]) -> Result<Answer<N>, AllocError> {
-        if let Some(act) = act.strip_prefix(b"back ") {
-            let letter = self.read(act)?;
-            return undone::answer(&mut self.store, letter, self.cells.as_slice());
+        let (way, act) = way_of(act);
+        let (word, operands) = cut(act, b' ');
+        read_cells(&self.store, operands, &mut self.cells)?;
+        let letter = letter_of(word);
+        let cells = self.cells.as_slice();
+        match way {
+            Way::Back => undone::answer(&mut self.store, letter, cells),
+            Way::Room => rooms::answer(&mut self.store, cells),
+            Way::See => Ok(views::answer(&self.store, self.told.as_slice(), letter, cells)),
+            Way::Plain => acts::answer(&mut self.store, &mut self.told, letter, cells),
         }
-        if let Some(act) = act.strip_prefix(b"room ") {
-            self.read(act)?;
-            return rooms::answer(&mut self.store, self.cells.as_slice());
-        }
-        if let Some(act) = act.strip_prefix(b"see ") {
-            let letter = self.read(act)?;
-            let told = self.told.as_slice();
-            return Ok(views::answer(&self.store, told, letter, self.cells.as_slice()));
-        }
-        let letter = self.read(act)?;
-        acts::answer(
-            &mut self.store,
-            &mut self.told,
-            letter,
-            self.cells.as_slice(),
-        )
     }
 
     /// Whether acts, parted by `;`, can all be done, and the last comes to the answer that is wanted.

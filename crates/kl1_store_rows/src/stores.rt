@@ -26,7 +26,8 @@ impl Stores {
 
 impl Answers for Stores {
     fn begin(&mut self, alloc: Global, kind: &[u8]) {
-        *self = Stores::new(alloc);
+        self.numbers.clear(alloc);
+        self.texts.clear(alloc);
         self.is_of_texts = kind == b"texts".as_slice();
     }
 

@@ -1,0 +1,29 @@
+// What the calls of a store work with.
+
+use crate::frame::Frame;
+use crate::merges::Merges;
+use crate::pairs::Pairs;
+use crate::task::Task;
+use kl1_text::NameValue;
+use std::alloc::Global;
+
+/// Lists that each call empties before it uses them.
+#[derive(Drop)]
+pub struct Scratch<N: NameValue> {
+    pub frames: Vec<Frame>,
+    pub merges: Merges,
+    pub pairs: Pairs,
+    pub tasks: Vec<Task<N>>,
+}
+
+impl<N: NameValue> Scratch<N> {
+    /// Empty lists.
+    pub fn new(alloc: Global) -> Self {
+        Scratch {
+            frames: Vec::new(alloc),
+            merges: Merges::new(alloc),
+            pairs: Pairs::new(alloc),
+            tasks: Vec::new(alloc),
+        }
+    }
+}
