@@ -45,21 +45,21 @@ pub(crate) fn times_of_run<R: Threads + Clock + Sync>(
     let map = map_time(rt, alloc, texts, rounds)?;
     let (table, mut seats) = AtomTable::new(alloc, 7)?;
     let a = next_seat(&table, &mut seats, texts);
+    let start = Instant::now(rt);
+    let sum = found(&table, a, texts, rounds);
+    let one = start?.elapsed(rt)?.as_nanos();
     let b = next_seat(&table, &mut seats, texts);
     let c = next_seat(&table, &mut seats, texts);
+    let start = Instant::now(rt);
+    let sum_of_two = found_by_two(rt, &table, b, c, texts, rounds);
+    let two = start?.elapsed(rt)?.as_nanos();
     let d = next_seat(&table, &mut seats, texts);
     let e = next_seat(&table, &mut seats, texts);
     let f = next_seat(&table, &mut seats, texts);
     let g = next_seat(&table, &mut seats, texts);
-    let start = Instant::now(rt)?;
-    let sum = found(&table, a, texts, rounds);
-    let one = start.elapsed(rt)?.as_nanos();
-    let start = Instant::now(rt)?;
-    let sum_of_two = found_by_two(rt, &table, b, c, texts, rounds);
-    let two = start.elapsed(rt)?.as_nanos();
-    let start = Instant::now(rt)?;
+    let start = Instant::now(rt);
     let sum_of_four = found_by_four(rt, &table, d, e, f, g, texts, rounds);
-    let four = start.elapsed(rt)?.as_nanos();
+    let four = start?.elapsed(rt)?.as_nanos();
     ensure!(
         sum_of_two == sum.wrapping_mul(2),
         "two threads found other numbers"

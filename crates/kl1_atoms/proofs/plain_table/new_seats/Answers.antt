@@ -1,4 +1,4 @@
-use Rattle.std.proofs.Common.{◌≡◌, ℕ, [], length, sym, ◌∙◌, subst, inl, inr, arith}
+use Rattle.std.proofs.Common.{◌≡◌, [], length, sym, ◌∙◌, subst, inl, inr, arith}
 use Rattle.kl1_atoms.specs.declared.plain_seat.PlainSeat.{PlainSeat}
 use Rattle.kl1_atoms.proofs.Rows.{pushed}
 use Rattle.kl1_atoms.proofs.plain_table.new_seats.Goals as goal
