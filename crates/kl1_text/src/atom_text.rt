@@ -73,6 +73,7 @@ impl AtomText {
     }
 
     /// The name of a built-in.
+    #[tactic(auto, using(crate::proofs::BuiltInLaws::built_ins_are_texts))]
     pub fn of_built_in(built_in: BuiltIn) -> Self
         ensures { result ≡ text_of built_in }
     {

@@ -1,14 +1,13 @@
 // The bytes of the built-in names.
 
-ghost use Rattle.std.specs.Prelude.{◌≡◌, IsTrue};
-ghost use Rattle.kl1_model.specs.Text.{is_text, text_of};
+ghost use Rattle.std.specs.Prelude.{◌≡◌};
+ghost use Rattle.kl1_model.specs.Text.{text_of};
 
 use kl1_model::BuiltIn;
 
 /// The bytes of a built-in name.
 pub(crate) fn bytes_of(built_in: BuiltIn) -> &'static [u8]
-    ensures value { result.now ≡ text_of built_in }
-    ensures text { IsTrue (is_text result.now) }
+    ensures { result.now ≡ text_of built_in }
 {
     match built_in {
         BuiltIn::EmptyList => b"[]",
