@@ -20,11 +20,7 @@ pub(crate) enum Frame {
 }
 
 /// What was opened, with what stands to its left, as a frame.
-pub(crate) fn frame_of(
-    alloc: Global,
-    opened: Opened,
-    left: Left,
-) -> Result<Frame, AllocError>
+pub(crate) fn frame_of(alloc: Global, opened: Opened, left: Left) -> Result<Frame, AllocError>
     ensures opened { IfOk result (λ frame. opened_of frame ≡ opened) }
     ensures left { IfOk result (λ frame. left_of frame ≡ left) }
 {

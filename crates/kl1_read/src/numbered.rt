@@ -1,7 +1,7 @@
 // Tokens with numbers for variables.
 
-use kl1_model::Sign;
 use crate::spelling::Spelling;
+use kl1_model::Sign;
 
 /// A token whose variables are known by their numbers in the item, from 1.
 #[derive(Drop)]

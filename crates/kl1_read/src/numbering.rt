@@ -101,10 +101,7 @@ fn number_token(
 }
 
 /// The tokens of an item with numbers for their variables, from 1 by first occurrence.
-pub(crate) fn numbered_tokens(
-    alloc: Global,
-    tokens: &[Kept],
-) -> Result<Vec<Numbered>, AllocError>
+pub(crate) fn numbered_tokens(alloc: Global, tokens: &[Kept]) -> Result<Vec<Numbered>, AllocError>
     ensures { IfOk result (λ ts. map numbered_token ts.items ≡ numbered_tokens (map kept_token tokens.now)) }
 {
     let mut numbers = HashMap::new(alloc);
