@@ -13,7 +13,7 @@ use std::alloc::Global;
 pub const MOST_BYTES: usize = 16_777_216;
 
 /// The most bytes of one read.
-const PIECE: usize = 65_536;
+const PIECE: usize = 16_384;
 
 /// Reads once, at most so many bytes, and puts them behind the others. Answers how many.
 fn read_piece<S: Source>(
