@@ -9,6 +9,9 @@ use Rattle.kl1_model.specs.Meaning.{pair, Depth, depths, depth, pair_depth, is_n
 use Rattle.kl1_term.specs.declared.node.Node.{Node}
 use Rattle.kl1_term.specs.declared.node.Node.TheVariants.{Structure}
 use Rattle.kl1_term.specs.Nodes.{code_of, term_in, IsTerm}
+use Rattle.kl1_read.specs.declared.small_node.SmallNode.{SmallNode}
+use Rattle.kl1_read.specs.declared.small_node.SmallNode.TheVariants as small
+use Rattle.kl1_read.specs.SmallNodes.{node_of}
 use Rattle.kl1_read.specs.PieceView.{IsPiece}
 use Rattle.kl1_read.specs.Pieces.{writable}
 
@@ -52,9 +55,29 @@ made_of nodes t whole rest e d n l m =
     record { is = ap (λ x. Some x) (term_of_nodes (reverse nodes) t e) ∙ sym (there_writable t w); piece = piece_of_nodes (reverse nodes) t whole rest e d w l m }
 
 -- the nodes of a term behind no others
-pub spilled_alone : (xs ys : List Node) (t : Term) (whole rest : ℕ) → term_in (reverse xs) ≡ t → IsPiece (reverse xs) whole rest → length ys ≡ 0 → map code_of (reverse xs) ≡ nodes_of t ++ map code_of (reverse ys)
+pub spilled_alone : (xs ys : List SmallNode) (t : Term) (whole rest : ℕ) → term_in (reverse (map node_of xs)) ≡ t → IsPiece (reverse (map node_of xs)) whole rest → length ys ≡ 0 → map code_of (reverse (map node_of xs)) ≡ nodes_of t ++ map code_of (reverse (map node_of ys))
 spilled_alone xs [] t whole rest is p n = p.one ∙ ap nodes_of is ∙ sym (append-nil (nodes_of t))
 spilled_alone xs (y ∷ ys) t whole rest is p n = absurd (omega arith)
+
+-- the nodes of a term behind others
+pub spilled_behind : (xs ys zs : List SmallNode) (t : Term) (whole rest : ℕ) → term_in (reverse (map node_of xs)) ≡ t → IsPiece (reverse (map node_of xs)) whole rest → zs ≡ ys ++ xs → map code_of (reverse (map node_of zs)) ≡ nodes_of t ++ map code_of (reverse (map node_of ys))
+spilled_behind xs ys zs t whole rest is p e =
+    ap (λ ns. map code_of (reverse (map node_of ns))) e
+    ∙ ap (λ ns. map code_of (reverse ns)) (map-append node_of ys xs)
+    ∙ ap (map code_of) (reverse-append (map node_of ys) (map node_of xs))
+    ∙ map-append code_of (reverse (map node_of xs)) (reverse (map node_of ys))
+    ∙ ap (λ cs. cs ++ map code_of (reverse (map node_of ys))) (p.one ∙ ap nodes_of is)
+
+-- one node more
+pub one_node : (xs zs : List SmallNode) (n : SmallNode) → zs ≡ xs ++ n ∷ [] → map node_of zs ≡ map node_of xs ++ node_of n ∷ []
+one_node xs zs n e = ap (map node_of) e ∙ map-append node_of xs (n ∷ [])
+
+-- the nodes of two terms and the node of their pair
+pub two_rows : (xs ys ms zs : List SmallNode) (f g : List ℕ) → g ≡ f → ms ≡ ys ++ xs → zs ≡ ms ++ small.Structure 2 g ∷ [] → map node_of zs ≡ (map node_of ys ++ map node_of xs) ++ Structure f 2 ∷ []
+two_rows xs ys ms zs f g h m e =
+    one_node ms zs (small.Structure 2 g) e
+    ∙ ap (λ ns. ns ++ Structure g 2 ∷ []) (ap (map node_of) m ∙ map-append node_of ys xs)
+    ∙ ap (λ x. (map node_of ys ++ map node_of xs) ++ Structure x 2 ∷ []) h
 
 reversed_pair : (xs ys : List Node) (n : Node) → reverse ((ys ++ xs) ++ n ∷ []) ≡ n ∷ (reverse xs ++ reverse ys)
 reversed_pair xs ys n = reverse-append (ys ++ xs) (n ∷ []) ∙ ap (λ zs. n ∷ zs) (reverse-append ys xs)

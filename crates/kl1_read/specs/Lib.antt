@@ -20,3 +20,4 @@ pub mod Followings
 pub mod Spellings
 pub mod Held
 pub mod Waits
+pub mod SmallNodes

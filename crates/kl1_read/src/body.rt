@@ -37,7 +37,7 @@ fn fit_goal(alloc: Global, module_name: AtomText, piece: Piece) -> Result<Option
     ensures { IfOk result (λ r. r ≡ fit_goal module_name piece) }
 {
     piece.is_written();
-    let term = piece.into_term();
+    let term = piece.into_term(alloc)?;
     if is_goal(&term) {
         return Ok(Some(term));
     }

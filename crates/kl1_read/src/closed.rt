@@ -110,7 +110,11 @@ fn end_elements<'a>(
     ensures less { IfOk result (ClosedLess (length tokens.now)) }
 {
     match behind_mark(Mark::Bar, tokens) {
-        Some(behind) => Ok(Closed::More(Opened::Tail(elements), behind)),
+        Some(behind) => {
+            let mut elements = elements;
+            elements.shrink_to_fit();
+            Ok(Closed::More(Opened::Tail(elements), behind))
+        }
         None => match behind_mark(Mark::CloseList, tokens) {
             None => Ok(Closed::Bad),
             Some(behind) => {

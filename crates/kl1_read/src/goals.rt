@@ -36,18 +36,18 @@ fn goal_of(alloc: Global, line: u64, tokens: Vec<Kept>) -> Result<Term, ReadFaul
 {
     let numbered = numbered_tokens(alloc, tokens.as_slice())?;
     drop(tokens);
-    start_of(line, read_expression(alloc, numbered.as_slice())?)
+    start_of(alloc, line, read_expression(alloc, numbered.as_slice())?)
 }
 
 /// The goal that a term is, where there is one.
-fn start_of(line: u64, read: Option<Piece>) -> Result<Term, ReadFault>
+fn start_of(alloc: Global, line: u64, read: Option<Piece>) -> Result<Term, ReadFault>
     ensures goal { IfOk result (λ goal. started line read ≡ good goal) }
     ensures fault { IfErr result (IsFaultOf (started line read)) }
 {
     match read {
         None => Err(ReadFault::Bad { line }),
         Some(piece) => {
-            let term = piece.into_term();
+            let term = piece.into_term(alloc)?;
             if is_goal(&term) {
                 Ok(term)
             } else {

@@ -15,7 +15,7 @@ pub(crate) fn tests_of(alloc: Global, pieces: Vec<Piece>) -> Result<Option<Vec<T
     let mut pieces = pieces;
     let mut tests = Vec::new(alloc);
     while let Some(piece) = pieces.pop() {
-        match fit_test(piece) {
+        match fit_test(alloc, piece)? {
             None => return Ok(None),
             Some(test) => tests.push(test)?,
         }
@@ -25,10 +25,14 @@ pub(crate) fn tests_of(alloc: Global, pieces: Vec<Piece>) -> Result<Option<Vec<T
 }
 
 /// The test that a term is, where it is one.
-fn fit_test(piece: Piece) -> Option<Term>
-    ensures { result ≡ fit_test piece }
+fn fit_test(alloc: Global, piece: Piece) -> Result<Option<Term>, AllocError>
+    ensures { IfOk result (λ r. r ≡ fit_test piece) }
 {
     piece.is_written();
-    let term = piece.into_term();
-    if is_test(&term) { Some(term) } else { None }
+    let term = piece.into_term(alloc)?;
+    if is_test(&term) {
+        Ok(Some(term))
+    } else {
+        Ok(None)
+    }
 }

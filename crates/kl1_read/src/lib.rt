@@ -36,6 +36,7 @@ mod repeats;
 mod reserved;
 mod series;
 mod signs;
+mod small_node;
 mod source;
 mod spelled;
 mod spelling;

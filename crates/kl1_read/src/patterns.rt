@@ -68,7 +68,8 @@ fn into_terms(alloc: Global, pieces: Vec<Piece>) -> Result<Vec<Term>, AllocError
     let mut pieces = pieces;
     let mut terms = Vec::new(alloc);
     while let Some(piece) = pieces.pop() {
-        terms.push(piece.into_term())?;
+        let term = piece.into_term(alloc)?;
+        terms.push(term)?;
     }
     terms.reverse();
     Ok(terms)

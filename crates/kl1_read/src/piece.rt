@@ -6,8 +6,11 @@ ghost use Rattle.kl1_model.specs.TermCode.{nodes_of};
 ghost use Rattle.kl1_model.specs.Meaning.{Depth, pair, cells, depth, is_narrow, is_writable, pair_depth};
 ghost use Rattle.kl1_term.specs.Nodes.{code_of};
 ghost use Rattle.kl1_read.specs.Pieces.{writable};
+ghost use Rattle.kl1_read.specs.SmallNodes.{node_of};
 
-use kl1_term::{Node, Term};
+use crate::small_node::{SmallNode, turned};
+use crate::spelling::Spelling;
+use kl1_term::Term;
 use kl1_text::AtomText;
 use std::alloc::{AllocError, Global};
 use std::marker::Model;
@@ -16,13 +19,14 @@ use std::marker::Model;
 #[derive(Drop)]
 pub(crate) struct Piece {
     /// The nodes, the last one first.
-    nodes: Vec<Node>,
+    nodes: Vec<SmallNode>,
     whole: u64,
     rest: u64,
 }
 
 impl Model for Piece {
-    ghost use Rattle.std.specs.Prelude.{reverse};
+    ghost use Rattle.std.specs.Prelude.{map, reverse};
+    ghost use Rattle.kl1_read.specs.SmallNodes.{node_of};
     ghost use Rattle.kl1_model.specs.Term.{Term as TermSpec};
     ghost use Rattle.kl1_model.specs.TermCode.{term_code};
     ghost use Rattle.kl1_term.specs.Nodes.{term_in};
@@ -33,9 +37,9 @@ impl Model for Piece {
 
     ghost use Rattle.kl1_read.specs.PieceView.{IsPiece};
 
-    ghost view = { λ a. term_in (reverse a.nodes.items) };
+    ghost view = { λ a. term_in (reverse (map node_of a.nodes.items)) };
 
-    ghost invariant = { λ a. IsPiece (reverse a.nodes.items) a.whole a.rest };
+    ghost invariant = { λ a. IsPiece (reverse (map node_of a.nodes.items)) a.whole a.rest };
 }
 
 impl Piece {
@@ -44,7 +48,7 @@ impl Piece {
         ensures { IfOk result (λ piece. piece ≡ variable number) }
     {
         let mut nodes = Vec::with_capacity(alloc, 1)?;
-        nodes.push(Node::Variable(number))?;
+        nodes.push(SmallNode::Variable(number))?;
         Ok(Piece {
             nodes,
             whole: 1,
@@ -57,7 +61,7 @@ impl Piece {
         ensures { IfOk result (λ piece. piece ≡ integer number) }
     {
         let mut nodes = Vec::with_capacity(alloc, 1)?;
-        nodes.push(Node::Integer(number))?;
+        nodes.push(SmallNode::Integer(number))?;
         Ok(Piece {
             nodes,
             whole: 1,
@@ -70,8 +74,9 @@ impl Piece {
         ensures { IfOk result (λ piece. piece ≡ atom text) }
     {
         let _bytes = text.unpacked();
+        let spelling = Spelling::of(alloc, text)?;
         let mut nodes = Vec::with_capacity(alloc, 1)?;
-        nodes.push(Node::Atom(text))?;
+        nodes.push(SmallNode::Atom(spelling))?;
         Ok(Piece {
             nodes,
             whole: 1,
@@ -102,9 +107,10 @@ impl Piece {
         if is_too_deep(whole) {
             return Ok(None);
         }
-        let mut nodes = behind;
-        nodes.extend_from_slice(front.as_slice())?;
-        nodes.push(Node::Structure(name, 2))?;
+        let (mut nodes, mut front) = (behind, front);
+        let spelling = Spelling::of(*nodes.allocator(), name)?;
+        nodes.append(&mut front)?;
+        nodes.push(SmallNode::Structure(2, spelling))?;
         Ok(Some(Piece { nodes, whole, rest }))
     }
 
@@ -115,17 +121,17 @@ impl Piece {
         let _nodes = &self.nodes;
     }
 
-    /// The term itself: its nodes are turned round in their place.
-    pub(crate) fn into_term(self) -> Term
-        ensures { result ≡ self }
+    /// The term itself.
+    pub(crate) fn into_term(self, alloc: Global) -> Result<Term, AllocError>
+        ensures { IfOk result (λ term. term ≡ self) }
     {
         let Piece {
-            mut nodes,
+            nodes,
             whole: _whole,
             rest: _rest,
         } = self;
-        nodes.reverse();
-        Term::of_nodes(nodes)
+        let row = turned(alloc, nodes)?;
+        Ok(Term::of_nodes(row))
     }
 
     /// How deep the term is.
@@ -137,14 +143,14 @@ impl Piece {
 
     /// Puts the nodes behind others, which come before them in the order of reading; gives the depth. Where there are no
     /// others, the nodes are not copied.
-    fn spill(self, nodes: &mut Vec<Node>) -> Result<u64, AllocError>
-        ensures nodes { OnOk result (map code_of (reverse nodes.new.items) ≡ nodes_of self ++ map code_of (reverse nodes.old.items)) }
+    fn spill(self, nodes: &mut Vec<SmallNode>) -> Result<u64, AllocError>
+        ensures nodes { OnOk result (map code_of (reverse (map node_of nodes.new.items)) ≡ nodes_of self ++ map code_of (reverse (map node_of nodes.old.items))) }
         ensures depth { IfOk result (λ whole. whole ≡ depth self) }
         ensures narrow { IsTrue (is_narrow self) }
         ensures low { depth self ≤ 256 }
     {
         let Piece {
-            nodes: own,
+            nodes: mut own,
             whole,
             rest: _rest,
         } = self;
@@ -152,7 +158,7 @@ impl Piece {
             *nodes = own;
             return Ok(whole);
         }
-        nodes.extend_from_slice(own.as_slice())?;
+        nodes.append(&mut own)?;
         Ok(whole)
     }
 
@@ -236,7 +242,8 @@ impl Piece {
         ensures { IfOk result (λ piece. piece ≡ writable (structure name (terms_of arguments.items))) }
     {
         let _bytes = name.unpacked();
-        let count = arguments.len();
+        let count = arguments.len() as u8;
+        let spelling = Spelling::of(alloc, name)?;
         let mut arguments = arguments;
         let mut nodes = Vec::new(alloc);
         let mut deepest = 0;
@@ -247,7 +254,7 @@ impl Piece {
         if deepest >= 256 {
             return Ok(None);
         }
-        nodes.push(Node::Structure(name, count))?;
+        nodes.push(SmallNode::Structure(count, spelling))?;
         Ok(Some(Piece {
             nodes,
             whole: deepest + 1,
