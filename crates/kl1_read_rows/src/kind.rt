@@ -13,9 +13,7 @@ pub enum Kind {
     Integer,
     Print,
     Put,
-    Views,
     Copy,
-    Same,
     Variables,
     Depth,
     OfNodes,
@@ -34,7 +32,7 @@ pub enum Kind {
 }
 
 /// The kinds by the words that name them.
-const KINDS: [(&[u8], Kind); 26] = [
+const KINDS: [(&[u8], Kind); 24] = [
     (b"name", Kind::Name),
     (b"place", Kind::Place),
     (b"built_in", Kind::BuiltIn),
@@ -43,9 +41,7 @@ const KINDS: [(&[u8], Kind); 26] = [
     (b"integer", Kind::Integer),
     (b"print", Kind::Print),
     (b"put", Kind::Put),
-    (b"views", Kind::Views),
     (b"copy", Kind::Copy),
-    (b"same", Kind::Same),
     (b"variables", Kind::Variables),
     (b"depth", Kind::Depth),
     (b"of_nodes", Kind::OfNodes),

@@ -2,9 +2,8 @@
 
 use crate::answer::Answer;
 use crate::kind::Kind;
-use crate::names::put_same;
 use crate::numbers::{integer_of, small};
-use crate::tops::{put_copies, put_depth, put_prints, put_puts, put_variables, put_views};
+use crate::tops::{put_copy, put_depth, put_prints, put_puts, put_variables};
 use kl1_rows::{cut, number_of};
 use kl1_term::Term;
 use kl1_text::AtomText;
@@ -90,12 +89,10 @@ pub fn put_terms(answer: &mut Answer, kind: Kind, act: &[u8]) {
         [term] => match kind {
             Kind::Print => put_prints(answer, term),
             Kind::Put => put_puts(answer, term),
-            Kind::Views => put_views(answer, term),
-            Kind::Copy => put_copies(answer, term),
+            Kind::Copy => put_copy(answer, term),
             Kind::Variables => put_variables(answer, term),
             _ => put_depth(answer, term),
         },
-        [first, second] => put_same(answer, first.same(second)),
         _ => answer.fail(),
     }
 }

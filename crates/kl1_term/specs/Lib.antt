@@ -5,4 +5,3 @@ pub mod Openings
 pub mod Page
 pub mod Printing
 pub mod Variables
-pub mod Views

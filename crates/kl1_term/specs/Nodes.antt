@@ -1,8 +1,8 @@
 -- The nodes of terms as the code has them.
 use Rattle.std.specs.Prelude.{◌≡◌, ℕ, zero, suc, ◌+◌, List, [], ◌∷◌, ◌++◌, map, codes}
 use Rattle.std.proofs.Common.{inl, inr}
-use Rattle.kl1_model.specs.Term.{Term, Terms, none, more, terms_of}
-use Rattle.kl1_model.specs.TermCode.{NodeCode, read_node, read_nodes, nodes_of, nodes_of_all, term_from}
+use Rattle.kl1_model.specs.Term.{Term, Terms, none, more}
+use Rattle.kl1_model.specs.TermCode.{NodeCode, read_node, read_nodes, nodes_of, term_from}
 use Rattle.kl1_term.specs.declared.node.Node.{Node}
 use Rattle.kl1_term.specs.declared.node.Node.TheVariants.{Variable, Integer, Atom, Structure}
 
@@ -52,17 +52,3 @@ IsTerm nodes = map code_of nodes ≡ nodes_of (term_in nodes)
 abbrev pub cell_nodes : Terms → List NodeCode
 cell_nodes none = []
 cell_nodes (more t ts) = inr (inr (codes ".", 2)) ∷ (nodes_of t ++ cell_nodes ts)
-
--- the terms of nodes that stand side by side
-abbrev pub terms_in : List Node → List Term
-terms_in nodes = read_nodes (map code_of nodes) []
-
--- whether nodes are those of terms side by side
-abbrev pub IsRow : List Node → Type 0
-IsRow nodes = map code_of nodes ≡ nodes_of_all (terms_of (terms_in nodes))
-
--- how many nodes there are up to where so many terms are there
-abbrev pub end_in : List NodeCode → ℕ → ℕ
-end_in [] w = 0
-end_in (c ∷ cs) zero = 0
-end_in (c ∷ cs) (suc w) = suc (end_in cs (count_of_code c + w))

@@ -31,15 +31,6 @@ pub fn put_whole(alloc: Global, out: &mut Vec<u8>, term: &Term) -> Result<(), Al
     out.extend_from_slice(&text)
 }
 
-/// Puts the text of a term behind the bytes, cut after so many bytes of its own, with three dots where it is longer.
-pub fn put_cut(alloc: Global, out: &mut Vec<u8>, term: &Term, most: usize) -> Result<(), AllocError>
-    ensures ok { OnOk result (out.new.items ≡ out.old.items ++ cut_text most (print term.now)) }
-    ensures err { OnErr result (out.new.items ≡ out.old.items) }
-{
-    let text = print_cut(alloc, term, most)?;
-    out.extend_from_slice(&text)
-}
-
 /// The text of a term, cut where there is a number of bytes for it.
 #[tactic(auto, using(crate::proofs::Prints::prints))]
 fn print_within(alloc: Global, term: &Term, most: Option<usize>) -> Result<Vec<u8>, AllocError>

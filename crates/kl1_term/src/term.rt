@@ -4,12 +4,9 @@ ghost use Rattle.std.specs.Prelude.{◌≡◌, ℕ, ◌≤◌, List, ◌++◌, l
 ghost use Rattle.kl1_model.specs.Term.{Term as TermSpec, variable, integer, atom, structure, terms_of};
 ghost use Rattle.kl1_model.specs.TermCode.{nodes_of, nodes_of_all};
 ghost use Rattle.kl1_model.specs.Meaning.{cells};
-ghost use Rattle.kl1_term.specs.Views.{term_by};
 ghost use Rattle.kl1_term.specs.Nodes.{code_of, term_in, IsTerm, cell_nodes};
 
 use crate::node::Node;
-use crate::part::{Part, part_of, view_of};
-use crate::view::View;
 use kl1_text::AtomText;
 use std::alloc::{AllocError, Global};
 use std::marker::Model;
@@ -77,28 +74,6 @@ impl Term {
         ensures { (t : TermSpec) → map code_of nodes.items ≡ nodes_of t → result ≡ t }
     {
         Term { nodes }
-    }
-
-    /// What the term is.
-    pub fn view(&self) -> View<'_>
-        ensures { term_by result ≡ self.now }
-    {
-        view_of(&self.nodes)
-    }
-
-    /// The term, lent as a part of itself.
-    pub fn as_part(&self) -> Part<'_>
-        ensures { result ≡ self.now }
-    {
-        part_of(&self.nodes)
-    }
-
-    /// A term like a part of another.
-    pub fn of_part(alloc: Global, part: &Part<'_>) -> Result<Self, AllocError>
-        ensures { IfOk result (λ t. t ≡ part.now) }
-    {
-        let nodes = Vec::from_slice(alloc, part.nodes())?;
-        Ok(Term::of_nodes(nodes))
     }
 
     /// The structure of a name and arguments.
