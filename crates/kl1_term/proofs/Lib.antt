@@ -3,6 +3,7 @@ pub mod DepthFacts
 pub mod Frames
 pub mod Openings
 pub mod Pages
+pub mod Lent
 pub mod Prints
 pub mod Rows
 pub mod Texts

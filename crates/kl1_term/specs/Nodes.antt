@@ -52,3 +52,7 @@ IsTerm nodes = map code_of nodes ≡ nodes_of (term_in nodes)
 abbrev pub cell_nodes : Terms → List NodeCode
 cell_nodes none = []
 cell_nodes (more t ts) = inr (inr (codes ".", 2)) ∷ (nodes_of t ++ cell_nodes ts)
+
+-- the terms of nodes that stand side by side
+abbrev pub terms_in : List Node → List Term
+terms_in nodes = read_nodes (map code_of nodes) []
