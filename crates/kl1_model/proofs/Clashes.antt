@@ -114,12 +114,13 @@ mutual
   no_clashes none = refl
   no_clashes (more t ts) = or_from (clash t t) (any_clash ts ts) (no_clash t) (no_clashes ts)
 
-same_or : (p q : Bool) → (if p then same else if q then differs else unknown) ≡ same → p ≡ true
+-- the answer for what was found, and back
+pub same_or : (p q : Bool) → (if p then same else if q then differs else unknown) ≡ same → p ≡ true
 same_or true q h = refl
 same_or false true h = absurd (cc)
 same_or false false h = absurd (cc)
 
-differs_or : (p q : Bool) → (if p then same else if q then differs else unknown) ≡ differs → q ≡ true
+pub differs_or : (p q : Bool) → (if p then same else if q then differs else unknown) ≡ differs → q ≡ true
 differs_or true q h = absurd (cc)
 differs_or false true h = refl
 differs_or false false h = absurd (cc)
@@ -136,7 +137,7 @@ same_is_equal t u = (
 )
 
 -- terms that clash are not the same
-clash_differs : (t u : Term) → clash t u ≡ true → same_term t u ≡ false
+pub clash_differs : (t u : Term) → clash t u ≡ true → same_term t u ≡ false
 clash_differs t u h =
     false_from_ne_true (same_term t u) (λ s. false≢true (sym (no_clash t) ∙ ap (clash t) ((same_term_decides t u).0 s) ∙ h))
 

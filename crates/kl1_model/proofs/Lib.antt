@@ -30,3 +30,4 @@ pub mod ReadClauses
 pub mod ReadPlain
 pub mod Clashes
 pub mod SameEach
+pub mod SameStays

@@ -31,7 +31,7 @@ no_else : (c b : Bool) → (if c then b else true) ≡ false → (c ≡ true) ×
 no_else true b h = (refl, h)
 no_else false b h = absurd (cc)
 
-in_both : (f g : List ℕ) (ts us : Terms) (c b : Bool) → bytes_eq f g && count_of ts == count_of us ≡ c → (if c then b else true) ≡ false → (bytes_eq f g ≡ true) × (count_of ts ≡ count_of us) × (b ≡ false)
+pub in_both : (f g : List ℕ) (ts us : Terms) (c b : Bool) → bytes_eq f g && count_of ts == count_of us ≡ c → (if c then b else true) ≡ false → (bytes_eq f g ≡ true) × (count_of ts ≡ count_of us) × (b ≡ false)
 in_both f g ts us c b e h =
     let n = no_else c b h in
     let p = and_parts (bytes_eq f g) (count_of ts == count_of us) (e ∙ n.0) in
@@ -39,7 +39,7 @@ in_both f g ts us c b e h =
 
 -- terms that neither clash nor wait are the same
 mutual
-  same_from : (t u : Term) → clash t u ≡ false → awaited t u ≡ [] → same_term t u ≡ true
+  pub same_from : (t u : Term) → clash t u ≡ false → awaited t u ≡ [] → same_term t u ≡ true
   same_from (variable v) (variable w) c a = nil_if (v == w) v w a
   same_from (variable v) (integer j) c a = absurd (cc)
   same_from (variable v) (atom b) c a = absurd (cc)
@@ -77,7 +77,7 @@ same_with t (u ∷ us) c a =
     let q = both_nil (awaited t u) (awaited_with t us) a in
     and_from (same_term t u) (same_as_all t us) (same_from t u p.0 q.0) (same_with t us p.1 q.1)
 
-same_each : (ts : List Term) → some_clash ts ≡ false → awaited_by ts ≡ [] → all_same ts ≡ true
+pub same_each : (ts : List Term) → some_clash ts ≡ false → awaited_by ts ≡ [] → all_same ts ≡ true
 same_each [] c a = refl
 same_each (t ∷ ts) c a =
     let p = or_parts (clashes_with_some t ts) (some_clash ts) c in
@@ -94,7 +94,7 @@ quiet_with t (u ∷ us) h =
       ap (λ l. l ++ awaited_with t us) (ap (λ x. awaited x u) e ∙ awaited_self u) ∙ r.1,
     )
 
-quiet_each : (ts : List Term) → all_same ts ≡ true → (some_clash ts ≡ false) × (awaited_by ts ≡ [])
+pub quiet_each : (ts : List Term) → all_same ts ≡ true → (some_clash ts ≡ false) × (awaited_by ts ≡ [])
 quiet_each [] h = (refl, refl)
 quiet_each (t ∷ ts) h =
     let p = and_parts (same_as_all t ts) (all_same ts) h in

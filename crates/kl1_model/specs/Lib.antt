@@ -29,3 +29,4 @@ pub mod ReadLaws
 pub mod ReadRows
 pub mod ReadFaults
 pub mod Same
+pub mod SameLaws
