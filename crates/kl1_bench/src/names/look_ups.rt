@@ -24,11 +24,7 @@ fn learn(table: &AtomTable, mut seat: AtomSeat, texts: &[AtomText]) -> AtomSeat
 }
 
 /// The last of some seats, which has looked each name up once.
-pub(crate) fn next_seat(
-    table: &AtomTable,
-    seats: &mut Vec<AtomSeat>,
-    texts: &[AtomText],
-) -> AtomSeat
+pub fn next_seat(table: &AtomTable, seats: &mut Vec<AtomSeat>, texts: &[AtomText]) -> AtomSeat
     requires seats { (k : ℕ) (seat : AtomSeat) → slice_get seats.old.items k ≡ Some seat → IsNewSharedSeat table.now.table.shared.table_id seat.badge.table_id table.now.accounts (face_in seat.badge.views) seat.account k }
     requires some { 0 < vec_len seats.old }
     requires few { length texts.now ≤ 1000 }
@@ -44,7 +40,7 @@ pub(crate) fn next_seat(
 }
 
 /// Looks names that a seat knows up, each so many times, and sums their numbers.
-pub(crate) fn found(table: &AtomTable, mut seat: AtomSeat, texts: &[AtomText], rounds: usize) -> u64
+pub fn found(table: &AtomTable, mut seat: AtomSeat, texts: &[AtomText], rounds: usize) -> u64
     requires of { IsSharedSeat table.now.table.shared.table_id seat.badge.table_id table.now.accounts (face_in seat.badge.views) seat.account }
     requires known { KnowsFirst (face_in seat.badge.views).knows texts.now (length texts.now) }
 {
@@ -59,7 +55,7 @@ pub(crate) fn found(table: &AtomTable, mut seat: AtomSeat, texts: &[AtomText], r
 }
 
 /// The same from two threads at once, each with its own seat: the sum of what both found.
-pub(crate) fn found_by_two<R: Threads + Sync>(
+pub fn found_by_two<R: Threads + Sync>(
     rt: &R,
     table: &AtomTable,
     a: AtomSeat,
@@ -81,7 +77,7 @@ pub(crate) fn found_by_two<R: Threads + Sync>(
 }
 
 /// The same from four threads at once.
-pub(crate) fn found_by_four<R: Threads + Sync>(
+pub fn found_by_four<R: Threads + Sync>(
     rt: &R,
     table: &AtomTable,
     a: AtomSeat,

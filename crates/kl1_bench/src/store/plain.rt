@@ -1,5 +1,6 @@
 // Terms as cells in plain Rust: no contract, no search for cycles, nothing taken back.
 
+use crate::store::terms::Terms;
 use std::alloc::{AllocError, Global};
 
 /// A variable, a structure or a constant; variables and structures by number, from 0.
@@ -36,9 +37,10 @@ pub struct Plain {
     pairs: Vec<Pair>,
 }
 
-impl Plain {
-    /// Holds nothing.
-    pub fn new(alloc: Global) -> Self {
+impl Terms for Plain {
+    type Part = Value;
+
+    fn none(alloc: Global) -> Self {
         Plain {
             slots: Vec::new(alloc),
             nodes: Vec::new(alloc),
@@ -48,26 +50,43 @@ impl Plain {
         }
     }
 
-    /// A new variable.
-    pub fn fresh(&mut self) -> Result<Value, AllocError> {
+    fn integer(number: i64) -> Value {
+        Value::Integer(number)
+    }
+
+    fn fresh(&mut self) -> Result<Value, AllocError> {
         let variable = Value::Variable(self.slots.len());
         self.slots.push(variable)?;
         Ok(variable)
     }
 
-    /// A new structure.
-    pub fn build(&mut self, name: u32, arguments: &[Value]) -> Result<Value, AllocError> {
-        let number = self.nodes.len();
-        let start = self.arguments.len();
-        let count = arguments.len();
-        self.nodes.push(Node { name, start, count })?;
-        self.roots.push(number)?;
-        self.arguments.extend_from_slice(arguments)?;
-        Ok(Value::Structure(number))
+    fn pair(&mut self, first: Value, second: Value) -> Result<Value, AllocError> {
+        self.build(70, [first, second].as_slice())
     }
 
-    /// What a value stands for.
-    pub fn walk(&self, value: Value) -> Value {
+    fn node(&mut self, key: i64) -> Result<Value, AllocError> {
+        let left = self.fresh()?;
+        let right = self.fresh()?;
+        self.build(71, [Value::Integer(key), left, right].as_slice())
+    }
+
+    fn unify(&mut self, left: Value, right: Value) -> Result<bool, AllocError> {
+        self.pairs.clear();
+        self.pairs.push(Pair { left, right })?;
+        for _ in 0..u64::MAX {
+            let Some(pair) = self.pairs.pop() else {
+                return Ok(true);
+            };
+            let left = self.walk(pair.left);
+            let right = self.walk(pair.right);
+            if !self.meet(left, right)? {
+                return Ok(false);
+            }
+        }
+        Ok(false)
+    }
+
+    fn walk(&self, value: Value) -> Value {
         let mut at = value;
         for _ in 0..u64::MAX {
             let Value::Variable(variable) = at else {
@@ -85,28 +104,32 @@ impl Plain {
         at
     }
 
-    /// An argument of a structure, what it stands for.
-    pub fn part(&self, structure: usize, index: usize) -> Option<Value> {
-        let node = self.node(structure)?;
-        let part = self.at(node, index)?;
-        Some(self.walk(part))
+    fn side(&self, node: Value, key: i64) -> Option<Value> {
+        let Value::Structure(node) = node else {
+            return None;
+        };
+        let is_below = matches!(self.argument(node, 0), Some(Value::Integer(other)) if key < other);
+        self.argument(node, if is_below { 1 } else { 2 })
+    }
+}
+
+impl Plain {
+    /// A new structure.
+    fn build(&mut self, name: u32, arguments: &[Value]) -> Result<Value, AllocError> {
+        let number = self.nodes.len();
+        let start = self.arguments.len();
+        let count = arguments.len();
+        self.nodes.push(Node { name, start, count })?;
+        self.roots.push(number)?;
+        self.arguments.extend_from_slice(arguments)?;
+        Ok(Value::Structure(number))
     }
 
-    /// Makes two values equal, if that can be.
-    pub fn unify(&mut self, left: Value, right: Value) -> Result<bool, AllocError> {
-        self.pairs.clear();
-        self.pairs.push(Pair { left, right })?;
-        for _ in 0..u64::MAX {
-            let Some(pair) = self.pairs.pop() else {
-                return Ok(true);
-            };
-            let left = self.walk(pair.left);
-            let right = self.walk(pair.right);
-            if !self.meet(left, right)? {
-                return Ok(false);
-            }
-        }
-        Ok(false)
+    /// An argument of a structure, what it stands for.
+    fn argument(&self, structure: usize, index: usize) -> Option<Value> {
+        let node = self.node_at(structure)?;
+        let part = self.at(node, index)?;
+        Some(self.walk(part))
     }
 
     /// Makes two values equal, neither of them a bound variable; the pairs of arguments are put on the list.
@@ -163,10 +186,10 @@ impl Plain {
         if left == right {
             return Ok(true);
         }
-        let Some(first) = self.node(left) else {
+        let Some(first) = self.node_at(left) else {
             return Ok(false);
         };
-        let Some(second) = self.node(right) else {
+        let Some(second) = self.node_at(right) else {
             return Ok(false);
         };
         if first.name != second.name || first.count != second.count {
@@ -189,7 +212,7 @@ impl Plain {
     }
 
     /// What is kept of a structure.
-    fn node(&self, structure: usize) -> Option<Node> {
+    fn node_at(&self, structure: usize) -> Option<Node> {
         Some(*self.nodes.get(structure)?)
     }
 

@@ -1,7 +1,7 @@
 use Rattle.std.proofs.Common.{◌≡◌, ℕ, zero, suc, List, [], ◌∷◌, ◌++◌, Some, slice_get, sym, subst}
 use Rattle.std.specs.Option.{option_to_list}
 use Rattle.kl1_atoms.specs.declared.atom_seat.AtomSeat.{AtomSeat}
-use Rattle.kl1_atoms_bench.proofs.look_ups.next_seat.Goals as goal
+use Rattle.kl1_bench.proofs.names.look_ups.next_seat.Goals as goal
 
 in_front : (xs ys : List AtomSeat) (k : ℕ) (x : AtomSeat) → slice_get xs k ≡ Some x → slice_get (xs ++ ys) k ≡ Some x
 in_front [] ys k x e = cc
