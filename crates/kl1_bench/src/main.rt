@@ -1,0 +1,26 @@
+//! How long the store and the shared table of names take, as ratios of one run.
+#![tactic(auto)]
+
+mod names;
+mod ratios;
+mod store;
+
+use std::{env, io};
+
+/// With the word `names` or `store` behind its name the program measures; else it works little, and tells what doesn't change.
+fn main(rt: HostRuntime) -> io::Result<()> {
+    let alloc = rt.alloc();
+    let word = env::args(&rt)?.nth(1);
+    let word = match &word {
+        Some(word) => word.as_bytes(),
+        None => b"",
+    };
+    match word {
+        b"names" => names::tell_times(&rt, alloc),
+        b"store" => store::tell_times(&rt, alloc),
+        _ => {
+            names::tell_answer(&rt, alloc)?;
+            store::tell_answers(&rt, alloc)
+        }
+    }
+}

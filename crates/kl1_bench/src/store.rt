@@ -1,0 +1,9 @@
+// How long the store takes beside plain Rust, as ratios of one run.
+
+mod cells;
+mod plain;
+mod tells;
+mod terms;
+mod work;
+
+pub use tells::{tell_answers, tell_times};

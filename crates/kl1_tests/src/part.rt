@@ -1,0 +1,81 @@
+// What the rows of a group are tried on, and what is asked there.
+
+use crate::{read, script};
+
+/// What the rows of a group are tried on.
+#[derive(Clone, Copy)]
+pub enum Part {
+    /// Nothing that there is: no row is right.
+    Unknown,
+    /// A store with names that are numbers.
+    Numbers,
+    /// A store with names that are texts.
+    Texts,
+    /// Names, terms, texts and code, by what is asked of them.
+    Read(read::Kind),
+    /// An account.
+    One,
+    /// An account, and a slow one beside it.
+    Both,
+    /// Scripts and what they are made of, by what is asked of them.
+    Script(script::Kind),
+}
+
+/// The parts by the two words that name them at the front of a heading.
+const PARTS: [(&[u8], Part); 45] = [
+    (b"store numbers ", Part::Numbers),
+    (b"store texts ", Part::Texts),
+    (b"read name ", Part::Read(read::Kind::Name)),
+    (b"read place ", Part::Read(read::Kind::Place)),
+    (b"read built_in ", Part::Read(read::Kind::BuiltIn)),
+    (b"read text_is ", Part::Read(read::Kind::TextIs)),
+    (b"read number_is ", Part::Read(read::Kind::NumberIs)),
+    (b"read integer ", Part::Read(read::Kind::Integer)),
+    (b"read print ", Part::Read(read::Kind::Print)),
+    (b"read put ", Part::Read(read::Kind::Put)),
+    (b"read copy ", Part::Read(read::Kind::Copy)),
+    (b"read variables ", Part::Read(read::Kind::Variables)),
+    (b"read depth ", Part::Read(read::Kind::Depth)),
+    (b"read of_nodes ", Part::Read(read::Kind::OfNodes)),
+    (b"read nodes ", Part::Read(read::Kind::Nodes)),
+    (b"read goal ", Part::Read(read::Kind::Goal)),
+    (b"read module ", Part::Read(read::Kind::Module)),
+    (b"read items ", Part::Read(read::Kind::Items)),
+    (b"read clauses ", Part::Read(read::Kind::Clauses)),
+    (b"read code ", Part::Read(read::Kind::Code)),
+    (b"read predicate ", Part::Read(read::Kind::Predicate)),
+    (b"read sizes ", Part::Read(read::Kind::Sizes)),
+    (b"read verdict ", Part::Read(read::Kind::Verdict)),
+    (b"read bound ", Part::Read(read::Kind::Bound)),
+    (b"read places ", Part::Read(read::Kind::Places)),
+    (b"read built ", Part::Read(read::Kind::Built)),
+    (b"user one ", Part::One),
+    (b"user both ", Part::Both),
+    (b"script line ", Part::Script(script::Kind::Line)),
+    (b"script name ", Part::Script(script::Kind::Name)),
+    (b"script word ", Part::Script(script::Kind::Word)),
+    (b"script blank ", Part::Script(script::Kind::Blank)),
+    (b"script number ", Part::Script(script::Kind::Number)),
+    (b"script parts ", Part::Script(script::Kind::Parts)),
+    (b"script record ", Part::Script(script::Kind::Record)),
+    (b"script accounts ", Part::Script(script::Kind::Accounts)),
+    (b"script account ", Part::Script(script::Kind::Account)),
+    (b"script command ", Part::Script(script::Kind::Command)),
+    (b"script load ", Part::Script(script::Kind::Load)),
+    (b"script reply ", Part::Script(script::Kind::Reply)),
+    (b"script fault ", Part::Script(script::Kind::Fault)),
+    (b"script read ", Part::Script(script::Kind::Read)),
+    (b"script write ", Part::Script(script::Kind::Write)),
+    (b"script script ", Part::Script(script::Kind::Script)),
+    (b"script run ", Part::Script(script::Kind::Run)),
+];
+
+/// The part that the heading of a group names.
+pub fn part_of(heading: &[u8]) -> Part {
+    for (front, part) in PARTS {
+        if heading.starts_with(front) {
+            return part;
+        }
+    }
+    Part::Unknown
+}

@@ -1,0 +1,10 @@
+// Rows of tests: lines of an act and the answer that is wanted, in groups, and the report of which groups are right.
+
+mod decoding;
+mod groups;
+mod pieces;
+mod text;
+
+pub use groups::put_report;
+pub use pieces::{cut, is_counted, is_joined, number_of, small_number_of};
+pub use text::Text;

@@ -1,0 +1,40 @@
+// The kinds of rows.
+
+/// What the rows of a group ask for.
+#[derive(Clone, Copy)]
+pub enum Kind {
+    /// A text is cut behind its first line.
+    Line,
+    /// A line is cut behind its name.
+    Name,
+    /// A line is cut behind its first word.
+    Word,
+    /// Whether a line has blanks alone.
+    Blank,
+    /// The number that a word is.
+    Number,
+    /// What a line is, where the goal of a start is yet to be read.
+    Parts,
+    /// The next record of a script.
+    Record,
+    /// The accounts that the first line of a script names.
+    Accounts,
+    /// Whether a word is the name of an account.
+    Account,
+    /// What a line is, where the goal of a start is read.
+    Command,
+    /// The source that a load loads.
+    Load,
+    /// What is written for a reply.
+    Reply,
+    /// The text of a fault.
+    Fault,
+    /// What is read from a stream.
+    Read,
+    /// What is written to a stream.
+    Write,
+    /// What is written for a script.
+    Script,
+    /// What is written for a script between streams that give and take little, and fail.
+    Run,
+}

@@ -1,0 +1,14 @@
+// Rows on a store of cells.
+
+mod acts;
+mod answer;
+mod operands;
+mod rooms;
+mod sheet;
+mod stores;
+mod trees;
+mod undone;
+mod views;
+mod written;
+
+pub use stores::Stores;

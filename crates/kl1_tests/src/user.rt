@@ -1,0 +1,12 @@
+// Rows of events on an account.
+
+mod accounts;
+mod acts;
+mod answers;
+mod made;
+mod matching;
+mod nodes;
+mod plain;
+mod solving;
+
+pub use accounts::Accounts;

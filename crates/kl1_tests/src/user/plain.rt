@@ -1,0 +1,332 @@
+// A slow account over whole terms, to compare with: each step goes over all goals and clauses, and replaces variables
+// everywhere, as the language's rules say it.
+
+use crate::rows::is_counted;
+use crate::user::matching::{
+    Verdict, arguments_of, called_with, clause_of, matched, put_instance, put_patterns,
+};
+use crate::user::nodes::{Row, highest_in, replace_in, split_term};
+use crate::user::solving::solve;
+use kl1_read::{ClauseParts, Source, read_module};
+use kl1_term::{Node, Printer};
+use kl1_user::Event;
+use std::alloc::{AllocError, Global};
+
+/// More than the clauses of any predicate of the rows.
+const MANY: u64 = 9;
+
+/// The most bytes of a goal that are shown.
+const MOST_SHOWN: usize = 4000;
+
+/// A goal other than a monitor.
+#[derive(Drop)]
+struct PlainGoal {
+    number: u64,
+    term: Row,
+    shoen: u64,
+    priority: u64,
+}
+
+/// An account over whole terms: its goals, the goal of each shoen as started, its modules, and the last numbers. The terms of
+/// reports are left out, since nothing can ask for them; each takes a variable's number.
+#[derive(Drop)]
+pub struct Plain {
+    alloc: Global,
+    goals: Vec<PlainGoal>,
+    shoens: Vec<Row>,
+    modules: Vec<Source>,
+    last_variable: u64,
+    last_goal: u64,
+}
+
+/// What the clause of a number makes of a goal; the term at the place of each of its variables is put down.
+fn verdict_by(
+    alloc: Global,
+    modules: &[Source],
+    goal: &[Node],
+    number: u64,
+    places: &mut Row,
+) -> Option<Verdict> {
+    let Some(parts) = clause_of(modules, goal, number) else {
+        return Some(Verdict::Missing);
+    };
+    let mut patterns = Vec::new(alloc);
+    put_patterns(&mut patterns, parts).ok()?;
+    matched(patterns.as_slice(), called_with(goal), places)
+}
+
+/// The least number of a clause by which a goal can step, 0 where none can or will; `MANY` where it waits.
+fn clause_for(alloc: Global, modules: &[Source], term: &[Node]) -> Option<u64> {
+    let mut places = Vec::new(alloc);
+    let mut none = 0;
+    for number in 1..MANY {
+        match verdict_by(alloc, modules, term, number, &mut places)? {
+            Verdict::Accepts => return Some(number),
+            Verdict::Rejects => (),
+            Verdict::Suspends => none = MANY,
+            Verdict::Missing => return Some(none),
+        }
+    }
+    None
+}
+
+/// Whether a goal can step by the clause of a number; the term at the place of each of its variables is put down.
+fn can_step(
+    alloc: Global,
+    modules: &[Source],
+    term: &[Node],
+    clause: u64,
+    places: &mut Row,
+) -> Option<bool> {
+    if clause == 0 {
+        return Some(clause_for(alloc, modules, term)? == 0);
+    }
+    match verdict_by(alloc, modules, term, clause, places)? {
+        Verdict::Accepts => Some(true),
+        _ => Some(false),
+    }
+}
+
+/// Puts the instances of the goals in a clause's body behind others, and gives how many of their variables are new.
+fn put_body(
+    alloc: Global,
+    parts: &ClauseParts,
+    places: &[Node],
+    last: u64,
+    body: &mut Vec<Row>,
+) -> Result<u64, AllocError> {
+    let mut heads = 0;
+    for pattern in &parts.patterns {
+        heads = highest_in(pattern.nodes()).max(heads);
+    }
+    let mut most = heads;
+    for goal in &parts.body {
+        most = highest_in(goal.nodes()).max(most);
+        let mut term = Vec::new(alloc);
+        put_instance(&mut term, goal.nodes(), heads, places, last)?;
+        body.push(term)?;
+    }
+    Ok(most.saturating_sub(heads))
+}
+
+/// The text of a term, cut as an account cuts it.
+fn printed(alloc: Global, row: &[Node]) -> Result<Vec<u8>, AllocError> {
+    let mut printer = Printer::new(alloc, Some(MOST_SHOWN));
+    printer.put_all(row)?;
+    printer.into_text()
+}
+
+/// Whether a goal goes before another.
+fn goes_before(goal: &PlainGoal, other: &PlainGoal) -> bool {
+    if goal.priority == other.priority {
+        return goal.number < other.number;
+    }
+    goal.priority > other.priority
+}
+
+impl Plain {
+    /// An account in which nothing has happened.
+    pub fn fresh(alloc: Global) -> Self {
+        Plain {
+            alloc,
+            goals: Vec::new(alloc),
+            shoens: Vec::new(alloc),
+            modules: Vec::new(alloc),
+            last_variable: 0,
+            last_goal: 0,
+        }
+    }
+
+    /// Takes the next numbers of variables.
+    fn take_variables(&mut self, count: u64) {
+        self.last_variable = self.last_variable.saturating_add(count);
+    }
+
+    /// Puts a goal behind the others.
+    fn put_goal(&mut self, term: Row, shoen: u64, priority: u64) -> Result<(), AllocError> {
+        self.last_goal = self.last_goal.saturating_add(1);
+        let number = self.last_goal;
+        let goal = PlainGoal {
+            number,
+            term,
+            shoen,
+            priority,
+        };
+        self.goals.push(goal)?;
+        Ok(())
+    }
+
+    /// Loads a module.
+    fn load(&mut self, source: &[u8]) -> bool {
+        match read_module(self.alloc, source) {
+            Ok(module) => self.modules.push(module).is_ok(),
+            Err(_fault) => false,
+        }
+    }
+
+    /// Starts a goal that may be started, and gives its shoen's number. The shoen's monitor, its control stream and its report
+    /// stream take numbers, and so does its first report.
+    fn start(&mut self, priority: u64, goal: &[Node]) -> Result<u64, AllocError> {
+        let mut term = Vec::new(self.alloc);
+        put_instance(&mut term, goal, 0, &[], self.last_variable)?;
+        let mut copy = Vec::new(self.alloc);
+        copy.extend_from_slice(term.as_slice())?;
+        self.take_variables(highest_in(goal).saturating_add(3));
+        self.shoens.push(copy)?;
+        self.last_goal = self.last_goal.saturating_add(1);
+        let shoen = self.count();
+        self.put_goal(term, shoen, priority)?;
+        Ok(shoen)
+    }
+
+    /// The first goal that can step, with its clause; 0 and 0 where there is none.
+    pub fn first(&self) -> Option<(u64, u64)> {
+        let mut best = None;
+        let mut found = (0, 0);
+        for goal in &self.goals {
+            let clause = clause_for(self.alloc, self.modules.as_slice(), goal.term.as_slice())?;
+            let is_first = match best {
+                None => true,
+                Some(other) => goes_before(goal, other),
+            };
+            if clause < MANY && is_first {
+                best = Some(goal);
+                found = (goal.number, clause);
+            }
+        }
+        Some(found)
+    }
+
+    /// Replaces a variable everywhere.
+    fn replace(&mut self, number: u64, by: &[Node]) -> Result<(), AllocError> {
+        for goal in &mut self.goals {
+            replace_in(&mut goal.term, number, by)?;
+        }
+        for shoen in &mut self.shoens {
+            replace_in(shoen, number, by)?;
+        }
+        Ok(())
+    }
+
+    /// Replaces variables everywhere, one after another, each by the term behind it.
+    fn replace_all(&mut self, found: &[Node]) -> Result<(), AllocError> {
+        let mut left = found;
+        for _ in 0..found.len() {
+            let [Node::Variable(number), behind @ ..] = left else {
+                break;
+            };
+            let (by, rest) = split_term(behind);
+            self.replace(*number, by)?;
+            left = rest;
+        }
+        Ok(())
+    }
+
+    /// Makes two terms one, which stand one behind the other, or reports that they can't be.
+    fn unify(&mut self, pair: &[Node]) -> Option<()> {
+        let mut found = Vec::new(self.alloc);
+        if solve(self.alloc, pair, &mut found)? {
+            return self.replace_all(found.as_slice()).ok();
+        }
+        self.take_variables(1);
+        Some(())
+    }
+
+    /// Does what a goal does that steps by no clause, and was removed: two terms become one, or it fails, or it is `true`.
+    fn end(&mut self, term: &[Node]) -> Option<()> {
+        match arguments_of(term, b"=") {
+            Some(pair) => self.unify(pair),
+            None => {
+                if let [Node::Structure(_name, _count), ..] = term {
+                    self.take_variables(1);
+                }
+                Some(())
+            }
+        }
+    }
+
+    /// Puts the goals of a clause's body behind the others, in place of a goal that was removed.
+    fn commit(&mut self, goal: &PlainGoal, clause: u64, places: &[Node]) -> Option<()> {
+        let mut body = Vec::new(self.alloc);
+        let parts = clause_of(self.modules.as_slice(), goal.term.as_slice(), clause)?;
+        let last = self.last_variable;
+        let count = put_body(self.alloc, parts, places, last, &mut body).ok()?;
+        self.take_variables(count);
+        for term in body {
+            self.put_goal(term, goal.shoen, goal.priority).ok()?;
+        }
+        Some(())
+    }
+
+    /// Whether a shoen has a goal.
+    fn has_goal(&self, shoen: u64) -> bool {
+        for goal in &self.goals {
+            if goal.shoen == shoen {
+                return true;
+            }
+        }
+        false
+    }
+
+    /// Does what a goal does by the clause of a number, by which it can step, and which was removed. A shoen without a goal
+    /// reports its end.
+    fn step(&mut self, goal: &PlainGoal, clause: u64, places: &[Node]) -> Option<()> {
+        if clause == 0 {
+            self.end(goal.term.as_slice())?;
+        } else {
+            self.commit(goal, clause, places)?;
+        }
+        if !self.has_goal(goal.shoen) {
+            self.take_variables(1);
+        }
+        Some(())
+    }
+
+    /// Reduces the goal of a number, where it can step by the clause of a number, and says whether it can.
+    fn reduce(&mut self, number: u64, clause: u64) -> Option<bool> {
+        let mut places = Vec::new(self.alloc);
+        for place in 0..self.goals.len() {
+            if place >= self.goals.len() || self.goals[place].number != number {
+                continue;
+            }
+            let modules = self.modules.as_slice();
+            let term = self.goals[place].term.as_slice();
+            if !can_step(self.alloc, modules, term, clause, &mut places)? {
+                return Some(false);
+            }
+            let goal = self.goals.remove(place);
+            self.step(&goal, clause, places.as_slice())?;
+            return Some(true);
+        }
+        Some(false)
+    }
+
+    /// Whether an event does what is wanted. A load is done, a start opens the shoen of the number that is wanted, and a goal
+    /// is reduced just where that is wanted.
+    pub fn is_answered(&mut self, event: &Event, wanted: &[u8]) -> Option<bool> {
+        match event {
+            Event::Load { source } => Some(self.load(source.as_slice())),
+            Event::Start { high, goal, .. } => {
+                let shoen = self.start(*high, goal.nodes()).ok()?;
+                Some(is_counted(wanted, b"+ shoen ", shoen))
+            }
+            Event::Reduce { goal, clause } => {
+                let is_reduced = self.reduce(goal.0, clause.0)?;
+                Some(is_reduced == (wanted == b"+ reduced".as_slice()))
+            }
+            Event::Read(_query) => Some(true),
+        }
+    }
+
+    /// How many shoens there are.
+    pub fn count(&self) -> u64 {
+        self.shoens.len() as u64
+    }
+
+    /// The goal of a shoen, whose number is from 1, as it is shown.
+    pub fn value(&self, shoen: u64) -> Option<Vec<u8>> {
+        let place = shoen.saturating_sub(1) as usize;
+        let row = self.shoens.get(place)?;
+        printed(self.alloc, row.as_slice()).ok()
+    }
+}
