@@ -1,20 +1,27 @@
 // Why a script is not run to its end.
 
-use thiserror::Error;
+use std::fmt;
 
 /// Why a script is not run to its end.
-#[derive(Clone, Copy, Debug, Drop, Error)]
+#[derive(Clone, Copy, Drop)]
 pub enum ScriptFault {
     /// A read failed.
-    #[error("read fault")]
     Read,
     /// A write failed.
-    #[error("write fault")]
     Write,
     /// The script has more than 16,777,216 bytes.
-    #[error("too long")]
     TooLong,
     /// Memory was refused.
-    #[error("no memory")]
     Memory,
+}
+
+impl fmt::Display for ScriptFault {
+    fn fmt<W: fmt::Write>(&self, f: &mut fmt::Formatter<W>) -> fmt::Result {
+        f.write_str(match self {
+            ScriptFault::Read => "read fault",
+            ScriptFault::Write => "write fault",
+            ScriptFault::TooLong => "too long",
+            ScriptFault::Memory => "no memory",
+        })
+    }
 }

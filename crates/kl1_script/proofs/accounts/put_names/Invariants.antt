@@ -1,7 +1,7 @@
 use Rattle.std.proofs.Common.{◌≡◌, ◌≤◌, ◌++◌, true, length}
 use Rattle.std.specs.List.{list_all}
 use Rattle.kl1_model.specs.Script.{words_of, is_account_name}
-use Rattle.kl1_script.proofs.accounts.names_in.Given as goal
+use Rattle.kl1_script.proofs.accounts.put_names.Given as goal
 
 -- the names so far and the words that are left are the words of the line
 abbrev pub invariant-loop-rest : goal.invariant-loop-rest
