@@ -19,7 +19,10 @@ pub fn write_all<S: Sink>(sink: &mut S, bytes: &[u8]) -> Result<(), DeviceFailed
 {
     let mut place = 0;
     while place < bytes.len() {
-        place += sink.write(&bytes[place..])?;
+        match sink.write(&bytes[place..]) {
+            Ok(count) => place += count,
+            Err(failed) => return Err(failed),
+        }
     }
     Ok(())
 }
@@ -33,7 +36,7 @@ pub fn finish<S: Sink>(sink: &mut S, bytes: &[u8]) -> Result<(), DeviceFailed>
 {
     match write_all(sink, bytes) {
         Ok(()) => sink.flush(),
-        Err(error) => Err(error),
+        Err(failed) => Err(failed),
     }
 }
 

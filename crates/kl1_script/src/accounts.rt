@@ -1,6 +1,6 @@
 // The first line of a script, which names its accounts.
 
-ghost use Rattle.std.specs.Prelude.{◌≡◌, ◌&&◌, nat_le, length, bytes_eq, [], IfOk, Some, None, if◌then◌else◌, option_map};
+ghost use Rattle.std.specs.Prelude.{◌≡◌, ◌&&◌, nat_le, length, bytes_eq, ◌≤◌, [], vec_capacity, IfOk, Some, None, if◌then◌else◌, option_map};
 ghost use Rattle.std.specs.List.{list_any};
 ghost use Rattle.kl1_model.specs.Script.{are_distinct, words_of, accounts_in};
 ghost use Rattle.kl1_script.specs.Accounts.{named};
@@ -33,23 +33,24 @@ fn is_among(name: &AccountName, others: &[AccountName]) -> bool
 }
 
 /// Puts the words of a line behind no names, if they are at most 16 names of accounts: whether they are.
-fn put_names(line: &[u8], names: &mut Vec<AccountName>) -> Result<bool, AllocError>
-    requires { names.old.items ≡ [] }
-    ensures { IfOk result (λ are. (if are then Some names.new.items else None) ≡ named (words_of line.now)) }
+fn put_names(line: &[u8], names: &mut Vec<AccountName>) -> bool
+    requires none { names.old.items ≡ [] }
+    requires room { 16 ≤ vec_capacity names.old }
+    ensures { (if result then Some names.new.items else None) ≡ named (words_of line.now) }
 {
     let mut rest = line;
     while !is_blank_line(rest) {
         let (word, behind) = split_word(rest);
         let Some(name) = AccountName::read(word) else {
-            return Ok(false);
+            return false;
         };
         if names.len() == MOST_ACCOUNTS {
-            return Ok(false);
+            return false;
         }
-        names.push(name)?;
+        names.push_reserved(name);
         rest = behind;
     }
-    Ok(true)
+    true
 }
 
 /// Whether there is a name, and none stands twice.
@@ -59,28 +60,19 @@ fn are_accounts(names: &[AccountName]) -> bool
     !names.is_empty() && are_distinct(names)
 }
 
-/// Puts the accounts that a line names behind no names: whether it names any.
-fn put_accounts(line: &[u8], names: &mut Vec<AccountName>) -> Result<bool, AllocError>
-    requires { names.old.items ≡ [] }
-    ensures { IfOk result (λ are. (if are then Some names.new.items else None) ≡ accounts_in (words_of line.now)) }
-{
-    let (word, rest) = split_word(line);
-    if !is_same(word, b"accounts") {
-        return Ok(false);
-    }
-    let are_names = put_names(rest, names)?;
-    if !are_names {
-        return Ok(false);
-    }
-    Ok(are_accounts(names.as_slice()))
-}
-
 /// The accounts that the first line of a script names, without its end.
 pub fn accounts_in(alloc: Global, line: &[u8]) -> Result<Option<Vec<AccountName>>, AllocError>
     ensures { IfOk result (λ names. option_map (λ v. v.items) names ≡ accounts_in (words_of line.now)) }
 {
-    let mut names = Vec::new(alloc);
-    if put_accounts(line, &mut names)? {
+    let (word, rest) = split_word(line);
+    if !is_same(word, b"accounts") {
+        return Ok(None);
+    }
+    let mut names = Vec::with_capacity(alloc, MOST_ACCOUNTS)?;
+    if !put_names(rest, &mut names) {
+        return Ok(None);
+    }
+    if are_accounts(names.as_slice()) {
         return Ok(Some(names));
     }
     Ok(None)

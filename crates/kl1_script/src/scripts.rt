@@ -49,33 +49,23 @@ fn answer<W: Sink>(alloc: Global, script: &[u8], sink: &mut W) -> Result<(), Scr
 {
     let (line, rest) = split_line(script);
     match accounts_in(alloc, line) {
-        Ok(Some(accounts)) => match accounts.as_slice() {
-            [] => answer_no_accounts(sink),
-            [first, _others @ ..] => answer_records(alloc, accounts.as_slice(), *first, rest, sink),
-        },
-        Ok(None) => answer_no_accounts(sink),
+        Ok(Some(accounts)) => answer_records(alloc, accounts.as_slice(), rest, sink),
+        Ok(None) => finish_all(sink, b"! accounts\n"),
         Err(_) => Err(ScriptFault::Memory),
     }
-}
-
-/// Writes the output of a script whose first line names no accounts.
-fn answer_no_accounts<W: Sink>(sink: &mut W) -> Result<(), ScriptFault>
-    ensures { Finishes (W.contents sink.old) (W.contents sink.new) (W.failures sink.old) (W.failures sink.new) (written_line (codes "! accounts")) result }
-{
-    finish_all(sink, b"! accounts\n")
 }
 
 /// Writes what is written for the records of a text.
 fn answer_records<W: Sink>(
     alloc: Global,
     accounts: &[AccountName],
-    first: AccountName,
     text: &[u8],
     sink: &mut W,
 ) -> Result<(), ScriptFault>
-    requires { IsFirstOf first accounts.now }
+    requires { 0 < length accounts.now }
     ensures { Ends (W.contents sink.old) (W.contents sink.new) (W.failures sink.old) (W.failures sink.new) (written_records accounts.now (records_of text.now)) (λ n. first_written n (Some accounts.now) (records_of text.now).list) result }
 {
+    let first = accounts[0];
     match UserState::fresh(alloc, first) {
         Ok(mut user) => {
             let mut out = Vec::new(alloc);

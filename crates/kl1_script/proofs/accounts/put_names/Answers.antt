@@ -26,6 +26,7 @@ loop-rest-preserved c =
       same = grind (arith, common_steps);
       all = grind (arith, common_steps);
       few = grind (arith, common_steps);
+      room = grind (arith, common_steps);
     }
 
 pub returns : goal.returns

@@ -1,4 +1,4 @@
-use Rattle.std.proofs.Common.{◌≡◌, ◌≤◌, ◌++◌, true, length}
+use Rattle.std.proofs.Common.{◌≡◌, ◌≤◌, ◌++◌, true, length, vec_capacity}
 use Rattle.std.specs.List.{list_all}
 use Rattle.kl1_model.specs.Script.{words_of, is_account_name}
 use Rattle.kl1_script.proofs.accounts.put_names.Given as goal
@@ -9,6 +9,7 @@ invariant-loop-rest l = record {
   same : l.names.items ++ words_of l.rest ≡ words_of l.line;
   all : list_all is_account_name l.names.items ≡ true;
   few : length l.names.items ≤ 16;
+  room : 16 ≤ vec_capacity l.names;
 }
 
 abbrev pub decreases-loop-rest : goal.decreases-loop-rest
