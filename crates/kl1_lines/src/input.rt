@@ -54,13 +54,8 @@ pub fn read_all<S: Source>(alloc: Global, source: &mut S) -> Result<Vec<u8>, Scr
     let mut bytes = Vec::new(alloc);
     while bytes.len() <= MOST_BYTES {
         let room = MOST_BYTES + 1 - bytes.len();
-        match read_piece(source, &mut bytes, room) {
-            Ok(count) => {
-                if count == 0 {
-                    return Ok(bytes);
-                }
-            }
-            Err(fault) => return Err(fault),
+        if read_piece(source, &mut bytes, room)? == 0 {
+            return Ok(bytes);
         }
     }
     Err(ScriptFault::TooLong)

@@ -19,10 +19,7 @@ pub fn write_all<S: Sink>(sink: &mut S, bytes: &[u8]) -> Result<(), DeviceFailed
 {
     let mut place = 0;
     while place < bytes.len() {
-        match sink.write(&bytes[place..]) {
-            Ok(count) => place += count,
-            Err(failed) => return Err(failed),
-        }
+        place += sink.write(&bytes[place..])?;
     }
     Ok(())
 }

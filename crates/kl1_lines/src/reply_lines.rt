@@ -11,18 +11,10 @@ fn put_parts(out: &mut Vec<u8>, account: &[u8], start: &[u8], text: &[u8]) -> Re
     ensures ok { OnOk result (out.new.items ≡ (((((out.old.items ++ account.now) ++ 32 ∷ []) ++ start.now) ++ text.now) ++ 10 ∷ [])) }
     ensures kept { take (length out.old.items) out.new.items ≡ out.old.items }
 {
-    let Ok(()) = out.extend_from_slice(account) else {
-        return Err(AllocError);
-    };
-    let Ok(()) = out.extend_from_slice(b" ") else {
-        return Err(AllocError);
-    };
-    let Ok(()) = out.extend_from_slice(start) else {
-        return Err(AllocError);
-    };
-    let Ok(()) = out.extend_from_slice(text) else {
-        return Err(AllocError);
-    };
+    out.extend_from_slice(account)?;
+    out.extend_from_slice(b" ")?;
+    out.extend_from_slice(start)?;
+    out.extend_from_slice(text)?;
     out.extend_from_slice(b"\n")
 }
 

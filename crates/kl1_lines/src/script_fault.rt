@@ -1,27 +1,20 @@
 // Why a script is not run to its end.
 
-use std::fmt;
+use thiserror::Error;
 
 /// Why a script is not run to its end.
-#[derive(Clone, Copy, Drop)]
+#[derive(Clone, Copy, Debug, Drop, Error)]
 pub enum ScriptFault {
     /// A read failed.
+    #[error("read fault")]
     Read,
     /// A write failed.
+    #[error("write fault")]
     Write,
     /// The script has more than 16,777,216 bytes.
+    #[error("too long")]
     TooLong,
     /// Memory was refused.
+    #[error("no memory")]
     Memory,
-}
-
-impl fmt::Display for ScriptFault {
-    fn fmt<W: fmt::Write>(&self, f: &mut fmt::Formatter<W>) -> fmt::Result {
-        f.write_str(match self {
-            ScriptFault::Read => "read fault",
-            ScriptFault::Write => "write fault",
-            ScriptFault::TooLong => "too long",
-            ScriptFault::Memory => "no memory",
-        })
-    }
 }

@@ -1,6 +1,6 @@
 // The first line of a script, which names its accounts.
 
-ghost use Rattle.std.specs.Prelude.{◌≡◌, ◌&&◌, nat_le, length, bytes_eq, ◌≤◌, [], vec_capacity, IfOk, Some, None, if◌then◌else◌, option_map};
+ghost use Rattle.std.specs.Prelude.{◌≡◌, ◌&&◌, nat_le, length, bytes_eq, IfOk, option_map};
 ghost use Rattle.std.specs.List.{list_any};
 ghost use Rattle.kl1_model.specs.Script.{are_distinct, words_of, accounts_in};
 ghost use Rattle.kl1_script.specs.Accounts.{named};
@@ -26,31 +26,27 @@ fn are_distinct(names: &[AccountName]) -> bool
 fn is_among(name: &AccountName, others: &[AccountName]) -> bool
     ensures { result ≡ list_any (bytes_eq name.now) others.now }
 {
-    match others {
-        [] => false,
-        [first, rest @ ..] => name.text().is(&first.text()) || is_among(name, rest),
-    }
+    others.iter().any(|other| name.text().is(&other.text()))
 }
 
-/// Puts the words of a line behind no names, if they are at most 16 names of accounts: whether they are.
-fn put_names(line: &[u8], names: &mut Vec<AccountName>) -> bool
-    requires none { names.old.items ≡ [] }
-    requires room { 16 ≤ vec_capacity names.old }
-    ensures { (if result then Some names.new.items else None) ≡ named (words_of line.now) }
+/// The words of a line, if they are at most 16 names of accounts.
+fn names_in(alloc: Global, line: &[u8]) -> Result<Option<Vec<AccountName>>, AllocError>
+    ensures { IfOk result (λ names. option_map (λ v. v.items) names ≡ named (words_of line.now)) }
 {
+    let mut names = Vec::new(alloc);
     let mut rest = line;
     while !is_blank_line(rest) {
         let (word, behind) = split_word(rest);
         let Some(name) = AccountName::read(word) else {
-            return false;
+            return Ok(None);
         };
         if names.len() == MOST_ACCOUNTS {
-            return false;
+            return Ok(None);
         }
-        names.push_reserved(name);
+        names.push(name)?;
         rest = behind;
     }
-    true
+    Ok(Some(names))
 }
 
 /// Whether there is a name, and none stands twice.
@@ -68,12 +64,14 @@ pub fn accounts_in(alloc: Global, line: &[u8]) -> Result<Option<Vec<AccountName>
     if !is_same(word, b"accounts") {
         return Ok(None);
     }
-    let mut names = Vec::with_capacity(alloc, MOST_ACCOUNTS)?;
-    if !put_names(rest, &mut names) {
-        return Ok(None);
+    match names_in(alloc, rest)? {
+        None => Ok(None),
+        Some(names) => {
+            if are_accounts(names.as_slice()) {
+                Ok(Some(names))
+            } else {
+                Ok(None)
+            }
+        }
     }
-    if are_accounts(names.as_slice()) {
-        return Ok(Some(names));
-    }
-    Ok(None)
 }

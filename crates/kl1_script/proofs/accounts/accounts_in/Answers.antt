@@ -10,22 +10,22 @@ returns-then-not-is_same c =
     let h : bytes_eq (word_in c.args.line.now) (codes "accounts") ≡ false = cc in
     no_accounts c.args.line.now (is_blank_line c.args.line.now) refl h
 
-pub returns-then-not-put_names : goal.returns-then-not-put_names
-returns-then-not-put_names c =
+pub returns-in-None : goal.returns-in-None
+returns-in-None c =
     let h : bytes_eq (word_in c.args.line.now) (codes "accounts") ≡ true = cc in
-    let e : named (words_of (behind_word_in c.args.line.now)) ≡ None = rw (sym c.split_word.ensures.behind) (sym (rw c.if-not-put_names.true at c.put_names.ensures)) in
+    let e : named (words_of (behind_word_in c.args.line.now)) ≡ None = rw (sym c.split_word.ensures.behind) (sym (rw c.in-None.is at c.in_ok-names_in.ensures)) in
     accounts_none c.args.line.now h e
 
 pub returns-then-are_accounts : goal.returns-then-are_accounts
 returns-then-are_accounts c =
     let h : bytes_eq (word_in c.args.line.now) (codes "accounts") ≡ true = cc in
-    let e : named (words_of (behind_word_in c.args.line.now)) ≡ Some c.put_names.new.names.items = rw (sym c.split_word.ensures.behind) (sym (rw c.if-not-put_names.false at c.put_names.ensures)) in
-    let k : (nat_le 1 (length c.put_names.new.names.items) && are_distinct c.put_names.new.names.items) ≡ true = cc in
-    accounts_some c.args.line.now c.put_names.new.names.items true h e k
+    let e : named (words_of (behind_word_in c.args.line.now)) ≡ Some c.in-Some.names.items = rw (sym c.split_word.ensures.behind) (sym (rw c.in-Some.is at c.in_ok-names_in.ensures)) in
+    let k : (nat_le 1 (length c.in-Some.names.items) && are_distinct c.in-Some.names.items) ≡ true = cc in
+    accounts_some c.args.line.now c.in-Some.names.items true h e k
 
-pub returns : goal.returns
-returns c =
+pub returns-else-are_accounts : goal.returns-else-are_accounts
+returns-else-are_accounts c =
     let h : bytes_eq (word_in c.args.line.now) (codes "accounts") ≡ true = cc in
-    let e : named (words_of (behind_word_in c.args.line.now)) ≡ Some c.put_names.new.names.items = rw (sym c.split_word.ensures.behind) (sym (rw c.if-not-put_names.false at c.put_names.ensures)) in
-    let k : (nat_le 1 (length c.put_names.new.names.items) && are_distinct c.put_names.new.names.items) ≡ false = cc in
-    accounts_some c.args.line.now c.put_names.new.names.items false h e k
+    let e : named (words_of (behind_word_in c.args.line.now)) ≡ Some c.in-Some.names.items = rw (sym c.split_word.ensures.behind) (sym (rw c.in-Some.is at c.in_ok-names_in.ensures)) in
+    let k : (nat_le 1 (length c.in-Some.names.items) && are_distinct c.in-Some.names.items) ≡ false = cc in
+    accounts_some c.args.line.now c.in-Some.names.items false h e k

@@ -1,7 +1,7 @@
-use Rattle.std.proofs.Common.{◌≡◌, ◌≤◌, ◌++◌, true, length, vec_capacity}
+use Rattle.std.proofs.Common.{◌≡◌, ◌≤◌, ◌++◌, true, length}
 use Rattle.std.specs.List.{list_all}
 use Rattle.kl1_model.specs.Script.{words_of, is_account_name}
-use Rattle.kl1_script.proofs.accounts.put_names.Given as goal
+use Rattle.kl1_script.proofs.accounts.names_in.Given as goal
 
 -- the names so far and the words that are left are the words of the line
 abbrev pub invariant-loop-rest : goal.invariant-loop-rest
@@ -9,7 +9,6 @@ invariant-loop-rest l = record {
   same : l.names.items ++ words_of l.rest ≡ words_of l.line;
   all : list_all is_account_name l.names.items ≡ true;
   few : length l.names.items ≤ 16;
-  room : 16 ≤ vec_capacity l.names;
 }
 
 abbrev pub decreases-loop-rest : goal.decreases-loop-rest

@@ -3,7 +3,7 @@ use Rattle.std.proofs.lemmas.Grind.{common_steps}
 use Rattle.kl1_model.specs.Command.{is_blank_line, word_in}
 use Rattle.kl1_model.specs.Script.{words_of, is_account_name}
 use Rattle.kl1_script.proofs.Names.{one_more, all_more, no_name, too_many, names_alone}
-use Rattle.kl1_script.proofs.accounts.put_names.Goals as goal
+use Rattle.kl1_script.proofs.accounts.names_in.Goals as goal
 
 pub returns-in_default : goal.returns-in_default
 returns-in_default c =
@@ -26,7 +26,6 @@ loop-rest-preserved c =
       same = grind (arith, common_steps);
       all = grind (arith, common_steps);
       few = grind (arith, common_steps);
-      room = grind (arith, common_steps);
     }
 
 pub returns : goal.returns
