@@ -1,5 +1,5 @@
 -- Rows of places, each with a text or free.
-use Rattle.std.proofs.Common.{◌≡◌, ◌≢◌, ℕ, zero, suc, ◌+◌, ◌-◌, ◌*◌, ◌<◌, ◌≤◌, ◌⊎◌, List, [], ◌∷◌, ◌++◌, length, Option, Some, None, slice_get, slice_set, IsTrue, refl, sym, ap, ◌∙◌, subst, inl, inr, arith}
+use Rattle.std.proofs.Common.{◌≡◌, ◌≢◌, ℕ, zero, suc, ◌+◌, ◌-◌, ◌*◌, ◌<◌, ◌≤◌, ◌⊎◌, List, [], ◌∷◌, ◌++◌, length, Option, Some, None, replicate, take, slice_get, slice_set, IsTrue, refl, sym, ap, ◌∙◌, subst, inl, inr, arith}
 use Rattle.std.proofs.lemmas.Bool.{cases_eq}
 use Rattle.std.proofs.lemmas.List.{length-set}
 use Rattle.std.proofs.lemmas.Option.{slice_get_within}
@@ -32,12 +32,17 @@ pushed [] x (suc k) y e = cc
 pushed (z ∷ xs) x zero y e = inl e
 pushed (z ∷ xs) x (suc k) y e = elim (pushed xs x k y e) [ inl was ↦ inl was | inr is ↦ inr (ap suc is.0, is.1) ]
 
--- a list of one element alone, with one more of it
-pub all_free : {X : Type 0} (xs : List X) (x : X) → ((i : ℕ) → i < length xs → slice_get xs i ≡ Some x) → (i : ℕ) → i < length xs + 1 → slice_get (xs ++ x ∷ []) i ≡ Some x
-all_free [] x each zero below = refl
-all_free [] x each (suc i) below = absurd (omega arith)
-all_free (y ∷ xs) x each zero below = each zero (omega arith)
-all_free (y ∷ xs) x each (suc i) below = all_free xs x (λ j h. each (suc j) (omega arith)) i (omega arith)
+-- each element of a list of one element alone
+pub all_same : {X : Type 0} (n : ℕ) (x : X) (i : ℕ) → i < n → slice_get (replicate n x) i ≡ Some x
+all_same zero x i below = absurd (omega arith)
+all_same (suc n) x zero below = refl
+all_same (suc n) x (suc i) below = all_same n x i (omega arith)
+
+-- nothing, filled up with one element
+pub filled : {X : Type 0} (xs : List X) (n k : ℕ) (x : X) → xs ≡ [] → k ≡ 0 → take n xs ++ replicate (n - k) x ≡ replicate n x
+filled [] zero k x e z = let m : zero - k ≡ zero = omega arith in rw m refl
+filled [] (suc n) k x e z = let m : suc n - k ≡ suc n = omega arith in rw m refl
+filled (y ∷ xs) n k x e z = cc
 
 -- what a place holds is one
 one_held : (o : Option (Option (List ℕ))) (t u : List ℕ) → o ≡ Some (Some t) → o ≡ Some (Some u) → t ≡ u

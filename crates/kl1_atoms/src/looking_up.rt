@@ -42,11 +42,11 @@ impl AtomTable {
         ensures count { IfOk result (λ seats. vec_len seats ≡ self.now.accounts) }
         ensures seats { IfOk result (λ seats. (k : ℕ) (seat : AtomSeat) → slice_get seats.items k ≡ Some seat → IsNewSharedSeat self.now.table.shared.table_id seat.badge.table_id self.now.accounts (face_in seat.badge.views) seat.account k) }
     {
-        let mut seats = Vec::new(alloc);
+        let mut seats = Vec::with_capacity(alloc, self.accounts as usize)?;
         let mut rest = first;
         for account in 0..self.accounts {
             let seat = self.next_seat(&mut rest, account);
-            seats.push(seat)?;
+            seats.push_reserved(seat);
         }
         Ok(seats)
     }

@@ -36,8 +36,6 @@ impl PlainSeat {
         ensures account { self.new.account ≡ self.old.account }
         ensures used { self.new.used ≡ self.old.used }
     {
-        let Ok(()) = self.known.push(one) else {
-            unreachable!()
-        };
+        self.known.push_reserved(one);
     }
 }

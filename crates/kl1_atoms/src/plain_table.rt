@@ -106,10 +106,8 @@ fn free_places(alloc: Global, count: usize) -> Result<Vec<Option<AtomText>>, All
     ensures count { IfOk result (λ places. length places.items ≡ count) }
     ensures free { IfOk result (λ places. (i : ℕ) → i < count → slice_get places.items i ≡ Some None) }
 {
-    let mut places = Vec::with_capacity(alloc, count)?;
-    for _done in 0..count {
-        places.push(None)?;
-    }
+    let mut places = Vec::new(alloc);
+    places.resize(count, None)?;
     Ok(places)
 }
 
@@ -121,7 +119,7 @@ fn new_seats(alloc: Global, accounts: usize) -> Result<Vec<PlainSeat>, AllocErro
     let mut seats = Vec::with_capacity(alloc, accounts)?;
     for account in 0..accounts {
         let seat = PlainSeat::new(alloc, account)?;
-        seats.push(seat)?;
+        seats.push_reserved(seat);
     }
     Ok(seats)
 }

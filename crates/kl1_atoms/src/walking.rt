@@ -45,24 +45,6 @@ impl AtomTable {
         true
     }
 
-    /// Drafts a text in the seat's own entry.
-    fn draft_text(&self, seat: &mut Seat<(), View>, entry: u64, text: &AtomText)
-        requires of { seat.old.table_id ≡ self.now.table.shared.table_id }
-        requires first { IsTrue (has_first seat.old.me.0.faces) }
-        requires accounts { (own seat.old.me.0).accounts ≡ self.now.accounts }
-        requires room { (own seat.old.me.0).used < 1024 }
-        requires empty { (own seat.old.me.0).draft ≡ [] }
-        requires entry { entry ≡ own_entry (own seat.old.me.0) }
-        requires bound { entry < 1024 * self.now.accounts }
-        ensures of { seat.new.table_id ≡ seat.old.table_id }
-        ensures tells { Steps seat.old.me seat.new.me (λ f g. Drafts f g (words_of 8 text.now)) }
-    {
-        let words = text.words();
-        for word in 0..8 {
-            self.draft(seat, entry, word as u64, words[word]);
-        }
-    }
-
     /// Knows the text of a bucket that was seen, where it is the one that is looked up.
     fn compare(
         &self,
@@ -108,7 +90,10 @@ impl AtomTable {
         if drafted {
             return;
         }
-        self.draft_text(seat, entry, text);
+        let words = text.words();
+        for word in 0..8 {
+            self.draft(seat, entry, word as u64, words[word]);
+        }
     }
 
     /// Looks at one bucket of a text's way, and publishes the text where the bucket is free.

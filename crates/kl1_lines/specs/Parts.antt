@@ -1,20 +1,9 @@
 -- What the parts of a line stand for.
 use Rattle.kl1_model.specs.Command.{Line, whole, load_of, no_command, run, does, line_with, start_with}
-use Rattle.kl1_model.specs.Command as model
 use Rattle.kl1_model.specs.Event.{read, value}
 use Rattle.kl1_model.specs.Module.{read_goal}
-use Rattle.kl1_lines.specs.declared.verb.Verb.{Verb}
-use Rattle.kl1_lines.specs.declared.verb.Verb.TheVariants as verbs
 use Rattle.kl1_lines.specs.declared.line_parts.LineParts.{LineParts}
 use Rattle.kl1_lines.specs.declared.line_parts.LineParts.TheVariants as parts
-
--- the verb of the definitions
-abbrev pub verb_view : Verb → model.Verb
-verb_view verbs.Loads = model.loads
-verb_view verbs.Starts = model.starts
-verb_view verbs.Runs = model.runs
-verb_view verbs.AsksValue = model.asks_value
-verb_view verbs.Unknown = model.unknown
 
 -- the line that has these parts: a start is one only if its priorities are a range and its goal is read
 abbrev pub line_of : LineParts → Line

@@ -2,6 +2,8 @@
 
 ghost use Rattle.std.specs.Prelude.{◌≡◌};
 
+use std::io::{Error, ErrorKind};
+
 /// A stream, and how many of its calls have failed. One that has failed 2^64 - 1 times is used no more.
 #[derive(Drop)]
 pub struct Counted<T> {
@@ -23,3 +25,8 @@ impl<T> Counted<T> {
 /// A call of a device failed.
 #[derive(Clone, Copy)]
 pub struct DeviceFailed;
+
+/// Whether a call failed, and wasn't merely interrupted.
+pub(crate) fn has_failed(error: Error) -> bool {
+    error.kind() != ErrorKind::Interrupted
+}

@@ -5,8 +5,7 @@ ghost use Rattle.kl1_model.specs.Command.{loads, starts, runs, asks_value, line_
 ghost use Rattle.kl1_lines.specs.Parts.{line_of};
 
 use crate::numbers::{number_in, only_number, up_to};
-use crate::verb::{Verb, verb_of};
-use crate::words::split_word;
+use crate::words::{is_same, split_word};
 
 /// What a line is, where the goal of a start is yet to be read.
 #[derive(Clone, Copy)]
@@ -41,12 +40,16 @@ pub fn parts_of(line: &[u8]) -> LineParts<'_>
         return LineParts::NoCommand;
     }
     let (word, rest) = split_word(line);
-    match verb_of(word) {
-        Verb::Loads => load_parts(rest),
-        Verb::Starts => start_parts(rest),
-        Verb::Runs => run_parts(rest),
-        Verb::AsksValue => value_parts(rest),
-        Verb::Unknown => LineParts::NoCommand,
+    if is_same(word, b"load") {
+        load_parts(rest)
+    } else if is_same(word, b"start") {
+        start_parts(rest)
+    } else if is_same(word, b"run") {
+        run_parts(rest)
+    } else if is_same(word, b"value") {
+        value_parts(rest)
+    } else {
+        LineParts::NoCommand
     }
 }
 

@@ -1,12 +1,11 @@
 // Lines, and the name in front of one.
 
 ghost use Rattle.std.specs.Prelude.{◌≡◌, ◌+◌, ◌<◌, ◌≤◌, length, take, drop};
-ghost use Rattle.std.specs.List.{list_all};
-ghost use Rattle.kl1_model.specs.Command.{is_space, is_blank_line};
+ghost use Rattle.kl1_model.specs.Command.{is_blank_line};
 ghost use Rattle.kl1_model.specs.Script.{without_return, line_in, behind_feed, before_space, behind_space};
 ghost use Rattle.kl1_lines.specs.Places.{place_of};
 
-use crate::bytes::is_space;
+use crate::words::without_blanks;
 
 /// The place of the first such byte, or how many bytes there are.
 fn place_of(byte: u8, text: &[u8]) -> usize
@@ -75,5 +74,5 @@ pub fn split_name(line: &[u8]) -> (&[u8], &[u8])
 pub fn is_blank_line(line: &[u8]) -> bool
     ensures { result ≡ is_blank_line line.now }
 {
-    line.iter().all(|byte| is_space(*byte))
+    without_blanks(line).is_empty()
 }

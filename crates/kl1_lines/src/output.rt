@@ -33,7 +33,7 @@ pub fn finish<S: Sink>(sink: &mut S, bytes: &[u8]) -> Result<(), DeviceFailed>
 {
     match write_all(sink, bytes) {
         Ok(()) => sink.flush(),
-        Err(error) => Err(error),
+        Err(failed) => Err(failed),
     }
 }
 

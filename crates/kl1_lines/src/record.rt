@@ -57,20 +57,12 @@ pub fn next_record(text: &[u8]) -> NextRecord<'_>
     while !rest.is_empty() {
         let (line, behind) = split_line(rest);
         if !is_blank_line(line) {
-            return record_of(line, behind);
+            let (name, command) = split_name(line);
+            return record_by(name, parts_of(command), behind);
         }
         rest = behind;
     }
     NextRecord::End
-}
-
-/// The record of a line that is not blank, in front of a rest.
-fn record_of<'a>(line: &'a [u8], rest: &'a [u8]) -> NextRecord<'a>
-    ensures step { records_from result ≡ records_by records_of (before_space line.now) rest.now (parse (behind_space line.now)) }
-    ensures less { IsShorter (length rest.now + 1) result }
-{
-    let (name, command) = split_name(line);
-    record_by(name, parts_of(command), rest)
 }
 
 /// The record of a name and the line behind it, in front of a rest.

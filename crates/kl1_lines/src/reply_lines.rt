@@ -12,11 +12,10 @@ fn put_parts(out: &mut Vec<u8>, account: &[u8], start: &[u8], text: &[u8]) -> Re
     ensures kept { take (length out.old.items) out.new.items ≡ out.old.items }
 {
     out.extend_from_slice(account)?;
-    out.push(b' ')?;
+    out.extend_from_slice(b" ")?;
     out.extend_from_slice(start)?;
     out.extend_from_slice(text)?;
-    out.push(b'\n')?;
-    Ok(())
+    out.extend_from_slice(b"\n")
 }
 
 /// Puts a reply of one line behind the bytes.

@@ -5,8 +5,8 @@ ghost use Rattle.std.specs.declared.option.Option.{Option};
 ghost use Rattle.std.specs.Io.KnownBytes.{Appends, Keeps};
 ghost use Rattle.kl1_lines.specs.Devices.{known_while, failures_of, Takes, KeepsIfKnown};
 
-use crate::counted::{Counted, DeviceFailed};
-use std::io::{ErrorKind, Write};
+use crate::counted::{Counted, DeviceFailed, has_failed};
+use std::io::Write;
 
 /// What takes bytes, and counts the calls that failed.
 pub trait Sink {
@@ -31,46 +31,33 @@ pub trait Sink {
         ensures same { OnErr result (KeepsIfKnown (contents self.old) (contents self.new)) };
 }
 
-/// Writes once, and again where the call was interrupted. To take no byte is a failure.
-fn write_once<W: Write>(writer: &mut W, bytes: &[u8]) -> Result<usize, DeviceFailed>
-    ensures ok { IfOk result (λ n. Takes (W.contents writer.old) (W.contents writer.new) n bytes.now) }
-    ensures err { OnErr result (KeepsIfKnown (W.contents writer.old) (W.contents writer.new)) }
-{
-    for _ in 0..u64::MAX {
-        match writer.write(bytes) {
-            Ok(count) => {
-                return if count == 0 && !bytes.is_empty() {
-                    Err(DeviceFailed)
-                } else {
-                    Ok(count)
-                };
-            }
-            Err(error) => {
-                if error.kind() != ErrorKind::Interrupted {
-                    return Err(DeviceFailed);
-                }
-            }
-        }
-    }
-    Err(DeviceFailed)
-}
-
 impl<W: Write> Sink for Counted<W> {
     ghost contents = { known_while W.contents };
 
     ghost failures = { failures_of };
 
+    /// Writes once, and again where the call was interrupted. To take no byte is a failure.
     fn write(&mut self, bytes: &[u8]) -> Result<usize, DeviceFailed> {
         if self.failures == u64::MAX {
             return Ok(bytes.len());
         }
-        match write_once(&mut self.inner, bytes) {
-            Ok(count) => Ok(count),
-            Err(error) => {
-                self.failures += 1;
-                Err(error)
+        for _ in 0..u64::MAX {
+            match self.inner.write(bytes) {
+                Ok(count) => {
+                    if count == 0 && !bytes.is_empty() {
+                        break;
+                    }
+                    return Ok(count);
+                }
+                Err(error) => {
+                    if has_failed(error) {
+                        break;
+                    }
+                }
             }
         }
+        self.failures += 1;
+        Err(DeviceFailed)
     }
 
     fn flush(&mut self) -> Result<(), DeviceFailed> {

@@ -5,8 +5,8 @@ ghost use Rattle.std.specs.declared.option.Option.{Option};
 ghost use Rattle.std.specs.Io.KnownBytes.{Consumes, IsAtEnd};
 ghost use Rattle.kl1_lines.specs.Devices.{known_while, failures_of, Gives, KeepsIfKnown};
 
-use crate::counted::{Counted, DeviceFailed};
-use std::io::{ErrorKind, Read};
+use crate::counted::{Counted, DeviceFailed, has_failed};
+use std::io::Read;
 
 /// What gives bytes, and counts the calls that failed.
 pub trait Source {
@@ -24,39 +24,27 @@ pub trait Source {
         ensures same { OnErr result (KeepsIfKnown (remaining self.old) (remaining self.new)) };
 }
 
-/// Reads once, and again where the call was interrupted.
-fn read_once<R: Read>(reader: &mut R, into: &mut [u8]) -> Result<usize, DeviceFailed>
-    ensures ok { IfOk result (λ n. Gives (R.remaining reader.old) (R.remaining reader.new) n into.new) }
-    ensures err { OnErr result (KeepsIfKnown (R.remaining reader.old) (R.remaining reader.new)) }
-{
-    for _ in 0..u64::MAX {
-        match reader.read(into) {
-            Ok(count) => return Ok(count),
-            Err(error) => {
-                if error.kind() != ErrorKind::Interrupted {
-                    return Err(DeviceFailed);
-                }
-            }
-        }
-    }
-    Err(DeviceFailed)
-}
-
 impl<R: Read> Source for Counted<R> {
     ghost remaining = { known_while R.remaining };
 
     ghost failures = { failures_of };
 
+    /// Reads once, and again where the call was interrupted.
     fn read(&mut self, into: &mut [u8]) -> Result<usize, DeviceFailed> {
         if self.failures == u64::MAX {
             return Ok(0);
         }
-        match read_once(&mut self.inner, into) {
-            Ok(count) => Ok(count),
-            Err(error) => {
-                self.failures += 1;
-                Err(error)
+        for _ in 0..u64::MAX {
+            match self.inner.read(into) {
+                Ok(count) => return Ok(count),
+                Err(error) => {
+                    if has_failed(error) {
+                        break;
+                    }
+                }
             }
         }
+        self.failures += 1;
+        Err(DeviceFailed)
     }
 }

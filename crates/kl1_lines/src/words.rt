@@ -7,10 +7,11 @@ ghost use Rattle.kl1_lines.specs.Places.{blank_place, BeginsWord};
 use crate::bytes::is_space;
 
 /// A line without the blanks in front.
-fn without_blanks(line: &[u8]) -> &[u8]
+pub(crate) fn without_blanks(line: &[u8]) -> &[u8]
     ensures word { word_in result.now ≡ word_in line.now }
     ensures behind { behind_word_in result.now ≡ behind_word_in line.now }
     ensures begins { BeginsWord result.now }
+    ensures blank { is_blank_line result.now ≡ is_blank_line line.now }
 {
     let mut rest = line;
     while let [first, others @ ..] = rest {

@@ -52,6 +52,16 @@ finish_closes (Err faults.Write) old new f g waiting more s = s
 finish_closes (Err faults.Read) old new f g waiting more s = absurd s
 finish_closes (Err faults.TooLong) old new f g waiting more s = absurd s
 
+-- so are these
+pub finish_same : {T : Type 0} (r : Result T ScriptFault) (old new : Option (List ℕ)) (f g : ℕ) (waiting more bytes : List ℕ) → bytes ≡ waiting ++ more → Finishes old new f g bytes r → Closes old new f g waiting more r
+finish_same r old new f g waiting more bytes e s =
+    let P : List ℕ → Type 0 = λ x. Finishes old new f g x r in
+    finish_closes r old new f g waiting more (subst P e s)
+
+-- the last bytes are those that wait
+pub finish_waiting : {T : Type 0} (r : Result T ScriptFault) (old new : Option (List ℕ)) (f g : ℕ) (waiting bytes : List ℕ) → bytes ≡ waiting → Finishes old new f g bytes r → Closes old new f g waiting [] r
+finish_waiting r old new f g waiting bytes e s = finish_same r old new f g waiting [] bytes (e ∙ sym (append-nil waiting)) s
+
 -- memory was refused behind the records that are done, or a write failed, and these bytes and the others are the output
 fails_by : (T : Type 0) (old now after : Option (List ℕ)) (f g : ℕ) (accounts : List (List ℕ)) (name text rest : List ℕ) (user : State) (out more others : List ℕ) (fault : ScriptFault) → (u : Underway old now accounts name text rest user out) → (u.passed ++ (out ++ more)) ++ others ≡ written_records accounts (records_of text) → Fails now after f g out more fault → Ends {T = T} old after f g (written_records accounts (records_of text)) (λ n. first_written n (Some accounts) (records_of text).list) (Err fault)
 fails_by T old now after f g accounts name text rest user out more others faults.Memory u all s =

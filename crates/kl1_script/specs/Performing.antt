@@ -19,6 +19,13 @@ refusal_in model.reduced = None
 refusal_in (model.ran n) = None
 refusal_in (model.shown text) = None
 
+-- what became of a goal whose reduction has this reply
+abbrev pub IsTold : model.Reply → FirstStep → Type 0
+IsTold reply first_step.Quiet = ⊥
+IsTold reply first_step.Done = refusal_in reply ≡ None
+IsTold reply (first_step.Refused r) = refusal_in reply ≡ Some (refusal_of r)
+IsTold reply first_step.Memory = ⊥
+
 -- only a run stops short: behind some of its steps, fewer than it may do
 abbrev pub StopsShort : State → Command → ℕ → State → Type 0
 StopsShort s (does e) n after = ⊥

@@ -9,9 +9,9 @@ ghost use Rattle.kl1_script.specs.Told.{state_by, told_by};
 
 use crate::command::{Command, command_in};
 use crate::performed::{Performed, perform};
-use crate::replies::put_reply;
-use kl1_lines::{Record, is_same, put_no_account};
-use kl1_user::{AccountName, Refusal, Reply, UserState};
+use crate::replies::{put_refused, put_reply};
+use kl1_lines::{Record, is_same};
+use kl1_user::{AccountName, Refusal, UserState};
 use std::alloc::{AllocError, Global};
 
 /// Whether a name is that of the account that is served, which is the first.
@@ -38,11 +38,11 @@ pub(crate) fn put_record(
     ensures err { OnErr result (out.new.items ≡ out.old.items) }
 {
     if !is_served(accounts, found.name) {
-        return put_no_account(out);
+        return out.extend_from_slice(b"! account\n");
     }
     match command_in(alloc, found.command) {
         Ok(Some(command)) => put_performed(user, &command, found.name, out),
-        Ok(None) => put_reply(out, found.name, &Reply::Refused(Refusal::Syntax)),
+        Ok(None) => put_refused(out, found.name, Refusal::Syntax),
         Err(error) => Err(error),
     }
 }

@@ -1,8 +1,7 @@
 // Commands.
 
 ghost use Rattle.std.specs.Prelude.{◌≡◌, IfOk, option_map};
-ghost use Rattle.kl1_model.specs.Command.{does, start_with};
-ghost use Rattle.kl1_model.specs.Event.{read, value};
+ghost use Rattle.kl1_model.specs.Command.{start_with};
 ghost use Rattle.kl1_model.specs.Module.{read_goal};
 ghost use Rattle.kl1_lines.specs.Records.{command_of};
 ghost use Rattle.kl1_script.specs.Commands.{command_view};
@@ -37,16 +36,11 @@ pub fn command_in(alloc: Global, parts: CommandParts<'_>) -> Result<Option<Comma
             start_command(alloc, allowance, low, high, goal)
         }
         CommandParts::Run(steps) => Ok(Some(Command::Run(steps))),
-        CommandParts::Value(shoen) => Ok(Some(value_command(shoen))),
+        CommandParts::Value(shoen) => Ok(Some(Command::Does(Event::Read(Query::Value(ShoenNo(
+            shoen,
+        )))))),
         CommandParts::NoCommand => Ok(None),
     }
-}
-
-/// The question for the value of a shoen.
-pub(crate) fn value_command(shoen: u64) -> Command
-    ensures { command_view result ≡ does (read (value shoen)) }
-{
-    Command::Does(Event::Read(Query::Value(ShoenNo(shoen))))
 }
 
 /// The start of the goal that bytes are, where the priorities are a range and there is one.

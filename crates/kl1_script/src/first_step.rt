@@ -1,8 +1,7 @@
 // What becomes of the first goal that can step.
 
-ghost use Rattle.std.specs.Prelude.{◌≡◌, option_map};
-ghost use Rattle.kl1_user.specs.Views.{refusal_of, reply_of};
-ghost use Rattle.kl1_script.specs.Performing.{IsFirstStep, refusal_in};
+ghost use Rattle.kl1_user.specs.Views.{reply_of};
+ghost use Rattle.kl1_script.specs.Performing.{IsFirstStep, IsTold};
 
 use kl1_user::{Event, Refusal, Reply, UserState};
 
@@ -27,24 +26,21 @@ pub(crate) fn reduce_first(user: &mut UserState) -> FirstStep
     };
     let event = Event::Reduce { goal, clause };
     match user.apply(&event) {
-        Ok(reply) => match refusal_in(&reply) {
-            Some(refusal) => FirstStep::Refused(refusal),
-            None => FirstStep::Done,
-        },
+        Ok(reply) => step_told(&reply),
         Err(_) => FirstStep::Memory,
     }
 }
 
-/// Why an event was refused, where it was.
-fn refusal_in(reply: &Reply) -> Option<Refusal>
-    ensures { option_map refusal_of result ≡ refusal_in (reply_of reply.now) }
+/// What became of a goal whose reduction has this reply.
+fn step_told(reply: &Reply) -> FirstStep
+    ensures { IsTold (reply_of reply.now) result }
 {
     match reply {
-        Reply::Loaded(_name) => None,
-        Reply::Opened(_shoen) => None,
-        Reply::Reduced => None,
-        Reply::Ran(_steps) => None,
-        Reply::Shown(_text) => None,
-        Reply::Refused(refusal) => Some(*refusal),
+        Reply::Loaded(_name) => FirstStep::Done,
+        Reply::Opened(_shoen) => FirstStep::Done,
+        Reply::Reduced => FirstStep::Done,
+        Reply::Ran(_steps) => FirstStep::Done,
+        Reply::Shown(_text) => FirstStep::Done,
+        Reply::Refused(refusal) => FirstStep::Refused(*refusal),
     }
 }

@@ -4,8 +4,9 @@ ghost use Rattle.std.specs.Prelude.{◌≡◌, IfOk};
 ghost use Rattle.kl1_model.specs.Command.{parse};
 ghost use Rattle.kl1_script.specs.Commands.{parsed_line};
 
-use crate::command::{Command, start_command, value_command};
+use crate::command::{Command, start_command};
 use kl1_lines::{LineParts, parts_of};
+use kl1_user::{Event, Query, ShoenNo};
 use std::alloc::{AllocError, Global};
 
 /// What a line is.
@@ -32,7 +33,9 @@ pub fn parse(alloc: Global, line: &[u8]) -> Result<Parsed, AllocError>
             }
         }
         LineParts::Run(steps) => Ok(Parsed::Command(Command::Run(steps))),
-        LineParts::Value(shoen) => Ok(Parsed::Command(value_command(shoen))),
+        LineParts::Value(shoen) => Ok(Parsed::Command(Command::Does(Event::Read(Query::Value(
+            ShoenNo(shoen),
+        ))))),
         LineParts::NoCommand => Ok(Parsed::Refused),
     }
 }

@@ -13,8 +13,8 @@ ghost use Rattle.kl1_lines.specs.declared.script_fault.ScriptFault.TheVariants a
 use crate::accounts::accounts_in;
 use crate::answers::put_record;
 use kl1_lines::{
-    NextRecord, Record, ScriptFault, Sink, Source, finish, next_record, pass_on, put_truncated,
-    read_all, split_line,
+    NextRecord, Record, ScriptFault, Sink, Source, finish, next_record, pass_on, read_all,
+    split_line,
 };
 use kl1_user::{AccountName, UserState};
 use std::alloc::Global;
@@ -49,37 +49,27 @@ fn answer<W: Sink>(alloc: Global, script: &[u8], sink: &mut W) -> Result<(), Scr
 {
     let (line, rest) = split_line(script);
     match accounts_in(alloc, line) {
-        Ok(Some(accounts)) => match accounts.as_slice() {
-            [] => answer_no_accounts(sink),
-            [first, _others @ ..] => answer_records(alloc, accounts.as_slice(), *first, rest, sink),
-        },
-        Ok(None) => answer_no_accounts(sink),
+        Ok(Some(accounts)) => answer_records(alloc, accounts.as_slice(), rest, sink),
+        Ok(None) => finish_all(sink, b"! accounts\n"),
         Err(_) => Err(ScriptFault::Memory),
     }
-}
-
-/// Writes the output of a script whose first line names no accounts.
-fn answer_no_accounts<W: Sink>(sink: &mut W) -> Result<(), ScriptFault>
-    ensures { Finishes (W.contents sink.old) (W.contents sink.new) (W.failures sink.old) (W.failures sink.new) (written_line (codes "! accounts")) result }
-{
-    finish_all(sink, b"! accounts\n")
 }
 
 /// Writes what is written for the records of a text.
 fn answer_records<W: Sink>(
     alloc: Global,
     accounts: &[AccountName],
-    first: AccountName,
     text: &[u8],
     sink: &mut W,
 ) -> Result<(), ScriptFault>
-    requires { IsFirstOf first accounts.now }
+    requires { 0 < length accounts.now }
     ensures { Ends (W.contents sink.old) (W.contents sink.new) (W.failures sink.old) (W.failures sink.new) (written_records accounts.now (records_of text.now)) (λ n. first_written n (Some accounts.now) (records_of text.now).list) result }
 {
+    let first = accounts[0];
     match UserState::fresh(alloc, first) {
-        Ok(user) => {
-            let mut user = user;
-            answer_each(alloc, accounts, first, &mut user, text, sink)
+        Ok(mut user) => {
+            let mut out = Vec::new(alloc);
+            answer_each(alloc, accounts, first, &mut user, text, &mut out, sink)
         }
         Err(_) => Err(ScriptFault::Memory),
     }
@@ -92,24 +82,25 @@ fn answer_each<W: Sink>(
     first: AccountName,
     user: &mut UserState,
     text: &[u8],
+    out: &mut Vec<u8>,
     sink: &mut W,
 ) -> Result<(), ScriptFault>
     requires first { IsFirstOf first accounts.now }
     requires fresh { user.now ≡ fresh first }
+    requires none { out.now.items ≡ [] }
     ensures { Ends (W.contents sink.old) (W.contents sink.new) (W.failures sink.old) (W.failures sink.new) (written_records accounts.now (records_of text.now)) (λ n. first_written n (Some accounts.now) (records_of text.now).list) result }
 {
-    let mut out = Vec::new(alloc);
     let mut rest = text;
     'records: loop {
         match next_record(rest) {
             NextRecord::Found(record) => {
-                match answer_record(alloc, accounts, user, record, &mut out, sink) {
+                match answer_record(alloc, accounts, user, record, out, sink) {
                     Ok(()) => rest = record.rest,
                     Err(fault) => return Err(fault),
                 }
             }
-            NextRecord::Truncated => return finish_records(sink, &mut out, true),
-            NextRecord::End => return finish_records(sink, &mut out, false),
+            NextRecord::Truncated => return finish_truncated(sink, out),
+            NextRecord::End => return finish_all(sink, out.as_slice()),
         }
     }
 }
@@ -137,20 +128,13 @@ fn answer_record<W: Sink>(
 }
 
 /// Writes the bytes that wait, and the line of a script that ends in the middle of a load.
-fn finish_records<W: Sink>(
-    sink: &mut W,
-    out: &mut Vec<u8>,
-    is_truncated: bool,
-) -> Result<(), ScriptFault>
-    ensures { Closes (W.contents sink.old) (W.contents sink.new) (W.failures sink.old) (W.failures sink.new) out.old.items (if is_truncated then written_line (codes "! truncated") else []) result }
+fn finish_truncated<W: Sink>(sink: &mut W, out: &mut Vec<u8>) -> Result<(), ScriptFault>
+    ensures { Closes (W.contents sink.old) (W.contents sink.new) (W.failures sink.old) (W.failures sink.new) out.old.items (written_line (codes "! truncated")) result }
 {
-    if is_truncated {
-        match put_truncated(out) {
-            Ok(()) => (),
-            Err(_) => return Err(stop(sink, out.as_slice())),
-        }
+    match out.extend_from_slice(b"! truncated\n") {
+        Ok(()) => finish_all(sink, out.as_slice()),
+        Err(_) => Err(stop(sink, out.as_slice())),
     }
-    finish_all(sink, out.as_slice())
 }
 
 /// Writes the last bytes.

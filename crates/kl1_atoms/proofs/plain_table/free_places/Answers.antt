@@ -1,11 +1,11 @@
-use Rattle.std.proofs.Common.{◌≡◌, length, None, arith}
-use Rattle.kl1_atoms.proofs.Rows.{all_free}
+use Rattle.std.proofs.Common.{◌≡◌, replicate, vec_len, None, ◌∙◌, arith}
+use Rattle.kl1_atoms.proofs.Rows.{all_same, filled}
 use Rattle.kl1_atoms.proofs.plain_table.free_places.Goals as goal
 
-pub loop-done-preserved : goal.loop-done-preserved
-loop-done-preserved c =
-    let n : length c.loop-done.places.items ≡ c.loop-done._done = c.loop-done.invariant.count in
-    record {
-      count = (let m = c.in_ok-push.ensures.len in omega (arith, m));
-      free = λ i below. rw c.in_ok-push.ensures.items (all_free c.loop-done.places.items None (λ j h. c.loop-done.invariant.free j (omega arith)) i (omega arith));
-    }
+pub returns-clause-count : goal.returns-clause-count
+returns-clause-count c = let l = c.in_ok-resize.ensures.len in let o = c.resize.new.self.ok in omega (arith, l, o)
+
+pub returns-clause-free : goal.returns-clause-free
+returns-clause-free c =
+    let e : c.resize.new.self.items ≡ replicate c.args.count None = c.in_ok-resize.ensures.items ∙ filled c.new-places.result.items c.args.count (vec_len c.new-places.result) None c.new-places.ensures.items c.new-places.ensures.len in
+    λ i below. rw e (all_same c.args.count None i below)

@@ -1,6 +1,6 @@
 use Rattle.std.proofs.Common.{◌∙◌, true, false, refl, sym}
 use Rattle.kl1_lines.specs.Records.{command_of}
-use Rattle.kl1_script.proofs.Endings.{more_done, fails_there, ends_here}
+use Rattle.kl1_script.proofs.Endings.{more_done, fails_there, ends_here, finish_waiting}
 use Rattle.kl1_script.proofs.scripts.answer_each.Goals as goal
 
 pub returns-in-Err : goal.returns-in-Err
@@ -17,8 +17,9 @@ records-preserved g c =
 
 pub returns-in-Truncated : goal.returns-in-Truncated
 returns-in-Truncated g c =
-    ends_here c.finish_records.result (g.W.Sink.contents c.args.sink.now) (g.W.Sink.contents c.records.sink) (g.W.Sink.contents c.finish_records.new.sink) (g.W.Sink.failures c.args.sink.now) (g.W.Sink.failures c.records.sink) (g.W.Sink.failures c.finish_records.new.sink) c.args.accounts.now c.args.first c.args.text.now c.records.rest.now c.records.user c.records.out.items true c.records.invariant.underway c.records.invariant.kept (sym c.in-Truncated.ensures.step) c.finish_records.ensures
+    ends_here c.finish_truncated.result (g.W.Sink.contents c.args.sink.now) (g.W.Sink.contents c.records.sink) (g.W.Sink.contents c.finish_truncated.new.sink) (g.W.Sink.failures c.args.sink.now) (g.W.Sink.failures c.records.sink) (g.W.Sink.failures c.finish_truncated.new.sink) c.args.accounts.now c.args.first c.args.text.now c.records.rest.now c.records.user c.records.out.items true c.records.invariant.underway c.records.invariant.kept (sym c.in-Truncated.ensures.step) c.finish_truncated.ensures
 
 pub returns-in-End : goal.returns-in-End
 returns-in-End g c =
-    ends_here c.finish_records-in-End.result (g.W.Sink.contents c.args.sink.now) (g.W.Sink.contents c.records.sink) (g.W.Sink.contents c.finish_records-in-End.new.sink) (g.W.Sink.failures c.args.sink.now) (g.W.Sink.failures c.records.sink) (g.W.Sink.failures c.finish_records-in-End.new.sink) c.args.accounts.now c.args.first c.args.text.now c.records.rest.now c.records.user c.records.out.items false c.records.invariant.underway c.records.invariant.kept (sym c.in-End.ensures.step) c.finish_records-in-End.ensures
+    let closes = finish_waiting c.finish_all.result (g.W.Sink.contents c.records.sink) (g.W.Sink.contents c.finish_all.new.sink) (g.W.Sink.failures c.records.sink) (g.W.Sink.failures c.finish_all.new.sink) c.records.out.items c.as_slice.result.now c.as_slice.ensures.value c.finish_all.ensures in
+    ends_here c.finish_all.result (g.W.Sink.contents c.args.sink.now) (g.W.Sink.contents c.records.sink) (g.W.Sink.contents c.finish_all.new.sink) (g.W.Sink.failures c.args.sink.now) (g.W.Sink.failures c.records.sink) (g.W.Sink.failures c.finish_all.new.sink) c.args.accounts.now c.args.first c.args.text.now c.records.rest.now c.records.user c.records.out.items false c.records.invariant.underway c.records.invariant.kept (sym c.in-End.ensures.step) closes

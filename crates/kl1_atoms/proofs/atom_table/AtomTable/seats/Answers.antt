@@ -10,8 +10,9 @@ loop-account-preserved c =
     record {
       of = c.next_seat-seat.ensures.of ∙ c.loop-account.invariant.of;
       others = c.next_seat-seat.ensures.left;
-      count = (let m = c.in_ok-push.ensures.len in omega (arith, m));
-      each = λ k seat e. elim (pushed c.loop-account.seats.items c.next_seat-seat.result k seat (rw c.in_ok-push.ensures.items at e)) [
+      room = (let r = c.push_reserved.ensures.capacity in let o = c.loop-account.invariant.room in omega (arith, r, o));
+      count = (let m = c.push_reserved.ensures.len in omega (arith, m));
+      each = λ k seat e. elim (pushed c.loop-account.seats.items c.next_seat-seat.result k seat (rw c.push_reserved.ensures.items at e)) [
         | inl was ↦ c.loop-account.invariant.each k seat was
         | inr is ↦
             subst (λ (s : AtomSeat). IsNewSharedSeat c.args.self.now.table.shared.table_id s.badge.table_id c.args.self.now.accounts (face_in s.badge.views) s.account k) is.1

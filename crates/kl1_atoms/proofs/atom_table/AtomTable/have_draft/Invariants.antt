@@ -2,7 +2,7 @@ use Rattle.std.proofs.Common.{◌≡◌, take}
 use Rattle.kl1_text.specs.Words.{words_of}
 use Rattle.kl1_atoms.specs.Plays.{Steps}
 use Rattle.kl1_atoms.specs.Rounds.{Drafts}
-use Rattle.kl1_atoms.proofs.atom_table.AtomTable.draft_text.Given as goal
+use Rattle.kl1_atoms.proofs.atom_table.AtomTable.have_draft.Given as goal
 
 -- the words so far are drafted
 abbrev pub invariant-loop-word : goal.invariant-loop-word
