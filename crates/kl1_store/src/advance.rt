@@ -58,10 +58,11 @@ fn merged_turn<N: NameValue>(cells: &Cells<N>, merges: &mut Merges, frame: Frame
     ensures merges { merges.new ≡ merges.old }
     ensures turn { IsTurn cells.now.held frame result.left result.right }
 {
-    let sides = turn(cells, frame);
-    let left = merged(cells, merges, sides.left);
-    let right = merged(cells, merges, sides.right);
-    Sides { left, right }
+    let Sides { left, right } = turn(cells, frame);
+    Sides {
+        left: merged(cells, merges, left),
+        right: merged(cells, merges, right),
+    }
 }
 
 /// Takes the waiting equations one after another, until one asks for a binding.
@@ -80,16 +81,24 @@ pub fn advance<N: NameValue>(
     let _ = cells.mark();
     while let Some(frame) = frames.pop() {
         if frame.next >= frame.count {
-            merges.join(frame.left, frame.right)?;
-            continue;
+            match merges.join(frame.left, frame.right) {
+                Ok(()) => continue,
+                Err(error) => return Err(error),
+            }
         }
-        let sides = merged_turn(cells, merges, frame);
-        frames.push(frame.onward())?;
-        match meet(cells, sides.left, sides.right) {
+        let Sides { left, right } = merged_turn(cells, merges, frame);
+        match frames.push(frame.onward()) {
+            Ok(()) => {}
+            Err(_) => return Err(AllocError),
+        }
+        match meet(cells, left, right) {
             Meeting::Same => {}
             Meeting::Clash => return Ok(Next::Never),
             Meeting::Bind(variable, value) => return Ok(Next::Binds(variable, value)),
-            Meeting::Open(inner) => frames.push(inner)?,
+            Meeting::Open(inner) => match frames.push(inner) {
+                Ok(()) => {}
+                Err(_) => return Err(AllocError),
+            },
         }
     }
     Ok(Next::Finished)

@@ -74,7 +74,10 @@ impl<N: NameValue> Cells<N> {
             return Err(AllocError);
         }
         let number = number as u32;
-        self.slots.push(Cell::Variable(number))?;
+        match self.slots.push(Cell::Variable(number)) {
+            Ok(()) => {}
+            Err(_) => return Err(AllocError),
+        }
         Ok(number)
     }
 
@@ -92,8 +95,14 @@ impl<N: NameValue> Cells<N> {
         if number >= MOST || count > MOST || start > MOST - count {
             return Err(AllocError);
         }
-        self.nodes.reserve(1)?;
-        self.arguments.extend_from_slice(arguments)?;
+        match self.nodes.reserve(1) {
+            Ok(()) => {}
+            Err(error) => return Err(error),
+        }
+        match self.arguments.extend_from_slice(arguments) {
+            Ok(()) => {}
+            Err(error) => return Err(error),
+        }
         self.nodes.push_reserved(Node {
             name,
             start: start as u32,
@@ -120,11 +129,19 @@ impl<N: NameValue> Cells<N> {
         {
             return Err(AllocError);
         }
-        self.slots.reserve(variables)?;
-        self.nodes.reserve(structures)?;
-        self.arguments.reserve(arguments)?;
-        self.bindings.reserve(bindings)?;
-        Ok(())
+        match self.slots.reserve(variables) {
+            Ok(()) => {}
+            Err(error) => return Err(error),
+        }
+        match self.nodes.reserve(structures) {
+            Ok(()) => {}
+            Err(error) => return Err(error),
+        }
+        match self.arguments.reserve(arguments) {
+            Ok(()) => {}
+            Err(error) => return Err(error),
+        }
+        self.bindings.reserve(bindings)
     }
 
     /// The variable `variable` is replaced by `value` everywhere.
@@ -139,9 +156,13 @@ impl<N: NameValue> Cells<N> {
         ensures room { 0 < self.old.room.bindings → IsOk result }
         ensures spends { SpendsOnBindings self.old.held self.old.room self.new.held self.new.room }
     {
-        self.bindings.push(Binding { variable, value })?;
-        self.slots[variable as usize] = value;
-        Ok(())
+        match self.bindings.push(Binding { variable, value }) {
+            Ok(()) => {
+                self.slots[variable as usize] = value;
+                Ok(())
+            }
+            Err(_) => Err(AllocError),
+        }
     }
 
     /// What a variable is bound to, or the variable itself.

@@ -1,8 +1,9 @@
 // Two cells side by side, without binding anything.
 
-ghost use Rattle.std.specs.Prelude.{◌≡◌, ℕ, List, IfOk, IsTrue};
+ghost use Rattle.std.specs.Prelude.{◌≡◌, ℕ, true, List, [], ◌∷◌, ◌++◌, IfOk, IsTrue};
 ghost use Rattle.kl1_store.specs.Done.{IsKnown};
 ghost use Rattle.kl1_store.specs.Held.{Held, IsIn, IsWalked};
+ghost use Rattle.kl1_store.specs.Sound.{IsFormed};
 ghost use Rattle.kl1_store.specs.Waiting.{ArePairs};
 ghost use Rattle.kl1_store.specs.Compares.{ComparesAs, ComparedAs};
 
@@ -13,8 +14,19 @@ use crate::frame::Frame;
 use crate::meeting::Meeting;
 use crate::meets::meet;
 use crate::pairs::Pairs;
+use crate::sides::Sides;
 use kl1_text::NameValue;
 use std::alloc::AllocError;
+
+/// Puts a variable on the list of those that are waited for, and says yes.
+fn wait_for(waits: &mut Vec<u32>, variable: u32) -> Result<bool, AllocError>
+    ensures { IfOk result (λ found. (found ≡ true) × (waits.new.items ≡ waits.old.items ++ variable ∷ [])) }
+{
+    match waits.push(variable) {
+        Ok(()) => Ok(true),
+        Err(_) => Err(AllocError),
+    }
+}
 
 /// Looks at two cells that stand for themselves: false where they clash at once.
 fn compare_sides<N: NameValue>(
@@ -24,6 +36,7 @@ fn compare_sides<N: NameValue>(
     left: Cell<N>,
     right: Cell<N>,
 ) -> Result<bool, AllocError>
+    requires formed { IsFormed cells.now.held }
     requires left_in { IsIn cells.now.held left }
     requires right_in { IsIn cells.now.held right }
     requires left_walked { IsWalked cells.now.held left }
@@ -31,35 +44,31 @@ fn compare_sides<N: NameValue>(
     requires pairs { ArePairs cells.now.held frames.old.items }
     ensures { IfOk result (ComparesAs N.built cells.now.held left right frames.old.items frames.new.items waits.old.items waits.new.items) }
 {
-    let _ = cells.mark();
     if let Some(variable) = left.variable() {
         match right.variable() {
             Some(other) => {
-                if variable != other {
-                    waits.push(variable)?;
-                    waits.push(other)?;
+                if variable == other {
                     return Ok(true);
                 }
-                return Ok(true);
+                match waits.push(variable) {
+                    Ok(()) => return wait_for(waits, other),
+                    Err(_) => return Err(AllocError),
+                }
             }
-            None => {
-                waits.push(variable)?;
-                return Ok(true);
-            }
+            None => return wait_for(waits, variable),
         }
     }
     if let Some(variable) = right.variable() {
-        waits.push(variable)?;
-        return Ok(true);
+        return wait_for(waits, variable);
     }
     match meet(cells, left, right) {
         Meeting::Same => Ok(true),
         Meeting::Clash => Ok(false),
         Meeting::Bind(_, _) => Ok(false),
-        Meeting::Open(frame) => {
-            frames.push(frame)?;
-            Ok(true)
-        }
+        Meeting::Open(frame) => match frames.push(frame) {
+            Ok(()) => Ok(true),
+            Err(_) => Err(AllocError),
+        },
     }
 }
 
@@ -94,21 +103,30 @@ pub fn compare<N: NameValue>(
     pairs.clear();
     let first = cells.walk(left);
     let second = cells.walk(right);
-    if !compare_sides(cells, frames, waits, first, second)? {
-        return Ok(false);
+    match compare_sides(cells, frames, waits, first, second) {
+        Ok(true) => {}
+        Ok(false) => return Ok(false),
+        Err(error) => return Err(error),
     }
     while let Some(frame) = frames.pop() {
         if frame.next >= frame.count {
-            pairs.add(frame.left, frame.right)?;
+            match pairs.add(frame.left, frame.right) {
+                Ok(()) => continue,
+                Err(error) => return Err(error),
+            }
+        }
+        let Sides { left, right } = turn(cells, frame);
+        match frames.push(frame.onward()) {
+            Ok(()) => {}
+            Err(_) => return Err(AllocError),
+        }
+        if is_known(pairs, left, right) {
             continue;
         }
-        let sides = turn(cells, frame);
-        frames.push(frame.onward())?;
-        if is_known(pairs, sides.left, sides.right) {
-            continue;
-        }
-        if !compare_sides(cells, frames, waits, sides.left, sides.right)? {
-            return Ok(false);
+        match compare_sides(cells, frames, waits, left, right) {
+            Ok(true) => {}
+            Ok(false) => return Ok(false),
+            Err(error) => return Err(error),
         }
     }
     Ok(true)

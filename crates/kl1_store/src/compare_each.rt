@@ -28,10 +28,11 @@ fn compare_with<N: NameValue>(
     let mut rest = others;
     while let [other, more @ ..] = rest {
         let other = *other;
-        if !compare(cells, frames, pairs, waits, cell, other)? {
-            return Ok(false);
+        match compare(cells, frames, pairs, waits, cell, other) {
+            Ok(true) => rest = more,
+            Ok(false) => return Ok(false),
+            Err(error) => return Err(error),
         }
-        rest = more;
     }
     Ok(true)
 }
@@ -50,10 +51,11 @@ pub fn compare_each<N: NameValue>(
     let mut rest = terms;
     while let [first, more @ ..] = rest {
         let first = *first;
-        if !compare_with(cells, frames, pairs, waits, first, more)? {
-            return Ok(false);
+        match compare_with(cells, frames, pairs, waits, first, more) {
+            Ok(true) => rest = more,
+            Ok(false) => return Ok(false),
+            Err(error) => return Err(error),
         }
-        rest = more;
     }
     Ok(true)
 }

@@ -90,7 +90,10 @@ fn set_level(levels: &mut Vec<u64>, number: u32, level: u64) -> Result<(), Alloc
 {
     let index = number as usize;
     if index >= levels.len() {
-        levels.resize(index + 1, 0)?;
+        match levels.resize(index + 1, 0) {
+            Ok(()) => {}
+            Err(error) => return Err(error),
+        }
     }
     levels[index] = level;
     Ok(())

@@ -3,6 +3,7 @@
 ghost use Rattle.std.specs.Prelude.{◌≡◌, ◌<◌, ◌≤◌, ◌++◌, length, OnOk};
 ghost use Rattle.kl1_store.specs.Held.{arguments_of, IsIn};
 ghost use Rattle.kl1_store.specs.Levels.{AreLevels};
+ghost use Rattle.kl1_store.specs.Sound.{IsFormed};
 ghost use Rattle.kl1_store.specs.Tasks.{AreTasks, tasks_of, Lifts, Lifted};
 
 use crate::cell::Cell;
@@ -25,7 +26,10 @@ fn push_arguments<N: NameValue>(
     let count = cells.head(structure).count;
     for index in 0..count {
         let cell = cells.argument(structure, index);
-        tasks.push(Task { cell, level })?;
+        match tasks.push(Task { cell, level }) {
+            Ok(()) => {}
+            Err(_) => return Err(AllocError),
+        }
     }
     Ok(())
 }
@@ -49,21 +53,26 @@ fn lift_variable<N: NameValue>(
     variable: u32,
     level: u64,
 ) -> Result<(), AllocError>
+    requires formed { IsFormed cells.now.held }
     requires inside { variable < cells.now.held.variables }
     requires tasks { AreTasks cells.now.held tasks.old.items }
     ensures { OnOk result (Lifts cells.now.held (Cell.Variable variable) level levels.old levels.new tasks.old.items tasks.new.items) }
 {
-    let _ = cells.mark();
     if levels.of_variable(variable) >= level {
         return Ok(());
     }
-    levels.set_variable(variable, level)?;
+    match levels.set_variable(variable, level) {
+        Ok(()) => {}
+        Err(error) => return Err(error),
+    }
     let next = cells.slot(variable);
     if next.is_variable(variable) {
         return Ok(());
     }
-    tasks.push(Task { cell: next, level })?;
-    Ok(())
+    match tasks.push(Task { cell: next, level }) {
+        Ok(()) => Ok(()),
+        Err(_) => Err(AllocError),
+    }
 }
 
 /// Lifts a structure; its arguments are put on the list.
@@ -74,19 +83,20 @@ fn lift_structure<N: NameValue>(
     structure: u32,
     level: u64,
 ) -> Result<(), AllocError>
+    requires formed { IsFormed cells.now.held }
     requires inside { structure < length cells.now.held.structures }
     requires tasks { AreTasks cells.now.held tasks.old.items }
     ensures { OnOk result (Lifts cells.now.held (Cell.Structure structure) level levels.old levels.new tasks.old.items tasks.new.items) }
 {
-    let _ = cells.mark();
     let old = levels.of_structure(structure);
     if old >= level {
         return Ok(());
     }
     let new = higher(old, level);
-    levels.set_structure(structure, new)?;
-    push_arguments(cells, tasks, structure, new)?;
-    Ok(())
+    match levels.set_structure(structure, new) {
+        Ok(()) => push_arguments(cells, tasks, structure, new),
+        Err(error) => Err(error),
+    }
 }
 
 /// Lifts one cell; what is right below it is put on the list.
@@ -97,6 +107,7 @@ fn lift_one<N: NameValue>(
     cell: Cell<N>,
     level: u64,
 ) -> Result<(), AllocError>
+    requires formed { IsFormed cells.now.held }
     requires inside { IsIn cells.now.held cell }
     requires tasks { AreTasks cells.now.held tasks.old.items }
     ensures { OnOk result (Lifts cells.now.held cell level levels.old levels.new tasks.old.items tasks.new.items) }
@@ -117,15 +128,22 @@ pub fn lift<N: NameValue>(
     cell: Cell<N>,
     level: u64,
 ) -> Result<(), AllocError>
+    requires formed { IsFormed cells.now.held }
     requires inside { IsIn cells.now.held cell }
     requires levels { AreLevels cells.now.held levels.old }
     ensures levels { OnOk result (AreLevels cells.now.held levels.new) }
     ensures lifted { OnOk result (Lifted cells.now.held cell level levels.old levels.new) }
 {
     tasks.clear();
-    tasks.push(Task { cell, level })?;
+    match tasks.push(Task { cell, level }) {
+        Ok(()) => {}
+        Err(_) => return Err(AllocError),
+    }
     while let Some(task) = tasks.pop() {
-        lift_one(cells, levels, tasks, task.cell, task.level)?;
+        match lift_one(cells, levels, tasks, task.cell, task.level) {
+            Ok(()) => {}
+            Err(error) => return Err(error),
+        }
     }
     Ok(())
 }

@@ -14,13 +14,13 @@ use kl1_text::NameValue;
 
 /// What an equation of two cells leads to, neither of them a bound variable.
 pub fn meet<N: NameValue>(cells: &Cells<N>, left: Cell<N>, right: Cell<N>) -> Meeting<N>
+    requires formed { IsFormed cells.now.held }
     requires left_in { IsIn cells.now.held left }
     requires right_in { IsIn cells.now.held right }
     requires left_walked { IsWalked cells.now.held left }
     requires right_walked { IsWalked cells.now.held right }
     ensures { MeetsAs N.built cells.now.held left right result }
 {
-    let _ = cells.mark();
     if let Some(variable) = left.variable() {
         return match right.variable() {
             Some(other) => two_variables(cells, variable, other),
@@ -39,13 +39,13 @@ pub fn meet<N: NameValue>(cells: &Cells<N>, left: Cell<N>, right: Cell<N>) -> Me
 }
 
 fn two_variables<N: NameValue>(cells: &Cells<N>, left: u32, right: u32) -> Meeting<N>
+    requires formed { IsFormed cells.now.held }
     requires left_in { left < cells.now.held.variables }
     requires right_in { right < cells.now.held.variables }
     requires left_walked { is_bound left cells.now.held.bindings ≡ false }
     requires right_walked { is_bound right cells.now.held.bindings ≡ false }
     ensures { MeetsAs N.built cells.now.held (Cell.Variable left) (Cell.Variable right) result }
 {
-    let _ = cells.mark();
     if left == right {
         return Meeting::Same;
     }
@@ -56,11 +56,11 @@ fn two_variables<N: NameValue>(cells: &Cells<N>, left: u32, right: u32) -> Meeti
 }
 
 fn meet_integer<N: NameValue>(cells: &Cells<N>, left: i64, right: Cell<N>) -> Meeting<N>
+    requires formed { IsFormed cells.now.held }
     requires right_in { IsIn cells.now.held right }
     requires value { IsNoVariable right }
     ensures { MeetsAs N.built cells.now.held (Cell.Integer left) right result }
 {
-    let _ = cells.mark();
     match right {
         Cell::Integer(other) => {
             if left == other {
@@ -75,11 +75,11 @@ fn meet_integer<N: NameValue>(cells: &Cells<N>, left: i64, right: Cell<N>) -> Me
 }
 
 fn meet_atom<N: NameValue>(cells: &Cells<N>, left: N, right: Cell<N>) -> Meeting<N>
+    requires formed { IsFormed cells.now.held }
     requires right_in { IsIn cells.now.held right }
     requires value { IsNoVariable right }
     ensures { MeetsAs N.built cells.now.held (Cell.Atom left) right result }
 {
-    let _ = cells.mark();
     match right {
         Cell::Integer(_) => Meeting::Clash,
         Cell::Atom(other) => {
@@ -94,12 +94,12 @@ fn meet_atom<N: NameValue>(cells: &Cells<N>, left: N, right: Cell<N>) -> Meeting
 }
 
 fn meet_structure<N: NameValue>(cells: &Cells<N>, left: u32, right: Cell<N>) -> Meeting<N>
+    requires formed { IsFormed cells.now.held }
     requires left_in { left < length cells.now.held.structures }
     requires right_in { IsIn cells.now.held right }
     requires value { IsNoVariable right }
     ensures { MeetsAs N.built cells.now.held (Cell.Structure left) right result }
 {
-    let _ = cells.mark();
     match right {
         Cell::Integer(_) => Meeting::Clash,
         Cell::Atom(_) => Meeting::Clash,

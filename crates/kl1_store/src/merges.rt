@@ -63,12 +63,10 @@ impl Merges {
         let first = find_root(&mut self.parents, left);
         let second = find_root(&mut self.parents, right);
         if first < second {
-            link(&mut self.parents, &mut self.merges, second, first)?;
-            return Ok(());
+            return link(&mut self.parents, &mut self.merges, second, first);
         }
         if second < first {
-            link(&mut self.parents, &mut self.merges, first, second)?;
-            return Ok(());
+            return link(&mut self.parents, &mut self.merges, first, second);
         }
         Ok(())
     }
@@ -123,7 +121,10 @@ fn fill(parents: &mut Vec<u32>, structure: u32) -> Result<(), AllocError>
 {
     while parents.len() <= structure as usize {
         let number = parents.len() as u32;
-        parents.push(number)?;
+        match parents.push(number) {
+            Ok(()) => {}
+            Err(_) => return Err(AllocError),
+        }
     }
     Ok(())
 }
@@ -140,8 +141,15 @@ fn link(
     ensures parents { AreParents parents.new.items merges.new.items }
     ensures merges { OnOk result ((S : ℕ → Term) → Respects S merges.old.items → S from ≡ S to → Respects S merges.new.items) }
 {
-    fill(parents, from)?;
-    merges.push(Merge { from, to })?;
-    parents[from as usize] = to;
-    Ok(())
+    match fill(parents, from) {
+        Ok(()) => {}
+        Err(error) => return Err(error),
+    }
+    match merges.push(Merge { from, to }) {
+        Ok(()) => {
+            parents[from as usize] = to;
+            Ok(())
+        }
+        Err(_) => Err(AllocError),
+    }
 }

@@ -61,10 +61,15 @@ impl Pairs {
         ensures { OnOk result (self.new ≡ self.old ++ record { left = left; right = right } ∷ []) }
     {
         if self.pairs.len() >= self.firsts.len() {
-            spread(&mut self.firsts, &mut self.nexts, &self.pairs)?;
+            match spread(&mut self.firsts, &mut self.nexts, &self.pairs) {
+                Ok(()) => {}
+                Err(error) => return Err(error),
+            }
         }
-        self.pairs.push(Pair { left, right })?;
-        list(&mut self.firsts, &mut self.nexts, left, right)
+        match self.pairs.push(Pair { left, right }) {
+            Ok(()) => list(&mut self.firsts, &mut self.nexts, left, right),
+            Err(_) => Err(AllocError),
+        }
     }
 }
 
@@ -116,9 +121,13 @@ fn list(
         return Err(AllocError);
     }
     let list = list_of(left, right, firsts.len());
-    nexts.push(firsts[list])?;
-    firsts[list] = place as u32 + 1;
-    Ok(())
+    match nexts.push(firsts[list]) {
+        Ok(()) => {
+            firsts[list] = place as u32 + 1;
+            Ok(())
+        }
+        Err(_) => Err(AllocError),
+    }
 }
 
 /// Makes more lists, and puts the pairs in them again.
@@ -132,10 +141,16 @@ fn spread(
         return Err(AllocError);
     }
     firsts.clear();
-    firsts.resize(count * 2, 0)?;
+    match firsts.resize(count * 2, 0) {
+        Ok(()) => {}
+        Err(error) => return Err(error),
+    }
     nexts.clear();
     for pair in pairs.as_slice() {
-        list(firsts, nexts, pair.left, pair.right)?;
+        match list(firsts, nexts, pair.left, pair.right) {
+            Ok(()) => {}
+            Err(error) => return Err(error),
+        }
     }
     Ok(())
 }

@@ -149,14 +149,16 @@ impl<N: NameValue> Store<N> {
         ensures hook_room { self.new.hook_room ≡ self.old.hook_room }
     {
         let mut waits = Vec::new(self.alloc);
-        if !compare_each(
+        match compare_each(
             &self.cells,
             &mut self.scratch.frames,
             &mut self.scratch.pairs,
             &mut waits,
             terms,
-        )? {
-            return Ok(Same::No);
+        ) {
+            Ok(true) => {}
+            Ok(false) => return Ok(Same::No),
+            Err(error) => return Err(error),
         }
         if waits.is_empty() {
             return Ok(Same::Yes);
@@ -189,8 +191,7 @@ impl<N: NameValue> Store<N> {
         ensures hooks { self.new.hooks ≡ self.old.hooks }
         ensures room { self.new.room ≡ self.old.room }
     {
-        self.hooks.reserve(hooks)?;
-        Ok(())
+        self.hooks.reserve(hooks)
     }
 
     /// Whether a cell is of this store.
@@ -224,8 +225,10 @@ impl<N: NameValue> Store<N> {
         ensures hook_room { self.old.hook_room ≤ self.new.hook_room + 1 }
         ensures cells_room { self.new.room ≡ self.old.room }
     {
-        self.hooks.push(Hook { variable, number })?;
-        Ok(())
+        match self.hooks.push(Hook { variable, number }) {
+            Ok(()) => Ok(()),
+            Err(_) => Err(AllocError),
+        }
     }
 
     /// Adds the numbers that hang on the variables that were bound since a point, in the order of the bindings.
@@ -233,8 +236,7 @@ impl<N: NameValue> Store<N> {
         ensures { OnOk result (told.new.items ≡ told.old.items ++ told_by (drop since.sizes.bindings self.now.held.bindings) self.now.hooks) }
     {
         let bindings = self.cells.bindings_from(since.sizes.bindings);
-        tell_all(bindings, self.hooks.as_slice(), told)?;
-        Ok(())
+        tell_all(bindings, self.hooks.as_slice(), told)
     }
 
     /// How much is kept now.

@@ -14,7 +14,10 @@ fn tell_one(variable: u32, hooks: &[Hook], told: &mut Vec<u32>) -> Result<(), Al
     let mut rest = hooks;
     while let [first, more @ ..] = rest {
         if first.variable == variable {
-            told.push(first.number)?;
+            match told.push(first.number) {
+                Ok(()) => {}
+                Err(_) => return Err(AllocError),
+            }
         }
         rest = more;
     }
@@ -31,7 +34,10 @@ pub fn tell_all<N: Copy>(
 {
     let mut rest = bindings;
     while let [first, more @ ..] = rest {
-        tell_one(first.variable, hooks, told)?;
+        match tell_one(first.variable, hooks, told) {
+            Ok(()) => {}
+            Err(error) => return Err(error),
+        }
         rest = more;
     }
     Ok(())

@@ -12,12 +12,12 @@ use Rattle.kl1_store.proofs.meets.meet.Goals as goal
 pub returns-in-None : goal.returns-in-None
 returns-in-None g c =
     let r = c.requires in
-    takes_left_at c.args.cells.now.held c.args.left c.args.right c.in-Some.variable c.in-Some.ensures c.mark.ensures.formed r.left_in r.left_walked r.right_in c.in-None.ensures
+    takes_left_at c.args.cells.now.held c.args.left c.args.right c.in-Some.variable c.in-Some.ensures c.requires.formed r.left_in r.left_walked r.right_in c.in-None.ensures
 
 pub returns-in-Some-variable-2 : goal.returns-in-Some-variable-2
 returns-in-Some-variable-2 g c =
     let r = c.requires in
-    takes_right_at c.args.cells.now.held c.args.left c.args.right c.in-Some-variable-2.variable c.in-Some-variable-2.ensures c.mark.ensures.formed r.right_in r.right_walked r.left_in c.in_default.ensures
+    takes_right_at c.args.cells.now.held c.args.left c.args.right c.in-Some-variable-2.variable c.in-Some-variable-2.ensures c.requires.formed r.right_in r.right_walked r.left_in c.in_default.ensures
 
 pub returns-in-Atom : goal.returns-in-Atom
 returns-in-Atom g c =

@@ -10,7 +10,7 @@ use Rattle.kl1_store.proofs.meets.meet_atom.Goals as goal
 pub returns-in-Integer : goal.returns-in-Integer
 returns-in-Integer g c =
     let k = ap kind c.in-Integer.is in
-    kinds_clash g.N.NameValue.built c.args.cells.now.held (Atom c.args.left) c.args.right c.mark.ensures.formed tt c.requires.right_in tt c.requires.value (λ e. omega (arith, e, k))
+    kinds_clash g.N.NameValue.built c.args.cells.now.held (Atom c.args.left) c.args.right c.requires.formed tt c.requires.right_in tt c.requires.value (λ e. omega (arith, e, k))
 
 pub returns-else-same : goal.returns-else-same
 returns-else-same g c =
@@ -20,4 +20,4 @@ returns-else-same g c =
 pub returns-in-Structure : goal.returns-in-Structure
 returns-in-Structure g c =
     let k = ap kind c.in-Structure.is in
-    kinds_clash g.N.NameValue.built c.args.cells.now.held (Atom c.args.left) c.args.right c.mark.ensures.formed tt c.requires.right_in tt c.requires.value (λ e. omega (arith, e, k))
+    kinds_clash g.N.NameValue.built c.args.cells.now.held (Atom c.args.left) c.args.right c.requires.formed tt c.requires.right_in tt c.requires.value (λ e. omega (arith, e, k))

@@ -16,9 +16,9 @@ returns-else-left-other g c =
 pub returns-in-Atom : goal.returns-in-Atom
 returns-in-Atom g c =
     let k = ap kind c.in-Atom.is in
-    kinds_clash g.N.NameValue.built c.args.cells.now.held (Integer c.args.left) c.args.right c.mark.ensures.formed tt c.requires.right_in tt c.requires.value (λ e. omega (arith, e, k))
+    kinds_clash g.N.NameValue.built c.args.cells.now.held (Integer c.args.left) c.args.right c.requires.formed tt c.requires.right_in tt c.requires.value (λ e. omega (arith, e, k))
 
 pub returns-in-Structure : goal.returns-in-Structure
 returns-in-Structure g c =
     let k = ap kind c.in-Structure.is in
-    kinds_clash g.N.NameValue.built c.args.cells.now.held (Integer c.args.left) c.args.right c.mark.ensures.formed tt c.requires.right_in tt c.requires.value (λ e. omega (arith, e, k))
+    kinds_clash g.N.NameValue.built c.args.cells.now.held (Integer c.args.left) c.args.right c.requires.formed tt c.requires.right_in tt c.requires.value (λ e. omega (arith, e, k))
