@@ -8,7 +8,7 @@ ghost use Rattle.kl1_store.specs.Tasks.{AreTasks, tasks_of, Lifts, Lifted};
 
 use crate::cell::Cell;
 use crate::cells::Cells;
-use crate::levels::Levels;
+use crate::levels::{Levels, level_of, set_level};
 use crate::task::Task;
 use kl1_text::NameValue;
 use std::alloc::AllocError;
@@ -34,17 +34,6 @@ fn push_arguments<N: NameValue>(
     Ok(())
 }
 
-/// The level for a structure that is to lie at `level` or above it: twice its old one, so that it is seldom lifted.
-fn higher(old: u64, level: u64) -> u64
-    ensures { level ≤ result }
-{
-    let twice = old.saturating_mul(2);
-    if twice < level {
-        return level;
-    }
-    twice
-}
-
 /// Lifts a variable; what it was bound to is put on the list.
 fn lift_variable<N: NameValue>(
     cells: &Cells<N>,
@@ -58,10 +47,10 @@ fn lift_variable<N: NameValue>(
     requires tasks { AreTasks cells.now.held tasks.old.items }
     ensures { OnOk result (Lifts cells.now.held (Cell.Variable variable) level levels.old levels.new tasks.old.items tasks.new.items) }
 {
-    if levels.of_variable(variable) >= level {
+    if level_of(&levels.variables, variable) >= level {
         return Ok(());
     }
-    match levels.set_variable(variable, level) {
+    match set_level(&mut levels.variables, variable, level) {
         Ok(()) => {}
         Err(error) => return Err(error),
     }
@@ -75,7 +64,7 @@ fn lift_variable<N: NameValue>(
     }
 }
 
-/// Lifts a structure; its arguments are put on the list.
+/// Lifts a structure to twice its old level at least, so that it is seldom lifted; its arguments are put on the list.
 fn lift_structure<N: NameValue>(
     cells: &Cells<N>,
     levels: &mut Levels,
@@ -88,12 +77,12 @@ fn lift_structure<N: NameValue>(
     requires tasks { AreTasks cells.now.held tasks.old.items }
     ensures { OnOk result (Lifts cells.now.held (Cell.Structure structure) level levels.old levels.new tasks.old.items tasks.new.items) }
 {
-    let old = levels.of_structure(structure);
+    let old = level_of(&levels.structures, structure);
     if old >= level {
         return Ok(());
     }
-    let new = higher(old, level);
-    match levels.set_structure(structure, new) {
+    let new = old.saturating_mul(2).max(level);
+    match set_level(&mut levels.structures, structure, new) {
         Ok(()) => push_arguments(cells, tasks, structure, new),
         Err(error) => Err(error),
     }

@@ -72,17 +72,6 @@ impl Merges {
     }
 }
 
-/// What a structure leads to.
-fn parent(parents: &Vec<u32>, structure: u32) -> u32
-    ensures { result ≡ get_or parents.now.items structure structure }
-{
-    let index = structure as usize;
-    if index < parents.len() {
-        return parents[index];
-    }
-    structure
-}
-
 /// The structure at the end of the way; the way is shortened.
 fn find_root(parents: &mut Vec<u32>, structure: u32) -> u32
     ensures { (ms : List Merge) → AreParents parents.old.items ms → FindsRoot parents.new.items ms structure result }
@@ -93,7 +82,7 @@ fn find_root(parents: &mut Vec<u32>, structure: u32) -> u32
         if next >= at {
             return at;
         }
-        let over = parent(parents, next);
+        let over = parents[next as usize];
         parents[at as usize] = over;
         at = next;
     }

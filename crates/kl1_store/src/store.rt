@@ -15,6 +15,8 @@ use crate::compare_each::compare_each;
 use crate::head::Head;
 use crate::hook::Hook;
 use crate::levels::Levels;
+use crate::merges::Merges;
+use crate::pairs::Pairs;
 use crate::point::Point;
 use crate::same::Same;
 use crate::scratch::Scratch;
@@ -60,8 +62,16 @@ impl<N: NameValue> Store<N> {
     {
         Store {
             cells: Cells::new(alloc),
-            levels: Levels::new(alloc),
-            scratch: Scratch::new(alloc),
+            levels: Levels {
+                variables: Vec::new(alloc),
+                structures: Vec::new(alloc),
+            },
+            scratch: Scratch {
+                frames: Vec::new(alloc),
+                merges: Merges::new(alloc),
+                pairs: Pairs::new(alloc),
+                tasks: Vec::new(alloc),
+            },
             hooks: Vec::new(alloc),
             alloc,
         }
