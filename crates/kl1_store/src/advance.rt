@@ -81,24 +81,16 @@ pub fn advance<N: NameValue>(
     let _ = cells.mark();
     while let Some(frame) = frames.pop() {
         if frame.next >= frame.count {
-            match merges.join(frame.left, frame.right) {
-                Ok(()) => continue,
-                Err(error) => return Err(error),
-            }
+            merges.join(frame.left, frame.right)?;
+            continue;
         }
         let Sides { left, right } = merged_turn(cells, merges, frame);
-        match frames.push(frame.onward()) {
-            Ok(()) => {}
-            Err(_) => return Err(AllocError),
-        }
+        frames.push(frame.onward())?;
         match meet(cells, left, right) {
             Meeting::Same => {}
             Meeting::Clash => return Ok(Next::Never),
             Meeting::Bind(variable, value) => return Ok(Next::Binds(variable, value)),
-            Meeting::Open(inner) => match frames.push(inner) {
-                Ok(()) => {}
-                Err(_) => return Err(AllocError),
-            },
+            Meeting::Open(inner) => frames.push(inner)?,
         }
     }
     Ok(Next::Finished)

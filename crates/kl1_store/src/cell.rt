@@ -2,21 +2,13 @@
 
 ghost use Rattle.std.specs.Prelude.{◌≡◌, Decides, MatchOption};
 
-use std::alloc::AllocError;
-
 /// A term in a store: a constant, or the number of a variable or a structure, both from 0.
-#[derive(Copy)]
+#[derive(Clone, Copy)]
 pub enum Cell<N> {
     Variable(u32),
     Integer(i64),
     Atom(N),
     Structure(u32),
-}
-
-impl<N: Copy> Clone for Cell<N> {
-    fn clone(&self) -> Result<Self, AllocError> {
-        Ok(*self)
-    }
 }
 
 impl<N> Cell<N> {

@@ -74,10 +74,7 @@ impl<N: NameValue> Cells<N> {
             return Err(AllocError);
         }
         let number = number as u32;
-        match self.slots.push(Cell::Variable(number)) {
-            Ok(()) => {}
-            Err(_) => return Err(AllocError),
-        }
+        self.slots.push(Cell::Variable(number))?;
         Ok(number)
     }
 
@@ -95,14 +92,8 @@ impl<N: NameValue> Cells<N> {
         if number >= MOST || count > MOST || start > MOST - count {
             return Err(AllocError);
         }
-        match self.nodes.reserve(1) {
-            Ok(()) => {}
-            Err(error) => return Err(error),
-        }
-        match self.arguments.extend_from_slice(arguments) {
-            Ok(()) => {}
-            Err(error) => return Err(error),
-        }
+        self.nodes.reserve(1)?;
+        self.arguments.extend_from_slice(arguments)?;
         self.nodes.push_reserved(Node {
             name,
             start: start as u32,
@@ -129,18 +120,9 @@ impl<N: NameValue> Cells<N> {
         {
             return Err(AllocError);
         }
-        match self.slots.reserve(variables) {
-            Ok(()) => {}
-            Err(error) => return Err(error),
-        }
-        match self.nodes.reserve(structures) {
-            Ok(()) => {}
-            Err(error) => return Err(error),
-        }
-        match self.arguments.reserve(arguments) {
-            Ok(()) => {}
-            Err(error) => return Err(error),
-        }
+        self.slots.reserve(variables)?;
+        self.nodes.reserve(structures)?;
+        self.arguments.reserve(arguments)?;
         self.bindings.reserve(bindings)
     }
 
@@ -156,13 +138,9 @@ impl<N: NameValue> Cells<N> {
         ensures room { 0 < self.old.room.bindings → IsOk result }
         ensures spends { SpendsOnBindings self.old.held self.old.room self.new.held self.new.room }
     {
-        match self.bindings.push(Binding { variable, value }) {
-            Ok(()) => {
-                self.slots[variable as usize] = value;
-                Ok(())
-            }
-            Err(_) => Err(AllocError),
-        }
+        self.bindings.push(Binding { variable, value })?;
+        self.slots[variable as usize] = value;
+        Ok(())
     }
 
     /// What a variable is bound to, or the variable itself.

@@ -22,10 +22,8 @@ use std::alloc::AllocError;
 fn wait_for(waits: &mut Vec<u32>, variable: u32) -> Result<bool, AllocError>
     ensures { IfOk result (λ found. (found ≡ true) × (waits.new.items ≡ waits.old.items ++ variable ∷ [])) }
 {
-    match waits.push(variable) {
-        Ok(()) => Ok(true),
-        Err(_) => Err(AllocError),
-    }
+    waits.push(variable)?;
+    Ok(true)
 }
 
 /// Looks at two cells that stand for themselves: false where they clash at once.
@@ -50,10 +48,8 @@ fn compare_sides<N: NameValue>(
                 if variable == other {
                     return Ok(true);
                 }
-                match waits.push(variable) {
-                    Ok(()) => return wait_for(waits, other),
-                    Err(_) => return Err(AllocError),
-                }
+                waits.push(variable)?;
+                return wait_for(waits, other);
             }
             None => return wait_for(waits, variable),
         }
@@ -65,10 +61,10 @@ fn compare_sides<N: NameValue>(
         Meeting::Same => Ok(true),
         Meeting::Clash => Ok(false),
         Meeting::Bind(_, _) => Ok(false),
-        Meeting::Open(frame) => match frames.push(frame) {
-            Ok(()) => Ok(true),
-            Err(_) => Err(AllocError),
-        },
+        Meeting::Open(frame) => {
+            frames.push(frame)?;
+            Ok(true)
+        }
     }
 }
 
@@ -103,30 +99,21 @@ pub fn compare<N: NameValue>(
     pairs.clear();
     let first = cells.walk(left);
     let second = cells.walk(right);
-    match compare_sides(cells, frames, waits, first, second) {
-        Ok(true) => {}
-        Ok(false) => return Ok(false),
-        Err(error) => return Err(error),
+    if !compare_sides(cells, frames, waits, first, second)? {
+        return Ok(false);
     }
     while let Some(frame) = frames.pop() {
         if frame.next >= frame.count {
-            match pairs.add(frame.left, frame.right) {
-                Ok(()) => continue,
-                Err(error) => return Err(error),
-            }
+            pairs.add(frame.left, frame.right)?;
+            continue;
         }
         let Sides { left, right } = turn(cells, frame);
-        match frames.push(frame.onward()) {
-            Ok(()) => {}
-            Err(_) => return Err(AllocError),
-        }
+        frames.push(frame.onward())?;
         if is_known(pairs, left, right) {
             continue;
         }
-        match compare_sides(cells, frames, waits, left, right) {
-            Ok(true) => {}
-            Ok(false) => return Ok(false),
-            Err(error) => return Err(error),
+        if !compare_sides(cells, frames, waits, left, right)? {
+            return Ok(false);
         }
     }
     Ok(true)

@@ -28,11 +28,10 @@ fn compare_with<N: NameValue>(
     let mut rest = others;
     while let [other, more @ ..] = rest {
         let other = *other;
-        match compare(cells, frames, pairs, waits, cell, other) {
-            Ok(true) => rest = more,
-            Ok(false) => return Ok(false),
-            Err(error) => return Err(error),
+        if !compare(cells, frames, pairs, waits, cell, other)? {
+            return Ok(false);
         }
+        rest = more;
     }
     Ok(true)
 }
@@ -51,11 +50,10 @@ pub fn compare_each<N: NameValue>(
     let mut rest = terms;
     while let [first, more @ ..] = rest {
         let first = *first;
-        match compare_with(cells, frames, pairs, waits, first, more) {
-            Ok(true) => rest = more,
-            Ok(false) => return Ok(false),
-            Err(error) => return Err(error),
+        if !compare_with(cells, frames, pairs, waits, first, more)? {
+            return Ok(false);
         }
+        rest = more;
     }
     Ok(true)
 }

@@ -40,10 +40,7 @@ pub fn set_level(levels: &mut Vec<u64>, number: u32, level: u64) -> Result<(), A
 {
     let index = number as usize;
     if index >= levels.len() {
-        match levels.resize(index + 1, 0) {
-            Ok(()) => {}
-            Err(error) => return Err(error),
-        }
+        levels.resize(index + 1, 0)?;
     }
     levels[index] = level;
     Ok(())

@@ -26,10 +26,7 @@ fn push_arguments<N: NameValue>(
     let count = cells.head(structure).count;
     for index in 0..count {
         let cell = cells.argument(structure, index);
-        match tasks.push(Task { cell, level }) {
-            Ok(()) => {}
-            Err(_) => return Err(AllocError),
-        }
+        tasks.push(Task { cell, level })?;
     }
     Ok(())
 }
@@ -50,18 +47,13 @@ fn lift_variable<N: NameValue>(
     if level_of(&levels.variables, variable) >= level {
         return Ok(());
     }
-    match set_level(&mut levels.variables, variable, level) {
-        Ok(()) => {}
-        Err(error) => return Err(error),
-    }
+    set_level(&mut levels.variables, variable, level)?;
     let next = cells.slot(variable);
     if next.is_variable(variable) {
         return Ok(());
     }
-    match tasks.push(Task { cell: next, level }) {
-        Ok(()) => Ok(()),
-        Err(_) => Err(AllocError),
-    }
+    tasks.push(Task { cell: next, level })?;
+    Ok(())
 }
 
 /// Lifts a structure to twice its old level at least, so that it is seldom lifted; its arguments are put on the list.
@@ -82,10 +74,8 @@ fn lift_structure<N: NameValue>(
         return Ok(());
     }
     let new = old.saturating_mul(2).max(level);
-    match set_level(&mut levels.structures, structure, new) {
-        Ok(()) => push_arguments(cells, tasks, structure, new),
-        Err(error) => Err(error),
-    }
+    set_level(&mut levels.structures, structure, new)?;
+    push_arguments(cells, tasks, structure, new)
 }
 
 /// Lifts one cell; what is right below it is put on the list.
@@ -124,15 +114,9 @@ pub fn lift<N: NameValue>(
     ensures lifted { OnOk result (Lifted cells.now.held cell level levels.old levels.new) }
 {
     tasks.clear();
-    match tasks.push(Task { cell, level }) {
-        Ok(()) => {}
-        Err(_) => return Err(AllocError),
-    }
+    tasks.push(Task { cell, level })?;
     while let Some(task) = tasks.pop() {
-        match lift_one(cells, levels, tasks, task.cell, task.level) {
-            Ok(()) => {}
-            Err(error) => return Err(error),
-        }
+        lift_one(cells, levels, tasks, task.cell, task.level)?;
     }
     Ok(())
 }

@@ -110,10 +110,7 @@ fn fill(parents: &mut Vec<u32>, structure: u32) -> Result<(), AllocError>
 {
     while parents.len() <= structure as usize {
         let number = parents.len() as u32;
-        match parents.push(number) {
-            Ok(()) => {}
-            Err(_) => return Err(AllocError),
-        }
+        parents.push(number)?;
     }
     Ok(())
 }
@@ -130,15 +127,8 @@ fn link(
     ensures parents { AreParents parents.new.items merges.new.items }
     ensures merges { OnOk result ((S : ℕ → Term) → Respects S merges.old.items → S from ≡ S to → Respects S merges.new.items) }
 {
-    match fill(parents, from) {
-        Ok(()) => {}
-        Err(error) => return Err(error),
-    }
-    match merges.push(Merge { from, to }) {
-        Ok(()) => {
-            parents[from as usize] = to;
-            Ok(())
-        }
-        Err(_) => Err(AllocError),
-    }
+    fill(parents, from)?;
+    merges.push(Merge { from, to })?;
+    parents[from as usize] = to;
+    Ok(())
 }

@@ -85,15 +85,10 @@ impl Pairs {
         ensures { OnOk result (self.new ≡ self.old ++ record { left = left; right = right } ∷ []) }
     {
         if self.pairs.len() >= self.firsts.len() {
-            match spread(&mut self.firsts, &mut self.nexts, &self.pairs) {
-                Ok(()) => {}
-                Err(error) => return Err(error),
-            }
+            spread(&mut self.firsts, &mut self.nexts, &self.pairs)?;
         }
-        match self.pairs.push(Pair { left, right }) {
-            Ok(()) => list(&mut self.firsts, &mut self.nexts, left, right),
-            Err(_) => Err(AllocError),
-        }
+        self.pairs.push(Pair { left, right })?;
+        list(&mut self.firsts, &mut self.nexts, left, right)
     }
 }
 
@@ -119,13 +114,9 @@ fn list(
         return Err(AllocError);
     }
     let list = list_of(left, right, firsts.len());
-    match nexts.push(firsts[list]) {
-        Ok(()) => {
-            firsts[list] = place as u32 + 1;
-            Ok(())
-        }
-        Err(_) => Err(AllocError),
-    }
+    nexts.push(firsts[list])?;
+    firsts[list] = place as u32 + 1;
+    Ok(())
 }
 
 /// Makes more lists, and puts the pairs in them again.
@@ -139,16 +130,10 @@ fn spread(
         return Err(AllocError);
     }
     firsts.clear();
-    match firsts.resize(count * 2, 0) {
-        Ok(()) => {}
-        Err(error) => return Err(error),
-    }
+    firsts.resize(count * 2, 0)?;
     nexts.clear();
     for pair in pairs.as_slice() {
-        match list(firsts, nexts, pair.left, pair.right) {
-            Ok(()) => {}
-            Err(error) => return Err(error),
-        }
+        list(firsts, nexts, pair.left, pair.right)?;
     }
     Ok(())
 }

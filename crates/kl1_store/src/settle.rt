@@ -40,14 +40,11 @@ fn bind_new<N: NameValue>(
     ensures levels { AreLevels cells.new.held levels.new }
     ensures spends { SpendsOnBindings cells.old.held cells.old.room cells.new.held cells.new.room }
 {
-    match occurs_in_term(cells, levels, tasks, variable, value) {
-        Ok(true) => Ok(false),
-        Ok(false) => match cells.bind(variable, value) {
-            Ok(()) => Ok(true),
-            Err(error) => Err(error),
-        },
-        Err(error) => Err(error),
+    if occurs_in_term(cells, levels, tasks, variable, value)? {
+        return Ok(false);
     }
+    cells.bind(variable, value)?;
+    Ok(true)
 }
 
 /// Solves the waiting equations, as far as they can be solved; `tasks` is scratch.
@@ -68,17 +65,14 @@ fn settle<N: NameValue>(
     ensures spends { SpendsOnBindings cells.old.held cells.old.room cells.new.held cells.new.room }
 {
     loop {
-        match advance(cells, frames, merges) {
-            Ok(Next::Finished) => return Ok(true),
-            Ok(Next::Never) => return Ok(false),
-            Ok(Next::Binds(variable, value)) => {
-                match bind_new(cells, levels, tasks, variable, value) {
-                    Ok(true) => {}
-                    Ok(false) => return Ok(false),
-                    Err(error) => return Err(error),
+        match advance(cells, frames, merges)? {
+            Next::Finished => return Ok(true),
+            Next::Never => return Ok(false),
+            Next::Binds(variable, value) => {
+                if !bind_new(cells, levels, tasks, variable, value)? {
+                    return Ok(false);
                 }
             }
-            Err(error) => return Err(error),
         }
     }
 }
@@ -110,9 +104,9 @@ pub fn unify_cells<N: NameValue>(
         Meeting::Same => Ok(true),
         Meeting::Clash => Ok(false),
         Meeting::Bind(variable, value) => bind_new(cells, levels, tasks, variable, value),
-        Meeting::Open(frame) => match frames.push(frame) {
-            Ok(()) => settle(cells, frames, merges, levels, tasks),
-            Err(_) => Err(AllocError),
-        },
+        Meeting::Open(frame) => {
+            frames.push(frame)?;
+            settle(cells, frames, merges, levels, tasks)
+        }
     }
 }

@@ -159,16 +159,14 @@ impl<N: NameValue> Store<N> {
         ensures hook_room { self.new.hook_room ≡ self.old.hook_room }
     {
         let mut waits = Vec::new(self.alloc);
-        match compare_each(
+        if !compare_each(
             &self.cells,
             &mut self.scratch.frames,
             &mut self.scratch.pairs,
             &mut waits,
             terms,
-        ) {
-            Ok(true) => {}
-            Ok(false) => return Ok(Same::No),
-            Err(error) => return Err(error),
+        )? {
+            return Ok(Same::No);
         }
         if waits.is_empty() {
             return Ok(Same::Yes);
@@ -235,10 +233,8 @@ impl<N: NameValue> Store<N> {
         ensures hook_room { self.old.hook_room ≤ self.new.hook_room + 1 }
         ensures cells_room { self.new.room ≡ self.old.room }
     {
-        match self.hooks.push(Hook { variable, number }) {
-            Ok(()) => Ok(()),
-            Err(_) => Err(AllocError),
-        }
+        self.hooks.push(Hook { variable, number })?;
+        Ok(())
     }
 
     /// Adds the numbers that hang on the variables that were bound since a point, in the order of the bindings.

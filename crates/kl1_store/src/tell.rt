@@ -14,10 +14,7 @@ fn tell_one(variable: u32, hooks: &[Hook], told: &mut Vec<u32>) -> Result<(), Al
     let mut rest = hooks;
     while let [first, more @ ..] = rest {
         if first.variable == variable {
-            match told.push(first.number) {
-                Ok(()) => {}
-                Err(_) => return Err(AllocError),
-            }
+            told.push(first.number)?;
         }
         rest = more;
     }
@@ -34,10 +31,7 @@ pub fn tell_all<N: Copy>(
 {
     let mut rest = bindings;
     while let [first, more @ ..] = rest {
-        match tell_one(first.variable, hooks, told) {
-            Ok(()) => {}
-            Err(error) => return Err(error),
-        }
+        tell_one(first.variable, hooks, told)?;
         rest = more;
     }
     Ok(())

@@ -5,15 +5,15 @@ use Rattle.kl1_store.specs.Compares.{ComparesAs}
 use Rattle.kl1_store.proofs.Comparing.{looked_same, looked_two, looked_one_variable, looked_left, looked_right, looked_clash, looked_open}
 use Rattle.kl1_store.proofs.compare.compare_sides.Goals as goal
 
-pub returns-in-Ok : goal.returns-in-Ok
-returns-in-Ok g c =
+pub returns-in-Some-variable : goal.returns-in-Some-variable
+returns-in-Some-variable g c =
     let one = c.push.new.self.items in
     let two = c.wait_for.new.waits.items in
     let As : Bool → Type 0 = λ b. ComparesAs g.N.NameValue.built c.args.cells.now.held c.args.left c.args.right c.args.frames.now.items c.args.frames.now.items c.args.waits.now.items two b in
     let Waits : Bool → Type 0 = λ b. (b ≡ true) × (two ≡ one ++ c.in-Some-variable.other ∷ []) in
     IfOk-weaker c.wait_for.result Waits As (λ b w. subst As (sym w.0) (
     looked_two g.N.NameValue.built c.args.cells.now.held c.args.left c.args.right c.in-Some.variable c.in-Some-variable.other c.args.frames.now.items c.args.waits.now.items one two
-    c.requires.pairs c.in-Some.ensures c.in-Some-variable.ensures c.requires.left_walked c.requires.right_walked c.if-variable-other.false c.in-Ok.ensures.items w.1)) c.wait_for.ensures
+    c.requires.pairs c.in-Some.ensures c.in-Some-variable.ensures c.requires.left_walked c.requires.right_walked c.if-variable-other.false c.in_ok-push-in-Some-variable.ensures.items w.1)) c.wait_for.ensures
 
 pub returns-then-variable-other : goal.returns-then-variable-other
 returns-then-variable-other g c =
@@ -41,6 +41,6 @@ returns-in-Same g c = looked_same g.N.NameValue.built c.args.cells.now.held c.ar
 pub returns-in-Clash : goal.returns-in-Clash
 returns-in-Clash g c = looked_clash g.N.NameValue.built c.args.cells.now.held c.args.left c.args.right c.requires.formed c.requires.left_in c.requires.right_in c.in_default.ensures c.in_default-variable.ensures c.in-Clash.ensures
 
-pub returns-in-Ok-push : goal.returns-in-Ok-push
-returns-in-Ok-push g c =
-    looked_open g.N.NameValue.built c.args.cells.now.held c.args.left c.args.right c.in-Open.frame c.args.frames.now.items c.push-in-Open.new.self.items c.args.waits.now.items c.requires.formed c.requires.pairs c.in-Open.ensures c.in-Ok-push.ensures.items
+pub returns-in_ok-push-in-Open : goal.returns-in_ok-push-in-Open
+returns-in_ok-push-in-Open g c =
+    looked_open g.N.NameValue.built c.args.cells.now.held c.args.left c.args.right c.in-Open.frame c.args.frames.now.items c.push-in-Open.new.self.items c.args.waits.now.items c.requires.formed c.requires.pairs c.in-Open.ensures c.in_ok-push-in-Open.ensures.items

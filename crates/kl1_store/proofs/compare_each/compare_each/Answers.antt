@@ -7,7 +7,7 @@ pub loop-rest-preserved : goal.loop-rest-preserved
 loop-rest-preserved g c =
     let P : Bool → Type 0 = λ b. ComparedWithAs g.N.NameValue.built c.args.cells.now.held c.first-item.result (take (length c.loop-rest.rest.now - 1) (drop 1 c.loop-rest.rest.now)) c.loop-rest.waits.items c.compare_with.new.waits.items b in
     each_step_at g.N.NameValue.built c.args.cells.now.held c.first-item.result c.args.terms.now c.loop-rest.rest.now c.args.waits.now.items c.loop-rest.waits.items c.compare_with.new.waits.items c.in-len1-up.len_at_least c.first-item.is c.loop-rest.invariant
-    (subst P c.in-Ok-true.field-0-test c.in-Ok-true.ensures)
+    (subst P c.if-not-branch.false c.in_ok-compare_with.ensures)
 
 pub returns : goal.returns
 returns g c = each_end_at g.N.NameValue.built c.args.cells.now.held c.args.terms.now c.loop-rest.rest.now c.args.waits.now.items c.loop-rest.waits.items c.in_default.len_below c.loop-rest.invariant

@@ -7,7 +7,7 @@ pub loop-rest-preserved : goal.loop-rest-preserved
 loop-rest-preserved g c =
     let P : Bool → Type 0 = λ b. ComparedAs g.N.NameValue.built c.args.cells.now.held c.args.cell c.other-item.result c.loop-rest.waits.items c.compare.new.waits.items b in
     with_step_at g.N.NameValue.built c.args.cells.now.held c.args.cell c.other-item.result c.args.others.now c.loop-rest.rest.now c.args.waits.now.items c.loop-rest.waits.items c.compare.new.waits.items c.in-len1-up.len_at_least c.other-item.is c.loop-rest.invariant
-    (subst P c.in-Ok-true.field-0-test c.in-Ok-true.ensures)
+    (subst P c.if-not-branch.false c.in_ok-compare.ensures)
 
 pub returns : goal.returns
 returns g c = with_end_at g.N.NameValue.built c.args.cells.now.held c.args.cell c.args.others.now c.loop-rest.rest.now c.args.waits.now.items c.loop-rest.waits.items c.in_default.len_below c.loop-rest.invariant

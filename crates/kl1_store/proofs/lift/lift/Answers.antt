@@ -5,7 +5,7 @@ use Rattle.kl1_store.proofs.lift.lift.Goals as goal
 
 pub loop-task-init : goal.loop-task-init
 loop-task-init g c =
-    lifting_starts c.args.cells.now.held c.args.cell c.args.level c.args.levels.now c.clear.new.self.items c.push.new.self.items c.requires.levels c.requires.inside c.clear.ensures.items c.in-Ok.ensures.items
+    lifting_starts c.args.cells.now.held c.args.cell c.args.level c.args.levels.now c.clear.new.self.items c.push.new.self.items c.requires.levels c.requires.inside c.clear.ensures.items c.in_ok-push.ensures.items
 
 pub lift_one-requires-clause-inside : goal.lift_one-requires-clause-inside
 lift_one-requires-clause-inside g c = (task_inside c.args.cells.now.held c.loop-task.tasks.items c.pop.new.self.items c.in-Some.task c.loop-task.invariant.tasks c.in-Some.ensures.items).1
@@ -15,11 +15,11 @@ lift_one-requires-clause-tasks g c = (task_inside c.args.cells.now.held c.loop-t
 
 pub loop-task-smaller : goal.loop-task-smaller
 loop-task-smaller g c =
-    (lifting_goes_on c.args.cells.now.held c.args.cell c.args.level c.args.levels.now c.loop-task.levels c.lift_one.new.levels c.loop-task.tasks.items c.pop.new.self.items c.lift_one.new.tasks.items c.in-Some.task c.loop-task.invariant c.in-Some.ensures.items c.in-Ok-lift_one.ensures).1
+    (lifting_goes_on c.args.cells.now.held c.args.cell c.args.level c.args.levels.now c.loop-task.levels c.lift_one.new.levels c.loop-task.tasks.items c.pop.new.self.items c.lift_one.new.tasks.items c.in-Some.task c.loop-task.invariant c.in-Some.ensures.items c.in_ok-lift_one.ensures).1
 
 pub loop-task-preserved : goal.loop-task-preserved
 loop-task-preserved g c =
-    (lifting_goes_on c.args.cells.now.held c.args.cell c.args.level c.args.levels.now c.loop-task.levels c.lift_one.new.levels c.loop-task.tasks.items c.pop.new.self.items c.lift_one.new.tasks.items c.in-Some.task c.loop-task.invariant c.in-Some.ensures.items c.in-Ok-lift_one.ensures).0
+    (lifting_goes_on c.args.cells.now.held c.args.cell c.args.level c.args.levels.now c.loop-task.levels c.lift_one.new.levels c.loop-task.tasks.items c.pop.new.self.items c.lift_one.new.tasks.items c.in-Some.task c.loop-task.invariant c.in-Some.ensures.items c.in_ok-lift_one.ensures).0
 
 pub returns : goal.returns
 returns g c =

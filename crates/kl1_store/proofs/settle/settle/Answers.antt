@@ -12,46 +12,46 @@ use Rattle.kl1_store.proofs.settle.settle.Goals as goal
 pub loop-variable-init : goal.loop-variable-init
 loop-variable-init g c = record { nested = c.requires.nested; merged = c.requires.merged; settling = settling_start g.N.NameValue.built c.args.cells.now.held c.args.frames.now.items c.requires.pairs; levels = c.requires.levels; spends = spends_none c.args.cells.now.held c.args.cells.now.room }
 
-pub returns-in-Ok-Finished-clause-settled : goal.returns-in-Ok-Finished-clause-settled
-returns-in-Ok-Finished-clause-settled g c =
+pub returns-in-Finished-clause-settled : goal.returns-in-Finished-clause-settled
+returns-in-Finished-clause-settled g c =
     let P : Next g.row.N.Denot → Type 0 = λ n. ComesTo g.N.NameValue.built c.loop-variable.cells.held c.loop-variable.frames.items c.advance.new.frames.items n in
-    let to = subst P c.in-Ok-Finished.field-0-is c.in-Ok-Finished.ensures.next in
+    let to = subst P c.in-Finished.is c.in_ok-advance.ensures.next in
     settling_ends g.N.NameValue.built c.args.cells.now.held c.loop-variable.cells.held c.args.frames.now.items c.loop-variable.frames.items c.loop-variable.invariant.settling to
 
-pub returns-in-Ok-Never-clause-settled : goal.returns-in-Ok-Never-clause-settled
-returns-in-Ok-Never-clause-settled g c =
+pub returns-in-Never-clause-settled : goal.returns-in-Never-clause-settled
+returns-in-Never-clause-settled g c =
     let P : Next g.row.N.Denot → Type 0 = λ n. ComesTo g.N.NameValue.built c.loop-variable.cells.held c.loop-variable.frames.items c.advance.new.frames.items n in
-    let to = subst P c.in-Ok-Never.field-0-is c.in-Ok-Never.ensures.next in
+    let to = subst P c.in-Never.is c.in_ok-advance.ensures.next in
     settling_fails g.N.NameValue.built c.args.cells.now.held c.loop-variable.cells.held c.args.frames.now.items c.loop-variable.frames.items c.loop-variable.invariant.settling to
 
-pub returns-in-Ok-false-clause-settled : goal.returns-in-Ok-false-clause-settled
-returns-in-Ok-false-clause-settled g c =
+pub returns-then-not-branch-clause-settled : goal.returns-then-not-branch-clause-settled
+returns-then-not-branch-clause-settled g c =
     let P : Next g.row.N.Denot → Type 0 = λ n. ComesTo g.N.NameValue.built c.loop-variable.cells.held c.loop-variable.frames.items c.advance.new.frames.items n in
-    let to = subst P c.in-Ok-Binds.field-0-is c.in-Ok-Binds.ensures.next in
-    let next : NextBinding g.N.NameValue.built c.loop-variable.cells.held c.loop-variable.frames.items c.advance.new.frames.items c.in-Ok-Binds.variable c.in-Ok-Binds.value = record { can = to.0; pairs = to.1; next = to.2 } in
-    let Q : Bool → Type 0 = λ b. BindsAs c.loop-variable.cells.held c.bind_new.new.cells.held c.in-Ok-Binds.variable c.in-Ok-Binds.value b in
-    settling_stops g.N.NameValue.built c.args.cells.now.held c.loop-variable.cells.held c.bind_new.new.cells.held c.args.frames.now.items c.loop-variable.frames.items c.advance.new.frames.items c.in-Ok-Binds.variable c.in-Ok-Binds.value c.loop-variable.invariant.settling next (subst Q c.in-Ok-false.field-0-test c.in-Ok-false.ensures.ok)
+    let to = subst P c.in-Binds.is c.in_ok-advance.ensures.next in
+    let next : NextBinding g.N.NameValue.built c.loop-variable.cells.held c.loop-variable.frames.items c.advance.new.frames.items c.in-Binds.variable c.in-Binds.value = record { can = to.0; pairs = to.1; next = to.2 } in
+    let Q : Bool → Type 0 = λ b. BindsAs c.loop-variable.cells.held c.bind_new.new.cells.held c.in-Binds.variable c.in-Binds.value b in
+    settling_stops g.N.NameValue.built c.args.cells.now.held c.loop-variable.cells.held c.bind_new.new.cells.held c.args.frames.now.items c.loop-variable.frames.items c.advance.new.frames.items c.in-Binds.variable c.in-Binds.value c.loop-variable.invariant.settling next (subst Q c.if-not-branch.true c.in_ok-bind_new-in-Binds.ensures.ok)
 
 pub loop-variable-smaller : goal.loop-variable-smaller
 loop-variable-smaller g c =
     let P : Next g.row.N.Denot → Type 0 = λ n. ComesTo g.N.NameValue.built c.loop-variable.cells.held c.loop-variable.frames.items c.advance.new.frames.items n in
-    let to = subst P c.in-Ok-Binds.field-0-is c.in-Ok-Binds.ensures.next in
-    let next : NextBinding g.N.NameValue.built c.loop-variable.cells.held c.loop-variable.frames.items c.advance.new.frames.items c.in-Ok-Binds.variable c.in-Ok-Binds.value = record { can = to.0; pairs = to.1; next = to.2 } in
-    let Q : Bool → Type 0 = λ b. BindsAs c.loop-variable.cells.held c.bind_new.new.cells.held c.in-Ok-Binds.variable c.in-Ok-Binds.value b in
-    (settling_on g.N.NameValue.built c.args.cells.now.held c.loop-variable.cells.held c.bind_new.new.cells.held c.args.frames.now.items c.loop-variable.frames.items c.advance.new.frames.items c.in-Ok-Binds.variable c.in-Ok-Binds.value c.loop-variable.invariant.settling next (subst Q c.in-Ok-true.field-0-test c.in-Ok-true.ensures.ok)).1
+    let to = subst P c.in-Binds.is c.in_ok-advance.ensures.next in
+    let next : NextBinding g.N.NameValue.built c.loop-variable.cells.held c.loop-variable.frames.items c.advance.new.frames.items c.in-Binds.variable c.in-Binds.value = record { can = to.0; pairs = to.1; next = to.2 } in
+    let Q : Bool → Type 0 = λ b. BindsAs c.loop-variable.cells.held c.bind_new.new.cells.held c.in-Binds.variable c.in-Binds.value b in
+    (settling_on g.N.NameValue.built c.args.cells.now.held c.loop-variable.cells.held c.bind_new.new.cells.held c.args.frames.now.items c.loop-variable.frames.items c.advance.new.frames.items c.in-Binds.variable c.in-Binds.value c.loop-variable.invariant.settling next (subst Q c.if-not-branch.false c.in_ok-bind_new-in-Binds.ensures.ok)).1
 
 pub loop-variable-preserved : goal.loop-variable-preserved
 loop-variable-preserved g c =
     let P : Next g.row.N.Denot → Type 0 = λ n. ComesTo g.N.NameValue.built c.loop-variable.cells.held c.loop-variable.frames.items c.advance.new.frames.items n in
-    let to = subst P c.in-Ok-Binds.field-0-is c.in-Ok-Binds.ensures.next in
-    let next : NextBinding g.N.NameValue.built c.loop-variable.cells.held c.loop-variable.frames.items c.advance.new.frames.items c.in-Ok-Binds.variable c.in-Ok-Binds.value = record { can = to.0; pairs = to.1; next = to.2 } in
-    let Q : Bool → Type 0 = λ b. BindsAs c.loop-variable.cells.held c.bind_new.new.cells.held c.in-Ok-Binds.variable c.in-Ok-Binds.value b in
+    let to = subst P c.in-Binds.is c.in_ok-advance.ensures.next in
+    let next : NextBinding g.N.NameValue.built c.loop-variable.cells.held c.loop-variable.frames.items c.advance.new.frames.items c.in-Binds.variable c.in-Binds.value = record { can = to.0; pairs = to.1; next = to.2 } in
+    let Q : Bool → Type 0 = λ b. BindsAs c.loop-variable.cells.held c.bind_new.new.cells.held c.in-Binds.variable c.in-Binds.value b in
     let N : Held g.row.N.Denot → Type 0 = λ h. IsNested h c.advance.new.frames.items in
     let M : Held g.row.N.Denot → Type 0 = λ h. AreMerged h c.advance.new.merges in
     let E : Next g.row.N.Denot → Type 0 = λ n. ExpectsNext c.loop-variable.cells.held c.advance.new.frames.items n in
-    let bound = subst Q c.in-Ok-true.field-0-test c.in-Ok-true.ensures.ok in
+    let bound = subst Q c.if-not-branch.false c.in_ok-bind_new-in-Binds.ensures.ok in
     let h = c.loop-variable.cells.held in
-    record { nested = subst N (sym bound.0) (nested_bound h c.in-Ok-Binds.variable c.in-Ok-Binds.value c.advance.new.frames.items (subst E c.in-Ok-Binds.field-0-is c.in-Ok-Binds.ensures.expects) to.0.unbound bound.1); merged = subst M (sym bound.0) (merged_bound h c.in-Ok-Binds.variable c.in-Ok-Binds.value c.advance.new.merges c.in-Ok-Binds.ensures.merged); settling = (settling_on g.N.NameValue.built c.args.cells.now.held c.loop-variable.cells.held c.bind_new.new.cells.held c.args.frames.now.items c.loop-variable.frames.items c.advance.new.frames.items c.in-Ok-Binds.variable c.in-Ok-Binds.value c.loop-variable.invariant.settling next (subst Q c.in-Ok-true.field-0-test c.in-Ok-true.ensures.ok)).0; levels = c.in-Ok-true.ensures.levels; spends = spends_trans c.args.cells.now.held c.args.cells.now.room c.loop-variable.cells.held c.loop-variable.cells.room c.bind_new.new.cells.held c.bind_new.new.cells.room c.loop-variable.invariant.spends c.in-Ok-true.ensures.spends }
+    record { nested = subst N (sym bound.0) (nested_bound h c.in-Binds.variable c.in-Binds.value c.advance.new.frames.items (subst E c.in-Binds.is c.in_ok-advance.ensures.expects) to.0.unbound bound.1); merged = subst M (sym bound.0) (merged_bound h c.in-Binds.variable c.in-Binds.value c.advance.new.merges c.in_ok-advance.ensures.merged); settling = (settling_on g.N.NameValue.built c.args.cells.now.held c.loop-variable.cells.held c.bind_new.new.cells.held c.args.frames.now.items c.loop-variable.frames.items c.advance.new.frames.items c.in-Binds.variable c.in-Binds.value c.loop-variable.invariant.settling next (subst Q c.if-not-branch.false c.in_ok-bind_new-in-Binds.ensures.ok)).0; levels = c.in_ok-bind_new-in-Binds.ensures.levels; spends = spends_trans c.args.cells.now.held c.args.cells.now.room c.loop-variable.cells.held c.loop-variable.cells.room c.bind_new.new.cells.held c.bind_new.new.cells.room c.loop-variable.invariant.spends c.in_ok-bind_new-in-Binds.ensures.spends }
 
-pub returns-in-Ok-false-clause-spends : goal.returns-in-Ok-false-clause-spends
-returns-in-Ok-false-clause-spends g c = spends_trans c.args.cells.now.held c.args.cells.now.room c.loop-variable.cells.held c.loop-variable.cells.room c.bind_new.new.cells.held c.bind_new.new.cells.room c.loop-variable.invariant.spends c.in-Ok-false.ensures.spends
+pub returns-then-not-branch-clause-spends : goal.returns-then-not-branch-clause-spends
+returns-then-not-branch-clause-spends g c = spends_trans c.args.cells.now.held c.args.cells.now.room c.loop-variable.cells.held c.loop-variable.cells.room c.bind_new.new.cells.held c.bind_new.new.cells.room c.loop-variable.invariant.spends c.in_ok-bind_new-in-Binds.ensures.spends

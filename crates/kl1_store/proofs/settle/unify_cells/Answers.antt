@@ -27,10 +27,10 @@ returns-in-Bind-clause-settled g c =
 pub returns-in-Bind-clause-grown : goal.returns-in-Bind-clause-grown
 returns-in-Bind-clause-grown g c = grown_taken c.args.cells.now.held c.bind_new.new.cells.held c.in-Bind.variable c.in-Bind.value c.bind_new.result c.bind_new.ensures.ok c.bind_new.ensures.err
 
-pub returns-in-Ok-clause-settled : goal.returns-in-Ok-clause-settled
-returns-in-Ok-clause-settled g c =
+pub returns-in_ok-push-in-Open-clause-settled : goal.returns-in_ok-push-in-Open-clause-settled
+returns-in_ok-push-in-Open-clause-settled g c =
     let one : OneEquation c.args.cells.now.held c.args.left c.args.right c.walk-first.result c.walk-second.result = record { formed = c.requires.formed; left_in = c.walk-first.ensures.inside; right_in = c.walk-second.ensures.inside; left_means = c.walk-first.ensures.means; right_means = c.walk-second.ensures.means } in
-    let e : c.push.new.self.items ≡ c.in-Open.frame ∷ [] = c.in-Ok.ensures.items ∙ ap (λ l. l ++ c.in-Open.frame ∷ []) c.clear.ensures.items in
+    let e : c.push.new.self.items ≡ c.in-Open.frame ∷ [] = c.in_ok-push-in-Open.ensures.items ∙ ap (λ l. l ++ c.in-Open.frame ∷ []) c.clear.ensures.items in
     let old = c.args.cells.now.held in
     let new = c.settle.new.cells.held in
     let P : Bool → Type 0 = λ b. SettlesAs g.N.NameValue.built old new (λ f. waiting f old [] c.push.new.self.items) b in

@@ -3,10 +3,10 @@ use Rattle.kl1_store.specs.Held.{Stored}
 use Rattle.kl1_store.proofs.Lists.{bound_at}
 use Rattle.kl1_store.proofs.cells.Cells.bind.Goals as goal
 
-pub invariant_of-self : goal.invariant_of-self
-invariant_of-self g c =
+pub invariant_of-self-2 : goal.invariant_of-self-2
+invariant_of-self-2 g c =
     let s = c.self.inside in
     let e = ap (λ (v : Stored g.row.N.Denot). v.held) c.self.view_is in
     let r = c.requires in
     bound_at s.slots.items s.nodes.items s.arguments.items s.bindings.items _ c.args.variable c.args.value c.args.self.now.held
-    c.self.invariant e c.in-Ok.ensures.items r.inside r.known r.unbound r.lower r.free
+    c.self.invariant e c.in_ok-push.ensures.items r.inside r.known r.unbound r.lower r.free

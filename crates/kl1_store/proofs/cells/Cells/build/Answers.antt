@@ -14,7 +14,7 @@ grown g c =
     let e = ap (λ (v : Stored g.row.N.Denot). v.held) c.self.view_is in
     built_at s.slots.items s.nodes.items c.push_reserved.new.self.items s.arguments.items c.extend_from_slice.new.self.items s.bindings.items
     (record { name = c.args.name; start = c.len-start.result; count = length c.args.arguments.now }) c.args.arguments.now c.args.self.now.held
-    c.self.invariant e (c.push_reserved.ensures.items ∙ ap (λ l. l ++ record { name = c.args.name; start = c.len-start.result; count = length c.args.arguments.now } ∷ []) c.in-Ok.ensures.items) c.in-Ok-extend_from_slice.ensures.items c.requires
+    c.self.invariant e (c.push_reserved.ensures.items ∙ ap (λ l. l ++ record { name = c.args.name; start = c.len-start.result; count = length c.args.arguments.now } ∷ []) c.in_ok-reserve.ensures.items) c.in_ok-extend_from_slice.ensures.items c.requires
     (c.len-start.ensures ∙ s.arguments.ok.0) refl (omega arith) (omega arith)
 
 pub invariant_of-self-2 : goal.invariant_of-self-2

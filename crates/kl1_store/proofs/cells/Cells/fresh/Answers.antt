@@ -7,4 +7,4 @@ pub invariant_of-self-2 : goal.invariant_of-self-2
 invariant_of-self-2 g c =
     let s = c.self.inside in
     let P : List _ → Type 0 = λ l. IsInside l s.nodes.items s.arguments.items s.bindings.items in
-    subst P (sym c.in-Ok.ensures.items) (IsInside-variable s.slots.items s.nodes.items s.arguments.items s.bindings.items c.len-number.result c.self.invariant (c.len-number.ensures ∙ s.slots.ok.0) (omega arith))
+    subst P (sym c.in_ok-push.ensures.items) (IsInside-variable s.slots.items s.nodes.items s.arguments.items s.bindings.items c.len-number.result c.self.invariant (c.len-number.ensures ∙ s.slots.ok.0) (omega arith))

@@ -8,12 +8,12 @@ use Rattle.kl1_store.specs.Sameness.{SameAs}
 use Rattle.kl1_store.proofs.Answering.{answers_yes, answers_no, answers_wait}
 use Rattle.kl1_store.proofs.store.Store.same.Goals as goal
 
-pub returns-in-Ok-false-clause-ok : goal.returns-in-Ok-false-clause-ok
-returns-in-Ok-false-clause-ok g c =
+pub returns-then-not-branch-clause-ok : goal.returns-then-not-branch-clause-ok
+returns-then-not-branch-clause-ok g c =
     let old = c.self.inside.cells.held in
     let P : Bool → Type 0 = λ b. ComparedEachAs g.N.NameValue.built old c.args.terms.now c.new-waits.result.items c.compare_each.new.waits.items b in
     let Q : Kept g.row.N.Denot → Type 0 = λ s. SameAs g.N.NameValue.built s.held c.args.terms.now No in
-    subst Q c.self.view_is (λ f reads. answers_no f old c.args.terms.now ((subst P c.in-Ok-false.field-0-test c.in-Ok-false.ensures) f reads))
+    subst Q c.self.view_is (λ f reads. answers_no f old c.args.terms.now ((subst P c.if-not-branch.true c.in_ok-compare_each.ensures) f reads))
 
 pub returns-then-is_empty-clause-ok : goal.returns-then-is_empty-clause-ok
 returns-then-is_empty-clause-ok g c =
@@ -22,7 +22,7 @@ returns-then-is_empty-clause-ok g c =
     let w = c.compare_each.new.waits in
     let empty : w.items ≡ [] = nil_from_length w.items (omega (arith, w.ok.0, eqb-true w.len 0 (sym c.is_empty.ensures ∙ c.if-is_empty.true))) in
     let Q : Kept g.row.N.Denot → Type 0 = λ s. SameAs g.N.NameValue.built s.held c.args.terms.now Yes in
-    subst Q c.self.view_is (λ f reads. answers_yes f old c.args.terms.now c.new-waits.result.items w.items c.new-waits.ensures.items empty ((subst P c.in-Ok-true.field-0-test c.in-Ok-true.ensures) f reads))
+    subst Q c.self.view_is (λ f reads. answers_yes f old c.args.terms.now c.new-waits.result.items w.items c.new-waits.ensures.items empty ((subst P c.if-not-branch.false c.in_ok-compare_each.ensures) f reads))
 
 pub returns-clause-ok : goal.returns-clause-ok
 returns-clause-ok g c =
@@ -31,4 +31,4 @@ returns-clause-ok g c =
     let w = c.compare_each.new.waits in
     let some : 0 < length w.items = let ne : w.len ≡ 0 → ⊥ = eqb-false w.len 0 (sym c.is_empty.ensures ∙ c.if-is_empty.false) in omega (arith, w.ok.0, ne) in
     let Q : Kept g.row.N.Denot → Type 0 = λ s. SameAs g.N.NameValue.built s.held c.args.terms.now (Wait w) in
-    subst Q c.self.view_is (λ f reads. answers_wait f old c.args.terms.now c.new-waits.result.items w.items c.new-waits.ensures.items some ((subst P c.in-Ok-true.field-0-test c.in-Ok-true.ensures) f reads))
+    subst Q c.self.view_is (λ f reads. answers_wait f old c.args.terms.now c.new-waits.result.items w.items c.new-waits.ensures.items some ((subst P c.if-not-branch.false c.in_ok-compare_each.ensures) f reads))
