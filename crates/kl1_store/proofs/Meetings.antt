@@ -90,6 +90,24 @@ kinds_clash built h l r p il ir vl vr ne = λ f reads es.
     let kr = kind_kept f h r p ir vr in
     front-kinds (term_of f h l) (term_of f h r) es (omega (arith, no_variable l vl)) (omega (arith, no_variable r vr)) (λ e. ne (sym kl ∙ e ∙ kr))
 
+pub not_integer : {N : Type 0} (i : ℤ) (x : Cell N) → ((j : ℤ) → x ≡ Integer j → ⊥) → kind {N = N} (Integer i) ≡ kind x → ⊥
+not_integer i (Variable w) other e = omega (arith, e)
+not_integer i (Integer j) other e = other j refl
+not_integer i (Atom a) other e = omega (arith, e)
+not_integer i (Structure s) other e = omega (arith, e)
+
+pub not_atom : {N : Type 0} (a : N) (x : Cell N) → ((b : N) → x ≡ Atom b → ⊥) → kind (Atom a) ≡ kind x → ⊥
+not_atom a (Variable w) other e = omega (arith, e)
+not_atom a (Integer j) other e = omega (arith, e)
+not_atom a (Atom b) other e = other b refl
+not_atom a (Structure s) other e = omega (arith, e)
+
+pub not_structure : {N : Type 0} (n : ℕ) (x : Cell N) → ((s : ℕ) → x ≡ Structure s → ⊥) → kind {N = N} (Structure n) ≡ kind x → ⊥
+not_structure n (Variable w) other e = omega (arith, e)
+not_structure n (Integer j) other e = omega (arith, e)
+not_structure n (Atom a) other e = omega (arith, e)
+not_structure n (Structure s) other e = other s refl
+
 lower_than : {N : Type 0} (v : ℕ) (x : Cell N) → IsNoVariable x → IsLower v x
 lower_than v (Variable w) value = absurd value
 lower_than v (Integer i) value = tt

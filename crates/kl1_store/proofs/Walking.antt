@@ -51,3 +51,9 @@ bound_at {N = N} h v x p le e other = by_case (bound_lower h.variables h.structu
           lower = subst P (sym e) l;
           means = λ f. ap (term_of f h) e ∙ sym (term_of-found f h v p);
         }
+
+pub lower_height : {N : Type 0} (v : ℕ) (x : Cell N) → IsLower v x → height x ≤ v
+lower_height v (Variable w) l = l
+lower_height v (Integer i) l = omega arith
+lower_height v (Atom a) l = omega arith
+lower_height v (Structure s) l = omega arith

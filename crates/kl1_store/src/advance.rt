@@ -58,10 +58,11 @@ fn merged_turn<N: NameValue>(cells: &Cells<N>, merges: &mut Merges, frame: Frame
     ensures merges { merges.new ≡ merges.old }
     ensures turn { IsTurn cells.now.held frame result.left result.right }
 {
-    let sides = turn(cells, frame);
-    let left = merged(cells, merges, sides.left);
-    let right = merged(cells, merges, sides.right);
-    Sides { left, right }
+    let Sides { left, right } = turn(cells, frame);
+    Sides {
+        left: merged(cells, merges, left),
+        right: merged(cells, merges, right),
+    }
 }
 
 /// Takes the waiting equations one after another, until one asks for a binding.
@@ -83,9 +84,9 @@ pub fn advance<N: NameValue>(
             merges.join(frame.left, frame.right)?;
             continue;
         }
-        let sides = merged_turn(cells, merges, frame);
+        let Sides { left, right } = merged_turn(cells, merges, frame);
         frames.push(frame.onward())?;
-        match meet(cells, sides.left, sides.right) {
+        match meet(cells, left, right) {
             Meeting::Same => {}
             Meeting::Clash => return Ok(Next::Never),
             Meeting::Bind(variable, value) => return Ok(Next::Binds(variable, value)),

@@ -123,8 +123,7 @@ impl<N: NameValue> Cells<N> {
         self.slots.reserve(variables)?;
         self.nodes.reserve(structures)?;
         self.arguments.reserve(arguments)?;
-        self.bindings.reserve(bindings)?;
-        Ok(())
+        self.bindings.reserve(bindings)
     }
 
     /// The variable `variable` is replaced by `value` everywhere.
@@ -178,18 +177,6 @@ impl<N: NameValue> Cells<N> {
         self.arguments[node.start as usize + index as usize]
     }
 
-    /// What a variable was bound to.
-    pub fn bound(&self, variable: u32) -> Option<Cell<N>>
-        requires { variable < self.now.held.variables }
-        ensures cases { MatchOption result (is_bound variable self.now.held.bindings ≡ false) (IsBoundTo self.now.held variable) }
-    {
-        let next = self.slot(variable);
-        if next.is_variable(variable) {
-            return None;
-        }
-        Some(next)
-    }
-
     /// The cell that a cell stands for: what its variable was bound to, and so on.
     pub fn walk(&self, cell: Cell<N>) -> Cell<N>
         requires { IsIn self.now.held cell }
@@ -199,10 +186,11 @@ impl<N: NameValue> Cells<N> {
     {
         let mut at = cell;
         while let Cell::Variable(variable) = at {
-            match self.bound(variable) {
-                None => return at,
-                Some(next) => at = next,
+            let next = self.slot(variable);
+            if next.is_variable(variable) {
+                return at;
             }
+            at = next;
         }
         at
     }

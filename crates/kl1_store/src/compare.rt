@@ -1,8 +1,9 @@
 // Two cells side by side, without binding anything.
 
-ghost use Rattle.std.specs.Prelude.{◌≡◌, ℕ, List, IfOk, IsTrue};
+ghost use Rattle.std.specs.Prelude.{◌≡◌, ℕ, true, List, [], ◌∷◌, ◌++◌, IfOk, IsTrue};
 ghost use Rattle.kl1_store.specs.Done.{IsKnown};
 ghost use Rattle.kl1_store.specs.Held.{Held, IsIn, IsWalked};
+ghost use Rattle.kl1_store.specs.Sound.{IsFormed};
 ghost use Rattle.kl1_store.specs.Waiting.{ArePairs};
 ghost use Rattle.kl1_store.specs.Compares.{ComparesAs, ComparedAs};
 
@@ -13,8 +14,17 @@ use crate::frame::Frame;
 use crate::meeting::Meeting;
 use crate::meets::meet;
 use crate::pairs::Pairs;
+use crate::sides::Sides;
 use kl1_text::NameValue;
 use std::alloc::AllocError;
+
+/// Puts a variable on the list of those that are waited for, and says yes.
+fn wait_for(waits: &mut Vec<u32>, variable: u32) -> Result<bool, AllocError>
+    ensures { IfOk result (λ found. (found ≡ true) × (waits.new.items ≡ waits.old.items ++ variable ∷ [])) }
+{
+    waits.push(variable)?;
+    Ok(true)
+}
 
 /// Looks at two cells that stand for themselves: false where they clash at once.
 fn compare_sides<N: NameValue>(
@@ -24,6 +34,7 @@ fn compare_sides<N: NameValue>(
     left: Cell<N>,
     right: Cell<N>,
 ) -> Result<bool, AllocError>
+    requires formed { IsFormed cells.now.held }
     requires left_in { IsIn cells.now.held left }
     requires right_in { IsIn cells.now.held right }
     requires left_walked { IsWalked cells.now.held left }
@@ -31,26 +42,20 @@ fn compare_sides<N: NameValue>(
     requires pairs { ArePairs cells.now.held frames.old.items }
     ensures { IfOk result (ComparesAs N.built cells.now.held left right frames.old.items frames.new.items waits.old.items waits.new.items) }
 {
-    let _ = cells.mark();
     if let Some(variable) = left.variable() {
         match right.variable() {
             Some(other) => {
-                if variable != other {
-                    waits.push(variable)?;
-                    waits.push(other)?;
+                if variable == other {
                     return Ok(true);
                 }
-                return Ok(true);
-            }
-            None => {
                 waits.push(variable)?;
-                return Ok(true);
+                return wait_for(waits, other);
             }
+            None => return wait_for(waits, variable),
         }
     }
     if let Some(variable) = right.variable() {
-        waits.push(variable)?;
-        return Ok(true);
+        return wait_for(waits, variable);
     }
     match meet(cells, left, right) {
         Meeting::Same => Ok(true),
@@ -102,12 +107,12 @@ pub fn compare<N: NameValue>(
             pairs.add(frame.left, frame.right)?;
             continue;
         }
-        let sides = turn(cells, frame);
+        let Sides { left, right } = turn(cells, frame);
         frames.push(frame.onward())?;
-        if is_known(pairs, sides.left, sides.right) {
+        if is_known(pairs, left, right) {
             continue;
         }
-        if !compare_sides(cells, frames, waits, sides.left, sides.right)? {
+        if !compare_sides(cells, frames, waits, left, right)? {
             return Ok(false);
         }
     }

@@ -3,11 +3,12 @@
 ghost use Rattle.std.specs.Prelude.{◌≡◌, ◌<◌, ◌≤◌, ◌++◌, length, OnOk};
 ghost use Rattle.kl1_store.specs.Held.{arguments_of, IsIn};
 ghost use Rattle.kl1_store.specs.Levels.{AreLevels};
+ghost use Rattle.kl1_store.specs.Sound.{IsFormed};
 ghost use Rattle.kl1_store.specs.Tasks.{AreTasks, tasks_of, Lifts, Lifted};
 
 use crate::cell::Cell;
 use crate::cells::Cells;
-use crate::levels::Levels;
+use crate::levels::{Levels, level_of, set_level};
 use crate::task::Task;
 use kl1_text::NameValue;
 use std::alloc::AllocError;
@@ -30,17 +31,6 @@ fn push_arguments<N: NameValue>(
     Ok(())
 }
 
-/// The level for a structure that is to lie at `level` or above it: twice its old one, so that it is seldom lifted.
-fn higher(old: u64, level: u64) -> u64
-    ensures { level ≤ result }
-{
-    let twice = old.saturating_mul(2);
-    if twice < level {
-        return level;
-    }
-    twice
-}
-
 /// Lifts a variable; what it was bound to is put on the list.
 fn lift_variable<N: NameValue>(
     cells: &Cells<N>,
@@ -49,15 +39,15 @@ fn lift_variable<N: NameValue>(
     variable: u32,
     level: u64,
 ) -> Result<(), AllocError>
+    requires formed { IsFormed cells.now.held }
     requires inside { variable < cells.now.held.variables }
     requires tasks { AreTasks cells.now.held tasks.old.items }
     ensures { OnOk result (Lifts cells.now.held (Cell.Variable variable) level levels.old levels.new tasks.old.items tasks.new.items) }
 {
-    let _ = cells.mark();
-    if levels.of_variable(variable) >= level {
+    if level_of(&levels.variables, variable) >= level {
         return Ok(());
     }
-    levels.set_variable(variable, level)?;
+    set_level(&mut levels.variables, variable, level)?;
     let next = cells.slot(variable);
     if next.is_variable(variable) {
         return Ok(());
@@ -66,7 +56,7 @@ fn lift_variable<N: NameValue>(
     Ok(())
 }
 
-/// Lifts a structure; its arguments are put on the list.
+/// Lifts a structure to twice its old level at least, so that it is seldom lifted; its arguments are put on the list.
 fn lift_structure<N: NameValue>(
     cells: &Cells<N>,
     levels: &mut Levels,
@@ -74,19 +64,18 @@ fn lift_structure<N: NameValue>(
     structure: u32,
     level: u64,
 ) -> Result<(), AllocError>
+    requires formed { IsFormed cells.now.held }
     requires inside { structure < length cells.now.held.structures }
     requires tasks { AreTasks cells.now.held tasks.old.items }
     ensures { OnOk result (Lifts cells.now.held (Cell.Structure structure) level levels.old levels.new tasks.old.items tasks.new.items) }
 {
-    let _ = cells.mark();
-    let old = levels.of_structure(structure);
+    let old = level_of(&levels.structures, structure);
     if old >= level {
         return Ok(());
     }
-    let new = higher(old, level);
-    levels.set_structure(structure, new)?;
-    push_arguments(cells, tasks, structure, new)?;
-    Ok(())
+    let new = old.saturating_mul(2).max(level);
+    set_level(&mut levels.structures, structure, new)?;
+    push_arguments(cells, tasks, structure, new)
 }
 
 /// Lifts one cell; what is right below it is put on the list.
@@ -97,6 +86,7 @@ fn lift_one<N: NameValue>(
     cell: Cell<N>,
     level: u64,
 ) -> Result<(), AllocError>
+    requires formed { IsFormed cells.now.held }
     requires inside { IsIn cells.now.held cell }
     requires tasks { AreTasks cells.now.held tasks.old.items }
     ensures { OnOk result (Lifts cells.now.held cell level levels.old levels.new tasks.old.items tasks.new.items) }
@@ -117,6 +107,7 @@ pub fn lift<N: NameValue>(
     cell: Cell<N>,
     level: u64,
 ) -> Result<(), AllocError>
+    requires formed { IsFormed cells.now.held }
     requires inside { IsIn cells.now.held cell }
     requires levels { AreLevels cells.now.held levels.old }
     ensures levels { OnOk result (AreLevels cells.now.held levels.new) }

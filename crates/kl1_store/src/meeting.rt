@@ -4,7 +4,6 @@ use crate::cell::Cell;
 use crate::frame::Frame;
 
 /// What becomes of an equation of two cells, neither of them a bound variable.
-#[derive(Clone, Copy)]
 pub enum Meeting<N> {
     /// It is dropped.
     Same,

@@ -14,13 +14,13 @@ use kl1_text::NameValue;
 
 /// What an equation of two cells leads to, neither of them a bound variable.
 pub fn meet<N: NameValue>(cells: &Cells<N>, left: Cell<N>, right: Cell<N>) -> Meeting<N>
+    requires formed { IsFormed cells.now.held }
     requires left_in { IsIn cells.now.held left }
     requires right_in { IsIn cells.now.held right }
     requires left_walked { IsWalked cells.now.held left }
     requires right_walked { IsWalked cells.now.held right }
     ensures { MeetsAs N.built cells.now.held left right result }
 {
-    let _ = cells.mark();
     if let Some(variable) = left.variable() {
         return match right.variable() {
             Some(other) => two_variables(cells, variable, other),
@@ -31,21 +31,40 @@ pub fn meet<N: NameValue>(cells: &Cells<N>, left: Cell<N>, right: Cell<N>) -> Me
         return Meeting::Bind(variable, left);
     }
     match left {
-        Cell::Integer(integer) => meet_integer(cells, integer, right),
-        Cell::Atom(name) => meet_atom(cells, name, right),
-        Cell::Structure(structure) => meet_structure(cells, structure, right),
+        Cell::Integer(integer) => match right {
+            Cell::Integer(other) => {
+                if integer == other {
+                    return Meeting::Same;
+                }
+                Meeting::Clash
+            }
+            _ => Meeting::Clash,
+        },
+        Cell::Atom(name) => match right {
+            Cell::Atom(other) => {
+                if name.same(&other) {
+                    return Meeting::Same;
+                }
+                Meeting::Clash
+            }
+            _ => Meeting::Clash,
+        },
+        Cell::Structure(structure) => match right {
+            Cell::Structure(other) => two_structures(cells, structure, other),
+            _ => Meeting::Clash,
+        },
         Cell::Variable(_) => Meeting::Clash,
     }
 }
 
 fn two_variables<N: NameValue>(cells: &Cells<N>, left: u32, right: u32) -> Meeting<N>
+    requires formed { IsFormed cells.now.held }
     requires left_in { left < cells.now.held.variables }
     requires right_in { right < cells.now.held.variables }
     requires left_walked { is_bound left cells.now.held.bindings ≡ false }
     requires right_walked { is_bound right cells.now.held.bindings ≡ false }
     ensures { MeetsAs N.built cells.now.held (Cell.Variable left) (Cell.Variable right) result }
 {
-    let _ = cells.mark();
     if left == right {
         return Meeting::Same;
     }
@@ -53,59 +72,6 @@ fn two_variables<N: NameValue>(cells: &Cells<N>, left: u32, right: u32) -> Meeti
         return Meeting::Bind(right, Cell::Variable(left));
     }
     Meeting::Bind(left, Cell::Variable(right))
-}
-
-fn meet_integer<N: NameValue>(cells: &Cells<N>, left: i64, right: Cell<N>) -> Meeting<N>
-    requires right_in { IsIn cells.now.held right }
-    requires value { IsNoVariable right }
-    ensures { MeetsAs N.built cells.now.held (Cell.Integer left) right result }
-{
-    let _ = cells.mark();
-    match right {
-        Cell::Integer(other) => {
-            if left == other {
-                return Meeting::Same;
-            }
-            Meeting::Clash
-        }
-        Cell::Atom(_) => Meeting::Clash,
-        Cell::Structure(_) => Meeting::Clash,
-        Cell::Variable(_) => Meeting::Clash,
-    }
-}
-
-fn meet_atom<N: NameValue>(cells: &Cells<N>, left: N, right: Cell<N>) -> Meeting<N>
-    requires right_in { IsIn cells.now.held right }
-    requires value { IsNoVariable right }
-    ensures { MeetsAs N.built cells.now.held (Cell.Atom left) right result }
-{
-    let _ = cells.mark();
-    match right {
-        Cell::Integer(_) => Meeting::Clash,
-        Cell::Atom(other) => {
-            if left.same(&other) {
-                return Meeting::Same;
-            }
-            Meeting::Clash
-        }
-        Cell::Structure(_) => Meeting::Clash,
-        Cell::Variable(_) => Meeting::Clash,
-    }
-}
-
-fn meet_structure<N: NameValue>(cells: &Cells<N>, left: u32, right: Cell<N>) -> Meeting<N>
-    requires left_in { left < length cells.now.held.structures }
-    requires right_in { IsIn cells.now.held right }
-    requires value { IsNoVariable right }
-    ensures { MeetsAs N.built cells.now.held (Cell.Structure left) right result }
-{
-    let _ = cells.mark();
-    match right {
-        Cell::Integer(_) => Meeting::Clash,
-        Cell::Atom(_) => Meeting::Clash,
-        Cell::Structure(other) => two_structures(cells, left, other),
-        Cell::Variable(_) => Meeting::Clash,
-    }
 }
 
 fn two_structures<N: NameValue>(cells: &Cells<N>, left: u32, right: u32) -> Meeting<N>

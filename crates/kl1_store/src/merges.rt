@@ -63,26 +63,13 @@ impl Merges {
         let first = find_root(&mut self.parents, left);
         let second = find_root(&mut self.parents, right);
         if first < second {
-            link(&mut self.parents, &mut self.merges, second, first)?;
-            return Ok(());
+            return link(&mut self.parents, &mut self.merges, second, first);
         }
         if second < first {
-            link(&mut self.parents, &mut self.merges, first, second)?;
-            return Ok(());
+            return link(&mut self.parents, &mut self.merges, first, second);
         }
         Ok(())
     }
-}
-
-/// What a structure leads to.
-fn parent(parents: &Vec<u32>, structure: u32) -> u32
-    ensures { result ≡ get_or parents.now.items structure structure }
-{
-    let index = structure as usize;
-    if index < parents.len() {
-        return parents[index];
-    }
-    structure
 }
 
 /// The structure at the end of the way; the way is shortened.
@@ -95,7 +82,7 @@ fn find_root(parents: &mut Vec<u32>, structure: u32) -> u32
         if next >= at {
             return at;
         }
-        let over = parent(parents, next);
+        let over = parents[next as usize];
         parents[at as usize] = over;
         at = next;
     }

@@ -3,7 +3,6 @@
 use crate::cell::Cell;
 
 /// What the waiting equations come to before the next binding.
-#[derive(Clone, Copy)]
 pub enum Next<N> {
     /// They all hold.
     Finished,

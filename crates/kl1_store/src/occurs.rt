@@ -6,7 +6,7 @@ ghost use Rattle.kl1_store.specs.Levels.{AreLevels, FindsAs};
 
 use crate::cell::Cell;
 use crate::cells::Cells;
-use crate::levels::Levels;
+use crate::levels::{Levels, level_of};
 use crate::lift::lift;
 use crate::task::Task;
 use kl1_text::NameValue;
@@ -30,19 +30,19 @@ pub fn occurs_in_term<N: NameValue>(
     ensures levels { AreLevels cells.now.held levels.new }
 {
     let _ = cells.mark();
-    if levels.of_variable(variable) == u64::MAX {
-        levels.clear();
+    if level_of(&levels.variables, variable) == u64::MAX {
+        levels.keep(0, 0);
     }
-    let level = levels.of_variable(variable) + 1;
+    let level = level_of(&levels.variables, variable) + 1;
     match lift(cells, levels, tasks, value, level) {
         Ok(()) => {
-            if levels.of_variable(variable) < level {
+            if level_of(&levels.variables, variable) < level {
                 return Ok(false);
             }
             Ok(true)
         }
         Err(error) => {
-            levels.clear();
+            levels.keep(0, 0);
             Err(error)
         }
     }

@@ -45,15 +45,39 @@ impl Pairs {
     pub fn clear(&mut self)
         ensures { self.new ≡ [] }
     {
-        empty(&mut self.firsts, &mut self.pairs);
         self.nexts.clear();
+        while let Some(pair) = self.pairs.pop() {
+            let count = self.firsts.len();
+            if count > 0 {
+                self.firsts[list_of(pair.left, pair.right, count)] = 0;
+            }
+        }
     }
 
     /// Whether this pair is in the set.
     pub fn has(&self, left: u32, right: u32) -> bool
         ensures { IsTrue result → Contains self.now (record { left = left; right = right }) }
     {
-        is_listed(&self.firsts, &self.nexts, &self.pairs, left, right)
+        if self.firsts.len() == 0 {
+            return false;
+        }
+        let mut at = self.firsts[list_of(left, right, self.firsts.len())];
+        while at > 0 {
+            let index = at as usize - 1;
+            if index >= self.pairs.len() || index >= self.nexts.len() {
+                return false;
+            }
+            let pair = self.pairs[index];
+            if pair.left == left && pair.right == right {
+                return true;
+            }
+            let next = self.nexts[index];
+            if next >= at {
+                return false;
+            }
+            at = next;
+        }
+        false
     }
 
     /// Puts in a pair.
@@ -76,32 +100,6 @@ fn list_of(left: u32, right: u32, count: usize) -> usize
     let first = (left as u64).wrapping_mul(0x9e37_79b9_7f4a_7c15);
     let second = (right as u64).wrapping_mul(0xc2b2_ae3d_27d4_eb4f);
     ((first ^ second) >> 32) as usize % count
-}
-
-/// Whether a pair is in its list.
-fn is_listed(firsts: &Vec<u32>, nexts: &Vec<u32>, pairs: &Vec<Pair>, left: u32, right: u32) -> bool
-    ensures { IsTrue result → Contains pairs.now.items (record { left = left; right = right }) }
-{
-    if firsts.len() == 0 {
-        return false;
-    }
-    let mut at = firsts[list_of(left, right, firsts.len())];
-    while at > 0 {
-        let index = at as usize - 1;
-        if index >= pairs.len() || index >= nexts.len() {
-            return false;
-        }
-        let pair = pairs[index];
-        if pair.left == left && pair.right == right {
-            return true;
-        }
-        let next = nexts[index];
-        if next >= at {
-            return false;
-        }
-        at = next;
-    }
-    false
 }
 
 /// Puts the pair whose place is next in front of its list.
@@ -138,16 +136,4 @@ fn spread(
         list(firsts, nexts, pair.left, pair.right)?;
     }
     Ok(())
-}
-
-/// Takes out all pairs, and empties their lists.
-fn empty(firsts: &mut Vec<u32>, pairs: &mut Vec<Pair>)
-    ensures { pairs.new.items ≡ [] }
-{
-    while let Some(pair) = pairs.pop() {
-        let count = firsts.len();
-        if count > 0 {
-            firsts[list_of(pair.left, pair.right, count)] = 0;
-        }
-    }
 }

@@ -5,7 +5,6 @@ use crate::merges::Merges;
 use crate::pairs::Pairs;
 use crate::task::Task;
 use kl1_text::NameValue;
-use std::alloc::Global;
 
 /// Lists that each call empties before it uses them.
 #[derive(Drop)]
@@ -14,16 +13,4 @@ pub struct Scratch<N: NameValue> {
     pub merges: Merges,
     pub pairs: Pairs,
     pub tasks: Vec<Task<N>>,
-}
-
-impl<N: NameValue> Scratch<N> {
-    /// Empty lists.
-    pub fn new(alloc: Global) -> Self {
-        Scratch {
-            frames: Vec::new(alloc),
-            merges: Merges::new(alloc),
-            pairs: Pairs::new(alloc),
-            tasks: Vec::new(alloc),
-        }
-    }
 }

@@ -2,6 +2,7 @@
 
 ghost use Rattle.std.specs.Prelude.{◌≡◌, ℕ, List, [], IfOk, OnErr};
 ghost use Rattle.kl1_store.specs.Held.{Held, IsIn};
+ghost use Rattle.kl1_store.specs.Sound.{IsFormed};
 ghost use Rattle.kl1_store.specs.Waiting.{waiting, ArePairs};
 ghost use Rattle.kl1_store.specs.Meets.{CanTake};
 ghost use Rattle.kl1_store.specs.Levels.{AreLevels};
@@ -39,8 +40,7 @@ fn bind_new<N: NameValue>(
     ensures levels { AreLevels cells.new.held levels.new }
     ensures spends { SpendsOnBindings cells.old.held cells.old.room cells.new.held cells.new.room }
 {
-    let found = occurs_in_term(cells, levels, tasks, variable, value)?;
-    if found {
+    if occurs_in_term(cells, levels, tasks, variable, value)? {
         return Ok(false);
     }
     cells.bind(variable, value)?;
@@ -87,6 +87,7 @@ pub fn unify_cells<N: NameValue>(
     left: Cell<N>,
     right: Cell<N>,
 ) -> Result<bool, AllocError>
+    requires formed { IsFormed cells.old.held }
     requires left_in { IsIn cells.old.held left }
     requires right_in { IsIn cells.old.held right }
     requires levels { AreLevels cells.old.held levels.old }
@@ -95,7 +96,6 @@ pub fn unify_cells<N: NameValue>(
     ensures levels { AreLevels cells.new.held levels.new }
     ensures spends { SpendsOnBindings cells.old.held cells.old.room cells.new.held cells.new.room }
 {
-    let _ = cells.mark();
     frames.clear();
     merges.clear();
     let first = cells.walk(left);

@@ -3,7 +3,6 @@
 use crate::cell::Cell;
 
 /// Two cells that are looked at side by side.
-#[derive(Clone, Copy)]
 pub struct Sides<N> {
     pub left: Cell<N>,
     pub right: Cell<N>,

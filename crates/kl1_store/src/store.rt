@@ -15,6 +15,8 @@ use crate::compare_each::compare_each;
 use crate::head::Head;
 use crate::hook::Hook;
 use crate::levels::Levels;
+use crate::merges::Merges;
+use crate::pairs::Pairs;
 use crate::point::Point;
 use crate::same::Same;
 use crate::scratch::Scratch;
@@ -60,8 +62,16 @@ impl<N: NameValue> Store<N> {
     {
         Store {
             cells: Cells::new(alloc),
-            levels: Levels::new(alloc),
-            scratch: Scratch::new(alloc),
+            levels: Levels {
+                variables: Vec::new(alloc),
+                structures: Vec::new(alloc),
+            },
+            scratch: Scratch {
+                frames: Vec::new(alloc),
+                merges: Merges::new(alloc),
+                pairs: Pairs::new(alloc),
+                tasks: Vec::new(alloc),
+            },
             hooks: Vec::new(alloc),
             alloc,
         }
@@ -189,8 +199,7 @@ impl<N: NameValue> Store<N> {
         ensures hooks { self.new.hooks ≡ self.old.hooks }
         ensures room { self.new.room ≡ self.old.room }
     {
-        self.hooks.reserve(hooks)?;
-        Ok(())
+        self.hooks.reserve(hooks)
     }
 
     /// Whether a cell is of this store.
@@ -233,8 +242,7 @@ impl<N: NameValue> Store<N> {
         ensures { OnOk result (told.new.items ≡ told.old.items ++ told_by (drop since.sizes.bindings self.now.held.bindings) self.now.hooks) }
     {
         let bindings = self.cells.bindings_from(since.sizes.bindings);
-        tell_all(bindings, self.hooks.as_slice(), told)?;
-        Ok(())
+        tell_all(bindings, self.hooks.as_slice(), told)
     }
 
     /// How much is kept now.

@@ -22,36 +22,36 @@ loop-frame-smaller-then-frame g c = (left_closes g.N.NameValue.built c.args.cell
 pub loop-frame-preserved-then-frame : goal.loop-frame-preserved-then-frame
 loop-frame-preserved-then-frame g c = (left_closes g.N.NameValue.built c.args.cells.now.held c.args.left c.args.right c.args.waits.now.items c.loop-frame.waits.items c.loop-frame.pairs c.add.new.self c.loop-frame.frames.items c.pop.new.self.items c.in-Some.frame c.mark.ensures.formed c.loop-frame.invariant c.in-Some.ensures.items c.if-frame.true c.in_ok-add.ensures).0
 
-pub turn-sides-requires : goal.turn-sides-requires
-turn-sides-requires g c = record { pair = pair_popped c.args.cells.now.held c.loop-frame.frames.items c.pop.new.self.items c.in-Some.frame c.loop-frame.invariant.pairs c.in-Some.ensures.items; more = c.if-frame.false }
+pub turn-requires : goal.turn-requires
+turn-requires g c = record { pair = pair_popped c.args.cells.now.held c.loop-frame.frames.items c.pop.new.self.items c.in-Some.frame c.loop-frame.invariant.pairs c.in-Some.ensures.items; more = c.if-frame.false }
 
 pub compare_sides-requires-in-Some-clause-pairs : goal.compare_sides-requires-in-Some-clause-pairs
 compare_sides-requires-in-Some-clause-pairs g c =
     onward_pushed c.args.cells.now.held c.loop-frame.frames.items c.pop.new.self.items c.push.new.self.items c.in-Some.frame c.onward.result c.loop-frame.invariant.pairs c.in-Some.ensures.items c.in_ok-push.ensures.items c.onward.ensures c.if-frame.false
 
 pub loop-frame-smaller-then-is_known : goal.loop-frame-smaller-then-is_known
-loop-frame-smaller-then-is_known g c = (left_skips g.N.NameValue.built c.args.cells.now.held c.args.left c.args.right c.args.waits.now.items c.loop-frame.waits.items c.loop-frame.pairs c.loop-frame.frames.items c.pop.new.self.items c.push.new.self.items c.in-Some.frame c.onward.result c.turn-sides.result.left c.turn-sides.result.right c.loop-frame.invariant c.in-Some.ensures.items c.in_ok-push.ensures.items c.onward.ensures c.turn-sides.ensures c.if-frame.false (c.is_known.ensures c.if-is_known.true)).1
+loop-frame-smaller-then-is_known g c = (left_skips g.N.NameValue.built c.args.cells.now.held c.args.left c.args.right c.args.waits.now.items c.loop-frame.waits.items c.loop-frame.pairs c.loop-frame.frames.items c.pop.new.self.items c.push.new.self.items c.in-Some.frame c.onward.result c.turn.result.left c.turn.result.right c.loop-frame.invariant c.in-Some.ensures.items c.in_ok-push.ensures.items c.onward.ensures c.turn.ensures c.if-frame.false (c.is_known.ensures c.if-is_known.true)).1
 
 pub loop-frame-preserved-then-is_known : goal.loop-frame-preserved-then-is_known
-loop-frame-preserved-then-is_known g c = (left_skips g.N.NameValue.built c.args.cells.now.held c.args.left c.args.right c.args.waits.now.items c.loop-frame.waits.items c.loop-frame.pairs c.loop-frame.frames.items c.pop.new.self.items c.push.new.self.items c.in-Some.frame c.onward.result c.turn-sides.result.left c.turn-sides.result.right c.loop-frame.invariant c.in-Some.ensures.items c.in_ok-push.ensures.items c.onward.ensures c.turn-sides.ensures c.if-frame.false (c.is_known.ensures c.if-is_known.true)).0
+loop-frame-preserved-then-is_known g c = (left_skips g.N.NameValue.built c.args.cells.now.held c.args.left c.args.right c.args.waits.now.items c.loop-frame.waits.items c.loop-frame.pairs c.loop-frame.frames.items c.pop.new.self.items c.push.new.self.items c.in-Some.frame c.onward.result c.turn.result.left c.turn.result.right c.loop-frame.invariant c.in-Some.ensures.items c.in_ok-push.ensures.items c.onward.ensures c.turn.ensures c.if-frame.false (c.is_known.ensures c.if-is_known.true)).0
 
 pub returns-then-not-branch-2 : goal.returns-then-not-branch-2
 returns-then-not-branch-2 g c =
-    let P : Bool → Type 0 = λ b. ComparesAs g.N.NameValue.built c.args.cells.now.held c.turn-sides.result.left c.turn-sides.result.right c.push.new.self.items c.compare_sides-in-Some.new.frames.items c.loop-frame.waits.items c.compare_sides-in-Some.new.waits.items b in
+    let P : Bool → Type 0 = λ b. ComparesAs g.N.NameValue.built c.args.cells.now.held c.turn.result.left c.turn.result.right c.push.new.self.items c.compare_sides-in-Some.new.frames.items c.loop-frame.waits.items c.compare_sides-in-Some.new.waits.items b in
     left_clash g.N.NameValue.built c.args.cells.now.held c.args.left c.args.right c.args.waits.now.items c.loop-frame.waits.items c.loop-frame.pairs c.loop-frame.frames.items c.loop-frame.invariant
-    (pair_clashes g.N.NameValue.built c.args.cells.now.held c.loop-frame.frames.items c.pop.new.self.items c.in-Some.frame c.turn-sides.result.left c.turn-sides.result.right c.in-Some.ensures.items c.turn-sides.ensures (subst P c.if-not-branch-2.true c.in_ok-compare_sides-2.ensures))
+    (pair_clashes g.N.NameValue.built c.args.cells.now.held c.loop-frame.frames.items c.pop.new.self.items c.in-Some.frame c.turn.result.left c.turn.result.right c.in-Some.ensures.items c.turn.ensures (subst P c.if-not-branch-2.true c.in_ok-compare_sides-2.ensures))
 
 pub loop-frame-smaller : goal.loop-frame-smaller
 loop-frame-smaller g c =
-    let P : Bool → Type 0 = λ b. ComparesAs g.N.NameValue.built c.args.cells.now.held c.turn-sides.result.left c.turn-sides.result.right c.push.new.self.items c.compare_sides-in-Some.new.frames.items c.loop-frame.waits.items c.compare_sides-in-Some.new.waits.items b in
-    (left_looks g.N.NameValue.built c.args.cells.now.held c.args.left c.args.right c.args.waits.now.items c.loop-frame.waits.items c.compare_sides-in-Some.new.waits.items c.loop-frame.pairs c.loop-frame.frames.items c.pop.new.self.items c.push.new.self.items c.compare_sides-in-Some.new.frames.items c.in-Some.frame c.onward.result c.turn-sides.result.left c.turn-sides.result.right
-    c.loop-frame.invariant c.in-Some.ensures.items c.in_ok-push.ensures.items c.onward.ensures c.turn-sides.ensures (subst P c.if-not-branch-2.false c.in_ok-compare_sides-2.ensures)).1
+    let P : Bool → Type 0 = λ b. ComparesAs g.N.NameValue.built c.args.cells.now.held c.turn.result.left c.turn.result.right c.push.new.self.items c.compare_sides-in-Some.new.frames.items c.loop-frame.waits.items c.compare_sides-in-Some.new.waits.items b in
+    (left_looks g.N.NameValue.built c.args.cells.now.held c.args.left c.args.right c.args.waits.now.items c.loop-frame.waits.items c.compare_sides-in-Some.new.waits.items c.loop-frame.pairs c.loop-frame.frames.items c.pop.new.self.items c.push.new.self.items c.compare_sides-in-Some.new.frames.items c.in-Some.frame c.onward.result c.turn.result.left c.turn.result.right
+    c.loop-frame.invariant c.in-Some.ensures.items c.in_ok-push.ensures.items c.onward.ensures c.turn.ensures (subst P c.if-not-branch-2.false c.in_ok-compare_sides-2.ensures)).1
 
 pub loop-frame-preserved : goal.loop-frame-preserved
 loop-frame-preserved g c =
-    let P : Bool → Type 0 = λ b. ComparesAs g.N.NameValue.built c.args.cells.now.held c.turn-sides.result.left c.turn-sides.result.right c.push.new.self.items c.compare_sides-in-Some.new.frames.items c.loop-frame.waits.items c.compare_sides-in-Some.new.waits.items b in
-    (left_looks g.N.NameValue.built c.args.cells.now.held c.args.left c.args.right c.args.waits.now.items c.loop-frame.waits.items c.compare_sides-in-Some.new.waits.items c.loop-frame.pairs c.loop-frame.frames.items c.pop.new.self.items c.push.new.self.items c.compare_sides-in-Some.new.frames.items c.in-Some.frame c.onward.result c.turn-sides.result.left c.turn-sides.result.right
-    c.loop-frame.invariant c.in-Some.ensures.items c.in_ok-push.ensures.items c.onward.ensures c.turn-sides.ensures (subst P c.if-not-branch-2.false c.in_ok-compare_sides-2.ensures)).0
+    let P : Bool → Type 0 = λ b. ComparesAs g.N.NameValue.built c.args.cells.now.held c.turn.result.left c.turn.result.right c.push.new.self.items c.compare_sides-in-Some.new.frames.items c.loop-frame.waits.items c.compare_sides-in-Some.new.waits.items b in
+    (left_looks g.N.NameValue.built c.args.cells.now.held c.args.left c.args.right c.args.waits.now.items c.loop-frame.waits.items c.compare_sides-in-Some.new.waits.items c.loop-frame.pairs c.loop-frame.frames.items c.pop.new.self.items c.push.new.self.items c.compare_sides-in-Some.new.frames.items c.in-Some.frame c.onward.result c.turn.result.left c.turn.result.right
+    c.loop-frame.invariant c.in-Some.ensures.items c.in_ok-push.ensures.items c.onward.ensures c.turn.ensures (subst P c.if-not-branch-2.false c.in_ok-compare_sides-2.ensures)).0
 
 pub returns : goal.returns
 returns g c =

@@ -1,29 +1,46 @@
+use Rattle.std.proofs.Common.{◌≡◌, Bool, true, ◌∷◌, ◌++◌, sym, subst}
+use Rattle.std.proofs.lemmas.Result.{IfOk-weaker}
+use Rattle.std.specs.Prelude.{[]}
+use Rattle.kl1_store.specs.Compares.{ComparesAs}
 use Rattle.kl1_store.proofs.Comparing.{looked_same, looked_two, looked_one_variable, looked_left, looked_right, looked_clash, looked_open}
 use Rattle.kl1_store.proofs.compare.compare_sides.Goals as goal
 
-pub returns-then-variable-other : goal.returns-then-variable-other
-returns-then-variable-other g c =
-    looked_two g.N.NameValue.built c.args.cells.now.held c.args.left c.args.right c.in-Some.variable c.in-Some-variable.other c.args.frames.now.items c.args.waits.now.items c.push.new.self.items c.push-then-variable-other.new.self.items
-    c.requires.pairs c.in-Some.ensures c.in-Some-variable.ensures c.requires.left_walked c.requires.right_walked c.if-variable-other.true c.in_ok-push-in-Some-variable.ensures.items c.in_ok-push-in-Some-variable-2.ensures.items
-
 pub returns-in-Some-variable : goal.returns-in-Some-variable
 returns-in-Some-variable g c =
-    looked_one_variable g.N.NameValue.built c.args.cells.now.held c.args.left c.args.right c.in-Some.variable c.in-Some-variable.other c.args.frames.now.items c.args.waits.now.items c.requires.pairs c.in-Some.ensures c.in-Some-variable.ensures c.if-variable-other.false
+    let one = c.push.new.self.items in
+    let two = c.wait_for.new.waits.items in
+    let As : Bool → Type 0 = λ b. ComparesAs g.N.NameValue.built c.args.cells.now.held c.args.left c.args.right c.args.frames.now.items c.args.frames.now.items c.args.waits.now.items two b in
+    let Waits : Bool → Type 0 = λ b. (b ≡ true) × (two ≡ one ++ c.in-Some-variable.other ∷ []) in
+    IfOk-weaker c.wait_for.result Waits As (λ b w. subst As (sym w.0) (
+    looked_two g.N.NameValue.built c.args.cells.now.held c.args.left c.args.right c.in-Some.variable c.in-Some-variable.other c.args.frames.now.items c.args.waits.now.items one two
+    c.requires.pairs c.in-Some.ensures c.in-Some-variable.ensures c.requires.left_walked c.requires.right_walked c.if-variable-other.false c.in_ok-push-in-Some-variable.ensures.items w.1)) c.wait_for.ensures
+
+pub returns-then-variable-other : goal.returns-then-variable-other
+returns-then-variable-other g c =
+    looked_one_variable g.N.NameValue.built c.args.cells.now.held c.args.left c.args.right c.in-Some.variable c.in-Some-variable.other c.args.frames.now.items c.args.waits.now.items c.requires.pairs c.in-Some.ensures c.in-Some-variable.ensures c.if-variable-other.true
 
 pub returns-in-None : goal.returns-in-None
 returns-in-None g c =
-    looked_left g.N.NameValue.built c.args.cells.now.held c.args.left c.args.right c.in-Some.variable c.args.frames.now.items c.args.waits.now.items c.push-in-None.new.self.items c.mark.ensures.formed c.requires.pairs c.in-Some.ensures c.requires.left_walked c.requires.right_in c.in-None.ensures c.in_ok-push-in-None.ensures.items
+    let two = c.wait_for-in-None.new.waits.items in
+    let As : Bool → Type 0 = λ b. ComparesAs g.N.NameValue.built c.args.cells.now.held c.args.left c.args.right c.args.frames.now.items c.args.frames.now.items c.args.waits.now.items two b in
+    let Waits : Bool → Type 0 = λ b. (b ≡ true) × (two ≡ c.args.waits.now.items ++ c.in-Some.variable ∷ []) in
+    IfOk-weaker c.wait_for-in-None.result Waits As (λ b w. subst As (sym w.0) (
+    looked_left g.N.NameValue.built c.args.cells.now.held c.args.left c.args.right c.in-Some.variable c.args.frames.now.items c.args.waits.now.items two c.requires.formed c.requires.pairs c.in-Some.ensures c.requires.left_walked c.requires.right_in c.in-None.ensures w.1)) c.wait_for-in-None.ensures
 
 pub returns-in-Some-variable-2 : goal.returns-in-Some-variable-2
 returns-in-Some-variable-2 g c =
-    looked_right g.N.NameValue.built c.args.cells.now.held c.args.left c.args.right c.in-Some-variable-2.variable c.args.frames.now.items c.args.waits.now.items c.push-in-Some-variable-2.new.self.items c.mark.ensures.formed c.requires.pairs c.in-Some-variable-2.ensures c.requires.right_walked c.requires.left_in c.in_default.ensures c.in_ok-push.ensures.items
+    let two = c.wait_for-in-Some-variable-2.new.waits.items in
+    let As : Bool → Type 0 = λ b. ComparesAs g.N.NameValue.built c.args.cells.now.held c.args.left c.args.right c.args.frames.now.items c.args.frames.now.items c.args.waits.now.items two b in
+    let Waits : Bool → Type 0 = λ b. (b ≡ true) × (two ≡ c.args.waits.now.items ++ c.in-Some-variable-2.variable ∷ []) in
+    IfOk-weaker c.wait_for-in-Some-variable-2.result Waits As (λ b w. subst As (sym w.0) (
+    looked_right g.N.NameValue.built c.args.cells.now.held c.args.left c.args.right c.in-Some-variable-2.variable c.args.frames.now.items c.args.waits.now.items two c.requires.formed c.requires.pairs c.in-Some-variable-2.ensures c.requires.right_walked c.requires.left_in c.in_default.ensures w.1)) c.wait_for-in-Some-variable-2.ensures
 
 pub returns-in-Same : goal.returns-in-Same
 returns-in-Same g c = looked_same g.N.NameValue.built c.args.cells.now.held c.args.left c.args.right c.args.frames.now.items c.args.waits.now.items c.requires.pairs c.in-Same.ensures
 
 pub returns-in-Clash : goal.returns-in-Clash
-returns-in-Clash g c = looked_clash g.N.NameValue.built c.args.cells.now.held c.args.left c.args.right c.mark.ensures.formed c.requires.left_in c.requires.right_in c.in_default.ensures c.in_default-variable.ensures c.in-Clash.ensures
+returns-in-Clash g c = looked_clash g.N.NameValue.built c.args.cells.now.held c.args.left c.args.right c.requires.formed c.requires.left_in c.requires.right_in c.in_default.ensures c.in_default-variable.ensures c.in-Clash.ensures
 
 pub returns-in_ok-push-in-Open : goal.returns-in_ok-push-in-Open
 returns-in_ok-push-in-Open g c =
-    looked_open g.N.NameValue.built c.args.cells.now.held c.args.left c.args.right c.in-Open.frame c.args.frames.now.items c.push-in-Open.new.self.items c.args.waits.now.items c.mark.ensures.formed c.requires.pairs c.in-Open.ensures c.in_ok-push-in-Open.ensures.items
+    looked_open g.N.NameValue.built c.args.cells.now.held c.args.left c.args.right c.in-Open.frame c.args.frames.now.items c.push-in-Open.new.self.items c.args.waits.now.items c.requires.formed c.requires.pairs c.in-Open.ensures c.in_ok-push-in-Open.ensures.items

@@ -1,4 +1,5 @@
-use Rattle.std.proofs.Common.{refl, set, arith}
+use Rattle.std.proofs.Common.{refl, ◌∙◌, set, arith}
+use Rattle.std.proofs.lemmas.List.{get_or_default}
 use Rattle.kl1_store.proofs.Merging.{root_starts, root_goes_on}
 use Rattle.kl1_store.proofs.merges.find_root.Goals as goal
 
@@ -8,5 +9,5 @@ loop-at-init c = λ ms a. root_starts c.args.parents.now.items c.args.structure 
 pub loop-at-preserved : goal.loop-at-preserved
 loop-at-preserved c = λ ms a.
     let l = c.loop-at in
-    root_goes_on l.parents.items (set l.parents.items l.at c.parent-over.result) c.args.structure l.at c.index-next.result.now c.parent-over.result ms
-    (omega (arith, c.len.ensures, c.loop-at-test.true, l.parents.ok.0)) c.index-next.ensures c.if-next-at.false c.parent-over.ensures refl (l.invariant ms a)
+    root_goes_on l.parents.items (set l.parents.items l.at c.index-over.result.now) c.args.structure l.at c.index-next.result.now c.index-over.result.now ms
+    (omega (arith, c.len.ensures, c.loop-at-test.true, l.parents.ok.0)) c.index-next.ensures c.if-next-at.false (c.index-over.ensures ∙ get_or_default l.parents.items c.index-next.result.now c.index-over.result.now c.index-next.result.now (omega (arith, c.len.ensures, c.loop-at-test.true, c.if-next-at.false, l.parents.ok.0))) refl (l.invariant ms a)

@@ -7,17 +7,17 @@ use Rattle.kl1_store.proofs.settle.unify_cells.Goals as goal
 
 pub returns-in-Same-clause-settled : goal.returns-in-Same-clause-settled
 returns-in-Same-clause-settled g c =
-    let one : OneEquation c.args.cells.now.held c.args.left c.args.right c.walk-first.result c.walk-second.result = record { formed = c.mark.ensures.formed; left_in = c.walk-first.ensures.inside; right_in = c.walk-second.ensures.inside; left_means = c.walk-first.ensures.means; right_means = c.walk-second.ensures.means } in
+    let one : OneEquation c.args.cells.now.held c.args.left c.args.right c.walk-first.result c.walk-second.result = record { formed = c.requires.formed; left_in = c.walk-first.ensures.inside; right_in = c.walk-second.ensures.inside; left_means = c.walk-first.ensures.means; right_means = c.walk-second.ensures.means } in
     one_same g.N.NameValue.built c.args.cells.now.held c.args.left c.args.right c.walk-first.result c.walk-second.result one c.in-Same.ensures
 
 pub returns-in-Clash-clause-settled : goal.returns-in-Clash-clause-settled
 returns-in-Clash-clause-settled g c =
-    let one : OneEquation c.args.cells.now.held c.args.left c.args.right c.walk-first.result c.walk-second.result = record { formed = c.mark.ensures.formed; left_in = c.walk-first.ensures.inside; right_in = c.walk-second.ensures.inside; left_means = c.walk-first.ensures.means; right_means = c.walk-second.ensures.means } in
+    let one : OneEquation c.args.cells.now.held c.args.left c.args.right c.walk-first.result c.walk-second.result = record { formed = c.requires.formed; left_in = c.walk-first.ensures.inside; right_in = c.walk-second.ensures.inside; left_means = c.walk-first.ensures.means; right_means = c.walk-second.ensures.means } in
     one_clash g.N.NameValue.built c.args.cells.now.held c.args.left c.args.right c.walk-first.result c.walk-second.result one c.in-Clash.ensures
 
 pub returns-in-Bind-clause-settled : goal.returns-in-Bind-clause-settled
 returns-in-Bind-clause-settled g c =
-    let one : OneEquation c.args.cells.now.held c.args.left c.args.right c.walk-first.result c.walk-second.result = record { formed = c.mark.ensures.formed; left_in = c.walk-first.ensures.inside; right_in = c.walk-second.ensures.inside; left_means = c.walk-first.ensures.means; right_means = c.walk-second.ensures.means } in
+    let one : OneEquation c.args.cells.now.held c.args.left c.args.right c.walk-first.result c.walk-second.result = record { formed = c.requires.formed; left_in = c.walk-first.ensures.inside; right_in = c.walk-second.ensures.inside; left_means = c.walk-first.ensures.means; right_means = c.walk-second.ensures.means } in
     let old = c.args.cells.now.held in
     let new = c.bind_new.new.cells.held in
     let P : Bool → Type 0 = λ b. BindsAs old new c.in-Bind.variable c.in-Bind.value b in
@@ -29,7 +29,7 @@ returns-in-Bind-clause-grown g c = grown_taken c.args.cells.now.held c.bind_new.
 
 pub returns-in_ok-push-in-Open-clause-settled : goal.returns-in_ok-push-in-Open-clause-settled
 returns-in_ok-push-in-Open-clause-settled g c =
-    let one : OneEquation c.args.cells.now.held c.args.left c.args.right c.walk-first.result c.walk-second.result = record { formed = c.mark.ensures.formed; left_in = c.walk-first.ensures.inside; right_in = c.walk-second.ensures.inside; left_means = c.walk-first.ensures.means; right_means = c.walk-second.ensures.means } in
+    let one : OneEquation c.args.cells.now.held c.args.left c.args.right c.walk-first.result c.walk-second.result = record { formed = c.requires.formed; left_in = c.walk-first.ensures.inside; right_in = c.walk-second.ensures.inside; left_means = c.walk-first.ensures.means; right_means = c.walk-second.ensures.means } in
     let e : c.push.new.self.items ≡ c.in-Open.frame ∷ [] = c.in_ok-push-in-Open.ensures.items ∙ ap (λ l. l ++ c.in-Open.frame ∷ []) c.clear.ensures.items in
     let old = c.args.cells.now.held in
     let new = c.settle.new.cells.held in
