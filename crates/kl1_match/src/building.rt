@@ -1,6 +1,6 @@
 // Cells built of nodes, from the last node to the first.
 
-ghost use Rattle.std.specs.Prelude.{◌≡◌, length, reverse, OnOk};
+ghost use Rattle.std.specs.Prelude.{◌≡◌, [], ◌∷◌, ◌++◌, length, reverse, OnOk};
 ghost use Rattle.kl1_store.specs.Held.{IsIn, AreIn};
 ghost use Rattle.kl1_store.specs.Sound.{Grown};
 ghost use Rattle.kl1_match.specs.Rows.{firsts, others, Joins};
@@ -10,6 +10,16 @@ use crate::step::Step;
 use kl1_store::{Cell, Store};
 use kl1_text::NameValue;
 use std::alloc::AllocError;
+
+/// Puts a cell on a stack.
+pub(crate) fn put_cell<N: Copy>(stack: &mut Vec<Cell<N>>, cell: Cell<N>) -> Result<(), AllocError>
+    ensures { OnOk result (stack.new.items ≡ stack.old.items ++ cell ∷ []) }
+{
+    match stack.push(cell) {
+        Ok(()) => Ok(()),
+        Err(_) => Err(AllocError),
+    }
+}
 
 /// Moves so many cells from the top of a stack; where none is left, `missing` stands for it.
 pub(crate) fn move_top<N: NameValue>(
@@ -25,7 +35,7 @@ pub(crate) fn move_top<N: NameValue>(
     let mut left = count;
     while 0 < left {
         let cell = stack.pop().unwrap_or(missing);
-        arguments.push(cell)?;
+        put_cell(arguments, cell)?;
         left -= 1;
     }
     Ok(())
@@ -46,14 +56,12 @@ pub(crate) fn join_top<N: NameValue>(
     ensures grown { Grown store.old.held store.new.held }
     ensures hooks { store.new.hooks ≡ store.old.hooks }
     ensures bindings { store.new.held.bindings ≡ store.old.held.bindings }
-    ensures joins { OnOk result (Joins store.old.held store.new.held missing name count (reverse stack.old.items) (reverse stack.new.items)) }
-    ensures inside { OnOk result (AreIn store.new.held stack.new.items) }
+    ensures joins { OnOk result (Joins store.old.held store.new.held missing name count (reverse stack.old.items) (reverse stack.new.items) × AreIn store.new.held stack.new.items) }
 {
     let _ = store.mark();
     move_top(stack, arguments, missing, count)?;
     let structure = store.build(name, arguments.as_slice())?;
-    stack.push(Cell::Structure(structure))?;
-    Ok(())
+    put_cell(stack, Cell::Structure(structure))
 }
 
 /// Puts on a stack the cell of a term that begins with a step, whose arguments are taken from its top. `variables` has a
@@ -74,13 +82,11 @@ pub(crate) fn put_step<N: NameValue>(
     ensures puts { OnOk result (PutsStep store.old.held store.new.held variables.now step stack.old.items stack.new.items) }
 {
     match step {
-        Step::Variable(number) => stack.push(variables[number as usize])?,
-        Step::Integer(number) => stack.push(Cell::Integer(number))?,
-        Step::Atom(name) => stack.push(Cell::Atom(name))?,
+        Step::Variable(number) => put_cell(stack, variables[number as usize]),
+        Step::Integer(number) => put_cell(stack, Cell::Integer(number)),
+        Step::Atom(name) => put_cell(stack, Cell::Atom(name)),
         Step::Structure(name, count) => {
-            let missing = variables[0];
-            join_top(store, stack, arguments, missing, name, count)?;
+            join_top(store, stack, arguments, variables[0], name, count)
         }
     }
-    Ok(())
 }

@@ -34,11 +34,11 @@ fn step_of(node: Node) -> Step<AtomText>
 /// Puts on an empty stack the cells of the terms of nodes, the last of them first. `variables` has a cell for each variable,
 /// by its number from 0. Where memory is refused, the stack is of no use.
 fn put_nodes(
-    alloc: Global,
     store: &mut Store<AtomText>,
     variables: &[Cell<AtomText>],
     nodes: &[Node],
     stack: &mut Vec<Cell<AtomText>>,
+    arguments: &mut Vec<Cell<AtomText>>,
 ) -> Result<(), AllocError>
     requires below { AreNodesBelow (length variables.now) nodes.now }
     requires variables { AreIn store.old.held variables.now }
@@ -48,12 +48,11 @@ fn put_nodes(
     ensures bindings { store.new.held.bindings ≡ store.old.held.bindings }
     ensures nodes { OnOk result (BuildsNodes store.old.held store.new.held variables.now nodes.now stack.new.items) }
 {
-    let mut arguments = Vec::new(alloc);
     let mut left = nodes.len();
     while 0 < left {
         left -= 1;
         let step = step_of(nodes[left]);
-        put_step(store, variables, step, stack, &mut arguments)?;
+        put_step(store, variables, step, stack, arguments)?;
     }
     Ok(())
 }
@@ -77,6 +76,13 @@ pub fn build_goal(
     variables.push(Cell::Atom(AtomText::of_built_in(BuiltIn::EmptyList)))?;
     put_fresh(store, &mut variables, goal.highest())?;
     let mut stack = Vec::new(alloc);
-    put_nodes(alloc, store, variables.as_slice(), goal.nodes(), &mut stack)?;
+    let mut arguments = Vec::new(alloc);
+    put_nodes(
+        store,
+        variables.as_slice(),
+        goal.nodes(),
+        &mut stack,
+        &mut arguments,
+    )?;
     Ok(stack.pop().unwrap_or(Cell::Integer(0)))
 }

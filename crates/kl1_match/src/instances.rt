@@ -38,12 +38,12 @@ fn step_in<N: NameValue>(names: &[N], instruction: Instruction) -> Step<N>
 /// Puts on an empty stack the cells of the terms of a row, the last of them first. `variables` has a cell for each variable,
 /// by its number from 0. Where memory is refused, the stack is of no use.
 fn put_row<N: NameValue>(
-    alloc: Global,
     store: &mut Store<N>,
     names: &[N],
     variables: &[Cell<N>],
     row: &[Instruction],
     stack: &mut Vec<Cell<N>>,
+    arguments: &mut Vec<Cell<N>>,
 ) -> Result<(), AllocError>
     requires named { AreNamed (length names.now) row.now }
     requires below { AreBelow (length variables.now) row.now }
@@ -54,41 +54,39 @@ fn put_row<N: NameValue>(
     ensures bindings { store.new.held.bindings ≡ store.old.held.bindings }
     ensures rows { OnOk result (BuildsRow N.built names.now store.old.held store.new.held variables.now row.now stack.new.items) }
 {
-    let mut arguments = Vec::new(alloc);
     let mut left = row.len();
     while 0 < left {
         left -= 1;
         let step = step_in(names, row[left]);
-        put_step(store, variables, step, stack, &mut arguments)?;
+        put_step(store, variables, step, stack, arguments)?;
     }
     Ok(())
 }
 
-/// A cell for each variable of a clause, by its number from 0: for those of the head the cells at their places, and for the
-/// others new variables of the store. Where memory is refused, the store may have grown.
-fn variables_of<N: NameValue>(
-    alloc: Global,
+/// Puts a cell for each variable of a clause where there is none yet, by its number from 0: for those of the head the cells at
+/// their places, and for the others new variables of the store. Where memory is refused, the store may have grown.
+fn put_variables<N: NameValue>(
     store: &mut Store<N>,
     clause: &CompiledClause,
     places: &[Place<N>],
-) -> Result<Vec<Cell<N>>, AllocError>
+    cells: &mut Vec<Cell<N>>,
+) -> Result<(), AllocError>
     requires places { AreThere store.old.held places.now }
     requires some { 0 < store.old.held.variables }
+    requires empty { cells.old.items ≡ [] }
     ensures grown { Grown store.old.held store.new.held }
     ensures hooks { store.new.hooks ≡ store.old.hooks }
     ensures bindings { store.new.held.bindings ≡ store.old.held.bindings }
-    ensures variables { IfOk result (λ cells. AreVariables N.built clause.now.head_variables clause.now.fresh_variables places.now store.old.held store.new.held cells.items) }
+    ensures variables { OnOk result (AreVariables N.built clause.now.head_variables clause.now.fresh_variables places.now store.old.held store.new.held cells.new.items) }
 {
     let _ = store.mark();
     let none = Cell::Atom(N::of(BuiltIn::EmptyList));
     let count = (clause.head_variables as usize)
         .checked_add(1)
         .ok_or(AllocError)?;
-    let mut cells = Vec::new(alloc);
     cells.resize(count, none)?;
-    set_places(&mut cells, places);
-    put_fresh(store, &mut cells, clause.fresh_variables)?;
-    Ok(cells)
+    set_places(cells, places);
+    put_fresh(store, cells, clause.fresh_variables)
 }
 
 /// The goals of a clause's body, with the terms at the places of its head's variables in them. Its other variables are the
@@ -108,15 +106,17 @@ pub fn instance<N: NameValue>(
     ensures bindings { store.new.held.bindings ≡ store.old.held.bindings }
     ensures goals { IfOk result (λ goals. IsInstance N.built names.now clause.now places.now store.old.held store.new.held goals.items) }
 {
-    let variables = variables_of(alloc, store, clause, places)?;
     let mut goals = Vec::new(alloc);
+    let mut variables = Vec::new(alloc);
+    let mut arguments = Vec::new(alloc);
+    put_variables(store, clause, places, &mut variables)?;
     put_row(
-        alloc,
         store,
         names,
         variables.as_slice(),
         clause.goals.as_slice(),
         &mut goals,
+        &mut arguments,
     )?;
     goals.reverse();
     Ok(goals)

@@ -112,8 +112,7 @@ pub(crate) fn meet<N: NameValue>(
         }
         Instruction::Structure(name, count) => {
             let name = name_at(names, name);
-            let met = meet_structure(store, name, count, store.walk(cell), stack)?;
-            Ok(met)
+            meet_structure(store, name, count, store.walk(cell), stack)
         }
     }
 }

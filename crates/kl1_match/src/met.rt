@@ -1,7 +1,7 @@
 // What comes of a pattern beside a term.
 
 /// What comes of a pattern beside a term.
-#[derive(Clone, Copy, PartialEq, Eq, Debug)]
+#[derive(Clone, Copy)]
 pub(crate) enum Met {
     /// They agree, or their arguments decide.
     Agrees,

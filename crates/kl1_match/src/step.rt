@@ -2,7 +2,6 @@
 
 /// What stands at the top of a term that is to be built: the number of a variable, an integer, an atom, or the name of a
 /// structure with the number of its arguments.
-#[derive(Clone, Copy)]
 pub(crate) enum Step<N> {
     Variable(u64),
     Integer(i64),

@@ -5,6 +5,7 @@ ghost use Rattle.kl1_store.specs.declared.cell.Cell.{Cell};
 ghost use Rattle.kl1_store.specs.Sound.{Grown};
 ghost use Rattle.kl1_match.specs.Variables.{cell_at, with_variables, fresh_cells};
 
+use crate::building::put_cell;
 use crate::place::Place;
 use kl1_store::{Cell, Store};
 use kl1_text::NameValue;
@@ -36,13 +37,12 @@ pub(crate) fn put_fresh<N: NameValue>(
     ensures grown { Grown store.old.held store.new.held }
     ensures hooks { store.new.hooks ≡ store.old.hooks }
     ensures bindings { store.new.held.bindings ≡ store.old.held.bindings }
-    ensures held { OnOk result (store.new.held ≡ with_variables store.old.held count) }
-    ensures cells { OnOk result (cells.new.items ≡ cells.old.items ++ fresh_cells store.old.held.variables count) }
+    ensures put { OnOk result ((store.new.held ≡ with_variables store.old.held count) × (cells.new.items ≡ cells.old.items ++ fresh_cells store.old.held.variables count)) }
 {
     let mut left = count;
     while 0 < left {
         let number = store.fresh()?;
-        cells.push(Cell::Variable(number))?;
+        put_cell(cells, Cell::Variable(number))?;
         left -= 1;
     }
     Ok(())

@@ -1,7 +1,7 @@
 // What a clause says to a goal.
 
 /// What a clause says to a goal.
-#[derive(Clone, Copy, PartialEq, Eq, Debug)]
+#[derive(Clone, Copy)]
 pub enum Verdict {
     /// The goal may commit to the clause.
     Accepts,

@@ -1,11 +1,11 @@
 // The verdict of a clause on a goal.
 
-ghost use Rattle.std.specs.Prelude.{IfOk};
+ghost use Rattle.std.specs.Prelude.{◌≡◌, [], IfOk};
 ghost use Rattle.kl1_store.specs.Held.{IsIn};
 ghost use Rattle.kl1_match.specs.Instances.{IsClause};
 ghost use Rattle.kl1_match.specs.Verdicts.{IsVerdict};
 
-use crate::arguments::goal_arguments;
+use crate::arguments::put_arguments;
 use crate::meets::meet;
 use crate::met::Met;
 use crate::place::Place;
@@ -30,8 +30,26 @@ pub fn verdict_on<N: NameValue>(
     requires goal { IsIn store.now.held goal }
     ensures { IfOk result (IsVerdict N.built names.now clause.now store.now.held goal places.new.items) }
 {
+    let mut stack = Vec::new(alloc);
+    find_verdict(store, names, clause, goal, &mut stack, places)
+}
+
+/// The verdict of a clause on a goal, over an empty stack, which is of no use then.
+fn find_verdict<N: NameValue>(
+    store: &Store<N>,
+    names: &[N],
+    clause: &CompiledClause,
+    goal: Cell<N>,
+    stack: &mut Vec<Cell<N>>,
+    places: &mut Vec<Place<N>>,
+) -> Result<Verdict, AllocError>
+    requires clause { IsClause names.now clause.now }
+    requires goal { IsIn store.now.held goal }
+    requires empty { stack.old.items ≡ [] }
+    ensures { IfOk result (IsVerdict N.built names.now clause.now store.now.held goal places.new.items) }
+{
     places.clear();
-    let mut stack = goal_arguments(alloc, store, goal)?;
+    put_arguments(store, goal, stack)?;
     let row = clause.patterns.as_slice();
     let mut at: usize = 0;
     let mut waits = false;
@@ -39,7 +57,7 @@ pub fn verdict_on<N: NameValue>(
         let Some(cell) = stack.pop() else {
             return Ok(Verdict::Rejects);
         };
-        match meet(store, names, row[at], cell, &mut stack, places)? {
+        match meet(store, names, row[at], cell, stack, places)? {
             Met::Agrees => at += 1,
             Met::Waits => {
                 waits = true;

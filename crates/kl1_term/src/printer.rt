@@ -122,14 +122,8 @@ impl Printer {
     {
         match rest_form(&node) {
             RestForm::End => self.put_constant(b"]"),
-            RestForm::Element => {
-                self.page.put(b",")?;
-                self.enter(Frame::Tail)
-            }
-            RestForm::Bar => {
-                self.page.put(b"|")?;
-                self.put_above(Frame::Bracket, node)
-            }
+            RestForm::Element => { self.enter(b",", Frame::Tail) }
+            RestForm::Bar => self.put_above(b"|", Frame::Bracket, node),
         }
     }
 
@@ -144,10 +138,7 @@ impl Printer {
                 self.mode = Mode::Behind(name);
                 Ok(())
             }
-            None => {
-                self.page.put(b"':'(")?;
-                self.put_above(Frame::Arguments(1), node)
-            }
+            None => self.put_above(b"':'(", Frame::Arguments(1), node),
         }
     }
 
@@ -162,14 +153,15 @@ impl Printer {
             return self.put_whole(node);
         }
         put_first_of_two(&mut self.page, &name)?;
-        self.put_above(Frame::Arguments(0), node)
+        self.put_above(b",", Frame::Arguments(0), node)
     }
 
-    /// Prints a node as its term stands alone, with this behind it.
-    fn put_above(&mut self, frame: Frame, node: Node) -> Result<(), AllocError>
-        ensures text { OnOk result ((ts : List TermSpec) → text_of self.new ts ≡ page_text self.old.page (text_in Whole (frame ∷ reverse self.old.frames.items) (with_node node ts))) }
+    /// Puts bytes, and prints a node as its term stands alone, with this behind it.
+    fn put_above(&mut self, text: &[u8], frame: Frame, node: Node) -> Result<(), AllocError>
+        ensures text { OnOk result ((ts : List TermSpec) → text_of self.new ts ≡ page_text self.old.page (text.now ++ text_in Whole (frame ∷ reverse self.old.frames.items) (with_node node ts))) }
         ensures waits { OnOk result (waits_of self.new ≡ count_in node + waits_behind (frame ∷ reverse self.old.frames.items)) }
     {
+        self.page.put(text)?;
         self.frames.push(frame)?;
         self.put_whole(node)
     }
@@ -190,10 +182,7 @@ impl Printer {
         ensures waits { OnOk result (waits_of self.new ≡ count + waits_behind (reverse self.old.frames.items)) }
     {
         match find_opening(&name, count) {
-            Opening::Cell => {
-                self.page.put(b"[")?;
-                self.enter(Frame::Tail)
-            }
+            Opening::Cell => { self.enter(b"[", Frame::Tail) }
             Opening::Colon => {
                 self.mode = Mode::Colon;
                 Ok(())
@@ -213,15 +202,15 @@ impl Printer {
         if count == 0 {
             return self.put_constant(b"()");
         }
-        self.page.put(b"(")?;
-        self.enter(Frame::Arguments(count - 1))
+        self.enter(b"(", Frame::Arguments(count - 1))
     }
 
-    /// Begins a term with this behind it.
-    fn enter(&mut self, frame: Frame) -> Result<(), AllocError>
-        ensures text { OnOk result ((ts : List TermSpec) → text_of self.new ts ≡ page_text self.old.page (text_in Whole (frame ∷ reverse self.old.frames.items) ts)) }
+    /// Puts bytes, and begins a term with this behind it.
+    fn enter(&mut self, text: &[u8], frame: Frame) -> Result<(), AllocError>
+        ensures text { OnOk result ((ts : List TermSpec) → text_of self.new ts ≡ page_text self.old.page (text.now ++ text_in Whole (frame ∷ reverse self.old.frames.items) ts)) }
         ensures waits { OnOk result (waits_of self.new ≡ waits_in Whole (frame ∷ reverse self.old.frames.items)) }
     {
+        self.page.put(text)?;
         self.frames.push(frame)?;
         self.mode = Mode::Whole;
         Ok(())
@@ -263,8 +252,7 @@ impl Printer {
         ensures text { OnOk result ((ts : List TermSpec) → text_of self.new ts ≡ page_text self.old.page (behind_text (Arguments count ∷ reverse self.old.frames.items) ts)) }
         ensures waits { OnOk result (waits_of self.new ≡ count + waits_behind (reverse self.old.frames.items)) }
     {
-        self.page.put(b",")?;
-        self.enter(Frame::Arguments(count - 1))
+        self.enter(b",", Frame::Arguments(count - 1))
     }
 }
 
@@ -278,9 +266,8 @@ fn put_module(page: &mut Page, name: &AtomText) -> Result<(), AllocError>
 
 /// Prints a colon as a structure's name, and an atom as its first argument.
 fn put_first_of_two(page: &mut Page, name: &AtomText) -> Result<(), AllocError>
-    ensures { OnOk result ((rest : List ℕ) → page_text page.new rest ≡ page_text page.old (codes "':'(" ++ (atom_text name.now ++ (codes "," ++ rest)))) }
+    ensures { OnOk result ((rest : List ℕ) → page_text page.new rest ≡ page_text page.old (codes "':'(" ++ (atom_text name.now ++ rest))) }
 {
     page.put(b"':'(")?;
-    page.put(name.printed_as_atom().as_slice())?;
-    page.put(b",")
+    page.put(name.printed_as_atom().as_slice())
 }

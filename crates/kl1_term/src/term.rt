@@ -37,27 +37,27 @@ impl Term {
     pub fn variable(alloc: Global, number: u64) -> Result<Self, AllocError>
         ensures { IfOk result (λ t. t ≡ variable number) }
     {
-        let mut nodes = Vec::new(alloc);
-        nodes.push(Node::Variable(number))?;
-        Ok(Term { nodes })
+        Ok(Term {
+            nodes: Vec::from_slice(alloc, &[Node::Variable(number)])?,
+        })
     }
 
     /// An integer.
     pub fn integer(alloc: Global, number: i64) -> Result<Self, AllocError>
         ensures { IfOk result (λ t. t ≡ integer number) }
     {
-        let mut nodes = Vec::new(alloc);
-        nodes.push(Node::Integer(number))?;
-        Ok(Term { nodes })
+        Ok(Term {
+            nodes: Vec::from_slice(alloc, &[Node::Integer(number)])?,
+        })
     }
 
     /// An atom.
     pub fn atom(alloc: Global, name: AtomText) -> Result<Self, AllocError>
         ensures { IfOk result (λ t. t ≡ atom name) }
     {
-        let mut nodes = Vec::new(alloc);
-        nodes.push(Node::Atom(name))?;
-        Ok(Term { nodes })
+        Ok(Term {
+            nodes: Vec::from_slice(alloc, &[Node::Atom(name)])?,
+        })
     }
 
     /// The nodes in the order of reading: a structure's name stands before the nodes of its arguments.
@@ -82,7 +82,8 @@ impl Term {
         requires many { length arguments.now ≤ 8 }
         ensures { IfOk result (λ t. t ≡ structure name (terms_of arguments.now)) }
     {
-        let nodes = structure_row(alloc, name, arguments)?;
+        let mut nodes = Vec::from_slice(alloc, &[Node::Structure(name, arguments.len())])?;
+        put_each(&mut nodes, arguments)?;
         Ok(Term::of_nodes(nodes))
     }
 
@@ -105,17 +106,6 @@ impl Clone for Term {
             nodes: Vec::from_slice(*self.nodes.allocator(), &self.nodes)?,
         })
     }
-}
-
-/// The nodes of the structure of a name and arguments.
-#[tactic(auto, using(crate::proofs::Rows::as_many))]
-fn structure_row(alloc: Global, name: AtomText, arguments: &[Term]) -> Result<Vec<Node>, AllocError>
-    ensures { IfOk result (λ nodes. map code_of nodes.items ≡ nodes_of (structure name (terms_of arguments.now))) }
-{
-    let mut nodes = Vec::new(alloc);
-    nodes.push(Node::Structure(name, arguments.len()))?;
-    put_each(&mut nodes, arguments)?;
-    Ok(nodes)
 }
 
 /// Puts the nodes of each term behind the others.

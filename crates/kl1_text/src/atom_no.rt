@@ -9,7 +9,7 @@ use kl1_model::BuiltIn;
 
 /// The number of a name in a table of names. The built-in names have the numbers of their places, below 64; others have
 /// numbers from 64.
-#[derive(Clone, Copy, PartialEq, Eq, Debug)]
+#[derive(Clone, Copy)]
 pub struct AtomNo {
     pub number: u32,
 }

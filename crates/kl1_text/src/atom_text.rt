@@ -18,7 +18,7 @@ use std::alloc::{AllocError, Global};
 use std::marker::Model;
 
 /// A name: at most 63 bytes of printable ASCII, the blank among them. The empty name is one.
-#[derive(Clone, Copy, PartialEq, Eq)]
+#[derive(Clone, Copy)]
 pub struct AtomText {
     words: [u64; 8],
 }
@@ -67,9 +67,8 @@ impl AtomText {
         ensures iff { IsTrue result ↔ (self.now ≡ other.now) }
         ensures value { result ≡ bytes_eq self.now other.now }
     {
-        let _ = &self.words;
-        let _ = &other.words;
-        self == other
+        let words = &self.words;
+        *words == other.words
     }
 
     /// The name of a built-in.

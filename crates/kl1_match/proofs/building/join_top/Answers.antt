@@ -1,4 +1,6 @@
-use Rattle.std.proofs.Common.{◌≡◌, length, reverse, rules, subst, sym}
+use Rattle.std.proofs.Common.{◌≡◌, [], ◌∷◌, ◌++◌, length, reverse, rules, subst, sym}
+use Rattle.std.proofs.lemmas.Result.{on_ok_weaker}
+use Rattle.kl1_store.specs.declared.cell.Cell.TheVariants.{Structure}
 use Rattle.kl1_store.specs.Held.{AreIn}
 use Rattle.kl1_match.specs.Rows.{firsts, Joins}
 use Rattle.kl1_match.proofs.Rows.{AreWithin-reverse, firsts_within, joins_are}
@@ -13,14 +15,12 @@ build-requires g c =
     let e : c.as_slice.result.now ≡ firsts c.args.missing c.args.count before = search rules in
     subst (λ xs. AreIn h xs) (sym e) (firsts_within h.variables (length h.structures) c.args.missing c.args.count before c.requires.missing inside)
 
-all_is : (g : given.Over) (c : goal.In_ok-push g) → Joins c.args.store.now.held c.build.new.self.held c.args.missing c.args.name c.args.count (reverse c.args.stack.now.items) (reverse c.push.new.self.items) × AreIn c.build.new.self.held c.push.new.self.items
-all_is g c =
+all_is : (g : given.Over) (c : goal.After-put_cell g) → c.put_cell.new.stack.items ≡ c.move_top.new.stack.items ++ Structure c.in_ok-structure.structure ∷ [] →
+    Joins c.args.store.now.held c.build.new.self.held c.args.missing c.args.name c.args.count (reverse c.args.stack.now.items) (reverse c.put_cell.new.stack.items) × AreIn c.build.new.self.held c.put_cell.new.stack.items
+all_is g c e =
     joins_are c.args.store.now.held c.build.new.self.held c.args.missing c.args.name c.args.count c.in_ok-structure.structure
-    c.args.stack.now.items c.move_top.new.stack.items c.push.new.self.items c.as_slice.result.now
-    (search rules) c.requires.stack c.requires.missing (search rules) c.in_ok-move_top.ensures.left (search rules) (search rules) c.in_ok-push.ensures.items
+    c.args.stack.now.items c.move_top.new.stack.items c.put_cell.new.stack.items c.as_slice.result.now
+    (search rules) c.requires.stack c.requires.missing (search rules) c.in_ok-move_top.ensures.left (search rules) (search rules) e
 
 pub returns-clause-joins : goal.returns-clause-joins
-returns-clause-joins g c = (all_is g c).0
-
-pub returns-clause-inside : goal.returns-clause-inside
-returns-clause-inside g c = (all_is g c).1
+returns-clause-joins g c = on_ok_weaker c.put_cell.result (all_is g c) c.put_cell.ensures

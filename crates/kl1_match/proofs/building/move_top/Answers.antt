@@ -8,5 +8,5 @@ loop-left-preserved g c =
     let p = popped c.args.missing c.loop-left.stack.items c.pop.new.self.items c.pop.result c.pop.ensures.items (λ h. search rules) in
     let first : first_or c.args.missing (reverse c.loop-left.stack.items) ≡ c.unwrap_or-cell.result = p.first ∙ search rules in
     let one = moved_one c.loop-left.arguments.items c.args.missing c.loop-left.left (reverse c.loop-left.stack.items) (reverse c.pop.new.self.items) c.unwrap_or-cell.result (search rules) first p.rest in
-    let pushed : c.push.new.self.items ≡ c.loop-left.arguments.items ++ c.unwrap_or-cell.result ∷ [] = c.in_ok-push.ensures.items in
+    let pushed : c.put_cell.new.stack.items ≡ c.loop-left.arguments.items ++ c.unwrap_or-cell.result ∷ [] = c.in_ok-put_cell.ensures in
     (ap (λ xs. xs ++ firsts c.args.missing (c.loop-left.left - 1) (reverse c.pop.new.self.items)) pushed ∙ (one ∙ c.loop-left.invariant.0), left_one c.loop-left.left (reverse c.loop-left.stack.items) (reverse c.pop.new.self.items) (search rules) p.rest ∙ c.loop-left.invariant.1)

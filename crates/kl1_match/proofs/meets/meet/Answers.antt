@@ -1,9 +1,11 @@
 use Rattle.std.proofs.Common.{sym, subst, rules, ℤ}
 use mir.Val.{SFits}
+use Rattle.std.proofs.lemmas.Result.{IfOk-weaker}
 use Rattle.std.proofs.lemmas.Int.{to_z-of_z}
 use mir.Syntax.{w64}
 use Rattle.kl1_clause.specs.declared.instruction.Instruction.{Instruction}
-use Rattle.kl1_match.specs.Matching.{IntegerMeets, MeetsAs}
+use Rattle.kl1_match.specs.Matching.{IntegerMeets, StructureMeets, MeetsAs}
+use Rattle.kl1_match.specs.declared.met.Met.{Met}
 use Rattle.kl1_match.specs.declared.met.Met.TheVariants.{Agrees}
 use Rattle.kl1_match.proofs.Beside.{variable_meets, integer_meets, atom_meets, structure_meets}
 use Rattle.kl1_match.proofs.meets.meet.Goals as goal
@@ -29,9 +31,11 @@ returns-in-Atom g c =
     subst P (sym c.in-Atom.is)
     (atom_meets g.N.NameValue.built c.args.store.now.held c.args.names.now c.in-Atom.name c.name_at-name.result c.args.cell c.walk-in-Atom.result c.args.stack.now.items c.args.places.now.items c.meet_atom.result c.requires.stack c.requires.places c.name_at-name.ensures c.walk-in-Atom.ensures.means c.meet_atom.ensures)
 
-pub returns-in_ok-met-in-Structure : goal.returns-in_ok-met-in-Structure
-returns-in_ok-met-in-Structure g c =
-    let P : Instruction → Type 0 = λ i. MeetsAs g.N.NameValue.built c.args.store.now.held c.args.names.now i c.args.cell c.args.stack.now.items c.meet_structure.new.stack.items c.args.places.now.items c.args.places.now.items c.in_ok-met-in-Structure.met in
-    subst P (sym c.in-Structure.is)
-    (structure_meets g.N.NameValue.built c.args.store.now.held c.args.names.now c.in-Structure.name c.in-Structure.count c.name_at-name-in-Structure.result c.args.cell c.walk-in-Structure.result c.args.stack.now.items c.meet_structure.new.stack.items c.args.places.now.items c.in_ok-met-in-Structure.met
-    c.requires.places c.name_at-name-in-Structure.ensures c.walk-in-Structure.ensures.means c.in_ok-met-in-Structure.ensures)
+pub returns-in-Structure : goal.returns-in-Structure
+returns-in-Structure g c =
+    let P : Met → Instruction → Type 0 = λ met i. MeetsAs g.N.NameValue.built c.args.store.now.held c.args.names.now i c.args.cell c.args.stack.now.items c.meet_structure.new.stack.items c.args.places.now.items c.args.places.now.items met in
+    IfOk-weaker c.meet_structure.result (λ met. StructureMeets g.N.NameValue.built c.args.store.now.held c.name_at-name-in-Structure.result c.in-Structure.count c.walk-in-Structure.result c.args.stack.now.items c.meet_structure.new.stack.items met)
+    (λ met. P met c.args.instruction) (λ met e.
+    subst (P met) (sym c.in-Structure.is)
+    (structure_meets g.N.NameValue.built c.args.store.now.held c.args.names.now c.in-Structure.name c.in-Structure.count c.name_at-name-in-Structure.result c.args.cell c.walk-in-Structure.result c.args.stack.now.items c.meet_structure.new.stack.items c.args.places.now.items met
+    c.requires.places c.name_at-name-in-Structure.ensures c.walk-in-Structure.ensures.means e)) c.meet_structure.ensures

@@ -11,11 +11,11 @@ use Rattle.kl1_match.specs.Matching.{MeetsAs}
 use Rattle.kl1_match.specs.Verdicts.{IsVerdict}
 use Rattle.kl1_match.proofs.Cells.{AreIn-pop}
 use Rattle.kl1_match.proofs.Whole.{named_at, starts, goes_on, waits_there, clash_there, terms_wanted, patterns_wanted, verdict_so_far, ends}
-use Rattle.kl1_match.proofs.verdicts.verdict_on.Goals as goal
+use Rattle.kl1_match.proofs.verdicts.find_verdict.Goals as goal
 
 pub loop-at-init : goal.loop-at-init
 loop-at-init g c =
-    starts g.N.NameValue.built c.args.names.now c.args.clause.now c.args.store.now.held c.args.goal c.in_ok-stack.stack.items c.clear.new.self.items c.in_ok-stack.ensures.inside c.in_ok-stack.ensures.means c.clear.ensures.items
+    starts g.N.NameValue.built c.args.names.now c.args.clause.now c.args.store.now.held c.args.goal c.put_arguments.new.stack.items c.clear.new.self.items c.in_ok-put_arguments.ensures.inside c.in_ok-put_arguments.ensures.means c.clear.ensures.items
 
 pub returns-in_default : goal.returns-in_default
 returns-in_default g c =

@@ -1,6 +1,6 @@
 use Rattle.std.proofs.Common.{length, ◌-◌}
 use Rattle.kl1_match.proofs.Whole.{GivesAll}
-use Rattle.kl1_match.proofs.verdicts.verdict_on.Given as goal
+use Rattle.kl1_match.proofs.verdicts.find_verdict.Given as goal
 
 -- what is left of the row and of the stack gives the verdict
 abbrev pub invariant-loop-at : goal.invariant-loop-at
