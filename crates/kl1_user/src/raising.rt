@@ -49,8 +49,9 @@ pub(crate) fn unify(
     ensures grown { Grown store.old.held store.new.held }
     ensures hooks { store.new.hooks ≡ store.old.hooks }
 {
-    match store.unify(left, right)? {
-        Unified::Bound => Ok(()),
-        Unified::Clash => { raise(store, work, goal) }
+    match store.unify(left, right) {
+        Ok(Unified::Bound) => Ok(()),
+        Ok(Unified::Clash) => raise(store, work, goal),
+        Err(error) => Err(error),
     }
 }

@@ -37,9 +37,10 @@ pub(crate) fn tell(
     }
     let _formed = store.mark();
     match store.walk(shoen.tail) {
-        Cell::Variable(variable) => match send(store, variable, message)? {
-            Some(next) => Ok(Told::Sent(next)),
-            None => Ok(Told::Broken),
+        Cell::Variable(variable) => match send(store, variable, message) {
+            Ok(Some(next)) => Ok(Told::Sent(next)),
+            Ok(None) => Ok(Told::Broken),
+            Err(error) => Err(error),
         },
         Cell::Integer(_number) => Ok(Told::Broken),
         Cell::Atom(_name) => Ok(Told::Broken),

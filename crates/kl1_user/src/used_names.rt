@@ -16,7 +16,14 @@ use std::alloc::AllocError;
 fn is_among(names: &[AtomText], text: &AtomText) -> bool
     ensures { result ≡ list_any (bytes_eq text.now) names.now }
 {
-    names.iter().any(|name| text.is(name))
+    let mut left = names;
+    while let [first, rest @ ..] = left {
+        if text.is(first) {
+            return true;
+        }
+        left = rest;
+    }
+    false
 }
 
 /// Puts a text to names, where it is new and no name of the language.

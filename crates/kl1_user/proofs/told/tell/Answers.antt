@@ -5,19 +5,19 @@ use Rattle.kl1_user.specs.Sendings.{SentAs}
 use Rattle.kl1_user.proofs.Tails.{has_broken, has_cycle, has_sent}
 use Rattle.kl1_user.proofs.told.tell.Goals as goal
 
-pub returns-in-Some-clause-told : goal.returns-in-Some-clause-told
-returns-in-Some-clause-told c =
+pub returns-in-Ok-Some-clause-told : goal.returns-in-Ok-Some-clause-told
+returns-in-Ok-Some-clause-told c =
     let h = c.args.store.now.held in
     let k = c.send.new.store.held in
     let P : Option ℕ → Type 0 = λ o. SentAs h k c.in-Variable.variable c.args.message o in
-    has_sent h k c.args.shoen.now c.in-Variable.variable c.in-Some.next c.args.message c.if-shoen.false c.in-Variable.ensures.walked (c.in-Variable.ensures.means (λ (a : List ℕ). a)) (subst P c.in-Some.is c.in_ok-next-in-Variable.ensures.sent)
+    has_sent h k c.args.shoen.now c.in-Variable.variable c.in-Ok-Some.next c.args.message c.if-shoen.false c.in-Variable.ensures.walked (c.in-Variable.ensures.means (λ (a : List ℕ). a)) (subst P c.in-Ok-Some.field-0-is c.in-Ok-Some.ensures.sent)
 
-pub returns-in-None-clause-told : goal.returns-in-None-clause-told
-returns-in-None-clause-told c =
+pub returns-in-Ok-None-clause-told : goal.returns-in-Ok-None-clause-told
+returns-in-Ok-None-clause-told c =
     let h = c.args.store.now.held in
     let k = c.send.new.store.held in
     let P : Option ℕ → Type 0 = λ o. SentAs h k c.in-Variable.variable c.args.message o in
-    has_cycle h k c.args.shoen.now c.in-Variable.variable c.args.message c.if-shoen.false c.in-Variable.ensures.walked (c.in-Variable.ensures.means (λ (a : List ℕ). a)) (subst P c.in-None.is c.in_ok-next-in-Variable.ensures.sent)
+    has_cycle h k c.args.shoen.now c.in-Variable.variable c.args.message c.if-shoen.false c.in-Variable.ensures.walked (c.in-Variable.ensures.means (λ (a : List ℕ). a)) (subst P c.in-Ok-None.field-0-is c.in-Ok-None.ensures.sent)
 
 pub returns-in-Integer-clause-told : goal.returns-in-Integer-clause-told
 returns-in-Integer-clause-told c =
