@@ -38,12 +38,17 @@ pub(crate) fn commit(
     ensures hooks { store.new.hooks ≡ store.old.hooks }
 {
     let cells = instance(alloc, store, names, clause, places)?;
-    work.last_goal = put_goals(
+    match put_goals(
         &mut work.goals,
         &cells,
         work.last_goal,
         goal.shoen,
         goal.priority,
-    )?;
-    Ok(())
+    ) {
+        Ok(last) => {
+            work.last_goal = last;
+            Ok(())
+        }
+        Err(error) => Err(error),
+    }
 }

@@ -116,7 +116,10 @@ pub(crate) fn put_goals(
     let mut number = last;
     let mut left = cells;
     while let [first, rest @ ..] = left {
-        number = number.checked_add(1).ok_or(AllocError)?;
+        let Some(next) = number.checked_add(1) else {
+            return Err(AllocError);
+        };
+        number = next;
         goals.push(Goal {
             number,
             task: Task::Reduces(*first),

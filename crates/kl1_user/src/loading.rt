@@ -93,6 +93,8 @@ pub(crate) fn load(
     if entries >= MOST_ENTRIES {
         return Ok(Loading::Refused(Refusal::Journal));
     }
-    let after = put_module(alloc, store, modules, names, goals, code)?;
-    Ok(Loading::Loaded(name, after))
+    match put_module(alloc, store, modules, names, goals, code) {
+        Ok(after) => Ok(Loading::Loaded(name, after)),
+        Err(error) => Err(error),
+    }
 }

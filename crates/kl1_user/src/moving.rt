@@ -76,6 +76,8 @@ pub(crate) fn reduce(
     ensures grown { Grown store.old.held store.new.held }
     ensures hooks { store.new.hooks ≡ store.old.hooks }
 {
-    do_move(alloc, store, modules, goal, cell, clause, made, work)?;
-    settle(alloc, store, work)
+    match do_move(alloc, store, modules, goal, cell, clause, made, work) {
+        Ok(()) => settle(alloc, store, work),
+        Err(error) => Err(error),
+    }
 }

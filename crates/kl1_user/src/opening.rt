@@ -80,23 +80,26 @@ pub(crate) fn with_opening(
     ensures goals { IfOk result (λ after. after.items ≡ goals.now ++ two_goals last_goal shoen high cell) }
     ensures fits { IfOk result (λ after. last_goal + 2 < 2 ^ 64) }
 {
-    let first = next_number(last_goal)?;
-    let second = next_number(first)?;
+    let Some(last) = last_goal.checked_add(2) else {
+        return Err(AllocError);
+    };
     let monitor = Goal {
-        number: first,
+        number: last - 1,
         task: Task::Monitor,
         shoen,
         priority: MONITOR_PRIORITY,
         standing: None,
     };
     let goal = Goal {
-        number: second,
+        number: last,
         task: Task::Reduces(cell),
         shoen,
         priority: high,
         standing: None,
     };
     let mut after = Vec::from_slice(alloc, goals)?;
-    after.extend_from_slice(&[monitor, goal])?;
-    Ok(after)
+    match after.extend_from_slice(&[monitor, goal]) {
+        Ok(()) => Ok(after),
+        Err(error) => Err(error),
+    }
 }

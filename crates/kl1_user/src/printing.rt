@@ -47,8 +47,10 @@ fn next_node(
         Cell::Atom(name) => Ok(Node::Atom(name)),
         Cell::Structure(structure) => {
             let head = store.look(structure);
-            put_arguments(store, structure, head.count, stack)?;
-            Ok(Node::Structure(head.name, head.count as usize))
+            match put_arguments(store, structure, head.count, stack) {
+                Ok(()) => Ok(Node::Structure(head.name, head.count as usize)),
+                Err(error) => Err(error),
+            }
         }
     }
 }

@@ -29,8 +29,10 @@ pub(crate) fn raise(
 {
     let _formed = store.mark();
     let parts = [Cell::Atom(AtomText::of(b"failure")), goal];
-    let exception = store.build(AtomText::of(b"exception"), &parts)?;
-    report(store, work, Cell::Structure(exception))
+    match store.build(AtomText::of(b"exception"), &parts) {
+        Ok(exception) => report(store, work, Cell::Structure(exception)),
+        Err(error) => Err(error),
+    }
 }
 
 /// Unifies two terms for a goal of the shoen at work, or reports that it failed.

@@ -45,16 +45,17 @@ pub(crate) fn start(
     ensures grown { Grown store.old.held store.new.held }
     ensures hooks { store.new.hooks ≡ store.old.hooks }
 {
-    let may = may_start(alloc, allowance, low, high, goal)?;
-    if !may {
+    if !may_start(alloc, allowance, low, high, goal)? {
         return Ok(Begun::Refused(Refusal::Syntax));
     }
     if MOST_ENTRIES <= entries {
         return Ok(Begun::Refused(Refusal::Journal));
     }
     put_nodes(names, goal.nodes())?;
-    let work = started(
+    match started(
         alloc, store, modules, goals, shoens, last_goal, allowance, low, high, goal,
-    )?;
-    Ok(Begun::Started(work))
+    ) {
+        Ok(work) => Ok(Begun::Started(work)),
+        Err(error) => Err(error),
+    }
 }

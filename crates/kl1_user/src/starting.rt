@@ -51,6 +51,11 @@ pub(crate) fn started(
         last_goal: last_goal + 2,
     };
     report(store, &mut work, Cell::Atom(AtomText::of(b"started")))?;
-    work.goals = standing_goals(alloc, store, modules, &work.goals)?;
-    Ok(work)
+    match standing_goals(alloc, store, modules, &work.goals) {
+        Ok(goals) => {
+            work.goals = goals;
+            Ok(work)
+        }
+        Err(error) => Err(error),
+    }
 }

@@ -38,8 +38,10 @@ fn put_name(names: &mut Vec<AtomText>, text: &AtomText) -> Result<(), AllocError
     if text.built_in().is_some() {
         return Ok(());
     }
-    names.push(*text)?;
-    Ok(())
+    match names.push(*text) {
+        Ok(()) => Ok(()),
+        Err(_failed) => Err(AllocError),
+    }
 }
 
 /// Puts texts to names, as far as memory goes.
