@@ -69,12 +69,7 @@ fn is_account_name(bytes: &[u8]) -> bool
 fn are_name_bytes(bytes: &[u8]) -> bool
     ensures { result ≡ list_all (λ c. is_small_letter c || is_digit c) bytes.now }
 {
-    let mut left = bytes;
-    while let [first, rest @ ..] = left {
-        if !first.is_ascii_lowercase() && !first.is_ascii_digit() {
-            return false;
-        }
-        left = rest;
-    }
-    true
+    bytes
+        .iter()
+        .all(|byte| byte.is_ascii_lowercase() || byte.is_ascii_digit())
 }

@@ -22,10 +22,8 @@ fn end(store: &mut Store<AtomText>, variable: u32) -> Result<(), AllocError>
     ensures hooks { store.new.hooks ≡ store.old.hooks }
 {
     let nil = AtomText::of_built_in(BuiltIn::EmptyList);
-    match store.unify(Cell::Variable(variable), Cell::Atom(nil)) {
-        Ok(_unified) => Ok(()),
-        Err(error) => Err(error),
-    }
+    store.unify(Cell::Variable(variable), Cell::Atom(nil))?;
+    Ok(())
 }
 
 /// The end of the report stream of the shoen at work.

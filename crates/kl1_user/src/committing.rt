@@ -38,17 +38,12 @@ pub(crate) fn commit(
     ensures hooks { store.new.hooks ≡ store.old.hooks }
 {
     let cells = instance(alloc, store, names, clause, places)?;
-    match put_goals(
+    work.last_goal = put_goals(
         &mut work.goals,
         &cells,
         work.last_goal,
         goal.shoen,
         goal.priority,
-    ) {
-        Ok(last) => {
-            work.last_goal = last;
-            Ok(())
-        }
-        Err(error) => Err(error),
-    }
+    )?;
+    Ok(())
 }

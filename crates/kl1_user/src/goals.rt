@@ -116,10 +116,7 @@ pub(crate) fn put_goals(
     let mut number = last;
     let mut left = cells;
     while let [first, rest @ ..] = left {
-        let Some(next) = number.checked_add(1) else {
-            return Err(AllocError);
-        };
-        number = next;
+        number = number.checked_add(1).ok_or(AllocError)?;
         goals.push(Goal {
             number,
             task: Task::Reduces(*first),

@@ -94,8 +94,6 @@ pub(crate) fn load(
     if entries >= MOST_ENTRIES {
         return Ok(Loading::Refused(Refusal::Journal));
     }
-    match put_module(alloc, store, modules, names, goals, code) {
-        Ok(after) => Ok(Loading::Loaded(name, after)),
-        Err(error) => Err(error),
-    }
+    let after = put_module(alloc, store, modules, names, goals, code)?;
+    Ok(Loading::Loaded(name, after))
 }

@@ -95,15 +95,14 @@ fn failing(
     requires { IsSet store.now.held call.now }
     ensures { IfOk result (FailsAs codes.now (call_at store.now.held call.now)) }
 {
-    match least_number(alloc, store, codes, call) {
-        Ok(None) => Ok(None),
-        Ok(Some(number)) => {
+    match least_number(alloc, store, codes, call)? {
+        None => Ok(None),
+        Some(number) => {
             if number == 0 {
                 return Ok(Some(Move::Fails));
             }
             Ok(None)
         }
-        Err(error) => Err(error),
     }
 }
 
@@ -125,15 +124,14 @@ fn committing_in(
         None => Ok(None),
         Some(clause) => {
             let mut places = Vec::new(alloc);
-            match verdict_at(alloc, store, code, clause, call, &mut places) {
-                Ok(Verdict::Accepts) => Ok(Some(Move::Commits {
+            match verdict_at(alloc, store, code, clause, call, &mut places)? {
+                Verdict::Accepts => Ok(Some(Move::Commits {
                     code: place,
                     clause,
                     places,
                 })),
-                Ok(Verdict::Rejects) => Ok(None),
-                Ok(Verdict::Suspends) => Ok(None),
-                Err(error) => Err(error),
+                Verdict::Rejects => Ok(None),
+                Verdict::Suspends => Ok(None),
             }
         }
     }

@@ -76,8 +76,6 @@ pub(crate) fn reduce(
     ensures grown { Grown store.old.held store.new.held }
     ensures hooks { store.new.hooks ≡ store.old.hooks }
 {
-    match do_move(alloc, store, modules, goal, cell, clause, made, work) {
-        Ok(()) => settle(alloc, store, work),
-        Err(error) => Err(error),
-    }
+    do_move(alloc, store, modules, goal, cell, clause, made, work)?;
+    settle(alloc, store, work)
 }

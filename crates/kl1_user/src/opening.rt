@@ -80,9 +80,7 @@ pub(crate) fn with_opening(
     ensures goals { IfOk result (λ after. after.items ≡ goals.now ++ two_goals last_goal shoen high cell) }
     ensures fits { IfOk result (λ after. last_goal + 2 < 2 ^ 64) }
 {
-    let Some(last) = last_goal.checked_add(2) else {
-        return Err(AllocError);
-    };
+    let last = last_goal.checked_add(2).ok_or(AllocError)?;
     let monitor = Goal {
         number: last - 1,
         task: Task::Monitor,
@@ -98,8 +96,6 @@ pub(crate) fn with_opening(
         standing: None,
     };
     let mut after = Vec::from_slice(alloc, goals)?;
-    match after.extend_from_slice(&[monitor, goal]) {
-        Ok(()) => Ok(after),
-        Err(error) => Err(error),
-    }
+    after.extend_from_slice(&[monitor, goal])?;
+    Ok(after)
 }

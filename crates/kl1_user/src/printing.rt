@@ -48,10 +48,8 @@ fn next_node(
         Cell::Atom(name) => Ok(Node::Atom(name)),
         Cell::Structure(structure) => {
             let head = store.look(structure);
-            match put_arguments(store, structure, head.count, stack) {
-                Ok(()) => Ok(Node::Structure(head.name, head.count as usize)),
-                Err(error) => Err(error),
-            }
+            put_arguments(store, structure, head.count, stack)?;
+            Ok(Node::Structure(head.name, head.count as usize))
         }
     }
 }

@@ -29,10 +29,8 @@ pub(crate) fn raise(
 {
     let _formed = store.mark();
     let parts = [Cell::Atom(AtomText::of(b"failure")), goal];
-    match store.build(AtomText::of(b"exception"), &parts) {
-        Ok(exception) => report(store, work, Cell::Structure(exception)),
-        Err(error) => Err(error),
-    }
+    let exception = store.build(AtomText::of(b"exception"), &parts)?;
+    report(store, work, Cell::Structure(exception))
 }
 
 /// Unifies two terms for a goal of the shoen at work, or reports that it failed.
@@ -51,9 +49,8 @@ pub(crate) fn unify(
     ensures grown { Grown store.old.held store.new.held }
     ensures hooks { store.new.hooks ≡ store.old.hooks }
 {
-    match store.unify(left, right) {
-        Ok(Unified::Bound) => Ok(()),
-        Ok(Unified::Clash) => raise(store, work, goal),
-        Err(error) => Err(error),
+    match store.unify(left, right)? {
+        Unified::Bound => Ok(()),
+        Unified::Clash => raise(store, work, goal),
     }
 }

@@ -62,12 +62,5 @@ pub(crate) fn first_ready(goals: &[Goal]) -> Option<Ready>
 pub(crate) fn is_any_ready(goals: &[Goal]) -> bool
     ensures { result ≡ list_any stands goals.now }
 {
-    let mut left = goals;
-    while let [first, rest @ ..] = left {
-        if first.standing.is_some() {
-            return true;
-        }
-        left = rest;
-    }
-    false
+    goals.iter().any(|goal| goal.standing.is_some())
 }

@@ -62,13 +62,8 @@ fn reduction(
         last_goal,
     };
     reduce(alloc, store, modules, goal, *cell, clause, made, &mut work)?;
-    match standing_goals(alloc, store, modules, &work.goals) {
-        Ok(goals) => {
-            work.goals = goals;
-            Ok(Outcome::Done(work))
-        }
-        Err(error) => Err(error),
-    }
+    work.goals = standing_goals(alloc, store, modules, &work.goals)?;
+    Ok(Outcome::Done(work))
 }
 
 /// What comes of reducing the goal of a number by the clause of a number, where the journal has so many entries. Where memory

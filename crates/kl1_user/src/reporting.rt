@@ -26,16 +26,15 @@ pub(crate) fn report(
     ensures grown { Grown store.old.held store.new.held }
     ensures hooks { store.new.hooks ≡ store.old.hooks }
 {
-    match tell(store, &work.shoen, message) {
-        Ok(Told::Dropped) => Ok(()),
-        Ok(Told::Broken) => {
+    match tell(store, &work.shoen, message)? {
+        Told::Dropped => Ok(()),
+        Told::Broken => {
             work.shoen.is_broken = true;
             Ok(())
         }
-        Ok(Told::Sent(next)) => {
+        Told::Sent(next) => {
             work.shoen.tail = Cell::Variable(next);
             Ok(())
         }
-        Err(error) => Err(error),
     }
 }

@@ -28,12 +28,11 @@ pub(crate) fn send(
     let next = store.fresh()?;
     let parts = [message, Cell::Variable(next)];
     let cell = store.build(AtomText::of_built_in(BuiltIn::ListCell), &parts)?;
-    match store.unify(Cell::Variable(variable), Cell::Structure(cell)) {
-        Ok(Unified::Bound) => Ok(Some(next)),
-        Ok(Unified::Clash) => {
+    match store.unify(Cell::Variable(variable), Cell::Structure(cell))? {
+        Unified::Bound => Ok(Some(next)),
+        Unified::Clash => {
             store.back(mark);
             Ok(None)
         }
-        Err(error) => Err(error),
     }
 }

@@ -24,10 +24,8 @@ fn terminate(alloc: Global, store: &mut Store<AtomText>, work: &mut Work) -> Res
     work.goals = without_monitor(alloc, &work.goals, work.shoen.number)?;
     work.shoen.life = Life::Terminated;
     let message = Cell::Atom(AtomText::of(b"terminated"));
-    match report(store, work, message) {
-        Ok(()) => close(store, work),
-        Err(error) => Err(error),
-    }
+    report(store, work, message)?;
+    close(store, work)
 }
 
 /// Ends the shoen at work, if it lives and has no goal left.

@@ -52,10 +52,8 @@ pub(crate) fn start(
         return Ok(Begun::Refused(Refusal::Journal));
     }
     put_nodes(names, goal.nodes())?;
-    match started(
+    let work = started(
         alloc, store, modules, goals, shoens, last_goal, allowance, low, high, goal,
-    ) {
-        Ok(work) => Ok(Begun::Started(work)),
-        Err(error) => Err(error),
-    }
+    )?;
+    Ok(Begun::Started(work))
 }

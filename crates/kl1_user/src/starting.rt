@@ -65,11 +65,6 @@ pub(crate) fn started(
         last_goal: last_goal + 2,
     };
     report_start(store, &mut work)?;
-    match standing_goals(alloc, store, modules, &work.goals) {
-        Ok(goals) => {
-            work.goals = goals;
-            Ok(work)
-        }
-        Err(error) => Err(error),
-    }
+    work.goals = standing_goals(alloc, store, modules, &work.goals)?;
+    Ok(work)
 }

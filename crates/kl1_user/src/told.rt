@@ -38,10 +38,9 @@ pub(crate) fn tell(
     }
     let _formed = store.mark();
     match store.walk(shoen.tail) {
-        Cell::Variable(variable) => match send(store, variable, message) {
-            Ok(Some(next)) => Ok(Told::Sent(next)),
-            Ok(None) => Ok(Told::Broken),
-            Err(error) => Err(error),
+        Cell::Variable(variable) => match send(store, variable, message)? {
+            Some(next) => Ok(Told::Sent(next)),
+            None => Ok(Told::Broken),
         },
         Cell::Integer(_number) => Ok(Told::Broken),
         Cell::Atom(_name) => Ok(Told::Broken),

@@ -19,14 +19,7 @@ use std::alloc::AllocError;
 fn is_among(names: &[AtomText], text: &AtomText) -> bool
     ensures { result ≡ list_any (bytes_eq text.now) names.now }
 {
-    let mut left = names;
-    while let [first, rest @ ..] = left {
-        if text.is(first) {
-            return true;
-        }
-        left = rest;
-    }
-    false
+    names.iter().any(|name| text.is(name))
 }
 
 /// Puts a text to names, where it is new and no name of the language.
@@ -41,10 +34,8 @@ fn put_name(names: &mut Vec<AtomText>, text: &AtomText) -> Result<(), AllocError
     if text.built_in().is_some() {
         return Ok(());
     }
-    match names.push(*text) {
-        Ok(()) => Ok(()),
-        Err(_failed) => Err(AllocError),
-    }
+    names.push(*text)?;
+    Ok(())
 }
 
 /// Puts texts to names, as far as memory goes.

@@ -130,10 +130,8 @@ impl UserState {
         match origin_at(shoens, number) {
             None => Ok(Reply::Refused(Refusal::NoShoen)),
             Some(origin) => {
-                match print_cell(self.alloc, &self.store, origin.goal, MOST_SHOWN) {
-                    Ok(text) => Ok(Reply::Shown(text)),
-                    Err(error) => Err(error),
-                }
+                let text = print_cell(self.alloc, &self.store, origin.goal, MOST_SHOWN)?;
+                Ok(Reply::Shown(text))
             }
         }
     }

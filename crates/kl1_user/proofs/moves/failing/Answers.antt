@@ -11,10 +11,10 @@ none_some : {n : ℕ} → None ≡ Some n → ⊥
 none_some p = cc
 
 pub returns-then-number-eq0 : goal.returns-then-number-eq0
-returns-then-number-eq0 c = call_fails c.args.codes.now (call_at c.args.store.now.held c.args.call.now) c.in-Ok-Some.field-0 c.in-Ok-Some.ensures (c.in-Ok-Some.field-0-is ∙ ap (λ n. Some n) c.if-number-eq0.true)
+returns-then-number-eq0 c = call_fails c.args.codes.now (call_at c.args.store.now.held c.args.call.now) c.in_ok-least_number.field-0 c.in_ok-least_number.ensures (c.in-Some.is ∙ ap (λ n. Some n) c.if-number-eq0.true)
 
-pub returns-in-Ok-None : goal.returns-in-Ok-None
-returns-in-Ok-None c = call_goes_on c.args.codes.now (call_at c.args.store.now.held c.args.call.now) c.in-Ok-None.field-0 c.in-Ok-None.ensures (λ e. none_some (sym c.in-Ok-None.field-0-is ∙ e))
+pub returns-in-None : goal.returns-in-None
+returns-in-None c = call_goes_on c.args.codes.now (call_at c.args.store.now.held c.args.call.now) c.in_ok-least_number.field-0 c.in_ok-least_number.ensures (λ e. none_some (sym c.in-None.is ∙ e))
 
 pub returns-else-number-eq0 : goal.returns-else-number-eq0
-returns-else-number-eq0 c = call_goes_on c.args.codes.now (call_at c.args.store.now.held c.args.call.now) c.in-Ok-Some.field-0 c.in-Ok-Some.ensures (λ e. c.if-number-eq0.false (number_of (sym c.in-Ok-Some.field-0-is ∙ e)))
+returns-else-number-eq0 c = call_goes_on c.args.codes.now (call_at c.args.store.now.held c.args.call.now) c.in_ok-least_number.field-0 c.in_ok-least_number.ensures (λ e. c.if-number-eq0.false (number_of (sym c.in-Some.is ∙ e)))

@@ -22,7 +22,7 @@ pub returns-in-Atom : goal.returns-in-Atom
 returns-in-Atom c =
     next_atom c.args.store.now.held c.args.cell c.walk.result c.in-Atom.name c.args.stack.now.items c.requires.stack (c.walk.ensures.means (λ a. a)) c.in-Atom.is
 
-pub returns-in-Ok : goal.returns-in-Ok
-returns-in-Ok c =
+pub returns-in_ok-put_arguments-in-Structure : goal.returns-in_ok-put_arguments-in-Structure
+returns-in_ok-put_arguments-in-Structure c =
     next_structure c.args.store.now.held c.args.cell c.walk.result c.in-Structure.structure c.look-head.result.count c.look-head.result.name c.args.stack.now.items c.put_arguments.new.stack.items
-    c.mark.ensures.formed c.requires.stack (c.walk.ensures.means (λ a. a)) c.in-Structure.is c.look-head.ensures.name c.look-head.ensures.count c.in-Ok.ensures
+    c.mark.ensures.formed c.requires.stack (c.walk.ensures.means (λ a. a)) c.in-Structure.is c.look-head.ensures.name c.look-head.ensures.count c.in_ok-put_arguments-in-Structure.ensures

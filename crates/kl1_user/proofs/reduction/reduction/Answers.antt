@@ -40,16 +40,16 @@ returns-then-entries-ge-MOST_ENTRIES-clause-ok c =
     let h = c.args.store.now.held in
     λ n q f. comes_to_full h h c.args.modules.now c.args.goals.now c.args.shoens.now c.args.last_goal c.args.entries n c.args.clause c.args.goal.now c.args.cell.now c.args.made.now refl q f c.requires.task c.requires.made c.if-entries-ge-MOST_ENTRIES.true
 
-pub returns-in-Ok-clause-ok : goal.returns-in-Ok-clause-ok
-returns-in-Ok-clause-ok c =
+pub returns-clause-ok : goal.returns-clause-ok
+returns-clause-ok c =
     let h = c.args.store.now.held in
     let k = c.reduce.new.store.held in
     let g = c.args.goal.now in
     let b = begins h c.args.goals.now c.args.shoens.now g c.args.cell.now c.requires.goals c.requires.owned c.requires.goal c.requires.task in
     let w : Work = record { goals = c.in_ok-others.others; place = g.shoen - 1; shoen = c.index-shoens-place.result; last_goal = c.args.last_goal } in
     let v : Work = c.reduce.new.work in
-    let x : Work = record { goals = c.in-Ok.goals; place = v.place; shoen = v.shoen; last_goal = v.last_goal } in
+    let x : Work = record { goals = c.in_ok-work.field-0; place = v.place; shoen = v.shoen; last_goal = v.last_goal } in
     λ n q f. comes_on h k c.args.modules.now c.args.goals.now c.args.shoens.now c.args.last_goal c.args.entries n c.args.clause g c.args.cell.now c.args.made.now x q f c.requires.task c.requires.made c.if-entries-ge-MOST_ENTRIES.false
     (λ m e. leaves (λ s. settle g.shoen (moved (goal_with (meaning h) g) (meaning h c.args.cell.now) m s)) h k c.args.modules.now c.args.goals.now c.args.shoens.now c.args.last_goal g.number w v x
     c.requires.owned (record { inside = c.requires.shoens; numbered = c.requires.numbered; there = b.there }) c.in_ok-others.ensures refl (put_back w.place c.args.shoens.now w.shoen c.index-shoens-place.is)
-    (c.in_ok-reduce.ensures.ok m e) (c.in-Ok.ensures ∙ ap (map (stood k c.args.modules.now)) c.deref.ensures.value) refl refl refl)
+    (c.in_ok-reduce.ensures.ok m e) (c.in_ok-work.ensures ∙ ap (map (stood k c.args.modules.now)) c.deref.ensures.value) refl refl refl)

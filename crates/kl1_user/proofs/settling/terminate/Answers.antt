@@ -14,15 +14,15 @@ report-requires-clause-inside c =
     let v : Work = record { goals = c.in_ok-work.field-0; place = w.place; shoen = record w.shoen { life = Terminated }; last_goal = w.last_goal } in
     (ended_turns c.args.store.now.held w v c.requires (c.in_ok-work.ensures ∙ ap (filter (λ g. not (is_monitor_of w.shoen.number g))) c.deref.ensures.value) refl refl refl).inside
 
-pub returns-in-Ok-clause-ok : goal.returns-in-Ok-clause-ok
-returns-in-Ok-clause-ok c =
+pub returns-clause-ok : goal.returns-clause-ok
+returns-clause-ok c =
     let w = c.args.work.now in
     let v : Work = record { goals = c.in_ok-work.field-0; place = w.place; shoen = record w.shoen { life = Terminated }; last_goal = w.last_goal } in
     on_ok_weaker c.close.result (λ e. terminate_turns c.args.store.now.held c.report.new.store.held c.close.new.store.held w v c.report.new.work c.of.result c.requires
-    (c.in_ok-work.ensures ∙ ap (filter (λ g. not (is_monitor_of w.shoen.number g))) c.deref.ensures.value) refl refl refl c.of.ensures c.in-Ok.ensures.grown (λ i. c.in-Ok.ensures.ok) (λ i. e)) c.close.ensures.ok
+    (c.in_ok-work.ensures ∙ ap (filter (λ g. not (is_monitor_of w.shoen.number g))) c.deref.ensures.value) refl refl refl c.of.ensures c.in_ok-report.ensures.grown (λ i. c.in_ok-report.ensures.ok) (λ i. e)) c.close.ensures.ok
 
-pub returns-in-Ok-clause-grown : goal.returns-in-Ok-clause-grown
-returns-in-Ok-clause-grown c = Grown-trans c.args.store.now.held c.report.new.store.held c.close.new.store.held c.in-Ok.ensures.grown c.close.ensures.grown
+pub returns-clause-grown : goal.returns-clause-grown
+returns-clause-grown c = Grown-trans c.args.store.now.held c.report.new.store.held c.close.new.store.held c.in_ok-report.ensures.grown c.close.ensures.grown
 
-pub returns-in-Ok-clause-hooks : goal.returns-in-Ok-clause-hooks
-returns-in-Ok-clause-hooks c = c.close.ensures.hooks ∙ c.in-Ok.ensures.hooks
+pub returns-clause-hooks : goal.returns-clause-hooks
+returns-clause-hooks c = c.close.ensures.hooks ∙ c.in_ok-report.ensures.hooks

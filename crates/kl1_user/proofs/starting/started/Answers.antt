@@ -9,27 +9,27 @@ report_start-requires c =
     begun_in c.args.goal.now c.args.store.now.held c.opened.new.store.held c.args.goals.now c.in_ok-all.all c.args.shoens.now c.in_ok-cell.shoen c.args.last_goal (c.args.last_goal + 2)
     c.args.allowance c.args.low c.args.high c.in_ok-cell.cell c.requires.goals c.in_ok-cell.ensures.grown c.in_ok-cell.ensures.ok c.in_ok-all.ensures.goals
 
-pub returns-in-Ok-clause-ok : goal.returns-in-Ok-clause-ok
-returns-in-Ok-clause-ok c =
-    start_leaves c.args.goal.now c.args.store.now.held c.opened.new.store.held c.report_start.new.store.held c.args.modules.now c.args.goals.now c.in_ok-all.all c.in-Ok.goals c.args.shoens.now c.in_ok-cell.shoen
+pub returns-clause-ok : goal.returns-clause-ok
+returns-clause-ok c =
+    start_leaves c.args.goal.now c.args.store.now.held c.opened.new.store.held c.report_start.new.store.held c.args.modules.now c.args.goals.now c.in_ok-all.all c.in_ok-work.field-0 c.args.shoens.now c.in_ok-cell.shoen
     c.args.last_goal (c.args.last_goal + 2) c.args.allowance c.args.low c.args.high c.in_ok-cell.cell (codes "started") c.report_start.new.work
     c.requires.goals c.requires.owned c.requires.shoens c.requires.numbered c.in_ok-cell.ensures.grown c.in_ok-cell.ensures.ok c.in_ok-all.ensures.goals (omega arith) refl c.in_ok-report_start.ensures.ok
-    (c.in-Ok.ensures ∙ ap (map (stood c.report_start.new.store.held c.args.modules.now)) c.deref.ensures.value)
+    (c.in_ok-work.ensures ∙ ap (map (stood c.report_start.new.store.held c.args.modules.now)) c.deref.ensures.value)
 
-pub returns-in-Ok-clause-grown : goal.returns-in-Ok-clause-grown
-returns-in-Ok-clause-grown c = Grown-trans c.args.store.now.held c.opened.new.store.held c.report_start.new.store.held c.in_ok-cell.ensures.grown c.in_ok-report_start.ensures.grown
+pub returns-clause-grown : goal.returns-clause-grown
+returns-clause-grown c = Grown-trans c.args.store.now.held c.opened.new.store.held c.report_start.new.store.held c.in_ok-cell.ensures.grown c.in_ok-report_start.ensures.grown
 
 pub returns-in_err-report_start-clause-grown : goal.returns-in_err-report_start-clause-grown
 returns-in_err-report_start-clause-grown c = Grown-trans c.args.store.now.held c.opened.new.store.held c.report_start.new.store.held c.in_ok-cell.ensures.grown c.in_err-report_start.ensures.grown
 
-pub returns-in-Err-clause-grown : goal.returns-in-Err-clause-grown
-returns-in-Err-clause-grown c = Grown-trans c.args.store.now.held c.opened.new.store.held c.report_start.new.store.held c.in_ok-cell.ensures.grown c.in_ok-report_start.ensures.grown
+pub returns-in_err-work-clause-grown : goal.returns-in_err-work-clause-grown
+returns-in_err-work-clause-grown c = Grown-trans c.args.store.now.held c.opened.new.store.held c.report_start.new.store.held c.in_ok-cell.ensures.grown c.in_ok-report_start.ensures.grown
 
-pub returns-in-Ok-clause-hooks : goal.returns-in-Ok-clause-hooks
-returns-in-Ok-clause-hooks c = c.in_ok-report_start.ensures.hooks ∙ c.in_ok-cell.ensures.hooks
+pub returns-clause-hooks : goal.returns-clause-hooks
+returns-clause-hooks c = c.in_ok-report_start.ensures.hooks ∙ c.in_ok-cell.ensures.hooks
 
 pub returns-in_err-report_start-clause-hooks : goal.returns-in_err-report_start-clause-hooks
 returns-in_err-report_start-clause-hooks c = c.in_err-report_start.ensures.hooks ∙ c.in_ok-cell.ensures.hooks
 
-pub returns-in-Err-clause-hooks : goal.returns-in-Err-clause-hooks
-returns-in-Err-clause-hooks c = c.in_ok-report_start.ensures.hooks ∙ c.in_ok-cell.ensures.hooks
+pub returns-in_err-work-clause-hooks : goal.returns-in_err-work-clause-hooks
+returns-in_err-work-clause-hooks c = c.in_ok-report_start.ensures.hooks ∙ c.in_ok-cell.ensures.hooks

@@ -20,9 +20,9 @@ returns-in-None c =
     let P : State → Type 0 = λ s. step s (read (value c.args.number)) ≡ refuse s no_shoen in
     subst P c.self.view_is (reads_none (state_of u) u.store.held u.shoens.items c.args.number refl (sym c.is_number.ensures ∙ c.if-not-is_number.false) e)
 
-pub returns-in-Ok : goal.returns-in-Ok
-returns-in-Ok c =
+pub returns-in_ok-text-in-Some : goal.returns-in_ok-text-in-Some
+returns-in_ok-text-in-Some c =
     let u = c.self.inside in
     let e : kept_at c.args.number u.shoens.items ≡ Some c.in-Some.origin = ap (kept_at c.args.number) (sym c.deref.ensures.value) ∙ sym c.origin_at.ensures ∙ c.in-Some.is in
-    let P : State → Type 0 = λ s. step s (read (value c.args.number)) ≡ record { state = s; reply = shown c.in-Ok.text.items } in
-    subst P c.self.view_is (reads_some (state_of u) u.store.held u.shoens.items c.args.number c.in-Some.origin c.in-Ok.text.items refl (sym c.is_number.ensures ∙ c.if-not-is_number.false) e c.in-Ok.ensures)
+    let P : State → Type 0 = λ s. step s (read (value c.args.number)) ≡ record { state = s; reply = shown c.in_ok-text-in-Some.text.items } in
+    subst P c.self.view_is (reads_some (state_of u) u.store.held u.shoens.items c.args.number c.in-Some.origin c.in_ok-text-in-Some.text.items refl (sym c.is_number.ensures ∙ c.if-not-is_number.false) e c.in_ok-text-in-Some.ensures)
