@@ -10,6 +10,7 @@ use Rattle.kl1_model.specs.Report.{report, exception, close, close_of, closed_at
 use Rattle.kl1_model.specs.Reduction.{failure, unified, equation}
 use Rattle.kl1_store.specs.declared.cell.Cell.{Cell}
 use Rattle.kl1_store.specs.declared.cell.Cell.TheVariants.{Variable, Integer, Atom, Structure}
+use Rattle.kl1_store.specs.declared.unified.Unified.{Unified}
 use Rattle.kl1_store.specs.declared.unified.Unified.TheVariants.{Bound, Clash}
 use Rattle.kl1_store.specs.Held.{Shape, Held, IsIn, IsWalked, is_bound, with_structure, arguments_of, shape_arguments}
 use Rattle.kl1_store.specs.Meaning.{terms_of}
@@ -136,7 +137,7 @@ solve_nil : (last v : ℕ) → solve last (one_equation v nil) ≡ solved_by v n
 unfolding solve_within walk
 solve_nil last v = refl
 
-pub is_ended : (h k : Held (List ℕ)) (v : ℕ) (a : List ℕ) → is_bound v h.bindings ≡ false → a ≡ codes "[]" → UnifiesAs text_of h k (Variable v) (Atom a) Bound → IsEnded h k v
+is_ended : (h k : Held (List ℕ)) (v : ℕ) (a : List ℕ) → is_bound v h.bindings ≡ false → a ≡ codes "[]" → UnifiesAs text_of h k (Variable v) (Atom a) Bound → IsEnded h k v
 is_ended h k v a u e told =
     let f : List ℕ → List ℕ = λ x. x in
     let solved = told.0 f reads_texts h.variables (omega arith) in
@@ -147,7 +148,7 @@ is_ended h k v a u e told =
     let rs : solved.replacements ≡ record { number = v; by = nil } ∷ [] = cc in
     record { variables = told.2; means = λ x. solved.everywhere x ∙ ap (λ l. replaced l (meaning h x)) rs }
 
-pub never_ends : (h k : Held (List ℕ)) (v : ℕ) (a : List ℕ) → is_bound v h.bindings ≡ false → a ≡ codes "[]" → UnifiesAs text_of h k (Variable v) (Atom a) Clash → ⊥
+never_ends : (h k : Held (List ℕ)) (v : ℕ) (a : List ℕ) → is_bound v h.bindings ≡ false → a ≡ codes "[]" → UnifiesAs text_of h k (Variable v) (Atom a) Clash → ⊥
 never_ends h k v a u e told =
     let f : List ℕ → List ℕ = λ x. x in
     let never = told.0 f reads_texts h.variables (omega arith) in
@@ -156,6 +157,11 @@ never_ends h k v a u e told =
     ∙ ap (λ t. let q : Equation = record { left = variable v; right = t } in q ∷ []) (term_of-Atom f h a ∙ ap atom e) in
     let one : solved_by v nil false ≡ None = sym (solve_nil h.variables v) ∙ ap (solve h.variables) (sym sides) ∙ never in
     cc
+
+-- what a unification of an unbound variable and the empty list leaves
+pub ends : (h k : Held (List ℕ)) (v : ℕ) (a : List ℕ) (u : Unified) → is_bound v h.bindings ≡ false → a ≡ codes "[]" → UnifiesAs text_of h k (Variable v) (Atom a) u → IsEnded h k v
+ends h k v a Bound free e told = is_ended h k v a free e told
+ends h k v a Clash free e told = absurd (never_ends h k v a free e told)
 
 closes_as : (s : State) (t : Means) (last : ℕ) (h : Held (List ℕ)) (shoens : List Shoen) (w : Work) → HasPlace h shoens w.place → w.shoen.number ≡ suc w.place →
     close w.shoen.number (read_as s t last shoens w) ≡ (if w.shoen.is_broken then read_as s t last shoens w else closed_at (t w.shoen.tail) (read_as s t last shoens w))

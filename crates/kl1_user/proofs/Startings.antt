@@ -1,6 +1,6 @@
 -- What a start leaves.
 use Rattle.std.proofs.Common.{◌≡◌, ℕ, suc, ◌+◌, ◌-◌, List, [], ◌∷◌, ◌++◌, length, map, codes, Vec, Global, refl, sym, ap, ◌∙◌, arith, subst, length-append}
-use Rattle.std.specs.Prelude.{slice_set}
+use Rattle.std.specs.Prelude.{slice_set, OnOk, Result}
 use Rattle.kl1_model.specs.Term.{Term, atom, variable}
 use Rattle.kl1_model.specs.Meaning.{highest}
 use Rattle.kl1_model.specs.Module.{Module}
@@ -126,3 +126,7 @@ start_leaves goal h mid k modules goals gs xs shoens r last second allowance low
           ∙ ap (λ (zs : List Shoen). let z : State = record q { goals = map (goal_with (meaning k)) xs.items; shoens = map (shoen_with (meaning k)) zs; last_variable = k.variables - 1; last_goal = v.last_goal } in z)
           (ap (λ d. slice_set all d v.shoen) there ∙ set_last shoens r v.shoen);
     }
+
+-- a report by a name, by another that is the same
+pub named : {T E : Type 0} (h k : Held (List ℕ)) (w v : Work) (a b : List ℕ) (r : Result T E) → a ≡ b → OnOk r (Turns (report w.shoen.number (meaning h (Atom a))) h k w v) → OnOk r (Turns (report w.shoen.number (meaning h (Atom b))) h k w v)
+named h k w v a b r e t = let P : List ℕ → Type 0 = λ z. OnOk r (Turns (report w.shoen.number (meaning h (Atom z))) h k w v) in subst P e t

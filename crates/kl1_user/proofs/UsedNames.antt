@@ -7,6 +7,8 @@ use Rattle.std.proofs.lemmas.List.Folds.{list_any-append}
 use Rattle.std.proofs.lemmas.List.{take_at, take_more, map-append}
 use Rattle.std.proofs.lemmas.Slice.Eq.{bytes_eq-Decides}
 use Rattle.kl1_model.specs.declared.built_in.BuiltIn.{BuiltIn}
+use Rattle.kl1_model.specs.declared.built_in.BuiltIn.TheVariants.{ListCell}
+use Rattle.kl1_model.specs.Text.{text_of}
 use Rattle.kl1_model.specs.Term.{Term}
 use Rattle.kl1_model.specs.TermCode.{NodeCode, nodes_of}
 use Rattle.kl1_model.specs.Module.{Module}
@@ -153,6 +155,13 @@ no_name names = sym (with_none names)
 
 pub one_name : (names now : List (List ℕ)) (name : List ℕ) → now ≡ with_text names name → now ≡ with_texts names (name ∷ [])
 one_name names now name e = e ∙ sym (with_one names name)
+
+-- the name of list cells is one of the language
+pub list_cell_name : (names : List (List ℕ)) (name cell : List ℕ) → cell ≡ text_of ListCell → name ≡ cell → names ≡ with_texts names (name ∷ [])
+list_cell_name names name cell e f =
+    let found : built_in_of (text_of ListCell) ≡ Some ListCell = refl in
+    let P : List ℕ → Type 0 = λ t. with_text names t ≡ names in
+    one_name names names name (sym (subst P (sym (f ∙ e)) (of_language names (text_of ListCell) (Some ListCell) (sym found) refl)))
 
 -- the names before others were put are the first
 pub front_is : (names texts now : List (List ℕ)) (n : ℕ) → now ≡ with_names names texts → n ≡ length names → take n now ≡ names

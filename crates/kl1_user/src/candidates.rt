@@ -16,6 +16,7 @@ use kl1_text::AtomText;
 use std::alloc::{AllocError, Global};
 
 /// The place of the module of a name, from 0.
+#[tactic(auto, using(crate::proofs::Trying::module_here))]
 pub(crate) fn place_of_module(codes: &[Code], name: &AtomText) -> Option<usize>
     ensures { MatchOption result (module_of codes.now name.now ≡ None) (IsModuleAt codes.now name.now) }
 {
@@ -38,6 +39,7 @@ fn nth(clauses: &[CompiledClause], place: usize) -> &CompiledClause
 }
 
 /// The clause at a place of a module, from 0.
+#[tactic(auto, using(crate::proofs::Trying::compiled_count, crate::proofs::Trying::compiled_at))]
 fn clause_at(code: &Code, place: usize) -> &CompiledClause
     requires { place < length code.now.clauses }
     ensures { IsCompiledAt (with_names [] (names_of_module code.now)) result.now code.now.clauses place }
@@ -116,6 +118,7 @@ fn least_clause(
 }
 
 /// The place in a module of the clause of a number in a call's predicate, both from 0.
+#[tactic(auto, using(crate::proofs::Trying::passed_by, crate::proofs::Trying::one_passed, crate::proofs::Trying::numbered_here, crate::proofs::Trying::none_numbered))]
 pub(crate) fn place_of_clause(code: &Code, call: &Call, number: u64) -> Option<usize>
     ensures { MatchOption result (slice_get (filter (is_of call.now.name call.now.count) code.now.clauses) number ≡ None) (IsNumbered code.now call.now.name call.now.count number) }
 {
@@ -137,6 +140,7 @@ pub(crate) fn place_of_clause(code: &Code, call: &Call, number: u64) -> Option<u
 }
 
 /// The least number of a clause that accepts a call, or 0 where each rejects it or there is none, or nothing.
+#[tactic(auto, using(crate::proofs::Trying::in_module, crate::proofs::Trying::no_module_at, crate::proofs::Trying::module_same, crate::proofs::Trying::module_within))]
 pub(crate) fn least_number(
     alloc: Global,
     store: &Store<AtomText>,

@@ -8,7 +8,8 @@ ghost use Rattle.kl1_user.specs.Works.{IsWorkIn, Turns};
 ghost use Rattle.kl1_user.specs.Sendings.{IsEnded};
 
 use crate::work::Work;
-use kl1_store::{Cell, Store, Unified};
+use kl1_model::BuiltIn;
+use kl1_store::{Cell, Store};
 use kl1_text::AtomText;
 use std::alloc::AllocError;
 
@@ -20,11 +21,9 @@ fn end(store: &mut Store<AtomText>, variable: u32) -> Result<(), AllocError>
     ensures grown { Grown store.old.held store.new.held }
     ensures hooks { store.new.hooks ≡ store.old.hooks }
 {
-    let nil = AtomText::of(b"[]");
-    match store.unify(Cell::Variable(variable), Cell::Atom(nil))? {
-        Unified::Bound => Ok(()),
-        Unified::Clash => Ok(()),
-    }
+    let nil = AtomText::of_built_in(BuiltIn::EmptyList);
+    store.unify(Cell::Variable(variable), Cell::Atom(nil))?;
+    Ok(())
 }
 
 /// The end of the report stream of the shoen at work.

@@ -62,6 +62,7 @@ fn put_module(
 
 /// What comes of loading a source, where the journal has so many entries. Where memory is refused, a module and names may be
 /// behind those that were there.
+#[tactic(auto, using(crate::proofs::Messages::same_hooks))]
 pub(crate) fn load(
     alloc: Global,
     store: &Store<AtomText>,

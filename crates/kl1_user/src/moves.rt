@@ -51,6 +51,7 @@ pub(crate) fn clause_for(
 }
 
 /// What a goal can do by the clause of a number, or nothing where that isn't allowed.
+#[tactic(auto, using(crate::proofs::Taking::by_none))]
 pub(crate) fn move_of(
     alloc: Global,
     store: &Store<AtomText>,
@@ -106,6 +107,7 @@ fn failing(
 }
 
 /// The move of a call by the clause of a number of a module that stands at a place, or nothing.
+#[tactic(auto, using(crate::proofs::Taking::accepted))]
 fn committing_in(
     alloc: Global,
     store: &Store<AtomText>,

@@ -80,17 +80,16 @@ pub(crate) fn with_opening(
     ensures goals { IfOk result (λ after. after.items ≡ goals.now ++ two_goals last_goal shoen high cell) }
     ensures fits { IfOk result (λ after. last_goal + 2 < 2 ^ 64) }
 {
-    let first = next_number(last_goal)?;
-    let second = next_number(first)?;
+    let last = last_goal.checked_add(2).ok_or(AllocError)?;
     let monitor = Goal {
-        number: first,
+        number: last - 1,
         task: Task::Monitor,
         shoen,
         priority: MONITOR_PRIORITY,
         standing: None,
     };
     let goal = Goal {
-        number: second,
+        number: last,
         task: Task::Reduces(cell),
         shoen,
         priority: high,

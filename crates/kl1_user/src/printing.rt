@@ -12,6 +12,7 @@ use kl1_text::AtomText;
 use std::alloc::{AllocError, Global};
 
 /// Puts the arguments of a structure, which are so many, on a stack, the first of them on top.
+#[tactic(auto, using(crate::proofs::NextNodes::one_argument))]
 fn put_arguments(
     store: &Store<AtomText>,
     structure: u32,
@@ -54,6 +55,7 @@ fn next_node(
 }
 
 /// The text of a cell's term, cut after so many bytes, with three dots where it is longer.
+#[tactic(auto, using(crate::proofs::NextNodes::top_in, crate::proofs::NextNodes::rest_in))]
 pub(crate) fn print_cell(
     alloc: Global,
     store: &Store<AtomText>,

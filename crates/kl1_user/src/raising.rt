@@ -51,6 +51,6 @@ pub(crate) fn unify(
 {
     match store.unify(left, right)? {
         Unified::Bound => Ok(()),
-        Unified::Clash => { raise(store, work, goal) }
+        Unified::Clash => raise(store, work, goal),
     }
 }

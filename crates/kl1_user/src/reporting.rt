@@ -14,6 +14,7 @@ use kl1_text::AtomText;
 use std::alloc::AllocError;
 
 /// A report of the shoen at work. Where memory is refused, the store may have grown.
+#[tactic(auto, using(crate::proofs::Works::report_turns))]
 pub(crate) fn report(
     store: &mut Store<AtomText>,
     work: &mut Work,

@@ -5,6 +5,7 @@ ghost use Rattle.kl1_store.specs.Held.{IsIn, is_bound};
 ghost use Rattle.kl1_store.specs.Sound.{Grown};
 ghost use Rattle.kl1_user.specs.Sendings.{SentAs};
 
+use kl1_model::BuiltIn;
 use kl1_store::{Cell, Store, Unified};
 use kl1_text::AtomText;
 use std::alloc::AllocError;
@@ -26,7 +27,7 @@ pub(crate) fn send(
     let mark = store.mark();
     let next = store.fresh()?;
     let parts = [message, Cell::Variable(next)];
-    let cell = store.build(AtomText::of(b"."), &parts)?;
+    let cell = store.build(AtomText::of_built_in(BuiltIn::ListCell), &parts)?;
     match store.unify(Cell::Variable(variable), Cell::Structure(cell))? {
         Unified::Bound => Ok(Some(next)),
         Unified::Clash => {

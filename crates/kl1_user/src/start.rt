@@ -45,8 +45,7 @@ pub(crate) fn start(
     ensures grown { Grown store.old.held store.new.held }
     ensures hooks { store.new.hooks ≡ store.old.hooks }
 {
-    let may = may_start(alloc, allowance, low, high, goal)?;
-    if !may {
+    if !may_start(alloc, allowance, low, high, goal)? {
         return Ok(Begun::Refused(Refusal::Syntax));
     }
     if MOST_ENTRIES <= entries {

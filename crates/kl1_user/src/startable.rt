@@ -29,8 +29,7 @@ fn put_number(line: &mut Vec<u8>, number: u64) -> Result<(), AllocError>
 {
     let mut buffer = Buffer::new();
     line.extend_from_slice(buffer.format(number).as_bytes())?;
-    line.push(b' ')?;
-    Ok(())
+    line.extend_from_slice(b" ")
 }
 
 /// Puts the rest of the line of a journal for a start behind its first word. After an error some of it may be there.
@@ -49,8 +48,7 @@ fn put_start(
     put_number(line, allowance)?;
     put_number(line, low)?;
     put_number(line, high)?;
-    put_whole(alloc, line, goal)?;
-    Ok(())
+    put_whole(alloc, line, goal)
 }
 
 /// Whether a start has numbers in range, and a goal that can be written in a line of a journal and read back.

@@ -1,10 +1,13 @@
 // Starts of goals.
 
-ghost use Rattle.std.specs.Prelude.{◌≡◌, ◌<◌, length, IfOk, IsTrue};
+ghost use Rattle.std.specs.Prelude.{◌≡◌, ◌<◌, length, codes, IfOk, OnOk, IsTrue};
 ghost use Rattle.kl1_model.specs.Meaning.{is_numbered};
+ghost use Rattle.kl1_model.specs.Report.{report};
+ghost use Rattle.kl1_store.specs.declared.cell.Cell.TheVariants.{Atom};
 ghost use Rattle.kl1_store.specs.Sound.{Grown};
-ghost use Rattle.kl1_user.specs.Kept.{AreGoalsIn, AreOwned, AreShoensIn, AreNumbered};
+ghost use Rattle.kl1_user.specs.Kept.{meaning, AreGoalsIn, AreOwned, AreShoensIn, AreNumbered};
 ghost use Rattle.kl1_user.specs.Starts.{IsStarted};
+ghost use Rattle.kl1_user.specs.Works.{IsWorkIn, Turns};
 
 use crate::goal::Goal;
 use crate::goals::standing_goals;
@@ -17,6 +20,17 @@ use kl1_store::{Cell, Store};
 use kl1_term::Term;
 use kl1_text::AtomText;
 use std::alloc::{AllocError, Global};
+
+/// Reports that the shoen at work is started. Where memory is refused, the store may have grown.
+#[tactic(auto, using(crate::proofs::Startings::named))]
+fn report_start(store: &mut Store<AtomText>, work: &mut Work) -> Result<(), AllocError>
+    requires { IsWorkIn store.old.held work.old }
+    ensures ok { OnOk result (Turns (report work.old.shoen.number (meaning store.old.held (Atom (codes "started")))) store.old.held store.new.held work.old work.new) }
+    ensures grown { Grown store.old.held store.new.held }
+    ensures hooks { store.new.hooks ≡ store.old.hooks }
+{
+    report(store, work, Cell::Atom(AtomText::of(b"started")))
+}
 
 /// What a start of a goal leaves: its shoen's place is behind the others. Where memory is refused, the store may have grown.
 pub(crate) fn started(
@@ -50,7 +64,7 @@ pub(crate) fn started(
         shoen,
         last_goal: last_goal + 2,
     };
-    report(store, &mut work, Cell::Atom(AtomText::of(b"started")))?;
+    report_start(store, &mut work)?;
     work.goals = standing_goals(alloc, store, modules, &work.goals)?;
     Ok(work)
 }

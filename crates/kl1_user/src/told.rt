@@ -21,6 +21,7 @@ pub(crate) enum Told {
 }
 
 /// Puts a message on the report stream of a shoen, if that can be. Where memory is refused, the store may have grown.
+#[tactic(auto, using(crate::proofs::Tails::has_broken, crate::proofs::Tails::has_cycle, crate::proofs::Tails::has_sent))]
 pub(crate) fn tell(
     store: &mut Store<AtomText>,
     shoen: &Shoen,

@@ -3,11 +3,14 @@
 ghost use Rattle.std.specs.Prelude.{◌≡◌, ◌∷◌, [], length, take, map, bytes_eq, OnOk, OnErr};
 ghost use Rattle.std.specs.List.{list_any};
 ghost use Rattle.kl1_model.specs.State.{names_of, names_of_module, with_names};
+ghost use Rattle.kl1_model.specs.Text.{text_of};
+ghost use Rattle.kl1_model.specs.declared.built_in.BuiltIn.TheVariants.{ListCell};
 ghost use Rattle.kl1_term.specs.Nodes.{code_of};
 ghost use Rattle.kl1_clause.specs.NameList.{with_text, with_texts};
 ghost use Rattle.kl1_clause.specs.Instructions.{names_of_nodes};
 
 use kl1_clause::Code;
+use kl1_model::BuiltIn;
 use kl1_term::{Node, Term};
 use kl1_text::AtomText;
 use std::alloc::AllocError;
@@ -46,9 +49,10 @@ pub(crate) fn put_texts(names: &mut Vec<AtomText>, texts: &[AtomText]) -> Result
     Ok(())
 }
 
-/// Puts the name of a node to names, where it has one.
-#[tactic(auto, using(crate::proofs::UsedNames::no_name, crate::proofs::UsedNames::one_name))]
-fn put_node(names: &mut Vec<AtomText>, node: &Node) -> Result<(), AllocError>
+/// Puts the name of a node to names, where it has one. The name of list cells is given, as it stands in each cell of a list.
+#[tactic(auto, using(crate::proofs::UsedNames::no_name, crate::proofs::UsedNames::one_name, crate::proofs::UsedNames::list_cell_name))]
+fn put_node(names: &mut Vec<AtomText>, node: &Node, list_cell: &AtomText) -> Result<(), AllocError>
+    requires { list_cell.now ≡ text_of ListCell }
     ensures ok { OnOk result (names.new.items ≡ with_texts names.old.items (names_of_nodes (code_of node.now ∷ []))) }
     ensures err { OnErr result (names.new.items ≡ names.old.items) }
 {
@@ -56,7 +60,12 @@ fn put_node(names: &mut Vec<AtomText>, node: &Node) -> Result<(), AllocError>
         Node::Variable(_) => Ok(()),
         Node::Integer(_) => Ok(()),
         Node::Atom(name) => put_name(names, name),
-        Node::Structure(name, _) => put_name(names, name),
+        Node::Structure(name, _) => {
+            if name.is(list_cell) {
+                return Ok(());
+            }
+            put_name(names, name)
+        }
     }
 }
 
@@ -65,8 +74,9 @@ pub(crate) fn put_nodes(names: &mut Vec<AtomText>, nodes: &[Node]) -> Result<(),
     ensures ok { OnOk result (names.new.items ≡ with_texts names.old.items (names_of_nodes (map code_of nodes.now))) }
     ensures kept { take (length names.old.items) names.new.items ≡ names.old.items }
 {
+    let list_cell = AtomText::of_built_in(BuiltIn::ListCell);
     for node in nodes {
-        put_node(names, node)?;
+        put_node(names, node, &list_cell)?;
     }
     Ok(())
 }
