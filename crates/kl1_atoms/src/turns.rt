@@ -35,7 +35,7 @@ impl Turns {
     }
 
     /// One turn more.
-    pub(crate) fn tick(&mut self)
+    pub fn tick(&mut self)
         ensures { self.new ≡ self.old + 1 }
     {
         self.tag = Tag::of::<Tag, More>(&self.tag);
