@@ -1,10 +1,13 @@
 // A term that is being read.
 
-ghost use Rattle.std.specs.Prelude.{◌≡◌, ◌≢◌, ℕ, ◌≤◌, ◌<◌, true, false, List, ◌++◌, map, reverse, vec_len, IfOk, OnOk, IsTrue};
+ghost use Rattle.std.specs.Prelude.{◌≡◌, ◌≢◌, ℕ, ◌≤◌, ◌<◌, true, false, List, [], ◌∷◌, ◌++◌, map, reverse, vec_len, IfOk, OnOk, IsTrue};
 ghost use Rattle.kl1_model.specs.Term.{variable, integer, atom, structure, terms_of};
-ghost use Rattle.kl1_model.specs.TermCode.{nodes_of};
-ghost use Rattle.kl1_model.specs.Meaning.{Depth, pair, cells, depth, is_narrow, is_writable, pair_depth};
-ghost use Rattle.kl1_term.specs.Nodes.{code_of};
+ghost use Rattle.kl1_model.specs.Text.{is_text};
+ghost use Rattle.kl1_model.specs.TermCode.{nodes_of, nodes_of_all};
+ghost use Rattle.kl1_model.specs.Meaning.{Depth, pair, cells, deepest, depth, are_narrow, is_narrow, is_writable, pair_depth};
+ghost use Rattle.kl1_term.specs.declared.node.Node.TheVariants.{Structure};
+ghost use Rattle.kl1_term.specs.Nodes.{code_of, term_in};
+ghost use Rattle.kl1_read.specs.PieceView.{IsPiece};
 ghost use Rattle.kl1_read.specs.Pieces.{writable};
 ghost use Rattle.kl1_read.specs.SmallNodes.{node_of};
 
@@ -47,41 +50,41 @@ impl Piece {
     pub(crate) fn variable(alloc: Global, number: u64) -> Result<Self, AllocError>
         ensures { IfOk result (λ piece. piece ≡ variable number) }
     {
-        let mut nodes = Vec::with_capacity(alloc, 1)?;
-        nodes.push(SmallNode::Variable(number))?;
-        Ok(Piece {
-            nodes,
-            whole: 1,
-            rest: 1,
-        })
+        Piece::leaf(alloc, SmallNode::Variable(number))
     }
 
     /// An integer.
     pub(crate) fn integer(alloc: Global, number: i64) -> Result<Self, AllocError>
         ensures { IfOk result (λ piece. piece ≡ integer number) }
     {
-        let mut nodes = Vec::with_capacity(alloc, 1)?;
-        nodes.push(SmallNode::Integer(number))?;
-        Ok(Piece {
-            nodes,
-            whole: 1,
-            rest: 1,
-        })
+        Piece::leaf(alloc, SmallNode::Integer(number))
     }
 
     /// An atom.
     pub(crate) fn atom(alloc: Global, text: AtomText) -> Result<Self, AllocError>
         ensures { IfOk result (λ piece. piece ≡ atom text) }
     {
-        let _bytes = text.unpacked();
+        text.shows_text();
         let spelling = Spelling::of(alloc, text)?;
-        let mut nodes = Vec::with_capacity(alloc, 1)?;
-        nodes.push(SmallNode::Atom(spelling))?;
-        Ok(Piece {
-            nodes,
-            whole: 1,
-            rest: 1,
-        })
+        Piece::leaf(alloc, SmallNode::Atom(spelling))
+    }
+
+    /// A term of one node.
+    fn leaf(alloc: Global, node: SmallNode) -> Result<Self, AllocError>
+        requires { IsPiece (node_of node ∷ []) 1 1 }
+        ensures { IfOk result (λ piece. piece ≡ term_in (node_of node ∷ [])) }
+    {
+        match Vec::with_capacity(alloc, 1) {
+            Err(error) => Err(error),
+            Ok(mut nodes) => {
+                nodes.push_reserved(node);
+                Ok(Piece {
+                    nodes,
+                    whole: 1,
+                    rest: 1,
+                })
+            }
+        }
     }
 
     /// The structure of two arguments with this name, where a text can write it.
@@ -92,7 +95,6 @@ impl Piece {
     ) -> Result<Option<Self>, AllocError>
         ensures { IfOk result (λ piece. piece ≡ writable (pair name first second)) }
     {
-        let _bytes = name.unpacked();
         let Piece {
             nodes: front,
             whole: first_whole,
@@ -108,9 +110,8 @@ impl Piece {
             return Ok(None);
         }
         let (mut nodes, mut front) = (behind, front);
-        let spelling = Spelling::of(*nodes.allocator(), name)?;
         nodes.append(&mut front)?;
-        nodes.push(SmallNode::Structure(2, spelling))?;
+        put_structure(&mut nodes, 2, name)?;
         Ok(Some(Piece { nodes, whole, rest }))
     }
 
@@ -125,12 +126,7 @@ impl Piece {
     pub(crate) fn into_term(self, alloc: Global) -> Result<Term, AllocError>
         ensures { IfOk result (λ term. term ≡ self) }
     {
-        let Piece {
-            nodes,
-            whole: _whole,
-            rest: _rest,
-        } = self;
-        let row = turned(alloc, nodes)?;
+        let row = turned(alloc, self.nodes.as_slice())?;
         Ok(Term::of_nodes(row))
     }
 
@@ -241,25 +237,52 @@ impl Piece {
         requires other { vec_len arguments ≢ 2 }
         ensures { IfOk result (λ piece. piece ≡ writable (structure name (terms_of arguments.items))) }
     {
-        let _bytes = name.unpacked();
         let count = arguments.len() as u8;
-        let spelling = Spelling::of(alloc, name)?;
-        let mut arguments = arguments;
         let mut nodes = Vec::new(alloc);
-        let mut deepest = 0;
-        while let Some(argument) = arguments.pop() {
-            let depth = argument.spill(&mut nodes)?;
-            deepest = depth.max(deepest);
-        }
+        let deepest = spill_all(arguments, &mut nodes)?;
         if deepest >= 256 {
             return Ok(None);
         }
-        nodes.push(SmallNode::Structure(count, spelling))?;
+        put_structure(&mut nodes, count, name)?;
         Ok(Some(Piece {
             nodes,
             whole: deepest + 1,
             rest: deepest + 1,
         }))
+    }
+}
+
+/// Puts the nodes of arguments behind others, which come before them in the order of reading; gives how deep the deepest
+/// is.
+fn spill_all(arguments: Vec<Piece>, nodes: &mut Vec<SmallNode>) -> Result<u64, AllocError>
+    ensures nodes { OnOk result (map code_of (reverse (map node_of nodes.new.items)) ≡ nodes_of_all (terms_of arguments.items) ++ map code_of (reverse (map node_of nodes.old.items))) }
+    ensures depth { IfOk result (λ deep. deep ≡ deepest (terms_of arguments.items)) }
+    ensures narrow { OnOk result (IsTrue (are_narrow (terms_of arguments.items))) }
+{
+    let mut arguments = arguments;
+    let mut deepest = 0;
+    while let Some(argument) = arguments.pop() {
+        let depth = argument.spill(nodes)?;
+        deepest = depth.max(deepest);
+    }
+    Ok(deepest)
+}
+
+/// Puts the node of a structure behind others.
+fn put_structure(nodes: &mut Vec<SmallNode>, count: u8, name: AtomText) -> Result<(), AllocError>
+    ensures nodes { OnOk result (map node_of nodes.new.items ≡ map node_of nodes.old.items ++ Structure name count ∷ []) }
+    ensures text { IsTrue (is_text name) }
+{
+    name.shows_text();
+    match nodes.reserve(1) {
+        Err(error) => Err(error),
+        Ok(()) => match Spelling::of(*nodes.allocator(), name) {
+            Err(error) => Err(error),
+            Ok(spelling) => {
+                nodes.push_reserved(SmallNode::Structure(count, spelling));
+                Ok(())
+            }
+        },
     }
 }
 
