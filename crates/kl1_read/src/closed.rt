@@ -21,7 +21,7 @@ pub(crate) enum Closed<'a> {
     /// It isn't closed rightly, or no text can write it.
     Bad,
     /// Another expression is in it.
-    More(Opened, &'a [Numbered]),
+    More(Opened<'a>, &'a [Numbered]),
     /// It is closed: a primary.
     Whole(Piece, &'a [Numbered]),
 }
@@ -29,11 +29,11 @@ pub(crate) enum Closed<'a> {
 /// Puts an expression into what was opened.
 pub(crate) fn close<'a>(
     alloc: Global,
-    opened: Opened,
+    opened: Opened<'a>,
     piece: Piece,
     tokens: &'a [Numbered],
 ) -> Result<Closed<'a>, AllocError>
-    ensures value { IfOk result (Closes opened piece (map numbered_token tokens.now)) }
+    ensures value { IfOk result (Closes opened.entry piece (map numbered_token tokens.now)) }
     ensures less { IfOk result (ClosedLess (length tokens.now)) }
 {
     match opened {
@@ -60,12 +60,12 @@ fn close_group<'a>(piece: Piece, tokens: &'a [Numbered]) -> Result<Closed<'a>, A
 /// Puts an expression behind arguments, and closes them where no comma follows.
 fn close_arguments<'a>(
     alloc: Global,
-    name: Spelling,
+    name: &'a Spelling,
     arguments: Vec<Piece>,
     piece: Piece,
     tokens: &'a [Numbered],
 ) -> Result<Closed<'a>, AllocError>
-    ensures value { IfOk result (Closes (Arguments name arguments) piece (map numbered_token tokens.now)) }
+    ensures value { IfOk result (Closes (Arguments name.entry arguments) piece (map numbered_token tokens.now)) }
     ensures less { IfOk result (ClosedLess (length tokens.now)) }
 {
     let mut arguments = arguments;

@@ -46,20 +46,6 @@ impl Model for Piece {
 }
 
 impl Piece {
-    /// A variable by its number.
-    pub(crate) fn variable(alloc: Global, number: u64) -> Result<Self, AllocError>
-        ensures { IfOk result (λ piece. piece ≡ variable number) }
-    {
-        Piece::leaf(alloc, SmallNode::Variable(number))
-    }
-
-    /// An integer.
-    pub(crate) fn integer(alloc: Global, number: i64) -> Result<Self, AllocError>
-        ensures { IfOk result (λ piece. piece ≡ integer number) }
-    {
-        Piece::leaf(alloc, SmallNode::Integer(number))
-    }
-
     /// An atom.
     pub(crate) fn atom(alloc: Global, text: AtomText) -> Result<Self, AllocError>
         ensures { IfOk result (λ piece. piece ≡ atom text) }
@@ -70,21 +56,17 @@ impl Piece {
     }
 
     /// A term of one node.
-    fn leaf(alloc: Global, node: SmallNode) -> Result<Self, AllocError>
+    pub(crate) fn leaf(alloc: Global, node: SmallNode) -> Result<Self, AllocError>
         requires { IsPiece (node_of node ∷ []) 1 1 }
         ensures { IfOk result (λ piece. piece ≡ term_in (node_of node ∷ [])) }
     {
-        match Vec::with_capacity(alloc, 1) {
-            Err(error) => Err(error),
-            Ok(mut nodes) => {
-                nodes.push_reserved(node);
-                Ok(Piece {
-                    nodes,
-                    whole: 1,
-                    rest: 1,
-                })
-            }
-        }
+        let mut nodes = Vec::with_capacity(alloc, 1)?;
+        nodes.push_reserved(node);
+        Ok(Piece {
+            nodes,
+            whole: 1,
+            rest: 1,
+        })
     }
 
     /// The structure of two arguments with this name, where a text can write it.
@@ -274,16 +256,10 @@ fn put_structure(nodes: &mut Vec<SmallNode>, count: u8, name: AtomText) -> Resul
     ensures text { IsTrue (is_text name) }
 {
     name.shows_text();
-    match nodes.reserve(1) {
-        Err(error) => Err(error),
-        Ok(()) => match Spelling::of(*nodes.allocator(), name) {
-            Err(error) => Err(error),
-            Ok(spelling) => {
-                nodes.push_reserved(SmallNode::Structure(count, spelling));
-                Ok(())
-            }
-        },
-    }
+    nodes.reserve(1)?;
+    let spelling = Spelling::of(*nodes.allocator(), name)?;
+    nodes.push_reserved(SmallNode::Structure(count, spelling));
+    Ok(())
 }
 
 /// Whether no text can write a term that is so deep.

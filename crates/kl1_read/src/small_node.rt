@@ -32,5 +32,11 @@ fn node_of(node: &SmallNode) -> Node
 pub(crate) fn turned(alloc: Global, nodes: &[SmallNode]) -> Result<Vec<Node>, AllocError>
     ensures { IfOk result (λ row. row.items ≡ reverse (map node_of nodes.now)) }
 {
-    nodes.iter().rev().map(node_of).collect(alloc)
+    let mut row = Vec::with_capacity(alloc, nodes.len())?;
+    let mut count = nodes.len();
+    while count > 0 {
+        count -= 1;
+        row.push(node_of(&nodes[count]))?;
+    }
+    Ok(row)
 }

@@ -7,7 +7,7 @@ ghost use Rattle.kl1_read.specs.Views.{numbered_token};
 ghost use Rattle.kl1_read.specs.Meanings.{fit, primary_then, after_primary, after_expression, after_opened, after_last};
 ghost use Rattle.kl1_read.specs.States.{state_answer, step_answer, StepLess, DoneFits};
 
-use crate::begun::{Begun, begin};
+use crate::begun::{Begun, begin, leaf_of};
 use crate::closed::{Closed, close};
 use crate::frame::{Frame, frame_of, parts_of};
 use crate::joined::{Joined, join};
@@ -22,7 +22,7 @@ use std::alloc::{AllocError, Global};
 /// primary that was read last, where one was; and the tokens that are left.
 #[derive(Drop)]
 pub(crate) struct State<'a> {
-    pub(crate) frames: Vec<Frame>,
+    pub(crate) frames: Vec<Frame<'a>>,
     pub(crate) left: Left,
     pub(crate) done: Vec<Piece>,
     pub(crate) read: Option<Piece>,
@@ -63,25 +63,28 @@ pub(crate) fn one_step<'a>(alloc: Global, state: State<'a>) -> Result<Step<'a>, 
 /// A step where a primary is to be read.
 fn step_in<'a>(
     alloc: Global,
-    frames: Vec<Frame>,
+    frames: Vec<Frame<'a>>,
     left: Left,
     done: Vec<Piece>,
     rest: &'a [Numbered],
 ) -> Result<Step<'a>, AllocError>
     requires { IsTrue (list_all is_writable done.items) }
     ensures fits { IfOk result DoneFits }
-    ensures value { IfOk result (λ s. fit (step_answer s) ≡ fit (primary_then left (after_expression (reverse frames.items) done.items) (map numbered_token rest.now))) }
+    ensures value { IfOk result (λ s. fit (step_answer s) ≡ fit (primary_then left (after_expression (reverse frames.entry.items) done.items) (map numbered_token rest.now))) }
     ensures less { IfOk result (StepLess (length rest.now)) }
 {
-    match begin(alloc, rest)? {
+    match begin(alloc, rest) {
         Begun::Bad => Ok(Step::Bad),
-        Begun::Whole(piece, behind) => Ok(Step::On(State {
-            frames,
-            left,
-            done,
-            read: Some(piece),
-            rest: behind,
-        })),
+        Begun::Whole(leaf, behind) => {
+            let piece = leaf_of(alloc, leaf)?;
+            Ok(Step::On(State {
+                frames,
+                left,
+                done,
+                read: Some(piece),
+                rest: behind,
+            }))
+        }
         Begun::Opens(opened, inside) => {
             let mut frames = frames;
             let frame = frame_of(alloc, opened, left)?;
@@ -100,7 +103,7 @@ fn step_in<'a>(
 /// A step behind a primary.
 fn step_behind<'a>(
     alloc: Global,
-    frames: Vec<Frame>,
+    frames: Vec<Frame<'a>>,
     left: Left,
     done: Vec<Piece>,
     piece: Piece,
@@ -108,7 +111,7 @@ fn step_behind<'a>(
 ) -> Result<Step<'a>, AllocError>
     requires { IsTrue (list_all is_writable done.items) }
     ensures fits { IfOk result DoneFits }
-    ensures value { IfOk result (λ s. fit (step_answer s) ≡ fit (after_primary left (after_expression (reverse frames.items) done.items) piece (map numbered_token rest.now))) }
+    ensures value { IfOk result (λ s. fit (step_answer s) ≡ fit (after_primary left (after_expression (reverse frames.entry.items) done.items) piece (map numbered_token rest.now))) }
     ensures less { IfOk result (StepLess (length rest.now)) }
 {
     match join(left, piece, rest)? {
@@ -127,14 +130,14 @@ fn step_behind<'a>(
 /// A step behind an expression.
 fn step_out<'a>(
     alloc: Global,
-    frames: Vec<Frame>,
+    frames: Vec<Frame<'a>>,
     done: Vec<Piece>,
     piece: Piece,
     rest: &'a [Numbered],
 ) -> Result<Step<'a>, AllocError>
     requires { IsTrue (list_all is_writable done.items) }
     ensures fits { IfOk result DoneFits }
-    ensures value { IfOk result (λ s. fit (step_answer s) ≡ fit (after_expression (reverse frames.items) done.items piece (map numbered_token rest.now))) }
+    ensures value { IfOk result (λ s. fit (step_answer s) ≡ fit (after_expression (reverse frames.entry.items) done.items piece (map numbered_token rest.now))) }
     ensures less { IfOk result (StepLess (length rest.now)) }
 {
     let mut frames = frames;
@@ -150,8 +153,8 @@ fn step_out<'a>(
 /// A step behind an expression in what was opened.
 fn step_closed<'a>(
     alloc: Global,
-    frames: Vec<Frame>,
-    opened: Opened,
+    frames: Vec<Frame<'a>>,
+    opened: Opened<'a>,
     left: Left,
     done: Vec<Piece>,
     piece: Piece,
@@ -159,7 +162,7 @@ fn step_closed<'a>(
 ) -> Result<Step<'a>, AllocError>
     requires { IsTrue (list_all is_writable done.items) }
     ensures fits { IfOk result DoneFits }
-    ensures value { IfOk result (λ s. fit (step_answer s) ≡ fit (after_opened opened (after_primary left (after_expression (reverse frames.items) done.items)) piece (map numbered_token rest.now))) }
+    ensures value { IfOk result (λ s. fit (step_answer s) ≡ fit (after_opened opened.entry (after_primary left (after_expression (reverse frames.entry.items) done.items)) piece (map numbered_token rest.now))) }
     ensures less { IfOk result (StepLess (length rest.now)) }
 {
     match close(alloc, opened, piece, rest)? {
