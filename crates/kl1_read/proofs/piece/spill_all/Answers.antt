@@ -1,4 +1,4 @@
-use Rattle.std.proofs.Common.{◌≡◌, ap, length, map, arith}
+use Rattle.std.proofs.Common.{◌≡◌, length, arith}
 use Rattle.kl1_read.proofs.Arguments.{nodes_go, deep_goes, narrow_goes, end_nodes, end_deep, end_narrow}
 use Rattle.kl1_read.proofs.piece.spill_all.Goals as goal
 

@@ -1,4 +1,4 @@
-use Rattle.std.proofs.Common.{◌≡◌, ◌≤◌, ◌++◌, max, map, reverse, vec_len}
+use Rattle.std.proofs.Common.{◌≡◌, ◌++◌, max, map, reverse, vec_len}
 use Rattle.kl1_model.specs.Term.{terms_of}
 use Rattle.kl1_model.specs.TermCode.{nodes_of_all}
 use Rattle.kl1_model.specs.Meaning.{deepest, are_narrow}

@@ -1,4 +1,4 @@
-use Rattle.std.proofs.Common.{◌≡◌, ◌≤◌, ◌-◌, Bool, false, if◌then◌else◌, List, [], ◌∷◌, length, take, drop, get_or, find, Option, Some, nat_eq, ap, sym, ◌∙◌, arith}
+use Rattle.std.proofs.Common.{◌≡◌, ◌≤◌, ◌-◌, suc, Bool, false, if◌then◌else◌, List, [], ◌∷◌, length, take, drop, get_or, find, Option, Some, nat_eq, ap, sym, ◌∙◌, arith}
 use Rattle.std.specs.List.{starts_with}
 use Rattle.std.proofs.lemmas.List.{take_all}
 use Rattle.kl1_model.specs.declared.sign.Sign.{Sign}
@@ -9,7 +9,7 @@ use Rattle.kl1_read.proofs.signs.sign_at.Goals as goal
 -- one that isn't sought is passed
 past : (p : Sign → Bool) (xs : List Sign) (d : Sign) → 1 ≤ length xs → p (get_or xs 0 d) ≡ false → find p (take (length xs - 1) (drop 1 xs)) ≡ find p xs
 past p [] d h e = absurd (omega arith)
-past p (x ∷ xs) d h e = ap (find p) (take_all (length xs) xs (omega arith)) ∙ sym (ap (λ b. if◌then◌else◌ {A = Option Sign} b (Some x) (find p xs)) e)
+past p (x ∷ xs) d h e = ap (find p) (take_all (suc (length xs) - 1) xs (omega arith)) ∙ sym (ap (λ b. if◌then◌else◌ {A = Option Sign} b (Some x) (find p xs)) e)
 
 pub loop-rest-preserved : goal.loop-rest-preserved
 loop-rest-preserved c =

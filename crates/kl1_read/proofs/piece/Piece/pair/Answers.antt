@@ -3,7 +3,7 @@ use Rattle.std.proofs.lemmas.List.{map-append}
 use Rattle.kl1_term.specs.declared.node.Node.TheVariants.{Structure}
 use Rattle.kl1_model.specs.Meaning.{pair}
 use Rattle.kl1_read.specs.SmallNodes.{node_of}
-use Rattle.kl1_read.proofs.Nodes.{Made, pair_made, pair_too_deep, two_rows}
+use Rattle.kl1_read.proofs.Nodes.{Made, pair_made, pair_too_deep}
 use Rattle.kl1_read.proofs.piece.Piece.pair.Goals as goal
 use Rattle.kl1_read.proofs.piece.Piece.pair.Goals.{In_ok-put_structure}
 
