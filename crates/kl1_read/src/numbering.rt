@@ -7,7 +7,7 @@ ghost use Rattle.kl1_model.specs.Text.{is_text};
 ghost use Rattle.kl1_model.specs.Token.{Token};
 ghost use Rattle.kl1_model.specs.Numbering.{variable_number, seen_after, numbered_from, numbered_tokens};
 ghost use Rattle.kl1_text.specs.Words.{words_of};
-ghost use Rattle.kl1_read.specs.Spellings.{Finds};
+ghost use Rattle.kl1_read.specs.Spellings.{Finds, IsBehind, IsNumbered};
 ghost use Rattle.kl1_read.specs.Views.{kept_token, numbered_token};
 
 use crate::kept::Kept;
@@ -35,8 +35,7 @@ fn note(numbers: &mut HashMap<[u64; 8], u64>, text: AtomText, number: u64) -> Re
 
 /// Puts a spelling behind those seen; gives its number.
 fn put(seen: &mut Vec<AtomText>, text: AtomText) -> Result<u64, AllocError>
-    ensures number { IfOk result (λ n. n ≡ suc (length seen.old.items)) }
-    ensures seen { OnOk result (seen.new.items ≡ seen.old.items ++ text ∷ []) }
+    ensures { IfOk result (IsBehind seen.old.items seen.new.items text) }
 {
     let number = seen.len() as u64 + 1;
     seen.push(text)?;
@@ -57,20 +56,16 @@ fn number_of(
     text: AtomText,
 ) -> Result<u64, AllocError>
     requires { Finds numbers.old seen.old.items }
-    ensures finds { OnOk result (Finds numbers.new seen.new.items) }
-    ensures value { IfOk result (λ n. n ≡ variable_number seen.old.items text) }
-    ensures seen { IfOk result (λ _. seen.new.items ≡ seen_after seen.old.items text) }
+    ensures { IfOk result (IsNumbered numbers.new seen.old.items seen.new.items text) }
 {
     if is_another(&text) {
-        let another = put(seen, text)?;
-        return Ok(another);
+        return put(seen, text);
     }
     if let Some(number) = known(numbers, text) {
         return Ok(number);
     }
-    let next = put(seen, text)?;
-    note(numbers, text, next)?;
-    Ok(next)
+    note(numbers, text, seen.len() as u64 + 1)?;
+    put(seen, text)
 }
 
 /// A token with a number for its variable.
@@ -110,7 +105,7 @@ pub(crate) fn numbered_tokens(alloc: Global, tokens: &[Kept]) -> Result<Vec<Numb
     let mut rest = tokens;
     while let [first, others @ ..] = rest {
         let token = number_token(alloc, &mut numbers, &mut seen, first)?;
-        out.push(token)?;
+        out.push_reserved(token);
         rest = others;
     }
     Ok(out)

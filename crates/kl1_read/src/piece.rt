@@ -144,21 +144,13 @@ impl Piece {
     pub(crate) fn cells(elements: Vec<Piece>, tail: Piece) -> Result<Option<Self>, AllocError>
         ensures { IfOk result (λ piece. piece ≡ writable (cells (terms_of elements.items) tail)) }
     {
-        let room = room_for(elements.as_slice());
-        Piece::put_cells(elements, tail.with_room(room)?)
-    }
-
-    /// The term with room for so many nodes more.
-    fn with_room(self, count: usize) -> Result<Self, AllocError>
-        ensures { IfOk result (λ piece. piece ≡ self) }
-    {
         let Piece {
             mut nodes,
             whole,
             rest,
-        } = self;
-        nodes.reserve(count)?;
-        Ok(Piece { nodes, whole, rest })
+        } = tail;
+        nodes.reserve(room_for(elements.as_slice()))?;
+        Piece::put_cells(elements, Piece { nodes, whole, rest })
     }
 
     /// A list of these elements with this behind them, which is put in front of what is behind it.
