@@ -87,7 +87,7 @@ pub group_begins : (s : Sign) (ts : List grammar.Numbered) → token_of s ≡ to
 group_begins s ts h k dooms = ap fit (sym (ap (λ t. then_read (primary_read (t ∷ ts)) k) h ∙ group_reads k ts))
 
 -- no other sign begins a primary
-pub other_sign : (s : Sign) (ts : List grammar.Numbered) → (token_of s ≡ token_of Open → ⊥) → (token_of s ≡ token_of OpenList → ⊥) → primary_read (sign_token s ∷ ts) ≡ None
+pub other_sign : (s : Sign) (ts : List grammar.Numbered) → (s ≡ Open → ⊥) → (s ≡ OpenList → ⊥) → primary_read (sign_token s ∷ ts) ≡ None
 unfolding primary_read
 other_sign Open ts h k = absurd (h refl)
 other_sign OpenList ts h k = absurd (k refl)

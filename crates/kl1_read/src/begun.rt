@@ -6,7 +6,7 @@ ghost use Rattle.kl1_model.specs.Token.{name_token, digits_token, minus_token, s
 ghost use Rattle.kl1_read.specs.Views.{numbered_token};
 ghost use Rattle.kl1_read.specs.Beginnings.{Begins, BegunLess, leaf_term};
 
-use crate::mark::{Mark, behind_mark, is_sign};
+use crate::mark::{Mark, behind_mark};
 use crate::numbered::Numbered;
 use crate::opened::Opened;
 use crate::piece::Piece;
@@ -160,14 +160,11 @@ fn open<'a>(alloc: Global, sign: Sign, rest: &'a [Numbered]) -> Begun<'a>
     ensures value { Begins result (sign_token sign ∷ map numbered_token rest.now) }
     ensures less { BegunLess (suc (length rest.now)) result }
 {
-    let token = Numbered::Sign(sign);
-    if is_sign(&token, Sign::Open) {
-        return Begun::Opens(Opened::Group, rest);
+    match sign {
+        Sign::Open => Begun::Opens(Opened::Group, rest),
+        Sign::OpenList => list(alloc, rest),
+        _ => Begun::Bad,
     }
-    if is_sign(&token, Sign::OpenList) {
-        return list(alloc, rest);
-    }
-    Begun::Bad
 }
 
 /// A list behind the bracket that opens it.

@@ -5,7 +5,7 @@ ghost use Rattle.kl1_model.specs.Term.{Term as TermSpec};
 ghost use Rattle.kl1_read.specs.Views.{numbered_token};
 ghost use Rattle.kl1_read.specs.Joins.{Closes, ClosedLess, closed_then};
 ghost use Rattle.kl1_read.specs.Meanings.{Going, Dooms, fit, after_elements};
-ghost use Rattle.kl1_read.specs.declared.opened.Opened.TheVariants.{Group, Arguments, Elements, Tail};
+ghost use Rattle.kl1_read.specs.declared.opened.Opened.TheVariants.{Arguments, Elements, Tail};
 
 use crate::mark::{Mark, behind_mark};
 use crate::numbered::Numbered;
@@ -37,23 +37,15 @@ pub(crate) fn close<'a>(
     ensures less { IfOk result (ClosedLess (length tokens.now)) }
 {
     match opened {
-        Opened::Group => close_group(piece, tokens),
+        Opened::Group => match behind_mark(Mark::Close, tokens) {
+            None => Ok(Closed::Bad),
+            Some(behind) => Ok(Closed::Whole(piece, behind)),
+        },
         Opened::Arguments(name, arguments) => close_arguments(
             alloc, name, arguments, piece, tokens,
         ),
         Opened::Elements(elements) => close_elements(alloc, elements, piece, tokens),
         Opened::Tail(elements) => close_tail(elements, piece, tokens),
-    }
-}
-
-/// Closes a parenthesis.
-fn close_group<'a>(piece: Piece, tokens: &'a [Numbered]) -> Result<Closed<'a>, AllocError>
-    ensures value { IfOk result (Closes Group piece (map numbered_token tokens.now)) }
-    ensures less { IfOk result (ClosedLess (length tokens.now)) }
-{
-    match behind_mark(Mark::Close, tokens) {
-        None => Ok(Closed::Bad),
-        Some(behind) => Ok(Closed::Whole(piece, behind)),
     }
 }
 

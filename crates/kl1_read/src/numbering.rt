@@ -12,6 +12,7 @@ ghost use Rattle.kl1_read.specs.Views.{kept_token, numbered_token};
 
 use crate::kept::Kept;
 use crate::numbered::Numbered;
+use crate::spelling::Spelling;
 use kl1_text::AtomText;
 use std::alloc::{AllocError, Global};
 use std::collections::HashMap;
@@ -81,7 +82,7 @@ fn number_token(
 {
     match token {
         Kept::Name(quotes, applied, text) => {
-            let text = text.again(alloc)?;
+            let text = Spelling::of(alloc, text.name())?;
             Ok(Numbered::Name(*quotes, *applied, text))
         }
         Kept::Variable(text) => {
@@ -99,9 +100,9 @@ fn number_token(
 pub(crate) fn numbered_tokens(alloc: Global, tokens: &[Kept]) -> Result<Vec<Numbered>, AllocError>
     ensures { IfOk result (λ ts. map numbered_token ts.items ≡ numbered_tokens (map kept_token tokens.now)) }
 {
+    let mut out = Vec::with_capacity(alloc, tokens.len())?;
     let mut numbers = HashMap::new(alloc);
     let mut seen = Vec::new(alloc);
-    let mut out = Vec::with_capacity(alloc, tokens.len())?;
     let mut rest = tokens;
     while let [first, others @ ..] = rest {
         let token = number_token(alloc, &mut numbers, &mut seen, first)?;
