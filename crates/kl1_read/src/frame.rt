@@ -1,6 +1,6 @@
 // What waits for an expression.
 
-ghost use Rattle.std.specs.Prelude.{◌≡◌, None, IfOk};
+ghost use Rattle.std.specs.Prelude.{◌≡◌, IfOk};
 ghost use Rattle.kl1_read.specs.Waits.{opened_of, left_of};
 
 use crate::left::Left;
@@ -34,24 +34,16 @@ pub(crate) fn frame_of<'a>(alloc: Global, opened: Opened<'a>, left: Left) -> Res
     let Left { relation, colon } = left;
     match relation {
         None => match colon {
-            None => first_frame(alloc, opened),
+            None => match opened {
+                Opened::Group => Ok(Frame::Group),
+                other => {
+                    let boxed = Box::new(alloc, other)?;
+                    Ok(Frame::First(boxed))
+                }
+            },
             Some(module) => behind_frame(alloc, opened, None, Some(module)),
         },
         Some(first) => behind_frame(alloc, opened, Some(first), colon),
-    }
-}
-
-/// What was opened with nothing to its left.
-fn first_frame<'a>(alloc: Global, opened: Opened<'a>) -> Result<Frame<'a>, AllocError>
-    ensures opened { IfOk result (λ frame. opened_of frame ≡ opened.entry) }
-    ensures left { IfOk result (λ frame. left_of frame ≡ record { relation = None; colon = None }) }
-{
-    match opened {
-        Opened::Group => Ok(Frame::Group),
-        other => {
-            let boxed = Box::new(alloc, other)?;
-            Ok(Frame::First(boxed))
-        }
     }
 }
 

@@ -14,8 +14,9 @@ use crate::quotes::quoted;
 use crate::signs::{sign_at, spelling_of};
 use crate::spelled::Spelled;
 use crate::words::{
-    behind_comment, behind_digits, behind_word, digits_of, number_of, short_name, word_of,
+    behind_comment, behind_digits, behind_word, digits_of, number_of, word_of,
 };
+use kl1_text::AtomText;
 
 /// What stands in front of a text, with what is behind it.
 pub(crate) enum Front<'a> {
@@ -78,7 +79,7 @@ fn name_front<'a>(first: u8, bytes: &'a [u8], rest: &'a [u8]) -> Front<'a>
     ensures { front_view result ≡ name_front false (first ∷ word_of rest.now) (behind_word rest.now) }
 {
     let behind = behind_word(rest);
-    match short_name(word_of(first, bytes, rest)) {
+    match AtomText::read(word_of(first, bytes, rest)) {
         None => Front::Broken,
         Some(text) => Front::Token(Spelled::Name(text, false, is_open_next(behind)), behind),
     }
@@ -91,7 +92,7 @@ fn variable_front<'a>(first: u8, bytes: &'a [u8], rest: &'a [u8]) -> Front<'a>
     ensures { front_view result ≡ bounded (first ∷ word_of rest.now) (variable_token (first ∷ word_of rest.now)) (behind_word rest.now) }
 {
     let behind = behind_word(rest);
-    match short_name(word_of(first, bytes, rest)) {
+    match AtomText::read(word_of(first, bytes, rest)) {
         None => Front::Broken,
         Some(text) => Front::Token(Spelled::Variable(text), behind),
     }
