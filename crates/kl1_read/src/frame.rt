@@ -27,7 +27,11 @@ pub(crate) struct Waiting<'a> {
 }
 
 /// What was opened, with what stands to its left, as a frame.
-pub(crate) fn frame_of<'a>(alloc: Global, opened: Opened<'a>, left: Left) -> Result<Frame<'a>, AllocError>
+pub(crate) fn frame_of<'a>(
+    alloc: Global,
+    opened: Opened<'a>,
+    left: Left,
+) -> Result<Frame<'a>, AllocError>
     ensures opened { IfOk result (λ frame. opened_of frame ≡ opened.entry) }
     ensures left { IfOk result (λ frame. left_of frame ≡ left) }
 {

@@ -17,23 +17,6 @@ use kl1_text::AtomText;
 use std::alloc::{AllocError, Global};
 use std::collections::HashMap;
 
-/// The number of a spelling, where it was seen.
-fn known(numbers: &HashMap<[u64; 8], u64>, text: AtomText) -> Option<u64>
-    ensures value { result ≡ get (pointwise nat_eq) numbers.now (words_of 8 text) }
-    ensures text { IsTrue (is_text text) }
-{
-    text.shows_text();
-    numbers.get(&text.words()).copied()
-}
-
-/// Notes the number of a spelling.
-fn note(numbers: &mut HashMap<[u64; 8], u64>, text: AtomText, number: u64) -> Result<(), AllocError>
-    ensures { OnOk result (Updates (pointwise nat_eq) numbers.old numbers.new (words_of 8 text) (Some number)) }
-{
-    numbers.insert(text.words(), number)?;
-    Ok(())
-}
-
 /// Puts a spelling behind those seen; gives its number.
 fn put(seen: &mut Vec<AtomText>, text: AtomText) -> Result<u64, AllocError>
     ensures { IfOk result (IsBehind seen.old.items seen.new.items text) }
@@ -62,10 +45,11 @@ fn number_of(
     if is_another(&text) {
         return put(seen, text);
     }
-    if let Some(number) = known(numbers, text) {
-        return Ok(number);
+    text.shows_text();
+    if let Some(number) = numbers.get(&text.words()) {
+        return Ok(*number);
     }
-    note(numbers, text, seen.len() as u64 + 1)?;
+    numbers.insert(text.words(), seen.len() as u64 + 1)?;
     put(seen, text)
 }
 

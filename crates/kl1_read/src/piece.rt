@@ -184,20 +184,12 @@ impl Piece {
             return Ok(None);
         }
         if arguments.len() == 2 {
-            return Piece::of_two(name, arguments);
+            let mut arguments = arguments;
+            let second = arguments.pop().unwrap();
+            let first = arguments.pop().unwrap();
+            return Piece::pair(name, first, second);
         }
         Piece::of_many(alloc, name, arguments)
-    }
-
-    /// The structure of two arguments.
-    fn of_two(name: AtomText, arguments: Vec<Piece>) -> Result<Option<Self>, AllocError>
-        requires { vec_len arguments ≡ 2 }
-        ensures { IfOk result (λ piece. piece ≡ writable (structure name (terms_of arguments.items))) }
-    {
-        let mut arguments = arguments;
-        let second = arguments.pop().unwrap();
-        let first = arguments.pop().unwrap();
-        Piece::pair(name, first, second)
     }
 
     /// The structure of one argument, or of more than two.
