@@ -18,7 +18,3 @@ ends_with name count (p ∷ q ∷ ps) = ends_with name count (q ∷ ps)
 -- whether one of clauses is one of a predicate
 abbrev pub holds : List ℕ → ℕ → List ClauseParts → Bool
 holds name count ps = list_any (is_one_of name count) ps
-
--- the clauses of parts, where the last of them was put
-abbrev pub clauses_where : Bool → List ClauseParts → Option (List Clause)
-clauses_where put ps = if put then Some (map clause_of_parts ps) else None
