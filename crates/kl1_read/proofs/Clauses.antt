@@ -1,5 +1,6 @@
 -- Tests, goals and patterns, one after another.
-use Rattle.std.proofs.Common.{◌≡◌, ℕ, ◌&&◌, not, if◌then◌else◌, Bool, true, false, List, [], ◌∷◌, ◌++◌, map, reverse, Option, Some, None, option_map, option_and_then, codes, append_assoc, append-nil, refl, ap, sym, ◌∙◌}
+use Rattle.std.proofs.Common.{◌≡◌, ℕ, ◌&&◌, not, if◌then◌else◌, Bool, true, false, List, [], ◌∷◌, ◌++◌, map, reverse, Result, Ok, Err, IfOk, Option, Some, None, option_map, option_and_then, codes, append_assoc, append-nil, refl, ap, sym, ◌∙◌}
+use Rattle.std.specs.declared.alloc.AllocError.{AllocError}
 use Rattle.std.proofs.lemmas.List.{reverse-append}
 use Rattle.kl1_model.specs.Term.{Term, atom, terms_of}
 use Rattle.kl1_model.specs.TermCode.{nodes_of}
@@ -94,13 +95,18 @@ chosen : (b again : Bool) (ts : List Term) → true ≡ b → given (not again) 
 chosen true again ts e = refl
 chosen false again ts e = cc
 
--- the patterns of a head whose name is fit
-pub patterns_done : (p : List ℕ) (ts now : List Term) (r again : Bool) → given r now ≡ each_of (fit_as Pattern) ts → r ≡ true → true ≡ is_fit_name p ts → again ≡ has_repeats (variables_in (terms_of now)) → given (not again) now ≡ fit_patterns p ts
-patterns_done p ts now r again e q fit a =
+single_fit : (p : List ℕ) (ts now : List Term) (r again : Bool) → given r now ≡ each_of (fit_as Pattern) ts → r ≡ true → true ≡ is_fit_name p ts → again ≡ has_repeats (variables_in (terms_of now)) → given (not again) now ≡ fit_patterns p ts
+single_fit p ts now r again e q fit a =
     let same : now ≡ ts = patterns_put ts now r e q in
     ap (λ xs. given (not again) xs) same
     ∙ chosen (is_fit_name p ts) again ts fit
     ∙ ap (λ b. given (is_fit_name p ts && not b) ts) (a ∙ ap (λ xs. has_repeats (variables_in (terms_of xs))) same)
+
+-- the patterns of a head whose name is fit, where no variable stands twice in them
+pub patterns_done : (p : List ℕ) (ts now : List Term) (r : Bool) (single : Result Bool AllocError) → given r now ≡ each_of (fit_as Pattern) ts → r ≡ true → true ≡ is_fit_name p ts → IfOk single (λ b. b ≡ not (has_repeats (variables_in (terms_of now)))) → IfOk single (λ b. given b now ≡ fit_patterns p ts)
+patterns_done p ts now r (Err refused) e q fit s = tt
+patterns_done p ts now r (Ok b) e q fit s =
+    ap (λ x. given x now) s ∙ single_fit p ts now r (has_repeats (variables_in (terms_of now))) e q fit refl
 
 given_none : (x : Option (List Term)) → given_before [] x ≡ x
 given_none None = refl

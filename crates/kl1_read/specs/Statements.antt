@@ -30,19 +30,23 @@ pub record Statement : Type 0 where
 abbrev pub given : {A : Type 0} → Bool → A → Option A
 given put x = if put then Some x else None
 
+-- the clause of a head, tests and a body
+abbrev pub statement_by : Heading → List Term → List Term → Statement
+statement_by h tests body = record { heading = h; tests = tests; body = body }
+
 -- a clause that was read: its head, its tests and its body in lists
 abbrev pub statement_of : ClauseTerms → Statement
-statement_of c = record { heading = record { name = c.name; arguments = c.arguments.items }; tests = c.tests.items; body = c.body.items }
+statement_of c = statement_by (record { name = c.name; arguments = c.arguments.items }) c.tests.items c.body.items
 
 -- terms that were read, with what is behind them
 abbrev pub left_view : Option (Bor (List Numbered)) → List Term → Answer (List Term)
 left_view None ts = None
 left_view (Some rest) ts = Some (ts, map numbered_token rest.now)
 
--- tests and a body that were read behind a head, with what is behind them
-abbrev pub statement_view : Heading → Option (Bor (List Numbered)) → List Term → List Term → Answer Statement
-statement_view h None tests body = None
-statement_view h (Some rest) tests body = Some (record { heading = h; tests = tests; body = body }, map numbered_token rest.now)
+-- a clause that was read, with what is behind it
+abbrev pub statement_view : Option (Bor (List Numbered)) → Statement → Answer Statement
+statement_view None s = None
+statement_view (Some rest) s = Some (s, map numbered_token rest.now)
 
 -- the name and the arguments of a head that were read, with what is behind them
 abbrev pub heading_view : Option (Bor (List Numbered)) → List ℕ → List Term → Answer Heading

@@ -52,21 +52,21 @@ fn put_parts(
     ensures { IfOk result (λ r. given r (clause_of_parts parts.new) ≡ clause_of_statement module_name (statement_of terms.old)) }
 {
     parts.name = terms.name;
-    if !put_patterns(
+    match put_patterns(
         alloc,
         &terms.name,
         &mut terms.arguments,
         &mut parts.patterns,
-    )? {
-        return Ok(false);
+    ) {
+        Ok(true) => match put_terms(alloc, Role::Test, &mut terms.tests, &mut parts.tests) {
+            Ok(true) => put_terms(
+                alloc,
+                Role::Goal(module_name),
+                &mut terms.body,
+                &mut parts.body,
+            ),
+            other => other,
+        },
+        other => other,
     }
-    if !put_terms(alloc, Role::Test, &mut terms.tests, &mut parts.tests)? {
-        return Ok(false);
-    }
-    put_terms(
-        alloc,
-        Role::Goal(module_name),
-        &mut terms.body,
-        &mut parts.body,
-    )
 }

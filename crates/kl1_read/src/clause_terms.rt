@@ -4,7 +4,7 @@ ghost use Rattle.std.specs.Prelude.{◌≡◌, [], map, IfOk};
 ghost use Rattle.kl1_model.specs.Reader.{all_read};
 ghost use Rattle.kl1_model.specs.Numbering.{numbered_tokens};
 ghost use Rattle.kl1_read.specs.Views.{kept_token, numbered_token};
-ghost use Rattle.kl1_read.specs.Statements.{Heading, given, left_view, statement_view, written_series, statement_of, statement_read, body_read, guarded_read};
+ghost use Rattle.kl1_read.specs.Statements.{Heading, given, left_view, statement_view, statement_by, written_series, statement_of, statement_read, body_read, guarded_read};
 
 use crate::head_terms::read_head;
 use crate::kept::Kept;
@@ -55,12 +55,27 @@ fn read_whole(
     requires body { terms.old.body.items ≡ [] }
     ensures { IfOk result (λ r. given r (statement_of terms.new) ≡ all_read (statement_read (map numbered_token tokens.now))) }
 {
-    match read_head(alloc, tokens, &mut terms.name, &mut terms.arguments)? {
-        None => Ok(false),
-        Some(rest) => match read_body(alloc, rest, &mut terms.tests, &mut terms.body)? {
-            None => Ok(false),
-            Some(left) => Ok(left.len() == 0),
-        },
+    match read_front(alloc, tokens, terms) {
+        Ok(Some(left)) => Ok(left.len() == 0),
+        Ok(None) => Ok(false),
+        Err(refused) => Err(refused),
+    }
+}
+
+/// Reads a clause; gives what is behind it.
+fn read_front<'a>(
+    alloc: Global,
+    tokens: &'a [Numbered],
+    terms: &mut ClauseTerms,
+) -> Result<Option<&'a [Numbered]>, AllocError>
+    requires arguments { terms.old.arguments.items ≡ [] }
+    requires tests { terms.old.tests.items ≡ [] }
+    requires body { terms.old.body.items ≡ [] }
+    ensures { IfOk result (λ r. statement_view r (statement_of terms.new) ≡ statement_read (map numbered_token tokens.now)) }
+{
+    match read_head(alloc, tokens, &mut terms.name, &mut terms.arguments) {
+        Ok(Some(rest)) => read_body(alloc, rest, &mut terms.tests, &mut terms.body),
+        other => other,
     }
 }
 
@@ -73,7 +88,7 @@ fn read_body<'a>(
 ) -> Result<Option<&'a [Numbered]>, AllocError>
     requires tests { tests.old.items ≡ [] }
     requires body { body.old.items ≡ [] }
-    ensures { IfOk result (λ r. (h : Heading) → statement_view h r tests.new.items body.new.items ≡ body_read h (map numbered_token tokens.now)) }
+    ensures { IfOk result (λ r. (h : Heading) → statement_view r (statement_by h tests.new.items body.new.items) ≡ body_read h (map numbered_token tokens.now)) }
 {
     match behind_mark(Mark::Neck, tokens) {
         None => {
@@ -92,17 +107,17 @@ fn read_guarded<'a>(
     body: &mut Vec<Piece>,
 ) -> Result<Option<&'a [Numbered]>, AllocError>
     requires { tests.old.items ≡ [] }
-    ensures { IfOk result (λ r. (h : Heading) → statement_view h r tests.new.items body.new.items ≡ guarded_read h (map numbered_token tokens.now)) }
+    ensures { IfOk result (λ r. (h : Heading) → statement_view r (statement_by h tests.new.items body.new.items) ≡ guarded_read h (map numbered_token tokens.now)) }
 {
-    match put_series(alloc, tokens, body)? {
-        None => Ok(None),
-        Some(rest) => match behind_mark(Mark::Bar, rest) {
+    match put_series(alloc, tokens, body) {
+        Ok(Some(rest)) => match behind_mark(Mark::Bar, rest) {
             None => Ok(Some(rest)),
             Some(inside) => {
                 swap(tests, body);
                 put_series(alloc, inside, body)
             }
         },
+        other => other,
     }
 }
 
@@ -114,11 +129,12 @@ pub(crate) fn put_series<'a>(
 ) -> Result<Option<&'a [Numbered]>, AllocError>
     ensures { IfOk result (λ r. left_view r terms.new.items ≡ written_series (map numbered_token tokens.now)) }
 {
-    match read_series(alloc, tokens)? {
-        None => Ok(None),
-        Some((read, rest)) => {
+    match read_series(alloc, tokens) {
+        Ok(Some((read, rest))) => {
             *terms = read;
             Ok(Some(rest))
         }
+        Ok(None) => Ok(None),
+        Err(refused) => Err(refused),
     }
 }

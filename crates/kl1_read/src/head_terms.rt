@@ -24,21 +24,18 @@ pub(crate) fn read_head<'a>(
 {
     match tokens {
         [] => Ok(None),
-        [first, rest @ ..] => match first {
-            Numbered::Name(_quotes, applied, text) => {
+        [first, rest @ ..] => {
+            if let Numbered::Name(_quotes, applied, text) = first {
                 *name = text.name();
                 if *applied {
                     read_arguments(alloc, rest, arguments)
                 } else {
                     Ok(Some(rest))
                 }
+            } else {
+                Ok(None)
             }
-            Numbered::Variable(_number) => Ok(None),
-            Numbered::Digits(_number) => Ok(None),
-            Numbered::Minus(_digit) => Ok(None),
-            Numbered::Sign(_sign) => Ok(None),
-            Numbered::End => Ok(None),
-        },
+        }
     }
 }
 
@@ -52,9 +49,9 @@ fn read_arguments<'a>(
 {
     match behind_mark(Mark::Open, tokens) {
         None => Ok(None),
-        Some(inside) => match put_series(alloc, inside, arguments)? {
-            None => Ok(None),
-            Some(rest) => Ok(behind_mark(Mark::Close, rest)),
+        Some(inside) => match put_series(alloc, inside, arguments) {
+            Ok(Some(rest)) => Ok(behind_mark(Mark::Close, rest)),
+            other => other,
         },
     }
 }

@@ -59,10 +59,11 @@ fn put_clauses(
             Next::Bad(line) => return Err(ReadFault::Bad { line }),
             Next::Whole(item, behind) => {
                 let Item { line, tokens } = item;
-                if !put_clause(alloc, name, clauses, tokens)? {
-                    return Err(ReadFault::Bad { line });
+                match put_clause(alloc, name, clauses, tokens) {
+                    Ok(true) => place = behind,
+                    Ok(false) => return Err(ReadFault::Bad { line }),
+                    Err(_refused) => return Err(ReadFault::Memory),
                 }
-                place = behind;
             }
         }
     }
@@ -84,10 +85,7 @@ fn put_clause(
         tests: Vec::new(alloc),
         body: Vec::new(alloc),
     };
-    if !read_clause(alloc, name, tokens, &mut clause)? {
-        return Ok(false);
-    }
-    if !may_follow(clauses.as_slice(), &clause) {
+    if !read_clause(alloc, name, tokens, &mut clause)? || !may_follow(clauses.as_slice(), &clause) {
         return Ok(false);
     }
     clauses.push(clause)?;

@@ -7,7 +7,7 @@ ghost use Rattle.kl1_read.specs.Statements.{given, fit_patterns, is_fit_name};
 
 use crate::body::put_terms;
 use crate::piece::Piece;
-use crate::repeats::has_repeats;
+use crate::repeats::has_no_repeats;
 use crate::reserved::{may_name_atom, may_name_structure};
 use crate::role::Role;
 use kl1_term::Term;
@@ -31,7 +31,7 @@ pub(crate) fn put_patterns(
     if !put_terms(alloc, Role::Pattern, arguments, patterns)? {
         return Ok(false);
     }
-    Ok(!has_repeats(alloc, patterns.as_slice())?)
+    has_no_repeats(alloc, patterns.as_slice())
 }
 
 /// Whether a name may be the head of these arguments, and a text can write it with them.

@@ -1,4 +1,4 @@
-use Rattle.std.proofs.Common.{ap, ◌∙◌}
+use Rattle.std.proofs.Common.{◌≡◌, ap, ◌∙◌, map, not, IfOk, subst}
 use Rattle.kl1_model.specs.Term.{terms_of}
 use Rattle.kl1_model.specs.Meaning.{variables_in}
 use Rattle.kl1_model.specs.Module.{has_repeats}
@@ -11,6 +11,6 @@ returns-then-not-branch c = patterns_stop c.args.arguments.now.items c.put_terms
 
 pub returns : goal.returns
 returns c =
-    patterns_done c.args.name.now c.args.arguments.now.items c.put_terms.new.terms.items c.in_ok-put_terms.field-0 c.in_ok-has_repeats.field-0 c.in_ok-put_terms.ensures c.if-not-branch.false
+    patterns_done c.args.name.now c.args.arguments.now.items c.put_terms.new.terms.items c.in_ok-put_terms.field-0 c.has_no_repeats.result c.in_ok-put_terms.ensures c.if-not-branch.false
     (c.if-not-is_fit.ensures ∙ ap (is_fit_name c.args.name.now) c.as_slice.ensures.value)
-    (c.in_ok-has_repeats.ensures ∙ ap (λ ts. has_repeats (variables_in (terms_of ts))) c.as_slice-2.ensures.value)
+    (subst (λ ts. IfOk c.has_no_repeats.result (λ b. b ≡ not (has_repeats (variables_in (terms_of ts))))) c.as_slice-2.ensures.value c.has_no_repeats.ensures)
