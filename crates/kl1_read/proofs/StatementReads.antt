@@ -3,16 +3,15 @@ use Rattle.std.proofs.Common.{◌≡◌, ℕ, ◌⊎◌, inl, inr, ◌&&◌, not
 use Rattle.std.specs.List.{list_all}
 use Rattle.std.proofs.lemmas.Bool.{true≢false, and_cases}
 use Rattle.kl1_model.specs.Term.{Term, structure, Terms, none, more, terms_of, list_of}
-use Rattle.kl1_model.specs.Token.{Token, name_token}
-use Rattle.kl1_model.specs.Numbering.{numbered_tokens}
+use Rattle.kl1_model.specs.Token.{name_token}
 use Rattle.kl1_model.specs.Grammar.{Numbered, Series, last, another, Head, bare_head, head_with, ClauseTree, fact, rule, guarded}
 use Rattle.kl1_model.specs.Reader.{Answer, then_read, then_skip, if_there, behind_open, behind_close, behind_neck, behind_bar, series_at, behind_neck_at, clause_at, all_read, clause_tree}
 use Rattle.kl1_model.specs.Meaning.{expression_term, series_terms, head_term, is_writable, variables_in}
 use Rattle.kl1_model.specs.Goal.{is_head, is_test, body_goal}
-use Rattle.kl1_model.specs.Module.{Clause, clause_of, each_of, has_repeats, head_name, head_patterns, is_fit_head, fit_test, fit_goal, clause_with, true_goal, clause_of_tree}
+use Rattle.kl1_model.specs.Module.{Clause, each_of, has_repeats, head_name, head_patterns, is_fit_head, fit_test, fit_goal, clause_with, true_goal, clause_of_tree}
 use Rattle.kl1_model.proofs.ReadSteps.{clauses_go_on}
 use Rattle.kl1_read.specs.Meanings.{reading, answer_map, series_read, fit}
-use Rattle.kl1_read.specs.Statements.{Heading, Statement, given, written_series, guarded_read, statement_read, heading_term, is_fit_heading, clause_of_statement}
+use Rattle.kl1_read.specs.Statements.{Heading, Statement, written_series, guarded_read, statement_read, heading_term, is_fit_heading, clause_of_statement}
 use Rattle.kl1_read.proofs.Unwritable.{structure_unwritable}
 
 -- the terms of expressions that were read
@@ -245,16 +244,3 @@ front_means m _ = refl
 -- the clause of the terms that are read is that of the tree
 pub statement_reads : (m : List ℕ) (ts : List Numbered) → option_and_then (clause_of_statement m) (all_read (statement_read ts)) ≡ option_and_then (clause_of_tree m) (clause_tree ts)
 statement_reads m ts = sym (ap (option_and_then (clause_of_tree m)) (clauses_go_on ts) ∙ front_means m ts)
-
-both_read : (m : List ℕ) (ts : List (Token (List ℕ))) (x : Option Statement) → x ≡ all_read (statement_read (numbered_tokens ts)) → option_and_then (clause_of_statement m) x ≡ clause_of m ts
-both_read m ts x e = ap (option_and_then (clause_of_statement m)) e ∙ statement_reads m (numbered_tokens ts)
-
--- no clause where nothing is read
-pub clause_out : (m : List ℕ) (ts : List (Token (List ℕ))) (r : Bool) (s : Statement) → given r s ≡ all_read (statement_read (numbered_tokens ts)) → r ≡ false → None ≡ clause_of m ts
-clause_out m ts true s e q = cc
-clause_out m ts false s e q = both_read m ts None e
-
--- the clause of what is read
-pub clause_in : (m : List ℕ) (ts : List (Token (List ℕ))) (r : Bool) (s : Statement) → given r s ≡ all_read (statement_read (numbered_tokens ts)) → r ≡ true → clause_of_statement m s ≡ clause_of m ts
-clause_in m ts true s e q = both_read m ts (Some s) e
-clause_in m ts false s e q = cc

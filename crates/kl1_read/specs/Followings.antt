@@ -1,8 +1,6 @@
 -- Clauses of one predicate among those that were read.
-use Rattle.std.specs.Prelude.{ℕ, ◌==◌, ◌&&◌, if◌then◌else◌, Bool, false, List, [], ◌∷◌, length, map, bytes_eq, Option, Some, None}
+use Rattle.std.specs.Prelude.{ℕ, ◌==◌, ◌&&◌, Bool, false, List, [], ◌∷◌, length, bytes_eq}
 use Rattle.std.specs.List.{list_any}
-use Rattle.kl1_model.specs.Module.{Clause}
-use Rattle.kl1_read.specs.Sources.{clause_of_parts}
 use Rattle.kl1_read.specs.declared.clause_parts.ClauseParts.{ClauseParts}
 
 -- whether a clause is one of a predicate

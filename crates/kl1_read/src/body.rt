@@ -1,6 +1,6 @@
 // The terms of a clause where they stand.
 
-ghost use Rattle.std.specs.Prelude.{◌≡◌, ◌++◌, ◌∷◌, [], map, codes, option_map, IfOk, OnOk};
+ghost use Rattle.std.specs.Prelude.{◌≡◌, Some, ◌++◌, ◌∷◌, [], map, codes, option_map, IfOk, OnOk};
 ghost use Rattle.kl1_model.specs.Term.{atom};
 ghost use Rattle.kl1_model.specs.TermCode.{nodes_of};
 ghost use Rattle.kl1_model.specs.Meaning.{pair};
@@ -67,13 +67,12 @@ fn put_goal(
     ensures { IfOk result (λ r. given r terms.new.items ≡ option_map (λ t. terms.old.items ++ t ∷ []) (body_goal module_name term)) }
 {
     if is_goal(&term) {
-        return put_if(true, term, terms);
+        put_if(true, term, terms)
+    } else if is_head(&term) {
+        put_qualified(alloc, module_name, &term, terms)
+    } else {
+        Ok(false)
     }
-    if !is_head(&term) {
-        return Ok(false);
-    }
-    let goal = qualified(alloc, module_name, &term)?;
-    put_if(true, goal, terms)
 }
 
 /// Puts a term behind the others, where it may stand there. Answers whether it may.
@@ -86,13 +85,18 @@ fn put_if(stands: bool, term: Term, terms: &mut Vec<Term>) -> Result<bool, Alloc
     Ok(stands)
 }
 
-/// A goal with the name of its module.
-fn qualified(alloc: Global, module_name: AtomText, goal: &Term) -> Result<Term, AllocError>
-    ensures { IfOk result (λ t. t ≡ pair (codes ":") (atom module_name) goal.now) }
+/// Puts a goal with the name of its module behind the others.
+fn put_qualified(
+    alloc: Global,
+    module_name: AtomText,
+    goal: &Term,
+    terms: &mut Vec<Term>,
+) -> Result<bool, AllocError>
+    ensures { IfOk result (λ r. given r terms.new.items ≡ Some (terms.old.items ++ pair (codes ":") (atom module_name) goal.now ∷ [])) }
 {
     let mut nodes = Vec::with_capacity(alloc, goal.nodes().len().saturating_add(2))?;
     put_behind(&mut nodes, module_name, goal)?;
-    Ok(Term::of_nodes(nodes))
+    put_if(true, Term::of_nodes(nodes), terms)
 }
 
 /// Puts the nodes of a goal with the name of its module.
@@ -101,7 +105,10 @@ fn put_behind(nodes: &mut Vec<Node>, module_name: AtomText, goal: &Term) -> Resu
     requires { nodes.old.items ≡ [] }
     ensures { OnOk result (map code_of nodes.new.items ≡ nodes_of (pair (codes ":") (atom module_name) goal.now)) }
 {
-    nodes.push(Node::Structure(AtomText::of(b":"), 2))?;
-    nodes.push(Node::Atom(module_name))?;
+    let front = [
+        Node::Structure(AtomText::of(b":"), 2),
+        Node::Atom(module_name),
+    ];
+    nodes.extend_from_slice(&front)?;
     nodes.extend_from_slice(goal.nodes())
 }

@@ -1,10 +1,12 @@
 // Clauses.
 
-ghost use Rattle.std.specs.Prelude.{◌≡◌, [], map, IfOk};
+ghost use Rattle.std.specs.Prelude.{◌≡◌, [], map, option_and_then, IfOk};
 ghost use Rattle.kl1_model.specs.Module.{clause_of};
+ghost use Rattle.kl1_model.specs.Numbering.{numbered_tokens};
+ghost use Rattle.kl1_model.specs.Reader.{all_read};
 ghost use Rattle.kl1_read.specs.Views.{kept_token};
 ghost use Rattle.kl1_read.specs.Sources.{clause_of_parts};
-ghost use Rattle.kl1_read.specs.Statements.{given, statement_of, clause_of_statement};
+ghost use Rattle.kl1_read.specs.Statements.{given, statement_of, statement_read, clause_of_statement};
 
 use crate::body::put_terms;
 use crate::clause_parts::ClauseParts;
@@ -33,40 +35,48 @@ pub(crate) fn read_clause(
         tests: Vec::new(alloc),
         body: Vec::new(alloc),
     };
-    if !read_terms(alloc, tokens, &mut terms)? {
-        return Ok(false);
-    }
-    put_parts(alloc, module_name, &mut terms, parts)
+    read_parts(alloc, module_name, tokens, &mut terms, parts)
 }
 
-/// Puts the parts of the clause of terms in a module of this name. Answers whether each may stand where it stands.
-fn put_parts(
+/// Reads the clause of an item by way of terms. Answers whether there is one, and each of them may stand where it stands.
+fn read_parts(
     alloc: Global,
     module_name: AtomText,
+    tokens: Vec<Kept>,
     terms: &mut ClauseTerms,
     parts: &mut ClauseParts,
 ) -> Result<bool, AllocError>
+    requires arguments { terms.old.arguments.items ≡ [] }
+    requires terms_tests { terms.old.tests.items ≡ [] }
+    requires terms_body { terms.old.body.items ≡ [] }
     requires patterns { parts.old.patterns.items ≡ [] }
     requires tests { parts.old.tests.items ≡ [] }
     requires body { parts.old.body.items ≡ [] }
-    ensures { IfOk result (λ r. given r (clause_of_parts parts.new) ≡ clause_of_statement module_name (statement_of terms.old)) }
+    ensures { IfOk result (λ r. given r (clause_of_parts parts.new) ≡ option_and_then (clause_of_statement module_name) (all_read (statement_read (numbered_tokens (map kept_token tokens.items))))) }
 {
-    parts.name = terms.name;
-    match put_patterns(
-        alloc,
-        &terms.name,
-        &mut terms.arguments,
-        &mut parts.patterns,
-    ) {
-        Ok(true) => match put_terms(alloc, Role::Test, &mut terms.tests, &mut parts.tests) {
-            Ok(true) => put_terms(
+    match read_terms(alloc, tokens, terms) {
+        Ok(true) => {
+            parts.name = terms.name;
+            match put_patterns(
                 alloc,
-                Role::Goal(module_name),
-                &mut terms.body,
-                &mut parts.body,
-            ),
-            other => other,
-        },
+                &terms.name,
+                &mut terms.arguments,
+                &mut parts.patterns,
+            ) {
+                Ok(true) => match put_terms(alloc, Role::Test, &mut terms.tests, &mut parts.tests) {
+                    Ok(true) => {
+                        put_terms(
+                            alloc,
+                            Role::Goal(module_name),
+                            &mut terms.body,
+                            &mut parts.body,
+                        )
+                    }
+                    other => other,
+                },
+                other => other,
+            }
+        }
         other => other,
     }
 }

@@ -41,21 +41,7 @@ pub(crate) fn read_terms(
 {
     let numbered = numbered_tokens(alloc, tokens.as_slice())?;
     drop(tokens);
-    read_whole(alloc, numbered.as_slice(), terms)
-}
-
-/// Reads a clause behind which nothing is left.
-fn read_whole(
-    alloc: Global,
-    tokens: &[Numbered],
-    terms: &mut ClauseTerms,
-) -> Result<bool, AllocError>
-    requires arguments { terms.old.arguments.items ≡ [] }
-    requires tests { terms.old.tests.items ≡ [] }
-    requires body { terms.old.body.items ≡ [] }
-    ensures { IfOk result (λ r. given r (statement_of terms.new) ≡ all_read (statement_read (map numbered_token tokens.now))) }
-{
-    match read_front(alloc, tokens, terms) {
+    match read_front(alloc, numbered.as_slice(), terms) {
         Ok(Some(left)) => Ok(left.len() == 0),
         Ok(None) => Ok(false),
         Err(refused) => Err(refused),

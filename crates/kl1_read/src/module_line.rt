@@ -31,21 +31,11 @@ pub(crate) fn named_module(tokens: &[Kept]) -> Option<AtomText>
 fn behind_sign(sign: Sign, tokens: &[Kept]) -> Option<AtomText>
     ensures { result ≡ named_module (sign_token sign ∷ map kept_token tokens.now) }
 {
-    if sign == Sign::Neck {
-        behind_neck(tokens)
+    if sign == Sign::Neck && tokens.len() == 2 {
+        named(&tokens[0], &tokens[1])
     } else {
         None
     }
-}
-
-/// The name in the line of a module, where these are its tokens behind the neck.
-fn behind_neck(tokens: &[Kept]) -> Option<AtomText>
-    ensures { result ≡ named_module (sign_token Neck ∷ map kept_token tokens.now) }
-{
-    if tokens.len() != 2 {
-        return None;
-    }
-    named(&tokens[0], &tokens[1])
 }
 
 /// The name in the line of a module, where these are its two tokens behind the neck.

@@ -1,4 +1,4 @@
-use Rattle.std.proofs.Common.{◌≡◌, ◌+◌, ◌<◌, ◌^◌, [], length, map}
+use Rattle.std.proofs.Common.{◌≡◌, ◌+◌, ◌<◌, ◌^◌, length, map}
 use Rattle.kl1_model.specs.Module.{clauses_from}
 use Rattle.kl1_read.specs.Items.{items_left}
 use Rattle.kl1_read.specs.Sources.{clause_of_parts}

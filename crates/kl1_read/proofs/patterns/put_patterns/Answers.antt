@@ -1,4 +1,4 @@
-use Rattle.std.proofs.Common.{◌≡◌, ap, ◌∙◌, map, not, IfOk, subst}
+use Rattle.std.proofs.Common.{◌≡◌, ap, ◌∙◌, not, IfOk, subst}
 use Rattle.kl1_model.specs.Term.{terms_of}
 use Rattle.kl1_model.specs.Meaning.{variables_in}
 use Rattle.kl1_model.specs.Module.{has_repeats}

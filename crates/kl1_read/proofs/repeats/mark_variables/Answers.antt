@@ -1,5 +1,4 @@
-use Rattle.std.proofs.Common.{◌≡◌, ◌∷◌, ◌++◌, ap, sym, ◌∙◌}
-use Rattle.kl1_term.specs.declared.node.Node.TheVariants.{Variable}
+use Rattle.std.proofs.Common.{sym, ◌∙◌}
 use Rattle.kl1_read.proofs.MarkedRows.{next_marked}
 use Rattle.kl1_read.proofs.repeats.mark_variables.Goals as goal
 

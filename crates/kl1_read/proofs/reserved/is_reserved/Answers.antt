@@ -1,4 +1,4 @@
-use Rattle.std.proofs.Common.{sym, ◌∙◌, arith}
+use Rattle.std.proofs.Common.{sym}
 use Rattle.kl1_read.proofs.FitHeads.{reserved_next}
 use Rattle.kl1_read.proofs.reserved.is_reserved.Goals as goal
 
