@@ -30,14 +30,19 @@ pub fn read_module(alloc: Global, text: &[u8]) -> Result<Source, ReadFault>
     match next_item(alloc, place)? {
         Next::Nothing => Err(ReadFault::Bad { line: 1 }),
         Next::Bad(line) => Err(ReadFault::Bad { line }),
-        Next::Whole(item, behind) => match named_module(item.tokens.as_slice()) {
-            None => Err(ReadFault::Bad { line: item.line }),
-            Some(name) => {
-                let mut clauses = Vec::new(alloc);
-                put_clauses(alloc, name, behind, &mut clauses)?;
-                Ok(Source { name, clauses })
+        Next::Whole(item, behind) => {
+            let Item { line, tokens } = item;
+            let name = named_module(tokens.as_slice());
+            drop(tokens);
+            match name {
+                None => Err(ReadFault::Bad { line }),
+                Some(name) => {
+                    let mut clauses = Vec::new(alloc);
+                    put_clauses(alloc, name, behind, &mut clauses)?;
+                    Ok(Source { name, clauses })
+                }
             }
-        },
+        }
     }
 }
 
