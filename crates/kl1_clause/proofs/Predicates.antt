@@ -22,23 +22,12 @@ whole_front names cs zero w = tt
 whole_front names [] (suc i) w = tt
 whole_front names (c ∷ cs) (suc i) w = (w.0, whole_front names cs i w.1)
 
--- compiled clauses that are found in a code by the name and the number of arguments of a predicate
-pub record IsFound (c : Inside) (name : List ℕ) (count : ℕ) (found : List CompiledClause) : Type 0 where
-  pub names : List (List ℕ)
-  pub all : List CompiledClause
-  pub behind : List CompiledClause
-  pub names_are : names ≡ c.names
-  pub all_are : all ≡ c.clauses.items
-  pub from_first_is : clauses_in names behind ≡ from_first (is_of name count) (clauses_in names all)
-  pub run_is : clauses_in names found ≡ front_run (is_of name count) (clauses_in names behind)
-  pub whole : AreWhole names found
-
--- they are the clauses of the predicate of its module
-pub is_predicate : (c : Inside) (m : Module) (name : List ℕ) (count : ℕ) (found : List CompiledClause) → IsSound c → module_in c ≡ m → IsFound c name count found → AreCompiled (with_names [] (names_of_module m)) found (filter (is_of name count) m.clauses)
-is_predicate c m name count found sound view f =
+-- what is found in a code by the name and the number of arguments of a predicate are the clauses of the predicate of its module
+pub found_is : (c : Inside) (m : Module) (name : List ℕ) (count : ℕ) (names : List (List ℕ)) (all behind found : List CompiledClause) → IsSound c → module_in c ≡ m → names ≡ c.names → all ≡ c.clauses.items → clauses_in names behind ≡ from_first (is_of name count) (clauses_in names all) → clauses_in names found ≡ front_run (is_of name count) (clauses_in names behind) → AreWhole names found → AreCompiled (with_names [] (names_of_module m)) found (filter (is_of name count) m.clauses)
+found_is c m name count names all behind found sound view names_are all_are from_first_is run_is whole =
     let test = is_of name count in
-    let all_mean : clauses_in f.names f.all ≡ (module_in c).clauses = ap (λ (ns : List (List ℕ)). clauses_in ns f.all) f.names_are ∙ ap (clauses_in c.names) f.all_are in
+    let all_mean : clauses_in names all ≡ (module_in c).clauses = ap (λ (ns : List (List ℕ)). clauses_in ns all) names_are ∙ ap (clauses_in c.names) all_are in
     let joined : front_run test (from_first test (module_in c).clauses) ≡ filter test (module_in c).clauses = run_is_all test (module_in c).clauses (together c.source.items (module_in c) name count sound.meant) in
-    let found_is : clauses_in f.names found ≡ filter test m.clauses = f.run_is ∙ (ap (front_run test) (f.from_first_is ∙ ap (from_first test) all_mean) ∙ (joined ∙ ap (λ (x : Module). filter test x.clauses) view)) in
-    subst (λ (ns : List (List ℕ)). AreCompiled ns found (filter test m.clauses)) (f.names_are ∙ names_as c m sound view)
-    (subst (λ (ds : List Clause). AreCompiled f.names found ds) found_is f.whole)
+    let found_are : clauses_in names found ≡ filter test m.clauses = run_is ∙ (ap (front_run test) (from_first_is ∙ ap (from_first test) all_mean) ∙ (joined ∙ ap (λ (x : Module). filter test x.clauses) view)) in
+    subst (λ (ns : List (List ℕ)). AreCompiled ns found (filter test m.clauses)) (names_are ∙ names_as c m sound view)
+    (subst (λ (ds : List Clause). AreCompiled names found ds) found_are whole)

@@ -85,6 +85,7 @@ impl Code {
     }
 
     /// The names of the module that are not built in, in order of first use.
+    #[tactic(auto, using(crate::proofs::Soundness::names_as))]
     pub fn names(&self) -> &[AtomText]
         ensures value { result.now ≡ with_names [] (names_of_module self.now) }
         ensures names { IsNameList result.now }
@@ -108,6 +109,7 @@ impl Code {
     }
 
     /// The clauses compiled, in order.
+    #[tactic(auto, using(crate::proofs::Soundness::clauses_as))]
     pub fn clauses(&self) -> &[CompiledClause]
         ensures { AreCompiled (with_names [] (names_of_module self.now)) result.now self.now.clauses }
     {
@@ -115,6 +117,7 @@ impl Code {
     }
 
     /// The clauses of one predicate compiled, in order: its first clause, which has the number 1, stands first.
+    #[tactic(auto, using(crate::proofs::Predicates::found_is))]
     pub fn predicate(&self, name: &AtomText, count: usize) -> &[CompiledClause]
         ensures { AreCompiled (with_names [] (names_of_module self.now)) result.now (filter (is_of name.now count) self.now.clauses) }
     {

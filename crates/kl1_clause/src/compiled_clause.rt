@@ -42,7 +42,7 @@ pub(crate) fn compiled_of(
 {
     let name = names.placed(&parts.name)?;
     let patterns = row_of(alloc, names, &parts.patterns)?;
-    let tests = tests_of(alloc, names, parts)?;
+    let tests = row_of(alloc, names, &parts.tests)?;
     let goals = row_of(alloc, names, &parts.body)?;
     let head_variables = highest_among(&parts.patterns);
     let fresh_variables = fresh_among(&parts.body, head_variables);
@@ -63,18 +63,6 @@ fn fresh_among(terms: &[Term], head_variables: u64) -> u64
     ensures { result ≡ highest_in (terms_of terms.now) - head_variables }
 {
     highest_among(terms).saturating_sub(head_variables)
-}
-
-/// The instructions of a clause's tests.
-fn tests_of(
-    alloc: Global,
-    names: &mut Names,
-    parts: &ClauseParts,
-) -> Result<Vec<Instruction>, AllocError>
-    ensures names { OnOk result (names.new ≡ with_texts names.old (names_in (terms_of parts.now.tests.items))) }
-    ensures row { IfOk result (λ row. IsRowOf names.new row.items (nodes_of_all (terms_of parts.now.tests.items))) }
-{
-    row_of(alloc, names, parts.tests.as_slice())
 }
 
 /// The greatest number of a variable among terms, 0 where there is none.

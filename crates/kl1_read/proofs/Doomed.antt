@@ -54,8 +54,8 @@ module _ (k : Going) (dooms : Dooms k) where
   pub opened_dooms : (opened : Opened) → Dooms (after_opened opened k)
   opened_dooms Group t ts h = doomed_skip (behind_close ts) _ (λ us. dooms t us h)
   opened_dooms (Arguments f before) t ts h =
-      doomed_there (behind_comma ts) _ _ (arguments_doom f before.items t [] ts h) (λ us.
-      doomed_read (series_read us) _ (λ s vs. arguments_doom f before.items t s vs h))
+      doomed_there (behind_comma ts) _ _ (arguments_doom f.now before.items t [] ts h) (λ us.
+      doomed_read (series_read us) _ (λ s vs. arguments_doom f.now before.items t s vs h))
   opened_dooms (Elements before) t ts h =
       doomed_there (behind_comma ts) _ _ (elements_doom before.items t [] ts h) (λ us.
       doomed_read (series_read us) _ (λ s vs. elements_doom before.items t s vs h))

@@ -10,7 +10,6 @@ use Rattle.kl1_term.specs.declared.node.Node.{Node}
 use Rattle.kl1_term.specs.declared.node.Node.TheVariants.{Structure}
 use Rattle.kl1_term.specs.Nodes.{code_of, term_in, IsTerm}
 use Rattle.kl1_read.specs.declared.small_node.SmallNode.{SmallNode}
-use Rattle.kl1_read.specs.declared.small_node.SmallNode.TheVariants as small
 use Rattle.kl1_read.specs.SmallNodes.{node_of}
 use Rattle.kl1_read.specs.PieceView.{IsPiece}
 use Rattle.kl1_read.specs.Pieces.{writable}
@@ -67,17 +66,6 @@ spilled_behind xs ys zs t whole rest is p e =
     ∙ ap (map code_of) (reverse-append (map node_of ys) (map node_of xs))
     ∙ map-append code_of (reverse (map node_of xs)) (reverse (map node_of ys))
     ∙ ap (λ cs. cs ++ map code_of (reverse (map node_of ys))) (p.one ∙ ap nodes_of is)
-
--- one node more
-pub one_node : (xs zs : List SmallNode) (n : SmallNode) → zs ≡ xs ++ n ∷ [] → map node_of zs ≡ map node_of xs ++ node_of n ∷ []
-one_node xs zs n e = ap (map node_of) e ∙ map-append node_of xs (n ∷ [])
-
--- the nodes of two terms and the node of their pair
-pub two_rows : (xs ys ms zs : List SmallNode) (f g : List ℕ) → g ≡ f → ms ≡ ys ++ xs → zs ≡ ms ++ small.Structure 2 g ∷ [] → map node_of zs ≡ (map node_of ys ++ map node_of xs) ++ Structure f 2 ∷ []
-two_rows xs ys ms zs f g h m e =
-    one_node ms zs (small.Structure 2 g) e
-    ∙ ap (λ ns. ns ++ Structure g 2 ∷ []) (ap (map node_of) m ∙ map-append node_of ys xs)
-    ∙ ap (λ x. (map node_of ys ++ map node_of xs) ++ Structure x 2 ∷ []) h
 
 reversed_pair : (xs ys : List Node) (n : Node) → reverse ((ys ++ xs) ++ n ∷ []) ≡ n ∷ (reverse xs ++ reverse ys)
 reversed_pair xs ys n = reverse-append (ys ++ xs) (n ∷ []) ∙ ap (λ zs. n ∷ zs) (reverse-append ys xs)

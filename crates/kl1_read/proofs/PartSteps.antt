@@ -1,5 +1,6 @@
 -- What follows a part, arguments, elements and a tail.
 use Rattle.std.proofs.Common.{◌≡◌, ℕ, List, [], ◌∷◌, ◌++◌, codes, Some, None, Vec, option_map, ap, sym, ◌∙◌}
+use Rattle.std.specs.Borrow.{Bor}
 use Rattle.std.specs.declared.alloc.Global.{Global}
 use Rattle.kl1_model.specs.Term.{Term, structure, terms_of}
 use Rattle.kl1_model.specs.Grammar.{Numbered, equality}
@@ -21,9 +22,9 @@ relation_follows p ts us h k dooms =
     ap fit (sym (ap (after_relation k p ts) (relation_here ts ∙ ap (option_map (λ us. (equality, us))) (sym h)) ∙ part_goes (λ q vs. k (pair (codes "=") p q) vs) us))
 
 -- a comma follows arguments
-pub arguments_follow : (f : List ℕ) (before : List Term) (e : Term) (v : Vec Term Global) (ts us : List Numbered) → v.items ≡ before ++ e ∷ [] → Some us ≡ behind_comma ts → (k : Going) → Dooms k → fit (open_then (Arguments f v) k us) ≡ fit (if_there (behind_comma ts) (after_arguments f k (before ++ e ∷ []) ts) (λ us. then_read (series_read us) (λ s vs. after_arguments f k (before ++ e ∷ s) vs)))
+pub arguments_follow : (f : Bor (List ℕ)) (before : List Term) (e : Term) (v : Vec Term Global) (ts us : List Numbered) → v.items ≡ before ++ e ∷ [] → Some us ≡ behind_comma ts → (k : Going) → Dooms k → fit (open_then (Arguments f v) k us) ≡ fit (if_there (behind_comma ts) (after_arguments f.now k (before ++ e ∷ []) ts) (λ us. then_read (series_read us) (λ s vs. after_arguments f.now k (before ++ e ∷ s) vs)))
 arguments_follow f before e v ts us i h k dooms =
-    ap fit (sym (ap (λ x. if_there x (after_arguments f k (before ++ e ∷ []) ts) (λ us. then_read (series_read us) (λ s vs. after_arguments f k (before ++ e ∷ s) vs))) (sym h) ∙ arguments_more k f before e v us i))
+    ap fit (sym (ap (λ x. if_there x (after_arguments f.now k (before ++ e ∷ []) ts) (λ us. then_read (series_read us) (λ s vs. after_arguments f.now k (before ++ e ∷ s) vs))) (sym h) ∙ arguments_more k f before e v us i))
 
 -- arguments are closed
 arguments_here : (f : List ℕ) (es : List Term) (ts us : List Numbered) (go : List Numbered → Answer (List Term)) (k : Going) → None ≡ behind_comma ts → Some us ≡ behind_close ts → if_there (behind_comma ts) (after_arguments f k es ts) go ≡ k (structure f (terms_of es)) us

@@ -1,5 +1,6 @@
 -- The primary in front of tokens, by its first token.
 use Rattle.std.proofs.Common.{◌≡◌, ℕ, ◌^◌, nat_lt, Bool, true, false, if◌then◌else◌, List, [], ◌∷◌, ◌++◌, Option, Some, None, Vec, pos, neg_ℤ, refl, ap, sym, ◌∙◌}
+use Rattle.std.specs.Borrow.{Bor}
 use Rattle.std.specs.declared.alloc.Global.{Global}
 use Rattle.kl1_model.specs.declared.sign.Sign.TheVariants.{Open, OpenList}
 use Rattle.kl1_model.specs.Token.{name_token, variable_token, digits_token, minus_token, sign_token}
@@ -60,17 +61,17 @@ module _ (k : Going) where
   call_by f quotes None = refl
   call_by f quotes (Some r) = call_ends f quotes r.0 (behind_close r.1)
 
-  pub arguments_open : (f : List ℕ) (v : Vec Term Global) (us : List Numbered) → v.items ≡ [] → then_read (series_read us) (after_arguments f k) ≡ open_then (Arguments f v) k us
+  pub arguments_open : (f : Bor (List ℕ)) (v : Vec Term Global) (us : List Numbered) → v.items ≡ [] → then_read (series_read us) (after_arguments f.now k) ≡ open_then (Arguments f v) k us
   arguments_open f v us e =
-      series_behind (after_arguments f k) [] us
-      ∙ ap (λ (before : List Term). then_read (expression_read us) (λ e us. if_there (behind_comma us) (after_arguments f k (before ++ e ∷ []) us) (λ vs. then_read (series_read vs) (λ s ws. after_arguments f k (before ++ e ∷ s) ws)))) (sym e)
+      series_behind (after_arguments f.now k) [] us
+      ∙ ap (λ (before : List Term). then_read (expression_read us) (λ e us. if_there (behind_comma us) (after_arguments f.now k (before ++ e ∷ []) us) (λ vs. then_read (series_read vs) (λ s ws. after_arguments f.now k (before ++ e ∷ s) ws)))) (sym e)
 
-  call_here : (f : List ℕ) (quotes : Bool) (v : Vec Term Global) (x : Option (List Numbered)) → v.items ≡ [] → then_read (answer_map primary_term (then_read (then_skip x (λ us. then_read (series_at reading us) (λ s vs. then_skip (behind_close vs) (λ ws. Some (s, ws))))) (λ s us. Some (call f quotes s, us)))) k ≡ then_skip x (λ us. open_then (Arguments f v) k us)
+  call_here : (f : Bor (List ℕ)) (quotes : Bool) (v : Vec Term Global) (x : Option (List Numbered)) → v.items ≡ [] → then_read (answer_map primary_term (then_read (then_skip x (λ us. then_read (series_at reading us) (λ s vs. then_skip (behind_close vs) (λ ws. Some (s, ws))))) (λ s us. Some (call f.now quotes s, us)))) k ≡ then_skip x (λ us. open_then (Arguments f v) k us)
   unfolding series_read
   call_here f quotes v None e = refl
-  call_here f quotes v (Some us) e = call_by f quotes (series_at reading us) ∙ arguments_open f v us e
+  call_here f quotes v (Some us) e = call_by f.now quotes (series_at reading us) ∙ arguments_open f v us e
 
-  pub call_reads : (f : List ℕ) (quotes : Bool) (v : Vec Term Global) (ts : List Numbered) → v.items ≡ [] → then_read (primary_read (name_token f quotes true ∷ ts)) k ≡ then_skip (behind_open ts) (λ us. open_then (Arguments f v) k us)
+  pub call_reads : (f : Bor (List ℕ)) (quotes : Bool) (v : Vec Term Global) (ts : List Numbered) → v.items ≡ [] → then_read (primary_read (name_token f.now quotes true ∷ ts)) k ≡ then_skip (behind_open ts) (λ us. open_then (Arguments f v) k us)
   unfolding primary_read
   call_reads f quotes v ts e = call_here f quotes v (behind_open ts) e
 
@@ -111,11 +112,11 @@ module _ (k : Going) where
   list_reads v ts e = list_here ts v (behind_close_list ts) e
 
   -- one expression more in what was opened
-  pub arguments_more : (f : List ℕ) (before : List Term) (e : Term) (v : Vec Term Global) (us : List Numbered) → v.items ≡ before ++ e ∷ [] → then_read (series_read us) (λ s vs. after_arguments f k (before ++ e ∷ s) vs) ≡ open_then (Arguments f v) k us
+  pub arguments_more : (f : Bor (List ℕ)) (before : List Term) (e : Term) (v : Vec Term Global) (us : List Numbered) → v.items ≡ before ++ e ∷ [] → then_read (series_read us) (λ s vs. after_arguments f.now k (before ++ e ∷ s) vs) ≡ open_then (Arguments f v) k us
   arguments_more f before e v us h =
-      one_more (after_arguments f k) before e us
-      ∙ series_behind (after_arguments f k) (before ++ e ∷ []) us
-      ∙ ap (λ (es : List Term). then_read (expression_read us) (λ e us. if_there (behind_comma us) (after_arguments f k (es ++ e ∷ []) us) (λ vs. then_read (series_read vs) (λ s ws. after_arguments f k (es ++ e ∷ s) ws)))) (sym h)
+      one_more (after_arguments f.now k) before e us
+      ∙ series_behind (after_arguments f.now k) (before ++ e ∷ []) us
+      ∙ ap (λ (es : List Term). then_read (expression_read us) (λ e us. if_there (behind_comma us) (after_arguments f.now k (es ++ e ∷ []) us) (λ vs. then_read (series_read vs) (λ s ws. after_arguments f.now k (es ++ e ∷ s) ws)))) (sym h)
 
   pub elements_more : (before : List Term) (e : Term) (v : Vec Term Global) (us : List Numbered) → v.items ≡ before ++ e ∷ [] → then_read (series_read us) (λ s vs. after_elements k (before ++ e ∷ s) vs) ≡ open_then (Elements v) k us
   elements_more before e v us h =

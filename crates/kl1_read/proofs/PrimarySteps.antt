@@ -1,5 +1,6 @@
 -- The front of a primary, by its first token, and what goes on behind it.
 use Rattle.std.proofs.Common.{◌≡◌, ℕ, zero, suc, ◌<◌, ◌≤◌, ◌^◌, nat_lt, Bool, true, false, if◌then◌else◌, List, [], ◌∷◌, length, map, Some, None, Vec, pos, neg_ℤ, refl, ap, sym, ◌∙◌, arith}
+use Rattle.std.specs.Borrow.{Bor}
 use Rattle.std.specs.declared.alloc.Global.{Global}
 use Rattle.std.proofs.lemmas.Bool.{lt-ltb, le-ltb, and_left}
 use Rattle.kl1_model.specs.declared.sign.Sign.{Sign}
@@ -64,7 +65,7 @@ unfolding primary_read
 call_gone f quotes ts h =
     ap (λ x. answer_map primary_term (then_read (then_skip x (λ us. then_read (series_at reading us) (λ s vs. then_skip (behind_close vs) (λ ws. Some (s, ws))))) (λ s us. Some (call f quotes s, us)))) (sym h)
 
-pub call_begins : (f : List ℕ) (quotes : Bool) (v : Vec Term Global) (ts us : List grammar.Numbered) → v.items ≡ [] → Some us ≡ behind_open ts → (k : Going) → Dooms k → fit (open_then (Arguments f v) k us) ≡ fit (then_read (primary_read (name_token f quotes true ∷ ts)) k)
+pub call_begins : (f : Bor (List ℕ)) (quotes : Bool) (v : Vec Term Global) (ts us : List grammar.Numbered) → v.items ≡ [] → Some us ≡ behind_open ts → (k : Going) → Dooms k → fit (open_then (Arguments f v) k us) ≡ fit (then_read (primary_read (name_token f.now quotes true ∷ ts)) k)
 call_begins f quotes v ts us e h k dooms =
     ap fit (sym (call_reads k f quotes v ts e ∙ ap (λ x. then_skip x (λ us. open_then (Arguments f v) k us)) (sym h)))
 
@@ -86,7 +87,7 @@ pub group_begins : (s : Sign) (ts : List grammar.Numbered) → token_of s ≡ to
 group_begins s ts h k dooms = ap fit (sym (ap (λ t. then_read (primary_read (t ∷ ts)) k) h ∙ group_reads k ts))
 
 -- no other sign begins a primary
-pub other_sign : (s : Sign) (ts : List grammar.Numbered) → (token_of s ≡ token_of Open → ⊥) → (token_of s ≡ token_of OpenList → ⊥) → primary_read (sign_token s ∷ ts) ≡ None
+pub other_sign : (s : Sign) (ts : List grammar.Numbered) → (s ≡ Open → ⊥) → (s ≡ OpenList → ⊥) → primary_read (sign_token s ∷ ts) ≡ None
 unfolding primary_read
 other_sign Open ts h k = absurd (h refl)
 other_sign OpenList ts h k = absurd (k refl)

@@ -10,7 +10,7 @@ use Rattle.kl1_model.specs.Text.{is_text}
 use Rattle.kl1_model.specs.Numbering.{place_of, variable_number, seen_after}
 use Rattle.kl1_text.specs.Words.{words_of}
 use Rattle.kl1_text.proofs.Words.{same_names, same_bytes}
-use Rattle.kl1_read.specs.Spellings.{IsNumberAmong, Finds}
+use Rattle.kl1_read.specs.Spellings.{IsNumbered, IsNumberAmong, Finds}
 
 kept_by : (b : Bool) (p q n : ℕ) → (q ≤ n → p ≡ q) → (if b then 1 else suc q) ≤ suc n → ◌≡◌ {A = ℕ} (if b then 1 else suc p) (if b then 1 else suc q)
 kept_by true p q n k h = refl
@@ -81,12 +81,6 @@ joined_by seen v n e next =
 old_by : (seen : List (List ℕ)) (v : List ℕ) (n : ℕ) → n ≡ variable_number seen v → n ≤ length seen → seen ≡ seen_after seen v
 old_by seen v n e low =
     sym (ap (λ b. if◌then◌else◌ {A = List (List ℕ)} b (seen ++ v ∷ []) seen) (le-ltb (length seen) (variable_number seen v) (omega (arith, e, low))))
-
--- a spelling has its number, and the numbers of those seen now are found
-pub record IsNumbered {S : Type 0} (numbers : HashMap (List ℕ) ℕ S) (before now : List (List ℕ)) (v : List ℕ) (n : ℕ) : Type 0 where
-  pub finds : Finds numbers now
-  pub value : n ≡ variable_number before v
-  pub seen : now ≡ seen_after before v
 
 -- `_`
 pub another : {S : Type 0} (numbers : HashMap (List ℕ) ℕ S) (seen now : List (List ℕ)) (v : List ℕ) (n : ℕ) → Finds numbers seen → true ≡ bytes_eq v (codes "_") → n ≡ suc (length seen) → now ≡ seen ++ v ∷ [] → IsNumbered numbers seen now v n

@@ -9,7 +9,7 @@ use Rattle.kl1_model.specs.Meaning.{expression_term, is_writable}
 use Rattle.kl1_model.specs.Goal.{is_goal}
 use Rattle.kl1_model.specs.Module.{Reading, good, bad, startable, term_of_tokens}
 use Rattle.kl1_read.specs.Pieces.{writable}
-use Rattle.kl1_read.specs.Started.{started}
+use Rattle.kl1_read.specs.Started.{started, expression_read}
 
 started_by : (line : ℕ) (t : Term) (w : Bool) → started line (if◌then◌else◌ {A = Option Term} w (Some t) None) ≡ if◌then◌else◌ {A = Reading Term} (w && is_goal t) (good t) (bad line)
 started_by line t true = refl
@@ -21,8 +21,7 @@ startable_is line None = refl
 startable_is line (Some t) = started_by line t (is_writable t)
 
 -- what is started of the term that tokens are
-pub started_is : (line : ℕ) (ts : List (Token (List ℕ))) (ns : List Numbered) (read : Option Term) → read ≡ option_and_then writable (option_map expression_term (expression_tree ns)) → ns ≡ numbered_tokens ts → started line read ≡ startable line (term_of_tokens ts)
-started_is line ts ns read e n =
-    ap (started line) e
-    ∙ startable_is line (option_map expression_term (expression_tree ns))
+pub started_is : (line : ℕ) (ts : List (Token (List ℕ))) (ns : List Numbered) → ns ≡ numbered_tokens ts → started line (expression_read ns) ≡ startable line (term_of_tokens ts)
+started_is line ts ns n =
+    startable_is line (option_map expression_term (expression_tree ns))
     ∙ ap (λ ms. startable line (option_map expression_term (expression_tree ms))) n

@@ -1,5 +1,5 @@
 -- One step of reading.
-use Rattle.std.proofs.Common.{◌≡◌, List, [], ◌∷◌, ◌++◌, reverse, Some, None, IsTrue, if◌then◌else◌, refl, ap, sym, ◌∙◌}
+use Rattle.std.proofs.Common.{◌≡◌, List, [], ◌∷◌, ◌++◌, reverse, Some, None, IsTrue, IfOk, Result, Ok, Err, if◌then◌else◌, refl, ap, sym, ◌∙◌}
 use Rattle.std.specs.List.{list_all}
 use Rattle.std.proofs.lemmas.Bool.{and_from}
 use Rattle.std.proofs.lemmas.List.Folds.{list_all-append}
@@ -20,6 +20,11 @@ use Rattle.kl1_read.specs.Joins.{joined_then, Joins, closed_then, Closes}
 use Rattle.kl1_read.specs.Meanings.{series_read, after_primary, after_opened, after_last, after_expression, open_then, primary_then, fit}
 use Rattle.kl1_read.proofs.Doomed.{primary_dooms, expression_dooms}
 use Rattle.kl1_read.proofs.Goings.{expression_goes, series_behind, one_more}
+
+-- what follows from what holds of a result
+pub ok_along : {A E : Type 0} (P Q : A → Type 0) (r : Result A E) → IfOk r P → ((a : A) → P a → Q a) → IfOk r Q
+ok_along P Q (Ok a) h f = f a h
+ok_along P Q (Err e) h f = h
 
 -- nothing stands to the left
 abbrev pub no_left : Left

@@ -1,8 +1,6 @@
 -- Clauses of one predicate among those that were read.
-use Rattle.std.specs.Prelude.{ℕ, ◌==◌, ◌&&◌, if◌then◌else◌, Bool, false, List, [], ◌∷◌, length, map, bytes_eq, Option, Some, None}
+use Rattle.std.specs.Prelude.{ℕ, ◌==◌, ◌&&◌, Bool, false, List, [], ◌∷◌, length, bytes_eq}
 use Rattle.std.specs.List.{list_any}
-use Rattle.kl1_model.specs.Module.{Clause}
-use Rattle.kl1_read.specs.Sources.{clause_of_parts}
 use Rattle.kl1_read.specs.declared.clause_parts.ClauseParts.{ClauseParts}
 
 -- whether a clause is one of a predicate
@@ -18,7 +16,3 @@ ends_with name count (p ∷ q ∷ ps) = ends_with name count (q ∷ ps)
 -- whether one of clauses is one of a predicate
 abbrev pub holds : List ℕ → ℕ → List ClauseParts → Bool
 holds name count ps = list_any (is_one_of name count) ps
-
--- the clauses of parts, where the last of them was put
-abbrev pub clauses_where : Bool → List ClauseParts → Option (List Clause)
-clauses_where put ps = if put then Some (map clause_of_parts ps) else None

@@ -71,7 +71,7 @@ after_arguments f k es ts = then_skip (behind_close ts) (λ us. k (structure f (
 -- goes on behind an expression in what was opened
 abbrev pub after_opened : Opened → Going → Going
 after_opened Group k e ts = then_skip (behind_close ts) (λ us. k e us)
-after_opened (Arguments f before) k e ts = if_there (behind_comma ts) (after_arguments f k (before.items ++ e ∷ []) ts) (λ us. then_read (series_read us) (λ s vs. after_arguments f k (before.items ++ e ∷ s) vs))
+after_opened (Arguments f before) k e ts = if_there (behind_comma ts) (after_arguments f.now k (before.items ++ e ∷ []) ts) (λ us. then_read (series_read us) (λ s vs. after_arguments f.now k (before.items ++ e ∷ s) vs))
 after_opened (Elements before) k e ts = if_there (behind_comma ts) (after_elements k (before.items ++ e ∷ []) ts) (λ us. then_read (series_read us) (λ s vs. after_elements k (before.items ++ e ∷ s) vs))
 after_opened (Tail elements) k e ts = then_skip (behind_close_list ts) (λ us. k (cells (terms_of elements.items) e) us)
 

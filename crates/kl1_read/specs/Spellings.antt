@@ -1,9 +1,9 @@
 -- Where the numbers of spellings are looked up.
-use Rattle.std.specs.Prelude.{◌≡◌, ℕ, suc, ◌≤◌, nat_eq, List, length, codes, bytes_eq, false, IsTrue, Option, Some, None}
+use Rattle.std.specs.Prelude.{◌≡◌, ℕ, suc, ◌≤◌, nat_eq, List, [], ◌∷◌, ◌++◌, length, codes, bytes_eq, false, IsTrue, Option, Some, None}
 use Rattle.std.specs.Cmp.Lexicographic.{pointwise}
 use Rattle.std.specs.HashMap.{get, HashMap}
 use Rattle.kl1_model.specs.Text.{is_text}
-use Rattle.kl1_model.specs.Numbering.{place_of}
+use Rattle.kl1_model.specs.Numbering.{place_of, variable_number, seen_after}
 use Rattle.kl1_text.specs.Words.{words_of}
 
 -- the number of a spelling among those seen, or none where it wasn't seen
@@ -14,3 +14,14 @@ IsNumberAmong seen v (Some n) = (place_of seen v ≡ n) × (n ≤ length seen)
 -- a map has the number of each spelling but `_`, by the words that hold it
 abbrev pub Finds : {S : Type 0} → HashMap (List ℕ) ℕ S → List (List ℕ) → Type 0
 Finds numbers seen = (v : List ℕ) → IsTrue (is_text v) → bytes_eq v (codes "_") ≡ false → IsNumberAmong seen v (get (pointwise nat_eq) numbers (words_of 8 v))
+
+-- a spelling was put behind those seen, and its number is the next one
+pub record IsBehind (before now : List (List ℕ)) (v : List ℕ) (n : ℕ) : Type 0 where
+  pub next : n ≡ suc (length before)
+  pub put : now ≡ before ++ v ∷ []
+
+-- a spelling has its number, and the numbers of those seen now are found
+pub record IsNumbered {S : Type 0} (numbers : HashMap (List ℕ) ℕ S) (before now : List (List ℕ)) (v : List ℕ) (n : ℕ) : Type 0 where
+  pub finds : Finds numbers now
+  pub value : n ≡ variable_number before v
+  pub seen : now ≡ seen_after before v

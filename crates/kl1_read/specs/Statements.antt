@@ -9,8 +9,9 @@ use Rattle.kl1_model.specs.Meaning.{is_writable, variables_in}
 use Rattle.kl1_model.specs.Goal.{is_head}
 use Rattle.kl1_model.specs.Module.{Clause, each_of, has_repeats, fit_test, fit_goal, true_goal}
 use Rattle.kl1_read.specs.declared.numbered.Numbered.{Numbered}
-use Rattle.kl1_read.specs.declared.head_terms.HeadTerms.{HeadTerms}
 use Rattle.kl1_read.specs.declared.clause_terms.ClauseTerms.{ClauseTerms}
+use Rattle.kl1_read.specs.declared.role.Role.{Role}
+use Rattle.kl1_read.specs.declared.role.Role.TheVariants.{Pattern, Test, Goal}
 use Rattle.kl1_read.specs.Views.{numbered_token}
 use Rattle.kl1_read.specs.Meanings.{series_read, fit}
 
@@ -25,23 +26,32 @@ pub record Statement : Type 0 where
   pub tests : List Term
   pub body : List Term
 
--- a head that was read: its name and its arguments in a list
-abbrev pub heading_of : HeadTerms → Heading
-heading_of h = record { name = h.name; arguments = h.arguments.items }
+-- what was put, where something was
+abbrev pub given : {A : Type 0} → Bool → A → Option A
+given put x = if put then Some x else None
+
+-- the clause of a head, tests and a body
+abbrev pub statement_by : Heading → List Term → List Term → Statement
+statement_by h tests body = record { heading = h; tests = tests; body = body }
 
 -- a clause that was read: its head, its tests and its body in lists
 abbrev pub statement_of : ClauseTerms → Statement
-statement_of c = record { heading = heading_of c.head; tests = c.tests.items; body = c.body.items }
+statement_of c = statement_by (record { name = c.name; arguments = c.arguments.items }) c.tests.items c.body.items
 
--- a head that was read, with what is behind it
-abbrev pub heading_view : Option (HeadTerms × Bor (List Numbered)) → Answer Heading
-heading_view None = None
-heading_view (Some r) = Some (heading_of r.0, map numbered_token r.1.now)
+-- terms that were read, with what is behind them
+abbrev pub left_view : Option (Bor (List Numbered)) → List Term → Answer (List Term)
+left_view None ts = None
+left_view (Some rest) ts = Some (ts, map numbered_token rest.now)
 
 -- a clause that was read, with what is behind it
-abbrev pub statement_view : Option (ClauseTerms × Bor (List Numbered)) → Answer Statement
-statement_view None = None
-statement_view (Some r) = Some (statement_of r.0, map numbered_token r.1.now)
+abbrev pub statement_view : Option (Bor (List Numbered)) → Statement → Answer Statement
+statement_view None s = None
+statement_view (Some rest) s = Some (s, map numbered_token rest.now)
+
+-- the name and the arguments of a head that were read, with what is behind them
+abbrev pub heading_view : Option (Bor (List Numbered)) → List ℕ → List Term → Answer Heading
+heading_view None p ts = None
+heading_view (Some rest) p ts = Some (record { name = p; arguments = ts }, map numbered_token rest.now)
 
 -- the terms of expressions parted by commas, where a text can write each
 abbrev pub written_series : List grammar.Numbered → Answer (List Term)
@@ -61,9 +71,13 @@ heading_read _ = None
 abbrev pub guarded_read : Heading → List grammar.Numbered → Answer Statement
 guarded_read h ts = then_read (written_series ts) (λ s us. if_there (behind_bar us) (Some (record { heading = h; tests = []; body = s }, us)) (λ vs. then_read (written_series vs) (λ b ws. Some (record { heading = h; tests = s; body = b }, ws))))
 
+-- what is behind a head: nothing, or a neck with a body
+abbrev pub body_read : Heading → List grammar.Numbered → Answer Statement
+body_read h us = if_there (behind_neck us) (Some (record { heading = h; tests = []; body = true_goal ∷ [] }, us)) (λ vs. guarded_read h vs)
+
 -- a clause as terms
 abbrev pub statement_read : List grammar.Numbered → Answer Statement
-statement_read ts = then_read (heading_read ts) (λ h us. if_there (behind_neck us) (Some (record { heading = h; tests = []; body = true_goal ∷ [] }, us)) (λ vs. guarded_read h vs))
+statement_read ts = then_read (heading_read ts) (λ h us. body_read h us)
 
 -- a head as a term
 abbrev pub heading_term : List ℕ → List Term → Term
@@ -85,3 +99,9 @@ fit_patterns p ts = if is_fit_heading p ts then Some ts else None
 -- the clause of a head, tests and a body, in a module of this name
 abbrev pub clause_of_statement : List ℕ → Statement → Option Clause
 clause_of_statement m s = option_and_then (λ ps. option_and_then (λ ts. option_map (λ gs. record { name = s.heading.name; patterns = terms_of ps; tests = ts; body = gs }) (each_of (fit_goal m) s.body)) (each_of fit_test s.tests)) (fit_patterns s.heading.name s.heading.arguments)
+
+-- what stands in the head, the guard or the body of a clause
+abbrev pub fit_as : Role → Term → Option Term
+fit_as Pattern t = Some t
+fit_as Test t = fit_test t
+fit_as (Goal m) t = fit_goal m t

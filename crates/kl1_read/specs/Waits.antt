@@ -10,10 +10,10 @@ use Rattle.kl1_read.specs.declared.frame.Frame.TheVariants.{Group, First, Behind
 abbrev pub opened_of : Frame → Opened
 opened_of Group = opened.Group
 opened_of (First b) = b.value
-opened_of (Behind b left) = b.value
+opened_of (Behind b) = b.value.opened
 
 -- what stands to its left
 abbrev pub left_of : Frame → Left
 left_of Group = record { relation = None; colon = None }
 left_of (First b) = record { relation = None; colon = None }
-left_of (Behind b left) = left.value
+left_of (Behind b) = b.value.left

@@ -4,146 +4,143 @@ ghost use Rattle.std.specs.Prelude.{◌≡◌, ◌≤◌, ◌∷◌, ◌^◌, su
 ghost use Rattle.kl1_model.specs.declared.sign.Sign.TheVariants.{OpenList};
 ghost use Rattle.kl1_model.specs.Token.{name_token, digits_token, minus_token, sign_token};
 ghost use Rattle.kl1_read.specs.Views.{numbered_token};
-ghost use Rattle.kl1_read.specs.Beginnings.{Begins, BegunLess};
+ghost use Rattle.kl1_read.specs.Beginnings.{Begins, BegunLess, leaf_term};
 
-use crate::mark::{Mark, behind_mark, is_sign};
+use crate::mark::{Mark, behind_mark};
 use crate::numbered::Numbered;
 use crate::opened::Opened;
 use crate::piece::Piece;
+use crate::small_node::SmallNode;
 use crate::spelling::Spelling;
 use kl1_model::Sign;
 use kl1_text::AtomText;
 use std::alloc::{AllocError, Global};
 
+/// A primary of one node.
+pub(crate) enum Leaf<'a> {
+    /// A variable by its number.
+    Variable(u64),
+    Integer(i64),
+    /// An atom by its name.
+    Atom(&'a Spelling),
+    /// The empty list.
+    Nil,
+}
+
 /// What stands at the front of a primary.
-#[derive(Drop)]
 pub(crate) enum Begun<'a> {
     /// No primary, or none that a text can write.
     Bad,
     /// A whole primary, with what is behind it.
-    Whole(Piece, &'a [Numbered]),
+    Whole(Leaf<'a>, &'a [Numbered]),
     /// A bracket that opens, with what is in it and behind it.
-    Opens(Opened, &'a [Numbered]),
+    Opens(Opened<'a>, &'a [Numbered]),
+}
+
+/// The term of a primary of one node.
+pub(crate) fn leaf_of(alloc: Global, leaf: Leaf<'_>) -> Result<Piece, AllocError>
+    ensures { IfOk result (λ piece. piece ≡ leaf_term leaf.entry) }
+{
+    match leaf {
+        Leaf::Variable(number) => Piece::leaf(alloc, SmallNode::Variable(number)),
+        Leaf::Integer(number) => Piece::leaf(alloc, SmallNode::Integer(number)),
+        Leaf::Atom(text) => Piece::atom(alloc, text.name()),
+        Leaf::Nil => Piece::atom(alloc, AtomText::of(b"[]")),
+    }
 }
 
 /// The front of a primary.
-pub(crate) fn begin<'a>(alloc: Global, tokens: &'a [Numbered]) -> Result<Begun<'a>, AllocError>
-    ensures value { IfOk result (λ b. Begins b (map numbered_token tokens.now)) }
-    ensures less { IfOk result (BegunLess (length tokens.now)) }
+pub(crate) fn begin<'a>(alloc: Global, tokens: &'a [Numbered]) -> Begun<'a>
+    ensures value { Begins result (map numbered_token tokens.now) }
+    ensures less { BegunLess (length tokens.now) result }
 {
     match tokens {
-        [] => Ok(Begun::Bad),
+        [] => Begun::Bad,
         [first, rest @ ..] => begin_with(alloc, first, rest),
     }
 }
 
 /// The front of a primary that begins with this token.
 #[tactic(auto, unfolding(crate::specs::Meanings::primary_read))]
-fn begin_with<'a>(
-    alloc: Global,
-    first: &'a Numbered,
-    rest: &'a [Numbered],
-) -> Result<Begun<'a>, AllocError>
-    ensures value { IfOk result (λ b. Begins b (numbered_token first.now ∷ map numbered_token rest.now)) }
-    ensures less { IfOk result (BegunLess (suc (length rest.now))) }
+fn begin_with<'a>(alloc: Global, first: &'a Numbered, rest: &'a [Numbered]) -> Begun<'a>
+    ensures value { Begins result (numbered_token first.now ∷ map numbered_token rest.now) }
+    ensures less { BegunLess (suc (length rest.now)) result }
 {
     match first {
         Numbered::Name(quotes, applied, text) => {
             if *applied {
-                let text = text.again(alloc)?;
                 call(alloc, text, *quotes, rest)
             } else {
-                let piece = Piece::atom(alloc, text.name())?;
-                Ok(Begun::Whole(piece, rest))
+                Begun::Whole(Leaf::Atom(text), rest)
             }
         }
-        Numbered::Variable(number) => {
-            let piece = Piece::variable(alloc, *number)?;
-            Ok(Begun::Whole(piece, rest))
-        }
-        Numbered::Digits(number) => positive(alloc, *number, rest),
-        Numbered::Minus(digit) => {
-            if *digit {
-                negative(alloc, rest)
-            } else {
-                Ok(Begun::Bad)
-            }
-        }
+        Numbered::Variable(number) => Begun::Whole(Leaf::Variable(*number), rest),
+        Numbered::Digits(number) => positive(*number, rest),
+        Numbered::Minus(digit) => { if *digit { negative(rest) } else { Begun::Bad } }
         Numbered::Sign(sign) => open(alloc, *sign, rest),
-        Numbered::End => Ok(Begun::Bad),
+        Numbered::End => Begun::Bad,
     }
 }
 
 /// A name and the bracket that opens its arguments.
-fn call<'a>(
-    alloc: Global,
-    text: Spelling,
-    _quotes: bool,
-    rest: &'a [Numbered],
-) -> Result<Begun<'a>, AllocError>
-    ensures value { IfOk result (λ b. Begins b (name_token text _quotes true ∷ map numbered_token rest.now)) }
-    ensures less { IfOk result (BegunLess (length rest.now)) }
+fn call<'a>(alloc: Global, text: &'a Spelling, _quotes: bool, rest: &'a [Numbered]) -> Begun<'a>
+    ensures value { Begins result (name_token text.now _quotes true ∷ map numbered_token rest.now) }
+    ensures less { BegunLess (length rest.now) result }
 {
     match behind_mark(Mark::Open, rest) {
-        None => Ok(Begun::Bad),
-        Some(inside) => Ok(Begun::Opens(Opened::Arguments(text, Vec::new(alloc)), inside)),
+        None => Begun::Bad,
+        Some(inside) => Begun::Opens(Opened::Arguments(text, Vec::new(alloc)), inside),
     }
 }
 
 /// An integer without a sign.
-fn positive<'a>(alloc: Global, number: u64, rest: &'a [Numbered]) -> Result<Begun<'a>, AllocError>
-    ensures value { IfOk result (λ b. Begins b (digits_token number ∷ map numbered_token rest.now)) }
-    ensures less { IfOk result (BegunLess (suc (length rest.now))) }
+fn positive(number: u64, rest: &[Numbered]) -> Begun<'_>
+    ensures value { Begins result (digits_token number ∷ map numbered_token rest.now) }
+    ensures less { BegunLess (suc (length rest.now)) result }
 {
     if number >= 1 << 63 {
-        return Ok(Begun::Bad);
+        return Begun::Bad;
     }
-    let piece = Piece::integer(alloc, number as i64)?;
-    Ok(Begun::Whole(piece, rest))
+    Begun::Whole(Leaf::Integer(number as i64), rest)
 }
 
 /// An integer behind its `-`.
 #[tactic(auto, unfolding(crate::specs::Meanings::primary_read))]
-fn negative<'a>(alloc: Global, tokens: &'a [Numbered]) -> Result<Begun<'a>, AllocError>
-    ensures value { IfOk result (λ b. Begins b (minus_token true ∷ map numbered_token tokens.now)) }
-    ensures less { IfOk result (BegunLess (suc (length tokens.now))) }
+fn negative(tokens: &[Numbered]) -> Begun<'_>
+    ensures value { Begins result (minus_token true ∷ map numbered_token tokens.now) }
+    ensures less { BegunLess (suc (length tokens.now)) result }
 {
     match tokens {
-        [] => Ok(Begun::Bad),
-        [first, rest @ ..] => negative_with(alloc, first, rest),
+        [] => Begun::Bad,
+        [first, rest @ ..] => negative_with(first, rest),
     }
 }
 
 /// An integer behind its `-`, by the token there.
 #[tactic(auto, unfolding(crate::specs::Meanings::primary_read))]
-fn negative_with<'a>(
-    alloc: Global,
-    first: &'a Numbered,
-    rest: &'a [Numbered],
-) -> Result<Begun<'a>, AllocError>
-    ensures value { IfOk result (λ b. Begins b (minus_token true ∷ numbered_token first.now ∷ map numbered_token rest.now)) }
-    ensures less { IfOk result (BegunLess (suc (length rest.now))) }
+fn negative_with<'a>(first: &Numbered, rest: &'a [Numbered]) -> Begun<'a>
+    ensures value { Begins result (minus_token true ∷ numbered_token first.now ∷ map numbered_token rest.now) }
+    ensures less { BegunLess (suc (length rest.now)) result }
 {
     match first {
-        Numbered::Name(_quotes, _applied, _text) => Ok(Begun::Bad),
-        Numbered::Variable(_number) => Ok(Begun::Bad),
-        Numbered::Digits(number) => below_zero(alloc, *number, rest),
-        Numbered::Minus(_digit) => Ok(Begun::Bad),
-        Numbered::Sign(_sign) => Ok(Begun::Bad),
-        Numbered::End => Ok(Begun::Bad),
+        Numbered::Name(_quotes, _applied, _text) => Begun::Bad,
+        Numbered::Variable(_number) => Begun::Bad,
+        Numbered::Digits(number) => below_zero(*number, rest),
+        Numbered::Minus(_digit) => Begun::Bad,
+        Numbered::Sign(_sign) => Begun::Bad,
+        Numbered::End => Begun::Bad,
     }
 }
 
 /// An integer behind its `-`, by its digits.
-fn below_zero<'a>(alloc: Global, number: u64, rest: &'a [Numbered]) -> Result<Begun<'a>, AllocError>
-    ensures value { IfOk result (λ b. Begins b (minus_token true ∷ digits_token number ∷ map numbered_token rest.now)) }
-    ensures less { IfOk result (BegunLess (suc (length rest.now))) }
+fn below_zero(number: u64, rest: &[Numbered]) -> Begun<'_>
+    ensures value { Begins result (minus_token true ∷ digits_token number ∷ map numbered_token rest.now) }
+    ensures less { BegunLess (suc (length rest.now)) result }
 {
     if number > 1 << 63 {
-        return Ok(Begun::Bad);
+        return Begun::Bad;
     }
-    let piece = Piece::integer(alloc, negated(number))?;
-    Ok(Begun::Whole(piece, rest))
+    Begun::Whole(Leaf::Integer(negated(number)), rest)
 }
 
 /// The negative of a number.
@@ -159,30 +156,24 @@ fn negated(number: u64) -> i64
 }
 
 /// A bracket that opens, or another sign, with which no primary begins.
-fn open<'a>(alloc: Global, sign: Sign, rest: &'a [Numbered]) -> Result<Begun<'a>, AllocError>
-    ensures value { IfOk result (λ b. Begins b (sign_token sign ∷ map numbered_token rest.now)) }
-    ensures less { IfOk result (BegunLess (suc (length rest.now))) }
+fn open<'a>(alloc: Global, sign: Sign, rest: &'a [Numbered]) -> Begun<'a>
+    ensures value { Begins result (sign_token sign ∷ map numbered_token rest.now) }
+    ensures less { BegunLess (suc (length rest.now)) result }
 {
-    let token = Numbered::Sign(sign);
-    if is_sign(&token, Sign::Open) {
-        return Ok(Begun::Opens(Opened::Group, rest));
+    match sign {
+        Sign::Open => Begun::Opens(Opened::Group, rest),
+        Sign::OpenList => list(alloc, rest),
+        _ => Begun::Bad,
     }
-    if is_sign(&token, Sign::OpenList) {
-        return list(alloc, rest);
-    }
-    Ok(Begun::Bad)
 }
 
 /// A list behind the bracket that opens it.
-fn list<'a>(alloc: Global, rest: &'a [Numbered]) -> Result<Begun<'a>, AllocError>
-    ensures value { IfOk result (λ b. Begins b (sign_token OpenList ∷ map numbered_token rest.now)) }
-    ensures less { IfOk result (BegunLess (suc (length rest.now))) }
+fn list<'a>(alloc: Global, rest: &'a [Numbered]) -> Begun<'a>
+    ensures value { Begins result (sign_token OpenList ∷ map numbered_token rest.now) }
+    ensures less { BegunLess (suc (length rest.now)) result }
 {
     match behind_mark(Mark::CloseList, rest) {
-        None => Ok(Begun::Opens(Opened::Elements(Vec::new(alloc)), rest)),
-        Some(behind) => {
-            let piece = Piece::atom(alloc, AtomText::of(b"[]"))?;
-            Ok(Begun::Whole(piece, behind))
-        }
+        None => Begun::Opens(Opened::Elements(Vec::new(alloc)), rest),
+        Some(behind) => Begun::Whole(Leaf::Nil, behind),
     }
 }

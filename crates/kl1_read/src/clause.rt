@@ -1,61 +1,82 @@
 // Clauses.
 
-ghost use Rattle.std.specs.Prelude.{◌≡◌, map, option_map, option_and_then, IfOk};
-ghost use Rattle.kl1_model.specs.Module.{clause_of_tree};
-ghost use Rattle.kl1_model.specs.Reader.{clause_tree};
-ghost use Rattle.kl1_read.specs.Views.{numbered_token};
+ghost use Rattle.std.specs.Prelude.{◌≡◌, [], map, option_and_then, IfOk};
+ghost use Rattle.kl1_model.specs.Module.{clause_of};
+ghost use Rattle.kl1_model.specs.Numbering.{numbered_tokens};
+ghost use Rattle.kl1_model.specs.Reader.{all_read};
+ghost use Rattle.kl1_read.specs.Views.{kept_token};
 ghost use Rattle.kl1_read.specs.Sources.{clause_of_parts};
-ghost use Rattle.kl1_read.specs.Statements.{statement_of, clause_of_statement};
+ghost use Rattle.kl1_read.specs.Statements.{given, statement_of, statement_read, clause_of_statement};
 
-use crate::body::goals_of;
+use crate::body::put_terms;
 use crate::clause_parts::ClauseParts;
 use crate::clause_terms::{ClauseTerms, read_terms};
-use crate::guard::tests_of;
-use crate::head_terms::HeadTerms;
-use crate::numbered::Numbered;
-use crate::patterns::patterns_of;
+use crate::kept::Kept;
+use crate::patterns::put_patterns;
+use crate::role::Role;
 use kl1_text::AtomText;
 use std::alloc::{AllocError, Global};
 
-/// The clause that all tokens of an item are in a module of this name, where they are one.
+/// Reads the clause that all tokens of an item are in a module of this name. Answers whether they are one.
 pub(crate) fn read_clause(
     alloc: Global,
     module_name: AtomText,
-    tokens: Vec<Numbered>,
-) -> Result<Option<ClauseParts>, AllocError>
-    ensures { IfOk result (λ r. option_map clause_of_parts r ≡ option_and_then (clause_of_tree module_name) (clause_tree (map numbered_token tokens.items))) }
+    tokens: Vec<Kept>,
+    parts: &mut ClauseParts,
+) -> Result<bool, AllocError>
+    requires patterns { parts.old.patterns.items ≡ [] }
+    requires tests { parts.old.tests.items ≡ [] }
+    requires body { parts.old.body.items ≡ [] }
+    ensures { IfOk result (λ r. given r (clause_of_parts parts.new) ≡ clause_of module_name (map kept_token tokens.items)) }
 {
-    let terms = read_terms(alloc, tokens.as_slice())?;
-    drop(tokens);
-    match terms {
-        None => Ok(None),
-        Some(terms) => clause_of(alloc, module_name, terms),
-    }
+    let mut terms = ClauseTerms {
+        name: module_name,
+        arguments: Vec::new(alloc),
+        tests: Vec::new(alloc),
+        body: Vec::new(alloc),
+    };
+    read_parts(alloc, module_name, tokens, &mut terms, parts)
 }
 
-/// The clause of terms in a module of this name, where each may stand where it stands.
-fn clause_of(
+/// Reads the clause of an item by way of terms. Answers whether there is one, and each of them may stand where it stands.
+fn read_parts(
     alloc: Global,
     module_name: AtomText,
-    terms: ClauseTerms,
-) -> Result<Option<ClauseParts>, AllocError>
-    ensures { IfOk result (λ r. option_map clause_of_parts r ≡ clause_of_statement module_name (statement_of terms)) }
+    tokens: Vec<Kept>,
+    terms: &mut ClauseTerms,
+    parts: &mut ClauseParts,
+) -> Result<bool, AllocError>
+    requires arguments { terms.old.arguments.items ≡ [] }
+    requires terms_tests { terms.old.tests.items ≡ [] }
+    requires terms_body { terms.old.body.items ≡ [] }
+    requires patterns { parts.old.patterns.items ≡ [] }
+    requires tests { parts.old.tests.items ≡ [] }
+    requires body { parts.old.body.items ≡ [] }
+    ensures { IfOk result (λ r. given r (clause_of_parts parts.new) ≡ option_and_then (clause_of_statement module_name) (all_read (statement_read (numbered_tokens (map kept_token tokens.items))))) }
 {
-    let ClauseTerms { head, tests, body } = terms;
-    let HeadTerms { name, arguments } = head;
-    match patterns_of(alloc, name, arguments)? {
-        None => Ok(None),
-        Some(patterns) => match tests_of(alloc, tests)? {
-            None => Ok(None),
-            Some(tests) => match goals_of(alloc, module_name, body)? {
-                None => Ok(None),
-                Some(body) => Ok(Some(ClauseParts {
-                    name,
-                    patterns,
-                    tests,
-                    body,
-                })),
-            },
-        },
+    match read_terms(alloc, tokens, terms) {
+        Ok(true) => {
+            parts.name = terms.name;
+            match put_patterns(
+                alloc,
+                &terms.name,
+                &mut terms.arguments,
+                &mut parts.patterns,
+            ) {
+                Ok(true) => match put_terms(alloc, Role::Test, &mut terms.tests, &mut parts.tests) {
+                    Ok(true) => {
+                        put_terms(
+                            alloc,
+                            Role::Goal(module_name),
+                            &mut terms.body,
+                            &mut parts.body,
+                        )
+                    }
+                    other => other,
+                },
+                other => other,
+            }
+        }
+        other => other,
     }
 }

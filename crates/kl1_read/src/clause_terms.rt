@@ -1,100 +1,126 @@
 // A clause as terms.
 
-ghost use Rattle.std.specs.Prelude.{◌≡◌, map, IfOk};
+ghost use Rattle.std.specs.Prelude.{◌≡◌, [], map, IfOk};
 ghost use Rattle.kl1_model.specs.Reader.{all_read};
-ghost use Rattle.kl1_read.specs.Views.{numbered_token};
-ghost use Rattle.std.specs.Prelude.{option_map};
-ghost use Rattle.kl1_read.specs.Statements.{heading_of, statement_of, statement_view, statement_read, guarded_read};
+ghost use Rattle.kl1_model.specs.Numbering.{numbered_tokens};
+ghost use Rattle.kl1_read.specs.Views.{kept_token, numbered_token};
+ghost use Rattle.kl1_read.specs.Statements.{Heading, given, left_view, statement_view, statement_by, written_series, statement_of, statement_read, body_read, guarded_read};
 
-use crate::head_terms::{HeadTerms, read_head};
+use crate::head_terms::read_head;
+use crate::kept::Kept;
 use crate::mark::{Mark, behind_mark};
 use crate::numbered::Numbered;
+use crate::numbering::numbered_tokens;
 use crate::piece::Piece;
 use crate::series::read_series;
 use kl1_text::AtomText;
 use std::alloc::{AllocError, Global};
+use std::mem::swap;
 
-/// A clause as terms: it isn't known yet whether they may stand where they stand.
+/// A clause as terms, its name and the arguments of its head first: it isn't known yet whether they may stand where they
+/// stand.
 #[derive(Drop)]
 pub(crate) struct ClauseTerms {
-    pub(crate) head: HeadTerms,
+    pub(crate) name: AtomText,
+    pub(crate) arguments: Vec<Piece>,
     pub(crate) tests: Vec<Piece>,
     pub(crate) body: Vec<Piece>,
 }
 
-/// The clause that all tokens of an item are, as terms; none where they are no clause, or no text can write one of its
-/// arguments, tests or goals.
+/// Reads the clause that all tokens of an item are, as terms. Answers false where they are no clause, or no text can write
+/// one of its arguments, tests or goals.
 pub(crate) fn read_terms(
     alloc: Global,
-    tokens: &[Numbered],
-) -> Result<Option<ClauseTerms>, AllocError>
-    ensures { IfOk result (λ r. option_map statement_of r ≡ all_read (statement_read (map numbered_token tokens.now))) }
+    tokens: Vec<Kept>,
+    terms: &mut ClauseTerms,
+) -> Result<bool, AllocError>
+    requires arguments { terms.old.arguments.items ≡ [] }
+    requires tests { terms.old.tests.items ≡ [] }
+    requires body { terms.old.body.items ≡ [] }
+    ensures { IfOk result (λ r. given r (statement_of terms.new) ≡ all_read (statement_read (numbered_tokens (map kept_token tokens.items)))) }
 {
-    let front = read_front(alloc, tokens)?;
-    Ok(whole(front))
-}
-
-/// A clause behind which nothing is left.
-fn whole(front: Option<(ClauseTerms, &[Numbered])>) -> Option<ClauseTerms>
-    ensures { option_map statement_of result ≡ all_read (statement_view front.entry) }
-{
-    match front {
-        None => None,
-        Some((terms, rest)) => { if rest.len() == 0 { Some(terms) } else { None } }
+    let numbered = numbered_tokens(alloc, tokens.as_slice())?;
+    drop(tokens);
+    match read_front(alloc, numbered.as_slice(), terms) {
+        Ok(Some(left)) => Ok(left.len() == 0),
+        Ok(None) => Ok(false),
+        Err(refused) => Err(refused),
     }
 }
 
-/// A clause as terms, with what is behind it.
+/// Reads a clause; gives what is behind it.
 fn read_front<'a>(
     alloc: Global,
     tokens: &'a [Numbered],
-) -> Result<Option<(ClauseTerms, &'a [Numbered])>, AllocError>
-    ensures { IfOk result (λ r. statement_view r ≡ statement_read (map numbered_token tokens.now)) }
+    terms: &mut ClauseTerms,
+) -> Result<Option<&'a [Numbered]>, AllocError>
+    requires arguments { terms.old.arguments.items ≡ [] }
+    requires tests { terms.old.tests.items ≡ [] }
+    requires body { terms.old.body.items ≡ [] }
+    ensures { IfOk result (λ r. statement_view r (statement_of terms.new) ≡ statement_read (map numbered_token tokens.now)) }
 {
-    match read_head(alloc, tokens)? {
-        None => Ok(None),
-        Some((head, rest)) => match behind_mark(Mark::Neck, rest) {
-            None => {
-                let mut body = Vec::new(alloc);
-                body.push(Piece::atom(alloc, AtomText::of(b"true"))?)?;
-                let terms = ClauseTerms {
-                    head,
-                    tests: Vec::new(alloc),
-                    body,
-                };
-                Ok(Some((terms, rest)))
-            }
-            Some(behind) => read_guarded(alloc, head, behind),
-        },
+    match read_head(alloc, tokens, &mut terms.name, &mut terms.arguments) {
+        Ok(Some(rest)) => read_body(alloc, rest, &mut terms.tests, &mut terms.body),
+        other => other,
     }
 }
 
-/// A clause by its head and the tokens behind its neck: those of a body, or of tests, a bar and a body.
+/// Reads what is behind a head: nothing, which is the body `true`, or a neck with a body, or with tests, a bar and a body.
+fn read_body<'a>(
+    alloc: Global,
+    tokens: &'a [Numbered],
+    tests: &mut Vec<Piece>,
+    body: &mut Vec<Piece>,
+) -> Result<Option<&'a [Numbered]>, AllocError>
+    requires tests { tests.old.items ≡ [] }
+    requires body { body.old.items ≡ [] }
+    ensures { IfOk result (λ r. (h : Heading) → statement_view r (statement_by h tests.new.items body.new.items) ≡ body_read h (map numbered_token tokens.now)) }
+{
+    match behind_mark(Mark::Neck, tokens) {
+        None => {
+            body.push(Piece::atom(alloc, AtomText::of(b"true"))?)?;
+            Ok(Some(tokens))
+        }
+        Some(behind) => read_guarded(alloc, behind, tests, body),
+    }
+}
+
+/// Reads what is behind a neck: a body, or tests, a bar and a body.
 fn read_guarded<'a>(
     alloc: Global,
-    head: HeadTerms,
     tokens: &'a [Numbered],
-) -> Result<Option<(ClauseTerms, &'a [Numbered])>, AllocError>
-    ensures { IfOk result (λ r. statement_view r ≡ guarded_read (heading_of head) (map numbered_token tokens.now)) }
+    tests: &mut Vec<Piece>,
+    body: &mut Vec<Piece>,
+) -> Result<Option<&'a [Numbered]>, AllocError>
+    requires { tests.old.items ≡ [] }
+    ensures { IfOk result (λ r. (h : Heading) → statement_view r (statement_by h tests.new.items body.new.items) ≡ guarded_read h (map numbered_token tokens.now)) }
 {
-    match read_series(alloc, tokens)? {
-        None => Ok(None),
-        Some((first, rest)) => match behind_mark(Mark::Bar, rest) {
-            None => {
-                let (tests, body) = (Vec::new(alloc), first);
-                Ok(Some((ClauseTerms { head, tests, body }, rest)))
+    match put_series(alloc, tokens, body) {
+        Ok(Some(rest)) => match behind_mark(Mark::Bar, rest) {
+            None => Ok(Some(rest)),
+            Some(inside) => {
+                swap(tests, body);
+                put_series(alloc, inside, body)
             }
-            Some(inside) => match read_series(alloc, inside)? {
-                None => Ok(None),
-                Some((body, behind)) => {
-                    let terms = ClauseTerms {
-                        head,
-                        tests: first,
-                        body,
-                    };
-                    Ok(Some((terms, behind)))
-                }
-            },
         },
+        other => other,
+    }
+}
+
+/// Reads expressions that are parted by commas, in place of the terms that were there.
+pub(crate) fn put_series<'a>(
+    alloc: Global,
+    tokens: &'a [Numbered],
+    terms: &mut Vec<Piece>,
+) -> Result<Option<&'a [Numbered]>, AllocError>
+    ensures { IfOk result (λ r. left_view r terms.new.items ≡ written_series (map numbered_token tokens.now)) }
+{
+    match read_series(alloc, tokens) {
+        Ok(Some((read, rest))) => {
+            *terms = read;
+            Ok(Some(rest))
+        }
+        Ok(None) => Ok(None),
+        Err(refused) => Err(refused),
     }
 }

@@ -5,7 +5,7 @@ ghost use Rattle.kl1_model.specs.Term.{Term as TermSpec};
 ghost use Rattle.kl1_read.specs.Views.{numbered_token};
 ghost use Rattle.kl1_read.specs.Joins.{Closes, ClosedLess, closed_then};
 ghost use Rattle.kl1_read.specs.Meanings.{Going, Dooms, fit, after_elements};
-ghost use Rattle.kl1_read.specs.declared.opened.Opened.TheVariants.{Group, Arguments, Elements, Tail};
+ghost use Rattle.kl1_read.specs.declared.opened.Opened.TheVariants.{Arguments, Elements, Tail};
 
 use crate::mark::{Mark, behind_mark};
 use crate::numbered::Numbered;
@@ -21,7 +21,7 @@ pub(crate) enum Closed<'a> {
     /// It isn't closed rightly, or no text can write it.
     Bad,
     /// Another expression is in it.
-    More(Opened, &'a [Numbered]),
+    More(Opened<'a>, &'a [Numbered]),
     /// It is closed: a primary.
     Whole(Piece, &'a [Numbered]),
 }
@@ -29,15 +29,18 @@ pub(crate) enum Closed<'a> {
 /// Puts an expression into what was opened.
 pub(crate) fn close<'a>(
     alloc: Global,
-    opened: Opened,
+    opened: Opened<'a>,
     piece: Piece,
     tokens: &'a [Numbered],
 ) -> Result<Closed<'a>, AllocError>
-    ensures value { IfOk result (Closes opened piece (map numbered_token tokens.now)) }
+    ensures value { IfOk result (Closes opened.entry piece (map numbered_token tokens.now)) }
     ensures less { IfOk result (ClosedLess (length tokens.now)) }
 {
     match opened {
-        Opened::Group => close_group(piece, tokens),
+        Opened::Group => match behind_mark(Mark::Close, tokens) {
+            None => Ok(Closed::Bad),
+            Some(behind) => Ok(Closed::Whole(piece, behind)),
+        },
         Opened::Arguments(name, arguments) => close_arguments(
             alloc, name, arguments, piece, tokens,
         ),
@@ -46,26 +49,15 @@ pub(crate) fn close<'a>(
     }
 }
 
-/// Closes a parenthesis.
-fn close_group<'a>(piece: Piece, tokens: &'a [Numbered]) -> Result<Closed<'a>, AllocError>
-    ensures value { IfOk result (Closes Group piece (map numbered_token tokens.now)) }
-    ensures less { IfOk result (ClosedLess (length tokens.now)) }
-{
-    match behind_mark(Mark::Close, tokens) {
-        None => Ok(Closed::Bad),
-        Some(behind) => Ok(Closed::Whole(piece, behind)),
-    }
-}
-
 /// Puts an expression behind arguments, and closes them where no comma follows.
 fn close_arguments<'a>(
     alloc: Global,
-    name: Spelling,
+    name: &'a Spelling,
     arguments: Vec<Piece>,
     piece: Piece,
     tokens: &'a [Numbered],
 ) -> Result<Closed<'a>, AllocError>
-    ensures value { IfOk result (Closes (Arguments name arguments) piece (map numbered_token tokens.now)) }
+    ensures value { IfOk result (Closes (Arguments name.entry arguments) piece (map numbered_token tokens.now)) }
     ensures less { IfOk result (ClosedLess (length tokens.now)) }
 {
     let mut arguments = arguments;

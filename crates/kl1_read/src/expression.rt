@@ -5,7 +5,7 @@ ghost use Rattle.kl1_model.specs.Reader.{expression_tree};
 ghost use Rattle.kl1_model.specs.Meaning.{expression_term};
 ghost use Rattle.kl1_read.specs.Views.{numbered_token};
 ghost use Rattle.kl1_read.specs.Pieces.{writable};
-ghost use Rattle.kl1_read.specs.Series.{single, only, series_view};
+ghost use Rattle.kl1_read.specs.Series.{single, series_view};
 
 use crate::numbered::Numbered;
 use crate::piece::Piece;
@@ -29,14 +29,13 @@ fn lone_term(series: Option<(Vec<Piece>, &[Numbered])>) -> Option<Piece>
 {
     match series {
         None => None,
-        Some((terms, rest)) => { if rest.len() == 0 { lone(terms) } else { None } }
+        Some((terms, rest)) => {
+            let mut terms = terms;
+            if rest.len() == 0 && terms.len() == 1 {
+                terms.pop()
+            } else {
+                None
+            }
+        }
     }
-}
-
-/// The only one of terms.
-fn lone(terms: Vec<Piece>) -> Option<Piece>
-    ensures { result ≡ only terms.items }
-{
-    let mut terms = terms;
-    if terms.len() == 1 { terms.pop() } else { None }
 }

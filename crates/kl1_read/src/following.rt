@@ -43,7 +43,14 @@ fn ends_with(clauses: &[ClauseParts], name: &AtomText, count: usize) -> bool
 fn holds(clauses: &[ClauseParts], name: &AtomText, count: usize) -> bool
     ensures { result ≡ holds name.now count clauses.now }
 {
-    clauses.iter().any(|clause| is_one_of(clause, name, count))
+    let mut rest = clauses;
+    while let [first, others @ ..] = rest {
+        if is_one_of(first, name, count) {
+            return true;
+        }
+        rest = others;
+    }
+    false
 }
 
 /// Whether a clause is one of a predicate.

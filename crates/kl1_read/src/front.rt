@@ -13,9 +13,8 @@ use crate::bytes::{
 use crate::quotes::quoted;
 use crate::signs::{sign_at, spelling_of};
 use crate::spelled::Spelled;
-use crate::words::{
-    behind_comment, behind_digits, behind_word, digits_of, number_of, short_name, word_of,
-};
+use crate::words::{behind_comment, behind_digits, behind_word, digits_of, number_of, word_of};
+use kl1_text::AtomText;
 
 /// What stands in front of a text, with what is behind it.
 pub(crate) enum Front<'a> {
@@ -51,7 +50,10 @@ fn begun_front(bytes: &[u8]) -> Front<'_>
             } else if is_blank(*first) {
                 Front::Blank(rest)
             } else if *first == b'%' {
-                comment_front(rest)
+                match behind_comment(rest) {
+                    None => Front::Broken,
+                    Some(behind) => Front::Blank(behind),
+                }
             } else if is_small_letter(*first) {
                 name_front(*first, bytes, rest)
             } else if is_variable_start(*first) {
@@ -59,7 +61,12 @@ fn begun_front(bytes: &[u8]) -> Front<'_>
             } else if is_digit(*first) {
                 digits_front(*first, bytes, rest)
             } else if *first == b'\'' {
-                quoted_front(rest)
+                match quoted(rest) {
+                    None => Front::Broken,
+                    Some((text, behind)) => {
+                        Front::Token(Spelled::Name(text, true, is_open_next(behind)), behind)
+                    }
+                }
             } else if *first == b'.' {
                 dot_front(rest)
             } else if *first == b'-' {
@@ -78,7 +85,7 @@ fn name_front<'a>(first: u8, bytes: &'a [u8], rest: &'a [u8]) -> Front<'a>
     ensures { front_view result ≡ name_front false (first ∷ word_of rest.now) (behind_word rest.now) }
 {
     let behind = behind_word(rest);
-    match short_name(word_of(first, bytes, rest)) {
+    match AtomText::read(word_of(first, bytes, rest)) {
         None => Front::Broken,
         Some(text) => Front::Token(Spelled::Name(text, false, is_open_next(behind)), behind),
     }
@@ -91,7 +98,7 @@ fn variable_front<'a>(first: u8, bytes: &'a [u8], rest: &'a [u8]) -> Front<'a>
     ensures { front_view result ≡ bounded (first ∷ word_of rest.now) (variable_token (first ∷ word_of rest.now)) (behind_word rest.now) }
 {
     let behind = behind_word(rest);
-    match short_name(word_of(first, bytes, rest)) {
+    match AtomText::read(word_of(first, bytes, rest)) {
         None => Front::Broken,
         Some(text) => Front::Token(Spelled::Variable(text), behind),
     }
@@ -106,28 +113,6 @@ fn digits_front<'a>(first: u8, bytes: &'a [u8], rest: &'a [u8]) -> Front<'a>
     match number_of(digits_of(first, bytes, rest)) {
         None => Front::Broken,
         Some(number) => Front::Token(Spelled::Digits(number), behind),
-    }
-}
-
-/// A name in quotes, behind its first quote.
-fn quoted_front(rest: &[u8]) -> Front<'_>
-    ensures { front_view result ≡ quoted_front (quoted_from false [] rest.now) }
-{
-    match quoted(rest) {
-        None => Front::Broken,
-        Some((text, behind)) => {
-            Front::Token(Spelled::Name(text, true, is_open_next(behind)), behind)
-        }
-    }
-}
-
-/// A comment, behind its `%`.
-fn comment_front(rest: &[u8]) -> Front<'_>
-    ensures { front_view result ≡ comment_front (behind_comment rest.now) }
-{
-    match behind_comment(rest) {
-        None => Front::Broken,
-        Some(behind) => Front::Blank(behind),
     }
 }
 

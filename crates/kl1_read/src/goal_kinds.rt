@@ -23,29 +23,20 @@ fn begins_goal(nodes: &[Node]) -> bool
     match nodes {
         [] => false,
         [first, rest @ ..] => match first {
-            Node::Variable(_number) => false,
-            Node::Integer(_number) => false,
             Node::Atom(name) => name.is(&AtomText::of(b"true")),
-            Node::Structure(name, count) => begins_structure_goal(*name, *count, rest),
+            Node::Structure(name, count) => begins_structure_goal(name, *count, rest),
+            _ => false,
         },
     }
 }
 
 /// Whether a structure of a name and so many arguments, whose nodes these are, is a goal.
-fn begins_structure_goal(name: AtomText, count: usize, nodes: &[Node]) -> bool
-    ensures { result ≡ begins_structure_goal name count nodes.now }
+fn begins_structure_goal(name: &AtomText, count: usize, nodes: &[Node]) -> bool
+    ensures { result ≡ begins_structure_goal name.now count nodes.now }
 {
-    if count != 2 {
-        return false;
-    }
-    if name.is(&AtomText::of(b"=")) {
-        return true;
-    }
-    if name.is(&AtomText::of(b":")) {
-        begins_qualified(nodes)
-    } else {
-        false
-    }
+    count == 2
+        && (name.is(&AtomText::of(b"="))
+            || (name.is(&AtomText::of(b":")) && begins_qualified(nodes)))
 }
 
 /// Whether the nodes of two terms begin with the name of a module and a goal that may stand behind it.
@@ -57,29 +48,24 @@ fn begins_qualified(nodes: &[Node]) -> bool
         [first, rest @ ..] => match rest {
             [] => false,
             [callee, _others @ ..] => match first {
-                Node::Variable(_number) => false,
-                Node::Integer(_number) => false,
-                Node::Atom(name) => may_follow_colon(*name, callee),
-                Node::Structure(_name, _count) => false,
+                Node::Atom(name) => may_follow_colon(name, callee),
+                _ => false,
             },
         },
     }
 }
 
 /// Whether a term that begins with a node may stand as a goal behind the name of a module.
-fn may_follow_colon(name: AtomText, callee: &Node) -> bool
-    ensures { result ≡ may_follow_colon name callee.now }
+fn may_follow_colon(name: &AtomText, callee: &Node) -> bool
+    ensures { result ≡ may_follow_colon name.now callee.now }
 {
     match callee {
-        Node::Variable(_number) => false,
-        Node::Integer(_number) => false,
         Node::Atom(_name) => true,
         Node::Structure(predicate, count) => {
-            if name.is(&AtomText::of(b"shoen")) && predicate.is(&AtomText::of(b"execute")) {
-                *count != 6
-            } else {
-                true
-            }
+            !(name.is(&AtomText::of(b"shoen"))
+                && predicate.is(&AtomText::of(b"execute"))
+                && *count == 6)
         }
+        _ => false,
     }
 }

@@ -3,14 +3,14 @@
 ghost use Rattle.std.specs.Prelude.{◌≡◌, map, IfOk, IfErr};
 ghost use Rattle.kl1_model.specs.Module.{good, startable, term_of_tokens, read_goal};
 ghost use Rattle.kl1_read.specs.Sources.{IsFaultOf};
-ghost use Rattle.kl1_read.specs.Started.{started};
-ghost use Rattle.kl1_read.specs.Views.{kept_token};
+ghost use Rattle.kl1_read.specs.Started.{started, expression_read};
+ghost use Rattle.kl1_read.specs.Views.{kept_token, numbered_token};
 
 use crate::expression::read_expression;
 use crate::goal_kinds::is_goal;
 use crate::kept::Kept;
+use crate::numbered::Numbered;
 use crate::numbering::numbered_tokens;
-use crate::piece::Piece;
 use crate::read_fault::ReadFault;
 use crate::whole_text::{WholeText, all_tokens};
 use kl1_term::Term;
@@ -36,15 +36,15 @@ fn goal_of(alloc: Global, line: u64, tokens: Vec<Kept>) -> Result<Term, ReadFaul
 {
     let numbered = numbered_tokens(alloc, tokens.as_slice())?;
     drop(tokens);
-    start_of(alloc, line, read_expression(alloc, numbered.as_slice())?)
+    start_of(alloc, line, numbered.as_slice())
 }
 
-/// The goal that a term is, where there is one.
-fn start_of(alloc: Global, line: u64, read: Option<Piece>) -> Result<Term, ReadFault>
-    ensures goal { IfOk result (λ goal. started line read ≡ good goal) }
-    ensures fault { IfErr result (IsFaultOf (started line read)) }
+/// The goal that numbered tokens are, where they are one.
+fn start_of(alloc: Global, line: u64, tokens: &[Numbered]) -> Result<Term, ReadFault>
+    ensures goal { IfOk result (λ goal. started line (expression_read (map numbered_token tokens.now)) ≡ good goal) }
+    ensures fault { IfErr result (IsFaultOf (started line (expression_read (map numbered_token tokens.now)))) }
 {
-    match read {
+    match read_expression(alloc, tokens)? {
         None => Err(ReadFault::Bad { line }),
         Some(piece) => {
             let term = piece.into_term(alloc)?;

@@ -23,10 +23,9 @@ fn begins_head(nodes: &[Node]) -> bool
     match nodes {
         [] => false,
         [first, _rest @ ..] => match first {
-            Node::Variable(_number) => false,
-            Node::Integer(_number) => false,
             Node::Atom(name) => may_name_atom(name),
             Node::Structure(name, count) => may_name_structure(name, *count),
+            _ => false,
         },
     }
 }
@@ -46,10 +45,8 @@ fn begins_test(nodes: &[Node]) -> bool
     match nodes {
         [] => false,
         [first, _rest @ ..] => match first {
-            Node::Variable(_number) => false,
-            Node::Integer(_number) => false,
             Node::Atom(name) => name.is(&AtomText::of(b"true")),
-            Node::Structure(_name, _count) => false,
+            _ => false,
         },
     }
 }

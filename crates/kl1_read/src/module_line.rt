@@ -16,14 +16,13 @@ pub(crate) fn named_module(tokens: &[Kept]) -> Option<AtomText>
 {
     match tokens {
         [] => None,
-        [first, rest @ ..] => match first {
-            Kept::Name(_quotes, _applied, _text) => None,
-            Kept::Variable(_text) => None,
-            Kept::Digits(_number) => None,
-            Kept::Minus(_digit) => None,
-            Kept::Sign(sign) => behind_sign(*sign, rest),
-            Kept::End => None,
-        },
+        [first, rest @ ..] => {
+            if let Kept::Sign(sign) = first {
+                behind_sign(*sign, rest)
+            } else {
+                None
+            }
+        }
     }
 }
 
@@ -32,48 +31,24 @@ pub(crate) fn named_module(tokens: &[Kept]) -> Option<AtomText>
 fn behind_sign(sign: Sign, tokens: &[Kept]) -> Option<AtomText>
     ensures { result ≡ named_module (sign_token sign ∷ map kept_token tokens.now) }
 {
-    if sign == Sign::Neck {
-        behind_neck(tokens)
+    if sign == Sign::Neck && tokens.len() == 2 {
+        named(&tokens[0], &tokens[1])
     } else {
         None
     }
-}
-
-/// The name in the line of a module, where these are its tokens behind the neck.
-fn behind_neck(tokens: &[Kept]) -> Option<AtomText>
-    ensures { result ≡ named_module (sign_token Neck ∷ map kept_token tokens.now) }
-{
-    if tokens.len() != 2 {
-        return None;
-    }
-    named(&tokens[0], &tokens[1])
 }
 
 /// The name in the line of a module, where these are its two tokens behind the neck.
 fn named(word: &Kept, name: &Kept) -> Option<AtomText>
     ensures { result ≡ named_module (sign_token Neck ∷ kept_token word.now ∷ kept_token name.now ∷ []) }
 {
-    match word {
-        Kept::Name(_quotes, _applied, word) => match name {
-            Kept::Name(_quotes, _applied, name) => {
-                let word = word.name();
-                let name = name.name();
-                if word.is(&AtomText::of(b"module")) && !name.is(&AtomText::of(b"shoen")) {
-                    Some(name)
-                } else {
-                    None
-                }
+    if let Kept::Name(_quotes, _applied, word) = word {
+        if let Kept::Name(_quotes, _applied, name) = name {
+            let name = name.name();
+            if word.name().is(&AtomText::of(b"module")) && !name.is(&AtomText::of(b"shoen")) {
+                return Some(name);
             }
-            Kept::Variable(_text) => None,
-            Kept::Digits(_number) => None,
-            Kept::Minus(_digit) => None,
-            Kept::Sign(_sign) => None,
-            Kept::End => None,
-        },
-        Kept::Variable(_text) => None,
-        Kept::Digits(_number) => None,
-        Kept::Minus(_digit) => None,
-        Kept::Sign(_sign) => None,
-        Kept::End => None,
+        }
     }
+    None
 }

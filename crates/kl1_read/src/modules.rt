@@ -1,10 +1,10 @@
 // Modules.
 
-ghost use Rattle.std.specs.Prelude.{◌≡◌, ◌+◌, ◌^◌, ◌<◌, [], length, map, false, IfOk, IfErr, OnErr};
+ghost use Rattle.std.specs.Prelude.{◌≡◌, ◌+◌, ◌^◌, ◌<◌, length, map, IfOk, IfErr, OnOk};
 ghost use Rattle.kl1_model.specs.Module.{good, read_module, clause_of, clauses_from, with_clause};
 ghost use Rattle.kl1_read.specs.Items.{items_left};
 ghost use Rattle.kl1_read.specs.Sources.{IsFaultOf, clause_of_parts, module_of_parts};
-ghost use Rattle.kl1_read.specs.Followings.{clauses_where};
+ghost use Rattle.kl1_read.specs.Statements.{given};
 ghost use Rattle.kl1_read.specs.Views.{kept_token};
 
 use crate::clause::read_clause;
@@ -13,7 +13,6 @@ use crate::following::may_follow;
 use crate::item::{Item, Next, Place, next_item};
 use crate::kept::Kept;
 use crate::module_line::named_module;
-use crate::numbering::numbered_tokens;
 use crate::read_fault::ReadFault;
 use crate::source::Source;
 use kl1_text::AtomText;
@@ -31,38 +30,45 @@ pub fn read_module(alloc: Global, text: &[u8]) -> Result<Source, ReadFault>
     match next_item(alloc, place)? {
         Next::Nothing => Err(ReadFault::Bad { line: 1 }),
         Next::Bad(line) => Err(ReadFault::Bad { line }),
-        Next::Whole(item, behind) => match named_module(item.tokens.as_slice()) {
-            None => Err(ReadFault::Bad { line: item.line }),
-            Some(name) => {
-                let clauses = read_clauses(alloc, name, behind)?;
-                Ok(Source { name, clauses })
+        Next::Whole(item, behind) => {
+            let Item { line, tokens } = item;
+            let name = named_module(tokens.as_slice());
+            drop(tokens);
+            match name {
+                None => Err(ReadFault::Bad { line }),
+                Some(name) => {
+                    let mut clauses = Vec::new(alloc);
+                    put_clauses(alloc, name, behind, &mut clauses)?;
+                    Ok(Source { name, clauses })
+                }
             }
-        },
+        }
     }
 }
 
-/// The clauses of the items that are left of a module of this name.
-fn read_clauses(
+/// Puts the clauses of the items that are left of a module of this name behind the others.
+fn put_clauses(
     alloc: Global,
     name: AtomText,
     place: Place<'_>,
-) -> Result<Vec<ClauseParts>, ReadFault>
+    clauses: &mut Vec<ClauseParts>,
+) -> Result<(), ReadFault>
     requires { place.line + length place.bytes.now < 2 ^ 64 }
-    ensures clauses { IfOk result (λ clauses. clauses_from name [] (items_left place.entry.line place.entry.bytes.now) ≡ good (map clause_of_parts clauses.items)) }
-    ensures fault { IfErr result (IsFaultOf (clauses_from name [] (items_left place.entry.line place.entry.bytes.now))) }
+    ensures clauses { OnOk result (clauses_from name (map clause_of_parts clauses.old.items) (items_left place.entry.line place.entry.bytes.now) ≡ good (map clause_of_parts clauses.new.items)) }
+    ensures fault { IfErr result (IsFaultOf (clauses_from name (map clause_of_parts clauses.old.items) (items_left place.entry.line place.entry.bytes.now))) }
 {
     let mut place = place;
-    let mut clauses = Vec::new(alloc);
     'items: loop {
         match next_item(alloc, place)? {
-            Next::Nothing => return Ok(clauses),
+            Next::Nothing => return Ok(()),
             Next::Bad(line) => return Err(ReadFault::Bad { line }),
             Next::Whole(item, behind) => {
                 let Item { line, tokens } = item;
-                if !put_clause(alloc, name, &mut clauses, tokens)? {
-                    return Err(ReadFault::Bad { line });
+                match put_clause(alloc, name, clauses, tokens) {
+                    Ok(true) => place = behind,
+                    Ok(false) => return Err(ReadFault::Bad { line }),
+                    Err(_refused) => return Err(ReadFault::Memory),
                 }
-                place = behind;
             }
         }
     }
@@ -76,20 +82,17 @@ fn put_clause(
     clauses: &mut Vec<ClauseParts>,
     tokens: Vec<Kept>,
 ) -> Result<bool, AllocError>
-    ensures value { IfOk result (λ put. clauses_where put clauses.new.items ≡ with_clause (map clause_of_parts clauses.old.items) (clause_of name (map kept_token tokens.items))) }
-    ensures refused { IfOk result (λ put. put ≡ false → clauses.new.items ≡ clauses.old.items) }
-    ensures err { OnErr result (clauses.new.items ≡ clauses.old.items) }
+    ensures { IfOk result (λ put. given put (map clause_of_parts clauses.new.items) ≡ with_clause (map clause_of_parts clauses.old.items) (clause_of name (map kept_token tokens.items))) }
 {
-    let numbered = numbered_tokens(alloc, tokens.as_slice())?;
-    drop(tokens);
-    match read_clause(alloc, name, numbered)? {
-        None => Ok(false),
-        Some(clause) => {
-            if !may_follow(clauses.as_slice(), &clause) {
-                return Ok(false);
-            }
-            clauses.push(clause)?;
-            Ok(true)
-        }
+    let mut clause = ClauseParts {
+        name,
+        patterns: Vec::new(alloc),
+        tests: Vec::new(alloc),
+        body: Vec::new(alloc),
+    };
+    if !read_clause(alloc, name, tokens, &mut clause)? || !may_follow(clauses.as_slice(), &clause) {
+        return Ok(false);
     }
+    clauses.push(clause)?;
+    Ok(true)
 }

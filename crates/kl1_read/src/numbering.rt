@@ -7,36 +7,19 @@ ghost use Rattle.kl1_model.specs.Text.{is_text};
 ghost use Rattle.kl1_model.specs.Token.{Token};
 ghost use Rattle.kl1_model.specs.Numbering.{variable_number, seen_after, numbered_from, numbered_tokens};
 ghost use Rattle.kl1_text.specs.Words.{words_of};
-ghost use Rattle.kl1_read.specs.Spellings.{Finds};
+ghost use Rattle.kl1_read.specs.Spellings.{Finds, IsBehind, IsNumbered};
 ghost use Rattle.kl1_read.specs.Views.{kept_token, numbered_token};
 
 use crate::kept::Kept;
 use crate::numbered::Numbered;
+use crate::spelling::Spelling;
 use kl1_text::AtomText;
 use std::alloc::{AllocError, Global};
 use std::collections::HashMap;
 
-/// The number of a spelling, where it was seen.
-fn known(numbers: &HashMap<[u64; 8], u64>, text: AtomText) -> Option<u64>
-    ensures value { result ≡ get (pointwise nat_eq) numbers.now (words_of 8 text) }
-    ensures text { IsTrue (is_text text) }
-{
-    text.shows_text();
-    numbers.get(&text.words()).copied()
-}
-
-/// Notes the number of a spelling.
-fn note(numbers: &mut HashMap<[u64; 8], u64>, text: AtomText, number: u64) -> Result<(), AllocError>
-    ensures { OnOk result (Updates (pointwise nat_eq) numbers.old numbers.new (words_of 8 text) (Some number)) }
-{
-    numbers.insert(text.words(), number)?;
-    Ok(())
-}
-
 /// Puts a spelling behind those seen; gives its number.
 fn put(seen: &mut Vec<AtomText>, text: AtomText) -> Result<u64, AllocError>
-    ensures number { IfOk result (λ n. n ≡ suc (length seen.old.items)) }
-    ensures seen { OnOk result (seen.new.items ≡ seen.old.items ++ text ∷ []) }
+    ensures { IfOk result (IsBehind seen.old.items seen.new.items text) }
 {
     let number = seen.len() as u64 + 1;
     seen.push(text)?;
@@ -57,20 +40,17 @@ fn number_of(
     text: AtomText,
 ) -> Result<u64, AllocError>
     requires { Finds numbers.old seen.old.items }
-    ensures finds { OnOk result (Finds numbers.new seen.new.items) }
-    ensures value { IfOk result (λ n. n ≡ variable_number seen.old.items text) }
-    ensures seen { IfOk result (λ _. seen.new.items ≡ seen_after seen.old.items text) }
+    ensures { IfOk result (IsNumbered numbers.new seen.old.items seen.new.items text) }
 {
     if is_another(&text) {
-        let another = put(seen, text)?;
-        return Ok(another);
+        return put(seen, text);
     }
-    if let Some(number) = known(numbers, text) {
-        return Ok(number);
+    text.shows_text();
+    if let Some(number) = numbers.get(&text.words()) {
+        return Ok(*number);
     }
-    let next = put(seen, text)?;
-    note(numbers, text, next)?;
-    Ok(next)
+    numbers.insert(text.words(), seen.len() as u64 + 1)?;
+    put(seen, text)
 }
 
 /// A token with a number for its variable.
@@ -86,7 +66,7 @@ fn number_token(
 {
     match token {
         Kept::Name(quotes, applied, text) => {
-            let text = text.again(alloc)?;
+            let text = Spelling::of(alloc, text.name())?;
             Ok(Numbered::Name(*quotes, *applied, text))
         }
         Kept::Variable(text) => {
@@ -104,13 +84,13 @@ fn number_token(
 pub(crate) fn numbered_tokens(alloc: Global, tokens: &[Kept]) -> Result<Vec<Numbered>, AllocError>
     ensures { IfOk result (λ ts. map numbered_token ts.items ≡ numbered_tokens (map kept_token tokens.now)) }
 {
+    let mut out = Vec::with_capacity(alloc, tokens.len())?;
     let mut numbers = HashMap::new(alloc);
     let mut seen = Vec::new(alloc);
-    let mut out = Vec::with_capacity(alloc, tokens.len())?;
     let mut rest = tokens;
     while let [first, others @ ..] = rest {
         let token = number_token(alloc, &mut numbers, &mut seen, first)?;
-        out.push(token)?;
+        out.push_reserved(token);
         rest = others;
     }
     Ok(out)

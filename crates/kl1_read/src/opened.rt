@@ -5,11 +5,11 @@ use crate::spelling::Spelling;
 
 /// What a bracket opened and nothing has closed yet.
 #[derive(Drop)]
-pub(crate) enum Opened {
+pub(crate) enum Opened<'a> {
     /// An expression in parentheses.
     Group,
     /// The arguments of a name, those that are read.
-    Arguments(Spelling, Vec<Piece>),
+    Arguments(&'a Spelling, Vec<Piece>),
     /// The elements of a list, those that are read.
     Elements(Vec<Piece>),
     /// What follows the elements of a list behind a bar.

@@ -1,34 +1,37 @@
 // The patterns of a head.
 
-ghost use Rattle.std.specs.Prelude.{◌≡◌, option_map, IsTrue, IfOk};
+ghost use Rattle.std.specs.Prelude.{◌≡◌, [], IsTrue, IfOk};
 ghost use Rattle.kl1_model.specs.Term.{terms_of};
 ghost use Rattle.kl1_model.specs.Meaning.{deepest, are_narrow};
-ghost use Rattle.kl1_read.specs.Statements.{fit_patterns, is_fit_name};
+ghost use Rattle.kl1_read.specs.Statements.{given, fit_patterns, is_fit_name};
 
+use crate::body::put_terms;
 use crate::piece::Piece;
-use crate::repeats::has_repeats;
+use crate::repeats::has_no_repeats;
 use crate::reserved::{may_name_atom, may_name_structure};
+use crate::role::Role;
 use kl1_term::Term;
 use kl1_text::AtomText;
 use std::alloc::{AllocError, Global};
 
-/// The patterns of a head of this name and these arguments, where it may stand there: its name may be a head's, a text can
-/// write it, and no variable stands twice in it.
-pub(crate) fn patterns_of(
+/// Puts the patterns of a head of this name and these arguments. Answers whether it may stand there: its name may be a head's,
+/// a text can write it, and no variable stands twice in it.
+pub(crate) fn put_patterns(
     alloc: Global,
-    name: AtomText,
-    arguments: Vec<Piece>,
-) -> Result<Option<Vec<Term>>, AllocError>
-    ensures { IfOk result (λ r. option_map (λ patterns. patterns.items) r ≡ fit_patterns name arguments.items) }
+    name: &AtomText,
+    arguments: &mut Vec<Piece>,
+    patterns: &mut Vec<Term>,
+) -> Result<bool, AllocError>
+    requires { patterns.old.items ≡ [] }
+    ensures { IfOk result (λ r. given r patterns.new.items ≡ fit_patterns name.now arguments.old.items) }
 {
-    if !is_fit(&name, arguments.as_slice()) {
-        return Ok(None);
+    if !is_fit(name, arguments.as_slice()) {
+        return Ok(false);
     }
-    let patterns = into_terms(alloc, arguments)?;
-    if has_repeats(alloc, patterns.as_slice())? {
-        return Ok(None);
+    if !put_terms(alloc, Role::Pattern, arguments, patterns)? {
+        return Ok(false);
     }
-    Ok(Some(patterns))
+    has_no_repeats(alloc, patterns.as_slice())
 }
 
 /// Whether a name may be the head of these arguments, and a text can write it with them.
@@ -59,18 +62,4 @@ fn deepest(pieces: &[Piece]) -> u64
         most = most.max(piece.depth());
     }
     most
-}
-
-/// The terms themselves.
-fn into_terms(alloc: Global, pieces: Vec<Piece>) -> Result<Vec<Term>, AllocError>
-    ensures { IfOk result (λ terms. terms.items ≡ pieces.items) }
-{
-    let mut pieces = pieces;
-    let mut terms = Vec::new(alloc);
-    while let Some(piece) = pieces.pop() {
-        let term = piece.into_term(alloc)?;
-        terms.push(term)?;
-    }
-    terms.reverse();
-    Ok(terms)
 }

@@ -1,10 +1,13 @@
 // A term that is being read.
 
-ghost use Rattle.std.specs.Prelude.{◌≡◌, ◌≢◌, ℕ, ◌≤◌, ◌<◌, true, false, List, ◌++◌, map, reverse, vec_len, IfOk, OnOk, IsTrue};
+ghost use Rattle.std.specs.Prelude.{◌≡◌, ◌≢◌, ℕ, ◌≤◌, ◌<◌, true, false, List, [], ◌∷◌, ◌++◌, map, reverse, vec_len, IfOk, OnOk, IsTrue};
 ghost use Rattle.kl1_model.specs.Term.{variable, integer, atom, structure, terms_of};
-ghost use Rattle.kl1_model.specs.TermCode.{nodes_of};
-ghost use Rattle.kl1_model.specs.Meaning.{Depth, pair, cells, depth, is_narrow, is_writable, pair_depth};
-ghost use Rattle.kl1_term.specs.Nodes.{code_of};
+ghost use Rattle.kl1_model.specs.Text.{is_text};
+ghost use Rattle.kl1_model.specs.TermCode.{nodes_of, nodes_of_all};
+ghost use Rattle.kl1_model.specs.Meaning.{Depth, pair, cells, deepest, depth, are_narrow, is_narrow, is_writable, pair_depth};
+ghost use Rattle.kl1_term.specs.declared.node.Node.TheVariants.{Structure};
+ghost use Rattle.kl1_term.specs.Nodes.{code_of, term_in};
+ghost use Rattle.kl1_read.specs.PieceView.{IsPiece};
 ghost use Rattle.kl1_read.specs.Pieces.{writable};
 ghost use Rattle.kl1_read.specs.SmallNodes.{node_of};
 
@@ -43,40 +46,22 @@ impl Model for Piece {
 }
 
 impl Piece {
-    /// A variable by its number.
-    pub(crate) fn variable(alloc: Global, number: u64) -> Result<Self, AllocError>
-        ensures { IfOk result (λ piece. piece ≡ variable number) }
-    {
-        let mut nodes = Vec::with_capacity(alloc, 1)?;
-        nodes.push(SmallNode::Variable(number))?;
-        Ok(Piece {
-            nodes,
-            whole: 1,
-            rest: 1,
-        })
-    }
-
-    /// An integer.
-    pub(crate) fn integer(alloc: Global, number: i64) -> Result<Self, AllocError>
-        ensures { IfOk result (λ piece. piece ≡ integer number) }
-    {
-        let mut nodes = Vec::with_capacity(alloc, 1)?;
-        nodes.push(SmallNode::Integer(number))?;
-        Ok(Piece {
-            nodes,
-            whole: 1,
-            rest: 1,
-        })
-    }
-
     /// An atom.
     pub(crate) fn atom(alloc: Global, text: AtomText) -> Result<Self, AllocError>
         ensures { IfOk result (λ piece. piece ≡ atom text) }
     {
-        let _bytes = text.unpacked();
+        text.shows_text();
         let spelling = Spelling::of(alloc, text)?;
+        Piece::leaf(alloc, SmallNode::Atom(spelling))
+    }
+
+    /// A term of one node.
+    pub(crate) fn leaf(alloc: Global, node: SmallNode) -> Result<Self, AllocError>
+        requires { IsPiece (node_of node ∷ []) 1 1 }
+        ensures { IfOk result (λ piece. piece ≡ term_in (node_of node ∷ [])) }
+    {
         let mut nodes = Vec::with_capacity(alloc, 1)?;
-        nodes.push(SmallNode::Atom(spelling))?;
+        nodes.push_reserved(node);
         Ok(Piece {
             nodes,
             whole: 1,
@@ -92,7 +77,6 @@ impl Piece {
     ) -> Result<Option<Self>, AllocError>
         ensures { IfOk result (λ piece. piece ≡ writable (pair name first second)) }
     {
-        let _bytes = name.unpacked();
         let Piece {
             nodes: front,
             whole: first_whole,
@@ -104,13 +88,12 @@ impl Piece {
             rest: second_rest,
         } = second;
         let (whole, rest) = pair_depth(name, first_whole, second_whole, second_rest);
-        if is_too_deep(whole) {
+        if whole > 256 {
             return Ok(None);
         }
         let (mut nodes, mut front) = (behind, front);
-        let spelling = Spelling::of(*nodes.allocator(), name)?;
         nodes.append(&mut front)?;
-        nodes.push(SmallNode::Structure(2, spelling))?;
+        put_structure(&mut nodes, 2, name)?;
         Ok(Some(Piece { nodes, whole, rest }))
     }
 
@@ -125,12 +108,7 @@ impl Piece {
     pub(crate) fn into_term(self, alloc: Global) -> Result<Term, AllocError>
         ensures { IfOk result (λ term. term ≡ self) }
     {
-        let Piece {
-            nodes,
-            whole: _whole,
-            rest: _rest,
-        } = self;
-        let row = turned(alloc, nodes)?;
+        let row = turned(alloc, self.nodes.as_slice())?;
         Ok(Term::of_nodes(row))
     }
 
@@ -166,21 +144,13 @@ impl Piece {
     pub(crate) fn cells(elements: Vec<Piece>, tail: Piece) -> Result<Option<Self>, AllocError>
         ensures { IfOk result (λ piece. piece ≡ writable (cells (terms_of elements.items) tail)) }
     {
-        let room = room_for(elements.as_slice());
-        Piece::put_cells(elements, tail.with_room(room)?)
-    }
-
-    /// The term with room for so many nodes more.
-    fn with_room(self, count: usize) -> Result<Self, AllocError>
-        ensures { IfOk result (λ piece. piece ≡ self) }
-    {
         let Piece {
             mut nodes,
             whole,
             rest,
-        } = self;
-        nodes.reserve(count)?;
-        Ok(Piece { nodes, whole, rest })
+        } = tail;
+        nodes.reserve(room_for(elements.as_slice()))?;
+        Piece::put_cells(elements, Piece { nodes, whole, rest })
     }
 
     /// A list of these elements with this behind them, which is put in front of what is behind it.
@@ -210,24 +180,16 @@ impl Piece {
         if arguments.len() == 0 {
             return Ok(None);
         }
-        if are_too_many(arguments.len()) {
+        if arguments.len() > 8 {
             return Ok(None);
         }
         if arguments.len() == 2 {
-            return Piece::of_two(name, arguments);
+            let mut arguments = arguments;
+            let second = arguments.pop().unwrap();
+            let first = arguments.pop().unwrap();
+            return Piece::pair(name, first, second);
         }
         Piece::of_many(alloc, name, arguments)
-    }
-
-    /// The structure of two arguments.
-    fn of_two(name: AtomText, arguments: Vec<Piece>) -> Result<Option<Self>, AllocError>
-        requires { vec_len arguments ≡ 2 }
-        ensures { IfOk result (λ piece. piece ≡ writable (structure name (terms_of arguments.items))) }
-    {
-        let mut arguments = arguments;
-        let second = arguments.pop().unwrap();
-        let first = arguments.pop().unwrap();
-        Piece::pair(name, first, second)
     }
 
     /// The structure of one argument, or of more than two.
@@ -241,20 +203,13 @@ impl Piece {
         requires other { vec_len arguments ≢ 2 }
         ensures { IfOk result (λ piece. piece ≡ writable (structure name (terms_of arguments.items))) }
     {
-        let _bytes = name.unpacked();
         let count = arguments.len() as u8;
-        let spelling = Spelling::of(alloc, name)?;
-        let mut arguments = arguments;
         let mut nodes = Vec::new(alloc);
-        let mut deepest = 0;
-        while let Some(argument) = arguments.pop() {
-            let depth = argument.spill(&mut nodes)?;
-            deepest = depth.max(deepest);
-        }
+        let deepest = spill_all(arguments, &mut nodes)?;
         if deepest >= 256 {
             return Ok(None);
         }
-        nodes.push(SmallNode::Structure(count, spelling))?;
+        put_structure(&mut nodes, count, name)?;
         Ok(Some(Piece {
             nodes,
             whole: deepest + 1,
@@ -263,20 +218,32 @@ impl Piece {
     }
 }
 
-/// Whether no text can write a term that is so deep.
-fn is_too_deep(depth: u64) -> bool
-    ensures deep { result ≡ true → 256 < depth }
-    ensures low { result ≡ false → depth ≤ 256 }
+/// Puts the nodes of arguments behind others, which come before them in the order of reading; gives how deep the deepest
+/// is.
+fn spill_all(arguments: Vec<Piece>, nodes: &mut Vec<SmallNode>) -> Result<u64, AllocError>
+    ensures nodes { OnOk result (map code_of (reverse (map node_of nodes.new.items)) ≡ nodes_of_all (terms_of arguments.items) ++ map code_of (reverse (map node_of nodes.old.items))) }
+    ensures depth { IfOk result (λ deep. deep ≡ deepest (terms_of arguments.items)) }
+    ensures narrow { OnOk result (IsTrue (are_narrow (terms_of arguments.items))) }
 {
-    depth > 256
+    let mut arguments = arguments;
+    let mut deepest = 0;
+    while let Some(argument) = arguments.pop() {
+        let depth = argument.spill(nodes)?;
+        deepest = depth.max(deepest);
+    }
+    Ok(deepest)
 }
 
-/// Whether no text can write so many arguments.
-fn are_too_many(count: usize) -> bool
-    ensures many { result ≡ true → 8 < count }
-    ensures few { result ≡ false → count ≤ 8 }
+/// Puts the node of a structure behind others.
+fn put_structure(nodes: &mut Vec<SmallNode>, count: u8, name: AtomText) -> Result<(), AllocError>
+    ensures nodes { OnOk result (map node_of nodes.new.items ≡ map node_of nodes.old.items ++ Structure name count ∷ []) }
+    ensures text { IsTrue (is_text name) }
 {
-    count > 8
+    name.shows_text();
+    nodes.reserve(1)?;
+    let spelling = Spelling::of(*nodes.allocator(), name)?;
+    nodes.push_reserved(SmallNode::Structure(count, spelling));
+    Ok(())
 }
 
 /// How many nodes the cells of these elements take.

@@ -6,7 +6,7 @@ use std::alloc::AllocError;
 use thiserror::Error;
 
 /// Why a text is not read.
-#[derive(Clone, Copy, Debug, PartialEq, Eq, Drop, Error)]
+#[derive(Clone, Copy, Debug, Drop, Error)]
 pub enum ReadFault {
     /// The text is not what was asked for: the line, from 1, on which its first bad item begins.
     #[error("bad item on line {line}")]

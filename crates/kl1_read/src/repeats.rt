@@ -1,57 +1,41 @@
 // Variables that stand twice.
 
-ghost use Rattle.std.specs.Prelude.{◌≡◌, ◌++◌, IfOk, OnOk};
+ghost use Rattle.std.specs.Prelude.{◌≡◌, ◌||◌, ◌++◌, ℕ, List, not, IfOk};
 ghost use Rattle.kl1_model.specs.Term.{terms_of};
 ghost use Rattle.kl1_model.specs.Meaning.{variables_in};
 ghost use Rattle.kl1_model.specs.Module.{has_repeats};
-ghost use Rattle.kl1_read.specs.Marked.{node_variables};
+ghost use Rattle.kl1_read.specs.Marked.{repeats_behind, node_variables};
 
 use crate::marks::mark;
 use kl1_term::{Node, Term};
 use std::alloc::{AllocError, Global};
 
-/// Whether a variable stands twice in terms, in one of them or in two.
-pub(crate) fn has_repeats(alloc: Global, terms: &[Term]) -> Result<bool, AllocError>
-    ensures { IfOk result (λ r. r ≡ has_repeats (variables_in (terms_of terms.now))) }
-{
-    let numbers = variables_in(alloc, terms)?;
-    repeats(alloc, numbers.as_slice())
-}
-
-/// The variables of terms by their numbers, in the order of their places.
-fn variables_in(alloc: Global, terms: &[Term]) -> Result<Vec<u64>, AllocError>
-    ensures { IfOk result (λ numbers. numbers.items ≡ variables_in (terms_of terms.now)) }
-{
-    let mut numbers = Vec::new(alloc);
-    for term in terms {
-        put_variables(&mut numbers, term.nodes())?;
-    }
-    Ok(numbers)
-}
-
-/// Puts the variables of nodes behind other numbers.
-fn put_variables(numbers: &mut Vec<u64>, nodes: &[Node]) -> Result<(), AllocError>
-    ensures { OnOk result (numbers.new.items ≡ numbers.old.items ++ node_variables nodes.now) }
-{
-    let mut rest = nodes;
-    while let [first, others @ ..] = rest {
-        if let Node::Variable(number) = first {
-            numbers.push(*number)?;
-        }
-        rest = others;
-    }
-    Ok(())
-}
-
-/// Whether a number stands twice.
-fn repeats(alloc: Global, numbers: &[u64]) -> Result<bool, AllocError>
-    ensures { IfOk result (λ r. r ≡ has_repeats numbers.now) }
+/// Whether no variable stands twice in terms, in one of them or in two.
+pub(crate) fn has_no_repeats(alloc: Global, terms: &[Term]) -> Result<bool, AllocError>
+    ensures { IfOk result (λ r. r ≡ not (has_repeats (variables_in (terms_of terms.now)))) }
 {
     let mut marks = Vec::new(alloc);
-    for number in numbers {
-        if mark(&mut marks, *number)? {
-            return Ok(true);
+    for term in terms {
+        if mark_variables(&mut marks, term.nodes())? {
+            return Ok(false);
         }
+    }
+    Ok(true)
+}
+
+/// Marks the variables of nodes by their numbers. Answers whether one of them was marked before; then the others behind it
+/// aren't marked.
+fn mark_variables(marks: &mut Vec<bool>, nodes: &[Node]) -> Result<bool, AllocError>
+    ensures { IfOk result (λ r. (ns : List ℕ) → r || repeats_behind marks.new.items ns ≡ repeats_behind marks.old.items (node_variables nodes.now ++ ns)) }
+{
+    let mut rest = nodes;
+    while let Some((first, others)) = rest.split_first() {
+        if let Node::Variable(number) = first {
+            if mark(marks, *number)? {
+                return Ok(true);
+            }
+        }
+        rest = others;
     }
     Ok(false)
 }

@@ -32,9 +32,12 @@ const RESERVED: [BuiltIn; 17] = [
 fn is_reserved(name: &AtomText) -> bool
     ensures { result ≡ is_reserved name.now }
 {
-    RESERVED
-        .iter()
-        .any(|reserved| name.is(&AtomText::of_built_in(*reserved)))
+    for reserved in RESERVED.iter() {
+        if name.is(&AtomText::of_built_in(*reserved)) {
+            return true;
+        }
+    }
+    false
 }
 
 /// Whether a name may be a head without arguments.

@@ -19,18 +19,18 @@ pub(crate) fn read_series<'a>(
 ) -> Result<Option<(Vec<Piece>, &'a [Numbered])>, AllocError>
     ensures { IfOk result (λ r. series_view r ≡ fit (series_read (map numbered_token tokens.now))) }
 {
+    let mut frames = Vec::new(alloc);
+    let mut done = Vec::new(alloc);
     let mut state = State {
-        frames: Vec::new(alloc),
         left: Left::none(),
-        done: Vec::new(alloc),
         read: None,
         rest: tokens,
     };
     'tokens: loop {
-        match one_step(alloc, state)? {
+        match one_step(alloc, &mut frames, &mut done, state)? {
             Step::Bad => return Ok(None),
             Step::On(next) => state = next,
-            Step::Finished(done, rest) => return Ok(Some((done, rest))),
+            Step::Finished(rest) => return Ok(Some((done, rest))),
         }
     }
 }

@@ -63,8 +63,12 @@ pub(crate) fn spelling_of(sign: Sign) -> &'static [u8]
 pub(crate) fn sign_at(bytes: &[u8]) -> Option<Sign>
     ensures { result ≡ sign_at bytes.now }
 {
-    SIGNS
-        .iter()
-        .copied()
-        .find(|sign| bytes.starts_with(spelling_of(*sign)))
+    let mut rest = SIGNS.as_slice();
+    while let [first, others @ ..] = rest {
+        if bytes.starts_with(spelling_of(*first)) {
+            return Some(*first);
+        }
+        rest = others;
+    }
+    None
 }

@@ -29,13 +29,14 @@ fn node_of(node: &SmallNode) -> Node
 }
 
 /// Nodes from the last one on.
-pub(crate) fn turned(alloc: Global, nodes: Vec<SmallNode>) -> Result<Vec<Node>, AllocError>
-    ensures { IfOk result (λ row. row.items ≡ reverse (map node_of nodes.items)) }
+pub(crate) fn turned(alloc: Global, nodes: &[SmallNode]) -> Result<Vec<Node>, AllocError>
+    ensures { IfOk result (λ row. row.items ≡ reverse (map node_of nodes.now)) }
 {
-    let mut nodes = nodes;
     let mut row = Vec::with_capacity(alloc, nodes.len())?;
-    while let Some(node) = nodes.pop() {
-        row.push(node_of(&node))?;
+    let mut count = nodes.len();
+    while count > 0 {
+        count -= 1;
+        row.push(node_of(&nodes[count]))?;
     }
     Ok(row)
 }

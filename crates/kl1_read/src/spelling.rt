@@ -1,7 +1,7 @@
 // Names in little room.
 
 ghost use Rattle.std.specs.Prelude.{◌≡◌, IfOk};
-ghost use Rattle.kl1_read.specs.Held.{text_held, IsHeld, short_words};
+ghost use Rattle.kl1_read.specs.Held.{short_words};
 
 use kl1_text::AtomText;
 use std::alloc::{AllocError, Global};
@@ -56,25 +56,10 @@ impl Spelling {
     pub(crate) fn name(&self) -> AtomText
         ensures { result ≡ self.now }
     {
-        name_held(&self.held)
-    }
-
-    /// The same name once more.
-    pub(crate) fn again(&self, alloc: Global) -> Result<Self, AllocError>
-        ensures { IfOk result (λ spelling. spelling ≡ self.now) }
-    {
-        Spelling::of(alloc, self.name())
-    }
-}
-
-/// The name that is held.
-fn name_held(held: &Held) -> AtomText
-    requires { IsHeld held.now }
-    ensures { result ≡ text_held held.now }
-{
-    match held {
-        Held::Short(word) => AtomText::of_words(short_words(*word)),
-        Held::Long(text) => **text,
+        match &self.held {
+            Held::Short(word) => AtomText::of_words(short_words(*word)),
+            Held::Long(text) => **text,
+        }
     }
 }
 

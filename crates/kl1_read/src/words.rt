@@ -3,10 +3,9 @@
 ghost use Rattle.std.specs.Prelude.{◌≡◌, ◌^◌, ◌∷◌, ◌-◌, take, nat_le, length, IsTrue, Some, None, if◌then◌else◌, option_map};
 ghost use Rattle.std.specs.List.{list_all};
 ghost use Rattle.kl1_model.specs.Token.{word_of, behind_word, digits_of, behind_digits, behind_comment, number_of};
-ghost use Rattle.kl1_model.specs.Text.{is_name_byte, most_name_bytes};
+ghost use Rattle.kl1_model.specs.Text.{is_name_byte};
 
 use crate::bytes::{is_digit, is_source_byte, is_word_byte};
-use kl1_text::AtomText;
 
 /// What is behind the word in front.
 pub(crate) fn behind_word(bytes: &[u8]) -> &[u8]
@@ -102,12 +101,4 @@ fn front_part(bytes: &[u8], last: usize) -> &[u8]
     } else {
         &[]
     }
-}
-
-/// The name of these bytes, where there are at most 63 of them.
-pub(crate) fn short_name(bytes: &[u8]) -> Option<AtomText>
-    requires { IsTrue (list_all is_name_byte bytes.now) }
-    ensures { result ≡ (if nat_le (length bytes.now) most_name_bytes then Some bytes.now else None) }
-{
-    AtomText::read(bytes)
 }

@@ -9,23 +9,23 @@ use Rattle.kl1_clause.proofs.compiled_clause.compiled_of.Goals as goal
 pub returns : goal.returns
 returns c =
     let p = c.args.parts.now in
-    let head : c.highest_among-head_variables.result ≡ highest_in (terms_of p.patterns.items) = c.highest_among-head_variables.ensures ∙ ap (λ x. highest_in (terms_of x)) c.deref-3.ensures.value in
-    let fresh : c.fresh_among-fresh_variables.result ≡ highest_in (terms_of p.body.items) - highest_in (terms_of p.patterns.items) = c.fresh_among-fresh_variables.ensures ∙ (ap (λ x. highest_in (terms_of x) - c.highest_among-head_variables.result) c.deref-4.ensures.value ∙ ap (λ n. highest_in (terms_of p.body.items) - n) head) in
-    let all = made c.args.names.now c.placed.new.self c.row_of.new.names c.tests_of.new.names c.row_of-2.new.names
+    let head : c.highest_among-head_variables.result ≡ highest_in (terms_of p.patterns.items) = c.highest_among-head_variables.ensures ∙ ap (λ x. highest_in (terms_of x)) c.deref-4.ensures.value in
+    let fresh : c.fresh_among-fresh_variables.result ≡ highest_in (terms_of p.body.items) - highest_in (terms_of p.patterns.items) = c.fresh_among-fresh_variables.ensures ∙ (ap (λ x. highest_in (terms_of x) - c.highest_among-head_variables.result) c.deref-5.ensures.value ∙ ap (λ n. highest_in (terms_of p.body.items) - n) head) in
+    let all = made c.args.names.now c.placed.new.self c.row_of.new.names c.row_of-2.new.names c.row_of-3.new.names
     (record { name = c.in_ok-name.name; count = c.len-count.result; patterns = c.in_ok-patterns.patterns; tests = c.in_ok-tests.tests; goals = c.in_ok-goals.goals; head_variables = c.highest_among-head_variables.result; fresh_variables = c.fresh_among-fresh_variables.result })
     (clause_of_parts p)
     (record {
       parted = record {
         name = c.in_ok-name.ensures.names;
         patterns = rw c.deref.ensures.value at c.in_ok-patterns.ensures.names;
-        tests = c.in_ok-tests.ensures.names;
-        body = rw c.deref-2.ensures.value at c.in_ok-goals.ensures.names;
+        tests = rw c.deref-2.ensures.value at c.in_ok-tests.ensures.names;
+        body = rw c.deref-3.ensures.value at c.in_ok-goals.ensures.names;
       };
       placed = c.in_ok-name.ensures.placed;
       name = c.in_ok-name.ensures.text;
       patterns = rw c.deref.ensures.value at c.in_ok-patterns.ensures.row;
-      tests = c.in_ok-tests.ensures.row;
-      goals = rw c.deref-2.ensures.value at c.in_ok-goals.ensures.row;
+      tests = rw c.deref-2.ensures.value at c.in_ok-tests.ensures.row;
+      goals = rw c.deref-3.ensures.value at c.in_ok-goals.ensures.row;
       count = c.len-count.ensures ∙ (p.patterns.ok.0 ∙ sym (count_of-terms_of p.patterns.items));
       head_variables = head;
       fresh_variables = fresh;

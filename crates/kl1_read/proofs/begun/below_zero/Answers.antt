@@ -13,4 +13,4 @@ returns-then-number-clause-value c =
 pub returns-clause-value : goal.returns-clause-value
 returns-clause-value c =
     let read : to_z w64 (of_z w64 c.negated.result) ≡ c.negated.result = search (arith, ints, to_z-of_z, c.negated.ensures) in
-    whole_begins _ _ c.in_ok-piece.piece (integer (neg_ℤ (pos c.args.number))) (c.in_ok-piece.ensures ∙ ap integer (read ∙ c.negated.ensures)) (below_zero_reads c.args.number (map numbered_token c.args.rest.now))
+    whole_begins _ _ _ (integer (neg_ℤ (pos c.args.number))) (ap integer (read ∙ c.negated.ensures)) (below_zero_reads c.args.number (map numbered_token c.args.rest.now))

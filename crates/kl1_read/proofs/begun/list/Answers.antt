@@ -1,5 +1,4 @@
-use Rattle.std.proofs.Common.{map, ap, ◌∙◌}
-use Rattle.kl1_model.specs.Term.{atom}
+use Rattle.std.proofs.Common.{map, refl}
 use Rattle.kl1_model.specs.Meaning.{nil}
 use Rattle.kl1_read.specs.Views.{numbered_token}
 use Rattle.kl1_read.proofs.PrimarySteps.{whole_begins, list_begins, no_elements}
@@ -8,6 +7,6 @@ use Rattle.kl1_read.proofs.begun.list.Goals as goal
 pub returns-in-None-clause-value : goal.returns-in-None-clause-value
 returns-in-None-clause-value c = list_begins c.new.result (map numbered_token c.args.rest.now) c.new.ensures.items c.in-None.ensures.value
 
-pub returns-in_ok-piece-in-Some-clause-value : goal.returns-in_ok-piece-in-Some-clause-value
-returns-in_ok-piece-in-Some-clause-value c =
-    whole_begins _ _ c.in_ok-piece-in-Some.piece nil (c.in_ok-piece-in-Some.ensures ∙ ap atom c.of.ensures) (no_elements (map numbered_token c.args.rest.now) (map numbered_token c.in-Some.behind.now) c.in-Some.ensures.value)
+pub returns-in-Some-clause-value : goal.returns-in-Some-clause-value
+returns-in-Some-clause-value c =
+    whole_begins _ _ nil nil refl (no_elements (map numbered_token c.args.rest.now) (map numbered_token c.in-Some.behind.now) c.in-Some.ensures.value)

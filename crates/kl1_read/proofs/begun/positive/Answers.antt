@@ -1,4 +1,4 @@
-use Rattle.std.proofs.Common.{map, pos, ap, ◌∙◌, w64}
+use Rattle.std.proofs.Common.{map, pos, ap, w64}
 use Rattle.std.proofs.lemmas.Int.{to_z_pos}
 use Rattle.kl1_model.specs.Term.{integer}
 use Rattle.kl1_read.specs.Views.{numbered_token}
@@ -10,4 +10,4 @@ returns-then-number-clause-value c = bad_begins _ (large_positive c.args.number 
 
 pub returns-clause-value : goal.returns-clause-value
 returns-clause-value c =
-    whole_begins _ _ c.in_ok-piece.piece (integer (pos c.args.number)) (c.in_ok-piece.ensures ∙ ap integer (to_z_pos w64 c.args.number c.if-number.false)) (small_positive c.args.number (map numbered_token c.args.rest.now) c.if-number.false)
+    whole_begins _ _ _ (integer (pos c.args.number)) (ap integer (to_z_pos w64 c.args.number c.if-number.false)) (small_positive c.args.number (map numbered_token c.args.rest.now) c.if-number.false)

@@ -11,10 +11,10 @@ returns-in-Some-clause-value c =
 
 pub returns-in-None-2-clause-value : goal.returns-in-None-2-clause-value
 returns-in-None-2-clause-value c =
-    let gone : None ≡ writable (structure c.args.name (terms_of c.push.new.self.items)) = cc c.in_ok-structure-in-Some-behind_mark.ensures in
-    λ k dooms. arguments_doomed c.args.name (c.args.arguments.items ++ c.args.piece ∷ []) c.push.new.self.items (map numbered_token c.args.tokens.now) (map numbered_token c.in-Some-behind_mark.behind.now) k _ dooms c.in_ok-push.ensures.items gone c.in-None.ensures.value c.in-Some-behind_mark.ensures.value
+    let gone : None ≡ writable (structure c.args.name.now (terms_of c.push.new.self.items)) = cc c.in_ok-structure-in-Some-behind_mark.ensures in
+    λ k dooms. arguments_doomed c.args.name.now (c.args.arguments.items ++ c.args.piece ∷ []) c.push.new.self.items (map numbered_token c.args.tokens.now) (map numbered_token c.in-Some-behind_mark.behind.now) k _ dooms c.in_ok-push.ensures.items gone c.in-None.ensures.value c.in-Some-behind_mark.ensures.value
 
 pub returns-clause-value : goal.returns-clause-value
 returns-clause-value c =
-    let made : Some c.in-Some-2.whole ≡ writable (structure c.args.name (terms_of c.push.new.self.items)) = cc c.in_ok-structure-in-Some-behind_mark.ensures in
-    λ k dooms. arguments_end c.args.name (c.args.arguments.items ++ c.args.piece ∷ []) c.push.new.self.items c.in-Some-2.whole (map numbered_token c.args.tokens.now) (map numbered_token c.in-Some-behind_mark.behind.now) k _ c.in_ok-push.ensures.items made c.in-None.ensures.value c.in-Some-behind_mark.ensures.value
+    let made : Some c.in-Some-2.whole ≡ writable (structure c.args.name.now (terms_of c.push.new.self.items)) = cc c.in_ok-structure-in-Some-behind_mark.ensures in
+    λ k dooms. arguments_end c.args.name.now (c.args.arguments.items ++ c.args.piece ∷ []) c.push.new.self.items c.in-Some-2.whole (map numbered_token c.args.tokens.now) (map numbered_token c.in-Some-behind_mark.behind.now) k _ c.in_ok-push.ensures.items made c.in-None.ensures.value c.in-Some-behind_mark.ensures.value

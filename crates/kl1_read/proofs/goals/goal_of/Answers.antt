@@ -1,23 +1,21 @@
 use Rattle.std.proofs.Common.{◌≡◌, map, ap, subst, IfOk, IfErr, ◌∙◌}
 use Rattle.kl1_model.specs.Numbering.{numbered_tokens}
-use Rattle.kl1_model.specs.Module.{startable, term_of_tokens, good}
+use Rattle.kl1_model.specs.Module.{good}
 use Rattle.kl1_read.specs.Views.{kept_token, numbered_token}
-use Rattle.kl1_read.specs.Started.{started}
 use Rattle.kl1_read.specs.Sources.{IsFaultOf}
 use Rattle.kl1_read.proofs.Startables.{started_is}
 use Rattle.kl1_read.proofs.goals.goal_of.Goals as goal
-use Rattle.kl1_read.proofs.goals.goal_of.Goals.{In_ok-read_expression}
-
--- what is started of the term that was read is what may be started of the tokens
-starts : (c : In_ok-read_expression) → started c.args.line c.in_ok-read_expression.field-0 ≡ startable c.args.line (term_of_tokens (map kept_token c.args.tokens.items))
-starts c =
-    started_is c.args.line (map kept_token c.args.tokens.items) (map numbered_token c.as_slice-2.result.now) _ c.in_ok-read_expression.ensures
-    (ap (map numbered_token) c.as_slice-2.ensures.value ∙ c.in_ok-numbered.ensures ∙ ap (λ ts. numbered_tokens (map kept_token ts)) c.as_slice.ensures.value)
 
 pub returns-clause-goal : goal.returns-clause-goal
 returns-clause-goal c =
-    subst (λ r. IfOk c.start_of.result (λ g. r ≡ good g)) (starts (goal.at.returns-clause-goal c).In_ok-read_expression) c.start_of.ensures.goal
+    subst (λ r. IfOk c.start_of.result (λ g. r ≡ good g))
+    (started_is c.args.line (map kept_token c.args.tokens.items) (map numbered_token c.as_slice-2.result.now)
+    (ap (map numbered_token) c.as_slice-2.ensures.value ∙ c.in_ok-numbered.ensures ∙ ap (λ ts. numbered_tokens (map kept_token ts)) c.as_slice.ensures.value))
+    c.start_of.ensures.goal
 
 pub returns-clause-fault : goal.returns-clause-fault
 returns-clause-fault c =
-    subst (λ r. IfErr c.start_of.result (IsFaultOf r)) (starts (goal.at.returns-clause-fault c).In_ok-read_expression) c.start_of.ensures.fault
+    subst (λ r. IfErr c.start_of.result (IsFaultOf r))
+    (started_is c.args.line (map kept_token c.args.tokens.items) (map numbered_token c.as_slice-2.result.now)
+    (ap (map numbered_token) c.as_slice-2.ensures.value ∙ c.in_ok-numbered.ensures ∙ ap (λ ts. numbered_tokens (map kept_token ts)) c.as_slice.ensures.value))
+    c.start_of.ensures.fault

@@ -1,4 +1,4 @@
-use Rattle.std.proofs.Common.{refl}
+use Rattle.std.proofs.Common.{refl, arith}
 use Rattle.kl1_read.proofs.SeenSpellings.{finds_none}
 use Rattle.kl1_read.proofs.numbering.numbered_tokens.Goals as goal
 
@@ -7,4 +7,5 @@ loop-rest-init c =
     record {
       finds = finds_none c.new-numbers.result c.new-seen.result.items c.new-numbers.ensures.empty c.new-seen.ensures.items;
       same = rw (c.new-seen.ensures.items, c.in_ok-out.ensures.items) refl;
+      room = omega (arith, c.in_ok-out.ensures.len, c.in_ok-out.ensures.capacity);
     }

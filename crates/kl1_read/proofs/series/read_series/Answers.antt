@@ -7,12 +7,12 @@ use Rattle.kl1_read.proofs.series.read_series.Goals as goal
 pub tokens-init : goal.tokens-init
 tokens-init c =
     record {
-      same = rw (c.none.ensures, c.new.ensures.items, c.new-2.ensures.items) (ap fit (terms_begin (map numbered_token c.args.tokens.now)));
-      fits = rw c.new-2.ensures.items refl;
+      same = rw (c.none.ensures, c.new-frames.ensures.items, c.new-done.ensures.items) (ap fit (terms_begin (map numbered_token c.args.tokens.now)));
+      fits = rw c.new-done.ensures.items refl;
     }
 
 pub returns-in-Finished : goal.returns-in-Finished
 returns-in-Finished c =
-    finished_fits c.in-Finished.done.items (map numbered_token c.in-Finished.rest.now) (rw c.in-Finished.is at c.in_ok-one_step.ensures.fits)
+    finished_fits c.one_step.new.done.items (map numbered_token c.in-Finished.rest.now) c.in_ok-one_step.ensures.fits
     ∙ (rw c.in-Finished.is at c.in_ok-one_step.ensures.value)
     ∙ c.tokens.invariant.same
