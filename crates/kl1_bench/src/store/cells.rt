@@ -3,7 +3,7 @@
 use crate::store::terms::Terms;
 use kl1_store::{Cell, Store, Unified};
 use kl1_text::AtomNo;
-use std::alloc::{AllocError, Global};
+use std::alloc::AllocError;
 
 /// A new structure of the name of a number. Arguments of another store are refused.
 fn structure(
@@ -34,10 +34,6 @@ fn argument(store: &Store<AtomNo>, structure: u32, index: u32) -> Option<Cell<At
 
 impl Terms for Store<AtomNo> {
     type Part = Cell<AtomNo>;
-
-    fn none(alloc: Global) -> Self {
-        Store::new(alloc)
-    }
 
     fn integer(number: i64) -> Cell<AtomNo> {
         Cell::Integer(number)

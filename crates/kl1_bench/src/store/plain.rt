@@ -40,16 +40,6 @@ pub struct Plain {
 impl Terms for Plain {
     type Part = Value;
 
-    fn none(alloc: Global) -> Self {
-        Plain {
-            slots: Vec::new(alloc),
-            nodes: Vec::new(alloc),
-            arguments: Vec::new(alloc),
-            roots: Vec::new(alloc),
-            pairs: Vec::new(alloc),
-        }
-    }
-
     fn integer(number: i64) -> Value {
         Value::Integer(number)
     }
@@ -114,6 +104,17 @@ impl Terms for Plain {
 }
 
 impl Plain {
+    /// No terms.
+    pub fn new(alloc: Global) -> Self {
+        Plain {
+            slots: Vec::new(alloc),
+            nodes: Vec::new(alloc),
+            arguments: Vec::new(alloc),
+            roots: Vec::new(alloc),
+            pairs: Vec::new(alloc),
+        }
+    }
+
     /// A new structure.
     fn build(&mut self, name: u32, arguments: &[Value]) -> Result<Value, AllocError> {
         let number = self.nodes.len();

@@ -2,26 +2,34 @@
 
 use crate::ratios::{hundredths, moment, nanoseconds_since};
 use crate::store::plain::Plain;
-use crate::store::terms::Terms;
 use crate::store::work::{Work, is_done};
 use kl1_store::Store;
-use kl1_text::AtomNo;
 use std::alloc::Global;
 use std::io;
 use std::rt::Clock;
 
+/// Who does the work.
+#[derive(Clone, Copy)]
+enum By {
+    Store,
+    Plain,
+}
+
 /// Whether all could be unified in some work on new terms.
-fn is_right<T: Terms + Drop>(alloc: Global, work: Work) -> bool {
-    let mut terms = T::none(alloc);
-    matches!(is_done(&mut terms, work), Ok(true))
+fn is_right(alloc: Global, by: By, work: Work) -> bool {
+    let done = match by {
+        By::Store => is_done(&mut Store::new(alloc), work),
+        By::Plain => is_done(&mut Plain::new(alloc), work),
+    };
+    matches!(done, Ok(true))
 }
 
 /// The nanoseconds that work takes, the least of so many rounds.
-fn least_time<T: Terms + Drop, R: Clock>(rt: &R, alloc: Global, work: Work, rounds: u32) -> u128 {
+fn least_time<R: Clock>(rt: &R, alloc: Global, by: By, work: Work, rounds: u32) -> u128 {
     let mut least = u128::MAX;
     for _ in 0..rounds {
         let start = moment(rt);
-        let _ = is_right::<T>(alloc, work);
+        let _ = is_right(alloc, by, work);
         least = least.min(nanoseconds_since(rt, start));
     }
     least
@@ -29,8 +37,8 @@ fn least_time<T: Terms + Drop, R: Clock>(rt: &R, alloc: Global, work: Work, roun
 
 /// Does some small work both ways, and tells whether all could be unified.
 fn tell_answer<R: Print>(rt: &R, alloc: Global, name: &str, work: Work) -> io::Result<()> {
-    let by_store = is_right::<Store<AtomNo>>(alloc, work);
-    let by_plain = is_right::<Plain>(alloc, work);
+    let by_store = is_right(alloc, By::Store, work);
+    let by_plain = is_right(alloc, By::Plain, work);
     println!(rt; "{name}: store {by_store}, plain {by_plain}")
 }
 
@@ -49,16 +57,16 @@ fn tell_time<R: Print + Clock>(
     work: Work,
     rounds: u32,
 ) -> io::Result<()> {
-    let store = least_time::<Store<AtomNo>, R>(rt, alloc, work, rounds);
-    let plain = least_time::<Plain, R>(rt, alloc, work, rounds);
+    let store = least_time(rt, alloc, By::Store, work, rounds);
+    let plain = least_time(rt, alloc, By::Plain, work, rounds);
     println!(rt; "{name}: store {}% of plain", hundredths(store, plain))
 }
 
 /// Measures how the time of a tree grows with its keys.
 fn tell_growth<R: Print + Clock>(rt: &R, alloc: Global) -> io::Result<()> {
-    let one = least_time::<Store<AtomNo>, R>(rt, alloc, Work::Tree(1_000), 100);
-    let two = least_time::<Store<AtomNo>, R>(rt, alloc, Work::Tree(2_000), 100);
-    let four = least_time::<Store<AtomNo>, R>(rt, alloc, Work::Tree(4_000), 100);
+    let one = least_time(rt, alloc, By::Store, Work::Tree(1_000), 100);
+    let two = least_time(rt, alloc, By::Store, Work::Tree(2_000), 100);
+    let four = least_time(rt, alloc, By::Store, Work::Tree(4_000), 100);
     println!(rt;
         "twice the keys: {}%, then {}% of the time",
         hundredths(two, one),

@@ -1,14 +1,11 @@
 // Terms on which the same work is done both ways.
 
-use std::alloc::{AllocError, Global};
+use std::alloc::AllocError;
 
 /// Terms, which are made of parts and unified.
 pub trait Terms {
     /// A variable, a structure or a constant.
     type Part: Copy;
-
-    /// No terms.
-    fn none(alloc: Global) -> Self;
 
     /// An integer.
     fn integer(number: i64) -> Self::Part;
