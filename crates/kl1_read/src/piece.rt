@@ -88,7 +88,7 @@ impl Piece {
             rest: second_rest,
         } = second;
         let (whole, rest) = pair_depth(name, first_whole, second_whole, second_rest);
-        if whole > 256 {
+        if is_too_deep(whole) {
             return Ok(None);
         }
         let (mut nodes, mut front) = (behind, front);
@@ -180,7 +180,7 @@ impl Piece {
         if arguments.len() == 0 {
             return Ok(None);
         }
-        if arguments.len() > 8 {
+        if are_too_many(arguments.len()) {
             return Ok(None);
         }
         if arguments.len() == 2 {
@@ -244,6 +244,22 @@ fn put_structure(nodes: &mut Vec<SmallNode>, count: u8, name: AtomText) -> Resul
     let spelling = Spelling::of(*nodes.allocator(), name)?;
     nodes.push_reserved(SmallNode::Structure(count, spelling));
     Ok(())
+}
+
+/// Whether no text can write a term that is so deep.
+fn is_too_deep(depth: u64) -> bool
+    ensures deep { result ≡ true → 256 < depth }
+    ensures low { result ≡ false → depth ≤ 256 }
+{
+    depth > 256
+}
+
+/// Whether no text can write so many arguments.
+fn are_too_many(count: usize) -> bool
+    ensures many { result ≡ true → 8 < count }
+    ensures few { result ≡ false → count ≤ 8 }
+{
+    count > 8
 }
 
 /// How many nodes the cells of these elements take.

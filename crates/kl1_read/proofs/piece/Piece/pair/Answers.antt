@@ -16,16 +16,16 @@ pair_depth-whole-requires-clause-second_low c = c.second.invariant.low
 pub pair_depth-whole-requires-clause-rest_low : goal.pair_depth-whole-requires-clause-rest_low
 pair_depth-whole-requires-clause-rest_low c = omega (arith, c.second.invariant.low, c.second.invariant.rest_low)
 
-pub returns-then-whole-gt256 : goal.returns-then-whole-gt256
-returns-then-whole-gt256 c =
-    pair_too_deep c.args.name (map node_of c.first.inside.nodes.items) (map node_of c.second.inside.nodes.items) [] c.args.first c.args.second c.first.inside.whole c.first.inside.rest c.second.inside.whole c.second.inside.rest _ _ c.first.view_is c.second.view_is c.first.invariant c.second.invariant (c.pair_depth-whole.ensures.value c.first.inside.rest) c.if-whole-gt256.true
+pub returns-then-is_too_deep : goal.returns-then-is_too_deep
+returns-then-is_too_deep c =
+    pair_too_deep c.args.name (map node_of c.first.inside.nodes.items) (map node_of c.second.inside.nodes.items) [] c.args.first c.args.second c.first.inside.whole c.first.inside.rest c.second.inside.whole c.second.inside.rest _ _ c.first.view_is c.second.view_is c.first.invariant c.second.invariant (c.pair_depth-whole.ensures.value c.first.inside.rest) (c.is_too_deep.ensures.deep c.if-is_too_deep.true)
 
 made : (c : goal.In_ok-put_structure) → Made (map node_of c.put_structure.new.nodes.items) (pair c.args.name c.args.first c.args.second) c.pair_depth-whole.result.0 c.pair_depth-whole.result.1
 made c =
     pair_made c.args.name (map node_of c.first.inside.nodes.items) (map node_of c.second.inside.nodes.items) (map node_of c.put_structure.new.nodes.items) c.args.first c.args.second c.first.inside.whole c.first.inside.rest c.second.inside.whole c.second.inside.rest _ _ c.first.view_is c.second.view_is c.first.invariant c.second.invariant (c.pair_depth-whole.ensures.value c.first.inside.rest)
     (c.in_ok-put_structure.ensures.nodes ∙ ap (λ ns. ns ++ Structure c.args.name 2 ∷ []) (ap (map node_of) c.in_ok-append.ensures.items ∙ map-append node_of c.second.inside.nodes.items c.first.inside.nodes.items))
     c.put_structure.ensures.text
-    c.if-whole-gt256.false c.pair_depth-whole.ensures.rest_low
+    (c.is_too_deep.ensures.low c.if-is_too_deep.false) c.pair_depth-whole.ensures.rest_low
 
 pub invariant_of-result : goal.invariant_of-result
 invariant_of-result c = (made c).piece
