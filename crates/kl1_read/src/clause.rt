@@ -54,29 +54,25 @@ fn read_parts(
     requires body { parts.old.body.items ≡ [] }
     ensures { IfOk result (λ r. given r (clause_of_parts parts.new) ≡ option_and_then (clause_of_statement module_name) (all_read (statement_read (numbered_tokens (map kept_token tokens.items))))) }
 {
-    match read_terms(alloc, tokens, terms) {
-        Ok(true) => {
-            parts.name = terms.name;
-            match put_patterns(
-                alloc,
-                &terms.name,
-                &mut terms.arguments,
-                &mut parts.patterns,
-            ) {
-                Ok(true) => match put_terms(alloc, Role::Test, &mut terms.tests, &mut parts.tests) {
-                    Ok(true) => {
-                        put_terms(
-                            alloc,
-                            Role::Goal(module_name),
-                            &mut terms.body,
-                            &mut parts.body,
-                        )
-                    }
-                    other => other,
-                },
-                other => other,
-            }
-        }
-        other => other,
+    if !read_terms(alloc, tokens, terms)? {
+        return Ok(false);
     }
+    parts.name = terms.name;
+    if !put_patterns(
+        alloc,
+        &terms.name,
+        &mut terms.arguments,
+        &mut parts.patterns,
+    )? {
+        return Ok(false);
+    }
+    if !put_terms(alloc, Role::Test, &mut terms.tests, &mut parts.tests)? {
+        return Ok(false);
+    }
+    put_terms(
+        alloc,
+        Role::Goal(module_name),
+        &mut terms.body,
+        &mut parts.body,
+    )
 }

@@ -1,7 +1,7 @@
 // A term that is being read.
 
 ghost use Rattle.std.specs.Prelude.{◌≡◌, ◌≢◌, ℕ, ◌≤◌, ◌<◌, true, false, List, [], ◌∷◌, ◌++◌, map, reverse, vec_len, IfOk, OnOk, IsTrue};
-ghost use Rattle.kl1_model.specs.Term.{variable, integer, atom, structure, terms_of};
+ghost use Rattle.kl1_model.specs.Term.{atom, structure, terms_of};
 ghost use Rattle.kl1_model.specs.Text.{is_text};
 ghost use Rattle.kl1_model.specs.TermCode.{nodes_of, nodes_of_all};
 ghost use Rattle.kl1_model.specs.Meaning.{Depth, pair, cells, deepest, depth, are_narrow, is_narrow, is_writable, pair_depth};
