@@ -6,7 +6,7 @@ use Rattle.kl1_model.specs.State.{State, fresh, shoen_at, terminated, Origin}
 use Rattle.kl1_model.specs.Event.{Event, load, start, reduce, ran, refused, syntax, exists, step_refused, journal_full}
 use Rattle.kl1_model.specs.Step.{step, origin_at}
 use Rattle.kl1_model.specs.Choice.{first, quiet}
-use Rattle.kl1_model.specs.Command.{Command, run, Line, whole, parse, act}
+use Rattle.kl1_model.specs.Command.{run, parse, act}
 use Rattle.kl1_model.specs.Script.{done_by}
 
 -- lines, each ended by a line feed
@@ -34,15 +34,10 @@ three_goals = lines (codes ":- module t." ∷ codes "p :- true | z:q(X), f(X) = 
 abbrev pub having : List ℕ → State
 having text = (step (fresh (codes "alice")) (load text)).state
 
--- the command that a line is, where it is one
-abbrev pub command_of : Line → Option Command
-command_of (whole c) = Some c
-command_of l = None
-
 -- an account after lines of commands
 abbrev pub after_lines : State → List (List ℕ) → State
 after_lines s [] = s
-after_lines s (l ∷ ls) = after_lines (done_by s (command_of (parse l))).state ls
+after_lines s (l ∷ ls) = after_lines (done_by s (parse l)).state ls
 
 -- an account after events
 abbrev pub after_events : State → List Event → State

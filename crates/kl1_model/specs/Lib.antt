@@ -20,6 +20,8 @@ pub mod Reduction
 pub mod Opening
 pub mod Step
 pub mod Choice
+pub mod Line
+pub mod Record
 pub mod Command
 pub mod Script
 pub mod Examples
