@@ -1,7 +1,7 @@
 // What a byte is.
 
 ghost use Rattle.std.specs.Prelude.{◌≡◌};
-ghost use Rattle.kl1_model.specs.Command.{is_space};
+ghost use Rattle.kl1_model.specs.Line.{is_space};
 ghost use Rattle.kl1_model.specs.Token.{is_digit};
 
 /// Whether a byte parts the words of a line.

@@ -1,8 +1,7 @@
 // Lines, and the name in front of one.
 
 ghost use Rattle.std.specs.Prelude.{◌≡◌, ◌+◌, ◌<◌, ◌≤◌, length, take, drop};
-ghost use Rattle.kl1_model.specs.Command.{is_blank_line};
-ghost use Rattle.kl1_model.specs.Script.{without_return, line_in, behind_feed, before_space, behind_space};
+ghost use Rattle.kl1_model.specs.Line.{is_blank_line, without_return, line_in, behind_feed, before_space, behind_space};
 ghost use Rattle.kl1_lines.specs.Places.{place_of};
 
 use crate::words::without_blanks;

@@ -1,7 +1,7 @@
 // The words of a line.
 
 ghost use Rattle.std.specs.Prelude.{◌≡◌, ◌+◌, ◌<◌, ◌≤◌, bytes_eq, length, false};
-ghost use Rattle.kl1_model.specs.Command.{word_in, behind_word_in, is_blank_line};
+ghost use Rattle.kl1_model.specs.Line.{word_in, behind_word_in, is_blank_line};
 ghost use Rattle.kl1_lines.specs.Places.{blank_place, BeginsWord};
 
 use crate::bytes::is_space;

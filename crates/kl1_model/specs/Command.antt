@@ -2,7 +2,8 @@
 use Rattle.std.specs.Prelude.{ℕ, zero, suc, nat_le, if◌then◌else◌, List, [], ◌∷◌, ◌++◌, length, codes, bytes_eq, decimal, Option, Some, None, option_map, option_and_then}
 use Rattle.kl1_model.specs.Term.{Term}
 use Rattle.kl1_model.specs.Name.{atom_text}
-use Rattle.kl1_model.specs.Line.{most_command_bytes, word_in, behind_word_in, number_in, up_to, only_number}
+use Rattle.kl1_model.specs.Limits.{most_command_bytes, most_steps}
+use Rattle.kl1_model.specs.Line.{word_in, behind_word_in, number_in, up_to, only_number}
 use Rattle.kl1_model.specs.Module.{Reading, good, bad, read_goal}
 use Rattle.kl1_model.specs.State.{State}
 use Rattle.kl1_model.specs.Event.{Refusal, syntax, source, exists, no_shoen, step_refused, journal_full, value, Event, load, start, reduce, read, Reply, loaded, opened, reduced, ran, shown, refused, Stepped, refuse, is_range}
@@ -14,10 +15,6 @@ use Rattle.kl1_model.specs.Record.{Request, load_of, spoiled_load, other_line}
 pub data Command : Type 0 where
   does : Event → Command
   run : ℕ → Command
-
--- the most steps of a run
-abbrev pub most_steps : ℕ
-most_steps = 262144
 
 -- a start with its goal as it was read
 abbrev pub start_with : ℕ → ℕ → ℕ → Reading Term → Option Command
@@ -53,7 +50,7 @@ command_by runs rest = option_map run (up_to most_steps (only_number rest))
 command_by asks_value rest = option_map (λ n. does (read (value n))) (only_number rest)
 command_by unknown rest = None
 
--- the command that a line is, without its end, if it is one; one of more than 4,096 bytes is none, and neither is a load alone
+-- the command that a line is, without its end, if it is one; one of too many bytes is none, and neither is a load alone
 abbrev pub parse : List ℕ → Option Command
 parse line = if nat_le (length line) most_command_bytes then command_by (verb_of (word_in line)) (behind_word_in line) else None
 

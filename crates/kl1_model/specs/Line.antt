@@ -1,6 +1,7 @@
 -- Lines of a text, their words and their numbers.
-use Rattle.std.specs.Prelude.{ℕ, zero, suc, ◌^◌, ◌==◌, nat_le, nat_lt, ◌&&◌, ◌||◌, Bool, true, false, if◌then◌else◌, List, [], ◌∷◌, ◌++◌, length, Option, Some, None}
+use Rattle.std.specs.Prelude.{ℕ, zero, suc, ◌==◌, nat_le, nat_lt, ◌&&◌, ◌||◌, Bool, true, false, if◌then◌else◌, List, [], ◌∷◌, ◌++◌, length, Option, Some, None}
 use Rattle.std.specs.List.{list_all}
+use Rattle.kl1_model.specs.Limits.{most_digits, number_limit}
 use Rattle.kl1_model.specs.Token.{is_digit, number_of}
 
 -- the bytes before the first line feed
@@ -33,10 +34,6 @@ abbrev pub behind_space : List ℕ → List ℕ
 behind_space [] = []
 behind_space (b ∷ bs) = elim (b == 32) [ true ↦ bs | false ↦ behind_space bs ]
 
--- the most bytes of a line of a command
-abbrev pub most_command_bytes : ℕ
-most_command_bytes = 4096
-
 -- space and tab, which part the words of a line
 abbrev pub is_space : ℕ → Bool
 is_space b = b == 32 || b == 9
@@ -65,9 +62,9 @@ behind_word_in line = behind_first false line
 abbrev pub is_blank_line : List ℕ → Bool
 is_blank_line line = list_all is_space line
 
--- the number that a word is: 1 to 19 digits, of a value below 2 ^ 63
+-- the number that a word is: digits, at least one and not too many, of a value below the limit of numbers
 abbrev pub number_in : List ℕ → Option ℕ
-number_in w = if nat_le 1 (length w) && nat_le (length w) 19 && list_all is_digit w && nat_lt (number_of w) (2 ^ 63) then Some (number_of w) else None
+number_in w = if nat_le 1 (length w) && nat_le (length w) most_digits && list_all is_digit w && nat_lt (number_of w) number_limit then Some (number_of w) else None
 
 -- a number of at most so much
 abbrev pub up_to : ℕ → Option ℕ → Option ℕ

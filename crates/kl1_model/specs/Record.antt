@@ -1,7 +1,7 @@
 -- How the bytes of a script are cut into records.
 use Rattle.std.specs.Prelude.{ℕ, zero, suc, ◌==◌, nat_le, ◌&&◌, Bool, true, false, if◌then◌else◌, List, [], ◌∷◌, length, take, drop, codes, bytes_eq, Option, Some, None}
-use Rattle.kl1_model.specs.Event.{most_source_bytes}
-use Rattle.kl1_model.specs.Line.{most_command_bytes, before_feed, behind_feed, without_return, line_in, before_space, behind_space, word_in, behind_word_in, is_blank_line, up_to, only_number}
+use Rattle.kl1_model.specs.Limits.{most_command_bytes, most_source_bytes}
+use Rattle.kl1_model.specs.Line.{before_feed, behind_feed, without_return, line_in, before_space, behind_space, word_in, behind_word_in, is_blank_line, up_to, only_number}
 
 -- what is asked of an account: to load a source; that, with other bytes after the source, which is refused; or what another line says
 pub data Request : Type 0 where

@@ -1,6 +1,7 @@
 -- Scripts: their accounts, and what is written for their records.
 use Rattle.std.specs.Prelude.{ℕ, nat_le, not, ◌&&◌, ◌||◌, Bool, true, false, if◌then◌else◌, List, [], ◌∷◌, ◌++◌, length, codes, bytes_eq, Option, Some, None}
 use Rattle.std.specs.List.{list_any, list_all}
+use Rattle.kl1_model.specs.Limits.{most_accounts}
 use Rattle.kl1_model.specs.Name.{is_small_letter}
 use Rattle.kl1_model.specs.Token.{is_digit}
 use Rattle.kl1_model.specs.State.{State, fresh}
@@ -18,10 +19,6 @@ is_account_name (b ∷ bs) = is_small_letter b && list_all (λ c. is_small_lette
 abbrev pub are_distinct : List (List ℕ) → Bool
 are_distinct [] = true
 are_distinct (n ∷ ns) = not (list_any (bytes_eq n) ns) && are_distinct ns
-
--- the most accounts of a script
-abbrev pub most_accounts : ℕ
-most_accounts = 16
 
 -- the accounts that the first line names: 1 to 16 distinct names of accounts behind the word `accounts`
 abbrev pub accounts_in : List (List ℕ) → Option (List (List ℕ))

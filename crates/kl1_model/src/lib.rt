@@ -3,6 +3,7 @@
 
 mod built_in;
 pub mod laws;
+pub mod limits;
 mod pair_form;
 mod sign;
 
