@@ -1,5 +1,5 @@
 -- What holds of the number that a word is.
-use Rattle.std.proofs.Common.{◌≡◌, ℕ, ◌<◌, ◌≤◌, nat_le, nat_lt, true, List, Option, Some, None, if◌then◌else◌, length, refl, inl, inr, arith}
+use Rattle.std.proofs.Common.{◌≡◌, ℕ, ◌<◌, ◌≤◌, nat_le, nat_lt, true, List, Some, None, if◌then◌else◌, length, refl, inl, inr, arith}
 use Rattle.std.specs.List.{list_all}
 use Rattle.std.proofs.lemmas.Bool.{cases_lt, le-leb, lt-leb, le-ltb, lt-ltb}
 use Rattle.kl1_model.specs.Token.{is_digit, number_of}

@@ -14,7 +14,7 @@ mod source;
 mod words;
 
 pub use counted::{Counted, DeviceFailed};
-pub use input::{MOST_BYTES, read_all};
+pub use input::read_all;
 pub use lines::{is_blank_line, split_line, split_name};
 pub use numbers::{number_in, only_number, source_bytes_in, up_to};
 pub use output::{finish, pass_on, write_all};
