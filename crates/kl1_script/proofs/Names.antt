@@ -4,8 +4,8 @@ use Rattle.std.specs.List.{list_all}
 use Rattle.std.proofs.lemmas.Bool.{false≢true, and_parts, and_from, and_left, and_right, le-leb, lt-leb}
 use Rattle.std.proofs.lemmas.List.{append-nil}
 use Rattle.std.proofs.lemmas.List.Folds.{list_all-append}
-use Rattle.kl1_model.specs.Command.{is_space, first_word, word_in, behind_word_in, is_blank_line}
-use Rattle.kl1_model.specs.Script.{words_of, accounts_in, is_account_name, are_distinct}
+use Rattle.kl1_model.specs.Line.{is_space, first_word, word_in, behind_word_in, is_blank_line, words_of}
+use Rattle.kl1_model.specs.Script.{accounts_in, is_account_name, are_distinct}
 use Rattle.kl1_script.specs.Accounts.{named}
 use Rattle.kl1_lines.proofs.WordFuel.{words_none, words_more}
 

@@ -3,7 +3,9 @@ use Rattle.std.specs.Prelude.{◌≡◌, ℕ, ◌<◌, List, [], ◌∷◌, ◌+
 use Rattle.std.specs.declared.option.Option.{Option}
 use Rattle.std.specs.declared.result.Result.{Result}
 use Rattle.std.specs.Io.KnownBytes.{Appends}
-use Rattle.kl1_model.specs.Script.{Record, line_in, behind_feed, words_of, accounts_in, records_of, written_from, output}
+use Rattle.kl1_model.specs.Line.{line_in, behind_feed, words_of}
+use Rattle.kl1_model.specs.Record.{Record, records_of}
+use Rattle.kl1_model.specs.Script.{accounts_in, written_from, output}
 use Rattle.kl1_lines.specs.Devices.{IsLeft, IsWhole, AppendsFront, PassesOn}
 use Rattle.kl1_lines.specs.declared.script_fault.ScriptFault.{ScriptFault}
 use Rattle.kl1_lines.specs.declared.script_fault.ScriptFault.TheVariants as faults

@@ -1,7 +1,7 @@
 use Rattle.std.proofs.Common.{◌<◌, arith}
 use Rattle.kl1_model.specs.Module.{read_goal}
 use Rattle.kl1_script.proofs.Starts.{out_of_order, too_great}
-use Rattle.kl1_script.proofs.command.start_command.Goals as goal
+use Rattle.kl1_script.proofs.parsed.start_of.Goals as goal
 
 pub returns-then-low-high : goal.returns-then-low-high
 returns-then-low-high c =
