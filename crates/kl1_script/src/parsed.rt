@@ -70,9 +70,7 @@ fn parse_value(rest: &[u8]) -> Parsed
     ensures { parsed_view result ≡ command_by asks_value rest.now }
 {
     match only_number(rest) {
-        Some(shoen) => {
-            Parsed::Command(Command::Does(Event::Read(Query::Value(ShoenNo(shoen)))))
-        }
+        Some(shoen) => { Parsed::Command(Command::Does(Event::Read(Query::Value(ShoenNo(shoen))))) }
         None => Parsed::Refused,
     }
 }

@@ -28,11 +28,7 @@ pub fn put_reply_of(out: &mut Vec<u8>, account: &[u8], reply: &Reply) -> Result<
 }
 
 /// Puts all lines of a reply after the bytes, or none.
-fn put_whole(
-    out: &mut Vec<u8>,
-    account: Option<&[u8]>,
-    reply: &Reply,
-) -> Result<(), AllocError>
+fn put_whole(out: &mut Vec<u8>, account: Option<&[u8]>, reply: &Reply) -> Result<(), AllocError>
     ensures ok { OnOk result (out.new.items ≡ out.old.items ++ written_after (option_map (λ name. name.now) account.entry) (reply_lines (reply_of reply.now))) }
     ensures err { OnErr result (out.new.items ≡ out.old.items) }
 {
@@ -47,11 +43,7 @@ fn put_whole(
 }
 
 /// Puts the lines of a reply after the bytes. After an `Err` some of them may be there.
-fn put_lines(
-    out: &mut Vec<u8>,
-    account: Option<&[u8]>,
-    reply: &Reply,
-) -> Result<(), AllocError>
+fn put_lines(out: &mut Vec<u8>, account: Option<&[u8]>, reply: &Reply) -> Result<(), AllocError>
     ensures ok { OnOk result (out.new.items ≡ out.old.items ++ written_after (option_map (λ name. name.now) account.entry) (reply_lines (reply_of reply.now))) }
     ensures kept { take (length out.old.items) out.new.items ≡ out.old.items }
 {
