@@ -20,6 +20,7 @@ pub mod Reduction
 pub mod Opening
 pub mod Step
 pub mod Choice
+pub mod Waits
 pub mod Command
 pub mod Script
 pub mod Examples

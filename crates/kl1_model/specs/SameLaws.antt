@@ -2,11 +2,8 @@
 use Rattle.std.specs.Prelude.{◌≡◌, ℕ, List, [], map}
 use Rattle.std.specs.List.{AllByRecursion}
 use Rattle.kl1_model.specs.Term.{Term, variable, substituted}
+use Rattle.kl1_model.specs.Waits.{LeavesEach}
 use Rattle.kl1_model.specs.Same.{same, differs, unknown, passive, awaited, passive_each, awaited_by}
-
--- a substitution leaves each of these variables as it is
-abbrev pub LeavesEach : (ℕ → Term) → List ℕ → Type 0
-LeavesEach s vs = AllByRecursion (λ v. s v ≡ variable v) vs
 
 -- terms after a substitution
 abbrev pub all_substituted : (ℕ → Term) → List Term → List Term
