@@ -1,3 +1,4 @@
+pub mod Limits
 pub mod Text
 pub mod Name
 pub mod Term
