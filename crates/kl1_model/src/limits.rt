@@ -3,9 +3,6 @@
 /// The most bytes of a name.
 pub const MOST_NAME_BYTES: usize = 63;
 
-/// The words of 64 bits that hold a name.
-pub const NAME_WORDS: usize = 8;
-
 /// The most arguments of a structure.
 pub const MOST_ARGUMENTS: usize = 8;
 
