@@ -61,4 +61,4 @@ pub const FIRST_NUMBER: u32 = 64;
 pub const MOST_NAMES: usize = 1_024;
 
 /// The buckets of a table of names, for each account.
-pub const BUCKETS: usize = 2_048;
+pub const BUCKETS_EACH: u64 = 2_048;
