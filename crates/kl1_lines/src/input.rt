@@ -14,7 +14,7 @@ use std::alloc::Global;
 /// The most bytes of one read.
 const PIECE: usize = 16_384;
 
-/// Reads once, at most so many bytes, and puts them behind the others. Answers how many.
+/// Reads once, at most so many bytes, and puts them after the others. Answers how many.
 fn read_piece<S: Source>(
     source: &mut S,
     bytes: &mut Vec<u8>,

@@ -1,7 +1,6 @@
 //! The bytes of scripts: records, lines, words and numbers, and the streams that give and take them.
 #![tactic(auto)]
 
-mod bytes;
 mod counted;
 mod input;
 mod lines;

@@ -6,7 +6,6 @@ ghost use Rattle.kl1_model.specs.Line.{number_in, up_to, only_number};
 ghost use Rattle.kl1_model.specs.Record.{source_bytes_in};
 ghost use Rattle.kl1_model.specs.Token.{is_digit};
 
-use crate::bytes::is_digit;
 use crate::lines::is_blank_line;
 use crate::words::{is_same, split_word};
 use kl1_model::limits::{MOST_COMMAND_BYTES, MOST_DIGITS, MOST_SOURCE_BYTES, NUMBER_LIMIT};
@@ -25,6 +24,13 @@ pub fn number_in(word: &[u8]) -> Option<u64>
     } else {
         None
     }
+}
+
+/// Whether a byte is a decimal digit.
+fn is_digit(byte: u8) -> bool
+    ensures { result ≡ is_digit byte }
+{
+    b'0' <= byte && byte <= b'9'
 }
 
 /// Whether bytes are decimal digits alone.

@@ -69,7 +69,7 @@ abbrev pub stopped_by : State → ℕ → Refusal → Stepped
 stopped_by s zero r = refuse s r
 stopped_by s (suc n) r = record { state = s; reply = ran (suc n) }
 
--- goes on behind a step, unless it was refused
+-- goes on after a step, unless it was refused
 abbrev pub run_on : Going → State → ℕ → State → Reply → Stepped
 run_on next before n after (refused r) = stopped_by before n r
 run_on next before n after reply = next (suc n) after
@@ -79,7 +79,7 @@ abbrev pub run_choice : Going → State → ℕ → Option Chosen → Stepped
 run_choice next s n None = record { state = s; reply = ran n }
 run_choice next s n (Some c) = let done = step s (reduce c.goal c.clause) in run_on next s n done.state done.reply
 
--- first steps, one after another, at most so many and until none can step or one is refused, behind those done before
+-- first steps, one after another, at most so many and until none can step or one is refused, after those done before
 abbrev pub run_from : ℕ → ℕ → State → Stepped
 run_from zero n s = record { state = s; reply = ran n }
 run_from (suc k) n s = run_choice (run_from k) s n (first s)

@@ -21,15 +21,11 @@ pub mod Reduction
 pub mod Opening
 pub mod Step
 pub mod Choice
+pub mod Waits
 pub mod Line
 pub mod Record
 pub mod Command
 pub mod Script
-pub mod Examples
 pub mod UnifyLaws
-pub mod AccountRows
 pub mod ReadLaws
-pub mod ReadRows
-pub mod ReadFaults
 pub mod Same
-pub mod SameLaws

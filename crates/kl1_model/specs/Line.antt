@@ -9,7 +9,7 @@ abbrev pub before_feed : List ℕ → List ℕ
 before_feed [] = []
 before_feed (b ∷ bs) = elim (b == 10) [ true ↦ [] | false ↦ b ∷ before_feed bs ]
 
--- what is behind the first line feed
+-- what is after the first line feed
 abbrev pub behind_feed : List ℕ → List ℕ
 behind_feed [] = []
 behind_feed (b ∷ bs) = elim (b == 10) [ true ↦ bs | false ↦ behind_feed bs ]
@@ -29,7 +29,7 @@ abbrev pub before_space : List ℕ → List ℕ
 before_space [] = []
 before_space (b ∷ bs) = elim (b == 32) [ true ↦ [] | false ↦ b ∷ before_space bs ]
 
--- the bytes behind the first space
+-- the bytes after the first space
 abbrev pub behind_space : List ℕ → List ℕ
 behind_space [] = []
 behind_space (b ∷ bs) = elim (b == 32) [ true ↦ bs | false ↦ behind_space bs ]
@@ -44,7 +44,7 @@ first_word before [] = before
 first_word [] (b ∷ bs) = elim (is_space b) [ true ↦ first_word [] bs | false ↦ first_word (b ∷ []) bs ]
 first_word (a ∷ before) (b ∷ bs) = elim (is_space b) [ true ↦ a ∷ before | false ↦ first_word (a ∷ before ++ b ∷ []) bs ]
 
--- what is behind the first word, where the test tells whether bytes of it have been seen
+-- what is after the first word, where the test tells whether bytes of it have been seen
 abbrev pub behind_first : Bool → List ℕ → List ℕ
 behind_first begun [] = []
 behind_first false (b ∷ bs) = elim (is_space b) [ true ↦ behind_first false bs | false ↦ behind_first true bs ]
@@ -54,7 +54,7 @@ behind_first true (b ∷ bs) = elim (is_space b) [ true ↦ b ∷ bs | false ↦
 abbrev pub word_in : List ℕ → List ℕ
 word_in line = first_word [] line
 
--- what is behind the first word of a line
+-- what is after the first word of a line
 abbrev pub behind_word_in : List ℕ → List ℕ
 behind_word_in line = behind_first false line
 

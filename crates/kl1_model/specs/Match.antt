@@ -5,18 +5,19 @@ use Rattle.std.specs.Ordering.{int_eq}
 use Rattle.kl1_model.specs.Term.{Term, variable, integer, atom, structure, Terms, none, more, count_of, Replacement}
 use Rattle.kl1_model.specs.Module.{Clause, Module, is_of}
 
--- what comes of a comparison: it agrees, it clashes, or it waits for a variable
+-- what comes of a comparison: it agrees, it clashes, or it waits for variables
 pub data Outcome : Type 0 where
   agrees : Outcome
   clashes : Outcome
-  waits : Outcome
+  waits : List ℕ → Outcome
 
--- the outcome of two parts: a clash anywhere outweighs a wait
+-- the outcome of two parts: a clash anywhere outweighs a wait, and two that wait do so for the variables of both
 abbrev pub both : Outcome → Outcome → Outcome
 both agrees o = o
 both clashes o = clashes
-both waits clashes = clashes
-both waits o = waits
+both (waits vs) agrees = waits vs
+both (waits vs) clashes = clashes
+both (waits vs) (waits ws) = waits (vs ++ ws)
 
 -- whether two constants agree or clash
 abbrev pub decided : Bool → Outcome
@@ -41,13 +42,13 @@ abbrev mutual
   pub match_term : Term → Term → Matched
   match_term (variable v) t = record { outcome = agrees; places = record { number = v; by = t } ∷ [] }
   match_term (integer i) (integer j) = with_outcome (decided (int_eq i j))
-  match_term (integer i) (variable w) = with_outcome waits
+  match_term (integer i) (variable w) = with_outcome (waits (w ∷ []))
   match_term (integer i) t = with_outcome clashes
   match_term (atom a) (atom b) = with_outcome (decided (bytes_eq a b))
-  match_term (atom a) (variable w) = with_outcome waits
+  match_term (atom a) (variable w) = with_outcome (waits (w ∷ []))
   match_term (atom a) t = with_outcome clashes
   match_term (structure f ps) (structure g ts) = if bytes_eq f g && count_of ps == count_of ts then match_terms ps ts else with_outcome clashes
-  match_term (structure f ps) (variable w) = with_outcome waits
+  match_term (structure f ps) (variable w) = with_outcome (waits (w ∷ []))
   match_term (structure f ps) t = with_outcome clashes
 
   pub match_terms : Terms → Terms → Matched
@@ -64,17 +65,18 @@ abbrev pub tests_outcome : List Replacement → List Term → Outcome
 tests_outcome places [] = agrees
 tests_outcome places (t ∷ ts) = both (test_outcome places t) (tests_outcome places ts)
 
--- the verdict on a clause: it accepts the goal, with the terms of its head's variables, or rejects it, or suspends
+-- the verdict on a clause: it accepts the goal, with the terms of its head's variables, or rejects it, or suspends until
+-- one of these variables is bound
 pub data Verdict : Type 0 where
   accepts : List Replacement → Verdict
   rejects : Verdict
-  suspends : Verdict
+  suspends : List ℕ → Verdict
 
 -- the verdict that an outcome leads to
 abbrev pub verdict_with : List Replacement → Outcome → Verdict
 verdict_with places agrees = accepts places
 verdict_with places clashes = rejects
-verdict_with places waits = suspends
+verdict_with places (waits vs) = suspends vs
 
 -- the verdict by match and tests together
 abbrev pub verdict_of : List Term → Matched → Verdict

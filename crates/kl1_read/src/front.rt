@@ -14,10 +14,8 @@ use crate::quotes::quoted;
 use crate::signs::{sign_at, spelling_of};
 use crate::spelled::Spelled;
 use crate::words::{behind_comment, behind_digits, behind_word, digits_of, word_of};
+use kl1_model::limits::NUMBER_LIMIT;
 use kl1_text::{AtomText, decimal_up_to};
-
-/// The most that digits write, which only a negative integer reaches.
-const MOST_MAGNITUDE: u64 = 1 << 63;
 
 /// What stands in front of a text, with what is behind it.
 pub(crate) enum Front<'a> {
@@ -113,7 +111,7 @@ fn digits_front<'a>(first: u8, bytes: &'a [u8], rest: &'a [u8]) -> Front<'a>
     ensures { front_view result ≡ digits_front (model.number_of (first ∷ digits_of rest.now)) (behind_digits rest.now) }
 {
     let behind = behind_digits(rest);
-    match decimal_up_to(MOST_MAGNITUDE, digits_of(first, bytes, rest)) {
+    match decimal_up_to(NUMBER_LIMIT, digits_of(first, bytes, rest)) {
         None => Front::Broken,
         Some(number) => Front::Token(Spelled::Digits(number), behind),
     }

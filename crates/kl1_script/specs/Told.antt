@@ -5,7 +5,7 @@ use Rattle.kl1_model.specs.Command.{command_of, reply_lines, written_line}
 use Rattle.kl1_model.specs.Record.{Record}
 use Rattle.kl1_model.specs.Script.{is_served, done_by, written_reply}
 
--- the account that is served behind a record
+-- the account that is served after a record
 abbrev pub state_by : List (List ℕ) → State → Record → State
 state_by accounts s r = if is_served accounts r.name then (done_by s (command_of r.request)).state else s
 

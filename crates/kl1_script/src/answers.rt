@@ -26,7 +26,7 @@ fn is_served(accounts: &[AccountName], name: &[u8]) -> bool
     }
 }
 
-/// Does the command of a record, and puts what is written for it behind the bytes. After an `Err` the bytes are as they
+/// Does the command of a record, and puts what is written for it after the bytes. After an `Err` the bytes are as they
 /// were, and a run's first steps may be done.
 pub(crate) fn put_record(
     alloc: Global,
@@ -50,7 +50,7 @@ pub(crate) fn put_record(
     }
 }
 
-/// Does a command, and puts its reply behind the bytes.
+/// Does a command, and puts its reply after the bytes.
 fn put_performed(
     user: &mut UserState,
     command: &Command,

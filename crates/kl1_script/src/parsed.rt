@@ -94,6 +94,7 @@ fn parse_start(alloc: Global, rest: &[u8]) -> Result<Parsed, AllocError>
     start_of(alloc, allowance, low, high, goal)
 }
 
+#[tactic(auto, using(crate::proofs::Starts::out_of_order, crate::proofs::Starts::too_great))]
 /// The start of the goal that bytes are, if the priorities are a range and there is one.
 fn start_of(
     alloc: Global,

@@ -108,7 +108,7 @@ fn answer_each<W: Sink>(
     }
 }
 
-/// Does the command of a record, and puts what is written for it behind the bytes that wait, which are written where they
+/// Does the command of a record, and puts what is written for it after the bytes that wait, which are written where they
 /// are many, or where memory is refused.
 fn answer_record<W: Sink>(
     alloc: Global,

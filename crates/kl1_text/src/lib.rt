@@ -1,4 +1,4 @@
-//! The names of the language as values: texts of at most 63 bytes, and what may stand in their place.
+//! The names of the language as values: texts of at most 63 bytes, and what may stand in their place; numbers from digits.
 #![tactic(auto)]
 
 mod atom_no;

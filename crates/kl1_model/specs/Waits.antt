@@ -1,0 +1,53 @@
+-- What a goal waits for: the variables of which a change may change what it can do.
+use Rattle.std.specs.Prelude.{◌≡◌, ℕ, if◌then◌else◌, List, [], ◌∷◌, ◌++◌, codes, bytes_eq, find, Option, Some, None, is_some}
+use Rattle.std.specs.List.{AllByRecursion}
+use Rattle.kl1_model.specs.Term.{Term, variable, atom, structure, Terms, none, more}
+use Rattle.kl1_model.specs.Module.{Clause, Module}
+use Rattle.kl1_model.specs.Match.{Verdict, accepts, rejects, suspends, verdict, Call, call_of, clauses_of}
+use Rattle.kl1_model.specs.Reduction.{Move, term_move}
+use Rattle.kl1_model.specs.Choice.{call_clauses}
+
+-- what a term can do by the clause of a number
+abbrev pub move_by : List Module → Term → ℕ → Option Move
+move_by modules t clause = term_move modules t clause (call_of t)
+
+-- the clause by which a term can step: the least that is allowed
+abbrev pub term_clause : List Module → Term → Option ℕ
+term_clause modules t = find (λ clause. is_some (move_by modules t clause)) (0 ∷ call_clauses modules (call_of t))
+
+-- the variables that clauses wait for from this one on: a clause that accepts ends the search for the least, one that
+-- rejects does so for good, and one that suspends may yet come to accept
+abbrev pub awaited_after : Verdict → List ℕ → List ℕ
+awaited_after (accepts places) later = []
+awaited_after rejects later = later
+awaited_after (suspends vs) later = vs ++ later
+
+-- the variables that clauses wait for, up to the first that accepts
+abbrev pub awaited_by_clauses : List Clause → Terms → List ℕ
+awaited_by_clauses [] ts = []
+awaited_by_clauses (c ∷ cs) ts = awaited_after (verdict c ts) (awaited_by_clauses cs ts)
+
+-- the variables that a call waits for
+abbrev pub awaited_by_call : List Module → Option Call → List ℕ
+awaited_by_call modules None = []
+awaited_by_call modules (Some call) = awaited_by_clauses (clauses_of modules call) call.arguments
+
+-- the variable on which it depends what is called in a module
+abbrev pub awaited_in_call : Term → Term → List ℕ
+awaited_in_call (variable m) b = m ∷ []
+awaited_in_call (atom m) (variable p) = p ∷ []
+awaited_in_call a b = []
+
+-- the variable on which it depends what goal a term is
+abbrev pub awaited_at_head : Term → List ℕ
+awaited_at_head (variable v) = v ∷ []
+awaited_at_head (structure f (more a (more b none))) = if bytes_eq f (codes ":") then awaited_in_call a b else []
+awaited_at_head t = []
+
+-- the variables that a term waits for as a goal
+abbrev pub awaited_by_term : List Module → Term → List ℕ
+awaited_by_term modules t = awaited_at_head t ++ awaited_by_call modules (call_of t)
+
+-- a substitution leaves each of these variables as it is
+abbrev pub LeavesEach : (ℕ → Term) → List ℕ → Type 0
+LeavesEach s vs = AllByRecursion (λ v. s v ≡ variable v) vs
