@@ -5,3 +5,4 @@ pub mod examples;
 pub mod reading;
 pub mod same;
 pub mod unification;
+pub mod waits;

@@ -11,3 +11,6 @@ pub mod LexSteps
 pub mod ReadSteps
 pub mod Clashes
 pub mod SameEach
+pub mod LeastClause
+pub mod VerdictStays
+pub mod TermStays

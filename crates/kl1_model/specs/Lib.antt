@@ -24,6 +24,7 @@ pub mod Choice
 pub mod Waits
 pub mod Line
 pub mod Record
+pub mod WaitsLaws
 pub mod Command
 pub mod Script
 pub mod UnifyLaws
