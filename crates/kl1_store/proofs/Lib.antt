@@ -7,7 +7,6 @@ pub mod Rooms
 pub mod Lists
 pub mod Walking
 pub mod Meetings
-pub mod Numbered
 pub mod Advancing
 pub mod Levelling
 pub mod Lifting
