@@ -1,15 +1,15 @@
 -- Equations with equal sides are dropped.
-use Rattle.std.proofs.Common.{◌≡◌, ℕ, ◌==◌, IsTrue, List, ◌∷◌, refl, sym, ◌∙◌, subst, eq-eqb}
+use Rattle.std.proofs.Common.{◌≡◌, ◌==◌, List, ◌∷◌, refl, ◌∙◌, subst, eq-eqb}
 use Rattle.std.proofs.lemmas.Bool.{cond-true}
 use Rattle.std.proofs.lemmas.Bool.Decides.{Decides-int_eq}
 use Rattle.std.proofs.lemmas.Slice.Eq.{bytes_eq-Decides}
 use Rattle.std.specs.Prelude.{bytes_eq}
 use Rattle.std.specs.Ordering.{int_eq}
-use Rattle.kl1_model.specs.Term.{Term, same_term, variable, integer, atom, structure, Terms, none, more}
-use Rattle.kl1_model.specs.Unify.{Equation, argument_equations, goes_on, solve_to, solve}
-use Rattle.kl1_model.specs.UnifyLaws.{equate, AllNumberedTo, EqualSidesAreDropped}
+use Rattle.kl1_model.specs.Term.{Term, variable, integer, atom, structure, Terms, none, more}
+use Rattle.kl1_model.specs.Unify.{Equation, argument_equations, goes_on, solve}
+use Rattle.kl1_model.specs.UnifyLaws.{equate, EqualSidesAreDropped}
 use Rattle.kl1_model.proofs.TermFacts.{same_term-true}
-use Rattle.kl1_model.proofs.UnifyRule.{stepped, any_bound_serves}
+use Rattle.kl1_model.proofs.UnifyRule.{stepped}
 use Rattle.kl1_model.proofs.UnifySteps.{arguments_decide}
 
 mutual
@@ -28,7 +28,3 @@ pub equal_sides_dropped : EqualSidesAreDropped
 equal_sides_dropped e es same =
     let q : e.left ≡ e.right = same_term-true e.left e.right same in
     subst (λ x. solve (equate e.left x ∷ es) ≡ solve es) q (dropped e.left es)
-
--- the same by one bound on the numbers
-pub equal_sides_dropped_to : (last : ℕ) (e : Equation) (es : List Equation) → IsTrue (same_term e.left e.right) → AllNumberedTo last (e ∷ es) → solve_to last (e ∷ es) ≡ solve_to last es
-equal_sides_dropped_to last e es same h = any_bound_serves last (e ∷ es) h ∙ equal_sides_dropped e es same ∙ sym (any_bound_serves last es h.1)
