@@ -19,3 +19,5 @@ pub mod Grows
 pub mod Merging
 pub mod Nesting
 pub mod Equalling
+pub mod Chaining
+pub mod Telling

@@ -254,7 +254,6 @@ one_same built h l r x y one same = λ f reads. record {
   solves =
       ap solve (sym (same_equation f h l r x y one.left_means one.right_means))
       ∙ equal_sides_dropped (record { left = term_of f h x; right = term_of f h y }) [] ((same_term_decides (term_of f h x) (term_of f h y)).1 (same f))
-     
       ∙ nothing_solved;
   replacements = sym (append-nil (replacements f h));
 }
