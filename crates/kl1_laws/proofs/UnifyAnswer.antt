@@ -1,9 +1,10 @@
 -- What holds of equations and their answer, a solution or none: by induction on what the front equations led to.
 use Rattle.std.proofs.Common.{◌≡◌, ℕ, zero, suc, ◌<◌, ◌≤◌, false, List, [], ◌∷◌, Option, Some, None, option_map, arith, le_refl, le_trans, lt_of_lt_of_le}
 use Rattle.kl1_model.specs.Term.{Term, variable, structure, Terms, count_of, occurs, Replacement}
-use Rattle.kl1_model.specs.Unify.{Equation, argument_equations, front, replace_in_all, after, equations_size, walk, solve_within, solve}
+use Rattle.kl1_model.specs.Unify.{Equation, argument_equations, front, replace_in_all, after, equations_size, walk, solve_within, highest_among, solve}
 use Rattle.kl1_model.specs.UnifyLaws.{equate, bind, IsLower, AllNumberedTo}
 use Rattle.kl1_model.proofs.UnifyFront.{Clash, front_cases}
+use Rattle.kl1_model.proofs.Occurrences.{numbered_to_highest}
 use Rattle.kl1_model.proofs.UnifyRule.{Shrinks, Loses, shrinks_same, shrinks_arguments, loses_left, loses_right, variables_in, variables_most}
 
 -- what holds of equations and their answer, if it holds in each case
@@ -41,8 +42,9 @@ solve_answers P c last (suc n) es h v =
     walk_answers P c last (variables_in last es) (solve_within n) (λ to t l. solve_answers P c last n to t (omega arith)) (suc (equations_size es)) es h (omega arith) (le_refl (variables_in last es))
 
 -- what holds in each case holds of the answer
-pub holds_of_answer : (P : List Equation → Option (List Replacement) → Type 0) → HoldsOfEachAnswer P → (last : ℕ) (es : List Equation) → AllNumberedTo last es → P es (solve last es)
-holds_of_answer P c last es h =
+pub holds_of_answer : (P : List Equation → Option (List Replacement) → Type 0) → HoldsOfEachAnswer P → (es : List Equation) → P es (solve es)
+holds_of_answer P c es =
+    let last = highest_among es in
     let l = variables_most last es in
     let k : variables_in last es < suc (suc last) = omega arith in
-    solve_answers P c last (suc (suc last)) es h k
+    solve_answers P c last (suc (suc last)) es (numbered_to_highest es) k

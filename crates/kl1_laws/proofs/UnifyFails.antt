@@ -30,11 +30,11 @@ found s = record {
 
 -- where there is no solution, nothing makes all sides equal
 pub failure_leaves_none : FailureLeavesNone
-failure_leaves_none last es h e s m =
-    let k : is_some (solve last es) ≡ true = holds_of_answer (Found s) (found s) last es h m in
-    let q : is_some (solve last es) ≡ false = ap is_some e in
+failure_leaves_none es e s m =
+    let k : is_some (solve es) ≡ true = holds_of_answer (Found s) (found s) es m in
+    let q : is_some (solve es) ≡ false = ap is_some e in
     cc
 
 -- nor do replacements
 pub failure_leaves_no_replacements : FailureLeavesNoReplacements
-failure_leaves_no_replacements last es h e rs m = failure_leaves_none last es h e (values_of rs) (MakesEqual-same (replaced rs) (substituted (values_of rs)) es (replaced_is rs) m)
+failure_leaves_no_replacements es e rs m = failure_leaves_none es e (values_of rs) (MakesEqual-same (replaced rs) (substituted (values_of rs)) es (replaced_is rs) m)

@@ -76,7 +76,7 @@ orderly = record {
 
 -- no number comes back
 pub replaced_once : ReplacedOnce
-replaced_once last es rs e = (holds_of_solution Orderly orderly last es rs e).1
+replaced_once es rs e = (holds_of_solution Orderly orderly es rs e).1
 
 -- what later replacements avoid does not come back
 avoided : (v : ℕ) (rs : List Replacement) (t : Term) → Avoids v rs → occurs v t ≡ false → occurs v (replaced rs t) ≡ false
@@ -89,7 +89,7 @@ all_gone (r ∷ rs) o n t = (avoided r.number rs (replace r.number r.by t) n.0 (
 
 -- what a solution replaces occurs no longer after it
 pub replaced_are_gone : ReplacedAreGone
-replaced_are_gone last es rs e = all_gone rs (replaced_by_lower last es rs e) (replaced_once last es rs e)
+replaced_are_gone es rs e = all_gone rs (replaced_by_lower es rs e) (replaced_once es rs e)
 
 -- replacements numbered up to the last, where the equations are
 abbrev KeepsNumbers : ℕ → List Equation → List Replacement → Type 0
@@ -106,7 +106,7 @@ keeps_numbers last = record {
 
 -- a solution has no higher numbers than the equations
 pub solutions_keep_numbers : SolutionsKeepNumbers
-solutions_keep_numbers last es rs h e = holds_of_solution (KeepsNumbers last) (keeps_numbers last) last es rs e h
+solutions_keep_numbers last es rs h e = holds_of_solution (KeepsNumbers last) (keeps_numbers last) es rs e h
 
 -- ---- most general
 
@@ -131,13 +131,13 @@ most_general s = record {
 
 -- what makes all sides equal is the same after a solution
 pub solutions_are_most_general : SolutionsAreMostGeneral
-solutions_are_most_general last es rs e s = holds_of_solution (MostGeneral s) (most_general s) last es rs e
+solutions_are_most_general es rs e s = holds_of_solution (MostGeneral s) (most_general s) es rs e
 
 -- the same of replacements
 pub none_more_general : NoReplacementsAreMoreGeneral
-none_more_general last es rs others e h t =
+none_more_general es rs others e h t =
     replaced_is others (replaced rs t)
-    ∙ solutions_are_most_general last es rs e (values_of others) (MakesEqual-same (replaced others) (substituted (values_of others)) es (replaced_is others) h) t
+    ∙ solutions_are_most_general es rs e (values_of others) (MakesEqual-same (replaced others) (substituted (values_of others)) es (replaced_is others) h) t
     ∙ sym (replaced_is others t)
 
 -- ---- none
@@ -149,4 +149,4 @@ none_if_never (Some x) h = absurd (h x refl)
 
 -- equations that no replacements make equal have no solution
 pub none_where_none_unify : NoneWhereNoneUnify
-none_where_none_unify last es h = none_if_never (solve last es) (λ rs e. h rs (solutions_make_equal last es rs e))
+none_where_none_unify es h = none_if_never (solve es) (λ rs e. h rs (solutions_make_equal es rs e))

@@ -2,7 +2,7 @@
 use Rattle.std.proofs.Common.{◌≡◌, ℕ, zero, suc, false, List, [], ◌∷◌, Option, Some, None, option_map, IfSome, subst}
 use Rattle.std.proofs.lemmas.Option.{IfSome_then}
 use Rattle.kl1_model.specs.Term.{Term, variable, structure, Terms, count_of, occurs, Replacement}
-use Rattle.kl1_model.specs.Unify.{Equation, argument_equations, replace_in_all, after, equations_size, walk, solve_within, solve}
+use Rattle.kl1_model.specs.Unify.{Equation, argument_equations, replace_in_all, after, equations_size, walk, solve_within, highest_among, solve}
 use Rattle.kl1_model.specs.UnifyLaws.{equate, bind, IsLower}
 use Rattle.kl1_model.proofs.UnifyFront.{front_cases}
 
@@ -38,5 +38,5 @@ solve_holds P c zero es = tt
 solve_holds P c (suc n) es = walk_holds P c (solve_within n) (solve_holds P c n) (suc (equations_size es)) es
 
 -- what holds in each case holds of a solution
-pub holds_of_solution : (P : List Equation → List Replacement → Type 0) → HoldsInEachCase P → (last : ℕ) (es : List Equation) (rs : List Replacement) → solve last es ≡ Some rs → P es rs
-holds_of_solution P c last es rs e = subst (λ o. IfSome o (P es)) e (solve_holds P c (suc (suc last)) es)
+pub holds_of_solution : (P : List Equation → List Replacement → Type 0) → HoldsInEachCase P → (es : List Equation) (rs : List Replacement) → solve es ≡ Some rs → P es rs
+holds_of_solution P c es rs e = subst (λ o. IfSome o (P es)) e (solve_holds P c (suc (suc (highest_among es))) es)

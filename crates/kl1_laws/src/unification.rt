@@ -1,11 +1,12 @@
-//! Laws of unification; `last` is the highest number that a variable of the equations may have.
-ghost use Rattle.kl1_model.specs.UnifyLaws.{NothingIsSolved, FrontDecides, FrontKeepsNumbers, AnyBoundServes, SameTermDecides, EqualSidesAreDropped, SolutionsMakeEqual, ReplacedByLower, ReplacedOnce, ReplacedAreGone, SolutionsKeepNumbers, FailureLeavesNone, FailureLeavesNoReplacements, SolutionsAreMostGeneral, NoReplacementsAreMoreGeneral, ConstantsClash, NeverInItself, NeverInItselfLater, HigherTakesLower, LowerStays, BothSidesGive, RestIsReplaced, NamesClash, LengthsClash, InnerArgumentsGive, RestFollows, ArgumentsDecide, LeftTakesRight, RightTakesLeft, NoneWhereNoneUnify, SolvedByDerivation, DerivationsAgree};
+//! Laws of unification.
+ghost use Rattle.kl1_model.specs.UnifyLaws.{NothingIsSolved, FrontDecides, FrontKeepsNumbers, HighestIsABound, AnyBoundServes, SameTermDecides, EqualSidesAreDropped, SolutionsMakeEqual, ReplacedByLower, ReplacedOnce, ReplacedAreGone, SolutionsKeepNumbers, FailureLeavesNone, FailureLeavesNoReplacements, SolutionsAreMostGeneral, NoReplacementsAreMoreGeneral, ConstantsClash, NeverInItself, NeverInItselfLater, HigherTakesLower, LowerStays, BothSidesGive, RestIsReplaced, NamesClash, LengthsClash, InnerArgumentsGive, RestFollows, ArgumentsDecide, LeftTakesRight, RightTakesLeft, NoneWhereNoneUnify, SolvedByDerivation, DerivationsAgree};
 
 /// Equations are solved by what their front equation leads to, whatever the fuel; any bound on the numbers serves.
 pub fn unification_has_no_fuel()
     ensures nothing { NothingIsSolved }
     ensures front { FrontDecides }
     ensures numbers { FrontKeepsNumbers }
+    ensures highest { HighestIsABound }
     ensures bound { AnyBoundServes }
 {}
 

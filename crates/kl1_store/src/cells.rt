@@ -62,6 +62,14 @@ impl<N: NameValue> Cells<N> {
         }
     }
 
+    /// How many variables there are.
+    #[inline]
+    pub fn variables(&self) -> usize
+        ensures { result ≡ self.now.held.variables }
+    {
+        self.slots.len()
+    }
+
     /// A new variable, unbound.
     pub fn fresh(&mut self) -> Result<u32, AllocError>
         ensures ok { IfOk result (λ v. (v ≡ self.old.held.variables) × (self.new.held ≡ with_variable self.old.held)) }
