@@ -102,6 +102,24 @@ impl<N: NameValue> Store<N> {
         self.cells.build(name, arguments)
     }
 
+    /// A new structure of two arguments: its number.
+    pub fn build_pair(
+        &mut self,
+        name: N,
+        first: Cell<N>,
+        second: Cell<N>,
+    ) -> Result<u32, AllocError>
+        requires { AreIn self.old.held (first ∷ second ∷ []) }
+        ensures ok { IfOk result (λ s. (s ≡ length self.old.held.structures) × (self.new.held ≡ with_structure self.old.held name (first ∷ second ∷ []))) }
+        ensures err { OnErr result (self.new.held ≡ self.old.held) }
+        ensures room { 0 < self.old.room.structures → 2 ≤ self.old.room.arguments → IsOk result }
+        ensures spends { Spends self.old.room self.new.room 0 1 2 0 }
+        ensures hooks { self.new.hooks ≡ self.old.hooks }
+        ensures hook_room { self.new.hook_room ≡ self.old.hook_room }
+    {
+        self.cells.build_pair(name, first, second)
+    }
+
     /// The cell that a cell stands for: what its variable was bound to, and so on.
     pub fn walk(&self, cell: Cell<N>) -> Cell<N>
         requires { IsIn self.now.held cell }
