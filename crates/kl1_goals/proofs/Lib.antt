@@ -1,0 +1,5 @@
+pub mod Orders
+pub mod Changing
+pub mod Ranking
+pub mod Shoens
+pub mod Tabling

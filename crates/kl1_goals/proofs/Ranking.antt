@@ -1,0 +1,144 @@
+-- The first place of the queue is the first goal.
+use Rattle.std.proofs.Common.{◌≡◌, ℕ, zero, suc, ◌+◌, ◌<◌, ◌≤◌, ◌==◌, ◌&&◌, ◌||◌, Bool, true, false, cond, nat_lt, List, [], ◌∷◌, Option, Some, None, option_map, is_some, length, get_or, map, refl, sym, ◌∙◌, ap, subst, arith}
+use Rattle.std.specs.List.{list_any}
+use Rattle.std.proofs.lemmas.Bool.{false≢true, lt-ltb, le-ltb}
+use Rattle.kl1_queue.specs.Ranks.{rank_of, AreNone, IsFirst}
+use Rattle.kl1_goals.specs.declared.goal.Goal.{Goal}
+use Rattle.kl1_goals.specs.declared.slot.Slot.{Slot}
+use Rattle.kl1_goals.specs.Readies.{Ready, goes_first, stands, ready_by, ready_of, better, first_from}
+use Rattle.kl1_goals.specs.Tables.{Ascend}
+use Rattle.kl1_goals.specs.Slots.{goals_in, numbers_of, rank_in}
+use Rattle.kl1_goals.proofs.Changing.{field_read}
+
+-- what a rank says of a place
+rank_some : (b : Bool) (o : Option ℕ) (p c : ℕ) → b ≡ true → o ≡ Some c → rank_of (cond (b && is_some o) (Some p) None) ≡ p + 1
+rank_some b o p c e f = rw (e, f) refl
+
+standing_none : (b : Bool) (o : Option ℕ) (p : ℕ) → rank_of (cond (b && is_some o) (Some p) None) ≡ 0 → b ≡ true → o ≡ None
+standing_none true None p z e = refl
+standing_none true (Some c) p z e = absurd (omega (arith, z))
+standing_none false o p z e = absurd (false≢true e)
+
+ranked_held : (b : Bool) (o : Option ℕ) (p : ℕ) → 0 < rank_of (cond (b && is_some o) (Some p) None) → (b ≡ true) × (is_some o ≡ true)
+ranked_held true None p h = absurd (omega (arith, h))
+ranked_held true (Some c) p h = (refl, refl)
+ranked_held false o p h = absurd (omega (arith, h))
+
+pub rank_held : {N : Type 0} (s : Slot N) (c : ℕ) → s.is_held ≡ true → s.goal.standing ≡ Some c → rank_in s ≡ s.goal.priority + 1
+rank_held s c = rank_some s.is_held s.goal.standing s.goal.priority c
+
+-- a place that is ready has a goal that can step
+pub ready_held : {N : Type 0} (s : Slot N) → 0 < rank_in s → (s.is_held ≡ true) × (is_some s.goal.standing ≡ true)
+ready_held s h = ranked_held s.is_held s.goal.standing s.goal.priority h
+
+better_none : (best : Option Ready) → better best None ≡ best
+better_none None = refl
+better_none (Some b) = refl
+
+-- goals that can't step change nothing
+quiet_on : {N : Type 0} (best : Option Ready) (b : Bool) (g : Goal N) (gs : List (Goal N)) → (b ≡ true → g.standing ≡ None) → first_from best (cond b (g ∷ gs) gs) ≡ first_from best gs
+quiet_on best false g gs h = refl
+quiet_on best true g gs h = rw (h refl) (ap (λ r. first_from r gs) (better_none best))
+
+pub none_first : {N : Type 0} (best : Option Ready) (ss : List (Slot N)) → AreNone (map rank_in ss) → first_from best (goals_in ss) ≡ best
+none_first best [] a = refl
+none_first best (s ∷ ss) a = quiet_on best s.is_held s.goal (goals_in ss) (standing_none s.is_held s.goal.standing s.goal.priority (a 0)) ∙ none_first best ss (λ j. a (suc j))
+
+any_on : {N : Type 0} (b : Bool) (g : Goal N) (gs : List (Goal N)) → (b ≡ true → g.standing ≡ None) → list_any stands (cond b (g ∷ gs) gs) ≡ list_any stands gs
+any_on false g gs h = refl
+any_on true g gs h = rw (h refl) refl
+
+pub none_any : {N : Type 0} (ss : List (Slot N)) → AreNone (map rank_in ss) → list_any stands (goals_in ss) ≡ false
+none_any [] a = refl
+none_any (s ∷ ss) a = any_on s.is_held s.goal (goals_in ss) (standing_none s.is_held s.goal.standing s.goal.priority (a 0)) ∙ none_any ss (λ j. a (suc j))
+
+or_true : (b : Bool) → (b || true) ≡ true
+or_true false = refl
+or_true true = refl
+
+any_after : {N : Type 0} (b : Bool) (g : Goal N) (gs : List (Goal N)) → list_any stands gs ≡ true → list_any stands (cond b (g ∷ gs) gs) ≡ true
+any_after false g gs e = e
+any_after true g gs e = rw e (or_true (stands g))
+
+any_here : {N : Type 0} (b : Bool) (g : Goal N) (gs : List (Goal N)) → b ≡ true → stands g ≡ true → list_any stands (cond b (g ∷ gs) gs) ≡ true
+any_here b g gs e f = rw (e, f) refl
+
+pub some_any : {N : Type 0} (ss : List (Slot N)) (k : ℕ) → 0 < get_or (map rank_in ss) k 0 → list_any stands (goals_in ss) ≡ true
+some_any [] k h = absurd (omega (arith, h))
+some_any (s ∷ ss) zero h = let r = ready_held s h in any_here s.is_held s.goal (goals_in ss) r.0 r.1
+some_any (s ∷ ss) (suc k) h = any_after s.is_held s.goal (goals_in ss) (some_any ss k h)
+
+-- a goal of no greater priority and a greater number doesn't go first
+and_false : (b : Bool) → (b && false) ≡ false
+and_false false = refl
+and_false true = refl
+
+not_first : (a b : Ready) → a.priority ≤ b.priority → b.goal < a.goal → goes_first a b ≡ false
+not_first a b p q = rw (le-ltb b.priority a.priority p, le-ltb a.goal b.goal (omega arith)) (and_false (a.priority == b.priority))
+
+stays : (a b : Ready) → goes_first a b ≡ false → better (Some b) (Some a) ≡ Some b
+stays a b e = rw e refl
+
+-- what is the first so far has a lesser priority
+abbrev pub IsLess : Option Ready → ℕ → Type 0
+IsLess None p = Unit {0}
+IsLess (Some b) p = b.priority < p
+
+overtakes : (best : Option Ready) (a : Ready) → IsLess best a.priority → better best (Some a) ≡ Some a
+overtakes None a h = refl
+overtakes (Some b) a h = rw (lt-ltb b.priority a.priority h) refl
+
+kept_on : {N : Type 0} (r : Ready) (b : Bool) (o : Option ℕ) (g : Goal N) (gs : List (Goal N)) → g.standing ≡ o → (b ≡ true → (c : ℕ) → o ≡ Some c → (g.priority ≤ r.priority) × (r.goal < g.number)) →
+    first_from (Some r) (cond b (g ∷ gs) gs) ≡ first_from (Some r) gs
+kept_on r false o g gs e h = refl
+kept_on r true None g gs e h = rw e refl
+kept_on r true (Some c) g gs e h = let k = h refl c refl in rw e (ap (λ best. first_from best gs) (stays (ready_by g c) r (not_first (ready_by g c) r k.0 k.1)))
+
+-- goals after the first
+first_stays : {N : Type 0} (r : Ready) (from : ℕ) (ss : List (Slot N)) → r.goal < from → Ascend from (numbers_of ss) → ((j : ℕ) → get_or (map rank_in ss) j 0 ≤ r.priority + 1) → first_from (Some r) (goals_in ss) ≡ Some r
+first_stays r from [] p a h = refl
+first_stays r from (s ∷ ss) p a h =
+    kept_on r s.is_held s.goal.standing s.goal (goals_in ss) refl (λ e c f. (omega (arith, h 0, rank_held s c e f), omega (arith, a.0)))
+    ∙ first_stays r (suc s.goal.number) ss (omega (arith, a.0)) a.1 (λ j. h (suc j))
+
+less_if : (t : Bool) (a b : Ready) (p : ℕ) → a.priority < p → b.priority < p → IsLess (cond t (Some a) (Some b)) p
+less_if true a b p q r = q
+less_if false a b p q r = r
+
+less_better : {N : Type 0} (best : Option Ready) (o : Option ℕ) (g : Goal N) (p : ℕ) → IsLess best p → ((c : ℕ) → o ≡ Some c → g.priority < p) → IsLess (better best (option_map (ready_by g) o)) p
+less_better None None g p h f = tt
+less_better (Some b) None g p h f = h
+less_better None (Some c) g p h f = f c refl
+less_better (Some b) (Some c) g p h f = less_if (goes_first (ready_by g c) b) (ready_by g c) b p (f c refl) h
+
+less_on : {N : Type 0} (best : Option Ready) (b : Bool) (g : Goal N) (p : ℕ) → IsLess best p → (b ≡ true → (c : ℕ) → g.standing ≡ Some c → g.priority < p) → IsLess (cond b (better best (ready_of g)) best) p
+less_on best false g p h f = h
+less_on best true g p h f = less_better best g.standing g p h (f refl)
+
+first_on : {N : Type 0} (best : Option Ready) (b : Bool) (g : Goal N) (gs : List (Goal N)) → first_from best (cond b (g ∷ gs) gs) ≡ first_from (cond b (better best (ready_of g)) best) gs
+first_on best false g gs = refl
+first_on best true g gs = refl
+
+first_here : {N : Type 0} (best : Option Ready) (b : Bool) (g : Goal N) (gs : List (Goal N)) (c : ℕ) → b ≡ true → g.standing ≡ Some c → IsLess best g.priority → first_from best (cond b (g ∷ gs) gs) ≡ first_from (Some (ready_by g c)) gs
+first_here best b g gs c e f h = rw (e, f) (ap (λ r. first_from r gs) (overtakes best (ready_by g c) h))
+
+-- the first of the places is the first of the goals
+pub first_at : {N : Type 0} (best : Option Ready) (from : ℕ) (ss : List (Slot N)) (k : ℕ) (s : Slot N) (c : ℕ) → Ascend from (numbers_of ss) → k < length ss → get_or ss k s ≡ s → s.is_held ≡ true → s.goal.standing ≡ Some c →
+    IsLess best s.goal.priority → ((j : ℕ) → get_or (map rank_in ss) j 0 ≤ s.goal.priority + 1) → ((j : ℕ) → j < k → get_or (map rank_in ss) j 0 < s.goal.priority + 1) → first_from best (goals_in ss) ≡ Some (ready_by s.goal c)
+first_at best from [] k s c a w e held stood less all before = absurd (omega arith)
+first_at {N = N} best from (t ∷ ss) zero s c a w e held stood less all before =
+    rw e (first_here best s.is_held s.goal (goals_in ss) c held stood less ∙ first_stays (ready_by s.goal c) (suc t.goal.number) ss (omega (arith, ap (λ (v : Slot N). v.goal.number) e)) a.1 (λ j. all (suc j)))
+first_at best from (t ∷ ss) (suc k) s c a w e held stood less all before =
+    let lower = less_on best t.is_held t.goal s.goal.priority less (λ h d f. omega (arith, before 0 (omega arith), rank_held t d h f)) in
+    first_on best t.is_held t.goal (goals_in ss)
+    ∙ first_at (cond t.is_held (better best (ready_of t.goal)) best) (suc t.goal.number) ss k s c a.1 (omega arith) e held stood lower (λ j. all (suc j)) (λ j p. before (suc j) (omega arith))
+
+pub picked : {N : Type 0} (ss : List (Slot N)) (ranks : List ℕ) (k : ℕ) (s : Slot N) (c : ℕ) → Ascend 0 (numbers_of ss) → ranks ≡ map rank_in ss → IsFirst ranks k → k < length ss → s ≡ get_or ss k s → s.goal.standing ≡ Some c →
+    first_from None (goals_in ss) ≡ Some (ready_by s.goal c)
+picked ss ranks k s c a r f w e stood =
+    let F : List ℕ → Type 0 = λ rs. IsFirst rs k in
+    let h = subst F r f in
+    let at = field_read rank_in ss k s w e in
+    let held = (ready_held s (omega (arith, at, h.ready))).0 in
+    let rank = rank_held s c held stood in
+    first_at None 0 ss k s c a w (sym e) held stood tt (λ j. omega (arith, h.greatest j, at, rank)) (λ j p. omega (arith, h.least j p, at, rank))

@@ -1,0 +1,85 @@
+-- A whole table.
+use Rattle.std.proofs.Common.{◌≡◌, ℕ, zero, suc, ◌+◌, ◌<◌, ◌≤◌, ◌==◌, not, Bool, true, false, cond, nat_lt, List, [], ◌∷◌, ◌++◌, Option, Some, None, IfSome, length, get_or, map, refl, sym, ◌∙◌, ap, subst, arith}
+use Rattle.std.specs.List.{filter, find}
+use Rattle.std.proofs.lemmas.Bool.{false≢true, ltb-true}
+use Rattle.kl1_goals.specs.declared.goal.Goal.{Goal}
+use Rattle.kl1_goals.specs.declared.slot.Slot.{Slot}
+use Rattle.kl1_goals.specs.declared.tally.Tally.{Tally}
+use Rattle.kl1_goals.specs.Lists.{has_number, is_other, is_after, stood_by}
+use Rattle.kl1_goals.specs.Tables.{IsKnown}
+use Rattle.kl1_goals.specs.Slots.{goals_in, level_in, AreLow}
+use Rattle.kl1_goals.specs.Tallies.{nothing, tally_at, IsTally, IsTable}
+use Rattle.kl1_goals.proofs.Shoens.{opened_tally, shoen_known}
+
+nothing_at : (n : ℕ) → tally_at [] n ≡ nothing
+nothing_at zero = refl
+nothing_at (suc n) = refl
+
+pub empty_table : {N : Type 0} → IsTable {N = N} [] 0 [] []
+empty_table {N = N} =
+    let empty : (n : ℕ) → IsTally {N = N} n [] nothing = λ n. record { goals = refl; monitor = refl } in
+    record { slots = record { ascend = tt; low = tt; ranked = refl; counted = refl }; tallied = λ n. rw (nothing_at n) (empty n) }
+
+pub opened_table : {N : Type 0} (ss : List (Slot N)) (empty : ℕ) (ranks : List ℕ) (ts : List Tally) → IsTable ss empty ranks ts → IsTable ss empty ranks (ts ++ nothing ∷ [])
+opened_table ss empty ranks ts h = record { slots = h.slots; tallied = λ n. rw (opened_tally ts n) (h.tallied n) }
+
+-- a goal that was found passes the test
+some_on : {N : Type 0} (p : Goal N → Bool) (b : Bool) (h g : Goal N) (o : Option (Goal N)) → p h ≡ b → cond b (Some h) o ≡ Some g → (o ≡ Some g → p g ≡ true) → p g ≡ true
+some_on p true h g o e f rest = let k : h ≡ g = cc in ap p (sym k) ∙ e
+some_on p false h g o e f rest = rest f
+
+pub found_passes : {N : Type 0} (p : Goal N → Bool) (gs : List (Goal N)) (g : Goal N) → find p gs ≡ Some g → p g ≡ true
+found_passes p [] g e = absurd (cc)
+found_passes p (h ∷ gs) g e = some_on p (p h) h g (find p gs) refl e (found_passes p gs g)
+
+longer : {N : Type 0} (b : Bool) (g : Goal N) (gs : List (Goal N)) → length gs ≤ length (cond b (g ∷ gs) gs)
+longer false g gs = omega arith
+longer true g gs = omega arith
+
+counts_on : {N : Type 0} (q p : Goal N → Bool) (b : Bool) (h g : Goal N) (gs : List (Goal N)) → cond b (Some h) (find q gs) ≡ Some g → p g ≡ true → (find q gs ≡ Some g → 0 < length (filter p gs)) → 0 < length (filter p (h ∷ gs))
+counts_on q p true h g gs f e rest = let k : h ≡ g = cc in rw (ap p k ∙ e) (omega arith)
+counts_on q p false h g gs f e rest = omega (arith, rest f, longer (p h) h (filter p gs))
+
+-- a goal that was found counts
+pub found_counts : {N : Type 0} (q p : Goal N → Bool) (gs : List (Goal N)) (g : Goal N) → find q gs ≡ Some g → p g ≡ true → 0 < length (filter p gs)
+found_counts q p [] g f e = absurd (cc)
+found_counts q p (h ∷ gs) g f e = counts_on q p (q h) h g gs f e (λ k. found_counts q p gs g k e)
+
+low_goal_on : {N : Type 0} (q : Goal N → Bool) (c : Bool) (h g : Goal N) (gs : List (Goal N)) → h.priority ≤ 4096 → cond c (Some h) (find q gs) ≡ Some g → (find q gs ≡ Some g → g.priority ≤ 4096) → g.priority ≤ 4096
+low_goal_on {N = N} q true h g gs p f rest = let k : h ≡ g = cc in omega (arith, p, ap (λ (v : Goal N). v.priority) k)
+low_goal_on q false h g gs p f rest = rest f
+
+low_slot_on : {N : Type 0} (q : Goal N → Bool) (b : Bool) (h g : Goal N) (gs : List (Goal N)) → h.priority ≤ 4096 → find q (cond b (h ∷ gs) gs) ≡ Some g → (find q gs ≡ Some g → g.priority ≤ 4096) → g.priority ≤ 4096
+low_slot_on q false h g gs p f rest = rest f
+low_slot_on q true h g gs p f rest = low_goal_on q (q h) h g gs p f rest
+
+found_low : {N : Type 0} (q : Goal N → Bool) (ss : List (Slot N)) (g : Goal N) → AreLow (map level_in ss) → find q (goals_in ss) ≡ Some g → g.priority ≤ 4096
+found_low q [] g a f = absurd (cc)
+found_low q (s ∷ ss) g a f = low_slot_on q s.is_held s.goal g (goals_in ss) a.0 f (found_low q ss g a.1)
+
+-- what is known of a goal that was found
+pub known_found : {N : Type 0} (q : Goal N → Bool) (ss : List (Slot N)) (empty : ℕ) (ranks : List ℕ) (ts : List Tally) (g : Goal N) → IsTable ss empty ranks ts → find q (goals_in ss) ≡ Some g → IsKnown g (length ts)
+known_found q ss empty ranks ts g h f =
+    let k = shoen_known g (goals_in ss) ts (λ p e. found_counts q p (goals_in ss) g f e) h.tallied in
+    record { low = k.0; high = k.1; priority = found_low q ss g h.slots.low f }
+
+pub known_if : {N : Type 0} (q : Goal N → Bool) (ss : List (Slot N)) (empty : ℕ) (ranks : List ℕ) (ts : List Tally) (o : Option (Goal N)) → IsTable ss empty ranks ts → o ≡ find q (goals_in ss) → IfSome o (λ g. IsKnown g (length ts))
+known_if q ss empty ranks ts None h e = tt
+known_if q ss empty ranks ts (Some g) h e = known_found q ss empty ranks ts g h (sym e)
+
+pub after_if : {N : Type 0} (n : ℕ) (gs : List (Goal N)) (o : Option (Goal N)) → o ≡ find (is_after n) gs → IfSome o (λ g. n < g.number)
+after_if n gs None e = tt
+after_if n gs (Some g) e = ltb-true n g.number (found_passes (is_after n) gs g (sym e))
+
+-- a number that no goal has
+missing_head : {N : Type 0} (b : Bool) (g : Goal N) (o : Option (Goal N)) → cond b (Some g) o ≡ None → (b ≡ false) × (o ≡ None)
+missing_head true g o e = absurd (cc)
+missing_head false g o e = (refl, e)
+
+pub missing_others : {N : Type 0} (n : ℕ) (gs : List (Goal N)) → find (has_number n) gs ≡ None → filter (is_other n) gs ≡ gs
+missing_others n [] e = refl
+missing_others n (g ∷ gs) e = let m = missing_head (g.number == n) g (find (has_number n) gs) e in rw m.0 (ap (λ l. g ∷ l) (missing_others n gs m.1))
+
+pub missing_stood : {N : Type 0} (n : ℕ) (clause : Option ℕ) (gs : List (Goal N)) → find (has_number n) gs ≡ None → map (stood_by n clause) gs ≡ gs
+missing_stood n clause [] e = refl
+missing_stood n clause (g ∷ gs) e = let m = missing_head (g.number == n) g (find (has_number n) gs) e in rw m.0 (ap (λ l. g ∷ l) (missing_stood n clause gs m.1))

@@ -1,0 +1,61 @@
+use Rattle.std.proofs.Common.{◌≡◌, ◌≤◌, true, None, Some, set, length, sym, ◌∙◌, ap, subst, arith, List, ℕ, Option}
+use Rattle.std.proofs.lemmas.List.{length-map}
+use Rattle.kl1_queue.specs.Ranks.{Queued, rank_of}
+use Rattle.kl1_goals.specs.declared.slot.Slot.{Slot}
+use Rattle.kl1_goals.specs.Slots.{level_in, priority_in}
+use Rattle.kl1_goals.proofs.Orders.{low_at}
+use Rattle.kl1_goals.proofs.Changing.{same_read, field_read, slots_stood, stood_at, standing_by, priority_low}
+use Rattle.kl1_goals.proofs.places.stand.Goals as goal
+
+pub priority-requires : goal.priority-requires
+priority-requires g c =
+    let ss = c.args.slots.now.items in
+    let h = c.requires.place.1 in
+    let x = c.index_mut-slot.result.now in
+    omega (arith, low_at _ c.args.place c.requires.slots.low (omega (arith, h.within, length-map ss (level_in {N = g.row.N.Denot}))), field_read level_in ss c.args.place x h.within c.index_mut-slot.ensures.value)
+
+pub put-requires-clause-priority : goal.put-requires-clause-priority
+put-requires-clause-priority g c =
+    let ss = c.args.slots.now.items in
+    let h = c.requires.place.1 in
+    let x = c.index_mut-slot.result.now in
+    let low = low_at _ c.args.place c.requires.slots.low (omega (arith, h.within, length-map ss (level_in {N = g.row.N.Denot}))) in
+    priority_low (record { goal = standing_by c.args.standing x.goal; is_held = x.is_held }) (Some c.in-Some.priority) (omega (arith, low, field_read level_in ss c.args.place x h.within c.index_mut-slot.ensures.value)) c.in-Some.ensures
+
+pub returns-in-None-clause-slots : goal.returns-in-None-clause-slots
+returns-in-None-clause-slots g c =
+    let ss = c.args.slots.now.items in
+    let h = c.requires.place.1 in
+    let x = c.index_mut-slot.result.now in
+    let value = c.index_mut-slot.ensures.value in
+    let held = ap (λ (v : Slot g.row.N.Denot). v.is_held) (same_read ss c.args.place x c.requires.place.0 h.within value h.at) ∙ h.held in
+    let rank = ap (λ (q : Queued). q.ranks) c.remove.ensures ∙ ap (λ r. set c.args.queue.now.ranks c.args.place (rank_of r)) c.in-None.ensures in
+    slots_stood ss c.args.place c.args.empty c.args.standing c.args.queue.now.ranks c.remove.new.self.ranks x c.requires.slots h.within (sym value) held rank
+
+pub returns-in-None-clause-goals : goal.returns-in-None-clause-goals
+returns-in-None-clause-goals g c = λ s h.
+    let ss = c.args.slots.now.items in
+    let x = c.index_mut-slot.result.now in
+    let value = c.index_mut-slot.ensures.value in
+    let e = same_read ss c.args.place x s h.within value h.at in
+    let held = ap (λ (v : Slot g.row.N.Denot). v.is_held) e ∙ h.held in
+    rw (← e) (stood_at 0 c.args.standing ss c.args.place x c.requires.slots.ascend h.within (sym value) held)
+
+pub returns-in-Some-clause-slots : goal.returns-in-Some-clause-slots
+returns-in-Some-clause-slots g c =
+    let ss = c.args.slots.now.items in
+    let h = c.requires.place.1 in
+    let x = c.index_mut-slot.result.now in
+    let value = c.index_mut-slot.ensures.value in
+    let held = ap (λ (v : Slot g.row.N.Denot). v.is_held) (same_read ss c.args.place x c.requires.place.0 h.within value h.at) ∙ h.held in
+    let rank = ap (λ (q : Queued). q.ranks) c.put.ensures ∙ ap (λ r. set c.args.queue.now.ranks c.args.place (rank_of r)) c.in-Some.ensures in
+    slots_stood ss c.args.place c.args.empty c.args.standing c.args.queue.now.ranks c.put.new.self.ranks x c.requires.slots h.within (sym value) held rank
+
+pub returns-in-Some-clause-goals : goal.returns-in-Some-clause-goals
+returns-in-Some-clause-goals g c = λ s h.
+    let ss = c.args.slots.now.items in
+    let x = c.index_mut-slot.result.now in
+    let value = c.index_mut-slot.ensures.value in
+    let e = same_read ss c.args.place x s h.within value h.at in
+    let held = ap (λ (v : Slot g.row.N.Denot). v.is_held) e ∙ h.held in
+    rw (← e) (stood_at 0 c.args.standing ss c.args.place x c.requires.slots.ascend h.within (sym value) held)

@@ -1,0 +1,5 @@
+pub mod Lists
+pub mod Readies
+pub mod Tables
+pub mod Slots
+pub mod Tallies

@@ -1,0 +1,42 @@
+-- Lists of goals, as they are kept.
+use Rattle.std.specs.Prelude.{◌≡◌, ℕ, ◌==◌, nat_lt, not, ◌&&◌, Bool, true, false, if◌then◌else◌, List, Option}
+use Rattle.kl1_goals.specs.declared.task.Task.{Task}
+use Rattle.kl1_goals.specs.declared.task.Task.TheVariants.{Monitor, Reduces}
+use Rattle.kl1_goals.specs.declared.goal.Goal.{Goal}
+
+-- whether a task is a monitor's
+abbrev pub is_monitor_task : {N : Type 0} → Task N → Bool
+is_monitor_task Monitor = true
+is_monitor_task (Reduces x) = false
+
+-- whether a goal is a monitor
+abbrev pub is_monitor : {N : Type 0} → Goal N → Bool
+is_monitor g = is_monitor_task g.task
+
+-- a goal's number
+abbrev pub number_of : {N : Type 0} → Goal N → ℕ
+number_of g = g.number
+
+-- whether a goal has a number
+abbrev pub has_number : {N : Type 0} → ℕ → Goal N → Bool
+has_number n g = g.number == n
+
+-- whether a goal has another number
+abbrev pub is_other : {N : Type 0} → ℕ → Goal N → Bool
+is_other n g = not (g.number == n)
+
+-- whether a goal has a greater number
+abbrev pub is_after : {N : Type 0} → ℕ → Goal N → Bool
+is_after n g = nat_lt n g.number
+
+-- whether a goal is the monitor of a shoen
+abbrev pub is_monitor_of : {N : Type 0} → ℕ → Goal N → Bool
+is_monitor_of n g = g.shoen == n && is_monitor g
+
+-- whether a goal is of a shoen, and not its monitor
+abbrev pub is_goal_of : {N : Type 0} → ℕ → Goal N → Bool
+is_goal_of n g = g.shoen == n && not (is_monitor g)
+
+-- a goal, which can step by this clause from now on if it has the number
+abbrev pub stood_by : {N : Type 0} → ℕ → Option ℕ → Goal N → Goal N
+stood_by n clause g = record g { standing = if g.number == n then clause else g.standing }

@@ -1,0 +1,29 @@
+// Goals.
+
+use crate::task::Task;
+
+ghost use Rattle.std.specs.Prelude.{◌≡◌};
+ghost use Rattle.kl1_goals.specs.Lists.{is_monitor};
+
+/// A goal: its number in the account, from 1, its task, the number of its shoen, its priority, 0 to 4,096, and the number of
+/// the clause by which it can step, as of the last change; none where it can't step.
+#[derive(Clone, Copy)]
+pub struct Goal<N> {
+    pub number: u64,
+    pub task: Task<N>,
+    pub shoen: u64,
+    pub priority: u64,
+    pub standing: Option<u64>,
+}
+
+impl<N> Goal<N> {
+    /// Whether it is a monitor.
+    pub fn is_monitor(&self) -> bool
+        ensures { result ≡ is_monitor self.now }
+    {
+        match self.task {
+            Task::Monitor => true,
+            Task::Reduces(_) => false,
+        }
+    }
+}

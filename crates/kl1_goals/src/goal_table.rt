@@ -1,0 +1,221 @@
+// The table of goals.
+
+ghost use Rattle.std.specs.Prelude.{◌≡◌, ◌+◌, ◌<◌, ◌≤◌, ℕ, not, List, [], ◌∷◌, ◌++◌, None, map, option_map, IfSome, OnOk};
+ghost use Rattle.std.specs.List.{filter, find, list_any};
+ghost use Rattle.kl1_goals.specs.Lists.{has_number, is_other, is_after, is_monitor_of, is_goal_of, stood_by};
+ghost use Rattle.kl1_goals.specs.Readies.{first_from, chosen, stands};
+ghost use Rattle.kl1_goals.specs.Tables.{Tabled, IsNext, IsKnown, AreInOrder};
+
+use crate::goal::Goal;
+use crate::places::{append, bury, count_upto, first_held, held_place, make_end, stand, tidy};
+use crate::slot::Slot;
+use crate::tally::{Tally, lower, raise, tally_of};
+use kl1_queue::ReadyQueue;
+use kl1_text::NameValue;
+use std::alloc::{AllocError, Global};
+use std::marker::Model;
+
+/// The goals of an account in order of number, each with the clause by which it can step, and its shoens, counted from 1.
+///
+/// A goal that is removed leaves its place empty; empty places are dropped where they come to more than half.
+#[derive(Drop)]
+pub struct GoalTable<N: NameValue> {
+    slots: Vec<Slot<N>>,
+    empty: usize,
+    queue: ReadyQueue,
+    tallies: Vec<Tally>,
+}
+
+impl<N: NameValue> Model for GoalTable<N> {
+    ghost use Rattle.std.specs.Prelude.{◌-◌, min, length, vec_len, vec_capacity};
+    ghost use Rattle.kl1_goals.specs.Tables.{Tabled};
+
+    ghost Value = { Tabled N };
+
+    ghost use Rattle.kl1_goals.specs.Slots.{goals_in};
+    ghost use Rattle.kl1_goals.specs.Tallies.{IsTable};
+
+    ghost view = { λ t. record {
+      goals = goals_in t.slots.items;
+      shoens = length t.tallies.items;
+      room = min (vec_capacity t.slots - vec_len t.slots) t.queue.room;
+      shoen_room = vec_capacity t.tallies - vec_len t.tallies;
+    } };
+
+    ghost invariant = { λ t. IsTable t.slots.items t.empty t.queue.ranks t.tallies.items };
+}
+
+impl<N: NameValue> GoalTable<N> {
+    /// A table without goals and shoens.
+    pub fn new(alloc: Global) -> Self
+        ensures goals { result.goals ≡ [] }
+        ensures shoens { result.shoens ≡ 0 }
+    {
+        GoalTable {
+            slots: Vec::new(alloc),
+            empty: 0,
+            queue: ReadyQueue::new(alloc),
+            tallies: Vec::new(alloc),
+        }
+    }
+
+    /// Makes room for so many more goals and shoens: to put and to open these can't be refused then.
+    pub fn reserve(&mut self, goals: usize, shoens: usize) -> Result<(), AllocError>
+        ensures room { OnOk result (goals ≤ self.new.room) }
+        ensures shoen_room { OnOk result (shoens ≤ self.new.shoen_room) }
+        ensures goals { self.new.goals ≡ self.old.goals }
+        ensures shoens { self.new.shoens ≡ self.old.shoens }
+        ensures more { self.old.room ≤ self.new.room }
+        ensures more_shoens { self.old.shoen_room ≤ self.new.shoen_room }
+    {
+        self.slots.reserve(goals)?;
+        self.queue.reserve(goals)?;
+        self.tallies.reserve(shoens)
+    }
+
+    /// One shoen more is known, without goals: its number is the next.
+    pub fn open(&mut self)
+        requires { 0 < self.old.shoen_room }
+        ensures goals { self.new.goals ≡ self.old.goals }
+        ensures shoens { self.new.shoens ≡ self.old.shoens + 1 }
+        ensures room { self.new.room ≡ self.old.room }
+        ensures shoen_room { self.new.shoen_room + 1 ≡ self.old.shoen_room }
+    {
+        self.tallies.push_reserved(Tally {
+            goals: 0,
+            monitor: None,
+        });
+    }
+
+    /// How many shoens are known.
+    pub fn shoens(&self) -> usize
+        ensures shoens { result ≡ self.now.shoens }
+        ensures order { AreInOrder self.now.goals }
+    {
+        self.tallies.len()
+    }
+
+    /// The goal of a number.
+    pub fn get(&self, number: u64) -> Option<Goal<N>>
+        ensures goal { result ≡ find (has_number number) self.now.goals }
+        ensures number { IfSome result (λ g. g.number ≡ number) }
+        ensures known { IfSome result (λ g. IsKnown g self.now.shoens) }
+        ensures order { AreInOrder self.now.goals }
+    {
+        match held_place(&self.slots, number) {
+            None => None,
+            Some(place) => Some(self.slots[place].goal),
+        }
+    }
+
+    /// The first goal with a number above this one.
+    pub fn after(&self, number: u64) -> Option<Goal<N>>
+        ensures goal { result ≡ find (is_after number) self.now.goals }
+        ensures number { IfSome result (λ g. number < g.number) }
+        ensures known { IfSome result (λ g. IsKnown g self.now.shoens) }
+        ensures order { AreInOrder self.now.goals }
+    {
+        let from = count_upto(&self.slots, number);
+        first_held(&self.slots, from)
+    }
+
+    /// Puts a goal after all others.
+    pub fn put(&mut self, goal: Goal<N>)
+        requires room { 0 < self.old.room }
+        requires next { IsNext goal self.old.goals self.old.shoens }
+        ensures goals { self.new.goals ≡ self.old.goals ++ goal ∷ [] }
+        ensures shoens { self.new.shoens ≡ self.old.shoens }
+        ensures room { self.old.room ≤ self.new.room + 1 }
+        ensures shoen_room { self.new.shoen_room ≡ self.old.shoen_room }
+    {
+        make_end(
+            &mut self.slots,
+            &mut self.empty,
+            &mut self.queue,
+            goal.number,
+        );
+        append(&mut self.slots, self.empty, &mut self.queue, goal);
+        raise(&mut self.tallies, &goal);
+    }
+
+    /// Removes the goal of a number, where there is one.
+    pub fn remove(&mut self, number: u64)
+        ensures goals { self.new.goals ≡ filter (is_other number) self.old.goals }
+        ensures shoens { self.new.shoens ≡ self.old.shoens }
+        ensures room { self.old.room ≤ self.new.room }
+        ensures shoen_room { self.new.shoen_room ≡ self.old.shoen_room }
+    {
+        match held_place(&self.slots, number) {
+            None => {}
+            Some(place) => {
+                let goal = self.slots[place].goal;
+                bury(&mut self.slots, &mut self.empty, &mut self.queue, place);
+                lower(&mut self.tallies, &goal);
+                tidy(&mut self.slots, &mut self.empty, &mut self.queue);
+            }
+        }
+    }
+
+    /// Removes the monitor of a shoen, where it has one.
+    pub fn remove_monitor(&mut self, shoen: u64)
+        ensures goals { self.new.goals ≡ filter (λ g. not (is_monitor_of shoen g)) self.old.goals }
+        ensures shoens { self.new.shoens ≡ self.old.shoens }
+        ensures room { self.old.room ≤ self.new.room }
+        ensures shoen_room { self.new.shoen_room ≡ self.old.shoen_room }
+    {
+        let tally = tally_of(&self.tallies, shoen);
+        match tally.monitor {
+            None => {}
+            Some(number) => self.remove(number),
+        }
+    }
+
+    /// From now on the goal of a number can step by this clause, or can't step.
+    pub fn set_standing(&mut self, number: u64, standing: Option<u64>)
+        ensures { self.new ≡ record self.old { goals = map (stood_by number standing) self.old.goals } }
+    {
+        match held_place(&self.slots, number) {
+            None => {}
+            Some(place) => stand(
+                &mut self.slots,
+                self.empty,
+                &mut self.queue,
+                place,
+                standing,
+            ),
+        }
+    }
+
+    /// Which goal goes first of those that can step, by the greatest priority, then by the least number, and its clause.
+    pub fn pick(&self) -> Option<(u64, u64)>
+        ensures { result ≡ option_map chosen (first_from None self.now.goals) }
+    {
+        match self.queue.first() {
+            None => None,
+            Some(place) => {
+                let goal = self.slots[place].goal;
+                match goal.standing {
+                    None => None,
+                    Some(clause) => Some((goal.number, clause)),
+                }
+            }
+        }
+    }
+
+    /// Whether a goal can step.
+    pub fn is_any_ready(&self) -> bool
+        ensures { result ≡ list_any stands self.now.goals }
+    {
+        match self.queue.first() {
+            None => false,
+            Some(_) => true,
+        }
+    }
+
+    /// Whether a shoen has a goal other than its monitor.
+    pub fn has_goal(&self, shoen: u64) -> bool
+        ensures { result ≡ list_any (is_goal_of shoen) self.now.goals }
+    {
+        tally_of(&self.tallies, shoen).goals > 0
+    }
+}

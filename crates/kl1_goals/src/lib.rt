@@ -1,0 +1,13 @@
+//! The goals of an account in order of number, and which of those that can step goes first.
+#![tactic(auto)]
+
+mod goal;
+mod goal_table;
+mod places;
+mod slot;
+mod tally;
+mod task;
+
+pub use goal::Goal;
+pub use goal_table::GoalTable;
+pub use task::Task;

@@ -1,0 +1,239 @@
+// The places of a table, in order of number, with the queue over them.
+
+ghost use Rattle.std.specs.Prelude.{◌≡◌, ◌+◌, ◌-◌, ◌<◌, ◌≤◌, ℕ, true, None, List, [], ◌∷◌, ◌++◌, length, map, drop, get_or, nat_lt, MatchOption, vec_len, vec_capacity};
+ghost use Rattle.std.specs.List.{filter, find};
+ghost use Rattle.kl1_goals.specs.Lists.{has_number, is_other, stood_by, number_of};
+ghost use Rattle.kl1_goals.specs.Tables.{Ascend, AreBefore};
+ghost use Rattle.kl1_goals.specs.Slots.{numbers_of, goals_in, first_of, rank_in, level_in, AreLow, AreBelow, IsCut, IsPlace, IsAbsent, AreSlots, IsHeldAt, IsWithout};
+
+use crate::goal::Goal;
+use crate::slot::Slot;
+use kl1_queue::ReadyQueue;
+use kl1_text::NameValue;
+
+/// A table of at most so many places isn't compacted.
+const FEW: usize = 32;
+
+/// How many places have this number or a lesser one.
+pub(crate) fn count_upto<N: NameValue>(slots: &Vec<Slot<N>>, number: u64) -> usize
+    requires { Ascend 0 (numbers_of slots.now.items) }
+    ensures { IsCut (numbers_of slots.now.items) number result }
+{
+    let mut low = 0;
+    let mut high = slots.len();
+    while low < high {
+        let middle = low + (high - low) / 2;
+        if slots[middle].goal.number <= number {
+            low = middle + 1;
+        } else {
+            high = middle;
+        }
+    }
+    low
+}
+
+/// The place of a number.
+fn place_of<N: NameValue>(slots: &Vec<Slot<N>>, number: u64) -> Option<usize>
+    requires { Ascend 0 (numbers_of slots.now.items) }
+    ensures { MatchOption result (IsAbsent (numbers_of slots.now.items) number) (λ k. IsPlace (numbers_of slots.now.items) number k) }
+{
+    let count = count_upto(slots, number);
+    if count == 0 {
+        return None;
+    }
+    let place = count - 1;
+    if slots[place].goal.number == number {
+        Some(place)
+    } else {
+        None
+    }
+}
+
+/// The place of a goal that is there.
+pub(crate) fn held_place<N: NameValue>(slots: &Vec<Slot<N>>, number: u64) -> Option<usize>
+    requires { Ascend 0 (numbers_of slots.now.items) }
+    ensures { MatchOption result (find (has_number number) (goals_in slots.now.items) ≡ None) (λ k. (s : Slot N) × IsHeldAt slots.now.items number k s) }
+{
+    match place_of(slots, number) {
+        None => None,
+        Some(place) => {
+            if slots[place].is_held {
+                Some(place)
+            } else {
+                None
+            }
+        }
+    }
+}
+
+/// The first goal from a place on.
+pub(crate) fn first_held<N: NameValue>(slots: &Vec<Slot<N>>, from: usize) -> Option<Goal<N>>
+    ensures { result ≡ first_of (goals_in (drop from slots.now.items)) }
+{
+    let mut place = from;
+    while place < slots.len() {
+        let slot = slots[place];
+        if slot.is_held {
+            return Some(slot.goal);
+        }
+        place += 1;
+    }
+    None
+}
+
+/// Puts a goal after all others.
+pub(crate) fn append<N: NameValue>(
+    slots: &mut Vec<Slot<N>>,
+    empty: usize,
+    queue: &mut ReadyQueue,
+    goal: Goal<N>,
+)
+    requires slots { AreSlots slots.old.items empty queue.old.ranks }
+    requires number { AreBelow goal.number (numbers_of slots.old.items) }
+    requires priority { goal.priority ≤ 4096 }
+    requires room { vec_len slots.old < vec_capacity slots.old }
+    requires queue_room { 0 < queue.old.room }
+    ensures slots { AreSlots slots.new.items empty queue.new.ranks }
+    ensures goals { goals_in slots.new.items ≡ goals_in slots.old.items ++ goal ∷ [] }
+    ensures len { vec_len slots.new ≡ vec_len slots.old + 1 }
+    ensures capacity { vec_capacity slots.new ≡ vec_capacity slots.old }
+    ensures rest { queue.new.room + 1 ≡ queue.old.room }
+{
+    let slot = Slot {
+        goal,
+        is_held: true,
+    };
+    slots.push_reserved(slot);
+    queue.extend(slot.priority());
+}
+
+/// Empties the place of a goal.
+pub(crate) fn bury<N: NameValue>(
+    slots: &mut Vec<Slot<N>>,
+    empty: &mut usize,
+    queue: &mut ReadyQueue,
+    place: usize,
+)
+    requires slots { AreSlots slots.old.items empty.old queue.old.ranks }
+    requires place { (s : Slot N) × IsHeldAt slots.old.items s.goal.number place s }
+    ensures slots { AreSlots slots.new.items empty.new queue.new.ranks }
+    ensures goals { (s : Slot N) → IsHeldAt slots.old.items s.goal.number place s → IsWithout s.goal (goals_in slots.old.items) (goals_in slots.new.items) }
+    ensures len { vec_len slots.new ≡ vec_len slots.old }
+    ensures capacity { vec_capacity slots.new ≡ vec_capacity slots.old }
+    ensures room { queue.new.room ≡ queue.old.room }
+{
+    slots[place].is_held = false;
+    queue.remove(place);
+    *empty += 1;
+}
+
+/// Gives a goal the clause by which it can step.
+pub(crate) fn stand<N: NameValue>(
+    slots: &mut Vec<Slot<N>>,
+    empty: usize,
+    queue: &mut ReadyQueue,
+    place: usize,
+    standing: Option<u64>,
+)
+    requires slots { AreSlots slots.old.items empty queue.old.ranks }
+    requires place { (s : Slot N) × IsHeldAt slots.old.items s.goal.number place s }
+    ensures slots { AreSlots slots.new.items empty queue.new.ranks }
+    ensures goals { (s : Slot N) → IsHeldAt slots.old.items s.goal.number place s → goals_in slots.new.items ≡ map (stood_by s.goal.number standing) (goals_in slots.old.items) }
+    ensures len { vec_len slots.new ≡ vec_len slots.old }
+    ensures capacity { vec_capacity slots.new ≡ vec_capacity slots.old }
+    ensures room { queue.new.room ≡ queue.old.room }
+{
+    let slot = &mut slots[place];
+    slot.goal.standing = standing;
+    match slot.priority() {
+        None => queue.remove(place),
+        Some(priority) => queue.put(place, priority),
+    }
+}
+
+/// Ranks places anew.
+fn rank_all<N: NameValue>(slots: &Vec<Slot<N>>, queue: &mut ReadyQueue)
+    requires room { length slots.now.items ≤ queue.old.room + length queue.old.ranks }
+    requires low { AreLow (map level_in slots.now.items) }
+    ensures ranks { queue.new.ranks ≡ map rank_in slots.now.items }
+    ensures room { queue.new.room + length queue.new.ranks ≡ queue.old.room + length queue.old.ranks }
+{
+    queue.clear();
+    for place in 0..slots.len() {
+        queue.extend(slots[place].priority());
+    }
+}
+
+/// Drops the empty places.
+pub(crate) fn compact<N: NameValue>(
+    slots: &mut Vec<Slot<N>>,
+    empty: &mut usize,
+    queue: &mut ReadyQueue,
+)
+    requires { AreSlots slots.old.items empty.old queue.old.ranks }
+    ensures slots { AreSlots slots.new.items empty.new queue.new.ranks }
+    ensures goals { goals_in slots.new.items ≡ goals_in slots.old.items }
+    ensures numbers { numbers_of slots.new.items ≡ map number_of (goals_in slots.old.items) }
+    ensures len { vec_len slots.new ≤ vec_len slots.old }
+    ensures capacity { vec_capacity slots.new ≡ vec_capacity slots.old }
+    ensures room { queue.old.room ≤ queue.new.room }
+{
+    slots.retain(|slot| slot.is_held);
+    *empty = 0;
+    rank_all(slots, queue);
+}
+
+/// Drops the empty places where they are more than half.
+pub(crate) fn tidy<N: NameValue>(
+    slots: &mut Vec<Slot<N>>,
+    empty: &mut usize,
+    queue: &mut ReadyQueue,
+)
+    requires { AreSlots slots.old.items empty.old queue.old.ranks }
+    ensures slots { AreSlots slots.new.items empty.new queue.new.ranks }
+    ensures goals { goals_in slots.new.items ≡ goals_in slots.old.items }
+    ensures len { vec_len slots.new ≤ vec_len slots.old }
+    ensures capacity { vec_capacity slots.new ≡ vec_capacity slots.old }
+    ensures room { queue.old.room ≤ queue.new.room }
+{
+    let count = slots.len();
+    if count <= FEW {
+        return;
+    }
+    if *empty > count / 2 {
+        compact(slots, empty, queue);
+    }
+}
+
+/// Whether all places have a lesser number.
+fn ends_before<N: NameValue>(slots: &Vec<Slot<N>>, number: u64) -> bool
+    requires { Ascend 0 (numbers_of slots.now.items) }
+    ensures { result ≡ true → AreBelow number (numbers_of slots.now.items) }
+{
+    let count = slots.len();
+    if count == 0 {
+        return true;
+    }
+    slots[count - 1].goal.number < number
+}
+
+/// Drops the empty places where one of them may have this number or a greater one.
+pub(crate) fn make_end<N: NameValue>(
+    slots: &mut Vec<Slot<N>>,
+    empty: &mut usize,
+    queue: &mut ReadyQueue,
+    number: u64,
+)
+    requires slots { AreSlots slots.old.items empty.old queue.old.ranks }
+    requires before { AreBefore number (goals_in slots.old.items) }
+    ensures slots { AreSlots slots.new.items empty.new queue.new.ranks }
+    ensures goals { goals_in slots.new.items ≡ goals_in slots.old.items }
+    ensures below { AreBelow number (numbers_of slots.new.items) }
+    ensures len { vec_len slots.new ≤ vec_len slots.old }
+    ensures capacity { vec_capacity slots.new ≡ vec_capacity slots.old }
+    ensures room { queue.old.room ≤ queue.new.room }
+{
+    if !ends_before(slots, number) {
+        compact(slots, empty, queue);
+    }
+}

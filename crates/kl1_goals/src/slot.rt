@@ -1,0 +1,30 @@
+// Places of a table.
+
+ghost use Rattle.std.specs.Prelude.{◌≡◌, ◌≤◌};
+ghost use Rattle.kl1_goals.specs.Slots.{priority_in};
+
+use crate::goal::Goal;
+use kl1_text::NameValue;
+
+/// A goal in a table; it is empty where the goal is gone, and only its number counts then.
+#[derive(Clone, Copy)]
+pub(crate) struct Slot<N> {
+    pub goal: Goal<N>,
+    pub is_held: bool,
+}
+
+impl<N: NameValue> Slot<N> {
+    /// The priority of the goal, where it is there and can step.
+    pub(crate) fn priority(&self) -> Option<u16>
+        requires { self.now.goal.priority ≤ 4096 }
+        ensures { result ≡ priority_in self.now }
+    {
+        if !self.is_held {
+            return None;
+        }
+        match self.goal.standing {
+            None => None,
+            Some(_) => Some(self.goal.priority as u16),
+        }
+    }
+}

@@ -1,0 +1,3 @@
+pub mod Climbing
+pub mod Descending
+pub mod Leaves
