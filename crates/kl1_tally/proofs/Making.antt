@@ -3,7 +3,9 @@ use Rattle.std.proofs.Common.{◌≡◌, ℕ, zero, suc, ◌+◌, ◌-◌, ◌<�
 use Rattle.kl1_tally.specs.declared.view.View.{View}
 use Rattle.kl1_tally.specs.Numbers.{up_from}
 use Rattle.atomic_table.specs.Seated.{TableId}
-use Rattle.kl1_tally.specs.Seats.{Book, new_book}
+use Rattle.kl1_tally.specs.Seats.{Book, Share, new_book, new_share}
+use Rattle.std.specs.Prelude.{All}
+use Rattle.std.proofs.lemmas.List.Elements.{All-nil, All-cons}
 use Rattle.kl1_tally.specs.Views.{view_of, whole, own_part, other_part, CanPart}
 use Rattle.kl1_tally.proofs.Numbers.{up_more}
 
@@ -61,3 +63,13 @@ pub books_more : (id : TableId) (account : ℕ) (books : List Book) (b : Book) �
 books_more id account books b are is =
     let z : 0 + account ≡ account = omega arith in
     ap (λ xs. xs ++ b ∷ []) are ∙ ap (λ x. map (new_book id) (up_from 0 account) ++ x ∷ []) (is ∙ ap (new_book id) (sym z)) ∙ sym (map_more (new_book id) (up_from 0 account) (0 + account)) ∙ ap (map (new_book id)) (sym (up_more 0 account))
+
+-- all new books are of their tally
+pub new_books_of : (id : TableId) (a n : ℕ) → All (λ (b : Book). b.tally ≡ id) (map (new_book id) (up_from a n))
+new_books_of id a zero = All-nil (λ (b : Book). b.tally ≡ id)
+new_books_of id a (suc n) = All-cons (λ (b : Book). b.tally ≡ id) (new_book id a) (map (new_book id) (up_from (a + 1) n)) refl (new_books_of id (a + 1) n)
+
+-- all new shares are of their tally
+pub new_shares_of : (id : TableId) (n : ℕ) → All (λ (s : Share). s.tally ≡ id) (replicate n (new_share id))
+new_shares_of id zero = All-nil (λ (s : Share). s.tally ≡ id)
+new_shares_of id (suc n) = All-cons (λ (s : Share). s.tally ≡ id) (new_share id) (replicate n (new_share id)) refl (new_shares_of id n)

@@ -1,6 +1,6 @@
 // Making the tally, and counting.
 
-ghost use Rattle.std.specs.Prelude.{◌≡◌, ℕ, ◌+◌, ◌<◌, ◌≤◌, ◌^◌, [], List, map, replicate, IfOk, OnOk, vec_len};
+ghost use Rattle.std.specs.Prelude.{◌≡◌, ℕ, ◌+◌, ◌<◌, ◌≤◌, ◌^◌, [], List, map, replicate, All, IfOk, OnOk, vec_len};
 ghost use Rattle.kl1_tally.specs.Numbers.{up_from};
 ghost use Rattle.kl1_tally.specs.Seats.{Parts, Book, Share, new_book, new_share, raised_book, raised_share};
 ghost use Rattle.kl1_tally.specs.Views.{view_of, whole, own_part, other_part, joint_view, CanPart};
@@ -84,6 +84,8 @@ impl Tally {
         ensures tally { IfOk result (λ made. (made.0.accounts ≡ accounts) × (made.0.shares ≡ shares)) }
         ensures books { IfOk result (λ made. made.1.items ≡ map (new_book made.0.id) (up_from 0 accounts)) }
         ensures shares { IfOk result (λ made. made.2.items ≡ replicate shares (new_share made.0.id)) }
+        ensures of { IfOk result (λ made. All (λ book. book.tally ≡ made.0.id) made.1.items × All (λ share. share.tally ≡ made.0.id) made.2.items) }
+        ensures counts { IfOk result (λ made. (vec_len made.1 ≡ accounts) × (vec_len made.2 ≡ shares)) }
     {
         let sizes = Sizes {
             accounts: accounts as u64,
@@ -111,6 +113,7 @@ impl Tally {
         ensures of { rest.new.table_id ≡ self.now.id }
         ensures rest { OnOk result (rest.new.me ≡ (view_of self.now.shares [] [] [], [])) }
         ensures books { IfOk result (λ books. books.items ≡ map (new_book self.now.id) (up_from 0 accounts)) }
+        ensures count { IfOk result (λ books. vec_len books ≡ accounts) }
     {
         let mut books = Vec::with_capacity(alloc, accounts)?;
         for account in 0..accounts {
@@ -131,6 +134,7 @@ impl Tally {
         requires of { rest.old.table_id ≡ self.now.id }
         requires left { rest.old.me ≡ (view_of shares [] [] [], []) }
         ensures shares { IfOk result (λ made. made.items ≡ replicate shares (new_share self.now.id)) }
+        ensures count { IfOk result (λ made. vec_len made ≡ shares) }
     {
         let mut made = Vec::with_capacity(alloc, shares)?;
         for _ in 0..shares {
