@@ -21,3 +21,4 @@ pub mod Spending
 pub mod Nested
 pub mod Merged
 pub mod Done
+pub mod Later

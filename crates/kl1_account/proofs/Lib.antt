@@ -1,0 +1,7 @@
+pub mod States
+pub mod Works
+pub mod Goals
+pub mod Reductions
+pub mod Streams
+pub mod Settling
+pub mod Waking

@@ -1,0 +1,162 @@
+-- States made of goals and shoens whose cells are read in one way or another.
+use Rattle.std.proofs.Common.{◌≡◌, ℕ, zero, suc, ◌+◌, ◌<◌, ◌≤◌, ◌==◌, if◌then◌else◌, List, [], ◌∷◌, length, map, refl, ap, ◌∙◌, arith, length-take}
+use Rattle.std.specs.Prelude.{Option, Some, None, option_map, slice_set}
+use Rattle.std.proofs.lemmas.Bool.{ne_eqb, eq-eqb}
+use Rattle.kl1_model.specs.Term.{Term, replace, Replacement, replaced}
+use Rattle.kl1_model.specs.State as model
+use Rattle.kl1_model.specs.State.{State, replace_in_goal, replace_in_shoen, replace_in_state, replace_all, shoen_at, change_shoen}
+use Rattle.kl1_text.specs.declared.cell_name.CellName.{CellName}
+use Rattle.kl1_store.specs.declared.cell.Cell.{Cell}
+use Rattle.kl1_store.specs.declared.cell.Cell.TheVariants.{Variable, Integer, Atom, Structure}
+use Rattle.kl1_store.specs.Held.{Held, IsIn}
+use Rattle.kl1_store.specs.Sound.{Grown}
+use Rattle.kl1_goals.specs.declared.task.Task.{Task}
+use Rattle.kl1_goals.specs.declared.task.Task.TheVariants.{Monitor, Reduces}
+use Rattle.kl1_goals.specs.declared.goal.Goal.{Goal}
+use Rattle.kl1_shoen.specs.declared.shoen.Origin.{Origin}
+use Rattle.kl1_shoen.specs.declared.shoen.Shoen.{Shoen}
+use Rattle.kl1_account.specs.Account.{Means, task_with, goal_with, origin_with, shoen_with, state_with}
+use Rattle.kl1_account.specs.Kept.{IsTaskIn, AreGoalsIn, IsOriginIn, IsShoenIn, AreShoensIn, AreNumbered}
+
+-- ---- one way of reading in place of another
+
+-- cells of a store are read in two ways as the same
+abbrev pub Agree : Held CellName → Means → Means → Type 0
+Agree h t u = (x : Cell CellName) → IsIn h x → t x ≡ u x
+
+same_goal : (h : Held CellName) (t u : Means) → Agree h t u → (g : Goal CellName) → IsTaskIn h g.task → goal_with t g ≡ goal_with u g
+same_goal h t u a g i = ap (λ (k : model.Task). let r : model.Goal = record { number = g.number; task = k; shoen = g.shoen; priority = g.priority } in r) (by_task g.task i)
+  where
+    by_task : (k : Task CellName) → IsTaskIn h k → task_with t k ≡ task_with u k
+    by_task Monitor i = refl
+    by_task (Reduces x) i = ap model.reduces (a x i)
+
+pub same_goals : (h : Held CellName) (t u : Means) → Agree h t u → (gs : List (Goal CellName)) → AreGoalsIn h gs → map (goal_with t) gs ≡ map (goal_with u) gs
+same_goals h t u a [] i = refl
+same_goals h t u a (g ∷ gs) i = ap (λ (k : model.Goal). k ∷ map (goal_with t) gs) (same_goal h t u a g i.0) ∙ ap (λ (ks : List model.Goal). goal_with u g ∷ ks) (same_goals h t u a gs i.1)
+
+same_origin : (h : Held CellName) (t u : Means) → Agree h t u → (o : Option (Origin CellName)) → IsOriginIn h o → option_map (origin_with t) o ≡ option_map (origin_with u) o
+same_origin h t u a None i = refl
+same_origin h t u a (Some o) i =
+    let one = a o.goal i.goal in
+    let two = a o.reports i.reports in
+    let three = a o.control i.control in
+    cc
+
+same_shoen : (h : Held CellName) (t u : Means) → Agree h t u → (s : Shoen CellName) → IsShoenIn h s → shoen_with t s ≡ shoen_with u s
+same_shoen h t u a s i =
+    let one = a s.control i.control in
+    let two = a s.tail i.tail in
+    let three = same_origin h t u a s.origin i.origin in
+    cc
+
+pub same_shoens : (h : Held CellName) (t u : Means) → Agree h t u → (ss : List (Shoen CellName)) → AreShoensIn h ss → map (shoen_with t) ss ≡ map (shoen_with u) ss
+same_shoens h t u a [] i = refl
+same_shoens h t u a (s ∷ ss) i = ap (λ (k : model.Shoen). k ∷ map (shoen_with t) ss) (same_shoen h t u a s i.0) ∙ ap (λ (ks : List model.Shoen). shoen_with u s ∷ ks) (same_shoens h t u a ss i.1)
+
+pub same_state : (s : State) (h : Held CellName) (t u : Means) (last : ℕ) (gs : List (Goal CellName)) (ss : List (Shoen CellName)) → Agree h t u → AreGoalsIn h gs → AreShoensIn h ss → state_with s t last gs ss ≡ state_with s u last gs ss
+same_state s h t u last gs ss a i j =
+    ap (λ (ks : List model.Goal). let r : State = record s { goals = ks; shoens = map (shoen_with t) ss; last_variable = last } in r) (same_goals h t u a gs i)
+    ∙ ap (λ (ks : List model.Shoen). let r : State = record s { goals = map (goal_with u) gs; shoens = ks; last_variable = last } in r) (same_shoens h t u a ss j)
+
+-- ---- replacements everywhere
+
+replaced_goals : (v : ℕ) (b : Term) (t : Means) (gs : List (Goal CellName)) → map (replace_in_goal v b) (map (goal_with t) gs) ≡ map (goal_with (λ x. replace v b (t x))) gs
+replaced_goals v b t [] = refl
+replaced_goals v b t (g ∷ gs) =
+    ap (λ (k : model.Task). let r : model.Goal = record { number = g.number; task = k; shoen = g.shoen; priority = g.priority } in r ∷ map (replace_in_goal v b) (map (goal_with t) gs)) (by_task g.task)
+    ∙ ap (λ (ks : List model.Goal). goal_with (λ x. replace v b (t x)) g ∷ ks) (replaced_goals v b t gs)
+  where
+    by_task : (k : Task CellName) → model.replace_in_task v b (task_with t k) ≡ task_with (λ x. replace v b (t x)) k
+    by_task Monitor = refl
+    by_task (Reduces x) = refl
+
+replaced_shoens : (v : ℕ) (b : Term) (t : Means) (ss : List (Shoen CellName)) → map (replace_in_shoen v b) (map (shoen_with t) ss) ≡ map (shoen_with (λ x. replace v b (t x))) ss
+replaced_shoens v b t [] = refl
+replaced_shoens v b t (s ∷ ss) =
+    ap (λ (o : Option model.Origin). let r : model.Shoen = record (shoen_with (λ x. replace v b (t x)) s) { origin = o } in r ∷ map (replace_in_shoen v b) (map (shoen_with t) ss)) (by_origin s.origin)
+    ∙ ap (λ (ks : List model.Shoen). shoen_with (λ x. replace v b (t x)) s ∷ ks) (replaced_shoens v b t ss)
+  where
+    by_origin : (o : Option (Origin CellName)) → option_map (model.replace_in_origin v b) (option_map (origin_with t) o) ≡ option_map (origin_with (λ x. replace v b (t x))) o
+    by_origin None = refl
+    by_origin (Some o) = refl
+
+pub replaced_state : (s : State) (v : ℕ) (b : Term) (t : Means) (last : ℕ) (gs : List (Goal CellName)) (ss : List (Shoen CellName)) → replace_in_state v b (state_with s t last gs ss) ≡ state_with s (λ x. replace v b (t x)) last gs ss
+replaced_state s v b t last gs ss =
+    ap (λ (ks : List model.Goal). let r : State = record s { goals = ks; shoens = map (replace_in_shoen v b) (map (shoen_with t) ss); last_variable = last } in r) (replaced_goals v b t gs)
+    ∙ ap (λ (ks : List model.Shoen). let r : State = record s { goals = map (goal_with (λ x. replace v b (t x))) gs; shoens = ks; last_variable = last } in r) (replaced_shoens v b t ss)
+
+pub all_replaced : (rs : List Replacement) (s : State) (t : Means) (last : ℕ) (gs : List (Goal CellName)) (ss : List (Shoen CellName)) → replace_all rs (state_with s t last gs ss) ≡ state_with s (λ x. replaced rs (t x)) last gs ss
+all_replaced [] s t last gs ss = refl
+all_replaced (r ∷ rs) s t last gs ss = ap (replace_all rs) (replaced_state s r.number r.by t last gs ss) ∙ all_replaced rs s (λ x. replace r.number r.by (t x)) last gs ss
+
+-- ---- the shoen at a place
+
+-- the shoen of a number is the one at its place
+pub found_at : (t : Means) (k i n : ℕ) (ss : List (Shoen CellName)) (s : Shoen CellName) → AreNumbered k ss → i < length ss → n ≡ suc (k + i) → s.number ≡ n → shoen_at n (map (shoen_with t) (slice_set ss i s)) ≡ Some (shoen_with t s)
+found_at t k i n [] s a lt e f = absurd (omega arith)
+found_at t k zero n (r ∷ ss) s a lt e f = ap (λ c. if c then Some (shoen_with t s) else shoen_at n (map (shoen_with t) ss)) (eq-eqb s.number n f)
+found_at t k (suc i) n (r ∷ ss) s a lt e f =
+    let m = a.0 in
+    ap (λ c. if c then Some (shoen_with t r) else shoen_at n (map (shoen_with t) (slice_set ss i s))) (ne_eqb r.number n (λ q. omega arith))
+    ∙ found_at t (suc k) i n ss s a.1 (omega arith) (omega arith) f
+
+-- a change of the shoen of a number
+abbrev pub changed_to : ℕ → (model.Shoen → model.Shoen) → List model.Shoen → List model.Shoen
+changed_to n change ss = map (λ h. if h.number == n then change h else h) ss
+
+unchanged : (t : Means) (change : model.Shoen → model.Shoen) (k n : ℕ) (ss : List (Shoen CellName)) → AreNumbered k ss → n ≤ k → changed_to n change (map (shoen_with t) ss) ≡ map (shoen_with t) ss
+unchanged t change k n [] a le = refl
+unchanged t change k n (r ∷ ss) a le =
+    let m = a.0 in
+    ap (λ c. (if c then change (shoen_with t r) else shoen_with t r) ∷ changed_to n change (map (shoen_with t) ss)) (ne_eqb r.number n (λ q. omega arith))
+    ∙ ap (λ (xs : List model.Shoen). shoen_with t r ∷ xs) (unchanged t change (suc k) n ss a.1 (omega arith))
+
+pub changed_at : (t : Means) (change : model.Shoen → model.Shoen) (k i n : ℕ) (ss : List (Shoen CellName)) (s r : Shoen CellName) → AreNumbered k ss → i < length ss → n ≡ suc (k + i) → s.number ≡ n → change (shoen_with t s) ≡ shoen_with t r →
+    changed_to n change (map (shoen_with t) (slice_set ss i s)) ≡ map (shoen_with t) (slice_set ss i r)
+changed_at t change k i n [] s r a lt e f c = absurd (omega arith)
+changed_at t change k zero n (q ∷ ss) s r a lt e f c =
+    ap (λ b. (if b then change (shoen_with t s) else shoen_with t s) ∷ changed_to n change (map (shoen_with t) ss)) (eq-eqb s.number n f)
+    ∙ ap (λ (x : model.Shoen). x ∷ changed_to n change (map (shoen_with t) ss)) c
+    ∙ ap (λ (xs : List model.Shoen). shoen_with t r ∷ xs) (unchanged t change (suc k) n ss a.1 (omega arith))
+changed_at t change k (suc i) n (q ∷ ss) s r a lt e f c =
+    let m = a.0 in
+    ap (λ b. (if b then change (shoen_with t q) else shoen_with t q) ∷ changed_to n change (map (shoen_with t) (slice_set ss i s))) (ne_eqb q.number n (λ z. omega arith))
+    ∙ ap (λ (xs : List model.Shoen). shoen_with t q ∷ xs) (changed_at t change (suc k) i n ss s r a.1 (omega arith) (omega arith) f c)
+
+-- ---- cells of a store that has grown
+
+pub in_grown : (h k : Held CellName) → Grown h k → (x : Cell CellName) → IsIn h x → IsIn k x
+in_grown h k g (Variable v) i = let le = g.variables in omega arith
+in_grown h k g (Structure s) i = let e = ap length g.structures in omega (arith, e, length-take (length h.structures) k.structures)
+in_grown h k g (Integer n) i = tt
+in_grown h k g (Atom a) i = tt
+
+pub goals_grown : (h k : Held CellName) → Grown h k → (gs : List (Goal CellName)) → AreGoalsIn h gs → AreGoalsIn k gs
+goals_grown h k g [] i = tt
+goals_grown h k g (x ∷ gs) i = (by_task x.task i.0, goals_grown h k g gs i.1)
+  where
+    by_task : (t : Task CellName) → IsTaskIn h t → IsTaskIn k t
+    by_task Monitor i = tt
+    by_task (Reduces c) i = in_grown h k g c i
+
+pub shoen_grown : (h k : Held CellName) → Grown h k → (s : Shoen CellName) → IsShoenIn h s → IsShoenIn k s
+shoen_grown h k g s i = record { control = in_grown h k g s.control i.control; tail = in_grown h k g s.tail i.tail; origin = by_origin s.origin i.origin }
+  where
+    by_origin : (o : Option (Origin CellName)) → IsOriginIn h o → IsOriginIn k o
+    by_origin None i = tt
+    by_origin (Some o) i = record { goal = in_grown h k g o.goal i.goal; reports = in_grown h k g o.reports i.reports; control = in_grown h k g o.control i.control }
+
+pub shoens_grown : (h k : Held CellName) → Grown h k → (ss : List (Shoen CellName)) → AreShoensIn h ss → AreShoensIn k ss
+shoens_grown h k g [] i = tt
+shoens_grown h k g (s ∷ ss) i = (shoen_grown h k g s i.0, shoens_grown h k g ss i.1)
+
+pub shoens_set : (h : Held CellName) (ss : List (Shoen CellName)) (i : ℕ) (s : Shoen CellName) → AreShoensIn h ss → IsShoenIn h s → AreShoensIn h (slice_set ss i s)
+shoens_set h [] i s a b = tt
+shoens_set h (r ∷ ss) zero s a b = (b, a.1)
+shoens_set h (r ∷ ss) (suc i) s a b = (a.0, shoens_set h ss i s a.1 b)
+
+pub numbered_set : (k : ℕ) (ss : List (Shoen CellName)) (i : ℕ) (s : Shoen CellName) → AreNumbered k ss → s.number ≡ suc (k + i) → AreNumbered k (slice_set ss i s)
+numbered_set k [] i s a e = tt
+numbered_set k (r ∷ ss) zero s a e = (omega arith, a.1)
+numbered_set k (r ∷ ss) (suc i) s a e = (a.0, numbered_set (suc k) ss i s a.1 (omega arith))

@@ -1,0 +1,100 @@
+-- What an account keeps, with numbers for names, and the state that it is when they are read.
+use Rattle.std.specs.Prelude.{◌≡◌, ℕ, ◌-◌, List, [], ◌∷◌, length, map, Option, Some, None, option_map}
+use Rattle.kl1_model.specs.Term.{Term}
+use Rattle.kl1_model.specs.Module.{Module}
+use Rattle.kl1_model.specs.State as model
+use Rattle.kl1_model.specs.State.{State, monitor, reduces, living, terminated}
+use Rattle.kl1_text.specs.declared.cell_name.CellName.{CellName}
+use Rattle.kl1_atoms.specs.declared.known.Known.{Known}
+use Rattle.kl1_store.specs.declared.cell.Cell.{Cell}
+use Rattle.kl1_store.specs.Held.{Held}
+use Rattle.kl1_store.specs.Meaning.{term_of}
+use Rattle.kl1_goals.specs.declared.task.Task.{Task}
+use Rattle.kl1_goals.specs.declared.task.Task.TheVariants.{Monitor, Reduces}
+use Rattle.kl1_goals.specs.declared.goal.Goal.{Goal}
+use Rattle.kl1_shoen.specs.declared.life.Life.{Life}
+use Rattle.kl1_shoen.specs.declared.life.Life.TheVariants.{Living, Terminated}
+use Rattle.kl1_shoen.specs.declared.shoen.Origin.{Origin}
+use Rattle.kl1_shoen.specs.declared.shoen.Shoen.{Shoen}
+use Rattle.kl1_modules.specs.Numbered.{Numbered}
+use Rattle.kl1_modules.specs.Finding.{contents}
+use Rattle.kl1_account.specs.Fitting.{Reading}
+
+-- what an account keeps: its own name; what its cells are; its goals and its shoens; its modules, each with its row of
+-- numbers; its names with their numbers, in order of first use; the last number of a goal; and how many entries its journal has
+pub record Account : Type 0 where
+  pub own_name : List ℕ
+  pub held : Held CellName
+  pub goals : List (Goal CellName)
+  pub shoens : List (Shoen CellName)
+  pub modules : List Numbered
+  pub names : List Known
+  pub last_goal : ℕ
+  pub entries : ℕ
+
+-- what cells mean
+abbrev pub Means : Type 0
+Means = Cell CellName → Term
+
+-- what the cells of a store mean, for a reading
+abbrev pub meaning : Reading → Held CellName → Means
+meaning f h x = term_of f h x
+
+-- a task, where cells mean this
+abbrev pub task_with : Means → Task CellName → model.Task
+task_with t Monitor = monitor
+task_with t (Reduces x) = reduces (t x)
+
+-- a goal, where cells mean this
+abbrev pub goal_with : Means → Goal CellName → model.Goal
+goal_with t g = record { number = g.number; task = task_with t g.task; shoen = g.shoen; priority = g.priority }
+
+-- whether a shoen lives
+abbrev pub life_of : Life → model.Life
+life_of Living = living
+life_of Terminated = terminated
+
+-- what the console keeps, where cells mean this
+abbrev pub origin_with : Means → Origin CellName → model.Origin
+origin_with t o = record { goal = t o.goal; reports = t o.reports; control = t o.control }
+
+-- a shoen, where cells mean this
+abbrev pub shoen_with : Means → Shoen CellName → model.Shoen
+shoen_with t h = record {
+  number = h.number;
+  life = life_of h.life;
+  allowance = h.allowance;
+  low = h.low;
+  high = h.high;
+  control = t h.control;
+  tail = t h.tail;
+  is_broken = h.is_broken;
+  origin = option_map (origin_with t) h.origin;
+}
+
+-- the texts of names
+abbrev pub texts_of : List Known → List (List ℕ)
+texts_of names = map (λ k. k.text) names
+
+-- a state with these goals and shoens in place of its own, where cells mean this, and this last variable
+abbrev pub state_with : State → Means → ℕ → List (Goal CellName) → List (Shoen CellName) → State
+state_with s t last goals shoens = record s { goals = map (goal_with t) goals; shoens = map (shoen_with t) shoens; last_variable = last }
+
+-- a state with these goals and shoens in place of its own, and the cells of a store, for a reading
+abbrev pub with_kept : Reading → State → Held CellName → List (Goal CellName) → List (Shoen CellName) → State
+with_kept f s h goals shoens = state_with s (meaning f h) (h.variables - 1) goals shoens
+
+-- the state that an account is, for a reading
+abbrev pub state_of : Reading → Account → State
+state_of f a =
+    with_kept f (record {
+      own_name = a.own_name;
+      goals = [];
+      shoens = [];
+      modules = contents a.modules;
+      names = texts_of a.names;
+      last_variable = 0;
+      last_goal = a.last_goal;
+      last_shoen = length a.shoens;
+      entries = a.entries;
+    }) a.held a.goals a.shoens

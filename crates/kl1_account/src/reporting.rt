@@ -1,0 +1,92 @@
+// Reports, exceptions and the end of the shoen at work.
+
+ghost use Rattle.std.specs.Prelude.{◌≡◌, codes, List, OnOk};
+ghost use Rattle.kl1_model.specs.Unify.{solve};
+ghost use Rattle.kl1_model.specs.Report.{report, close, exception};
+ghost use Rattle.kl1_model.specs.Reduction.{failure, unified, equation};
+ghost use Rattle.kl1_store.specs.Held.{IsIn};
+ghost use Rattle.kl1_store.specs.Sound.{Grown};
+ghost use Rattle.kl1_account.specs.Account.{meaning};
+ghost use Rattle.kl1_account.specs.Kept.{IsShoenIn};
+ghost use Rattle.kl1_account.specs.Drafts.{DraftsAll};
+
+use crate::draft::Draft;
+use kl1_model::BuiltIn;
+use kl1_store::{Cell, Store, Unified};
+use kl1_stream::{Told, append_report, close_report, exception_of};
+use kl1_text::CellName;
+use std::alloc::AllocError;
+
+/// A report of the shoen at work. Where memory is refused, the store may have grown.
+#[tactic(auto, using(crate::proofs::Streams::drafts_report))]
+pub(crate) fn report(
+    store: &mut Store<CellName>,
+    draft: &mut Draft,
+    message: Cell<CellName>,
+) -> Result<(), AllocError>
+    requires message { IsIn store.old.held message }
+    requires shoen { IsShoenIn store.old.held draft.old.shoen }
+    ensures ok { OnOk result (DraftsAll (λ f. report draft.old.shoen.number (meaning f store.old.held message)) store.old.held store.new.held draft.old draft.new) }
+    ensures grown { Grown store.old.held store.new.held }
+    ensures hooks { store.new.hooks ≡ store.old.hooks }
+{
+    match append_report(store, draft.shoen.tail, draft.shoen.is_broken, message)? {
+        Told::Dropped => Ok(()),
+        Told::Broken => {
+            draft.shoen.is_broken = true;
+            Ok(())
+        }
+        Told::Sent(next) => {
+            draft.shoen.tail = Cell::Variable(next);
+            Ok(())
+        }
+    }
+}
+
+/// Reports that a goal of the shoen at work failed.
+pub(crate) fn raise(
+    store: &mut Store<CellName>,
+    draft: &mut Draft,
+    goal: Cell<CellName>,
+) -> Result<(), AllocError>
+    requires goal { IsIn store.old.held goal }
+    requires shoen { IsShoenIn store.old.held draft.old.shoen }
+    ensures ok { OnOk result (DraftsAll (λ f. report draft.old.shoen.number (exception failure (meaning f store.old.held goal))) store.old.held store.new.held draft.old draft.new) }
+    ensures grown { Grown store.old.held store.new.held }
+    ensures hooks { store.new.hooks ≡ store.old.hooks }
+{
+    let message = exception_of(store, BuiltIn::Failure, goal)?;
+    report(store, draft, message)
+}
+
+/// Unifies two terms for a goal of the shoen at work, or reports that it failed.
+pub(crate) fn unify(
+    store: &mut Store<CellName>,
+    draft: &mut Draft,
+    goal: Cell<CellName>,
+    left: Cell<CellName>,
+    right: Cell<CellName>,
+) -> Result<(), AllocError>
+    requires goal { IsIn store.old.held goal }
+    requires left { IsIn store.old.held left }
+    requires right { IsIn store.old.held right }
+    requires shoen { IsShoenIn store.old.held draft.old.shoen }
+    ensures ok { OnOk result (DraftsAll (λ f s. unified draft.old.shoen.number (meaning f store.old.held goal) (solve (equation (meaning f store.old.held left) (meaning f store.old.held right))) s) store.old.held store.new.held draft.old draft.new) }
+    ensures grown { Grown store.old.held store.new.held }
+    ensures hooks { store.new.hooks ≡ store.old.hooks }
+{
+    match store.unify(left, right)? {
+        Unified::Bound => Ok(()),
+        Unified::Clash => raise(store, draft, goal),
+    }
+}
+
+/// The end of the report stream of the shoen at work.
+pub(crate) fn close(store: &mut Store<CellName>, draft: &Draft) -> Result<(), AllocError>
+    requires { IsShoenIn store.old.held draft.now.shoen }
+    ensures ok { OnOk result (DraftsAll (λ f. close draft.now.shoen.number) store.old.held store.new.held draft.now draft.now) }
+    ensures grown { Grown store.old.held store.new.held }
+    ensures hooks { store.new.hooks ≡ store.old.hooks }
+{
+    close_report(store, draft.shoen.tail, draft.shoen.is_broken)
+}
