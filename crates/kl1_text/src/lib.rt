@@ -4,6 +4,7 @@
 mod atom_no;
 mod atom_text;
 mod built_ins;
+mod cell_name;
 mod laws;
 mod literals;
 mod name_value;
@@ -14,6 +15,7 @@ mod short_bytes;
 pub use atom_no::AtomNo;
 pub use atom_text::AtomText;
 pub use built_ins::built_in_at;
+pub use cell_name::CellName;
 pub use laws::built_ins_differ;
 pub use name_value::NameValue;
 pub use printing::{put_atom, put_int, put_name};
