@@ -137,7 +137,7 @@ goals_for_stay n last shoen priority (x ∷ xs) =
     ap (λ b. if not b then g ∷ without_monitor n (goals_for (suc last) shoen priority xs) else without_monitor n (goals_for (suc last) shoen priority xs)) (never_both (shoen == n))
     ∙ ap (λ (gs : List (Goal CellName)). g ∷ gs) (goals_for_stay n (suc last) shoen priority xs)
 
-any_append : (p : Goal CellName → Bool) (gs ks : List (Goal CellName)) → list_any p (gs ++ ks) ≡ (list_any p gs || list_any p ks)
+pub any_append : (p : Goal CellName → Bool) (gs ks : List (Goal CellName)) → list_any p (gs ++ ks) ≡ (list_any p gs || list_any p ks)
 any_append p [] ks = refl
 any_append p (g ∷ gs) ks = ap (λ b. p g || b) (any_append p gs ks) ∙ regroup (p g) (list_any p gs) (list_any p ks)
   where

@@ -5,3 +5,4 @@ pub mod Reductions
 pub mod Streams
 pub mod Settling
 pub mod Waking
+pub mod Ending

@@ -3,5 +3,7 @@
 
 mod draft;
 mod reporting;
+mod settling;
 
 pub use draft::{Change, Draft};
+pub use settling::settle;
