@@ -1,6 +1,8 @@
 -- Commands and replies as texts, and what a command does.
-use Rattle.std.specs.Prelude.{ℕ, zero, suc, ◌^◌, ◌==◌, nat_le, nat_lt, ◌&&◌, ◌||◌, Bool, true, false, if◌then◌else◌, List, [], ◌∷◌, ◌++◌, length, codes, bytes_eq, decimal, Option, Some, None, option_and_then}
+use Rattle.std.specs.Prelude.{ℕ, zero, suc, ◌==◌, nat_le, nat_lt, ◌&&◌, ◌||◌, Bool, true, false, if◌then◌else◌, List, [], ◌∷◌, ◌++◌, length, codes, bytes_eq, decimal, Option, Some, None, option_and_then}
 use Rattle.std.specs.List.{list_all}
+pub use Rattle.kl1_model.specs.Limits.{most_steps, most_command_bytes}
+use Rattle.kl1_model.specs.Limits.{most_digits, number_limit}
 use Rattle.kl1_model.specs.Term.{Term}
 use Rattle.kl1_model.specs.Name.{atom_text}
 use Rattle.kl1_model.specs.Token.{is_digit, number_of}
@@ -51,7 +53,7 @@ is_blank_line line = list_all is_space line
 
 -- the number that a word is: 1 to 19 digits, of a value below 2 ^ 63
 abbrev pub number_in : List ℕ → Option ℕ
-number_in w = if nat_le 1 (length w) && nat_le (length w) 19 && list_all is_digit w && nat_lt (number_of w) (2 ^ 63) then Some (number_of w) else None
+number_in w = if nat_le 1 (length w) && nat_le (length w) most_digits && list_all is_digit w && nat_lt (number_of w) number_limit then Some (number_of w) else None
 
 -- a number of at most so much
 abbrev pub up_to : ℕ → Option ℕ → Option ℕ
@@ -61,10 +63,6 @@ up_to most (Some n) = if nat_le n most then Some n else None
 -- the one number that a line has
 abbrev pub only_number : List ℕ → Option ℕ
 only_number line = if is_blank_line (behind_word_in line) then number_in (word_in line) else None
-
--- the most steps of a run
-abbrev pub most_steps : ℕ
-most_steps = 262144
 
 -- a line that is a command where something was found
 abbrev pub line_with : {A : Type 0} → (A → Line) → Option A → Line
@@ -107,10 +105,6 @@ line_by starts rest = line_with whole (start_command rest)
 line_by runs rest = line_with (λ n. whole (run n)) (up_to most_steps (only_number rest))
 line_by asks_value rest = line_with (λ n. whole (does (read (value n)))) (only_number rest)
 line_by unknown rest = no_command
-
--- the most bytes of a line
-abbrev pub most_command_bytes : ℕ
-most_command_bytes = 4096
 
 -- what a line is, without its end; one of more than 4,096 bytes is no command
 abbrev pub parse : List ℕ → Line

@@ -1,14 +1,10 @@
 -- Each number of the language and of the server, once, with its unit: the constants of src/limits.rt.
 use Rattle.std.specs.Prelude.{ℕ}
-use Rattle.kl1_model.specs.declared.limits.TheConstants.{MOST_NAME_BYTES, NAME_WORDS, MOST_ARGUMENTS, MOST_DEPTH, MOST_CLAUSES, MOST_SOURCE_BYTES, NUMBER_LIMIT, MOST_DIGITS, MOST_PRIORITY, MONITOR_PRIORITY, MOST_ENTRIES, MOST_LINE_BYTES, MOST_STEPS, MOST_COMMAND_BYTES, MOST_PRINTED_BYTES, MOST_ACCOUNT_NAME_BYTES, MOST_ACCOUNTS, MOST_SCRIPT_BYTES, MOST_WAITING_BYTES, FIRST_NUMBER, MOST_NAMES, BUCKETS}
+use Rattle.kl1_model.specs.declared.limits.TheConstants.{MOST_NAME_BYTES, MOST_ARGUMENTS, MOST_DEPTH, MOST_CLAUSES, MOST_SOURCE_BYTES, NUMBER_LIMIT, MOST_DIGITS, MOST_PRIORITY, MONITOR_PRIORITY, MOST_ENTRIES, MOST_LINE_BYTES, MOST_STEPS, MOST_COMMAND_BYTES, MOST_PRINTED_BYTES, MOST_ACCOUNT_NAME_BYTES, MOST_ACCOUNTS, MOST_SCRIPT_BYTES, MOST_WAITING_BYTES, FIRST_NUMBER, MOST_NAMES, BUCKETS_EACH}
 
 -- the most bytes of a name
 abbrev pub most_name_bytes : ℕ
 most_name_bytes = MOST_NAME_BYTES
-
--- the words of 64 bits that hold a name
-abbrev pub name_words : ℕ
-name_words = NAME_WORDS
 
 -- the most arguments of a structure
 abbrev pub most_arguments : ℕ
@@ -87,5 +83,5 @@ abbrev pub most_names : ℕ
 most_names = MOST_NAMES
 
 -- the buckets of a table of names, for each account
-abbrev pub buckets : ℕ
-buckets = BUCKETS
+abbrev pub buckets_each : ℕ
+buckets_each = BUCKETS_EACH

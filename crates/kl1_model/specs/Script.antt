@@ -1,6 +1,8 @@
 -- Scripts: how their bytes are cut into records, and what is written for them.
 use Rattle.std.specs.Prelude.{ℕ, zero, suc, ◌==◌, nat_le, not, ◌&&◌, ◌||◌, Bool, true, false, if◌then◌else◌, List, [], ◌∷◌, ◌++◌, length, take, drop, codes, bytes_eq, Option, Some, None}
 use Rattle.std.specs.List.{list_any, list_all}
+pub use Rattle.kl1_model.specs.Limits.{most_accounts}
+use Rattle.kl1_model.specs.Limits.{most_account_name_bytes}
 use Rattle.kl1_model.specs.Name.{is_small_letter}
 use Rattle.kl1_model.specs.Token.{is_digit}
 use Rattle.kl1_model.specs.State.{State, fresh}
@@ -79,7 +81,7 @@ records_of text = records_within (suc (length text)) text
 -- the name of an account: a small letter, and small letters and digits, at most 16 bytes
 abbrev pub is_account_name : List ℕ → Bool
 is_account_name [] = false
-is_account_name (b ∷ bs) = is_small_letter b && list_all (λ c. is_small_letter c || is_digit c) bs && nat_le (length bs) 15
+is_account_name (b ∷ bs) = is_small_letter b && list_all (λ c. is_small_letter c || is_digit c) bs && nat_le (length (b ∷ bs)) most_account_name_bytes
 
 -- the words of a line, in fewer than so many
 unfoldable pub words_within : ℕ → List ℕ → List (List ℕ)
@@ -94,10 +96,6 @@ words_of line = words_within (suc (length line)) line
 abbrev pub are_distinct : List (List ℕ) → Bool
 are_distinct [] = true
 are_distinct (n ∷ ns) = not (list_any (bytes_eq n) ns) && are_distinct ns
-
--- the most accounts of a script
-abbrev pub most_accounts : ℕ
-most_accounts = 16
 
 -- the accounts that the first line names: 1 to 16 distinct names of accounts behind the word `accounts`
 abbrev pub accounts_in : List (List ℕ) → Option (List (List ℕ))

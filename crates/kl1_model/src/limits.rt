@@ -3,9 +3,6 @@
 /// The most bytes of a name.
 pub const MOST_NAME_BYTES: usize = 63;
 
-/// The words of 64 bits that hold a name.
-pub const NAME_WORDS: usize = 8;
-
 /// The most arguments of a structure.
 pub const MOST_ARGUMENTS: usize = 8;
 
@@ -64,4 +61,4 @@ pub const FIRST_NUMBER: u32 = 64;
 pub const MOST_NAMES: usize = 1_024;
 
 /// The buckets of a table of names, for each account.
-pub const BUCKETS: usize = 2_048;
+pub const BUCKETS_EACH: u64 = 2_048;

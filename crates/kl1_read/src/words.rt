@@ -1,11 +1,13 @@
 // Words, digits and comments in front of a text.
 
-ghost use Rattle.std.specs.Prelude.{◌≡◌, ◌^◌, ◌∷◌, ◌-◌, take, nat_le, length, IsTrue, Some, None, if◌then◌else◌, option_map};
+ghost use Rattle.std.specs.Prelude.{◌≡◌, ◌∷◌, ◌-◌, take, nat_le, length, IsTrue, Some, None, if◌then◌else◌, option_map};
 ghost use Rattle.std.specs.List.{list_all};
 ghost use Rattle.kl1_model.specs.Token.{word_of, behind_word, digits_of, behind_digits, behind_comment, number_of};
 ghost use Rattle.kl1_model.specs.Text.{is_name_byte};
+ghost use Rattle.kl1_model.specs.Limits.{number_limit};
 
 use crate::bytes::{is_digit, is_source_byte, is_word_byte};
+use kl1_model::limits::NUMBER_LIMIT;
 
 /// What is behind the word in front.
 pub(crate) fn behind_word(bytes: &[u8]) -> &[u8]
@@ -52,21 +54,18 @@ pub(crate) fn behind_comment(bytes: &[u8]) -> Option<&[u8]>
     Some(rest)
 }
 
-/// The most that digits may write.
-const MOST: u64 = 1 << 63;
-
 /// The number that digits write, where it is at most 2^63.
 pub(crate) fn number_of(digits: &[u8]) -> Option<u64>
-    ensures { result ≡ (if nat_le (number_of digits.now) (2 ^ 63) then Some (number_of digits.now) else None) }
+    ensures { result ≡ (if nat_le (number_of digits.now) number_limit then Some (number_of digits.now) else None) }
 {
     let mut number = 0u64;
     let mut rest = digits;
     while let [first, others @ ..] = rest {
-        if number > MOST / 10 {
+        if number > NUMBER_LIMIT / 10 {
             return None;
         }
         number = 10 * number + u64::from(first.saturating_sub(b'0'));
-        if number > MOST {
+        if number > NUMBER_LIMIT {
             return None;
         }
         rest = others;

@@ -4,6 +4,7 @@ ghost use Rattle.std.specs.Prelude.{◌≡◌, ℕ, ◌≤◌, List, [], IsTrue,
 ghost use Rattle.kl1_model.specs.Text.{is_text, text_of};
 ghost use Rattle.kl1_model.specs.Name.{name_text, atom_text};
 ghost use Rattle.kl1_model.specs.declared.built_in.BuiltIn.{BuiltIn};
+ghost use Rattle.kl1_model.specs.Limits.{most_name_bytes};
 ghost use Rattle.kl1_text.specs.BuiltIns.{built_in_of};
 ghost use Rattle.kl1_text.specs.Words.{words_of, bytes_of};
 
@@ -82,7 +83,7 @@ impl AtomText {
     /// The bytes of the name.
     pub fn unpacked(&self) -> ShortBytes
         ensures value { result ≡ self.now }
-        ensures short { length result ≤ 63 }
+        ensures short { length result ≤ most_name_bytes }
         ensures text { IsTrue (is_text result) }
     {
         let mut out = ShortBytes::new();
@@ -125,7 +126,7 @@ impl AtomText {
     /// How many bytes the name has.
     pub fn len(&self) -> usize
         ensures value { result ≡ length self.now }
-        ensures short { result ≤ 63 }
+        ensures short { result ≤ most_name_bytes }
     {
         self.unpacked().len()
     }
