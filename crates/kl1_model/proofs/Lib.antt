@@ -31,3 +31,4 @@ pub mod ReadPlain
 pub mod Clashes
 pub mod SameEach
 pub mod SameStays
+pub mod LeastClause

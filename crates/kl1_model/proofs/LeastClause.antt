@@ -9,8 +9,7 @@ use Rattle.kl1_model.specs.Match as model
 use Rattle.kl1_model.specs.Match.{Call, call_of, clauses_of, Candidate, candidate_by, candidates_from, candidates_of, fails, is_rejected, verdict, accepts, rejects, suspends}
 use Rattle.kl1_model.specs.Reduction.{Move, commits, raises, failure, term_move, built_in_move}
 use Rattle.kl1_model.specs.Choice.{call_clauses}
-use Rattle.kl1_user.specs.Moves.{term_clause}
-use Rattle.kl1_user.specs.Candidates.{answer_of, answer_by}
+use Rattle.kl1_model.specs.Waits.{term_clause, least_by, least_from, least_clause}
 
 -- the number of the first candidate
 abbrev pub first_number : List Candidate → Option ℕ
@@ -25,18 +24,18 @@ abbrev chosen_from : Bool → Bool → List Candidate → Option ℕ
 chosen_from waiting rejected ks = if not waiting && rejected then Some 0 else first_number ks
 
 by_verdict : (waiting rest : Bool) (n : ℕ) (c : Clause) (ks : List Candidate) (r s : Option ℕ) (v : model.Verdict) → r ≡ chosen_from waiting rest ks → s ≡ chosen_from true rest ks →
-    answer_by (Some n) r s v ≡ chosen_from waiting (is_rejected v && rest) (candidate_by n c v ++ ks)
+    least_by (Some n) r s v ≡ chosen_from waiting (is_rejected v && rest) (candidate_by n c v ++ ks)
 by_verdict true rest n c ks r s (accepts places) er es = refl
 by_verdict false rest n c ks r s (accepts places) er es = refl
 by_verdict waiting rest n c ks r s rejects er es = er
-by_verdict true rest n c ks r s suspends er es = es
-by_verdict false rest n c ks r s suspends er es = es
+by_verdict true rest n c ks r s (suspends vs) er es = es
+by_verdict false rest n c ks r s (suspends vs) er es = es
 
-pub answer-chosen : (waiting : Bool) (n : ℕ) (cs : List Clause) (ts : Terms) → answer_of waiting n cs ts ≡ chosen_from waiting (all_reject cs ts) (candidates_from n cs ts)
-answer-chosen true n [] ts = refl
-answer-chosen false n [] ts = refl
-answer-chosen waiting n (c ∷ cs) ts =
-    by_verdict waiting (all_reject cs ts) n c (candidates_from (suc n) cs ts) (answer_of waiting (suc n) cs ts) (answer_of true (suc n) cs ts) (verdict c ts) (answer-chosen waiting (suc n) cs ts) (answer-chosen true (suc n) cs ts)
+pub least-chosen : (waiting : Bool) (n : ℕ) (cs : List Clause) (ts : Terms) → least_from waiting n cs ts ≡ chosen_from waiting (all_reject cs ts) (candidates_from n cs ts)
+least-chosen true n [] ts = refl
+least-chosen false n [] ts = refl
+least-chosen waiting n (c ∷ cs) ts =
+    by_verdict waiting (all_reject cs ts) n c (candidates_from (suc n) cs ts) (least_from waiting (suc n) cs ts) (least_from true (suc n) cs ts) (verdict c ts) (least-chosen waiting (suc n) cs ts) (least-chosen true (suc n) cs ts)
 
 -- the numbers of candidates are not below that of the first clause
 abbrev pub AreFrom : ℕ → List Candidate → Type 0
@@ -50,7 +49,7 @@ from_lower m n (k ∷ ks) le a = (let p = a.0 in omega arith, from_lower m n ks 
 from_by : (n : ℕ) (c : Clause) (ks : List Candidate) (v : model.Verdict) → AreFrom (suc n) ks → AreFrom n (candidate_by n c v ++ ks)
 from_by n c ks (accepts places) a = (omega arith, from_lower n (suc n) ks (omega arith) a)
 from_by n c ks rejects a = from_lower n (suc n) ks (omega arith) a
-from_by n c ks suspends a = from_lower n (suc n) ks (omega arith) a
+from_by n c ks (suspends vs) a = from_lower n (suc n) ks (omega arith) a
 
 pub are_from : (n : ℕ) (cs : List Clause) (ts : Terms) → AreFrom n (candidates_from n cs ts)
 are_from n [] ts = tt
@@ -81,11 +80,11 @@ clause_found : (failed : Bool) (ks : List Candidate) → AreFrom 1 ks → find (
 clause_found true ks a = refl
 clause_found false ks a = found_first false ks a
 
-pub term_clause-call : (modules : List Module) (t : Term) (k : Call) → call_of t ≡ Some k → term_clause modules t ≡ answer_of false 1 (clauses_of modules k) k.arguments
+pub term_clause-call : (modules : List Module) (t : Term) (k : Call) → call_of t ≡ Some k → term_clause modules t ≡ least_clause (clauses_of modules k) k.arguments
 term_clause-call modules t k e =
     ap (λ o. find (λ clause. is_some (term_move modules t clause o)) (0 ∷ call_clauses modules o)) e
     ∙ clause_found (fails modules k) (candidates_of modules k) (are_from 1 (clauses_of modules k) k.arguments)
-    ∙ sym (answer-chosen false 1 (clauses_of modules k) k.arguments)
+    ∙ sym (least-chosen false 1 (clauses_of modules k) k.arguments)
 
 pub term_clause-built_in : (modules : List Module) (t : Term) (m : Move) → call_of t ≡ None → built_in_move t ≡ Some m → term_clause modules t ≡ Some 0
 term_clause-built_in modules t m e b =
