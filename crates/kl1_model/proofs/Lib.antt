@@ -32,3 +32,5 @@ pub mod Clashes
 pub mod SameEach
 pub mod SameStays
 pub mod LeastClause
+pub mod VerdictStays
+pub mod TermStays

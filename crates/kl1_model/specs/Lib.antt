@@ -21,6 +21,7 @@ pub mod Opening
 pub mod Step
 pub mod Choice
 pub mod Waits
+pub mod WaitsLaws
 pub mod Command
 pub mod Script
 pub mod Examples

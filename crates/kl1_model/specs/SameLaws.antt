@@ -1,7 +1,6 @@
 -- What holds of passive equality when variables are replaced.
 use Rattle.std.specs.Prelude.{◌≡◌, ℕ, List, [], map}
-use Rattle.std.specs.List.{AllByRecursion}
-use Rattle.kl1_model.specs.Term.{Term, variable, substituted}
+use Rattle.kl1_model.specs.Term.{Term, substituted}
 use Rattle.kl1_model.specs.Waits.{LeavesEach}
 use Rattle.kl1_model.specs.Same.{same, differs, unknown, passive, awaited, passive_each, awaited_by}
 

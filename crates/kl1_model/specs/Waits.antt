@@ -1,7 +1,7 @@
 -- What a goal waits for: the variables of which a change may change what it can do.
 use Rattle.std.specs.Prelude.{◌≡◌, ℕ, suc, Bool, true, false, if◌then◌else◌, List, [], ◌∷◌, ◌++◌, codes, bytes_eq, find, Option, Some, None, is_some}
 use Rattle.std.specs.List.{AllByRecursion}
-use Rattle.kl1_model.specs.Term.{Term, variable, atom, structure, Terms, none, more, substituted}
+use Rattle.kl1_model.specs.Term.{Term, variable, atom, structure, Terms, none, more}
 use Rattle.kl1_model.specs.Module.{Clause, Module}
 use Rattle.kl1_model.specs.Match.{Verdict, accepts, rejects, suspends, verdict, Call, call_of, clauses_of}
 use Rattle.kl1_model.specs.Reduction.{Move, term_move}
