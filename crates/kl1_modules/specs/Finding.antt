@@ -7,13 +7,8 @@ use Rattle.kl1_model.specs.Match.{Call, module_of, clauses_of}
 use Rattle.kl1_text.specs.Reading.{Reads}
 use Rattle.kl1_text.specs.declared.cell_name.CellName.{CellName}
 use Rattle.kl1_clause.specs.declared.predicate.Predicate.{Predicate}
-use Rattle.kl1_clause.specs.Clauses.{AreCompiled}
+use Rattle.kl1_clause.specs.Predicates.{FoundAs}
 use Rattle.kl1_modules.specs.Numbered.{Numbered, IsRead, AreRead, built, number_of}
-
--- these compiled clauses are these clauses, and nothing is found where there is none
-abbrev pub FoundAs : (CellName → List ℕ) → List Clause → Option (Predicate CellName) → Type 0
-FoundAs f clauses None = clauses ≡ []
-FoundAs f clauses (Some p) = AreCompiled (map f p.names.now) p.clauses.now clauses
 
 -- however names are read, the clauses of a predicate of a module are found
 abbrev pub FindsIn : Numbered → CellName → ℕ → Option (Predicate CellName) → Type 0
