@@ -9,3 +9,4 @@ pub mod Skipping
 pub mod Answered
 pub mod Whole
 pub mod Beside
+pub mod Choosing

@@ -7,3 +7,4 @@ pub mod BuiltNodes
 pub mod Waiting
 pub mod Matching
 pub mod Verdicts
+pub mod Choices

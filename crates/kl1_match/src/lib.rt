@@ -3,6 +3,7 @@
 
 mod arguments;
 mod building;
+mod choice;
 mod goals;
 mod instances;
 mod meets;
@@ -16,6 +17,7 @@ mod variables;
 mod verdict;
 mod verdicts;
 
+pub use choice::choose;
 pub use goals::build_goal;
 pub use instances::instance;
 pub use name_in::name_at;

@@ -24,11 +24,6 @@ pub mod Waits
 pub mod WaitsLaws
 pub mod Command
 pub mod Script
-pub mod Examples
 pub mod UnifyLaws
-pub mod AccountRows
 pub mod ReadLaws
-pub mod ReadRows
-pub mod ReadFaults
 pub mod Same
-pub mod SameLaws

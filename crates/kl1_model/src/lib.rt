@@ -2,7 +2,6 @@
 #![tactic(auto)]
 
 mod built_in;
-pub mod laws;
 mod pair_form;
 mod sign;
 
