@@ -5,6 +5,7 @@ use Rattle.kl1_model.specs.declared.built_in.BuiltIn.{BuiltIn}
 use Rattle.kl1_model.specs.Term.{Term, Terms}
 use Rattle.kl1_model.specs.Module.{Clause, Module}
 use Rattle.kl1_model.specs.Match.{call_of, clauses_of, Candidate, candidate_by, verdict}
+use Rattle.kl1_model.specs.Instance.{body_instance}
 use Rattle.kl1_model.specs.Reduction.{commits, unifies, goes}
 use Rattle.kl1_model.specs.Waits.{move_by, least_clause, term_clause, awaited_by_term, awaited_by_call, awaited_at_head}
 use Rattle.kl1_model.proofs.LeastClause.{term_clause-call, term_clause-built_in, term_clause-none}
@@ -19,17 +20,20 @@ use Rattle.kl1_clause.specs.Predicates.{AreSome}
 use Rattle.kl1_match.specs.declared.place.Place.{Place}
 use Rattle.kl1_match.specs.declared.verdict.Verdict.{Verdict}
 use Rattle.kl1_match.specs.declared.verdict.Verdict.TheVariants.{Accepts, Rejects, Suspends}
-use Rattle.kl1_match.specs.Instances.{IsClause, AreThere, replacements_of}
+use Rattle.kl1_match.specs.Instances.{IsClause, AreThere, replacements_of, IsInstance}
 use Rattle.kl1_match.specs.Verdicts.{IsVerdict, verdict_with_places, arguments_of_goal}
 use Rattle.kl1_match.specs.Choices.{AreClauses, Chooses, IsChoice}
 use Rattle.kl1_moves.specs.declared.call.Call.{Call}
+use Rattle.kl1_moves.specs.declared.kind.Kind.{Kind}
+use Rattle.kl1_moves.specs.declared.kind.Kind.TheVariants as kind
 use Rattle.kl1_moves.specs.declared.moves.Move.{Move}
 use Rattle.kl1_moves.specs.declared.moves.Move.TheVariants as move
 use Rattle.kl1_moves.specs.Calls.{cell_of, arguments_at, call_at}
 use Rattle.kl1_moves.specs.Shapes.{IsNoGoal}
-use Rattle.kl1_moves.specs.Kinds.{IsCall, IsUnification, IsTrueGoal}
-use Rattle.kl1_moves.specs.Moves.{FailsAs, candidate_of, candidate_at, first_candidate, IsCandidate, CommitsBy, CommitsAs, CommitsTo, MovesAs}
+use Rattle.kl1_moves.specs.Kinds.{IsKind, IsCall, IsUnification, IsTrueGoal}
+use Rattle.kl1_moves.specs.Moves.{HasPredicate, FailsAs, candidate_of, candidate_at, first_candidate, IsCandidate, CommitsBy, CommitsAs, CommitsTo, MovesAs}
 use Rattle.kl1_moves.specs.Standing.{StandsAs}
+use Rattle.kl1_moves.specs.Bodies.{IsBody}
 use Rattle.kl1_moves.proofs.Candidates.{fails_by, goes_on_by, commits_by}
 
 -- ---- compiled clauses of a predicate
@@ -94,7 +98,7 @@ tried {N = N} built f h c p cs number compiled goal places before after given r 
     }
 
 -- what the verdict on a clause makes of a call
-abbrev by_verdict : {N : Type 0} → ℕ → Verdict → Option (Move N)
+abbrev pub by_verdict : {N : Type 0} → ℕ → Verdict → Option (Move N)
 by_verdict place Accepts = Some (move.Commits place)
 by_verdict place Rejects = None
 by_verdict place Suspends = None
@@ -151,3 +155,52 @@ true_stands modules t awaited u a = record { clause_is = sym (term_clause-built_
 
 pub nothing_stands : (modules : List Module) (t : Term) (vs awaited : List ℕ) → IsNoGoal t vs → awaited ≡ vs → StandsAs modules t awaited None
 nothing_stands modules t vs awaited u a = record { clause_is = sym (term_clause-none modules t u.call u.built_in); awaits = alone modules t vs awaited u.call u.awaits a }
+
+-- ---- by kinds
+
+pub positive : (n : ℕ) → (n ≡ 0 → ⊥) → 0 < n
+positive zero ne = absurd (ne refl)
+positive (suc n) ne = omega arith
+
+pub call_fails_as : {N : Type 0} (f : N → List ℕ) (h : Held N) (modules : List Module) (t : Term) (k : Kind N) (c : Call N) (n : ℕ) (p : Predicate N) (places : List (Place N)) (found : Option (Move N)) → k ≡ kind.Calls c → n ≡ 0 →
+    ((cs : List Clause) → AreCompiled (map f p.names.now) p.clauses.now cs → FailsAs f h c cs found) → IsKind f h t k → HasPredicate f h modules k p → MovesAs f h modules t n p places found
+call_fails_as {N = N} f h modules t k c n p places found e z fails is has =
+    let P : Kind N → Type 0 = λ x. IsKind f h t x in
+    let Q : Kind N → Type 0 = λ x. HasPredicate f h modules x p in
+    fails_as f h modules t c n p places found (subst P e is) z (fails (clauses_of modules (call_at f h c)) (subst Q e has))
+
+pub call_commits_as : {N : Type 0} (f : N → List ℕ) (h : Held N) (modules : List Module) (t : Term) (k : Kind N) (c : Call N) (n : ℕ) (p : Predicate N) (places : List (Place N)) (found : Option (Move N)) → k ≡ kind.Calls c → (n ≡ 0 → ⊥) →
+    ((cs : List Clause) → AreCompiled (map f p.names.now) p.clauses.now cs → CommitsAs f h c p cs n places found) → IsKind f h t k → HasPredicate f h modules k p → MovesAs f h modules t n p places found
+call_commits_as {N = N} f h modules t k c n p places found e z takes is has =
+    let P : Kind N → Type 0 = λ x. IsKind f h t x in
+    let Q : Kind N → Type 0 = λ x. HasPredicate f h modules x p in
+    commits_as f h modules t c n p places found (subst P e is) (positive n z) (takes (clauses_of modules (call_at f h c)) (subst Q e has))
+
+pub kind_stands : {N : Type 0} (built : BuiltIn → N) (f : N → List ℕ) (h : Held N) (modules : List Module) (t : Term) (k : Kind N) (c : Call N) (goal : Cell N) (p : Predicate N) (before after : List ℕ) (choice : Option ℕ) → Reads built f → k ≡ kind.Calls c → goal ≡ cell_of c → before ≡ [] →
+    IsChoice built p.names.now p.clauses.now h goal before after choice → IsKind f h t k → HasPredicate f h modules k p → StandsAs modules t after choice
+kind_stands {N = N} built f h modules t k c goal p before after choice r e own empty chosen is has =
+    let P : Kind N → Type 0 = λ x. IsKind f h t x in
+    let Q : Kind N → Type 0 = λ x. HasPredicate f h modules x p in
+    call_stands f h modules t c goal chosen.named after choice (subst P e is) own (chosen.awaited ∙ ap (λ l. l ++ chosen.named) empty) (chosen.chooses f r (clauses_of modules (call_at f h c)) (subst Q e has))
+
+-- ---- bodies
+
+at_place : (cs : List CompiledClause) (place : ℕ) (x y : CompiledClause) → slice_get cs place ≡ Some y → get_or cs place x ≡ y
+at_place [] place x y e = absurd (cc)
+at_place (c ∷ cs) zero x y e = cc
+at_place (c ∷ cs) (suc place) x y e = at_place cs place x y e
+
+pub body_of : {N : Type 0} (built : BuiltIn → N) (f : N → List ℕ) (p : Predicate N) (place : ℕ) (compiled : CompiledClause) (places at : List (Place N)) (old new : Held N) (goals : List (Cell N)) (k : Candidate) → Reads built f →
+    compiled ≡ slice_index_or p.clauses.now place compiled → at ≡ places → IsInstance built p.names.now compiled at old new goals → IsCandidate f old p place places k → IsBody f k old new goals
+body_of {N = N} built f p place compiled places at old new goals k r here same i is =
+    let found : is.compiled ≡ compiled = sym (here ∙ at_place p.clauses.now place compiled is.compiled is.at) in
+    let P : CompiledClause → Type 0 = λ x. IsCompiled (map f p.names.now) x k.clause in
+    let Q : List (Place N) → Type 0 = λ l. IsInstance built p.names.now compiled l old new goals in
+    let c = subst P found is.is in
+    let j = subst Q same i in
+    let b = j.goals_are f r k.clause c in
+    record {
+      terms = b.terms ∙ ap (λ rs. body_instance k.clause rs (old.variables - 1)) is.places_are;
+      variables = j.variables ∙ ap (λ n. old.variables + n) c.fresh_variables;
+      kept = b.kept;
+    }

@@ -3,3 +3,4 @@ pub mod Calls
 pub mod Kinds
 pub mod Moves
 pub mod Standing
+pub mod Bodies

@@ -3,6 +3,7 @@
 
 mod call;
 mod calling;
+mod committing;
 mod kind;
 mod moves;
 mod naming;
@@ -12,6 +13,7 @@ mod standing;
 mod trial;
 
 pub use call::Call;
+pub use committing::commit;
 pub use kind::{Kind, kind_of};
 pub use moves::{Move, move_of};
 pub use predicates::or_none;

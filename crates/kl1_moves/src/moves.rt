@@ -41,8 +41,8 @@ pub fn move_of<N: NameValue>(
 ) -> Result<Option<Move<N>>, AllocError>
     requires kind { KindIn store.now.held kind }
     requires predicate { AreSome predicate.names.now predicate.clauses.now }
-    ensures inside { IfOk result (MoveIn store.now.held predicate trial.new.places.items) }
-    ensures moves { IfOk result (λ found. (f : N → List ℕ) → Reads N.built f → (modules : List Module) (t : Term) → IsKind f store.now.held t kind → HasPredicate f store.now.held modules kind predicate → MovesAs f store.now.held modules t clause predicate trial.new.places.items found) }
+    ensures inside { IfOk result (MoveIn store.now.held predicate.entry trial.new.places.items) }
+    ensures moves { IfOk result (λ found. (f : N → List ℕ) → Reads N.built f → (modules : List Module) (t : Term) → IsKind f store.now.held t kind → HasPredicate f store.now.held modules kind predicate.entry → MovesAs f store.now.held modules t clause predicate.entry trial.new.places.items found) }
 {
     match kind {
         Kind::Calls(call) => {
@@ -77,8 +77,8 @@ fn failing<N: NameValue>(
 ) -> Result<Option<Move<N>>, AllocError>
     requires call { IsIn store.now.held (cell_of call) }
     requires predicate { AreSome predicate.names.now predicate.clauses.now }
-    ensures inside { IfOk result (MoveIn store.now.held predicate trial.new.places.items) }
-    ensures fails { IfOk result (λ found. (f : N → List ℕ) → Reads N.built f → (cs : List Clause) → AreCompiled (map f predicate.names.now) predicate.clauses.now cs → FailsAs f store.now.held call cs found) }
+    ensures inside { IfOk result (MoveIn store.now.held predicate.entry trial.new.places.items) }
+    ensures fails { IfOk result (λ found. (f : N → List ℕ) → Reads N.built f → (cs : List Clause) → AreCompiled (map f predicate.entry.names.now) predicate.entry.clauses.now cs → FailsAs f store.now.held call cs found) }
 {
     trial.awaited.clear();
     match choose(
@@ -100,7 +100,7 @@ fn failing<N: NameValue>(
 }
 
 /// The clause at a place, from 0.
-fn nth(clauses: &[CompiledClause], place: usize) -> &CompiledClause
+pub(crate) fn nth(clauses: &[CompiledClause], place: usize) -> &CompiledClause
     requires { place < length clauses.now }
     ensures { result.now ≡ slice_index_or clauses.now place result.now }
 {
@@ -118,8 +118,8 @@ fn committing<N: NameValue>(
     requires call { IsIn store.now.held (cell_of call) }
     requires number { 0 < number }
     requires predicate { AreSome predicate.names.now predicate.clauses.now }
-    ensures inside { IfOk result (MoveIn store.now.held predicate trial.new.places.items) }
-    ensures commits { IfOk result (λ found. (f : N → List ℕ) → Reads N.built f → (cs : List Clause) → AreCompiled (map f predicate.names.now) predicate.clauses.now cs → CommitsAs f store.now.held call predicate cs number trial.new.places.items found) }
+    ensures inside { IfOk result (MoveIn store.now.held predicate.entry trial.new.places.items) }
+    ensures commits { IfOk result (λ found. (f : N → List ℕ) → Reads N.built f → (cs : List Clause) → AreCompiled (map f predicate.entry.names.now) predicate.entry.clauses.now cs → CommitsAs f store.now.held call predicate.entry cs number trial.new.places.items found) }
 {
     let place = (number - 1) as usize;
     if place >= predicate.clauses.len() {

@@ -12,7 +12,7 @@ use kl1_text::NameValue;
 pub fn or_none<N: NameValue>(found: Option<Predicate<'_, N>>) -> Predicate<'_, N>
     requires { IfSome found (λ p. AreSome p.names.now p.clauses.now) }
     ensures some { AreSome result.names.now result.clauses.now }
-    ensures clauses { (f : N → List ℕ) (cs : List Clause) → FoundAs f cs found → AreCompiled (map f result.names.now) result.clauses.now cs }
+    ensures clauses { (f : N → List ℕ) (cs : List Clause) → FoundAs f cs found.entry → AreCompiled (map f result.names.now) result.clauses.now cs }
 {
     match found {
         None => Predicate {

@@ -29,7 +29,7 @@ pub fn standing_of<N: NameValue>(
     requires kind { KindIn store.now.held kind }
     requires predicate { AreSome predicate.names.now predicate.clauses.now }
     ensures unbound { OnOk result (AreUnbound store.now.held trial.new.awaited.items) }
-    ensures standing { IfOk result (λ clause. (f : N → List ℕ) → Reads N.built f → (modules : List Module) (t : Term) → IsKind f store.now.held t kind → HasPredicate f store.now.held modules kind predicate → StandsAs modules t trial.new.awaited.items clause) }
+    ensures standing { IfOk result (λ clause. (f : N → List ℕ) → Reads N.built f → (modules : List Module) (t : Term) → IsKind f store.now.held t kind → HasPredicate f store.now.held modules kind predicate.entry → StandsAs modules t trial.new.awaited.items clause) }
 {
     trial.awaited.clear();
     match kind {
