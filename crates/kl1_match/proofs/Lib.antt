@@ -10,3 +10,4 @@ pub mod Answered
 pub mod Whole
 pub mod Beside
 pub mod Choosing
+pub mod Stays

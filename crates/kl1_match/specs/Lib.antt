@@ -8,3 +8,4 @@ pub mod Waiting
 pub mod Matching
 pub mod Verdicts
 pub mod Choices
+pub mod Stays

@@ -19,7 +19,7 @@ mod verdicts;
 
 pub use choice::choose;
 pub use goals::build_goal;
-pub use instances::instance;
+pub use instances::{instance, put_instance};
 pub use name_in::name_at;
 pub use place::Place;
 pub use scratch::Scratch;

@@ -2,7 +2,7 @@ use Rattle.std.proofs.Common.{◌≡◌, ◌+◌, ◌∙◌, List, length, subst
 use Rattle.kl1_clause.specs.declared.instruction.Instruction.{Instruction}
 use Rattle.kl1_match.specs.Built.{AreBelow, BuildsRow}
 use Rattle.kl1_match.proofs.Bodies.{all_below, instance_is}
-use Rattle.kl1_match.proofs.instances.instance.Goals as goal
+use Rattle.kl1_match.proofs.instances.put_instance.Goals as goal
 
 pub put_row-requires-clause-below : goal.put_row-requires-clause-below
 put_row-requires-clause-below g c =
