@@ -1,8 +1,8 @@
 -- What is found by a module's name, a predicate's name and its number of arguments.
-use Rattle.std.specs.Prelude.{◌≡◌, ℕ, ◌==◌, Bool, List, [], map, filter, Option, Some, None, is_some}
+use Rattle.std.specs.Prelude.{◌≡◌, ℕ, ◌==◌, Bool, List, map, filter, Option, is_some}
 use Rattle.std.specs.List.{list_any}
 use Rattle.kl1_model.specs.Term.{count_of}
-use Rattle.kl1_model.specs.Module.{Clause, Module, is_of}
+use Rattle.kl1_model.specs.Module.{Module, is_of}
 use Rattle.kl1_model.specs.Match.{Call, module_of, clauses_of}
 use Rattle.kl1_text.specs.Reading.{Reads}
 use Rattle.kl1_text.specs.declared.cell_name.CellName.{CellName}

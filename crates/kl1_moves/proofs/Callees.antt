@@ -1,5 +1,5 @@
 -- Calls, and goals that are none.
-use Rattle.std.proofs.Common.{◌≡◌, ℕ, true, false, Bool, if◌then◌else◌, List, [], ◌∷◌, length, refl, sym, ap, ◌∙◌, subst, arith}
+use Rattle.std.proofs.Common.{◌≡◌, ℕ, true, false, List, [], ◌∷◌, length, refl, sym, ap, ◌∙◌}
 use Rattle.std.specs.Prelude.{Some, None, slice_get, codes, bytes_eq}
 use Rattle.std.proofs.lemmas.Bool.{cond-true, cond-false}
 use Rattle.std.proofs.lemmas.Slice.Eq.{bytes_eq-Decides}
@@ -10,7 +10,7 @@ use Rattle.kl1_model.specs.Reduction.{unifies, goes, built_in_move}
 use Rattle.kl1_model.specs.Waits.{awaited_in_call, awaited_at_head}
 use Rattle.kl1_store.specs.declared.cell.Cell.{Cell}
 use Rattle.kl1_store.specs.declared.cell.Cell.TheVariants.{Atom, Structure}
-use Rattle.kl1_store.specs.Held.{Held, IsIn, arguments_of}
+use Rattle.kl1_store.specs.Held.{Held, arguments_of}
 use Rattle.kl1_store.specs.Meaning.{term_of, terms_of}
 use Rattle.kl1_store.specs.Sound.{IsFormed}
 use Rattle.kl1_store.proofs.Terms.{term_of-Structure}
@@ -21,7 +21,7 @@ use Rattle.kl1_moves.specs.declared.call.Call.{Call}
 use Rattle.kl1_moves.specs.declared.calling.Callee.{Callee}
 use Rattle.kl1_moves.specs.declared.calling.Callee.TheVariants as callee
 use Rattle.kl1_moves.specs.Shapes.{IsNoGoal, two_terms}
-use Rattle.kl1_moves.specs.Calls.{atom_in, name_in, IsOf, IsNameless, CallsNothing, Calls, CallsIn, CalledIn, CalledAs}
+use Rattle.kl1_moves.specs.Calls.{atom_in, name_in, IsOf, IsNameless, CallsNothing, Calls, CalledIn, CalledAs}
 use Rattle.kl1_moves.specs.Kinds.{IsCall, IsUnification, IsTrueGoal}
 
 -- ---- under another name than `:`

@@ -1,13 +1,13 @@
 -- What a call can do by the clause of a number, by cells.
 use Rattle.std.proofs.Common.{◌≡◌, ℕ, zero, suc, ◌+◌, ◌-◌, ◌<◌, ◌≤◌, List, [], ◌∷◌, ◌++◌, length, map, get_or, refl, sym, ap, ◌∙◌, subst, arith, append-nil}
-use Rattle.std.specs.Prelude.{Option, Some, None, slice_get, option_map, slice_index_or}
+use Rattle.std.specs.Prelude.{Option, Some, None, slice_get, slice_index_or}
 use Rattle.kl1_model.specs.declared.built_in.BuiltIn.{BuiltIn}
-use Rattle.kl1_model.specs.Term.{Term, Terms}
+use Rattle.kl1_model.specs.Term.{Term}
 use Rattle.kl1_model.specs.Module.{Clause, Module}
 use Rattle.kl1_model.specs.Match.{call_of, clauses_of, Candidate, candidate_by, verdict}
 use Rattle.kl1_model.specs.Instance.{body_instance}
-use Rattle.kl1_model.specs.Reduction.{commits, unifies, goes}
-use Rattle.kl1_model.specs.Waits.{move_by, least_clause, term_clause, awaited_by_term, awaited_by_call, awaited_at_head}
+use Rattle.kl1_model.specs.Reduction.{unifies, goes}
+use Rattle.kl1_model.specs.Waits.{awaited_by_term, awaited_by_call, awaited_at_head}
 use Rattle.kl1_model.proofs.LeastClause.{term_clause-call, term_clause-built_in, term_clause-none}
 use Rattle.kl1_text.specs.Reading.{Reads}
 use Rattle.kl1_store.specs.declared.cell.Cell.{Cell}
@@ -20,7 +20,7 @@ use Rattle.kl1_clause.specs.Predicates.{AreSome}
 use Rattle.kl1_match.specs.declared.place.Place.{Place}
 use Rattle.kl1_match.specs.declared.verdict.Verdict.{Verdict}
 use Rattle.kl1_match.specs.declared.verdict.Verdict.TheVariants.{Accepts, Rejects, Suspends}
-use Rattle.kl1_match.specs.Instances.{IsClause, AreThere, replacements_of, IsInstance}
+use Rattle.kl1_match.specs.Instances.{IsClause, replacements_of, IsInstance}
 use Rattle.kl1_match.specs.Verdicts.{IsVerdict, verdict_with_places, arguments_of_goal}
 use Rattle.kl1_match.specs.Choices.{AreClauses, Chooses, IsChoice}
 use Rattle.kl1_moves.specs.declared.call.Call.{Call}
@@ -31,7 +31,7 @@ use Rattle.kl1_moves.specs.declared.moves.Move.TheVariants as move
 use Rattle.kl1_moves.specs.Calls.{cell_of, arguments_at, call_at}
 use Rattle.kl1_moves.specs.Shapes.{IsNoGoal}
 use Rattle.kl1_moves.specs.Kinds.{IsKind, IsCall, IsUnification, IsTrueGoal}
-use Rattle.kl1_moves.specs.Moves.{HasPredicate, FailsAs, candidate_of, candidate_at, first_candidate, IsCandidate, CommitsBy, CommitsAs, CommitsTo, MovesAs}
+use Rattle.kl1_moves.specs.Moves.{HasPredicate, FailsAs, candidate_of, candidate_at, first_candidate, IsCandidate, CommitsAs, MovesAs}
 use Rattle.kl1_moves.specs.Standing.{StandsAs}
 use Rattle.kl1_moves.specs.Bodies.{IsBody}
 use Rattle.kl1_moves.proofs.Candidates.{fails_by, goes_on_by, commits_by}

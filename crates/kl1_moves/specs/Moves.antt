@@ -5,7 +5,6 @@ use Rattle.kl1_model.specs.Module.{Clause, Module}
 use Rattle.kl1_model.specs.Match.{clauses_of, Candidate, candidate_by, verdict}
 use Rattle.kl1_model.specs.Reduction.{commits, raises, unifies, goes, failure}
 use Rattle.kl1_model.specs.Waits.{move_by, least_clause}
-use Rattle.kl1_store.specs.declared.cell.Cell.{Cell}
 use Rattle.kl1_store.specs.Held.{Held, IsIn}
 use Rattle.kl1_store.specs.Meaning.{term_of}
 use Rattle.kl1_clause.specs.declared.compiled_clause.CompiledClause.{CompiledClause}

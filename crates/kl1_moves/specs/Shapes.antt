@@ -1,5 +1,5 @@
 -- What stands at the top of a goal.
-use Rattle.std.specs.Prelude.{◌≡◌, ℕ, List, [], ◌∷◌, None}
+use Rattle.std.specs.Prelude.{◌≡◌, ℕ, List, [], None}
 use Rattle.kl1_model.specs.Term.{Term, variable, atom, structure, none, more}
 use Rattle.kl1_model.specs.Match.{call_of}
 use Rattle.kl1_model.specs.Reduction.{built_in_move}
