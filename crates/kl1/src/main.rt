@@ -25,7 +25,7 @@ fn main(rt: HostRuntime) -> ExitCode {
     }
 }
 
-/// Whether words stand behind the program's name. One that isn't UTF-8 is a word too.
+/// Whether words stand after the program's name. One that isn't UTF-8 is a word too.
 fn has_words<R: Env + AllocGlobal>(rt: &R) -> Result<bool, ScriptFault> {
     match env::args(rt) {
         Ok(words) => Ok(words.len() > 1),

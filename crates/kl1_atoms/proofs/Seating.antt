@@ -4,6 +4,7 @@ use mathlib.Core.Option.{some, some-injective, some-ne-none}
 use lib.ListN.{get_elem?}
 use Rattle.atomic_table.specs.Table.{opening, Splits}
 use Rattle.atomic_table.proofs.Lists.{at_set}
+use Rattle.kl1_atoms.specs.Rule.{words_each}
 use Rattle.kl1_atoms.specs.declared.face.Face.{Face}
 use Rattle.kl1_atoms.specs.declared.face.View.{View}
 use Rattle.kl1_atoms.specs.Rule.{Fits, Mine, Kept}
@@ -23,7 +24,7 @@ only_view v w zero e = (refl, some-injective v w e)
 only_view v w (suc id) e = absurd (some-ne-none w (sym e))
 
 -- words of zeros keep the rule, with one seat that speaks for all accounts
-pub kept_first : (n : ℕ) (ws : List ℕ) → length ws ≡ 10240 * n → ((i : ℕ) → slice_index ws i ≡ 0) → Kept n (opening ws [] (all_faces n))
+pub kept_first : (n : ℕ) (ws : List ℕ) → length ws ≡ words_each * n → ((i : ℕ) → slice_index ws i ≡ 0) → Kept n (opening ws [] (all_faces n))
 kept_first n ws size zeros = record {
   sound = record {
     size = size;

@@ -1,5 +1,6 @@
 -- What a seat knows: names that aren't built in, each with its number, in the order of their first use.
 use Rattle.std.specs.Prelude.{◌≡◌, ℕ, ◌<◌, ◌≤◌, ◌==◌, ◌⊎◌, if◌then◌else◌, List, [], ◌∷◌, ◌++◌, length, Option, Some, None, IsTrue, IsSome, is_some, bytes_eq}
+use Rattle.kl1_model.specs.Limits.{first_number, most_names}
 use Rattle.kl1_model.specs.declared.built_in.BuiltIn.{BuiltIn}
 use Rattle.kl1_model.specs.Text.{is_text, text_of}
 use Rattle.kl1_text.specs.declared.atom_no.AtomNo.{AtomNo}
@@ -33,10 +34,6 @@ number_by ks t = place_or (number_in ks t) (built_in_of t)
 -- the text by which a seat knows a number
 abbrev pub text_by : List Known → ℕ → Option (List ℕ)
 text_by ks n = text_or (text_in ks n) (built_in_at n)
-
--- the most names of an account, the built-in ones aside
-abbrev pub most_names : ℕ
-most_names = 1024
 
 -- a text may be looked up: it is known, or there is room for one more
 abbrev pub HasRoom : List Known → List ℕ → Type 0
@@ -75,6 +72,6 @@ pub record StandIn (at : ℕ → List ℕ → Type 0) (ks : List Known) : Type 0
 pub record IsTable (at : ℕ → List ℕ → Type 0) : Type 0 where
   pub names : (t : List ℕ) (n : ℕ) → at n t → IsTrue (is_text t)
   pub not_built_in : (t : List ℕ) (n : ℕ) → at n t → built_in_of t ≡ None
-  pub from_64 : (t : List ℕ) (n : ℕ) → at n t → 64 ≤ n
+  pub from_64 : (t : List ℕ) (n : ℕ) → at n t → first_number ≤ n
   pub one_text : (t u : List ℕ) (n : ℕ) → at n t → at n u → t ≡ u
   pub one_number : (t : List ℕ) (m n : ℕ) → at m t → at n t → m ≡ n

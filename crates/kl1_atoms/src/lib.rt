@@ -26,6 +26,6 @@ pub use face::{Face, Heard, View};
 pub use known::Known;
 pub use laws::words_show_names;
 pub use plain_seat::PlainSeat;
-pub use plain_table::{MOST_NAMES, PlainTable};
+pub use plain_table::PlainTable;
 pub use shared_atoms::SharedAtoms;
 pub use turns::Turns;

@@ -1,6 +1,7 @@
 // Making the shared table, and its public look-ups.
 
 ghost use Rattle.std.specs.Prelude.{◌≡◌, ℕ, ◌+◌, ◌-◌, ◌*◌, ◌<◌, ◌≤◌, List, [], ◌∷◌, Some, IsSome, IsTrue, IfOk, slice_get, vec_len};
+ghost use Rattle.kl1_model.specs.Limits.{buckets_each, first_number, most_accounts, most_names};
 ghost use Rattle.kl1_atoms.specs.Names.{text_in, text_by, HasRoom, Adds};
 ghost use Rattle.kl1_text.specs.Words.{words_of};
 ghost use Rattle.kl1_atoms.specs.Plays.{own, has_first};
@@ -8,10 +9,11 @@ ghost use Rattle.kl1_atoms.specs.Seats.{all_faces, face_in, IsSharedSeat, IsNewS
 ghost use Rattle.kl1_atoms.specs.declared.atom_seat.AtomSeat.{AtomSeat};
 
 use crate::atom_seat::AtomSeat;
-use crate::atom_table::AtomTable;
+use crate::atom_table::{AtomTable, NAMES_EACH, WORDS_EACH};
 use crate::face::View;
 use crate::turns::Turns;
 use atomic_table::{Badge, Seat, Table};
+use kl1_model::limits::FIRST_NUMBER;
 use kl1_text::{AtomNo, AtomText, built_in_at};
 use std::alloc::{AllocError, Global};
 use std::mem;
@@ -19,12 +21,12 @@ use std::mem;
 impl AtomTable {
     /// A table for 1 to 16 accounts, and a seat for each of them that knows the built-in names alone.
     pub fn new(alloc: Global, accounts: usize) -> Result<(AtomTable, Vec<AtomSeat>), AllocError>
-        requires { (0 < accounts) × (accounts ≤ 16) }
+        requires { (0 < accounts) × (accounts ≤ most_accounts) }
         ensures accounts { IfOk result (λ made. made.0.accounts ≡ accounts) }
         ensures count { IfOk result (λ made. vec_len made.1 ≡ accounts) }
         ensures seats { IfOk result (λ made. (k : ℕ) (seat : AtomSeat) → slice_get made.1.items k ≡ Some seat → IsNewSharedSeat made.0.table.shared.table_id seat.badge.table_id made.0.accounts (face_in seat.badge.views) seat.account k) }
     {
-        let zeros = vec![in alloc; 0u64; 10240 * accounts]?;
+        let zeros = vec![in alloc; 0u64; WORDS_EACH * accounts]?;
         let key = accounts as u64;
         let (table, first) = Table::of_words(alloc, zeros.as_slice(), &key)?;
         let atoms = AtomTable {
@@ -73,10 +75,10 @@ impl AtomTable {
         ensures of { IsSharedSeat self.now.table.shared.table_id seat.new.badge.table_id self.now.accounts (face_in seat.new.badge.views) seat.new.account }
         ensures account { seat.new.account ≡ seat.old.account }
         ensures adds { Adds (face_in seat.old.badge.views).knows text result (face_in seat.new.badge.views).knows }
-        ensures turns { (turns.old < turns.new) × (turns.new ≤ turns.old + 2048 * self.now.accounts) }
+        ensures turns { (turns.old < turns.new) × (turns.new ≤ turns.old + buckets_each * self.now.accounts) }
     {
         text.shows_text();
-        let entry = 1024 * seat.account + seat.used;
+        let entry = NAMES_EACH * seat.account + seat.used;
         let used = seat.used;
         let mut own = mem::replace(&mut seat.badge, Badge::blank()).into_seat();
         let ended = self.look_up(&mut own, &text, entry, used, turns);
@@ -90,10 +92,10 @@ impl AtomTable {
         requires of { seat.old.table_id ≡ self.now.table.shared.table_id }
         requires first { IsTrue (has_first seat.old.me.0.faces) }
         requires accounts { (own seat.old.me.0).accounts ≡ self.now.accounts }
-        requires entry { entry < 1024 * self.now.accounts }
+        requires entry { entry < most_names * self.now.accounts }
         ensures of { seat.new.table_id ≡ seat.old.table_id }
         ensures same { seat.new.me ≡ seat.old.me }
-        ensures words { (t : List ℕ) → text_in (own seat.old.me.0).knows (64 + entry) ≡ Some t → result ≡ words_of 8 t }
+        ensures words { (t : List ℕ) → text_in (own seat.old.me.0).knows (first_number + entry) ≡ Some t → result ≡ words_of 8 t }
     {
         let mut words = [0u64; 8];
         for word in 0..8 {
@@ -114,7 +116,7 @@ impl AtomTable {
         if let Some(built_in) = built_in_at(number.number) {
             return AtomText::of_built_in(built_in);
         }
-        let entry = u64::from(number.number - 64);
+        let entry = u64::from(number.number - FIRST_NUMBER);
         let mut own = mem::replace(&mut seat.badge, Badge::blank()).into_seat();
         let words = self.read_text(&mut own, entry);
         seat.badge = own.into_badge();

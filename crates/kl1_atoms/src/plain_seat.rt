@@ -1,8 +1,10 @@
 // What one account knows of a plain table.
 
 ghost use Rattle.std.specs.Prelude.{◌≡◌, ◌<◌, ◌≤◌, [], ◌∷◌, ◌++◌, IfOk, vec_len, vec_capacity};
+ghost use Rattle.kl1_model.specs.Limits.{most_names};
 
 use crate::known::Known;
+use kl1_model::limits::MOST_NAMES;
 use std::alloc::{AllocError, Global};
 
 /// What one account knows of a plain table: how many places of its own row it has used, and the names that it looked up.
@@ -11,7 +13,7 @@ pub struct PlainSeat {
     pub(crate) account: usize,
     pub(crate) used: usize,
     pub(crate) known: Vec<Known>,
-    pub ghost room: { 1024 ≤ vec_capacity known },
+    pub ghost room: { most_names ≤ vec_capacity known },
 }
 
 impl PlainSeat {
@@ -21,7 +23,7 @@ impl PlainSeat {
         ensures used { IfOk result (λ seat. seat.used ≡ 0) }
         ensures known { IfOk result (λ seat. seat.known.items ≡ []) }
     {
-        let known = Vec::with_capacity(alloc, 1024)?;
+        let known = Vec::with_capacity(alloc, MOST_NAMES)?;
         Ok(PlainSeat {
             account,
             used: 0,
@@ -31,7 +33,7 @@ impl PlainSeat {
 
     /// Puts a pair behind what is known.
     pub(crate) fn learn(&mut self, one: Known)
-        requires { vec_len self.old.known < 1024 }
+        requires { vec_len self.old.known < most_names }
         ensures known { self.new.known.items ≡ self.old.known.items ++ one ∷ [] }
         ensures account { self.new.account ≡ self.old.account }
         ensures used { self.new.used ≡ self.old.used }

@@ -1,6 +1,7 @@
 // A plain table of names: one thread, and a search from the front.
 
 ghost use Rattle.std.specs.Prelude.{◌≡◌, ◌≢◌, ℕ, ◌+◌, ◌*◌, ◌-◌, ◌<◌, ◌≤◌, List, Option, Some, None, IfOk, IfSome, IsNone, IfNone, option_map, slice_get, slice_set, vec_len, vec_capacity, length, IsTrue, ◌↔◌, []};
+ghost use Rattle.kl1_model.specs.Limits.{most_accounts, most_names};
 ghost use Rattle.kl1_model.specs.Text.{is_text};
 ghost use Rattle.kl1_text.specs.declared.atom_no.AtomNo.{AtomNo};
 ghost use Rattle.kl1_text.specs.BuiltIns.{built_in_of};
@@ -12,28 +13,26 @@ ghost use Rattle.kl1_atoms.specs.declared.plain_seat.PlainSeat.{PlainSeat};
 use crate::atom_source::AtomSource;
 use crate::known::Known;
 use crate::plain_seat::PlainSeat;
+use kl1_model::limits::{FIRST_NUMBER, MOST_NAMES};
 use kl1_text::{AtomNo, AtomText, NameValue, built_in_at};
 use std::alloc::{AllocError, Global};
-
-/// The most names of an account, the built-in ones aside.
-pub const MOST_NAMES: usize = 1024;
 
 /// A table of names for one thread: 1,024 places for each account, each of a name or free.
 #[derive(Drop)]
 pub struct PlainTable {
     places: Vec<Option<AtomText>>,
-    pub ghost few: { vec_len places ≤ 16384 },
+    pub ghost few: { vec_len places ≤ (most_accounts * most_names) },
 }
 
 impl PlainTable {
     /// A table for 1 to 16 accounts, and a seat for each of them that knows the built-in names alone.
     pub fn new(alloc: Global, accounts: usize) -> Result<(PlainTable, Vec<PlainSeat>), AllocError>
-        requires { accounts ≤ 16 }
-        ensures places { IfOk result (λ made. vec_len made.0.places ≡ 1024 * accounts) }
+        requires { accounts ≤ most_accounts }
+        ensures places { IfOk result (λ made. vec_len made.0.places ≡ most_names * accounts) }
         ensures count { IfOk result (λ made. vec_len made.1 ≡ accounts) }
         ensures seats { IfOk result (λ made. (k : ℕ) (seat : PlainSeat) → slice_get made.1.items k ≡ Some seat → IsNewSeat made.0.places.items k seat.account seat.used seat.known.items) }
     {
-        let places = free_places(alloc, 1024 * accounts)?;
+        let places = free_places(alloc, MOST_NAMES * accounts)?;
         let seats = new_seats(alloc, accounts)?;
         Ok((PlainTable { places }, seats))
     }
@@ -41,9 +40,9 @@ impl PlainTable {
     /// The place of a text that isn't built in, which is put into the account's row where it has none yet.
     fn place_of(&mut self, seat: &mut PlainSeat, text: AtomText) -> usize
         requires of { IsSeatOf self.old.places.items seat.old.account seat.old.used seat.old.known.items }
-        requires room { vec_len seat.old.known < 1024 }
+        requires room { vec_len seat.old.known < most_names }
         requires other { built_in_of text ≡ None }
-        ensures bound { result < 16384 }
+        ensures bound { result < (most_accounts * most_names) }
         ensures known { seat.new.known ≡ seat.old.known }
         ensures account { seat.new.account ≡ seat.old.account }
         ensures name { IsTrue (is_text text) }
@@ -53,7 +52,7 @@ impl PlainTable {
         if let Some(place) = place_in(self.places.as_slice(), &text) {
             return place;
         }
-        let place = 1024 * seat.account + seat.used;
+        let place = MOST_NAMES * seat.account + seat.used;
         self.places[place] = Some(text);
         seat.used += 1;
         place
@@ -84,7 +83,7 @@ impl AtomSource for PlainTable {
         }
         let place = self.place_of(seat, text);
         let number = AtomNo {
-            number: 64 + place as u32,
+            number: FIRST_NUMBER + place as u32,
         };
         seat.learn(Known { text, number });
         number

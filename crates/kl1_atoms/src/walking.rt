@@ -1,6 +1,7 @@
 // A look-up in the shared table, bucket by bucket.
 
 ghost use Rattle.std.specs.Prelude.{◌≡◌, ◌≢◌, ℕ, suc, ◌+◌, ◌*◌, ◌%◌, ◌<◌, ◌≤◌, ◌↔◌, Bool, true, false, List, [], IsTrue, length};
+ghost use Rattle.kl1_model.specs.Limits.{buckets_each, first_number, most_accounts, most_names};
 ghost use Rattle.kl1_model.specs.Text.{is_text};
 ghost use Rattle.kl1_text.specs.Words.{words_of};
 ghost use Rattle.kl1_atoms.specs.declared.face.Face.{Face};
@@ -16,6 +17,7 @@ use crate::round::{Ended, Round};
 use crate::sought::Sought;
 use crate::turns::Turns;
 use atomic_table::Seat;
+use kl1_model::limits::{BUCKETS_EACH, FIRST_NUMBER};
 use kl1_text::{AtomNo, AtomText, NameValue};
 
 /// What each word is multiplied by in a mix: odd, and with its bits spread.
@@ -30,7 +32,7 @@ impl AtomTable {
         requires of { seat.old.table_id ≡ self.now.table.shared.table_id }
         requires first { IsTrue (has_first seat.old.me.0.faces) }
         requires accounts { (own seat.old.me.0).accounts ≡ self.now.accounts }
-        requires entry { entry < 1024 * self.now.accounts }
+        requires entry { entry < most_names * self.now.accounts }
         requires name { IsTrue (is_text text.now) }
         ensures of { seat.new.table_id ≡ seat.old.table_id }
         ensures same { seat.new.me ≡ seat.old.me }
@@ -59,10 +61,10 @@ impl AtomTable {
         requires first { IsTrue (has_first seat.old.me.0.faces) }
         requires accounts { (own seat.old.me.0).accounts ≡ self.now.accounts }
         requires way { bucket ≡ further self.now.accounts text.now passed }
-        requires within { bucket < 2048 * self.now.accounts }
-        requires entry { entry < 1024 * self.now.accounts }
+        requires within { bucket < buckets_each * self.now.accounts }
+        requires entry { entry < most_names * self.now.accounts }
         requires walks { Walks (own seat.old.me.0) text.now passed drafted }
-        requires small { passed ≤ 1024 * self.now.accounts }
+        requires small { passed ≤ most_names * self.now.accounts }
         requires seen { (h : Heard) × In (own seat.old.me.0).heard h × (h.bucket ≡ bucket) × (h.entry ≡ entry) × IsTrue (is_text h.text) }
         ensures of { seat.new.table_id ≡ seat.old.table_id }
         ensures gives { Steps seat.old.me seat.new.me (λ f g. Compares f g text.now passed drafted result) }
@@ -80,10 +82,10 @@ impl AtomTable {
         requires of { seat.old.table_id ≡ self.now.table.shared.table_id }
         requires first { IsTrue (has_first seat.old.me.0.faces) }
         requires accounts { (own seat.old.me.0).accounts ≡ self.now.accounts }
-        requires room { (own seat.old.me.0).used < 1024 }
+        requires room { (own seat.old.me.0).used < most_names }
         requires draft { (own seat.old.me.0).draft ≡ draft_of drafted text.now }
         requires entry { entry ≡ own_entry (own seat.old.me.0) }
-        requires bound { entry < 1024 * self.now.accounts }
+        requires bound { entry < most_names * self.now.accounts }
         ensures of { seat.new.table_id ≡ seat.old.table_id }
         ensures tells { Steps seat.old.me seat.new.me (λ f g. Drafts f g (words_of 8 text.now)) }
     {
@@ -110,11 +112,11 @@ impl AtomTable {
         requires first { IsTrue (has_first seat.old.me.0.faces) }
         requires accounts { (own seat.old.me.0).accounts ≡ self.now.accounts }
         requires way { bucket ≡ further self.now.accounts text.now passed }
-        requires within { bucket < 2048 * self.now.accounts }
+        requires within { bucket < buckets_each * self.now.accounts }
         requires entry { entry ≡ own_entry (own seat.old.me.0) }
         requires account { (own seat.old.me.0).account < self.now.accounts }
         requires walks { Walks (own seat.old.me.0) text.now passed drafted }
-        requires few { passed + 1 ≤ 2048 * self.now.accounts }
+        requires few { passed + 1 ≤ buckets_each * self.now.accounts }
         ensures of { seat.new.table_id ≡ seat.old.table_id }
         ensures gives { Steps seat.old.me seat.new.me (λ f g. Gives f g text.now passed result) }
     {
@@ -133,19 +135,19 @@ impl AtomTable {
     /// The bucket where a look-up of a text starts.
     pub fn first_bucket(&self, text: AtomText) -> u64
         ensures value { result ≡ start self.now.accounts text }
-        ensures within { result < 2048 * self.now.accounts }
+        ensures within { result < buckets_each * self.now.accounts }
     {
-        mixed(&text.words()) / HALF * (2048 * self.accounts) / HALF
+        mixed(&text.words()) / HALF * (BUCKETS_EACH * self.accounts) / HALF
     }
 
     /// The bucket that many behind the first, round the end.
     pub(crate) fn bucket_at(&self, start: u64, passed: u64) -> u64
-        requires start { start < 2048 * self.now.accounts }
-        requires passed { passed < 2048 * self.now.accounts }
-        ensures { result ≡ (start + passed) % (2048 * self.now.accounts) }
+        requires start { start < buckets_each * self.now.accounts }
+        requires passed { passed < buckets_each * self.now.accounts }
+        ensures { result ≡ (start + passed) % (buckets_each * self.now.accounts) }
     {
         let bucket = start + passed;
-        let buckets = 2048 * self.accounts;
+        let buckets = BUCKETS_EACH * self.accounts;
         if bucket < buckets {
             bucket
         } else {
@@ -169,18 +171,18 @@ impl AtomTable {
         requires account { (own seat.old.me.0).account < self.now.accounts }
         requires entry { entry ≡ own_entry (own seat.old.me.0) }
         requires used { used ≡ (own seat.old.me.0).used }
-        requires bound { used ≤ 1024 }
+        requires bound { used ≤ most_names }
         requires walks { Walks (own seat.old.me.0) text.now from false }
-        requires from { from ≤ 1024 * self.now.accounts }
+        requires from { from ≤ most_names * self.now.accounts }
         ensures of { seat.new.table_id ≡ seat.old.table_id }
         ensures ends { Steps seat.old.me seat.new.me (λ f g. Ends f g text.now result.number.number × (g.used ≡ f.used + result.more)) }
-        ensures more { used + result.more ≤ 1024 }
-        ensures turns { turns.new + from ≤ turns.old + 1024 * self.now.accounts + 2 }
+        ensures more { used + result.more ≤ most_names }
+        ensures turns { turns.new + from ≤ turns.old + most_names * self.now.accounts + 2 }
         ensures grow { turns.old ≤ turns.new }
     {
         let start = self.first_bucket(*text);
         let mut drafted = false;
-        for passed in from..2048 * self.accounts {
+        for passed in from..BUCKETS_EACH * self.accounts {
             turns.tick();
             let bucket = self.bucket_at(start, passed);
             match self.round(seat, text, bucket, entry, passed, drafted) {
@@ -207,12 +209,12 @@ impl AtomTable {
         requires account { (own seat.old.me.0).account < self.now.accounts }
         requires entry { entry ≡ own_entry (own seat.old.me.0) }
         requires used { used ≡ (own seat.old.me.0).used }
-        requires bound { used ≤ 1024 }
+        requires bound { used ≤ most_names }
         requires starts { Starts (own seat.old.me.0) text.now }
         ensures of { seat.new.table_id ≡ seat.old.table_id }
         ensures ends { Steps seat.old.me seat.new.me (λ f g. Ends f g text.now result.number.number × (g.used ≡ f.used + result.more)) }
-        ensures more { used + result.more ≤ 1024 }
-        ensures turns { (turns.old < turns.new) × (turns.new ≤ turns.old + 2048 * self.now.accounts) }
+        ensures more { used + result.more ≤ most_names }
+        ensures turns { (turns.old < turns.new) × (turns.new ≤ turns.old + buckets_each * self.now.accounts) }
     {
         match self.seek(seat, text, turns) {
             Sought::Found(bucket, found) => {
@@ -234,13 +236,13 @@ impl AtomTable {
 
 /// The end of a look-up at an entry.
 fn ended(entry: u64, more: u64) -> Ended
-    requires { entry < 16384 }
-    ensures number { result.number.number ≡ 64 + entry }
+    requires { entry < (most_accounts * most_names) }
+    ensures number { result.number.number ≡ first_number + entry }
     ensures more { result.more ≡ more }
 {
     Ended {
         number: AtomNo {
-            number: 64 + entry as u32,
+            number: FIRST_NUMBER + entry as u32,
         },
         more,
     }

@@ -7,4 +7,3 @@ pub mod CodeFacts
 pub mod Predicates
 pub mod Soundness
 pub mod Together
-pub mod PlaceMaps

@@ -1,5 +1,5 @@
 -- Lists of names as names are found and added.
-use Rattle.std.proofs.Common.{◌≡◌, ℕ, ◌<◌, ◌⊎◌, Bool, true, false, cond, ◌||◌, List, [], ◌∷◌, ◌++◌, Some, None, bytes_eq, length, get_or, sym, ap, ◌∙◌, arith, inl, inr, length-append}
+use Rattle.std.proofs.Common.{◌≡◌, ℕ, ◌<◌, ◌⊎◌, Bool, true, false, cond, ◌||◌, List, [], ◌∷◌, ◌++◌, Some, None, bytes_eq, length, get_or, refl, sym, ap, subst, ◌∙◌, arith, inl, inr, length-append, if◌then◌else◌}
 use Rattle.std.specs.List.{list_any}
 use Rattle.std.proofs.Math.ListN.{get_or-append}
 use Rattle.std.proofs.Math.Seq.{get_or-append_seam}
@@ -9,16 +9,12 @@ use Rattle.std.proofs.lemmas.Slice.Eq.{bytes_eq-Decides}
 use Rattle.kl1_model.specs.declared.built_in.BuiltIn.{BuiltIn}
 use Rattle.kl1_model.specs.Text.{text_of}
 use Rattle.kl1_text.specs.BuiltIns.{built_in_of}
-use Rattle.kl1_clause.specs.NameList.{is_of_language, with_text, IsNameList, IsPlaceOf}
+use Rattle.kl1_clause.specs.NameList.{is_of_language, with_text, IsNameList}
 use Rattle.kl1_clause.proofs.Language.{found_in_language, missed_in_language}
 
 -- no names at all
 pub no_names : IsNameList []
 no_names = record { once = λ i j p q e. absurd (omega arith); others = λ i p. absurd (omega arith) }
-
--- a text that is a name is at its place
-pub is_place : (names : List (List ℕ)) (text : List ℕ) (i : ℕ) → i < length names → bytes_eq text (get_or names i []) ≡ true → IsPlaceOf names text i
-is_place names text i within here = record { within = within; there = sym ((bytes_eq-Decides text (get_or names i [])).0 here) }
 
 -- a name of the language isn't put into a list
 pub is_language : (names : List (List ℕ)) (text : List ℕ) (b : BuiltIn) → built_in_of text ≡ Some b → (with_text names text ≡ names) × (text_of b ≡ text)
@@ -26,14 +22,6 @@ unfolding with_text is_of_language
 is_language names text b h =
     let all = found_in_language text b h in
     (ap (λ (v : Bool). cond (v || list_any (bytes_eq text) names) names (names ++ text ∷ [])) all.1, all.0)
-
--- a text that stands at a place isn't put into a list
-pub is_old : (names : List (List ℕ)) (text : List ℕ) (place : ℕ) → built_in_of text ≡ None → IsPlaceOf names text place → with_text names text ≡ names
-unfolding with_text is_of_language
-is_old names text place h at =
-    let there : list_any (bytes_eq text) names ≡ true = list_any_at (bytes_eq text) names place [] at.within ((bytes_eq-Decides text (get_or names place [])).1 (sym at.there)) in
-    ap (λ (v : Bool). cond (v || list_any (bytes_eq text) names) names (names ++ text ∷ [])) (missed_in_language text h)
-    ∙ ap (λ (v : Bool). cond v names (names ++ text ∷ [])) there
 
 -- names with one that is new
 pub record IsNew (names : List (List ℕ)) (text : List ℕ) : Type 0 where
@@ -79,3 +67,31 @@ is_new names text h none old = record {
   };
   there = get_or-append_seam names text [] [];
 }
+
+pub no_names_in : (names : List (List ℕ)) → names ≡ [] → IsNameList names
+no_names_in names e = subst IsNameList (sym e) no_names
+
+-- names with a text put in where it is new
+abbrev pub put_in : List (List ℕ) → List ℕ → List (List ℕ)
+put_in names text = if list_any (bytes_eq text) names then names else names ++ text ∷ []
+
+-- a text that isn't of the language, put in
+pub record IsPut (names : List (List ℕ)) (text : List ℕ) (after : List (List ℕ)) : Type 0 where
+  pub with : after ≡ with_text names text
+  pub list : IsNameList after
+
+puts : (names : List (List ℕ)) (text : List ℕ) (b : Bool) → built_in_of text ≡ None → IsNameList names → list_any (bytes_eq text) names ≡ b → IsPut names text (put_in names text)
+unfolding with_text is_of_language
+puts names text true h old e =
+    let is : put_in names text ≡ names = ap (λ (v : Bool). cond v names (names ++ text ∷ [])) e in
+    record {
+      with = sym (ap (λ (v : Bool). cond (v || list_any (bytes_eq text) names) names (names ++ text ∷ [])) (missed_in_language text h));
+      list = subst IsNameList (sym is) old;
+    }
+puts names text false h old e =
+    let is : put_in names text ≡ names ++ text ∷ [] = ap (λ (v : Bool). cond v names (names ++ text ∷ [])) e in
+    let new = is_new names text h e old in
+    record { with = is ∙ sym new.added; list = subst IsNameList (sym is) new.list }
+
+pub is_put : (names after : List (List ℕ)) (text : List ℕ) → built_in_of text ≡ None → IsNameList names → after ≡ put_in names text → IsPut names text after
+is_put names after text h old e = subst (IsPut names text) (sym e) (puts names text (list_any (bytes_eq text) names) h old refl)

@@ -1,8 +1,7 @@
 -- Lines, names and words as parts of a text that end at places.
 use Rattle.std.proofs.Common.{◌≡◌, ℕ, zero, suc, ◌+◌, ◌-◌, ◌<◌, ◌≢◌, eqb, true, false, List, [], ◌∷◌, ◌++◌, length, take, drop, get_or, refl, ap, sym, ◌∙◌, arith, add-one, append_assoc}
 use Rattle.std.proofs.lemmas.List.{append-nil}
-use Rattle.kl1_model.specs.Command.{is_space, first_word, behind_first, word_in, behind_word_in}
-use Rattle.kl1_model.specs.Script.{before_feed, behind_feed, without_return, before_space, behind_space}
+use Rattle.kl1_model.specs.Line.{is_space, first_word, behind_first, word_in, behind_word_in, before_feed, behind_feed, without_return, before_space, behind_space}
 use Rattle.kl1_lines.specs.Places.{place_of, blank_place, BeginsWord}
 
 pub before_feed_taken : (bs : List ℕ) → take (place_of 10 bs) bs ≡ before_feed bs

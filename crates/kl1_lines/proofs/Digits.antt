@@ -1,32 +1,17 @@
--- What holds of the numbers that digits write.
-use Rattle.std.proofs.Common.{◌≡◌, ℕ, ◌+◌, ◌-◌, ◌*◌, ◌^◌, ◌<◌, ◌≤◌, nat_lt, ◌&&◌, false, List, [], ◌∷◌, Option, None, Some, if◌then◌else◌, length, get_or, fold, arith, refl, sym, ◌∙◌}
+-- What holds of the number that a word is.
+use Rattle.std.proofs.Common.{◌≡◌, ℕ, ◌<◌, ◌≤◌, ◌-◌, nat_le, nat_lt, true, List, Some, None, if◌then◌else◌, length, refl, inl, inr, arith}
 use Rattle.std.specs.List.{list_all}
-use Rattle.std.proofs.lemmas.Bool.{le-ltb, and_left, and_right}
+use Rattle.std.proofs.lemmas.Bool.{cases_lt, le-leb, lt-leb, le-ltb, lt-ltb}
+use Rattle.kl1_model.specs.Limits.{most_digits, number_limit}
 use Rattle.kl1_model.specs.Token.{is_digit, number_of}
+use Rattle.kl1_model.specs.Line.{number_in}
 
--- the number that digits write behind a number
-abbrev pub number_from : ℕ → List ℕ → ℕ
-number_from n digits = fold (λ n b. 10 * n + (b - 48)) n digits
+by_limit : (n : ℕ) → (if nat_lt n number_limit then Some n else None) ≡ (if nat_le n (number_limit - 1) then Some n else None)
+by_limit n = elim (cases_lt n number_limit) [
+  | inl less ↦ rw (lt-ltb n number_limit less, le-leb n (number_limit - 1) (omega (arith, less))) refl
+  | inr more ↦ rw (le-ltb n number_limit more, lt-leb n (number_limit - 1) (omega (arith, more))) refl
+]
 
--- a number that digits follow does not fall
-pub number_grows : (n : ℕ) (digits : List ℕ) → n ≤ number_from n digits
-number_grows n [] = omega arith
-number_grows n (b ∷ bs) = omega (arith, number_grows (10 * n + (b - 48)) bs)
-
--- what bytes write, if they are digits of a value below 2 ^ 63
-abbrev pub value_of : List ℕ → Option ℕ
-value_of word = if list_all is_digit word && nat_lt (number_of word) (2 ^ 63) then Some (number_of word) else None
-
--- digits write too much where ten times those so far do
-pub too_many : (word : List ℕ) (n : ℕ) (rest : List ℕ) → number_from n rest ≡ number_of word → 0 < length rest → 2 ^ 63 < 10 * n → None ≡ value_of word
-too_many word n [] e h k = absurd (omega arith)
-too_many word n (b ∷ bs) e h k =
-    let large : 2 ^ 63 ≤ number_of word = omega (arith, e, number_grows (10 * n + (b - 48)) bs) in
-    rw (and_right (list_all is_digit word) (nat_lt (number_of word) (2 ^ 63)) (le-ltb (number_of word) (2 ^ 63) large)) refl
-
--- nothing is written where one byte is no digit
-pub no_digit : (word rest : List ℕ) → list_all is_digit rest ≡ list_all is_digit word → 0 < length rest → is_digit (get_or rest 0 0) ≡ false → None ≡ value_of word
-no_digit word [] e h k = absurd (omega arith)
-no_digit word (b ∷ bs) e h k =
-    let none : list_all is_digit word ≡ false = sym e ∙ and_left (is_digit b) (list_all is_digit bs) k in
-    rw (and_left (list_all is_digit word) (nat_lt (number_of word) (2 ^ 63)) none) refl
+-- a word of digits, of which there are neither none nor too many
+pub digits_write : (w : List ℕ) → 0 < length w → length w ≤ most_digits → list_all is_digit w ≡ true → number_in w ≡ (if nat_le (number_of w) (number_limit - 1) then Some (number_of w) else None)
+digits_write w some few digits = rw (le-leb 1 (length w) some, le-leb (length w) most_digits few, digits) (by_limit (number_of w))

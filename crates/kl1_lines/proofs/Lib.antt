@@ -1,5 +1,5 @@
 pub mod Cuts
-pub mod Digits
 pub mod Fuel
 pub mod WordFuel
 pub mod DeviceLaws
+pub mod Digits

@@ -1,8 +1,7 @@
 -- The bound on the words of a line is out of reach: words go on by the rule alone.
 use Rattle.std.proofs.Common.{◌≡◌, ℕ, zero, suc, ◌<◌, ◌≤◌, Bool, true, false, List, [], ◌∷◌, length, refl, ap, sym, ◌∙◌, arith}
 use Rattle.std.proofs.lemmas.Bool.{true≢false}
-use Rattle.kl1_model.specs.Command.{is_space, behind_first, word_in, behind_word_in, is_blank_line}
-use Rattle.kl1_model.specs.Script.{words_within, words_of}
+use Rattle.kl1_model.specs.Line.{is_space, behind_first, word_in, behind_word_in, is_blank_line, words_within, words_of}
 
 -- what is behind a word is no longer than the line
 behind_begun : (bs : List ℕ) → length (behind_first true bs) ≤ length bs

@@ -42,7 +42,7 @@ pub record ReadsFew (old new : Option (List ℕ)) (most : ℕ) : Type 0 where
   pub few : length bytes ≤ most
   pub consumes : ConsumesIfKnown old new bytes
 
--- n bytes were read and put behind the others, none only at the end
+-- n bytes were read and put after the others, none only at the end
 pub record AddsPiece (old new : Option (List ℕ)) (before after : List ℕ) (n : ℕ) : Type 0 where
   pub piece : List ℕ
   pub counts : length piece ≡ n

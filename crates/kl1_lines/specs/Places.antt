@@ -1,6 +1,6 @@
 -- Places in a line, by which the code cuts it.
 use Rattle.std.specs.Prelude.{◌≡◌, ◌==◌, ℕ, suc, true, false, List, [], ◌∷◌}
-use Rattle.kl1_model.specs.Command.{is_space}
+use Rattle.kl1_model.specs.Line.{is_space}
 
 -- the place of the first such byte, or how many bytes there are
 abbrev pub place_of : ℕ → List ℕ → ℕ

@@ -1,6 +1,8 @@
 // A stream that counts its failures.
 
-ghost use Rattle.std.specs.Prelude.{◌≡◌};
+ghost use Rattle.std.specs.Prelude.{◌≡◌, ◌↔◌, true};
+ghost use Rattle.std.specs.IoError.{error_kind};
+ghost use Rattle.std.specs.declared.io.ErrorKind.TheVariants.{Interrupted};
 
 use std::io::{Error, ErrorKind};
 
@@ -27,6 +29,8 @@ impl<T> Counted<T> {
 pub struct DeviceFailed;
 
 /// Whether a call failed, and wasn't merely interrupted.
-pub(crate) fn has_failed(error: Error) -> bool {
+pub(crate) fn has_failed(error: Error) -> bool
+    ensures { (result ≡ true) ↔ (error_kind error ≡ Interrupted → ⊥) }
+{
     error.kind() != ErrorKind::Interrupted
 }

@@ -1,8 +1,7 @@
 // Lines, and the name in front of one.
 
 ghost use Rattle.std.specs.Prelude.{◌≡◌, ◌+◌, ◌<◌, ◌≤◌, length, take, drop};
-ghost use Rattle.kl1_model.specs.Command.{is_blank_line};
-ghost use Rattle.kl1_model.specs.Script.{without_return, line_in, behind_feed, before_space, behind_space};
+ghost use Rattle.kl1_model.specs.Line.{is_blank_line, without_return, line_in, behind_feed, before_space, behind_space};
 ghost use Rattle.kl1_lines.specs.Places.{place_of};
 
 use crate::words::without_blanks;
@@ -24,7 +23,7 @@ fn place_of(byte: u8, text: &[u8]) -> usize
     place
 }
 
-/// What is behind the byte at a place, nothing if none is there.
+/// What is after the byte at a place, nothing if none is there.
 fn behind_place(text: &[u8], place: usize) -> &[u8]
     ensures { result.now ≡ drop (place + 1) text.now }
 {
@@ -50,7 +49,7 @@ pub(crate) fn without_return(line: &[u8]) -> &[u8]
     }
 }
 
-/// The line in front of a text, without its end, and what is behind that.
+/// The line in front of a text, without its end, and what is after that.
 pub fn split_line(text: &[u8]) -> (&[u8], &[u8])
     ensures line { result.0.now ≡ line_in text.now }
     ensures behind { result.1.now ≡ behind_feed text.now }
@@ -61,7 +60,7 @@ pub fn split_line(text: &[u8]) -> (&[u8], &[u8])
     (without_return(&text[..place]), behind_place(text, place))
 }
 
-/// The bytes before the first space of a line, and those behind it.
+/// The bytes before the first space of a line, and those after it.
 pub fn split_name(line: &[u8]) -> (&[u8], &[u8])
     ensures name { result.0.now ≡ before_space line.now }
     ensures behind { result.1.now ≡ behind_space line.now }

@@ -2,13 +2,12 @@
 
 ghost use Rattle.std.specs.Prelude.{◌≡◌, ◌<◌, length, OnOk, OnErr};
 ghost use Rattle.std.specs.Io.KnownBytes.{Appends};
+ghost use Rattle.kl1_model.specs.Limits.{most_waiting_bytes};
 ghost use Rattle.kl1_lines.specs.Devices.{AppendsFront, PassesOn};
 
 use crate::counted::DeviceFailed;
 use crate::sink::Sink;
-
-/// How many bytes are passed on at once, before the end.
-const PIECE: usize = 65_536;
+use kl1_model::limits::MOST_WAITING_BYTES;
 
 /// Writes all these bytes. After a failure, those up to some place are written.
 pub fn write_all<S: Sink>(sink: &mut S, bytes: &[u8]) -> Result<(), DeviceFailed>
@@ -40,12 +39,12 @@ pub fn finish<S: Sink>(sink: &mut S, bytes: &[u8]) -> Result<(), DeviceFailed>
 /// Writes the bytes where they are many, and empties them. After a failure, those up to some place are written.
 pub fn pass_on<S: Sink>(sink: &mut S, bytes: &mut Vec<u8>) -> Result<(), DeviceFailed>
     ensures ok { OnOk result (PassesOn (S.contents sink.old) (S.contents sink.new) bytes.old.items bytes.new.items) }
-    ensures few { OnOk result (length bytes.new.items < 65536) }
+    ensures few { OnOk result (length bytes.new.items < most_waiting_bytes) }
     ensures kept { OnOk result (S.failures sink.new ≡ S.failures sink.old) }
     ensures front { OnErr result (AppendsFront (S.contents sink.old) (S.contents sink.new) bytes.old.items) }
     ensures failed { OnErr result (S.failures sink.old < S.failures sink.new) }
 {
-    if bytes.len() < PIECE {
+    if bytes.len() < MOST_WAITING_BYTES {
         return Ok(());
     }
     match write_all(sink, bytes.as_slice()) {

@@ -11,7 +11,7 @@ pub enum ScriptFault {
     /// A write failed.
     #[error("write fault")]
     Write,
-    /// The script has more than 16,777,216 bytes.
+    /// The script has more bytes than one may have.
     #[error("too long")]
     TooLong,
     /// Memory was refused.

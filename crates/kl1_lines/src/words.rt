@@ -1,10 +1,15 @@
 // The words of a line.
 
 ghost use Rattle.std.specs.Prelude.{◌≡◌, ◌+◌, ◌<◌, ◌≤◌, bytes_eq, length, false};
-ghost use Rattle.kl1_model.specs.Command.{word_in, behind_word_in, is_blank_line};
+ghost use Rattle.kl1_model.specs.Line.{is_space, word_in, behind_word_in, is_blank_line};
 ghost use Rattle.kl1_lines.specs.Places.{blank_place, BeginsWord};
 
-use crate::bytes::is_space;
+/// Whether a byte parts the words of a line.
+fn is_space(byte: u8) -> bool
+    ensures { result ≡ is_space byte }
+{
+    byte == b' ' || byte == b'\t'
+}
 
 /// A line without the blanks in front.
 pub(crate) fn without_blanks(line: &[u8]) -> &[u8]
@@ -40,7 +45,7 @@ fn blank_place(line: &[u8]) -> usize
     place
 }
 
-/// The first word of a line, and what is behind it.
+/// The first word of a line, and what is after it.
 pub fn split_word(line: &[u8]) -> (&[u8], &[u8])
     ensures word { result.0.now ≡ word_in line.now }
     ensures behind { result.1.now ≡ behind_word_in line.now }

@@ -5,7 +5,7 @@ use Rattle.kl1_model.specs.Term.{Term, integer, atom, structure}
 use Rattle.kl1_model.specs.Match.{Outcome, clashes, waits, with_outcome, match_term}
 use Rattle.kl1_text.specs.Reading.{Reads}
 use Rattle.kl1_store.specs.declared.cell.Cell.{Cell}
-use Rattle.kl1_store.specs.Held.{Held, IsIn, AreIn}
+use Rattle.kl1_store.specs.Held.{Held, IsIn, AreIn, IsWalked}
 use Rattle.kl1_store.specs.Meaning.{term_of}
 use Rattle.kl1_clause.specs.declared.name.Name.{Name}
 use Rattle.kl1_clause.specs.declared.instruction.Instruction.TheVariants.{Variable, Integer, Atom, Structure}
@@ -14,7 +14,7 @@ use Rattle.kl1_match.specs.declared.place.Place.{Place}
 use Rattle.kl1_match.specs.declared.met.Met.{Met}
 use Rattle.kl1_match.specs.declared.met.Met.TheVariants.{Agrees, Waits, Clashes}
 use Rattle.kl1_match.specs.Instances.{AreThere}
-use Rattle.kl1_match.specs.Matching.{IntegerMeets, AtomMeets, StructureMeets, MeetsAs, Decides, Stays, Begins, IsOpened}
+use Rattle.kl1_match.specs.Matching.{WaitsAt, MetUnbound, IntegerMeets, AtomMeets, StructureMeets, MeetsAs, Decides, Stays, Begins, IsOpened}
 use Rattle.kl1_match.proofs.Cells.{takes_place, is_integer, is_atom, agrees_alone, agrees_inside, stays_outside, AreThere-push}
 
 pub variable_meets : {N : Type 0} (built : BuiltIn → N) (h : Held N) (names : List N) (v : ℕ) (x : Cell N) (stack : List (Cell N)) (places longer : List (Place N)) → IsIn h x → AreIn h stack → AreThere h places →
@@ -34,7 +34,7 @@ integer_meets built h names i x y stack places Agrees si pi means m = record {
   places_in = pi;
   goes_into = λ f reads p b. agrees_alone f h (inl (inr i)) p (integer i) (term_of f h x) stack places (is_integer i p b) refl (ap (match_term (integer i)) (sym (means f)) ∙ m f);
 }
-integer_meets built h names i x y stack places Waits si pi means m = record {
+integer_meets built h names i x y stack places (Waits v) si pi means m = record {
   stack_is = refl;
   places_are = refl;
   matched = λ f reads p b. ap (λ q. match_term q (term_of f h x)) (is_integer i p b) ∙ ap (match_term (integer i)) (sym (means f)) ∙ m f;
@@ -61,10 +61,10 @@ atom_meets built h names a name x y stack places Agrees si pi named means m = re
       agrees_alone f h (inr (inl text)) p (atom text) (term_of f h x) stack places (is_atom text p b) refl
       (ap (λ l. match_term (atom l) (term_of f h x)) (sym (named f reads)) ∙ ap (match_term (atom (f name))) (sym (means f)) ∙ m f reads);
 }
-atom_meets built h names a name x y stack places Waits si pi named means m = record {
+atom_meets built h names a name x y stack places (Waits v) si pi named means m = record {
   stack_is = refl;
   places_are = refl;
-  matched = λ f reads p b. atom_matched f h (text_in (map f names) a) name x y p waits (named f reads) b (means f) (m f reads);
+  matched = λ f reads p b. atom_matched f h (text_in (map f names) a) name x y p (waits (v ∷ [])) (named f reads) b (means f) (m f reads);
 }
 atom_meets built h names a name x y stack places Clashes si pi named means m = record {
   stack_is = refl;
@@ -92,5 +92,14 @@ structure_meets built h names a n name x y stack now places Agrees pi named mean
   places_in = pi;
   goes_into = λ f reads p b. agrees_inside f h name (text_in (map f names) a) n p (term_of f h x) stack now places (named f reads) b (opened_at f h name n (term_of f h y) (term_of f h x) stack now (means f) (o.opened f reads));
 }
-structure_meets built h names a n name x y stack now places Waits pi named means s = outside_at built h names a n name x y stack now places waits named means s
+structure_meets built h names a n name x y stack now places (Waits v) pi named means s = outside_at built h names a n name x y stack now places (waits (v ∷ [])) named means s
 structure_meets built h names a n name x y stack now places Clashes pi named means s = outside_at built h names a n name x y stack now places clashes named means s
+
+-- who waits does so for an unbound variable
+pub met_unbound : {N : Type 0} (h : Held N) (x : Cell N) (met : Met) → IsIn h x → IsWalked h x → WaitsAt x met → MetUnbound h met
+met_unbound h x Agrees inside walked e = tt
+met_unbound {N = N} h x (Waits v) inside walked e =
+    let I : Cell N → Type 0 = λ c. IsIn h c in
+    let W : Cell N → Type 0 = λ c. IsWalked h c in
+    record { within = subst I e inside; unbound = subst W e walked }
+met_unbound h x Clashes inside walked e = tt

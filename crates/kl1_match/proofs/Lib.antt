@@ -9,3 +9,5 @@ pub mod Skipping
 pub mod Answered
 pub mod Whole
 pub mod Beside
+pub mod Choosing
+pub mod Stays

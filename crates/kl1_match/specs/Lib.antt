@@ -4,5 +4,8 @@ pub mod Steps
 pub mod Built
 pub mod Variables
 pub mod BuiltNodes
+pub mod Waiting
 pub mod Matching
 pub mod Verdicts
+pub mod Choices
+pub mod Stays

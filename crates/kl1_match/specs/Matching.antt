@@ -1,11 +1,12 @@
 -- What a pattern beside a cell comes to.
-use Rattle.std.specs.Prelude.{◌≡◌, ℕ, ℤ, List, ◌∷◌, ◌++◌, map, reverse}
+use Rattle.std.specs.Prelude.{◌≡◌, ℕ, ℤ, List, [], ◌∷◌, ◌++◌, map, reverse}
 use Rattle.kl1_model.specs.declared.built_in.BuiltIn.{BuiltIn}
 use Rattle.kl1_model.specs.Term.{Term, integer, atom, structure, Terms, none, more, count_of, Replacement}
 use Rattle.kl1_model.specs.TermCode.{NodeCode, nodes_of, nodes_of_all}
 use Rattle.kl1_model.specs.Match.{Outcome, agrees, clashes, waits, with_outcome, match_both, match_term, match_terms}
 use Rattle.kl1_text.specs.Reading.{Reads}
 use Rattle.kl1_store.specs.declared.cell.Cell.{Cell}
+use Rattle.kl1_store.specs.declared.cell.Cell.TheVariants as cell
 use Rattle.kl1_store.specs.Held.{Held, AreIn}
 use Rattle.kl1_store.specs.Meaning.{term_of, terms_of}
 use Rattle.kl1_clause.specs.declared.instruction.Instruction.{Instruction}
@@ -15,6 +16,7 @@ use Rattle.kl1_match.specs.declared.place.Place.{Place}
 use Rattle.kl1_match.specs.declared.met.Met.{Met}
 use Rattle.kl1_match.specs.declared.met.Met.TheVariants.{Agrees, Waits, Clashes}
 use Rattle.kl1_match.specs.Instances.{AreThere, replacements_of}
+use Rattle.kl1_match.specs.Waiting.{IsUnbound}
 
 -- terms, and then others
 abbrev pub joined : Terms → Terms → Terms
@@ -31,8 +33,20 @@ arguments_after (Structure a n) = n
 -- the outcome of a pattern without arguments
 abbrev pub outcome_of : Met → Outcome
 outcome_of Agrees = agrees
-outcome_of Waits = waits
+outcome_of (Waits v) = waits (v ∷ [])
 outcome_of Clashes = clashes
+
+-- a pattern waits for the variable that the cell is
+abbrev pub WaitsAt : {N : Type 0} → Cell N → Met → Type 0
+WaitsAt x Agrees = Unit {0}
+WaitsAt x (Waits v) = x ≡ cell.Variable v
+WaitsAt x Clashes = Unit {0}
+
+-- the variable that a pattern waits for is unbound
+abbrev pub MetUnbound : {N : Type 0} → Held N → Met → Type 0
+MetUnbound h Agrees = Unit {0}
+MetUnbound h (Waits v) = IsUnbound h v
+MetUnbound h Clashes = Unit {0}
 
 -- what an integer as a pattern beside a cell comes to
 abbrev pub IntegerMeets : {N : Type 0} → (BuiltIn → N) → Held N → ℤ → Cell N → Met → Type 0
@@ -62,7 +76,7 @@ pub record Stays {N : Type 0} (built : BuiltIn → N) (h : Held N) (name : N) (c
 -- what a structure as a pattern beside a cell comes to
 abbrev pub StructureMeets : {N : Type 0} → (BuiltIn → N) → Held N → N → ℕ → Cell N → List (Cell N) → List (Cell N) → Met → Type 0
 StructureMeets built h name count x stack now Agrees = Opens built h name count x stack now
-StructureMeets built h name count x stack now Waits = Stays built h name count x stack now waits
+StructureMeets built h name count x stack now (Waits v) = Stays built h name count x stack now (waits (v ∷ []))
 StructureMeets built h name count x stack now Clashes = Stays built h name count x stack now clashes
 
 -- a pattern begins with a node
@@ -96,5 +110,5 @@ pub record Decides {N : Type 0} (built : BuiltIn → N) (h : Held N) (names : Li
 -- what a pattern that begins with an instruction comes to beside a cell
 abbrev pub MeetsAs : {N : Type 0} → (BuiltIn → N) → Held N → List N → Instruction → Cell N → List (Cell N) → List (Cell N) → List (Place N) → List (Place N) → Met → Type 0
 MeetsAs built h names i x stack now places longer Agrees = Continues built h names i x stack now places longer
-MeetsAs built h names i x stack now places longer Waits = Decides built h names i x stack now places longer waits
+MeetsAs built h names i x stack now places longer (Waits v) = Decides built h names i x stack now places longer (waits (v ∷ []))
 MeetsAs built h names i x stack now places longer Clashes = Decides built h names i x stack now places longer clashes

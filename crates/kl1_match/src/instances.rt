@@ -13,6 +13,7 @@ ghost use Rattle.kl1_match.specs.Built.{IsWithinRow, AreBelow, BuildsRow};
 use crate::building::put_step;
 use crate::name_in::name_at;
 use crate::place::Place;
+use crate::scratch::Scratch;
 use crate::step::Step;
 use crate::variables::{put_fresh, set_places};
 use kl1_clause::{CompiledClause, Instruction};
@@ -89,8 +90,43 @@ fn put_variables<N: NameValue>(
     put_fresh(store, cells, clause.fresh_variables)
 }
 
-/// The goals of a clause's body, with the terms at the places of its head's variables in them. Its other variables are the
-/// next of the store, in order of first occurrence. No variable is bound. Where memory is refused, the store may have grown.
+/// Puts in place of `goals` those of a clause's body, with the terms at the places of its head's variables in them. Its other
+/// variables are the next of the store, in order of first occurrence. No variable is bound. Where memory is refused, the store
+/// may have grown, and `goals` is of no use.
+pub fn put_instance<N: NameValue>(
+    store: &mut Store<N>,
+    names: &[N],
+    clause: &CompiledClause,
+    places: &[Place<N>],
+    scratch: &mut Scratch<N>,
+    goals: &mut Vec<Cell<N>>,
+) -> Result<(), AllocError>
+    requires clause { IsClause names.now clause.now }
+    requires places { AreThere store.old.held places.now }
+    requires some { 0 < store.old.held.variables }
+    ensures grown { Grown store.old.held store.new.held }
+    ensures hooks { store.new.hooks ≡ store.old.hooks }
+    ensures bindings { store.new.held.bindings ≡ store.old.held.bindings }
+    ensures goals { OnOk result (IsInstance N.built names.now clause.now places.now store.old.held store.new.held goals.new.items) }
+{
+    let variables = &mut scratch.variables;
+    let arguments = &mut scratch.arguments;
+    variables.clear();
+    goals.clear();
+    put_variables(store, clause, places, variables)?;
+    put_row(
+        store,
+        names,
+        variables.as_slice(),
+        clause.goals.as_slice(),
+        goals,
+        arguments,
+    )?;
+    goals.reverse();
+    Ok(())
+}
+
+/// The same over scratch of its own.
 pub fn instance<N: NameValue>(
     alloc: Global,
     store: &mut Store<N>,
@@ -106,18 +142,8 @@ pub fn instance<N: NameValue>(
     ensures bindings { store.new.held.bindings ≡ store.old.held.bindings }
     ensures goals { IfOk result (λ goals. IsInstance N.built names.now clause.now places.now store.old.held store.new.held goals.items) }
 {
+    let mut scratch = Scratch::new(alloc);
     let mut goals = Vec::new(alloc);
-    let mut variables = Vec::new(alloc);
-    let mut arguments = Vec::new(alloc);
-    put_variables(store, clause, places, &mut variables)?;
-    put_row(
-        store,
-        names,
-        variables.as_slice(),
-        clause.goals.as_slice(),
-        &mut goals,
-        &mut arguments,
-    )?;
-    goals.reverse();
+    put_instance(store, names, clause, places, &mut scratch, &mut goals)?;
     Ok(goals)
 }

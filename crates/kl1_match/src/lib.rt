@@ -3,21 +3,25 @@
 
 mod arguments;
 mod building;
+mod choice;
 mod goals;
 mod instances;
 mod meets;
 mod met;
 mod name_in;
 mod place;
+mod scratch;
 mod skips;
 mod step;
 mod variables;
 mod verdict;
 mod verdicts;
 
+pub use choice::choose;
 pub use goals::build_goal;
-pub use instances::instance;
+pub use instances::{instance, put_instance};
 pub use name_in::name_at;
 pub use place::Place;
+pub use scratch::Scratch;
 pub use verdict::Verdict;
 pub use verdicts::verdict_on;

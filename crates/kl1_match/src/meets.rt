@@ -4,7 +4,7 @@ ghost use Rattle.std.specs.Prelude.{◌≡◌, ℕ, List, length, IfOk};
 ghost use Rattle.kl1_store.specs.Held.{IsIn, AreIn, IsWalked};
 ghost use Rattle.kl1_clause.specs.Instructions.{IsNamed};
 ghost use Rattle.kl1_match.specs.Instances.{AreThere};
-ghost use Rattle.kl1_match.specs.Matching.{IntegerMeets, AtomMeets, StructureMeets, MeetsAs};
+ghost use Rattle.kl1_match.specs.Matching.{WaitsAt, MetUnbound, IntegerMeets, AtomMeets, StructureMeets, MeetsAs};
 
 use crate::arguments::push_arguments;
 use crate::met::Met;
@@ -18,11 +18,12 @@ use std::alloc::AllocError;
 fn meet_integer<N: NameValue>(store: &Store<N>, integer: i64, cell: Cell<N>) -> Met
     requires cell { IsIn store.now.held cell }
     requires walked { IsWalked store.now.held cell }
-    ensures { IntegerMeets N.built store.now.held integer cell result }
+    ensures meets { IntegerMeets N.built store.now.held integer cell result }
+    ensures waits { WaitsAt cell result }
 {
     let _ = store.mark();
     match cell {
-        Cell::Variable(_) => Met::Waits,
+        Cell::Variable(variable) => Met::Waits(variable),
         Cell::Integer(other) => {
             if integer == other {
                 return Met::Agrees;
@@ -37,11 +38,12 @@ fn meet_integer<N: NameValue>(store: &Store<N>, integer: i64, cell: Cell<N>) -> 
 fn meet_atom<N: NameValue>(store: &Store<N>, name: N, cell: Cell<N>) -> Met
     requires cell { IsIn store.now.held cell }
     requires walked { IsWalked store.now.held cell }
-    ensures { AtomMeets N.built store.now.held name cell result }
+    ensures meets { AtomMeets N.built store.now.held name cell result }
+    ensures waits { WaitsAt cell result }
 {
     let _ = store.mark();
     match cell {
-        Cell::Variable(_) => Met::Waits,
+        Cell::Variable(variable) => Met::Waits(variable),
         Cell::Integer(_) => Met::Clashes,
         Cell::Atom(other) => {
             if name.same(&other) {
@@ -63,11 +65,12 @@ fn meet_structure<N: NameValue>(
     requires cell { IsIn store.now.held cell }
     requires walked { IsWalked store.now.held cell }
     requires stack { AreIn store.now.held stack.old.items }
-    ensures { IfOk result (StructureMeets N.built store.now.held name count cell stack.old.items stack.new.items) }
+    ensures meets { IfOk result (StructureMeets N.built store.now.held name count cell stack.old.items stack.new.items) }
+    ensures waits { IfOk result (WaitsAt cell) }
 {
     let _ = store.mark();
     match cell {
-        Cell::Variable(_) => Ok(Met::Waits),
+        Cell::Variable(variable) => Ok(Met::Waits(variable)),
         Cell::Integer(_) => Ok(Met::Clashes),
         Cell::Atom(_) => Ok(Met::Clashes),
         Cell::Structure(structure) => {
@@ -98,7 +101,8 @@ pub(crate) fn meet<N: NameValue>(
     requires cell { IsIn store.now.held cell }
     requires stack { AreIn store.now.held stack.old.items }
     requires places { AreThere store.now.held places.old.items }
-    ensures { IfOk result (MeetsAs N.built store.now.held names.now instruction cell stack.old.items stack.new.items places.old.items places.new.items) }
+    ensures meets { IfOk result (MeetsAs N.built store.now.held names.now instruction cell stack.old.items stack.new.items places.old.items places.new.items) }
+    ensures unbound { IfOk result (MetUnbound store.now.held) }
 {
     match instruction {
         Instruction::Variable(variable) => {

@@ -5,8 +5,8 @@
 pub(crate) enum Met {
     /// They agree, or their arguments decide.
     Agrees,
-    /// The term is an unbound variable, for which the pattern waits.
-    Waits,
+    /// The term is this unbound variable, for which the pattern waits.
+    Waits(u32),
     /// They never agree.
     Clashes,
 }

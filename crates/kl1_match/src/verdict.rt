@@ -7,6 +7,6 @@ pub enum Verdict {
     Accepts,
     /// The goal can never commit to it.
     Rejects,
-    /// The goal waits for its variables.
+    /// The goal waits for some of its variables.
     Suspends,
 }

@@ -1,5 +1,5 @@
 -- Equations with equal sides are dropped.
-use Rattle.std.proofs.Common.{◌≡◌, ℕ, ◌==◌, List, ◌∷◌, refl, ◌∙◌, subst, eq-eqb}
+use Rattle.std.proofs.Common.{◌≡◌, ◌==◌, List, ◌∷◌, refl, ◌∙◌, subst, eq-eqb}
 use Rattle.std.proofs.lemmas.Bool.{cond-true}
 use Rattle.std.proofs.lemmas.Bool.Decides.{Decides-int_eq}
 use Rattle.std.proofs.lemmas.Slice.Eq.{bytes_eq-Decides}
@@ -7,25 +7,24 @@ use Rattle.std.specs.Prelude.{bytes_eq}
 use Rattle.std.specs.Ordering.{int_eq}
 use Rattle.kl1_model.specs.Term.{Term, variable, integer, atom, structure, Terms, none, more}
 use Rattle.kl1_model.specs.Unify.{Equation, argument_equations, goes_on, solve}
-use Rattle.kl1_model.specs.UnifyLaws.{equate, NumberedTo, EachNumberedTo, AllNumberedTo, EqualSidesAreDropped}
+use Rattle.kl1_model.specs.UnifyLaws.{equate, EqualSidesAreDropped}
 use Rattle.kl1_model.proofs.TermFacts.{same_term-true}
-use Rattle.kl1_model.proofs.Occurrences.{numbered-arguments}
 use Rattle.kl1_model.proofs.UnifyRule.{stepped}
 use Rattle.kl1_model.proofs.UnifySteps.{arguments_decide}
 
 mutual
-  dropped : (last : ℕ) (t : Term) (es : List Equation) → NumberedTo last t → AllNumberedTo last es → solve last (equate t t ∷ es) ≡ solve last es
-  dropped last (variable n) es h k = stepped last (variable n) (variable n) es (goes_on es) ((h, h), k) (cond-true (n == n) _ _ (eq-eqb n n refl))
-  dropped last (integer i) es h k = stepped last (integer i) (integer i) es (goes_on es) ((h, h), k) (cond-true (int_eq i i) _ _ ((Decides-int_eq i i).1 refl))
-  dropped last (atom a) es h k = stepped last (atom a) (atom a) es (goes_on es) ((h, h), k) (cond-true (bytes_eq a a) _ _ ((bytes_eq-Decides a a).1 refl))
-  dropped last (structure f ts) es h k = arguments_decide last f ts ts es refl ((h, h), k) ∙ each_dropped last ts es h k
+  dropped : (t : Term) (es : List Equation) → solve (equate t t ∷ es) ≡ solve es
+  dropped (variable n) es = stepped (variable n) (variable n) es (goes_on es) (cond-true (n == n) _ _ (eq-eqb n n refl))
+  dropped (integer i) es = stepped (integer i) (integer i) es (goes_on es) (cond-true (int_eq i i) _ _ ((Decides-int_eq i i).1 refl))
+  dropped (atom a) es = stepped (atom a) (atom a) es (goes_on es) (cond-true (bytes_eq a a) _ _ ((bytes_eq-Decides a a).1 refl))
+  dropped (structure f ts) es = arguments_decide f ts ts es refl ∙ each_dropped ts es
 
-  each_dropped : (last : ℕ) (ts : Terms) (es : List Equation) → EachNumberedTo last ts → AllNumberedTo last es → solve last (argument_equations ts ts es) ≡ solve last es
-  each_dropped last none es h k = refl
-  each_dropped last (more t ts) es h k = dropped last t (argument_equations ts ts es) h.0 (numbered-arguments last ts ts es h.1 h.1 k) ∙ each_dropped last ts es h.1 k
+  each_dropped : (ts : Terms) (es : List Equation) → solve (argument_equations ts ts es) ≡ solve es
+  each_dropped none es = refl
+  each_dropped (more t ts) es = dropped t (argument_equations ts ts es) ∙ each_dropped ts es
 
 -- equations with equal sides are dropped
 pub equal_sides_dropped : EqualSidesAreDropped
-equal_sides_dropped last e es same h =
+equal_sides_dropped e es same =
     let q : e.left ≡ e.right = same_term-true e.left e.right same in
-    subst (λ x. solve last (equate e.left x ∷ es) ≡ solve last es) q (dropped last e.left es h.0.0 h.1)
+    subst (λ x. solve (equate e.left x ∷ es) ≡ solve es) q (dropped e.left es)

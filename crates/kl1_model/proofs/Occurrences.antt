@@ -1,9 +1,11 @@
 -- Variables in equations: those numbered up to the last stay so, and what does not occur still does not after a replacement.
-use Rattle.std.proofs.Common.{◌≡◌, ℕ, ◌<◌, ◌≤◌, ◌==◌, true, false, List, [], ◌∷◌, refl, arith, eq-eqb}
+use Rattle.std.proofs.Common.{◌≡◌, ℕ, ◌<◌, ◌≤◌, max, ◌==◌, true, false, List, [], ◌∷◌, refl, arith, eq-eqb}
+use Rattle.std.proofs.Math.Nat.{le-max_left, le-max_right}
 use Rattle.std.proofs.lemmas.Bool.{or_parts, or_from, or_left, or_right, cond_both, ne_eqb}
 use Rattle.std.specs.List.{AllByRecursion}
 use Rattle.kl1_model.specs.Term.{Term, variable, integer, atom, structure, Terms, none, more, occurs, occurs_in, replace, replace_each}
-use Rattle.kl1_model.specs.Unify.{Equation, argument_equations, replace_in_all}
+use Rattle.kl1_model.specs.Unify.{Equation, argument_equations, replace_in_all, highest_among}
+use Rattle.kl1_model.specs.Meaning.{highest, highest_in}
 use Rattle.kl1_model.specs.UnifyLaws.{NumberedTo, EachNumberedTo, AllNumberedTo}
 use Rattle.kl1_model.proofs.TermFacts.{occurs-replace, occurs-replaced}
 
@@ -54,6 +56,50 @@ mutual
   pub each_numbered_if : (last : ℕ) (ts : Terms) → ((v : ℕ) → occurs_in v ts ≡ true → v ≤ last) → EachNumberedTo last ts
   each_numbered_if last none h = tt
   each_numbered_if last (more t ts) h = (numbered_if last t (λ v o. h v (or_left (occurs v t) (occurs_in v ts) o)), each_numbered_if last ts (λ v o. h v (or_right (occurs v t) (occurs_in v ts) o)))
+
+mutual
+  -- a higher bound on the numbers is one too
+  pub numbered_higher : (m n : ℕ) (t : Term) → m ≤ n → NumberedTo m t → NumberedTo n t
+  numbered_higher m n (variable v) le h = omega arith
+  numbered_higher m n (integer i) le h = tt
+  numbered_higher m n (atom a) le h = tt
+  numbered_higher m n (structure f ts) le h = each_numbered_higher m n ts le h
+
+  pub each_numbered_higher : (m n : ℕ) (ts : Terms) → m ≤ n → EachNumberedTo m ts → EachNumberedTo n ts
+  each_numbered_higher m n none le h = tt
+  each_numbered_higher m n (more t ts) le h = (numbered_higher m n t le h.0, each_numbered_higher m n ts le h.1)
+
+all_numbered_higher : (m n : ℕ) (es : List Equation) → m ≤ n → AllNumberedTo m es → AllNumberedTo n es
+all_numbered_higher m n [] le h = tt
+all_numbered_higher m n (e ∷ es) le h = ((numbered_higher m n e.left le h.0.0, numbered_higher m n e.right le h.0.1), all_numbered_higher m n es le h.1)
+
+mutual
+  -- the greatest number of a term is a bound on its numbers
+  numbered_to_greatest : (t : Term) → NumberedTo (highest t) t
+  numbered_to_greatest (variable v) = omega arith
+  numbered_to_greatest (integer i) = tt
+  numbered_to_greatest (atom a) = tt
+  numbered_to_greatest (structure f ts) = each_numbered_to_greatest ts
+
+  each_numbered_to_greatest : (ts : Terms) → EachNumberedTo (highest_in ts) ts
+  each_numbered_to_greatest none = tt
+  each_numbered_to_greatest (more t ts) = (
+    numbered_higher (highest t) (max (highest t) (highest_in ts)) t (le-max_left (highest t) (highest_in ts)) (numbered_to_greatest t),
+    each_numbered_higher (highest_in ts) (max (highest t) (highest_in ts)) ts (le-max_right (highest t) (highest_in ts)) (each_numbered_to_greatest ts),
+  )
+
+-- and that of equations a bound on all numbers
+pub numbered_to_highest : (es : List Equation) → AllNumberedTo (highest_among es) es
+numbered_to_highest [] = tt
+numbered_to_highest (e ∷ es) =
+    let sides = max (highest e.left) (highest e.right) in
+    let all = highest_among (e ∷ es) in
+    let here : sides ≤ all = le-max_left sides (highest_among es) in
+    let left : highest e.left ≤ sides = le-max_left (highest e.left) (highest e.right) in
+    let right : highest e.right ≤ sides = le-max_right (highest e.left) (highest e.right) in (
+      (numbered_higher (highest e.left) all e.left (omega arith) (numbered_to_greatest e.left), numbered_higher (highest e.right) all e.right (omega arith) (numbered_to_greatest e.right)),
+      all_numbered_higher (highest_among es) all es (le-max_right sides (highest_among es)) (numbered_to_highest es),
+    )
 
 -- ---- what does not occur still does not
 

@@ -1,11 +1,11 @@
 -- The rule of unification without fuel.
-use Rattle.std.proofs.Common.{◌≡◌, ℕ, zero, suc, ◌+◌, ◌<◌, ◌≤◌, ◌||◌, Bool, true, false, List, [], ◌∷◌, Option, option_map, refl, sym, ◌∙◌, ap, arith, eq-eqb, le_refl, le_trans, lt_of_lt_of_le, ⊎_elim}
+use Rattle.std.proofs.Common.{◌≡◌, ℕ, zero, suc, ◌+◌, ◌<◌, ◌≤◌, ◌||◌, Bool, true, false, List, [], ◌∷◌, Option, Some, option_map, refl, sym, ◌∙◌, ap, arith, eq-eqb, le_refl, le_trans, lt_of_lt_of_le, ⊎_elim}
 use Rattle.std.proofs.lemmas.Bool.{or_parts, or_from, or_left, or_right, cases_eq, cases_lt}
 use Rattle.kl1_model.specs.Term.{Term, variable, structure, Terms, more, sizes, occurs, Replacement}
-use Rattle.kl1_model.specs.Unify.{Equation, Front, argument_equations, front, replace_in_all, after, equations_size, walk, solve_within, solve}
-use Rattle.kl1_model.specs.UnifyLaws.{equate, NumberedTo, AllNumberedTo, FrontNumberedTo, FrontDecides, FrontKeepsNumbers, AnyBoundServes, NothingIsSolved}
+use Rattle.kl1_model.specs.Unify.{Equation, Front, argument_equations, front, replace_in_all, after, equations_size, walk, solve_within, solve_to, highest_among, solve}
+use Rattle.kl1_model.specs.UnifyLaws.{equate, NumberedTo, AllNumberedTo, FrontNumberedTo, FrontDecides, FrontKeepsNumbers, HighestIsABound, AnyBoundServes, NothingIsSolved}
 use Rattle.kl1_model.proofs.UnifyFront.{front_cases}
-use Rattle.kl1_model.proofs.Occurrences.{numbered-replace_in_all, numbered-arguments, Absent, absent-replace_in_all, absent-replaced, absent-arguments}
+use Rattle.kl1_model.proofs.Occurrences.{numbered_to_highest, numbered-replace_in_all, numbered-arguments, Absent, absent-replace_in_all, absent-replaced, absent-arguments}
 
 -- ---- how many variables occur
 
@@ -180,22 +180,51 @@ solve_enough last (suc m) (suc n) es h l k =
     walk_agrees last (variables_in last es) (solve_within m) (solve_within n) (λ to t s. solve_enough last m n to t (omega arith) (omega arith)) (suc (equations_size es)) es h (le_refl (variables_in last es))
 
 -- no equations are solved by no replacements
-pub nothing_solved : NothingIsSolved
+pub nothing_solved_to : (last : ℕ) → solve_to last [] ≡ Some []
 unfolding solve_within walk
-nothing_solved last = refl
+nothing_solved_to last = refl
 
--- equations are solved by what their front equation leads to
-pub front_decides : FrontDecides
+pub nothing_solved : NothingIsSolved
+nothing_solved = nothing_solved_to 0
+
+-- equations are solved by what their front equation leads to, by one bound on the numbers
+pub front_decides_to : (last : ℕ) (e : Equation) (es : List Equation) → AllNumberedTo last (e ∷ es) → solve_to last (e ∷ es) ≡ after (solve_to last) (solve_to last) (front e.left e.right es)
 unfolding solve_within walk
-front_decides last e es h =
+front_decides_to last e es h =
     let most = variables_most last (e ∷ es) in
-    after_agrees last e es (walk (solve_within (suc last)) (equations_size (e ∷ es))) (solve last) (solve_within (suc last)) (solve last) h
+    after_agrees last e es (walk (solve_within (suc last)) (equations_size (e ∷ es))) (solve_to last) (solve_within (suc last)) (solve_to last) h
     (λ to s. walk_enough last (solve_within (suc last)) (equations_size (e ∷ es)) (suc (equations_size to)) to s.numbered s.smaller (omega arith))
     (λ to s. solve_enough last (suc last) (suc (suc last)) to s.numbered (let q = s.variables in omega arith) (let q = s.variables in omega arith))
 
+-- two bounds on the numbers give the same solution
+bounds_agree : (last other : ℕ) (es : List Equation) → AllNumberedTo last es → AllNumberedTo other es → solve_to last es ≡ solve_to other es
+bounds_agree last other es h k =
+    let l = variables_most last es in
+    let o = variables_most other es in
+    ⊎_elim
+    (λ (b : last < other). solve_enough last (suc (suc last)) (suc (suc other)) es h (omega arith) (omega arith))
+    (λ (b : other ≤ last). solve_enough other (suc (suc last)) (suc (suc other)) es k (omega arith) (omega arith))
+    (cases_lt last other)
+
+-- the highest number is a bound
+pub highest_is_a_bound : HighestIsABound
+highest_is_a_bound = numbered_to_highest
+
+-- any bound on the numbers gives the solution
+pub any_bound_serves : AnyBoundServes
+any_bound_serves last es h = bounds_agree last (highest_among es) es h (numbered_to_highest es)
+
+-- equations are solved by what their front equation leads to
+pub front_decides : FrontDecides
+front_decides e es =
+    let last = highest_among (e ∷ es) in
+    let h = numbered_to_highest (e ∷ es) in
+    front_decides_to last e es h
+    ∙ after_agrees last e es (solve_to last) solve (solve_to last) solve h (λ to s. any_bound_serves last to s.numbered) (λ to s. any_bound_serves last to s.numbered)
+
 -- a step, where it is known what the front equation leads to
-pub stepped : (last : ℕ) (t u : Term) (es : List Equation) (to : Front) → AllNumberedTo last (equate t u ∷ es) → front t u es ≡ to → solve last (equate t u ∷ es) ≡ after (solve last) (solve last) to
-stepped last t u es to h e = front_decides last (equate t u) es h ∙ ap (after (solve last) (solve last)) e
+pub stepped : (t u : Term) (es : List Equation) (to : Front) → front t u es ≡ to → solve (equate t u ∷ es) ≡ after solve solve to
+stepped t u es to e = front_decides (equate t u) es ∙ ap (after solve solve) e
 
 -- what the front equation leads to brings in no higher numbers
 pub front_numbered : FrontKeepsNumbers
@@ -207,13 +236,3 @@ front_numbered last e es h =
     (λ v t o w h. (h.0.1, h.0.0, numbered-replace_in_all last v t es h.0.0 h.1))
     (λ a b c h. tt)
     e.left e.right h
-
--- any bound on the numbers gives the same solution
-pub any_bound_serves : AnyBoundServes
-any_bound_serves last other es h k =
-    let l = variables_most last es in
-    let o = variables_most other es in
-    ⊎_elim
-    (λ (b : last < other). solve_enough last (suc (suc last)) (suc (suc other)) es h (omega arith) (omega arith))
-    (λ (b : other ≤ last). solve_enough other (suc (suc last)) (suc (suc other)) es k (omega arith) (omega arith))
-    (cases_lt last other)

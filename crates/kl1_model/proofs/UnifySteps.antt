@@ -10,8 +10,8 @@ use Rattle.kl1_model.proofs.UnifyRule.{stepped}
 
 -- structures of one name and length give way to their arguments
 pub arguments_decide : ArgumentsDecide
-arguments_decide last f ts us es n h =
-    stepped last (structure f ts) (structure f us) es (goes_on (argument_equations ts us es)) h (cond-true (bytes_eq f f && count_of ts == count_of us) _ _ (and_from (bytes_eq f f) (count_of ts == count_of us) ((bytes_eq-Decides f f).1 refl) (eq-eqb (count_of ts) (count_of us) n)))
+arguments_decide f ts us es n =
+    stepped (structure f ts) (structure f us) es (goes_on (argument_equations ts us es)) (cond-true (bytes_eq f f && count_of ts == count_of us) _ _ (and_from (bytes_eq f f) (count_of ts == count_of us) ((bytes_eq-Decides f f).1 refl) (eq-eqb (count_of ts) (count_of us) n)))
 
 left_binds : (v : ℕ) (t : Term) (es : List Equation) → occurs v t ≡ false → IsLower v t → front (variable v) t es ≡ binds v t es
 left_binds v (variable w) es o l =
@@ -29,8 +29,8 @@ right_binds v (structure f ts) es o l = cond-false (occurs_in v ts) _ _ o
 
 -- a variable on the left takes the right side
 pub left_takes_right : LeftTakesRight
-left_takes_right last v t es o l h = stepped last (variable v) t es (binds v t es) h (left_binds v t es o l)
+left_takes_right v t es o l = stepped (variable v) t es (binds v t es) (left_binds v t es o l)
 
 -- a variable on the right takes the left side
 pub right_takes_left : RightTakesLeft
-right_takes_left last v t es o l h = stepped last t (variable v) es (binds v t es) h (right_binds v t es o l)
+right_takes_left v t es o l = stepped t (variable v) es (binds v t es) (right_binds v t es o l)

@@ -1,75 +1,20 @@
 -- Commands and replies as texts, and what a command does.
-use Rattle.std.specs.Prelude.{ℕ, zero, suc, ◌^◌, ◌==◌, nat_le, nat_lt, ◌&&◌, ◌||◌, Bool, true, false, if◌then◌else◌, List, [], ◌∷◌, ◌++◌, length, codes, bytes_eq, decimal, Option, Some, None, option_and_then}
-use Rattle.std.specs.List.{list_all}
+use Rattle.std.specs.Prelude.{ℕ, zero, suc, nat_le, if◌then◌else◌, List, [], ◌∷◌, ◌++◌, length, codes, bytes_eq, decimal, Option, Some, None, option_map, option_and_then}
 use Rattle.kl1_model.specs.Term.{Term}
 use Rattle.kl1_model.specs.Name.{atom_text}
-use Rattle.kl1_model.specs.Token.{is_digit, number_of}
+use Rattle.kl1_model.specs.Limits.{most_command_bytes, most_steps}
+use Rattle.kl1_model.specs.Line.{word_in, behind_word_in, number_in, up_to, only_number}
 use Rattle.kl1_model.specs.Module.{Reading, good, bad, read_goal}
 use Rattle.kl1_model.specs.State.{State}
-use Rattle.kl1_model.specs.Event.{Refusal, syntax, source, exists, no_shoen, step_refused, journal_full, value, Event, start, reduce, read, Reply, loaded, opened, reduced, ran, shown, refused, Stepped, refuse, is_range, most_source_bytes}
+use Rattle.kl1_model.specs.Event.{Refusal, syntax, source, exists, no_shoen, step_refused, journal_full, value, Event, load, start, reduce, read, Reply, loaded, opened, reduced, ran, shown, refused, Stepped, refuse, is_range}
 use Rattle.kl1_model.specs.Step.{step}
 use Rattle.kl1_model.specs.Choice.{Chosen, first}
+use Rattle.kl1_model.specs.Record.{Request, load_of, spoiled_load, other_line}
 
 -- a command: an event, or a run of at most so many steps
 pub data Command : Type 0 where
   does : Event → Command
   run : ℕ → Command
-
--- what a line is: a command, a load whose source of so many bytes follows, or neither
-pub data Line : Type 0 where
-  whole : Command → Line
-  load_of : ℕ → Line
-  no_command : Line
-
--- space and tab, which part the words of a line
-abbrev pub is_space : ℕ → Bool
-is_space b = b == 32 || b == 9
-
--- the first word of a line, of which these bytes have been seen; blanks may stand before it
-abbrev pub first_word : List ℕ → List ℕ → List ℕ
-first_word before [] = before
-first_word [] (b ∷ bs) = elim (is_space b) [ true ↦ first_word [] bs | false ↦ first_word (b ∷ []) bs ]
-first_word (a ∷ before) (b ∷ bs) = elim (is_space b) [ true ↦ a ∷ before | false ↦ first_word (a ∷ before ++ b ∷ []) bs ]
-
--- what is behind the first word, where the test tells whether bytes of it have been seen
-abbrev pub behind_first : Bool → List ℕ → List ℕ
-behind_first begun [] = []
-behind_first false (b ∷ bs) = elim (is_space b) [ true ↦ behind_first false bs | false ↦ behind_first true bs ]
-behind_first true (b ∷ bs) = elim (is_space b) [ true ↦ b ∷ bs | false ↦ behind_first true bs ]
-
--- the first word of a line
-abbrev pub word_in : List ℕ → List ℕ
-word_in line = first_word [] line
-
--- what is behind the first word of a line
-abbrev pub behind_word_in : List ℕ → List ℕ
-behind_word_in line = behind_first false line
-
--- whether a line has blanks alone
-abbrev pub is_blank_line : List ℕ → Bool
-is_blank_line line = list_all is_space line
-
--- the number that a word is: 1 to 19 digits, of a value below 2 ^ 63
-abbrev pub number_in : List ℕ → Option ℕ
-number_in w = if nat_le 1 (length w) && nat_le (length w) 19 && list_all is_digit w && nat_lt (number_of w) (2 ^ 63) then Some (number_of w) else None
-
--- a number of at most so much
-abbrev pub up_to : ℕ → Option ℕ → Option ℕ
-up_to most None = None
-up_to most (Some n) = if nat_le n most then Some n else None
-
--- the one number that a line has
-abbrev pub only_number : List ℕ → Option ℕ
-only_number line = if is_blank_line (behind_word_in line) then number_in (word_in line) else None
-
--- the most steps of a run
-abbrev pub most_steps : ℕ
-most_steps = 262144
-
--- a line that is a command where something was found
-abbrev pub line_with : {A : Type 0} → (A → Line) → Option A → Line
-line_with make None = no_command
-line_with make (Some a) = make a
 
 -- a start with its goal as it was read
 abbrev pub start_with : ℕ → ℕ → ℕ → Reading Term → Option Command
@@ -83,9 +28,8 @@ start_command line =
     let c = behind_word_in b in
     option_and_then (λ allowance. option_and_then (λ low. option_and_then (λ high. start_with allowance low high (read_goal (behind_word_in c))) (number_in (word_in c))) (number_in (word_in b))) (number_in (word_in line))
 
--- the first word of a command
+-- the first word of a command, but for a load
 pub data Verb : Type 0 where
-  loads : Verb
   starts : Verb
   runs : Verb
   asks_value : Verb
@@ -94,27 +38,27 @@ pub data Verb : Type 0 where
 -- the verb that a word is
 abbrev pub verb_of : List ℕ → Verb
 verb_of w =
-    if bytes_eq w (codes "load") then loads
-    else if bytes_eq w (codes "start") then starts
+    if bytes_eq w (codes "start") then starts
     else if bytes_eq w (codes "run") then runs
     else if bytes_eq w (codes "value") then asks_value
     else unknown
 
--- a line by its first word and what is behind it
-abbrev pub line_by : Verb → List ℕ → Line
-line_by loads rest = line_with load_of (up_to most_source_bytes (only_number rest))
-line_by starts rest = line_with whole (start_command rest)
-line_by runs rest = line_with (λ n. whole (run n)) (up_to most_steps (only_number rest))
-line_by asks_value rest = line_with (λ n. whole (does (read (value n)))) (only_number rest)
-line_by unknown rest = no_command
+-- the command of a line by its first word and what is after it
+abbrev pub command_by : Verb → List ℕ → Option Command
+command_by starts rest = start_command rest
+command_by runs rest = option_map run (up_to most_steps (only_number rest))
+command_by asks_value rest = option_map (λ n. does (read (value n))) (only_number rest)
+command_by unknown rest = None
 
--- the most bytes of a line
-abbrev pub most_command_bytes : ℕ
-most_command_bytes = 4096
+-- the command that a line is, without its end, if it is one; one of too many bytes is none, and neither is a load alone
+abbrev pub parse : List ℕ → Option Command
+parse line = if nat_le (length line) most_command_bytes then command_by (verb_of (word_in line)) (behind_word_in line) else None
 
--- what a line is, without its end; one of more than 4,096 bytes is no command
-abbrev pub parse : List ℕ → Line
-parse line = if nat_le (length line) most_command_bytes then line_by (verb_of (word_in line)) (behind_word_in line) else no_command
+-- the command that is asked for, if there is one
+abbrev pub command_of : Request → Option Command
+command_of (load_of text) = Some (does (load text))
+command_of spoiled_load = None
+command_of (other_line line) = parse line
 
 -- how a run goes on, from the steps done and the account
 abbrev pub Going : Type 0
@@ -125,7 +69,7 @@ abbrev pub stopped_by : State → ℕ → Refusal → Stepped
 stopped_by s zero r = refuse s r
 stopped_by s (suc n) r = record { state = s; reply = ran (suc n) }
 
--- goes on behind a step, unless it was refused
+-- goes on after a step, unless it was refused
 abbrev pub run_on : Going → State → ℕ → State → Reply → Stepped
 run_on next before n after (refused r) = stopped_by before n r
 run_on next before n after reply = next (suc n) after
@@ -135,7 +79,7 @@ abbrev pub run_choice : Going → State → ℕ → Option Chosen → Stepped
 run_choice next s n None = record { state = s; reply = ran n }
 run_choice next s n (Some c) = let done = step s (reduce c.goal c.clause) in run_on next s n done.state done.reply
 
--- first steps, one after another, at most so many and until none can step or one is refused, behind those done before
+-- first steps, one after another, at most so many and until none can step or one is refused, after those done before
 abbrev pub run_from : ℕ → ℕ → State → Stepped
 run_from zero n s = record { state = s; reply = ran n }
 run_from (suc k) n s = run_choice (run_from k) s n (first s)
@@ -162,3 +106,12 @@ reply_lines reduced = codes "+ reduced" ∷ []
 reply_lines (ran n) = (codes "+ " ++ decimal n) ∷ []
 reply_lines (shown text) = (codes "+ " ++ text) ∷ []
 reply_lines (refused r) = (codes "- " ++ refusal_text r) ∷ []
+
+-- a line as it is written
+abbrev pub written_line : List ℕ → List ℕ
+written_line line = line ++ 10 ∷ []
+
+-- lines as they are written
+abbrev pub written_lines : List (List ℕ) → List ℕ
+written_lines [] = []
+written_lines (line ∷ lines) = written_line line ++ written_lines lines

@@ -1,5 +1,7 @@
 -- Events, replies and refusals.
-use Rattle.std.specs.Prelude.{ℕ, suc, ◌^◌, nat_le, nat_lt, ◌&&◌, Bool, if◌then◌else◌, List}
+use Rattle.std.specs.Prelude.{ℕ, suc, nat_le, nat_lt, ◌&&◌, Bool, if◌then◌else◌, List}
+pub use Rattle.kl1_model.specs.Limits.{most_source_bytes, most_entries, most_line_bytes, most_priority}
+use Rattle.kl1_model.specs.Limits.{number_limit}
 use Rattle.kl1_model.specs.Term.{Term}
 use Rattle.kl1_model.specs.State.{State}
 
@@ -45,23 +47,7 @@ refuse s r = record { state = s; reply = refused r }
 
 -- a number that a command may have: below 2 ^ 63
 abbrev pub is_number : ℕ → Bool
-is_number n = nat_lt n (2 ^ 63)
-
--- the most bytes of a source
-abbrev pub most_source_bytes : ℕ
-most_source_bytes = 65536
-
--- the most entries of a journal
-abbrev pub most_entries : ℕ
-most_entries = 262144
-
--- the most bytes of a line of a journal
-abbrev pub most_line_bytes : ℕ
-most_line_bytes = 262144
-
--- the greatest priority that a start may give
-abbrev pub most_priority : ℕ
-most_priority = 4095
+is_number n = nat_lt n number_limit
 
 -- one entry more in the journal
 abbrev pub with_entry : State → State

@@ -1,3 +1,4 @@
+pub mod Limits
 pub mod Text
 pub mod Name
 pub mod Term
@@ -21,13 +22,11 @@ pub mod Opening
 pub mod Step
 pub mod Choice
 pub mod Waits
+pub mod Line
+pub mod Record
+pub mod WaitsLaws
 pub mod Command
 pub mod Script
-pub mod Examples
 pub mod UnifyLaws
-pub mod AccountRows
 pub mod ReadLaws
-pub mod ReadRows
-pub mod ReadFaults
 pub mod Same
-pub mod SameLaws

@@ -1,5 +1,7 @@
 -- The terms that trees mean, and what holds of a term that a text can write.
-use Rattle.std.specs.Prelude.{ℕ, suc, ◌^◌, max, nat_le, nat_lt, ◌&&◌, Bool, true, if◌then◌else◌, ℤ, pos, negsuc, neg_ℤ, List, [], ◌∷◌, ◌++◌, codes, bytes_eq}
+use Rattle.std.specs.Prelude.{ℕ, suc, max, nat_le, nat_lt, ◌&&◌, Bool, true, if◌then◌else◌, ℤ, pos, negsuc, neg_ℤ, List, [], ◌∷◌, ◌++◌, codes, bytes_eq}
+pub use Rattle.kl1_model.specs.Limits.{most_depth, most_arguments}
+use Rattle.kl1_model.specs.Limits.{number_limit}
 use Rattle.kl1_model.specs.Text.{is_text}
 use Rattle.kl1_model.specs.Term.{Term, variable, integer, atom, structure, Terms, none, more, count_of}
 use Rattle.kl1_model.specs.Grammar.{Relation, equality, Expression, alone, related, Part, single, qualified, Primary, numbered, positive, negative, constant, call, empty_list, list, group, Series, last, another, Rest, closed, tail, Head, bare_head, head_with}
@@ -93,18 +95,10 @@ abbrev mutual
 abbrev pub depth : Term → ℕ
 depth t = (depths t).whole
 
--- the most that a term may be deep
-abbrev pub most_depth : ℕ
-most_depth = 256
-
--- the most arguments of a structure
-abbrev pub most_arguments : ℕ
-most_arguments = 8
-
 -- an integer of 64 bits with sign
 abbrev pub is_word : ℤ → Bool
-is_word (pos n) = nat_lt n (2 ^ 63)
-is_word (negsuc n) = nat_lt n (2 ^ 63)
+is_word (pos n) = nat_lt n number_limit
+is_word (negsuc n) = nat_lt n number_limit
 
 -- whether a term has names of at most 63 bytes, integers of 64 bits, and structures of 1 to 8 arguments
 abbrev mutual

@@ -1,6 +1,7 @@
 -- Modules and goals as texts mean them, and the line of the first bad item.
 use Rattle.std.specs.Prelude.{ℕ, ◌==◌, nat_lt, not, ◌&&◌, ◌||◌, Bool, true, false, if◌then◌else◌, List, [], ◌∷◌, ◌++◌, length, codes, bytes_eq, Option, Some, None, option_map, option_and_then, unwrap_or, map}
 use Rattle.std.specs.List.{list_any}
+pub use Rattle.kl1_model.specs.Limits.{most_clauses}
 use Rattle.kl1_model.specs.declared.sign.Sign.TheVariants.{Neck}
 use Rattle.kl1_model.specs.Term.{Term, atom, Terms, none, list_of, count_of}
 use Rattle.kl1_model.specs.Token.{Token, name_token, sign_token, end_token, Placed, Tokens, tokens_of_text}
@@ -127,10 +128,6 @@ abbrev pub last_of : List Clause → Option Clause
 last_of [] = None
 last_of (c ∷ []) = Some c
 last_of (c ∷ d ∷ cs) = last_of (d ∷ cs)
-
--- the most clauses of a module
-abbrev pub most_clauses : ℕ
-most_clauses = 512
 
 -- whether a clause may follow these: there is room, and clauses of one name and number of arguments stand together
 abbrev pub may_follow : List Clause → Clause → Bool

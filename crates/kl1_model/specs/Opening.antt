@@ -1,5 +1,6 @@
 -- Starting a goal in a shoen of its own, and opening a shoen.
 use Rattle.std.specs.Prelude.{ℕ, suc, ◌+◌, nat_le, ◌&&◌, Bool, false, List, [], ◌∷◌, ◌++◌, length, codes, decimal, Some}
+use Rattle.kl1_model.specs.Limits.{monitor_priority}
 use Rattle.kl1_model.specs.Term.{Term, variable, atom, substituted}
 use Rattle.kl1_model.specs.Print.{print}
 use Rattle.kl1_model.specs.Goal.{is_goal}
@@ -21,7 +22,7 @@ may_start allowance low high t =
 -- a goal of a shoen that opens: the monitor takes the next goal number, and the goal the one after
 abbrev pub opening_goals : ℕ → Shoen → Term → List Goal
 opening_goals last h goal =
-    record { number = suc last; task = monitor; shoen = h.number; priority = 4096 }
+    record { number = suc last; task = monitor; shoen = h.number; priority = monitor_priority }
     ∷ record { number = suc (suc last); task = reduces goal; shoen = h.number; priority = h.high } ∷ []
 
 -- a shoen that opens for a goal: it and the goal join the account, and it reports that it has started

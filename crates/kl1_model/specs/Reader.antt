@@ -1,5 +1,6 @@
 -- The reader: from the tokens of an item to its tree.
-use Rattle.std.specs.Prelude.{ℕ, zero, suc, ◌^◌, nat_lt, true, false, if◌then◌else◌, List, [], ◌∷◌, length, Option, Some, None}
+use Rattle.std.specs.Prelude.{ℕ, zero, suc, nat_lt, true, false, if◌then◌else◌, List, [], ◌∷◌, length, Option, Some, None}
+use Rattle.kl1_model.specs.Limits.{number_limit}
 use Rattle.kl1_model.specs.declared.sign.Sign.TheVariants.{Neck, Colon, Equals, Bar, Comma, Open, Close, OpenList, CloseList}
 use Rattle.kl1_model.specs.Token.{name_token, variable_token, digits_token, minus_token, sign_token}
 use Rattle.kl1_model.specs.Grammar.{Numbered, Relation, equality, Expression, alone, related, Part, single, qualified, Primary, numbered, positive, negative, constant, call, empty_list, list, group, Series, last, another, Rest, closed, tail, Head, bare_head, head_with, ClauseTree, fact, rule, guarded}
@@ -96,7 +97,7 @@ negative_at _ = None
 -- a primary, where one is in front
 abbrev pub primary_at : Inner → List Numbered → Answer Primary
 primary_at inner (variable_token v ∷ ts) = Some (numbered v, ts)
-primary_at inner (digits_token n ∷ ts) = if nat_lt n (2 ^ 63) then Some (positive n, ts) else None
+primary_at inner (digits_token n ∷ ts) = if nat_lt n number_limit then Some (positive n, ts) else None
 primary_at inner (minus_token true ∷ ts) = negative_at ts
 primary_at inner (name_token a quotes false ∷ ts) = Some (constant a quotes, ts)
 primary_at inner (name_token f quotes true ∷ ts) = then_read (arguments_at inner ts) (λ s us. Some (call f quotes s, us))

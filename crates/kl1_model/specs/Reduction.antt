@@ -74,7 +74,7 @@ equation a b = record { left = a; right = b } ∷ []
 abbrev pub moved : Goal → Term → Move → State → State
 moved g t (commits k) s = committed g k s
 moved g t (raises kind) s = report g.shoen (exception kind t) s
-moved g t (unifies a b) s = unified g.shoen t (solve s.last_variable (equation a b)) s
+moved g t (unifies a b) s = unified g.shoen t (solve (equation a b)) s
 moved g t goes s = s
 
 -- the effect of a move by the goal's task

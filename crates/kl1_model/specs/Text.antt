@@ -1,16 +1,13 @@
 -- Names: their bytes, and the names that are built in.
 use Rattle.std.specs.Prelude.{ℕ, nat_le, ◌&&◌, Bool, List, [], ◌∷◌, length, codes, bytes_eq}
 use Rattle.std.specs.List.{list_all, list_any}
+pub use Rattle.kl1_model.specs.Limits.{most_name_bytes}
 use Rattle.kl1_model.specs.declared.built_in.BuiltIn.{BuiltIn}
 use Rattle.kl1_model.specs.declared.built_in.BuiltIn.TheVariants.{EmptyList, ListCell, Colon, Equal, NotEqual, Assign, Less, Greater, AtMost, AtLeast, SameNumber, OtherNumber, Plus, Minus, Times, Divide, Modulo, True, Otherwise, Wait, Integer, Atom, ListTest, AtomFrom, Shoen, Execute, Module, Priority, Started, Stopped, Resumed, Exhausted, Exception, Terminated, Aborted, Failure, Overflow, IllegalInput, Exhaustion, Stop, Start, Abort, Allow}
 
 -- a byte of a name: printable ASCII, the space among it
 abbrev pub is_name_byte : ℕ → Bool
 is_name_byte b = nat_le 32 b && nat_le b 126
-
--- the most bytes of a name
-abbrev pub most_name_bytes : ℕ
-most_name_bytes = 63
 
 -- a name: at most 63 bytes of printable ASCII; no bytes at all is a name too
 abbrev pub is_text : List ℕ → Bool

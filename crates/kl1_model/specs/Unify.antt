@@ -1,7 +1,8 @@
 -- Unification: equations between terms, and the replacements that make their sides equal.
-use Rattle.std.specs.Prelude.{ℕ, zero, suc, ◌+◌, nat_lt, ◌==◌, ◌&&◌, if◌then◌else◌, List, [], ◌∷◌, Option, Some, None, option_map, map, bytes_eq}
+use Rattle.std.specs.Prelude.{ℕ, zero, suc, ◌+◌, max, nat_lt, ◌==◌, ◌&&◌, if◌then◌else◌, List, [], ◌∷◌, Option, Some, None, option_map, map, bytes_eq}
 use Rattle.std.specs.Ordering.{int_eq}
 use Rattle.kl1_model.specs.Term.{Term, variable, integer, atom, structure, Terms, more, size, count_of, occurs, replace, Replacement}
+use Rattle.kl1_model.specs.Meaning.{highest}
 
 -- two terms that are to become equal
 pub record Equation : Type 0 where
@@ -61,7 +62,16 @@ unfoldable pub solve_within : ℕ → List Equation → Option (List Replacement
 solve_within zero es = None
 solve_within (suc n) es = walk (solve_within n) (suc (equations_size es)) es
 
--- the replacements for terms whose variables are numbered up to the last, or none where nothing unifies them;
+-- the replacements for equations whose variables are numbered up to the last, or none where nothing unifies them;
 -- each replacement is of another variable, so these are enough
-abbrev pub solve : ℕ → List Equation → Option (List Replacement)
-solve last es = solve_within (suc (suc last)) es
+abbrev pub solve_to : ℕ → List Equation → Option (List Replacement)
+solve_to last es = solve_within (suc (suc last)) es
+
+-- the greatest number of a variable in equations, 0 where they have none
+abbrev pub highest_among : List Equation → ℕ
+highest_among [] = 0
+highest_among (e ∷ es) = max (max (highest e.left) (highest e.right)) (highest_among es)
+
+-- the replacements that make both sides of all equations equal, or none where nothing unifies them
+abbrev pub solve : List Equation → Option (List Replacement)
+solve es = solve_to (highest_among es) es

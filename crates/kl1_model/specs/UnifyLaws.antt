@@ -2,7 +2,7 @@
 use Rattle.std.specs.Prelude.{◌≡◌, ℕ, ◌<◌, ◌≤◌, ◌≢◌, IsTrue, IsFalse, Decides, pos, List, [], ◌∷◌, codes, Option, Some, None, option_map, ⊤}
 use Rattle.std.specs.List.{AllByRecursion}
 use Rattle.kl1_model.specs.Term.{Term, variable, integer, atom, structure, Terms, none, more, count_of, same_term, occurs, Replacement, replaced, substituted}
-use Rattle.kl1_model.specs.Unify.{Equation, argument_equations, Front, goes_on, fails, binds, front, after, replace_in_all, solve}
+use Rattle.kl1_model.specs.Unify.{Equation, argument_equations, Front, goes_on, fails, binds, front, after, replace_in_all, solve_to, highest_among, solve}
 
 -- all variables of a term are numbered up to the last
 abbrev mutual
@@ -35,11 +35,11 @@ bind v t = record { number = v; by = t }
 
 -- no equations are solved by no replacements
 abbrev pub NothingIsSolved : Type 0
-NothingIsSolved = (last : ℕ) → solve last [] ≡ Some []
+NothingIsSolved = solve [] ≡ Some []
 
 -- equations are solved by what their front equation leads to, without fuel
 abbrev pub FrontDecides : Type 0
-FrontDecides = (last : ℕ) (e : Equation) (es : List Equation) → AllNumberedTo last (e ∷ es) → solve last (e ∷ es) ≡ after (solve last) (solve last) (front e.left e.right es)
+FrontDecides = (e : Equation) (es : List Equation) → solve (e ∷ es) ≡ after solve solve (front e.left e.right es)
 
 -- all variables of what the front equation leads to are numbered up to the last
 abbrev pub FrontNumberedTo : ℕ → Front → Type 0
@@ -51,9 +51,13 @@ FrontNumberedTo last (binds v t es) = (v ≤ last) × NumberedTo last t × AllNu
 abbrev pub FrontKeepsNumbers : Type 0
 FrontKeepsNumbers = (last : ℕ) (e : Equation) (es : List Equation) → AllNumberedTo last (e ∷ es) → FrontNumberedTo last (front e.left e.right es)
 
--- any bound on the numbers gives the same solution
+-- the highest number is a bound on the numbers
+abbrev pub HighestIsABound : Type 0
+HighestIsABound = (es : List Equation) → AllNumberedTo (highest_among es) es
+
+-- any bound on the numbers gives the solution
 abbrev pub AnyBoundServes : Type 0
-AnyBoundServes = (last other : ℕ) (es : List Equation) → AllNumberedTo last es → AllNumberedTo other es → solve last es ≡ solve other es
+AnyBoundServes = (last : ℕ) (es : List Equation) → AllNumberedTo last es → solve_to last es ≡ solve es
 
 -- whether two terms are the same tree is whether they are equal
 abbrev pub SameTermDecides : Type 0
@@ -61,23 +65,23 @@ SameTermDecides = (t u : Term) → Decides (same_term t u) (t ≡ u)
 
 -- an equation in front with the same tree on both sides is dropped
 abbrev pub EqualSidesAreDropped : Type 0
-EqualSidesAreDropped = (last : ℕ) (e : Equation) (es : List Equation) → IsTrue (same_term e.left e.right) → AllNumberedTo last (e ∷ es) → solve last (e ∷ es) ≡ solve last es
+EqualSidesAreDropped = (e : Equation) (es : List Equation) → IsTrue (same_term e.left e.right) → solve (e ∷ es) ≡ solve es
 
 -- structures of one name and length give way to their arguments
 abbrev pub ArgumentsDecide : Type 0
-ArgumentsDecide = (last : ℕ) (f : List ℕ) (ts us : Terms) (es : List Equation) → count_of ts ≡ count_of us → AllNumberedTo last (equate (structure f ts) (structure f us) ∷ es) → solve last (equate (structure f ts) (structure f us) ∷ es) ≡ solve last (argument_equations ts us es)
+ArgumentsDecide = (f : List ℕ) (ts us : Terms) (es : List Equation) → count_of ts ≡ count_of us → solve (equate (structure f ts) (structure f us) ∷ es) ≡ solve (argument_equations ts us es)
 
 -- a replacement, and then those that solve the other equations after it
-abbrev pub bound_first : ℕ → ℕ → Term → List Equation → Option (List Replacement)
-bound_first last v t es = option_map (λ rest. bind v t ∷ rest) (solve last (replace_in_all v t es))
+abbrev pub bound_first : ℕ → Term → List Equation → Option (List Replacement)
+bound_first v t es = option_map (λ rest. bind v t ∷ rest) (solve (replace_in_all v t es))
 
 -- a variable on the left takes a lower variable, or a term that is none and in which it doesn't occur
 abbrev pub LeftTakesRight : Type 0
-LeftTakesRight = (last v : ℕ) (t : Term) (es : List Equation) → IsFalse (occurs v t) → IsLower v t → AllNumberedTo last (equate (variable v) t ∷ es) → solve last (equate (variable v) t ∷ es) ≡ bound_first last v t es
+LeftTakesRight = (v : ℕ) (t : Term) (es : List Equation) → IsFalse (occurs v t) → IsLower v t → solve (equate (variable v) t ∷ es) ≡ bound_first v t es
 
 -- and so does a variable on the right
 abbrev pub RightTakesLeft : Type 0
-RightTakesLeft = (last v : ℕ) (t : Term) (es : List Equation) → IsFalse (occurs v t) → IsLower v t → AllNumberedTo last (equate t (variable v) ∷ es) → solve last (equate t (variable v) ∷ es) ≡ bound_first last v t es
+RightTakesLeft = (v : ℕ) (t : Term) (es : List Equation) → IsFalse (occurs v t) → IsLower v t → solve (equate t (variable v) ∷ es) ≡ bound_first v t es
 
 -- how equations are solved, with no fuel: equal sides are dropped, structures give way to their arguments, a variable
 -- takes a lower variable, or a term that is none and in which it doesn't occur, and where nothing makes the front
@@ -92,11 +96,11 @@ pub data Solves : List Equation → Option (List Replacement) → Type 0 where
 
 -- equations are solved so
 abbrev pub SolvedByDerivation : Type 0
-SolvedByDerivation = (last : ℕ) (es : List Equation) → AllNumberedTo last es → Solves es (solve last es)
+SolvedByDerivation = (es : List Equation) → Solves es (solve es)
 
 -- whichever of these steps solve equations, the answer is one
 abbrev pub DerivationsAgree : Type 0
-DerivationsAgree = (last : ℕ) (es : List Equation) (o : Option (List Replacement)) → AllNumberedTo last es → Solves es o → solve last es ≡ o
+DerivationsAgree = (es : List Equation) (o : Option (List Replacement)) → Solves es o → solve es ≡ o
 
 -- a function on terms makes both sides of each equation equal
 abbrev pub MakesEqual : (Term → Term) → List Equation → Type 0
@@ -104,11 +108,11 @@ MakesEqual f es = AllByRecursion (λ e. f e.left ≡ f e.right) es
 
 -- a solution makes both sides of each equation equal
 abbrev pub SolutionsMakeEqual : Type 0
-SolutionsMakeEqual = (last : ℕ) (es : List Equation) (rs : List Replacement) → solve last es ≡ Some rs → MakesEqual (replaced rs) es
+SolutionsMakeEqual = (es : List Equation) (rs : List Replacement) → solve es ≡ Some rs → MakesEqual (replaced rs) es
 
 -- in a solution a variable is replaced by a lower variable, or by a term that is none and in which it doesn't occur
 abbrev pub ReplacedByLower : Type 0
-ReplacedByLower = (last : ℕ) (es : List Equation) (rs : List Replacement) → solve last es ≡ Some rs → AllByRecursion (λ r. IsFalse (occurs r.number r.by) × IsLower r.number r.by) rs
+ReplacedByLower = (es : List Equation) (rs : List Replacement) → solve es ≡ Some rs → AllByRecursion (λ r. IsFalse (occurs r.number r.by) × IsLower r.number r.by) rs
 
 -- no number that is replaced is replaced again or brought in again later
 abbrev pub NeverComeBack : List Replacement → Type 0
@@ -117,35 +121,35 @@ NeverComeBack (r ∷ rs) = AllByRecursion (λ later. (later.number ≢ r.number)
 
 -- in a solution no number comes back
 abbrev pub ReplacedOnce : Type 0
-ReplacedOnce = (last : ℕ) (es : List Equation) (rs : List Replacement) → solve last es ≡ Some rs → NeverComeBack rs
+ReplacedOnce = (es : List Equation) (rs : List Replacement) → solve es ≡ Some rs → NeverComeBack rs
 
 -- after a solution none of the numbers that it replaces occurs
 abbrev pub ReplacedAreGone : Type 0
-ReplacedAreGone = (last : ℕ) (es : List Equation) (rs : List Replacement) → solve last es ≡ Some rs → (t : Term) → AllByRecursion (λ r. IsFalse (occurs r.number (replaced rs t))) rs
+ReplacedAreGone = (es : List Equation) (rs : List Replacement) → solve es ≡ Some rs → (t : Term) → AllByRecursion (λ r. IsFalse (occurs r.number (replaced rs t))) rs
 
 -- a solution has no higher numbers than the equations
 abbrev pub SolutionsKeepNumbers : Type 0
-SolutionsKeepNumbers = (last : ℕ) (es : List Equation) (rs : List Replacement) → AllNumberedTo last es → solve last es ≡ Some rs → AllByRecursion (λ r. (r.number ≤ last) × NumberedTo last r.by) rs
+SolutionsKeepNumbers = (last : ℕ) (es : List Equation) (rs : List Replacement) → AllNumberedTo last es → solve es ≡ Some rs → AllByRecursion (λ r. (r.number ≤ last) × NumberedTo last r.by) rs
 
 -- where there is no solution, no terms in place of the variables make both sides of each equation equal
 abbrev pub FailureLeavesNone : Type 0
-FailureLeavesNone = (last : ℕ) (es : List Equation) → AllNumberedTo last es → solve last es ≡ None → (s : ℕ → Term) → MakesEqual (substituted s) es → ⊥
+FailureLeavesNone = (es : List Equation) → solve es ≡ None → (s : ℕ → Term) → MakesEqual (substituted s) es → ⊥
 
 -- where there is no solution, no replacements do either
 abbrev pub FailureLeavesNoReplacements : Type 0
-FailureLeavesNoReplacements = (last : ℕ) (es : List Equation) → AllNumberedTo last es → solve last es ≡ None → (rs : List Replacement) → MakesEqual (replaced rs) es → ⊥
+FailureLeavesNoReplacements = (es : List Equation) → solve es ≡ None → (rs : List Replacement) → MakesEqual (replaced rs) es → ⊥
 
 -- equations that no replacements make equal have no solution
 abbrev pub NoneWhereNoneUnify : Type 0
-NoneWhereNoneUnify = (last : ℕ) (es : List Equation) → ((rs : List Replacement) → MakesEqual (replaced rs) es → ⊥) → solve last es ≡ None
+NoneWhereNoneUnify = (es : List Equation) → ((rs : List Replacement) → MakesEqual (replaced rs) es → ⊥) → solve es ≡ None
 
 -- a solution comes before whatever makes both sides of each equation equal: done first, it changes nothing in what that gives
 abbrev pub SolutionsAreMostGeneral : Type 0
-SolutionsAreMostGeneral = (last : ℕ) (es : List Equation) (rs : List Replacement) → solve last es ≡ Some rs → (s : ℕ → Term) → MakesEqual (substituted s) es → (t : Term) → substituted s (replaced rs t) ≡ substituted s t
+SolutionsAreMostGeneral = (es : List Equation) (rs : List Replacement) → solve es ≡ Some rs → (s : ℕ → Term) → MakesEqual (substituted s) es → (t : Term) → substituted s (replaced rs t) ≡ substituted s t
 
 -- the same of other replacements
 abbrev pub NoReplacementsAreMoreGeneral : Type 0
-NoReplacementsAreMoreGeneral = (last : ℕ) (es : List Equation) (rs others : List Replacement) → solve last es ≡ Some rs → MakesEqual (replaced others) es → (t : Term) → replaced others (replaced rs t) ≡ replaced others t
+NoReplacementsAreMoreGeneral = (es : List Equation) (rs others : List Replacement) → solve es ≡ Some rs → MakesEqual (replaced others) es → (t : Term) → replaced others (replaced rs t) ≡ replaced others t
 
 -- ---- worked rows, with X and Y numbered 1 and 2
 
@@ -171,7 +175,7 @@ f_of t u = structure (codes "f") (more t (more u none))
 
 -- the replacements that make two terms equal
 abbrev pub solved : Term → Term → Option (List Replacement)
-solved t u = solve 2 (equate t u ∷ [])
+solved t u = solve (equate t u ∷ [])
 
 -- f(X, a) and f(1, b) are never equal
 abbrev pub ConstantsClash : Type 0

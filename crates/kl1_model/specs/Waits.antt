@@ -1,7 +1,7 @@
 -- What a goal waits for: the variables of which a change may change what it can do.
-use Rattle.std.specs.Prelude.{◌≡◌, ℕ, if◌then◌else◌, List, [], ◌∷◌, ◌++◌, codes, bytes_eq, find, Option, Some, None, is_some}
+use Rattle.std.specs.Prelude.{◌≡◌, ℕ, suc, Bool, true, false, if◌then◌else◌, List, [], ◌∷◌, ◌++◌, codes, bytes_eq, find, Option, Some, None, is_some}
 use Rattle.std.specs.List.{AllByRecursion}
-use Rattle.kl1_model.specs.Term.{Term, variable, atom, structure, Terms, none, more, substituted}
+use Rattle.kl1_model.specs.Term.{Term, variable, atom, structure, Terms, none, more}
 use Rattle.kl1_model.specs.Module.{Clause, Module}
 use Rattle.kl1_model.specs.Match.{Verdict, accepts, rejects, suspends, verdict, Call, call_of, clauses_of}
 use Rattle.kl1_model.specs.Reduction.{Move, term_move}
@@ -14,6 +14,27 @@ move_by modules t clause = term_move modules t clause (call_of t)
 -- the clause by which a term can step: the least that is allowed
 abbrev pub term_clause : List Module → Term → Option ℕ
 term_clause modules t = find (λ clause. is_some (move_by modules t clause)) (0 ∷ call_clauses modules (call_of t))
+
+-- what a verdict leads to, of what follows where it accepts, rejects and suspends
+abbrev pub least_by : Option ℕ → Option ℕ → Option ℕ → Verdict → Option ℕ
+least_by accepted rejected suspended (accepts places) = accepted
+least_by accepted rejected suspended rejects = rejected
+least_by accepted rejected suspended (suspends vs) = suspended
+
+-- 0 where nothing waits
+abbrev pub least_without : Bool → Option ℕ
+least_without true = None
+least_without false = Some 0
+
+-- the least number of a clause that accepts, the first having this number, or 0 where each rejects, or nothing; whether a
+-- clause before them waits is told
+abbrev pub least_from : Bool → ℕ → List Clause → Terms → Option ℕ
+least_from waiting n [] ts = least_without waiting
+least_from waiting n (c ∷ cs) ts = least_by (Some n) (least_from waiting (suc n) cs ts) (least_from true (suc n) cs ts) (verdict c ts)
+
+-- the least number of a clause that accepts, from 1, or 0 where each rejects or there is none, or nothing
+abbrev pub least_clause : List Clause → Terms → Option ℕ
+least_clause cs ts = least_from false 1 cs ts
 
 -- the variables that clauses wait for from this one on: a clause that accepts ends the search for the least, one that
 -- rejects does so for good, and one that suspends may yet come to accept

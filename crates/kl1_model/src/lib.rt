@@ -2,7 +2,7 @@
 #![tactic(auto)]
 
 mod built_in;
-pub mod laws;
+pub mod limits;
 mod pair_form;
 mod sign;
 

@@ -11,7 +11,6 @@ pub mod ItemSteps
 pub mod MarkSteps
 pub mod ModuleLines
 pub mod Nodes
-pub mod Numbers
 pub mod PartSteps
 pub mod Primaries
 pub mod PrimarySteps

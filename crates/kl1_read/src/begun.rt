@@ -1,8 +1,9 @@
 // The front of a primary.
 
-ghost use Rattle.std.specs.Prelude.{◌≡◌, ◌≤◌, ◌∷◌, ◌^◌, suc, map, length, true, pos, neg_ℤ, IfOk};
+ghost use Rattle.std.specs.Prelude.{◌≡◌, ◌≤◌, ◌∷◌, suc, map, length, true, pos, neg_ℤ, IfOk};
 ghost use Rattle.kl1_model.specs.declared.sign.Sign.TheVariants.{OpenList};
 ghost use Rattle.kl1_model.specs.Token.{name_token, digits_token, minus_token, sign_token};
+ghost use Rattle.kl1_model.specs.Limits.{number_limit};
 ghost use Rattle.kl1_read.specs.Views.{numbered_token};
 ghost use Rattle.kl1_read.specs.Beginnings.{Begins, BegunLess, leaf_term};
 
@@ -13,6 +14,7 @@ use crate::piece::Piece;
 use crate::small_node::SmallNode;
 use crate::spelling::Spelling;
 use kl1_model::Sign;
+use kl1_model::limits::NUMBER_LIMIT;
 use kl1_text::AtomText;
 use std::alloc::{AllocError, Global};
 
@@ -98,7 +100,7 @@ fn positive(number: u64, rest: &[Numbered]) -> Begun<'_>
     ensures value { Begins result (digits_token number ∷ map numbered_token rest.now) }
     ensures less { BegunLess (suc (length rest.now)) result }
 {
-    if number >= 1 << 63 {
+    if number >= NUMBER_LIMIT {
         return Begun::Bad;
     }
     Begun::Whole(Leaf::Integer(number as i64), rest)
@@ -137,7 +139,7 @@ fn below_zero(number: u64, rest: &[Numbered]) -> Begun<'_>
     ensures value { Begins result (minus_token true ∷ digits_token number ∷ map numbered_token rest.now) }
     ensures less { BegunLess (suc (length rest.now)) result }
 {
-    if number > 1 << 63 {
+    if number > NUMBER_LIMIT {
         return Begun::Bad;
     }
     Begun::Whole(Leaf::Integer(negated(number)), rest)
@@ -145,10 +147,10 @@ fn below_zero(number: u64, rest: &[Numbered]) -> Begun<'_>
 
 /// The negative of a number.
 fn negated(number: u64) -> i64
-    requires { number ≤ 2 ^ 63 }
+    requires { number ≤ number_limit }
     ensures { result ≡ neg_ℤ (pos number) }
 {
-    if number == 1 << 63 {
+    if number == NUMBER_LIMIT {
         i64::MIN
     } else {
         -(number as i64)

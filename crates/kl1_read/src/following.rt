@@ -6,10 +6,8 @@ ghost use Rattle.kl1_read.specs.Sources.{clause_of_parts};
 ghost use Rattle.kl1_read.specs.Followings.{is_one_of, ends_with, holds};
 
 use crate::clause_parts::ClauseParts;
+use kl1_model::limits::MOST_CLAUSES;
 use kl1_text::AtomText;
-
-/// The most clauses of a module.
-const MOST_CLAUSES: usize = 512;
 
 /// Whether a clause may follow these: there is room, and clauses of one name and number of arguments stand together.
 pub(crate) fn may_follow(before: &[ClauseParts], clause: &ClauseParts) -> bool

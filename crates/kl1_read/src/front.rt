@@ -13,8 +13,9 @@ use crate::bytes::{
 use crate::quotes::quoted;
 use crate::signs::{sign_at, spelling_of};
 use crate::spelled::Spelled;
-use crate::words::{behind_comment, behind_digits, behind_word, digits_of, number_of, word_of};
-use kl1_text::AtomText;
+use crate::words::{behind_comment, behind_digits, behind_word, digits_of, word_of};
+use kl1_model::limits::NUMBER_LIMIT;
+use kl1_text::{AtomText, decimal_up_to};
 
 /// What stands in front of a text, with what is behind it.
 pub(crate) enum Front<'a> {
@@ -110,7 +111,7 @@ fn digits_front<'a>(first: u8, bytes: &'a [u8], rest: &'a [u8]) -> Front<'a>
     ensures { front_view result ≡ digits_front (model.number_of (first ∷ digits_of rest.now)) (behind_digits rest.now) }
 {
     let behind = behind_digits(rest);
-    match number_of(digits_of(first, bytes, rest)) {
+    match decimal_up_to(NUMBER_LIMIT, digits_of(first, bytes, rest)) {
         None => Front::Broken,
         Some(number) => Front::Token(Spelled::Digits(number), behind),
     }

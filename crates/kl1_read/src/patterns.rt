@@ -10,6 +10,7 @@ use crate::piece::Piece;
 use crate::repeats::has_no_repeats;
 use crate::reserved::{may_name_atom, may_name_structure};
 use crate::role::Role;
+use kl1_model::limits::{MOST_ARGUMENTS, MOST_DEPTH};
 use kl1_term::Term;
 use kl1_text::AtomText;
 use std::alloc::{AllocError, Global};
@@ -45,10 +46,10 @@ fn is_fit(name: &AtomText, arguments: &[Piece]) -> bool
     if !may_name_structure(name, arguments.len()) {
         return false;
     }
-    if arguments.len() > 8 {
+    if arguments.len() > MOST_ARGUMENTS {
         return false;
     }
-    deepest(arguments) < 256
+    deepest(arguments) < MOST_DEPTH
 }
 
 /// How deep the deepest of terms is, 0 where there is none.

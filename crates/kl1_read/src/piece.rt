@@ -5,6 +5,7 @@ ghost use Rattle.kl1_model.specs.Term.{atom, structure, terms_of};
 ghost use Rattle.kl1_model.specs.Text.{is_text};
 ghost use Rattle.kl1_model.specs.TermCode.{nodes_of, nodes_of_all};
 ghost use Rattle.kl1_model.specs.Meaning.{Depth, pair, cells, deepest, depth, are_narrow, is_narrow, is_writable, pair_depth};
+ghost use Rattle.kl1_model.specs.Limits.{most_arguments, most_depth};
 ghost use Rattle.kl1_term.specs.declared.node.Node.TheVariants.{Structure};
 ghost use Rattle.kl1_term.specs.Nodes.{code_of, term_in};
 ghost use Rattle.kl1_read.specs.PieceView.{IsPiece};
@@ -13,6 +14,7 @@ ghost use Rattle.kl1_read.specs.SmallNodes.{node_of};
 
 use crate::small_node::{SmallNode, turned};
 use crate::spelling::Spelling;
+use kl1_model::limits::{MOST_ARGUMENTS, MOST_DEPTH};
 use kl1_term::Term;
 use kl1_text::AtomText;
 use std::alloc::{AllocError, Global};
@@ -125,7 +127,7 @@ impl Piece {
         ensures nodes { OnOk result (map code_of (reverse (map node_of nodes.new.items)) ≡ nodes_of self ++ map code_of (reverse (map node_of nodes.old.items))) }
         ensures depth { IfOk result (λ whole. whole ≡ depth self) }
         ensures narrow { IsTrue (is_narrow self) }
-        ensures low { depth self ≤ 256 }
+        ensures low { depth self ≤ most_depth }
     {
         let Piece {
             nodes: mut own,
@@ -199,14 +201,14 @@ impl Piece {
         arguments: Vec<Piece>,
     ) -> Result<Option<Self>, AllocError>
         requires some { 1 ≤ vec_len arguments }
-        requires few { vec_len arguments ≤ 8 }
+        requires few { vec_len arguments ≤ most_arguments }
         requires other { vec_len arguments ≢ 2 }
         ensures { IfOk result (λ piece. piece ≡ writable (structure name (terms_of arguments.items))) }
     {
         let count = arguments.len() as u8;
         let mut nodes = Vec::new(alloc);
         let deepest = spill_all(arguments, &mut nodes)?;
-        if deepest >= 256 {
+        if deepest >= MOST_DEPTH {
             return Ok(None);
         }
         put_structure(&mut nodes, count, name)?;
@@ -248,18 +250,18 @@ fn put_structure(nodes: &mut Vec<SmallNode>, count: u8, name: AtomText) -> Resul
 
 /// Whether no text can write a term that is so deep.
 fn is_too_deep(depth: u64) -> bool
-    ensures deep { result ≡ true → 256 < depth }
-    ensures low { result ≡ false → depth ≤ 256 }
+    ensures deep { result ≡ true → most_depth < depth }
+    ensures low { result ≡ false → depth ≤ most_depth }
 {
-    depth > 256
+    depth > MOST_DEPTH
 }
 
 /// Whether no text can write so many arguments.
 fn are_too_many(count: usize) -> bool
-    ensures many { result ≡ true → 8 < count }
-    ensures few { result ≡ false → count ≤ 8 }
+    ensures many { result ≡ true → most_arguments < count }
+    ensures few { result ≡ false → count ≤ most_arguments }
 {
-    count > 8
+    count > MOST_ARGUMENTS
 }
 
 /// How many nodes the cells of these elements take.
@@ -273,9 +275,9 @@ fn room_for(elements: &[Piece]) -> usize {
 
 /// The depth of a structure of two arguments, and its depth as what follows the elements of a list.
 fn pair_depth(name: AtomText, first: u64, second: u64, second_rest: u64) -> (u64, u64)
-    requires first_low { first ≤ 256 }
-    requires second_low { second ≤ 256 }
-    requires rest_low { second_rest ≤ 256 }
+    requires first_low { first ≤ most_depth }
+    requires second_low { second ≤ most_depth }
+    requires rest_low { second_rest ≤ most_depth }
     ensures rest_low { result.1 ≤ result.0 }
     ensures value { (first_rest : ℕ) → record { whole = result.0; rest = result.1 } ≡ pair_depth name (record { whole = first; rest = first_rest }) (record { whole = second; rest = second_rest }) }
 {

@@ -5,6 +5,7 @@ ghost use Rattle.kl1_model.specs.Token.{quoted_from};
 ghost use Rattle.kl1_read.specs.Quotes.{Ends, short};
 
 use crate::bytes::is_name_byte;
+use kl1_model::limits::MOST_NAME_BYTES;
 use kl1_text::{AtomText, ShortBytes};
 
 /// The text in quotes behind a quote, with what is behind it, where a quote ends it and it has at most 63 bytes.
@@ -14,7 +15,7 @@ pub(crate) fn quoted(bytes: &[u8]) -> Option<(AtomText, &[u8])>
     let mut text = ShortBytes::new();
     let mut rest = bytes;
     let mut after_quote = false;
-    'text: while text.len() <= 63 {
+    'text: while text.len() <= MOST_NAME_BYTES {
         match rest {
             [] => {
                 return if after_quote {

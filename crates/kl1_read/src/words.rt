@@ -1,8 +1,8 @@
 // Words, digits and comments in front of a text.
 
-ghost use Rattle.std.specs.Prelude.{◌≡◌, ◌^◌, ◌∷◌, ◌-◌, take, nat_le, length, IsTrue, Some, None, if◌then◌else◌, option_map};
+ghost use Rattle.std.specs.Prelude.{◌≡◌, ◌∷◌, ◌-◌, take, length, IsTrue, option_map};
 ghost use Rattle.std.specs.List.{list_all};
-ghost use Rattle.kl1_model.specs.Token.{word_of, behind_word, digits_of, behind_digits, behind_comment, number_of};
+ghost use Rattle.kl1_model.specs.Token.{word_of, behind_word, digits_of, behind_digits, behind_comment};
 ghost use Rattle.kl1_model.specs.Text.{is_name_byte};
 
 use crate::bytes::{is_digit, is_source_byte, is_word_byte};
@@ -50,28 +50,6 @@ pub(crate) fn behind_comment(bytes: &[u8]) -> Option<&[u8]>
         rest = others;
     }
     Some(rest)
-}
-
-/// The most that digits may write.
-const MOST: u64 = 1 << 63;
-
-/// The number that digits write, where it is at most 2^63.
-pub(crate) fn number_of(digits: &[u8]) -> Option<u64>
-    ensures { result ≡ (if nat_le (number_of digits.now) (2 ^ 63) then Some (number_of digits.now) else None) }
-{
-    let mut number = 0u64;
-    let mut rest = digits;
-    while let [first, others @ ..] = rest {
-        if number > MOST / 10 {
-            return None;
-        }
-        number = 10 * number + u64::from(first.saturating_sub(b'0'));
-        if number > MOST {
-            return None;
-        }
-        rest = others;
-    }
-    Some(number)
 }
 
 /// The word that begins with `first`, which stands before `rest`.

@@ -4,8 +4,9 @@ use Rattle.std.proofs.Math.Seq.{take-append_seam}
 use Rattle.std.proofs.lemmas.List.{append-nil}
 use Rattle.std.proofs.lemmas.Slice.Eq.{bytes_eq-Decides}
 use Rattle.kl1_model.specs.State.{State, fresh}
-use Rattle.kl1_model.specs.Command.{Command, reply_lines}
-use Rattle.kl1_model.specs.Script.{Record, Records, record_first, records_of, only, done_by, after_all, alone, written_line, written_reply, written_for, written_from, written_records}
+use Rattle.kl1_model.specs.Command.{Command, command_of, reply_lines, written_line}
+use Rattle.kl1_model.specs.Record.{Record, Records, record_first, records_of}
+use Rattle.kl1_model.specs.Script.{only, done_by, after_all, alone, written_reply, written_for, written_from, written_records}
 use Rattle.kl1_script.specs.Scripts.{IsFirstOf, first_written}
 use Rattle.kl1_script.specs.Told.{state_by, told_by}
 
@@ -28,8 +29,8 @@ after_more : (s : State) (cs : List (Option Command)) (c : Option Command) → a
 after_more s [] c = refl
 after_more s (b ∷ cs) c = after_more (done_by s b).state cs c
 
-only_by : (v : Bool) (name : List ℕ) (b r : Record) (bs : List Record) → only name (bs ++ r ∷ []) ≡ only name bs ++ only name (r ∷ []) → (if v then b.command ∷ only name (bs ++ r ∷ []) else only name (bs ++ r ∷ [])) ≡ (if v then b.command ∷ only name bs else only name bs) ++ only name (r ∷ [])
-only_by true name b r bs e = ap (λ x. b.command ∷ x) e
+only_by : (v : Bool) (name : List ℕ) (b r : Record) (bs : List Record) → only name (bs ++ r ∷ []) ≡ only name bs ++ only name (r ∷ []) → (if v then command_of b.request ∷ only name (bs ++ r ∷ []) else only name (bs ++ r ∷ [])) ≡ (if v then command_of b.request ∷ only name bs else only name bs) ++ only name (r ∷ [])
+only_by true name b r bs e = ap (λ x. command_of b.request ∷ x) e
 only_by false name b r bs e = e
 
 only_more : (name : List ℕ) (bs : List Record) (r : Record) → only name (bs ++ r ∷ []) ≡ only name bs ++ only name (r ∷ [])
@@ -41,8 +42,8 @@ alone_by true s cs c = after_more s cs c
 alone_by false s cs c = ap (after_all s) (append-nil cs)
 
 -- an account after one more record
-alone_more : (name : List ℕ) (bs : List Record) (r : Record) → alone name (bs ++ r ∷ []) ≡ (if bytes_eq r.name name then (done_by (alone name bs) r.command).state else alone name bs)
-alone_more name bs r = ap (after_all (fresh name)) (only_more name bs r) ∙ alone_by (bytes_eq r.name name) (fresh name) (only name bs) r.command
+alone_more : (name : List ℕ) (bs : List Record) (r : Record) → alone name (bs ++ r ∷ []) ≡ (if bytes_eq r.name name then (done_by (alone name bs) (command_of r.request)).state else alone name bs)
+alone_more name bs r = ap (after_all (fresh name)) (only_more name bs r) ∙ alone_by (bytes_eq r.name name) (fresh name) (only name bs) (command_of r.request)
 
 -- what is written for one more record
 from_more : (accounts : List (List ℕ)) (fs bs : List Record) (r : Record) → written_from accounts fs (bs ++ r ∷ []) ≡ written_from accounts fs bs ++ written_for accounts (fs ++ bs) r
@@ -79,10 +80,10 @@ goes_on (a ∷ others) name text rest behind user after told r first p next stat
     record {
       before = p.before ++ r ∷ [];
       records = p.records ∙ ap (records_behind p.before) next ∙ ap (λ x. record { list = x; is_truncated = (records_of behind).is_truncated }) (sym (append_assoc p.before (r ∷ []) (records_of behind).list));
-      account = state ∙ ap (λ s. if bytes_eq a r.name then (done_by s r.command).state else s) p.account ∙ ap (λ v. if v then (done_by (alone name p.before) r.command).state else alone name p.before) (served ∙ tests) ∙ sym (alone_more name p.before r);
+      account = state ∙ ap (λ s. if bytes_eq a r.name then (done_by s (command_of r.request)).state else s) p.account ∙ ap (λ v. if v then (done_by (alone name p.before) (command_of r.request)).state else alone name p.before) (served ∙ tests) ∙ sym (alone_more name p.before r);
       written =
           let one : told_by (a ∷ others) user r ≡ written_for (a ∷ others) p.before r =
-          ap (λ s. told_by (a ∷ others) s r) p.account ∙ told_as (bytes_eq a r.name) name r.name p.before r.command (written_line (codes "! account")) (sym served) in
+          ap (λ s. told_by (a ∷ others) s r) p.account ∙ told_as (bytes_eq a r.name) name r.name p.before (command_of r.request) (written_line (codes "! account")) (sym served) in
           ap (λ x. x ++ told_by (a ∷ others) user r) p.written ∙ ap (λ x. written_from (a ∷ others) [] p.before ++ x) one ∙ sym (from_more (a ∷ others) [] p.before r);
     }
 

@@ -1,14 +1,15 @@
 -- A start whose priorities are out of order or too great is none.
 use Rattle.std.proofs.Common.{◌≡◌, ℕ, ◌<◌, nat_le, None, refl}
 use Rattle.std.proofs.lemmas.Bool.{lt-leb, and_left, and_right}
+use Rattle.kl1_model.specs.Limits.{most_priority}
 use Rattle.kl1_model.specs.Term.{Term}
 use Rattle.kl1_model.specs.Module.{Reading, good, bad}
 use Rattle.kl1_model.specs.Command.{start_with}
 
 pub out_of_order : (allowance low high : ℕ) (r : Reading Term) → high < low → None ≡ start_with allowance low high r
-out_of_order allowance low high (good t) h = rw (and_left (nat_le low high) (nat_le high 4095) (lt-leb low high h)) refl
+out_of_order allowance low high (good t) h = rw (and_left (nat_le low high) (nat_le high most_priority) (lt-leb low high h)) refl
 out_of_order allowance low high (bad n) h = refl
 
-pub too_great : (allowance low high : ℕ) (r : Reading Term) → 4095 < high → None ≡ start_with allowance low high r
-too_great allowance low high (good t) h = rw (and_right (nat_le low high) (nat_le high 4095) (lt-leb high 4095 h)) refl
+pub too_great : (allowance low high : ℕ) (r : Reading Term) → most_priority < high → None ≡ start_with allowance low high r
+too_great allowance low high (good t) h = rw (and_right (nat_le low high) (nat_le high most_priority) (lt-leb high most_priority h)) refl
 too_great allowance low high (bad n) h = refl

@@ -1,6 +1,6 @@
 -- What commands and parsed lines are in the definitions.
+use Rattle.std.specs.Prelude.{Option, Some, None}
 use Rattle.kl1_model.specs.Command as model
-use Rattle.kl1_model.specs.Command.{Line, whole, load_of, no_command}
 use Rattle.kl1_user.specs.Views.{event_of}
 use Rattle.kl1_script.specs.declared.command.Command.{Command}
 use Rattle.kl1_script.specs.declared.command.Command.TheVariants as command
@@ -12,8 +12,7 @@ abbrev pub command_view : Command → model.Command
 command_view (command.Does e) = model.does (event_of e)
 command_view (command.Run n) = model.run n
 
--- the line that this one is
-abbrev pub parsed_line : Parsed → Line
-parsed_line (parsed.Command c) = whole (command_view c)
-parsed_line (parsed.Load n) = load_of n
-parsed_line parsed.Refused = no_command
+-- the command that was parsed, if there is one
+abbrev pub parsed_view : Parsed → Option model.Command
+parsed_view (parsed.Command c) = Some (command_view c)
+parsed_view parsed.Refused = None

@@ -26,7 +26,7 @@ IsTold reply first_step.Done = refusal_in reply ≡ None
 IsTold reply (first_step.Refused r) = refusal_in reply ≡ Some (refusal_of r)
 IsTold reply first_step.Memory = ⊥
 
--- only a run stops short: behind some of its steps, fewer than it may do
+-- only a run stops short: after some of its steps, fewer than it may do
 abbrev pub StopsShort : State → Command → ℕ → State → Type 0
 StopsShort s (does e) n after = ⊥
 StopsShort s (run k) n after = (0 < n) × (n < k) × (run_from n 0 s ≡ record { state = after; reply = model.ran n })
@@ -37,7 +37,7 @@ Performs s c (performed.Whole reply) after = act s c ≡ record { state = after;
 Performs s c (performed.Short n) after = StopsShort s c n after
 Performs s c performed.Memory after = after ≡ s
 
--- what became of the first goal that can step: how each run goes on behind it
+-- what became of the first goal that can step: how each run goes on after it
 abbrev pub IsFirstStep : State → FirstStep → State → Type 0
 IsFirstStep s first_step.Quiet after = (first s ≡ None) × (after ≡ s)
 IsFirstStep s first_step.Done after = (next : Going) (n : ℕ) → run_choice next s n (first s) ≡ next (suc n) after

@@ -3,7 +3,9 @@ use Rattle.std.specs.Prelude.{◌≡◌, ℕ, ◌<◌, List, [], ◌∷◌, ◌+
 use Rattle.std.specs.declared.option.Option.{Option}
 use Rattle.std.specs.declared.result.Result.{Result}
 use Rattle.std.specs.Io.KnownBytes.{Appends}
-use Rattle.kl1_model.specs.Script.{Record, line_in, behind_feed, words_of, accounts_in, records_of, written_from, output}
+use Rattle.kl1_model.specs.Line.{line_in, behind_feed, words_of}
+use Rattle.kl1_model.specs.Record.{Record, records_of}
+use Rattle.kl1_model.specs.Script.{accounts_in, written_from, output}
 use Rattle.kl1_lines.specs.Devices.{IsLeft, IsWhole, AppendsFront, PassesOn}
 use Rattle.kl1_lines.specs.declared.script_fault.ScriptFault.{ScriptFault}
 use Rattle.kl1_lines.specs.declared.script_fault.ScriptFault.TheVariants as faults
@@ -37,7 +39,7 @@ pub record BreaksOff (read : Option (List ℕ)) (old new : Option (List ℕ)) : 
   pub written : AppendsFront old new (output script)
 
 -- how a script that was read ends, of which this is the output, and this what is written for so many of its first records:
--- all is written, and no call failed; or memory was refused behind some of them; or a write failed
+-- all is written, and no call failed; or memory was refused after some of them; or a write failed
 abbrev pub Ends : {T : Type 0} → Option (List ℕ) → Option (List ℕ) → ℕ → ℕ → List ℕ → (ℕ → List ℕ) → Result T ScriptFault → Type 0
 Ends old new f g all front (Ok x) = Appends old new all × (g ≡ f)
 Ends old new f g all front (Err faults.Memory) = ((n : ℕ) × Appends old new (front n)) × (g ≡ f)
@@ -60,14 +62,14 @@ Stops old new f g bytes faults.Write = AppendsFront old new bytes × (f < g)
 Stops old new f g bytes faults.Read = ⊥
 Stops old new f g bytes faults.TooLong = ⊥
 
--- why more bytes were not written behind those that wait: memory was refused, and those that wait were written; or a write failed
+-- why more bytes were not written after those that wait: memory was refused, and those that wait were written; or a write failed
 abbrev pub Fails : Option (List ℕ) → Option (List ℕ) → ℕ → ℕ → List ℕ → List ℕ → ScriptFault → Type 0
 Fails old new f g waiting more faults.Memory = Appends old new waiting × (g ≡ f)
 Fails old new f g waiting more faults.Write = AppendsFront old new (waiting ++ more) × (f < g)
 Fails old new f g waiting more faults.Read = ⊥
 Fails old new f g waiting more faults.TooLong = ⊥
 
--- more bytes were put behind those that wait, and of all these some were passed on, and the others wait; or that failed
+-- more bytes were put after those that wait, and of all these some were passed on, and the others wait; or that failed
 abbrev pub Passes : {T : Type 0} → Option (List ℕ) → Option (List ℕ) → ℕ → ℕ → List ℕ → List ℕ → List ℕ → Result T ScriptFault → Type 0
 Passes old new f g waiting more left (Ok x) = PassesOn old new (waiting ++ more) left × (g ≡ f)
 Passes old new f g waiting more left (Err fault) = Fails old new f g waiting more fault

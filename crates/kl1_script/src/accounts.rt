@@ -2,15 +2,14 @@
 
 ghost use Rattle.std.specs.Prelude.{◌≡◌, ◌&&◌, nat_le, length, bytes_eq, IfOk, option_map};
 ghost use Rattle.std.specs.List.{list_any};
-ghost use Rattle.kl1_model.specs.Script.{are_distinct, words_of, accounts_in};
+ghost use Rattle.kl1_model.specs.Line.{words_of};
+ghost use Rattle.kl1_model.specs.Script.{are_distinct, accounts_in};
 ghost use Rattle.kl1_script.specs.Accounts.{named};
 
 use kl1_lines::{is_blank_line, is_same, split_word};
+use kl1_model::limits::MOST_ACCOUNTS;
 use kl1_user::AccountName;
 use std::alloc::{AllocError, Global};
-
-/// The most accounts of a script.
-const MOST_ACCOUNTS: usize = 16;
 
 /// Whether no name stands twice.
 fn are_distinct(names: &[AccountName]) -> bool
@@ -29,7 +28,7 @@ fn is_among(name: &AccountName, others: &[AccountName]) -> bool
     others.iter().any(|other| name.text().is(&other.text()))
 }
 
-/// The words of a line, if they are at most 16 names of accounts.
+/// The words of a line, if they are names of accounts and not too many.
 fn names_in(alloc: Global, line: &[u8]) -> Result<Option<Vec<AccountName>>, AllocError>
     ensures { IfOk result (λ names. option_map (λ v. v.items) names ≡ named (words_of line.now)) }
 {

@@ -1,17 +1,19 @@
 // What a record does to the account that is served, and what is written for it.
 
-ghost use Rattle.std.specs.Prelude.{◌≡◌, ◌++◌, OnOk, OnErr};
+ghost use Rattle.std.specs.Prelude.{◌≡◌, ◌++◌, ◌<◌, length, OnOk, OnErr};
 ghost use Rattle.kl1_model.specs.Command.{act, reply_lines};
+ghost use Rattle.kl1_model.specs.Limits.{most_waiting_bytes};
 ghost use Rattle.kl1_model.specs.Script.{is_served, written_reply};
 ghost use Rattle.kl1_script.specs.Commands.{command_view};
-ghost use Rattle.kl1_lines.specs.Records.{command_of};
+ghost use Rattle.kl1_lines.specs.Records.{request_of};
 ghost use Rattle.kl1_script.specs.Told.{state_by, told_by};
 
-use crate::command::{Command, command_in};
+use crate::command::Command;
+use crate::parsed::{Parsed, command_in};
 use crate::performed::{Performed, perform};
-use crate::replies::{put_refused, put_reply};
+use crate::replies::put_reply_of;
 use kl1_lines::{Record, is_same};
-use kl1_user::{AccountName, Refusal, UserState};
+use kl1_user::{AccountName, Refusal, Reply, UserState};
 use std::alloc::{AllocError, Global};
 
 /// Whether a name is that of the account that is served, which is the first.
@@ -24,7 +26,7 @@ fn is_served(accounts: &[AccountName], name: &[u8]) -> bool
     }
 }
 
-/// Does the command of a record, and puts what is written for it behind the bytes. After an `Err` the bytes are as they
+/// Does the command of a record, and puts what is written for it after the bytes. After an `Err` the bytes are as they
 /// were, and a run's first steps may be done.
 pub(crate) fn put_record(
     alloc: Global,
@@ -33,21 +35,22 @@ pub(crate) fn put_record(
     found: Record<'_>,
     out: &mut Vec<u8>,
 ) -> Result<(), AllocError>
-    ensures user { OnOk result (user.new ≡ state_by accounts.now user.old (record { name = found.entry.name.now; command = command_of found.entry.command })) }
-    ensures reply { OnOk result (out.new.items ≡ out.old.items ++ told_by accounts.now user.old (record { name = found.entry.name.now; command = command_of found.entry.command })) }
+    requires few { length out.old.items < most_waiting_bytes }
+    ensures user { OnOk result (user.new ≡ state_by accounts.now user.old (record { name = found.entry.name.now; request = request_of found.entry.request })) }
+    ensures reply { OnOk result (out.new.items ≡ out.old.items ++ told_by accounts.now user.old (record { name = found.entry.name.now; request = request_of found.entry.request })) }
     ensures err { OnErr result (out.new.items ≡ out.old.items) }
 {
     if !is_served(accounts, found.name) {
         return out.extend_from_slice(b"! account\n");
     }
-    match command_in(alloc, found.command) {
-        Ok(Some(command)) => put_performed(user, &command, found.name, out),
-        Ok(None) => put_refused(out, found.name, Refusal::Syntax),
+    match command_in(alloc, found.request) {
+        Ok(Parsed::Command(command)) => put_performed(user, &command, found.name, out),
+        Ok(Parsed::Refused) => put_reply_of(out, found.name, &Reply::Refused(Refusal::Syntax)),
         Err(error) => Err(error),
     }
 }
 
-/// Does a command, and puts its reply behind the bytes.
+/// Does a command, and puts its reply after the bytes.
 fn put_performed(
     user: &mut UserState,
     command: &Command,
@@ -59,7 +62,7 @@ fn put_performed(
     ensures err { OnErr result (out.new.items ≡ out.old.items) }
 {
     match perform(user, command) {
-        Performed::Whole(reply) => put_reply(out, name, &reply),
+        Performed::Whole(reply) => put_reply_of(out, name, &reply),
         Performed::Short { steps: _steps } => Err(AllocError),
         Performed::Memory => Err(AllocError),
     }

@@ -11,9 +11,9 @@ mod replies;
 mod scripts;
 
 pub use accounts::accounts_in;
-pub use command::{Command, command_in};
-pub use kl1_lines::{CommandParts, Counted, DeviceFailed, MOST_BYTES, ScriptFault, Sink, Source};
-pub use parsed::{Parsed, parse};
+pub use command::Command;
+pub use kl1_lines::{Counted, DeviceFailed, Request, ScriptFault, Sink, Source};
+pub use parsed::{Parsed, command_in, parse};
 pub use performed::{Performed, perform};
-pub use replies::put_reply;
+pub use replies::{put_reply, put_reply_of};
 pub use scripts::run_script;

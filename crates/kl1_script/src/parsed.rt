@@ -1,41 +1,124 @@
-// What a line is.
+// The commands of lines and records.
 
 ghost use Rattle.std.specs.Prelude.{◌≡◌, IfOk};
-ghost use Rattle.kl1_model.specs.Command.{parse};
-ghost use Rattle.kl1_script.specs.Commands.{parsed_line};
+ghost use Rattle.kl1_model.specs.Command.{parse, command_by, command_of, runs, asks_value, start_command, start_with};
+ghost use Rattle.kl1_model.specs.Module.{read_goal};
+ghost use Rattle.kl1_lines.specs.Records.{request_of};
+ghost use Rattle.kl1_script.specs.Commands.{parsed_view};
 
-use crate::command::{Command, start_command};
-use kl1_lines::{LineParts, parts_of};
+use crate::command::Command;
+use kl1_lines::{Request, is_same, number_in, only_number, split_word, up_to};
+use kl1_model::limits::{MOST_COMMAND_BYTES, MOST_PRIORITY, MOST_STEPS};
+use kl1_read::{ReadFault, read_goal};
 use kl1_user::{Event, Query, ShoenNo};
 use std::alloc::{AllocError, Global};
 
-/// What a line is.
+/// What a line or a record asks for.
 #[derive(Drop)]
 pub enum Parsed {
-    /// A command.
+    /// This command.
     Command(Command),
-    /// A load, whose source of so many bytes follows, at most 65,536.
-    Load(u64),
-    /// No command.
+    /// No command, which is refused.
     Refused,
 }
 
-/// What a line is, without its end.
-pub fn parse(alloc: Global, line: &[u8]) -> Result<Parsed, AllocError>
-    ensures { IfOk result (λ parsed. parsed_line parsed ≡ parse line.now) }
+/// The command of a record.
+pub fn command_in(alloc: Global, request: Request<'_>) -> Result<Parsed, AllocError>
+    ensures { IfOk result (λ parsed. parsed_view parsed ≡ command_of (request_of request.entry)) }
 {
-    match parts_of(line) {
-        LineParts::Load(count) => Ok(Parsed::Load(count)),
-        LineParts::Start(allowance, low, high, goal) => {
-            match start_command(alloc, allowance, low, high, goal)? {
-                Some(command) => Ok(Parsed::Command(command)),
-                None => Ok(Parsed::Refused),
-            }
+    match request {
+        Request::Load(source) => {
+            let source = Vec::from_slice(alloc, source)?;
+            Ok(Parsed::Command(Command::Does(Event::Load { source })))
         }
-        LineParts::Run(steps) => Ok(Parsed::Command(Command::Run(steps))),
-        LineParts::Value(shoen) => Ok(Parsed::Command(Command::Does(Event::Read(Query::Value(
-            ShoenNo(shoen),
-        ))))),
-        LineParts::NoCommand => Ok(Parsed::Refused),
+        Request::SpoiledLoad => Ok(Parsed::Refused),
+        Request::Line(line) => parse(alloc, line),
+    }
+}
+
+/// The command of a line, without its end. A load alone is none, since its source is not there.
+pub fn parse(alloc: Global, line: &[u8]) -> Result<Parsed, AllocError>
+    ensures { IfOk result (λ parsed. parsed_view parsed ≡ parse line.now) }
+{
+    if line.len() > MOST_COMMAND_BYTES {
+        return Ok(Parsed::Refused);
+    }
+    let (word, rest) = split_word(line);
+    if is_same(word, b"start") {
+        parse_start(alloc, rest)
+    } else if is_same(word, b"run") {
+        Ok(parse_run(rest))
+    } else if is_same(word, b"value") {
+        Ok(parse_value(rest))
+    } else {
+        Ok(Parsed::Refused)
+    }
+}
+
+/// What stands after `run`.
+fn parse_run(rest: &[u8]) -> Parsed
+    ensures { parsed_view result ≡ command_by runs rest.now }
+{
+    match up_to(MOST_STEPS, only_number(rest)) {
+        Some(steps) => Parsed::Command(Command::Run(steps)),
+        None => Parsed::Refused,
+    }
+}
+
+/// What stands after `value`.
+fn parse_value(rest: &[u8]) -> Parsed
+    ensures { parsed_view result ≡ command_by asks_value rest.now }
+{
+    match only_number(rest) {
+        Some(shoen) => { Parsed::Command(Command::Does(Event::Read(Query::Value(ShoenNo(shoen))))) }
+        None => Parsed::Refused,
+    }
+}
+
+/// What stands after `start`.
+fn parse_start(alloc: Global, rest: &[u8]) -> Result<Parsed, AllocError>
+    ensures { IfOk result (λ parsed. parsed_view parsed ≡ start_command rest.now) }
+{
+    let (first, rest) = split_word(rest);
+    let (second, rest) = split_word(rest);
+    let (third, goal) = split_word(rest);
+    let Some(allowance) = number_in(first) else {
+        return Ok(Parsed::Refused);
+    };
+    let Some(low) = number_in(second) else {
+        return Ok(Parsed::Refused);
+    };
+    let Some(high) = number_in(third) else {
+        return Ok(Parsed::Refused);
+    };
+    start_of(alloc, allowance, low, high, goal)
+}
+
+#[tactic(auto, using(crate::proofs::Starts::out_of_order, crate::proofs::Starts::too_great))]
+/// The start of the goal that bytes are, if the priorities are a range and there is one.
+fn start_of(
+    alloc: Global,
+    allowance: u64,
+    low: u64,
+    high: u64,
+    goal: &[u8],
+) -> Result<Parsed, AllocError>
+    ensures { IfOk result (λ parsed. parsed_view parsed ≡ start_with allowance low high (read_goal goal.now)) }
+{
+    if low > high {
+        return Ok(Parsed::Refused);
+    }
+    if high > MOST_PRIORITY {
+        return Ok(Parsed::Refused);
+    }
+    match read_goal(alloc, goal) {
+        Ok(goal) => Ok(Parsed::Command(Command::Does(Event::Start {
+            allowance,
+            low,
+            high,
+            goal,
+        }))),
+        Err(ReadFault::Bad { line: _line }) => Ok(Parsed::Refused),
+        Err(ReadFault::Memory) => Err(AllocError),
     }
 }

@@ -16,7 +16,7 @@ use kl1_user::{Refusal, Reply, UserState};
 pub enum Performed {
     /// It is done, with this reply.
     Whole(Reply),
-    /// Memory was refused in the midst of a run, behind so many of its steps, at least one.
+    /// Memory was refused in the midst of a run, after so many of its steps, at least one.
     Short { steps: u64 },
     /// Memory was refused, and the account is as it was.
     Memory,
@@ -56,7 +56,7 @@ fn run(user: &mut UserState, most: u64) -> Performed
     Performed::Whole(Reply::Ran(done))
 }
 
-/// The reply to a run whose next step is refused, behind so many that are done.
+/// The reply to a run whose next step is refused, after so many that are done.
 fn stopped(done: u64, refusal: Refusal) -> Reply
     ensures { (user : State) → model.stopped_by user done (refusal_of refusal) ≡ record { state = user; reply = reply_of result } }
 {

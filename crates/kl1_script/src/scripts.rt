@@ -1,13 +1,16 @@
 // A script, from its bytes to what is written for it.
 
-ghost use Rattle.std.specs.Prelude.{◌≡◌, ◌<◌, ℕ, List, [], length, Some, OnOk, IsErrOf, codes, if◌then◌else◌};
+ghost use Rattle.std.specs.Prelude.{◌≡◌, ◌+◌, ◌<◌, ℕ, List, [], length, Some, OnOk, IsErrOf, codes, if◌then◌else◌};
 ghost use Rattle.std.specs.Io.KnownBytes.{Consumes, Appends};
-ghost use Rattle.kl1_model.specs.Script.{output, records_of, written_line, written_records};
+ghost use Rattle.kl1_model.specs.Command.{written_line};
+ghost use Rattle.kl1_model.specs.Limits.{most_script_bytes, most_waiting_bytes};
+ghost use Rattle.kl1_model.specs.Record.{records_of};
+ghost use Rattle.kl1_model.specs.Script.{output, written_records};
 ghost use Rattle.kl1_lines.specs.Devices.{ReadsFew};
 ghost use Rattle.kl1_script.specs.Scripts.{Answered, BreaksOff, Closes, Ends, Finishes, IsFirstOf, Passes, StopsBefore, Stops, first_written, front_of};
 ghost use Rattle.kl1_model.specs.State.{fresh};
 ghost use Rattle.kl1_script.specs.Told.{state_by, told_by};
-ghost use Rattle.kl1_lines.specs.Records.{command_of};
+ghost use Rattle.kl1_lines.specs.Records.{request_of};
 ghost use Rattle.kl1_lines.specs.declared.script_fault.ScriptFault.TheVariants as faults;
 
 use crate::accounts::accounts_in;
@@ -30,12 +33,12 @@ pub fn run_script<R: Source, W: Sink>(
     ensures write { IsErrOf result faults.Write → BreaksOff (R.remaining source.old) (W.contents sink.old) (W.contents sink.new) }
     ensures read { IsErrOf result faults.Read → W.contents sink.new ≡ W.contents sink.old }
     ensures too_long { IsErrOf result faults.TooLong → W.contents sink.new ≡ W.contents sink.old }
-    ensures read_many { IsErrOf result faults.TooLong → (bytes : List ℕ) × (length bytes ≡ 16777217) × Consumes (R.remaining source.old) (R.remaining source.new) bytes }
+    ensures read_many { IsErrOf result faults.TooLong → (bytes : List ℕ) × (length bytes ≡ most_script_bytes + 1) × Consumes (R.remaining source.old) (R.remaining source.new) bytes }
     ensures read_failed { IsErrOf result faults.Read → R.failures source.old < R.failures source.new }
     ensures read_kept { (IsErrOf result faults.Read → ⊥) → R.failures source.new ≡ R.failures source.old }
     ensures write_failed { IsErrOf result faults.Write → W.failures sink.old < W.failures sink.new }
     ensures write_kept { (IsErrOf result faults.Write → ⊥) → W.failures sink.new ≡ W.failures sink.old }
-    ensures few { ReadsFew (R.remaining source.old) (R.remaining source.new) 16777217 }
+    ensures few { ReadsFew (R.remaining source.old) (R.remaining source.new) (most_script_bytes + 1) }
 {
     match read_all(alloc, source) {
         Ok(script) => answer(alloc, script.as_slice(), sink),
@@ -105,7 +108,7 @@ fn answer_each<W: Sink>(
     }
 }
 
-/// Does the command of a record, and puts what is written for it behind the bytes that wait, which are written where they
+/// Does the command of a record, and puts what is written for it after the bytes that wait, which are written where they
 /// are many, or where memory is refused.
 fn answer_record<W: Sink>(
     alloc: Global,
@@ -115,8 +118,10 @@ fn answer_record<W: Sink>(
     out: &mut Vec<u8>,
     sink: &mut W,
 ) -> Result<(), ScriptFault>
-    ensures user { OnOk result (user.new ≡ state_by accounts.now user.old (record { name = found.entry.name.now; command = command_of found.entry.command })) }
-    ensures bytes { Passes (W.contents sink.old) (W.contents sink.new) (W.failures sink.old) (W.failures sink.new) out.old.items (told_by accounts.now user.old (record { name = found.entry.name.now; command = command_of found.entry.command })) out.new.items result }
+    requires few { length out.old.items < most_waiting_bytes }
+    ensures user { OnOk result (user.new ≡ state_by accounts.now user.old (record { name = found.entry.name.now; request = request_of found.entry.request })) }
+    ensures bytes { Passes (W.contents sink.old) (W.contents sink.new) (W.failures sink.old) (W.failures sink.new) out.old.items (told_by accounts.now user.old (record { name = found.entry.name.now; request = request_of found.entry.request })) out.new.items result }
+    ensures few { OnOk result (length out.new.items < most_waiting_bytes) }
 {
     match put_record(alloc, accounts, user, found, out) {
         Ok(()) => match pass_on(sink, out) {

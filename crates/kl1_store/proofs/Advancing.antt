@@ -6,7 +6,6 @@ use Rattle.std.proofs.lemmas.Option.{get_or_from_slice_get, slice_get_within}
 use Rattle.kl1_model.specs.declared.built_in.BuiltIn.{BuiltIn}
 use Rattle.kl1_model.specs.Term.{Term, Terms, none, more, size, sizes}
 use Rattle.kl1_model.specs.Unify.{Equation, front, after, bound_to, solve, argument_equations, equations_size}
-use Rattle.kl1_model.specs.UnifyLaws.{AllNumberedTo}
 use Rattle.kl1_model.proofs.UnifyRule.{front_decides}
 use Rattle.kl1_model.proofs.EqualSides.{equal_sides_dropped}
 use Rattle.kl1_model.proofs.TermFacts.{same_term_decides}
@@ -23,7 +22,6 @@ use Rattle.kl1_store.specs.Meets.{MeetsAs, Takes, Opens}
 use Rattle.kl1_store.specs.Unifies.{ForEachReading}
 use Rattle.kl1_store.proofs.Terms.{term_of-Structure}
 use Rattle.kl1_store.proofs.Meetings.{named}
-use Rattle.kl1_store.proofs.Numbered.{numbered-term_of, numbered-waiting}
 
 pub waiting-push : {N : Type 0} (f : N → List ℕ) (h : Held N) (es : List Equation) (ps : List Frame) (p : Frame) → waiting f h es (ps ++ p ∷ []) ≡ rest_of f h p (waiting f h es ps)
 unfolding waiting
@@ -79,19 +77,12 @@ turn_waiting f h ps p l r x y turn =
     let equation : List Equation → List Equation = λ es. record { left = term_of f h x; right = term_of f h y } ∷ es in
     waiting-push f h [] ps p ∙ rest_turn f h p l r x y (waiting f h [] ps) turn ∙ ap equation (sym (waiting-push f h [] ps (onward p)))
 
-turn_numbered : {N : Type 0} (f : N → List ℕ) (last : ℕ) (h : Held N) (ps : List Frame) (p : Frame) (l r x y : Cell N) → Turn h p l r x y → h.variables ≤ suc last →
-    AllNumberedTo last (record { left = term_of f h x; right = term_of f h y } ∷ waiting f h [] (ps ++ onward p ∷ []))
-turn_numbered f last h ps p l r x y turn le = (
-  (numbered-term_of f last h x le turn.formed turn.left_in, numbered-term_of f last h y le turn.formed turn.right_in),
-  numbered-waiting f last h [] (ps ++ onward p ∷ []) le turn.formed tt,
-)
-
 -- what a turn comes to, by its front equation
-turn_decides : {N : Type 0} (f : N → List ℕ) (last : ℕ) (h : Held N) (ps : List Frame) (p : Frame) (l r x y : Cell N) → Turn h p l r x y → h.variables ≤ suc last →
-    solve last (waiting f h [] (ps ++ p ∷ [])) ≡ after (solve last) (solve last) (front (term_of f h x) (term_of f h y) (waiting f h [] (ps ++ onward p ∷ [])))
-turn_decides f last h ps p l r x y turn le =
-    ap (solve last) (turn_waiting f h ps p l r x y turn)
-    ∙ front_decides last (record { left = term_of f h x; right = term_of f h y }) (waiting f h [] (ps ++ onward p ∷ [])) (turn_numbered f last h ps p l r x y turn le)
+turn_decides : {N : Type 0} (f : N → List ℕ) (h : Held N) (ps : List Frame) (p : Frame) (l r x y : Cell N) → Turn h p l r x y →
+    solve (waiting f h [] (ps ++ p ∷ [])) ≡ after solve solve (front (term_of f h x) (term_of f h y) (waiting f h [] (ps ++ onward p ∷ [])))
+turn_decides f h ps p l r x y turn =
+    ap solve (turn_waiting f h ps p l r x y turn)
+    ∙ front_decides (record { left = term_of f h x; right = term_of f h y }) (waiting f h [] (ps ++ onward p ∷ []))
 
 -- how much work waits
 abbrev pub work : {N : Type 0} → Held N → List Frame → ℕ
@@ -100,7 +91,7 @@ work h ps = equations_size (waiting unread h [] ps) + length ps
 -- other equations in place of these, with less work
 pub record Reaches {N : Type 0} (built : BuiltIn → N) (h : Held N) (before now : List Frame) : Type 0 where
   pub pairs : ArePairs h now
-  pub same : ForEachReading built h (λ f last. solve last (waiting f h [] before) ≡ solve last (waiting f h [] now))
+  pub same : ForEachReading built (λ f. solve (waiting f h [] before) ≡ solve (waiting f h [] now))
   pub less : work h now < work h before
 
 pub closed : {N : Type 0} (built : BuiltIn → N) (h : Held N) (ps : List Frame) (p : Frame) → ArePairs h (ps ++ p ∷ []) → p.next ≡ p.count → Reaches built h (ps ++ p ∷ []) ps
@@ -109,7 +100,7 @@ closed {N = N} built h ps p pairs e =
     let same : (f : N → List ℕ) → waiting f h [] (ps ++ p ∷ []) ≡ waiting f h [] ps = λ f. waiting-push f h [] ps p ∙ rest_done f h p (waiting f h [] ps) r.1 e in
     record {
       pairs = r.0;
-      same = λ f reads last le. ap (solve last) (same f);
+      same = λ f reads. ap solve (same f);
       less = let s = ap equations_size (same unread) in omega (arith, s, length-append ps (p ∷ []));
     }
 
@@ -124,10 +115,10 @@ pub dropped : {N : Type 0} (built : BuiltIn → N) (h : Held N) (ps : List Frame
     ((f : N → List ℕ) → term_of f h x ≡ term_of f h y) → Reaches built h (ps ++ p ∷ []) (ps ++ onward p ∷ [])
 dropped built h ps p l r x y pairs turn equal = record {
   pairs = ArePairs-push h ps (onward p) pairs (onward_pair h p turn.pair (turn_more turn));
-  same = λ f reads last le.
-      ap (solve last) (turn_waiting f h ps p l r x y turn)
-      ∙ equal_sides_dropped last (record { left = term_of f h x; right = term_of f h y }) (waiting f h [] (ps ++ onward p ∷ []))
-      ((same_term_decides (term_of f h x) (term_of f h y)).1 (equal f)) (turn_numbered f last h ps p l r x y turn le);
+  same = λ f reads.
+      ap solve (turn_waiting f h ps p l r x y turn)
+      ∙ equal_sides_dropped (record { left = term_of f h x; right = term_of f h y }) (waiting f h [] (ps ++ onward p ∷ []))
+      ((same_term_decides (term_of f h x) (term_of f h y)).1 (equal f));
   less = omega (arith, turn_size unread h ps p l r x y turn, length-append ps (p ∷ []), length-append ps (onward p ∷ []));
 }
 
@@ -151,22 +142,22 @@ opened {N = N} built h ps p q l r x y pairs turn opens =
     let now : equations_size (waiting unread h [] ((ps ++ onward p ∷ []) ++ q ∷ [])) ≡ equations_size (rest_of unread h q (rest unread)) = ap equations_size (waiting-push unread h [] (ps ++ onward p ∷ []) q) in
     record {
       pairs = ArePairs-push h (ps ++ onward p ∷ []) q (ArePairs-push h ps (onward p) pairs (onward_pair h p turn.pair (turn_more turn))) opens.is;
-      same = λ f reads last le.
-          turn_decides f last h ps p l r x y turn le
-          ∙ ap (after (solve last) (solve last)) (opens.leads f (rest f))
-          ∙ ap (solve last) (sym (waiting-push f h [] (ps ++ onward p ∷ []) q));
+      same = λ f reads.
+          turn_decides f h ps p l r x y turn
+          ∙ ap (after solve solve) (opens.leads f (rest f))
+          ∙ ap solve (sym (waiting-push f h [] (ps ++ onward p ∷ []) q));
       less = omega (arith, turn_size unread h ps p l r x y turn, big, small, now, length-append ps (p ∷ []), length-append ps (onward p ∷ []), length-append (ps ++ onward p ∷ []) (q ∷ []));
     }
 
 pub never : {N : Type 0} (built : BuiltIn → N) (h : Held N) (ps : List Frame) (p : Frame) (l r x y : Cell N) → Turn h p l r x y → MeetsAs built h x y Clash →
-    ForEachReading built h (λ f last. solve last (waiting f h [] (ps ++ p ∷ [])) ≡ None)
-never built h ps p l r x y turn clash = λ f reads last le.
-    turn_decides f last h ps p l r x y turn le ∙ ap (after (solve last) (solve last)) (clash f reads (waiting f h [] (ps ++ onward p ∷ [])))
+    ForEachReading built (λ f. solve (waiting f h [] (ps ++ p ∷ [])) ≡ None)
+never built h ps p l r x y turn clash = λ f reads.
+    turn_decides f h ps p l r x y turn ∙ ap (after solve solve) (clash f reads (waiting f h [] (ps ++ onward p ∷ [])))
 
 pub taken : {N : Type 0} (built : BuiltIn → N) (h : Held N) (ps : List Frame) (p : Frame) (l r x y : Cell N) (v : ℕ) (z : Cell N) → Turn h p l r x y → Takes h x y v z →
-    ForEachReading built h (λ f last. solve last (waiting f h [] (ps ++ p ∷ [])) ≡ after (solve last) (solve last) (bound_to v (term_of f h z) (waiting f h [] (ps ++ onward p ∷ []))))
-taken built h ps p l r x y v z turn takes = λ f reads last le.
-    turn_decides f last h ps p l r x y turn le ∙ ap (after (solve last) (solve last)) (takes.leads f (waiting f h [] (ps ++ onward p ∷ [])))
+    ForEachReading built (λ f. solve (waiting f h [] (ps ++ p ∷ [])) ≡ after solve solve (bound_to v (term_of f h z) (waiting f h [] (ps ++ onward p ∷ []))))
+taken built h ps p l r x y v z turn takes = λ f reads.
+    turn_decides f h ps p l r x y turn ∙ ap (after solve solve) (takes.leads f (waiting f h [] (ps ++ onward p ∷ [])))
 
 pub nothing_waits : {N : Type 0} (f : N → List ℕ) (h : Held N) → waiting f h [] [] ≡ []
 unfolding waiting
@@ -207,21 +198,21 @@ opened_at built h before ps between now p q o x y pairs e are is further turn op
     subst R (sym e) (subst S (sym (further ∙ ap (λ l. l ++ o ∷ []) (pushed ps between p q are is))) (opened built h ps p o turn.left turn.right x y (popped h before ps p pairs e).0 turn.turn opens))
 
 pub never_at : {N : Type 0} (built : BuiltIn → N) (h : Held N) (before ps : List Frame) (p : Frame) (x y : Cell N) →
-    before ≡ ps ++ p ∷ [] → IsTurn h p x y → MeetsAs built h x y Clash → ForEachReading built h (λ f last. solve last (waiting f h [] before) ≡ None)
-never_at built h before ps p x y e turn clash = λ f reads last le.
-    ap (λ l. solve last (waiting f h [] l)) e ∙ never built h ps p turn.left turn.right x y turn.turn clash f reads last le
+    before ≡ ps ++ p ∷ [] → IsTurn h p x y → MeetsAs built h x y Clash → ForEachReading built (λ f. solve (waiting f h [] before) ≡ None)
+never_at built h before ps p x y e turn clash = λ f reads.
+    ap (λ l. solve (waiting f h [] l)) e ∙ never built h ps p turn.left turn.right x y turn.turn clash f reads
 
 pub taken_at : {N : Type 0} (built : BuiltIn → N) (h : Held N) (before ps now : List Frame) (p q : Frame) (x y : Cell N) (v : ℕ) (z : Cell N) →
     ArePairs h before → before ≡ ps ++ p ∷ [] → now ≡ ps ++ q ∷ [] → q ≡ onward p → IsTurn h p x y → Takes h x y v z →
-    ArePairs h now × ForEachReading built h (λ f last. solve last (waiting f h [] before) ≡ after (solve last) (solve last) (bound_to v (term_of f h z) (waiting f h [] now)))
+    ArePairs h now × ForEachReading built (λ f. solve (waiting f h [] before) ≡ after solve solve (bound_to v (term_of f h z) (waiting f h [] now)))
 taken_at built h before ps now p q x y v z pairs e are is turn takes =
     let same = pushed ps now p q are is in
     let P : List Frame → Type 0 = λ l. ArePairs h l in
     let r = popped h before ps p pairs e in (
       subst P (sym same) (ArePairs-push h ps (onward p) r.0 (onward_pair h p r.1 (turn_more turn.turn))),
-      λ f reads last le.
-          ap (λ l. solve last (waiting f h [] l)) e ∙ taken built h ps p turn.left turn.right x y v z turn.turn takes f reads last le
-          ∙ ap (λ l. after (solve last) (solve last) (bound_to v (term_of f h z) (waiting f h [] l))) (sym same),
+      λ f reads.
+          ap (λ l. solve (waiting f h [] l)) e ∙ taken built h ps p turn.left turn.right x y v z turn.turn takes f reads
+          ∙ ap (λ l. after solve solve (bound_to v (term_of f h z) (waiting f h [] l))) (sym same),
     )
 
 -- nothing of a pair at its end waits

@@ -8,7 +8,7 @@ use Rattle.kl1_store.specs.declared.cell.Cell.{Cell}
 use Rattle.kl1_store.specs.declared.cell.Cell.TheVariants.{Variable, Integer, Atom, Structure}
 use Rattle.kl1_store.specs.declared.levels.Levels.{Levels}
 use Rattle.kl1_store.specs.declared.binding.Binding.{Binding}
-use Rattle.kl1_store.specs.Held.{Shape, Held, shape_arguments, IsWithin, with_variable, with_structure, with_binding, is_bound, found, IsIn, AreIn, IsLower, IsWalked, arguments_of}
+use Rattle.kl1_store.specs.Held.{Shape, Held, nothing_held, shape_arguments, IsWithin, with_variable, with_structure, with_binding, is_bound, found, IsIn, AreIn, IsLower, IsWalked, arguments_of}
 use Rattle.kl1_store.specs.Meaning.{term_of, terms_of}
 use Rattle.kl1_store.specs.Sound.{IsFormed, IsBoundTo, Grown}
 use Rattle.kl1_store.specs.Levels.{level_at, LiesAt, IsLevel, AreLevels}
@@ -251,3 +251,14 @@ levels-taken {N = N} h now ls kept p grown a e1 e2 = record {
         subst Q (sym (get_or-take h.variables ls.variables.items v 0 lt))
         (lies_kept h.variables (length h.structures) (level_at ls.variables.items v) ls.variables.items ls.structures.items (found v h.bindings) (found_in h v p lt)
         (subst P (found-taken v h.bindings now.bindings grown.bindings b) (a.level.values v)))
+
+-- a store that holds nothing
+pub levels_new : {N : Type 0} (h : Held N) (ls : Levels) → h ≡ nothing_held → length ls.structures.items ≡ 0 → AreLevels h ls
+levels_new {N = N} h ls e n =
+    let P : Held N → Type 0 = λ k. AreLevels k ls in
+    subst P (sym e) (record { level = record { arguments = λ s i x q. absurd (cc); values = λ v. omega arith }; fit = omega arith })
+
+-- a structure is no variable
+pub same_variables : {N X E : Type 0} (old new : Held N) (name : N) (arguments : List (Cell N)) (P : X → Type 0) (r : Result X E) → IfOk r (λ (v : X). P v × (new ≡ with_structure old name arguments)) → OnErr r (new ≡ old) → new.variables ≡ old.variables
+same_variables {N = N} old new name arguments P (Ok v) ok err = ap (λ (h : Held N). h.variables) ok.1
+same_variables {N = N} old new name arguments P (Err e) ok err = ap (λ (h : Held N). h.variables) err

@@ -7,7 +7,6 @@ pub mod Rooms
 pub mod Lists
 pub mod Walking
 pub mod Meetings
-pub mod Numbered
 pub mod Advancing
 pub mod Levelling
 pub mod Lifting
@@ -20,3 +19,5 @@ pub mod Grows
 pub mod Merging
 pub mod Nesting
 pub mod Equalling
+pub mod Chaining
+pub mod Telling

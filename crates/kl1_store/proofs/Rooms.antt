@@ -3,7 +3,9 @@ use Rattle.std.proofs.Common.{◌≡◌, ℕ, ◌+◌, ◌-◌, ◌≤◌, List,
 use Rattle.kl1_store.specs.declared.cell.Cell.{Cell}
 use Rattle.kl1_store.specs.declared.node.Node.{Node}
 use Rattle.kl1_store.specs.declared.binding.Binding.{Binding}
-use Rattle.kl1_store.specs.Held.{Held, Room, arguments_held}
+use Rattle.kl1_store.specs.Held.{Held, Room, Stored, arguments_held}
+use Rattle.kl1_store.specs.Chains.{Hung}
+use Rattle.kl1_store.specs.Keeping.{kept_in}
 use Rattle.kl1_store.specs.Inside.{room_in, held_in, most, AreLaid, IsInside}
 use Rattle.kl1_store.specs.Spending.{SpendsOnBindings, FreesRoom}
 use Rattle.kl1_store.proofs.Laid.{length-shapes_in, arguments_held-laid}
@@ -99,3 +101,14 @@ frees_lists z slots nodes arguments bindings z' slots' nodes' arguments' binding
 -- a list that keeps its memory, and its room
 pub list_spent : (n m n' m' l l' : ℕ) → n ≡ l → n' ≡ l' → n ≤ m → m ≤ m' → l + (m - n) ≤ l' + (m' - n')
 list_spent n m n' m' l l' e e' p q = let s = spare n m n' m' p q in omega (arith, s, e, e')
+
+-- ---- room for variables, where cells and hooks have it
+
+pub frees_kept : {N : Type 0} (old new : Stored N) (k l : Hung) → FreesRoom old.held old.room new.held new.room → old.held.variables ≤ k.covered → k.covered ≤ k.memory → l.memory ≡ k.memory → new.held.variables ≤ old.held.variables →
+    FreesRoom (kept_in old k).held (kept_in old k).room (kept_in new l).held (kept_in new l).room
+frees_kept old new k l f a b c d = record {
+  variables = let v = f.variables in omega arith;
+  structures = f.structures;
+  arguments = f.arguments;
+  bindings = f.bindings;
+}

@@ -29,7 +29,7 @@ Grown-bound old new p = record {
 
 pub unifies : {N : Type 0} (built : BuiltIn → N) (old new : Held N) (x y : Cell N) → OnlyBound old new → SettlesAs built old new (λ f. equation_of f old x y) true → UnifiesAs built old new x y Bound
 unifies built old new x y p s = (
-  λ f reads last le. let m = s f reads last le in record { replacements = m.made; solves = m.solves; everywhere = λ z. made_everywhere f old new m.made z p m.replacements },
+  λ f reads. let m = s f reads in record { replacements = m.made; solves = m.solves; everywhere = λ z. made_everywhere f old new m.made z p m.replacements },
   Grown-bound old new p,
   p.variables,
 )

@@ -1,22 +1,26 @@
 -- What hangs on variables, and who is told that a variable was bound.
 use Rattle.std.specs.Prelude.{◌≡◌, ℕ, ◌==◌, if◌then◌else◌, List, [], ◌∷◌, ◌++◌, length, take}
 use Rattle.kl1_store.specs.declared.binding.Binding.{Binding}
-use Rattle.kl1_store.specs.declared.hook.Hook.{Hook}
 use Rattle.kl1_store.specs.declared.point.Point.{Point}
 use Rattle.kl1_store.specs.Held.{Held, Room, sizes_of}
 use Rattle.kl1_store.specs.Sound.{Grown}
 
--- what a store holds, what hangs on its variables, and its room for more of both
+-- a number that hangs on a variable
+pub record Hook : Type 0 where
+  pub variable : ℕ
+  pub number : ℕ
+
+-- what a store holds, what hangs on its variables, the oldest first, and its room for more of both
 pub record Kept (N : Type 0) : Type 0 where
   pub held : Held N
   pub hooks : List Hook
   pub room : Room
   pub hook_room : ℕ
 
--- the numbers that hang on a variable, the oldest first
+-- the numbers that hang on a variable, the newest first
 abbrev pub hanging_on : ℕ → List Hook → List ℕ
 hanging_on v [] = []
-hanging_on v (k ∷ ks) = if k.variable == v then k.number ∷ hanging_on v ks else hanging_on v ks
+hanging_on v (k ∷ ks) = hanging_on v ks ++ (if k.variable == v then k.number ∷ [] else [])
 
 -- the numbers that hang on the variables of these bindings
 abbrev pub told_by : {N : Type 0} → List (Binding N) → List Hook → List ℕ

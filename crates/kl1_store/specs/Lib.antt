@@ -15,6 +15,8 @@ pub mod Compares
 pub mod ComparesEach
 pub mod Sameness
 pub mod Hooks
+pub mod Chains
+pub mod Keeping
 pub mod Spending
 pub mod Nested
 pub mod Merged

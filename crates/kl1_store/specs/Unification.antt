@@ -12,12 +12,12 @@ use Rattle.kl1_store.specs.Sound.{Grown}
 use Rattle.kl1_store.specs.Unifies.{ForEachReading, equation_of}
 
 -- the solution of an equation was made everywhere: each cell means what it meant, with its replacements
-pub record IsSolved {N : Type 0} (f : N → List ℕ) (last : ℕ) (old new : Held N) (x y : Cell N) : Type 0 where
+pub record IsSolved {N : Type 0} (f : N → List ℕ) (old new : Held N) (x y : Cell N) : Type 0 where
   pub replacements : List Replacement
-  pub solves : solve last (equation_of f old x y) ≡ Some replacements
+  pub solves : solve (equation_of f old x y) ≡ Some replacements
   pub everywhere : (z : Cell N) → term_of f new z ≡ replaced replacements (term_of f old z)
 
 -- what unification promises
 abbrev pub UnifiesAs : {N : Type 0} → (BuiltIn → N) → Held N → Held N → Cell N → Cell N → Unified → Type 0
-UnifiesAs built old new x y Bound = ForEachReading built old (λ f last. IsSolved f last old new x y) × Grown old new × (new.variables ≡ old.variables)
-UnifiesAs built old new x y Clash = ForEachReading built old (λ f last. solve last (equation_of f old x y) ≡ None) × (new ≡ old)
+UnifiesAs built old new x y Bound = ForEachReading built (λ f. IsSolved f old new x y) × Grown old new × (new.variables ≡ old.variables)
+UnifiesAs built old new x y Clash = ForEachReading built (λ f. solve (equation_of f old x y) ≡ None) × (new ≡ old)

@@ -1,6 +1,6 @@
 // The lists of a store, and what each growth does to them.
 
-ghost use Rattle.std.specs.Prelude.{◌≡◌, ℕ, suc, false, ◌+◌, ◌<◌, ◌≤◌, ◌↔◌, List, [], Some, length, take, drop, MatchOption, IfOk, OnOk, OnErr, IsOk, IsTrue, slice_get, vec_capacity};
+ghost use Rattle.std.specs.Prelude.{◌≡◌, ℕ, suc, false, ◌+◌, ◌<◌, ◌≤◌, ◌↔◌, List, [], ◌∷◌, Some, length, take, drop, MatchOption, IfOk, OnOk, OnErr, IsOk, IsTrue, slice_get, vec_capacity};
 ghost use Rattle.kl1_model.specs.Term.{occurs};
 ghost use Rattle.kl1_store.specs.Held.{Held, nothing_held, with_variable, with_structure, with_binding, is_bound, found, arguments_of, IsIn, AreIn, IsLower, IsWalked, sizes_of, HasRoom};
 ghost use Rattle.kl1_store.specs.Meaning.{term_of};
@@ -62,6 +62,14 @@ impl<N: NameValue> Cells<N> {
         }
     }
 
+    /// How many variables there are.
+    #[inline]
+    pub fn variables(&self) -> usize
+        ensures { result ≡ self.now.held.variables }
+    {
+        self.slots.len()
+    }
+
     /// A new variable, unbound.
     pub fn fresh(&mut self) -> Result<u32, AllocError>
         ensures ok { IfOk result (λ v. (v ≡ self.old.held.variables) × (self.new.held ≡ with_variable self.old.held)) }
@@ -98,6 +106,36 @@ impl<N: NameValue> Cells<N> {
             name,
             start: start as u32,
             count: count as u32,
+        });
+        Ok(number as u32)
+    }
+
+    /// A new structure of two arguments.
+    pub fn build_pair(
+        &mut self,
+        name: N,
+        first: Cell<N>,
+        second: Cell<N>,
+    ) -> Result<u32, AllocError>
+        requires { AreIn self.old.held (first ∷ second ∷ []) }
+        ensures ok { IfOk result (λ s. (s ≡ length self.old.held.structures) × (self.new.held ≡ with_structure self.old.held name (first ∷ second ∷ []))) }
+        ensures err { OnErr result (self.new.held ≡ self.old.held) }
+        ensures room { 0 < self.old.room.structures → 2 ≤ self.old.room.arguments → IsOk result }
+        ensures spends { Spends self.old.room self.new.room 0 1 2 0 }
+    {
+        let number = self.nodes.len();
+        let start = self.arguments.len();
+        if number >= MOST || start > MOST - 2 {
+            return Err(AllocError);
+        }
+        self.nodes.reserve(1)?;
+        self.arguments.reserve(2)?;
+        self.arguments.push_reserved(first);
+        self.arguments.push_reserved(second);
+        self.nodes.push_reserved(Node {
+            name,
+            start: start as u32,
+            count: 2,
         });
         Ok(number as u32)
     }

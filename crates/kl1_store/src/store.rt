@@ -7,13 +7,13 @@ ghost use Rattle.kl1_store.specs.Spending.{Spends, SpendsOnBindings, FreesRoom};
 ghost use Rattle.kl1_store.specs.Sound.{IsFormed};
 ghost use Rattle.kl1_store.specs.Unification.{UnifiesAs};
 ghost use Rattle.kl1_store.specs.Sameness.{SameAs};
-ghost use Rattle.kl1_store.specs.Hooks.{Kept, told_by, point_of, HasGrown};
+ghost use Rattle.kl1_store.specs.Hooks.{Kept, hanging_on, told_by, point_of, HasGrown};
 
 use crate::cell::Cell;
 use crate::cells::Cells;
 use crate::compare_each::compare_each;
 use crate::head::Head;
-use crate::hook::Hook;
+use crate::hooks::Hooks;
 use crate::levels::Levels;
 use crate::merges::Merges;
 use crate::pairs::Pairs;
@@ -37,21 +37,20 @@ pub struct Store<N: NameValue> {
     cells: Cells<N>,
     levels: Levels,
     scratch: Scratch<N>,
-    hooks: Vec<Hook>,
+    hooks: Hooks,
     alloc: Global,
 }
 
 impl<N: NameValue> Model for Store<N> {
-    ghost use Rattle.std.specs.Prelude.{◌-◌, vec_len, vec_capacity};
     ghost use Rattle.kl1_store.specs.Hooks.{Kept};
 
     ghost Value = { Kept N };
 
-    ghost view = { λ s. record { held = s.cells.held; hooks = s.hooks.items; room = s.cells.room; hook_room = vec_capacity s.hooks - vec_len s.hooks } };
+    ghost use Rattle.kl1_store.specs.Keeping.{kept_in, IsKept};
 
-    ghost use Rattle.kl1_store.specs.Levels.{AreLevels};
+    ghost view = { λ s. kept_in s.cells s.hooks };
 
-    ghost invariant = { λ s. AreLevels s.cells.held s.levels };
+    ghost invariant = { λ s. IsKept s.cells s.hooks s.levels };
 }
 
 impl<N: NameValue> Store<N> {
@@ -72,7 +71,7 @@ impl<N: NameValue> Store<N> {
                 pairs: Pairs::new(alloc),
                 tasks: Vec::new(alloc),
             },
-            hooks: Vec::new(alloc),
+            hooks: Hooks::new(alloc),
             alloc,
         }
     }
@@ -86,6 +85,7 @@ impl<N: NameValue> Store<N> {
         ensures hooks { self.new.hooks ≡ self.old.hooks }
         ensures hook_room { self.new.hook_room ≡ self.old.hook_room }
     {
+        self.hooks.cover(self.cells.variables())?;
         self.cells.fresh()
     }
 
@@ -100,6 +100,24 @@ impl<N: NameValue> Store<N> {
         ensures hook_room { self.new.hook_room ≡ self.old.hook_room }
     {
         self.cells.build(name, arguments)
+    }
+
+    /// A new structure of two arguments: its number.
+    pub fn build_pair(
+        &mut self,
+        name: N,
+        first: Cell<N>,
+        second: Cell<N>,
+    ) -> Result<u32, AllocError>
+        requires { AreIn self.old.held (first ∷ second ∷ []) }
+        ensures ok { IfOk result (λ s. (s ≡ length self.old.held.structures) × (self.new.held ≡ with_structure self.old.held name (first ∷ second ∷ []))) }
+        ensures err { OnErr result (self.new.held ≡ self.old.held) }
+        ensures room { 0 < self.old.room.structures → 2 ≤ self.old.room.arguments → IsOk result }
+        ensures spends { Spends self.old.room self.new.room 0 1 2 0 }
+        ensures hooks { self.new.hooks ≡ self.old.hooks }
+        ensures hook_room { self.new.hook_room ≡ self.old.hook_room }
+    {
+        self.cells.build_pair(name, first, second)
     }
 
     /// The cell that a cell stands for: what its variable was bound to, and so on.
@@ -188,6 +206,7 @@ impl<N: NameValue> Store<N> {
         ensures hooks { self.new.hooks ≡ self.old.hooks }
         ensures hook_room { self.new.hook_room ≡ self.old.hook_room }
     {
+        self.hooks.reserve_heads(variables)?;
         self.cells
             .reserve(variables, structures, arguments, bindings)
     }
@@ -224,7 +243,7 @@ impl<N: NameValue> Store<N> {
     }
 
     /// Hangs a number on a variable.
-    pub fn hang(&mut self, variable: u32, number: u32) -> Result<(), AllocError>
+    pub fn hang(&mut self, variable: u32, number: u64) -> Result<(), AllocError>
         requires { variable < self.old.held.variables }
         ensures ok { OnOk result (self.new.hooks ≡ self.old.hooks ++ record { variable = variable; number = number } ∷ []) }
         ensures err { OnErr result (self.new.hooks ≡ self.old.hooks) }
@@ -233,16 +252,24 @@ impl<N: NameValue> Store<N> {
         ensures hook_room { self.old.hook_room ≤ self.new.hook_room + 1 }
         ensures cells_room { self.new.room ≡ self.old.room }
     {
-        self.hooks.push(Hook { variable, number })?;
-        Ok(())
+        self.hooks.hang(variable, number)
     }
 
-    /// Adds the numbers that hang on the variables that were bound since a point, in the order of the bindings.
-    pub fn tell(&self, since: Point, told: &mut Vec<u32>) -> Result<(), AllocError>
+    /// The number that was hung last on a variable, if any was.
+    pub fn newest(&self, variable: u32) -> Option<u64>
+        requires { variable < self.now.held.variables }
+        ensures { result ≡ slice_get (hanging_on variable self.now.hooks) 0 }
+    {
+        self.hooks.newest(variable)
+    }
+
+    /// Adds the numbers that hang on the variables that were bound since a point: in the order of the bindings, and on one
+    /// variable the newest first.
+    pub fn tell(&self, since: Point, told: &mut Vec<u64>) -> Result<(), AllocError>
         ensures { OnOk result (told.new.items ≡ told.old.items ++ told_by (drop since.sizes.bindings self.now.held.bindings) self.now.hooks) }
     {
         let bindings = self.cells.bindings_from(since.sizes.bindings);
-        tell_all(bindings, self.hooks.as_slice(), told)
+        tell_all(bindings, &self.hooks, told)
     }
 
     /// How much is kept now.
@@ -265,6 +292,6 @@ impl<N: NameValue> Store<N> {
         ensures hook_room { length self.old.hooks + self.old.hook_room ≤ length self.new.hooks + self.new.hook_room }
     {
         take_back(&mut self.cells, &mut self.levels, mark.sizes);
-        self.hooks.truncate(mark.hooks);
+        self.hooks.keep(mark.hooks);
     }
 }

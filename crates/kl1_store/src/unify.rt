@@ -31,6 +31,7 @@ pub fn unify_or_undo<N: NameValue>(
     ensures err { OnErr result (cells.new.held ≡ cells.old.held) }
     ensures spends { SpendsOnBindings cells.old.held cells.old.room cells.new.held cells.new.room }
     ensures levels { AreLevels cells.new.held levels.new }
+    ensures variables { cells.new.held.variables ≡ cells.old.held.variables }
 {
     let mark = cells.mark();
     match unify_cells(

@@ -8,6 +8,7 @@ ghost use Rattle.kl1_term.specs.Narrow.{is_narrow_node};
 
 use crate::node::Node;
 use crate::term::Term;
+use kl1_model::limits::{MOST_ARGUMENTS, MOST_DEPTH};
 use std::alloc::{AllocError, Global};
 
 impl Term {
@@ -28,7 +29,7 @@ impl Term {
 fn is_low(deep: u64) -> bool
     ensures { result ≡ nat_le deep most_depth }
 {
-    deep <= 256
+    deep <= MOST_DEPTH
 }
 
 /// Whether the structures of nodes have 1 to 8 arguments; names and integers fit by their types.
@@ -58,7 +59,7 @@ fn is_narrow(node: &Node) -> bool
         }
         Node::Structure(name, count) => {
             name.shows_text();
-            1 <= *count && *count <= 8
+            1 <= *count && *count <= MOST_ARGUMENTS
         }
     }
 }

@@ -56,7 +56,7 @@ const PARTS: [(&[u8], Part); 45] = [
     (b"script word ", Part::Script(script::Kind::Word)),
     (b"script blank ", Part::Script(script::Kind::Blank)),
     (b"script number ", Part::Script(script::Kind::Number)),
-    (b"script parts ", Part::Script(script::Kind::Parts)),
+    (b"script source ", Part::Script(script::Kind::Source)),
     (b"script record ", Part::Script(script::Kind::Record)),
     (b"script accounts ", Part::Script(script::Kind::Accounts)),
     (b"script account ", Part::Script(script::Kind::Account)),

@@ -5,7 +5,6 @@ mod commands;
 mod devices;
 mod kind;
 mod lines;
-mod parts;
 mod records;
 mod replies;
 mod rows;

@@ -1,2 +1,3 @@
+pub mod Digits
 pub mod BuiltInLaws
 pub mod Words

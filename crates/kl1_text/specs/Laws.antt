@@ -1,16 +1,17 @@
 -- What holds of the built-in names.
 use Rattle.std.specs.Prelude.{◌≡◌, ℕ, ◌<◌, List, Some, IsTrue}
 use Rattle.kl1_model.specs.declared.built_in.BuiltIn.{BuiltIn}
+use Rattle.kl1_model.specs.Limits.{first_number}
 use Rattle.kl1_model.specs.Text.{text_of, is_text}
 use Rattle.kl1_text.specs.BuiltIns.{place_of, built_in_at, built_in_of}
 use Rattle.kl1_text.specs.Reading.{Reads}
 
--- each built-in name is a name, and is found by its text and by its place, which is below 64
+-- each built-in name is a name, and is found by its text and by its place, which is below the numbers of other names
 pub record IsKnown (b : BuiltIn) : Type 0 where
   pub name : IsTrue (is_text (text_of b))
   pub by_text : built_in_of (text_of b) ≡ Some b
   pub by_place : built_in_at (place_of b) ≡ Some b
-  pub below : place_of b < 64
+  pub below : place_of b < first_number
 
 -- built-in names differ in text and in place
 pub record Differ : Type 0 where

@@ -1,9 +1,15 @@
 // A name as a value.
 
 ghost use Rattle.std.specs.Prelude.{◌≡◌, ℕ, ◌≤◌, List, [], IsTrue, IfSome, IfOk, is_some, length, bytes_eq, ◌↔◌};
+ghost use Rattle.std.specs.Cmp.{partial_equiv_from_equiv};
+ghost use Rattle.std.specs.Cmp.Lexicographic.{nat_list_eq_equiv};
+ghost use Rattle.std.specs.Hash as fed;
+ghost use Rattle.std.proofs.Common.{ap};
+ghost use Rattle.std.proofs.lemmas.Slice.Eq.{bytes_eq-Decides};
 ghost use Rattle.kl1_model.specs.Text.{is_text, text_of};
 ghost use Rattle.kl1_model.specs.Name.{name_text, atom_text};
 ghost use Rattle.kl1_model.specs.declared.built_in.BuiltIn.{BuiltIn};
+ghost use Rattle.kl1_model.specs.Limits.{most_name_bytes};
 ghost use Rattle.kl1_text.specs.BuiltIns.{built_in_of};
 ghost use Rattle.kl1_text.specs.Words.{words_of, bytes_of};
 
@@ -15,6 +21,7 @@ use crate::printing::{is_bare, quoted};
 use crate::short_bytes::ShortBytes;
 use kl1_model::BuiltIn;
 use std::alloc::{AllocError, Global};
+use std::hash::{Hash, Hasher};
 use std::marker::Model;
 
 /// A name: at most 63 bytes of printable ASCII, the blank among them. The empty name is one.
@@ -82,7 +89,7 @@ impl AtomText {
     /// The bytes of the name.
     pub fn unpacked(&self) -> ShortBytes
         ensures value { result ≡ self.now }
-        ensures short { length result ≤ 63 }
+        ensures short { length result ≤ most_name_bytes }
         ensures text { IsTrue (is_text result) }
     {
         let mut out = ShortBytes::new();
@@ -125,7 +132,7 @@ impl AtomText {
     /// How many bytes the name has.
     pub fn len(&self) -> usize
         ensures value { result ≡ length self.now }
-        ensures short { result ≤ 63 }
+        ensures short { result ≤ most_name_bytes }
     {
         self.unpacked().len()
     }
@@ -170,5 +177,30 @@ impl NameValue for AtomText {
 
     fn same(&self, other: &Self) -> bool {
         self.is(other)
+    }
+}
+
+impl PartialEq for AtomText {
+    ghost eq = { bytes_eq };
+
+    ghost laws = { partial_equiv_from_equiv nat_list_eq_equiv };
+
+    fn eq(&self, other: &AtomText) -> bool {
+        AtomText::is(self, other)
+    }
+}
+
+impl Eq for AtomText {
+    ghost laws = { nat_list_eq_equiv };
+}
+
+impl Hash for AtomText {
+    ghost hash_input = { λ a. fed.slice fed.u64 (words_of 8 a) };
+
+    ghost respects_eq = { λ a b e. ap (λ t. fed.slice fed.u64 (words_of 8 t)) ((bytes_eq-Decides a b).0 e) };
+
+    fn hash<H: Hasher>(&self, state: &mut H) {
+        let words = self.words();
+        words.hash(state);
     }
 }

@@ -1,9 +1,10 @@
-//! The names of the language as values: texts of at most 63 bytes, and what may stand in their place.
+//! The names of the language as values: texts of at most 63 bytes, and what may stand in their place; numbers from digits.
 #![tactic(auto)]
 
 mod atom_no;
 mod atom_text;
 mod built_ins;
+mod decimals;
 mod laws;
 mod literals;
 mod name_value;
@@ -14,6 +15,7 @@ mod short_bytes;
 pub use atom_no::AtomNo;
 pub use atom_text::AtomText;
 pub use built_ins::built_in_at;
+pub use decimals::decimal_up_to;
 pub use laws::built_ins_differ;
 pub use name_value::NameValue;
 pub use printing::{put_atom, put_int, put_name};

@@ -5,6 +5,8 @@ ghost use Rattle.std.specs.List.{list_all};
 ghost use Rattle.kl1_model.specs.Text.{is_name_byte, is_text};
 ghost use Rattle.kl1_text.specs.Words.{number_of, words_of};
 
+use kl1_model::limits::MOST_NAME_BYTES;
+
 /// Whether a byte may stand in a name.
 fn is_name_byte(byte: u8) -> bool
     ensures { result ≡ is_name_byte byte }
@@ -16,7 +18,7 @@ fn is_name_byte(byte: u8) -> bool
 pub(crate) fn is_text(bytes: &[u8]) -> bool
     ensures { result ≡ is_text bytes.now }
 {
-    bytes.len() <= 63 && are_name_bytes(bytes)
+    bytes.len() <= MOST_NAME_BYTES && are_name_bytes(bytes)
 }
 
 /// Whether each byte may stand in a name.

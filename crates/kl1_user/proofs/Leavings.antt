@@ -23,7 +23,8 @@ use Rattle.kl1_user.specs.declared.shoen.Shoen.{Shoen}
 use Rattle.kl1_user.specs.declared.work.Work.{Work}
 use Rattle.kl1_user.specs.Kept.{Means, meaning, task_with, goal_with, shoen_with, with_kept, IsTaskIn, AreGoalsIn, IsOwned, AreOwned, IsShoenIn, AreShoensIn, AreNumbered, AreStanding}
 use Rattle.kl1_user.specs.Lists.{is_other, has_number, stood}
-use Rattle.kl1_user.specs.Moves.{move_by, MovesAs}
+use Rattle.kl1_model.specs.Waits.{move_by}
+use Rattle.kl1_user.specs.Moves.{MovesAs}
 use Rattle.kl1_user.specs.Works.{IsWorkIn, HasPlace, Turns}
 use Rattle.kl1_user.specs.declared.refusal.Refusal.TheVariants as refusal
 use Rattle.kl1_user.specs.Leaving.{Leaves, reduced_to, IsAt, IsDone, IsRefused}

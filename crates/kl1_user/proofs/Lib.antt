@@ -15,7 +15,6 @@ pub mod Leavings
 pub mod Loads
 pub mod Origins
 pub mod Keeping
-pub mod Standings
 pub mod Taking
 pub mod Openings
 pub mod Startings

@@ -6,7 +6,7 @@ use Rattle.std.proofs.lemmas.Bool.{ne_eqb}
 use Rattle.kl1_model.specs.Text.{text_of}
 use Rattle.kl1_model.specs.Term.{Term, variable, structure, none, more, occurs, replace, Replacement, replaced}
 use Rattle.kl1_model.specs.Meaning.{cell}
-use Rattle.kl1_model.specs.Unify.{Equation, fails, binds, after, walk, solve_within, solve}
+use Rattle.kl1_model.specs.Unify.{Equation, fails, binds, after, walk, solve_within, highest_among, solve}
 use Rattle.kl1_text.specs.Reading.{Reads}
 use Rattle.kl1_store.specs.declared.cell.Cell.{Cell}
 use Rattle.kl1_store.specs.declared.cell.Cell.TheVariants.{Variable, Integer, Atom, Structure}
@@ -42,9 +42,9 @@ unfolding solve_within walk
 front_solves last v t true = refl
 front_solves last v t false = refl
 
-pub solve_cell : (last v : ℕ) (h t : Term) → solve last (one_equation v (cell h t)) ≡ solved_by v (cell h t) (occurs v (cell h t))
+pub solve_cell : (v : ℕ) (h t : Term) → solve (one_equation v (cell h t)) ≡ solved_by v (cell h t) (occurs v (cell h t))
 unfolding solve_within walk
-solve_cell last v h t = front_solves last v (cell h t) (occurs v (cell h t))
+solve_cell v h t = front_solves (highest_among (one_equation v (cell h t))) v (cell h t) (occurs v (cell h t))
 
 -- a variable behind all others is unbound
 unbound_past_each : {N : Type 0} (vs : ℕ) (ss : List (Shape N)) (before bs : List (Binding N)) (v : ℕ) → vs ≤ v → sound.Bound vs ss before bs → is_bound v bs ≡ false
@@ -120,12 +120,12 @@ occurs_cell v n t lt = ap (λ c. occurs v t || (c || false)) (ne_eqb v n (λ e. 
     or_none false = refl
 
 -- the answer of unification, from whether the variable is in the message
-solves : (h : Held (List ℕ)) (v : ℕ) (m : Cell (List ℕ)) (last : ℕ) → IsFormed h → is_bound v h.bindings ≡ false → HasMessage h m → v < h.variables →
-    solve last (equation_of (λ (a : List ℕ). a) (with_message h m) (Variable v) (Structure (length h.structures))) ≡ solved_by v (cell (meaning h m) (variable h.variables)) (occurs v (meaning h m))
-solves h v m last p u k lt =
+solves : (h : Held (List ℕ)) (v : ℕ) (m : Cell (List ℕ)) → IsFormed h → is_bound v h.bindings ≡ false → HasMessage h m → v < h.variables →
+    solve (equation_of (λ (a : List ℕ). a) (with_message h m) (Variable v) (Structure (length h.structures))) ≡ solved_by v (cell (meaning h m) (variable h.variables)) (occurs v (meaning h m))
+solves h v m p u k lt =
     let t = cell (meaning h m) (variable h.variables) in
-    ap (solve last) (equation_is h v m p u k)
-    ∙ solve_cell last v (meaning h m) (variable h.variables)
+    ap solve (equation_is h v m p u k)
+    ∙ solve_cell v (meaning h m) (variable h.variables)
     ∙ ap (solved_by v t) (occurs_cell v h.variables (meaning h m) lt)
 
 the_one : (v : ℕ) (t : Term) (b : Bool) (rs : List Replacement) → solved_by v t b ≡ Some rs → (b ≡ false) × (rs ≡ record { number = v; by = t } ∷ [])
@@ -141,8 +141,8 @@ pub is_sent : (h new : Held (List ℕ)) (v : ℕ) (m : Cell (List ℕ)) (next : 
 is_sent h new v m next p lt u i is told =
     let k = has_message h m p i in
     let t = cell (meaning h m) (variable h.variables) in
-    let solved = told.0 (λ (a : List ℕ). a) reads_texts h.variables (omega arith) in
-    let one = the_one v t (occurs v (meaning h m)) solved.replacements (sym (solves h v m h.variables p u k lt) ∙ solved.solves) in
+    let solved = told.0 (λ (a : List ℕ). a) reads_texts in
+    let one = the_one v t (occurs v (meaning h m)) solved.replacements (sym (solves h v m p u k lt) ∙ solved.solves) in
     let means : (x : Cell (List ℕ)) → meaning new x ≡ replace v t (meaning (with_message h m) x) =
     λ x. solved.everywhere x ∙ ap (λ rs. replaced rs (meaning (with_message h m) x)) one.1 in
     let Q : ℕ → Type 0 = λ n. IsSent h new v m n in
@@ -158,7 +158,7 @@ pub never_sent : (h now new : Held (List ℕ)) (v : ℕ) (m : Cell (List ℕ)) �
     UnifiesAs text_of (with_message h m) now (Variable v) (Structure (length h.structures)) Clash → new ≡ h → SentAs h new v m None
 never_sent h now new v m p lt u i told back =
     let k = has_message h m p i in
-    (never_one v (cell (meaning h m) (variable h.variables)) (occurs v (meaning h m)) (sym (solves h v m h.variables p u k lt) ∙ told.0 (λ (a : List ℕ). a) reads_texts h.variables (omega arith)), back)
+    (never_one v (cell (meaning h m) (variable h.variables)) (occurs v (meaning h m)) (sym (solves h v m p u k lt) ∙ told.0 (λ (a : List ℕ). a) reads_texts), back)
 
 pub grown_sent : (h new : Held (List ℕ)) (m : Cell (List ℕ)) → Grown (with_message h m) new → Grown h new
 grown_sent h new m g =

@@ -104,10 +104,9 @@ raised h full k w v goal s name kind p i j e f b next =
 -- ---- unifications
 
 pub solved_turns : (h k : Held (List ℕ)) (w : Work) (goal left right : Cell (List ℕ)) → IsWorkIn h w → UnifiesAs text_of h k left right Bound →
-    Turns (λ s. unified w.shoen.number (meaning h goal) (solve s.last_variable (equation (meaning h left) (meaning h right))) s) h k w w
+    Turns (λ s. unified w.shoen.number (meaning h goal) (solve (equation (meaning h left) (meaning h right))) s) h k w w
 solved_turns h k w goal left right i u =
-    let b = i.some in
-    let solved = u.0 (λ (a : List ℕ). a) reads_texts (h.variables - 1) (omega arith) in
+    let solved = u.0 (λ (a : List ℕ). a) reads_texts in
     let t = replaced_turns h k w solved.replacements u.1 u.2 solved.everywhere i in
     record {
       inside = t.inside;
@@ -118,10 +117,9 @@ solved_turns h k w goal left right i u =
 
 pub failed_turns : (h same k : Held (List ℕ)) (w v : Work) (goal left right : Cell (List ℕ)) → IsWorkIn h w → UnifiesAs text_of h same left right Clash →
     Turns (report w.shoen.number (exception failure (meaning same goal))) same k w v →
-    Turns (λ s. unified w.shoen.number (meaning h goal) (solve s.last_variable (equation (meaning h left) (meaning h right))) s) h k w v
+    Turns (λ s. unified w.shoen.number (meaning h goal) (solve (equation (meaning h left) (meaning h right))) s) h k w v
 failed_turns h same k w v goal left right i u t =
-    let b = i.some in
-    let never = u.0 (λ (a : List ℕ). a) reads_texts (h.variables - 1) (omega arith) in
+    let never = u.0 (λ (a : List ℕ). a) reads_texts in
     let P : Held (List ℕ) → Type 0 = λ x. Turns (report w.shoen.number (exception failure (meaning x goal))) x k w v in
     let r = subst P u.1 t in
     record {
@@ -133,29 +131,29 @@ failed_turns h same k w v goal left right i u t =
 
 -- ---- the end of a stream
 
-solve_nil : (last v : ℕ) → solve last (one_equation v nil) ≡ solved_by v nil false
+solve_nil : (v : ℕ) → solve (one_equation v nil) ≡ solved_by v nil false
 unfolding solve_within walk
-solve_nil last v = refl
+solve_nil v = refl
 
 is_ended : (h k : Held (List ℕ)) (v : ℕ) (a : List ℕ) → is_bound v h.bindings ≡ false → a ≡ codes "[]" → UnifiesAs text_of h k (Variable v) (Atom a) Bound → IsEnded h k v
 is_ended h k v a u e told =
     let f : List ℕ → List ℕ = λ x. x in
-    let solved = told.0 f reads_texts h.variables (omega arith) in
+    let solved = told.0 f reads_texts in
     let sides : equation_of f h (Variable v) (Atom a) ≡ one_equation v nil =
     ap (λ t. let q : Equation = record { left = t; right = meaning h (Atom a) } in q ∷ []) (term_of-unbound f h v u)
     ∙ ap (λ t. let q : Equation = record { left = variable v; right = t } in q ∷ []) (term_of-Atom f h a ∙ ap atom e) in
-    let one : solved_by v nil false ≡ Some solved.replacements = sym (solve_nil h.variables v) ∙ ap (solve h.variables) (sym sides) ∙ solved.solves in
+    let one : solved_by v nil false ≡ Some solved.replacements = sym (solve_nil v) ∙ ap solve (sym sides) ∙ solved.solves in
     let rs : solved.replacements ≡ record { number = v; by = nil } ∷ [] = cc in
     record { variables = told.2; means = λ x. solved.everywhere x ∙ ap (λ l. replaced l (meaning h x)) rs }
 
 never_ends : (h k : Held (List ℕ)) (v : ℕ) (a : List ℕ) → is_bound v h.bindings ≡ false → a ≡ codes "[]" → UnifiesAs text_of h k (Variable v) (Atom a) Clash → ⊥
 never_ends h k v a u e told =
     let f : List ℕ → List ℕ = λ x. x in
-    let never = told.0 f reads_texts h.variables (omega arith) in
+    let never = told.0 f reads_texts in
     let sides : equation_of f h (Variable v) (Atom a) ≡ one_equation v nil =
     ap (λ t. let q : Equation = record { left = t; right = meaning h (Atom a) } in q ∷ []) (term_of-unbound f h v u)
     ∙ ap (λ t. let q : Equation = record { left = variable v; right = t } in q ∷ []) (term_of-Atom f h a ∙ ap atom e) in
-    let one : solved_by v nil false ≡ None = sym (solve_nil h.variables v) ∙ ap (solve h.variables) (sym sides) ∙ never in
+    let one : solved_by v nil false ≡ None = sym (solve_nil v) ∙ ap solve (sym sides) ∙ never in
     cc
 
 -- what a unification of an unbound variable and the empty list leaves

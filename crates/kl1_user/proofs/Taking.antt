@@ -18,11 +18,12 @@ use Rattle.kl1_user.specs.declared.call.Call.{Call}
 use Rattle.kl1_user.specs.declared.moves.Move.{Move}
 use Rattle.kl1_user.specs.declared.moves.Move.TheVariants as move
 use Rattle.kl1_user.specs.Calls.{cell_of, arguments_at, call_at, IsNoGoal}
-use Rattle.kl1_user.specs.Candidates.{IsVerdictAt, IsNumbered, IsSet, answer_of}
-use Rattle.kl1_user.specs.Moves.{move_by, MovesAs}
+use Rattle.kl1_user.specs.Candidates.{IsVerdictAt, IsNumbered, IsSet}
+use Rattle.kl1_model.specs.Waits.{move_by, least_from, least_clause}
+use Rattle.kl1_user.specs.Moves.{MovesAs}
 use Rattle.kl1_user.specs.Committing.{FailsAs, first_candidate, candidate_of, candidate_in, CommitsBy, CommitsIn, CommitsAs}
 use Rattle.kl1_user.proofs.Trying.{some_clause, in_module, no_module_at}
-use Rattle.kl1_user.proofs.Standings.{AreFrom, are_from, first_number, answer-chosen}
+use Rattle.kl1_model.proofs.LeastClause.{AreFrom, are_from, first_number, least-chosen}
 
 -- ---- candidates by number
 
@@ -39,12 +40,12 @@ at_front : (j n : ℕ) (c : Clause) (ks : List Candidate) (v : model.Verdict) �
 at_front j n c ks (accepts ps) e a =
     cond-true (n == j) (Some (record { number = n; clause = c; places = ps })) (find (λ q. q.number == j) ks) (eq-eqb n j (sym e)) ∙ ap (λ m. first_candidate (candidate_by m c (accepts ps))) (sym e)
 at_front j n c ks rejects e a = none_found j (suc n) ks (omega arith) a
-at_front j n c ks suspends e a = none_found j (suc n) ks (omega arith) a
+at_front j n c ks (suspends vs) e a = none_found j (suc n) ks (omega arith) a
 
 behind_front : (j n : ℕ) (c : Clause) (ks : List Candidate) (v : model.Verdict) → n < j → find (λ q. q.number == j) (candidate_by n c v ++ ks) ≡ find (λ q. q.number == j) ks
 behind_front j n c ks (accepts ps) lt = cond-false (n == j) (Some (record { number = n; clause = c; places = ps })) (find (λ q. q.number == j) ks) (ne_eqb n j (λ e. omega arith))
 behind_front j n c ks rejects lt = refl
-behind_front j n c ks suspends lt = refl
+behind_front j n c ks (suspends vs) lt = refl
 
 find_at : (j n i : ℕ) (cs : List Clause) (ts : Terms) → j ≡ n + i → find (λ q. q.number == j) (candidates_from n cs ts) ≡ candidate_of j ts (slice_get cs i)
 find_at j n i [] ts e = refl
@@ -86,14 +87,14 @@ in_place modules h c m place number (Some move.Goes) some set e at r = absurd r
 pub none_there : (h : Held (List ℕ)) (m : Module) (c : Call) (number : ℕ) → slice_get (filter (is_of c.name c.count) m.clauses) (number - 1) ≡ None → candidate_in h m c number ≡ None
 none_there h m c number e = ap (candidate_of number (arguments_at h c)) e
 
-given_verdict : (h : Held (List ℕ)) (m : Module) (c : Call) (number place : ℕ) (places : List (Place (List ℕ))) (given known : Verdict) → IsNumbered m c.name c.count (number - 1) place → IsVerdictAt m h place (cell_of c) places given → given ≡ known →
-    (d : Clause) × ((slice_get m.clauses place ≡ Some d) × (candidate_in h m c number ≡ first_candidate (candidate_by number d (verdict_with_places (λ a. a) h places known))))
+given_verdict : (h : Held (List ℕ)) (m : Module) (c : Call) (number place : ℕ) (places : List (Place (List ℕ))) (given known : Verdict) → IsNumbered m c.name c.count (number - 1) place → (v : IsVerdictAt m h place (cell_of c) places given) → given ≡ known →
+    (d : Clause) × ((slice_get m.clauses place ≡ Some d) × (candidate_in h m c number ≡ first_candidate (candidate_by number d (verdict_with_places (λ a. a) h places v.named known))))
 given_verdict h m c number place places given known n v e =
     let same : n.clause ≡ v.clause = some_clause (sym n.at ∙ v.at) in (
       v.clause,
       (
         v.at,
-        ap (candidate_of number (arguments_at h c)) (n.numbered ∙ ap (λ (x : Clause). Some x) same) ∙ ap (λ w. first_candidate (candidate_by number v.clause w)) (v.verdict_is ∙ ap (verdict_with_places (λ a. a) h places) e),
+        ap (candidate_of number (arguments_at h c)) (n.numbered ∙ ap (λ (x : Clause). Some x) same) ∙ ap (λ w. first_candidate (candidate_by number v.clause w)) (v.verdict_is ∙ ap (verdict_with_places (λ a. a) h places v.named) e),
       ),
     )
 
@@ -131,15 +132,15 @@ fails_not : (b : Bool) (ks : List Candidate) → ((if b then Some 0 else first_n
 fails_not true ks ne = absurd (ne refl)
 fails_not false ks ne = refl
 
-pub call_fails : (modules : List Module) (k : model.Call) (found : Option ℕ) → found ≡ answer_of false 1 (clauses_of modules k) k.arguments → found ≡ Some 0 → call_move modules k 0 ≡ Some (raises failure)
+pub call_fails : (modules : List Module) (k : model.Call) (found : Option ℕ) → found ≡ least_clause (clauses_of modules k) k.arguments → found ≡ Some 0 → call_move modules k 0 ≡ Some (raises failure)
 call_fails modules k found e zero_is =
     cond-true (fails modules k) (Some (raises failure)) None
-    (fails_then (fails modules k) (candidates_of modules k) (are_from 1 (clauses_of modules k) k.arguments) (sym (e ∙ answer-chosen false 1 (clauses_of modules k) k.arguments) ∙ zero_is))
+    (fails_then (fails modules k) (candidates_of modules k) (are_from 1 (clauses_of modules k) k.arguments) (sym (e ∙ least-chosen false 1 (clauses_of modules k) k.arguments) ∙ zero_is))
 
-pub call_goes_on : (modules : List Module) (k : model.Call) (found : Option ℕ) → found ≡ answer_of false 1 (clauses_of modules k) k.arguments → (found ≡ Some 0 → ⊥) → call_move modules k 0 ≡ None
+pub call_goes_on : (modules : List Module) (k : model.Call) (found : Option ℕ) → found ≡ least_clause (clauses_of modules k) k.arguments → (found ≡ Some 0 → ⊥) → call_move modules k 0 ≡ None
 call_goes_on modules k found e ne =
     cond-false (fails modules k) (Some (raises failure)) None
-    (fails_not (fails modules k) (candidates_of modules k) (λ q. ne (e ∙ answer-chosen false 1 (clauses_of modules k) k.arguments ∙ q)))
+    (fails_not (fails modules k) (candidates_of modules k) (λ q. ne (e ∙ least-chosen false 1 (clauses_of modules k) k.arguments ∙ q)))
 
 -- ---- moves of terms
 

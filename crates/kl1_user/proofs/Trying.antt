@@ -19,7 +19,8 @@ use Rattle.kl1_match.specs.declared.verdict.Verdict.{Verdict}
 use Rattle.kl1_store.specs.Meaning.{term_of}
 use Rattle.kl1_match.specs.Verdicts.{arguments_of_goal, verdict_with_places, IsVerdict}
 use Rattle.kl1_match.specs.Instances.{IsClause}
-use Rattle.kl1_user.specs.Candidates.{IsModuleAt, IsOfAt, IsNumbered, IsCompiledAt, IsVerdictAt, IsSet, answer_of, answer_by, answer_without}
+use Rattle.kl1_user.specs.Candidates.{IsModuleAt, IsOfAt, IsNumbered, IsCompiledAt, IsVerdictAt, IsSet}
+use Rattle.kl1_model.specs.Waits.{least_from, least_by, least_without}
 use Rattle.kl1_user.specs.declared.call.Call.{Call}
 use Rattle.kl1_user.specs.Calls.{call_at}
 
@@ -113,14 +114,15 @@ same_predicate names read compiled ds place name text count r k counted names_ar
     subst P (same_clause ds place k.clause d k.at at)
     (e ∙ ap (λ l. bytes_eq l name) called ∙ sym (ap (λ b. bytes_eq k.clause.name name && b) all ∙ and-true (bytes_eq k.clause.name name)))
 
-pub verdict_of_clause : (names read : List (List ℕ)) (compiled : CompiledClause) (m : Module) (h : Held (List ℕ)) (place : ℕ) (goal x : Cell (List ℕ)) (places : List (Place (List ℕ))) (given : Verdict) → IsCompiledAt names compiled m.clauses place →
-    read ≡ names → x ≡ goal → IsVerdict text_of read compiled h x places given → IsVerdictAt m h place goal places given
+pub verdict_of_clause : (names read : List (List ℕ)) (compiled : CompiledClause) (m : Module) (h : Held (List ℕ)) (place : ℕ) (goal x : Cell (List ℕ)) (places : List (Place (List ℕ))) (given : Verdict) {before after : List ℕ} → IsCompiledAt names compiled m.clauses place →
+    read ≡ names → x ≡ goal → IsVerdict text_of read compiled h x places before after given → IsVerdictAt m h place goal places given
 verdict_of_clause names read compiled m h place goal x places given k names_are e v =
     let P : Cell (List ℕ) → Type 0 = λ c. IsVerdictAt m h place c places given in
     let Q : List (List ℕ) → Type 0 = λ l. IsCompiled l compiled k.clause in
     subst P e (record {
       clause = k.clause;
       at = k.at;
+      named = v.named;
       verdict_is = v.verdict_is (λ a. a) texts_read k.clause (subst Q (sym (read_alone read ∙ names_are)) k.is);
       inside = v.inside;
     })
@@ -147,8 +149,8 @@ none_left ds name count place le = ap (filter (is_of name count)) (drop_all plac
 -- ---- answers
 
 pub one_more : (waiting : Bool) (n : ℕ) (ds rest : List Clause) (ts : Terms) (d : Clause) (v : model.Verdict) → ds ≡ d ∷ rest → verdict d ts ≡ v →
-    answer_of waiting n ds ts ≡ answer_by (Some n) (answer_of waiting (suc n) rest ts) (answer_of true (suc n) rest ts) v
-one_more waiting n ds rest ts d v e is = ap (λ l. answer_of waiting n l ts) e ∙ ap (answer_by (Some n) (answer_of waiting (suc n) rest ts) (answer_of true (suc n) rest ts)) is
+    least_from waiting n ds ts ≡ least_by (Some n) (least_from waiting (suc n) rest ts) (least_from true (suc n) rest ts) v
+one_more waiting n ds rest ts d v e is = ap (λ l. least_from waiting n l ts) e ∙ ap (least_by (Some n) (least_from waiting (suc n) rest ts) (least_from true (suc n) rest ts)) is
 
 -- a clause of another predicate is passed by
 pub passed_by : (m : Module) (place count : ℕ) (name : List ℕ) (r : Bool) → IsOfAt m place name count r → place < length m.clauses → r ≡ false → left_of m.clauses name count place ≡ left_of m.clauses name count (place + 1)
@@ -159,13 +161,13 @@ pub is_first : (m : Module) (place count : ℕ) (name : List ℕ) (r : Bool) (d 
 is_first m place count name r d is at e = here m.clauses name count place d at (sym (is d at) ∙ e)
 
 pub tried : (m : Module) (h : Held (List ℕ)) (place count n : ℕ) (name : List ℕ) (goal : Cell (List ℕ)) (places : List (Place (List ℕ))) (given known : Verdict) (r waiting : Bool) (all : Option ℕ) →
-    IsVerdictAt m h place goal places given → given ≡ known → IsOfAt m place name count r → r ≡ true → answer_of waiting n (left_of m.clauses name count place) (arguments_of_goal (term_of (λ a. a) h goal)) ≡ all →
-    answer_by (Some n) (answer_of waiting (suc n) (left_of m.clauses name count (place + 1)) (arguments_of_goal (term_of (λ a. a) h goal)))
-    (answer_of true (suc n) (left_of m.clauses name count (place + 1)) (arguments_of_goal (term_of (λ a. a) h goal))) (verdict_with_places (λ a. a) h places known) ≡ all
+    (v : IsVerdictAt m h place goal places given) → given ≡ known → IsOfAt m place name count r → r ≡ true → least_from waiting n (left_of m.clauses name count place) (arguments_of_goal (term_of (λ a. a) h goal)) ≡ all →
+    least_by (Some n) (least_from waiting (suc n) (left_of m.clauses name count (place + 1)) (arguments_of_goal (term_of (λ a. a) h goal)))
+    (least_from true (suc n) (left_of m.clauses name count (place + 1)) (arguments_of_goal (term_of (λ a. a) h goal))) (verdict_with_places (λ a. a) h places v.named known) ≡ all
 tried m h place count n name goal places given known r waiting all v same is e whole =
     let ts = arguments_of_goal (term_of (λ a. a) h goal) in
-    sym (one_more waiting n (left_of m.clauses name count place) (left_of m.clauses name count (place + 1)) ts v.clause (verdict_with_places (λ a. a) h places known) (is_first m place count name r v.clause is v.at e)
-    (v.verdict_is ∙ ap (verdict_with_places (λ a. a) h places) same)) ∙ whole
+    sym (one_more waiting n (left_of m.clauses name count place) (left_of m.clauses name count (place + 1)) ts v.clause (verdict_with_places (λ a. a) h places v.named known) (is_first m place count name r v.clause is v.at e)
+    (v.verdict_is ∙ ap (verdict_with_places (λ a. a) h places v.named) same)) ∙ whole
 
 pub numbered_here : (m : Module) (place count number left : ℕ) (name : List ℕ) (r : Bool) → IsOfAt m place name count r → place < length m.clauses → r ≡ true → left ≡ 0 →
     slice_get (left_of m.clauses name count place) left ≡ slice_get (left_of m.clauses name count 0) number → IsNumbered m name count number place
@@ -188,8 +190,8 @@ pub none_numbered : (m : Module) (place count left number : ℕ) (name : List �
     slice_get (left_of m.clauses name count 0) number ≡ None
 none_numbered m place count left number name le e = sym e ∙ ap (λ l. slice_get l left) (none_left m.clauses name count place le)
 
-pub answer_left : (m : Module) (place count n : ℕ) (name : List ℕ) (ts : Terms) (waiting : Bool) (all : Option ℕ) → length m.clauses ≤ place → answer_of waiting n (left_of m.clauses name count place) ts ≡ all → answer_without waiting ≡ all
-answer_left m place count n name ts waiting all le e = sym (ap (λ l. answer_of waiting n l ts) (none_left m.clauses name count place le)) ∙ e
+pub answer_left : (m : Module) (place count n : ℕ) (name : List ℕ) (ts : Terms) (waiting : Bool) (all : Option ℕ) → length m.clauses ≤ place → least_from waiting n (left_of m.clauses name count place) ts ≡ all → least_without waiting ≡ all
+answer_left m place count n name ts waiting all le e = sym (ap (λ l. least_from waiting n l ts) (none_left m.clauses name count place le)) ∙ e
 
 -- ---- modules of calls
 

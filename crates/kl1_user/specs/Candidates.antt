@@ -35,7 +35,8 @@ pub record IsSet (h : Held (List ℕ)) (c : Call) : Type 0 where
 pub record IsVerdictAt (m : Module) (h : Held (List ℕ)) (place : ℕ) (goal : Cell (List ℕ)) (places : List (Place (List ℕ))) (given : Verdict) : Type 0 where
   pub clause : Clause
   pub at : slice_get m.clauses place ≡ Some clause
-  pub verdict_is : verdict clause (arguments_of_goal (term_of (λ a. a) h goal)) ≡ verdict_with_places (λ a. a) h places given
+  pub named : List ℕ
+  pub verdict_is : verdict clause (arguments_of_goal (term_of (λ a. a) h goal)) ≡ verdict_with_places (λ a. a) h places named given
   pub inside : AreThere h places
 
 -- the clause at a place of a module is that of a number, from 1, in a predicate
@@ -49,20 +50,3 @@ pub record IsCompiledAt (names : List (List ℕ)) (compiled : CompiledClause) (c
   pub clause : Clause
   pub at : slice_get clauses place ≡ Some clause
   pub is : IsCompiled names compiled clause
-
--- what a verdict leads to, of what follows where it accepts, rejects and suspends
-abbrev pub answer_by : Option ℕ → Option ℕ → Option ℕ → model.Verdict → Option ℕ
-answer_by accepted rejected suspended (accepts places) = accepted
-answer_by accepted rejected suspended rejects = rejected
-answer_by accepted rejected suspended suspends = suspended
-
--- 0 where nothing waits
-abbrev pub answer_without : Bool → Option ℕ
-answer_without true = None
-answer_without false = Some 0
-
--- the least number of a clause that accepts, the first having this number, or 0 where each rejects, or nothing;
--- whether a clause before them waits is told
-abbrev pub answer_of : Bool → ℕ → List Clause → Terms → Option ℕ
-answer_of waiting n [] ts = answer_without waiting
-answer_of waiting n (c ∷ cs) ts = answer_by (Some n) (answer_of waiting (suc n) cs ts) (answer_of true (suc n) cs ts) (verdict c ts)

@@ -15,7 +15,7 @@ use Rattle.kl1_user.specs.declared.life.Life.{Life}
 use Rattle.kl1_user.specs.declared.life.Life.TheVariants.{Living, Terminated}
 use Rattle.kl1_user.specs.declared.origin.Origin.{Origin}
 use Rattle.kl1_user.specs.declared.shoen.Shoen.{Shoen}
-use Rattle.kl1_user.specs.Moves.{term_clause}
+use Rattle.kl1_model.specs.Waits.{term_clause}
 
 -- what cells mean
 abbrev pub Means : Type 0

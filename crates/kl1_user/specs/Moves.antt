@@ -2,10 +2,10 @@
 use Rattle.std.specs.Prelude.{◌≡◌, ℕ, List, ◌∷◌, find, Option, Some, None, is_some, slice_get}
 use Rattle.kl1_model.specs.Term.{Term}
 use Rattle.kl1_model.specs.Module.{Module}
-use Rattle.kl1_model.specs.Match.{call_of, Candidate}
+use Rattle.kl1_model.specs.Match.{Candidate}
 use Rattle.kl1_model.specs.Reduction as model
-use Rattle.kl1_model.specs.Reduction.{term_move, commits, raises, unifies, goes, failure}
-use Rattle.kl1_model.specs.Choice.{call_clauses}
+use Rattle.kl1_model.specs.Reduction.{commits, raises, unifies, goes, failure}
+use Rattle.kl1_model.specs.Waits.{move_by}
 use Rattle.kl1_store.specs.declared.cell.Cell.{Cell}
 use Rattle.kl1_store.specs.Held.{Held, IsIn}
 use Rattle.kl1_store.specs.Meaning.{term_of}
@@ -13,14 +13,6 @@ use Rattle.kl1_match.specs.declared.place.Place.{Place}
 use Rattle.kl1_match.specs.Instances.{AreThere, replacements_of}
 use Rattle.kl1_user.specs.declared.moves.Move.{Move}
 use Rattle.kl1_user.specs.declared.moves.Move.TheVariants as move
-
--- what a term can do by the clause of a number
-abbrev pub move_by : List Module → Term → ℕ → Option model.Move
-move_by modules t clause = term_move modules t clause (call_of t)
-
--- the clause by which a term can step: the least that is allowed
-abbrev pub term_clause : List Module → Term → Option ℕ
-term_clause modules t = find (λ clause. is_some (move_by modules t clause)) (0 ∷ call_clauses modules (call_of t))
 
 -- a candidate: the clause at a place in the module at a place, with the terms at the places of its head's variables
 pub record CommitsTo (h : Held (List ℕ)) (modules : List Module) (t : Term) (number code clause : ℕ) (places : List (Place (List ℕ))) : Type 0 where

@@ -6,6 +6,7 @@ ghost use Rattle.kl1_model.specs.Name.{is_small_letter};
 ghost use Rattle.kl1_model.specs.Token.{is_digit};
 ghost use Rattle.kl1_model.specs.Script.{is_account_name};
 
+use kl1_model::limits::MOST_ACCOUNT_NAME_BYTES;
 use kl1_text::AtomText;
 use std::marker::Model;
 
@@ -60,7 +61,7 @@ fn is_account_name(bytes: &[u8]) -> bool
     match bytes {
         [] => false,
         [first, rest @ ..] => first.is_ascii_lowercase()
-            && rest.len() <= 15
+            && rest.len() < MOST_ACCOUNT_NAME_BYTES
             && are_name_bytes(rest),
     }
 }

@@ -5,12 +5,13 @@ ghost use Rattle.kl1_model.specs.Module.{is_of};
 ghost use Rattle.kl1_model.specs.Match.{module_of, clauses_of};
 ghost use Rattle.kl1_store.specs.Held.{IsIn};
 ghost use Rattle.kl1_user.specs.Calls.{cell_of, arguments_at, call_at};
-ghost use Rattle.kl1_user.specs.Candidates.{IsModuleAt, IsOfAt, IsVerdictAt, IsNumbered, IsSet, IsCompiledAt, answer_of};
+ghost use Rattle.kl1_user.specs.Candidates.{IsModuleAt, IsOfAt, IsVerdictAt, IsNumbered, IsSet, IsCompiledAt};
+ghost use Rattle.kl1_model.specs.Waits.{least_clause};
 ghost use Rattle.kl1_model.specs.State.{names_of_module, with_names};
 
 use crate::call::Call;
 use kl1_clause::{Code, CompiledClause};
-use kl1_match::{Place, Verdict, name_at, verdict_on};
+use kl1_match::{Place, Scratch, Verdict, name_at, verdict_on};
 use kl1_store::Store;
 use kl1_text::AtomText;
 use std::alloc::{AllocError, Global};
@@ -74,12 +75,22 @@ pub(crate) fn verdict_at(
     ensures { IfOk result (IsVerdictAt code.now store.now.held place (cell_of call.now) places.new.items) }
 {
     let clause = clause_at(code, place);
-    verdict_on(alloc, store, code.names(), clause, call.cell(), places)
+    let mut scratch = Scratch::new(alloc);
+    let mut awaited = Vec::new(alloc);
+    verdict_on(
+        store,
+        code.names(),
+        clause,
+        call.cell(),
+        &mut scratch,
+        places,
+        &mut awaited,
+    )
 }
 
 /// The least number of a clause of a module that accepts a call, or 0 where each rejects it, or nothing. The places are made
 /// anew for each clause.
-fn least_clause(
+fn least_in(
     alloc: Global,
     store: &Store<AtomText>,
     code: &Code,
@@ -87,7 +98,7 @@ fn least_clause(
     places: &mut Vec<Place<AtomText>>,
 ) -> Result<Option<u64>, AllocError>
     requires { IsIn store.now.held (cell_of call.now) }
-    ensures { IfOk result (λ found. found ≡ answer_of false 1 (filter (is_of call.now.name call.now.count) code.now.clauses) (arguments_at store.now.held call.now)) }
+    ensures { IfOk result (λ found. found ≡ least_clause (filter (is_of call.now.name call.now.count) code.now.clauses) (arguments_at store.now.held call.now)) }
 {
     let count = code.clause_count();
     let mut seen: u64 = 0;
@@ -148,13 +159,13 @@ pub(crate) fn least_number(
     call: &Call,
 ) -> Result<Option<u64>, AllocError>
     requires { IsSet store.now.held call.now }
-    ensures { IfOk result (λ found. found ≡ answer_of false 1 (clauses_of codes.now (call_at store.now.held call.now)) (arguments_at store.now.held call.now)) }
+    ensures { IfOk result (λ found. found ≡ least_clause (clauses_of codes.now (call_at store.now.held call.now)) (arguments_at store.now.held call.now)) }
 {
     match place_of_module(codes, &call.module_name) {
         None => Ok(Some(0)),
         Some(place) => {
             let mut places = Vec::new(alloc);
-            least_clause(alloc, store, &codes[place], call, &mut places)
+            least_in(alloc, store, &codes[place], call, &mut places)
         }
     }
 }

@@ -5,7 +5,8 @@ ghost use Rattle.kl1_store.specs.Held.{IsIn};
 ghost use Rattle.kl1_store.specs.Meaning.{term_of};
 ghost use Rattle.kl1_user.specs.Calls.{call_at};
 ghost use Rattle.kl1_user.specs.Candidates.{IsSet};
-ghost use Rattle.kl1_user.specs.Moves.{term_clause, MovesAs};
+ghost use Rattle.kl1_model.specs.Waits.{term_clause};
+ghost use Rattle.kl1_user.specs.Moves.{MovesAs};
 ghost use Rattle.kl1_user.specs.Committing.{FailsAs, CommitsIn, CommitsAs};
 
 use crate::call::Call;

@@ -6,7 +6,8 @@ ghost use Rattle.kl1_model.specs.Report.{settle};
 ghost use Rattle.kl1_store.specs.Held.{IsIn};
 ghost use Rattle.kl1_store.specs.Sound.{Grown};
 ghost use Rattle.kl1_user.specs.Kept.{meaning, goal_with};
-ghost use Rattle.kl1_user.specs.Moves.{move_by, MovesAs};
+ghost use Rattle.kl1_model.specs.Waits.{move_by};
+ghost use Rattle.kl1_user.specs.Moves.{MovesAs};
 ghost use Rattle.kl1_user.specs.Works.{IsWorkIn, Turns};
 
 use crate::committing::commit;

@@ -45,7 +45,7 @@ pub(crate) fn unify(
     requires left { IsIn store.old.held left }
     requires right { IsIn store.old.held right }
     requires inside { IsWorkIn store.old.held work.old }
-    ensures ok { OnOk result (Turns (λ s. unified work.old.shoen.number (meaning store.old.held goal) (solve s.last_variable (equation (meaning store.old.held left) (meaning store.old.held right))) s) store.old.held store.new.held work.old work.new) }
+    ensures ok { OnOk result (Turns (λ s. unified work.old.shoen.number (meaning store.old.held goal) (solve (equation (meaning store.old.held left) (meaning store.old.held right))) s) store.old.held store.new.held work.old work.new) }
     ensures grown { Grown store.old.held store.new.held }
     ensures hooks { store.new.hooks ≡ store.old.hooks }
 {

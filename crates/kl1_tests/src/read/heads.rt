@@ -9,7 +9,7 @@ use crate::read::kind::Kind;
 use crate::read::printed_cells::{put_cells, walked};
 use crate::rows::{Text, cut};
 use kl1_clause::{Code, CompiledClause};
-use kl1_match::{Place, Verdict, build_goal, instance, verdict_on};
+use kl1_match::{Place, Scratch, Verdict, build_goal, instance, verdict_on};
 use kl1_read::read_goal;
 use kl1_store::{Cell, Store};
 use kl1_term::Term;
@@ -129,16 +129,37 @@ fn put_told(
     requires clause { IsClause names.now clause.now }
     requires call { IsIn store.old.held call }
 {
+    let mut scratch = Scratch::new(answer.alloc);
     let mut places = Vec::new(answer.alloc);
-    match verdict_on(answer.alloc, store, names, clause, call, &mut places)? {
+    let mut awaited = Vec::new(answer.alloc);
+    match verdict_on(
+        store,
+        names,
+        clause,
+        call,
+        &mut scratch,
+        &mut places,
+        &mut awaited,
+    )? {
         Verdict::Rejects => answer.put(b"rejects"),
-        Verdict::Suspends => answer.put(b"suspends"),
+        Verdict::Suspends => {
+            answer.put(b"suspends");
+            put_numbers(answer, awaited.as_slice());
+        }
         Verdict::Accepts => {
             answer.put(b"accepts");
             put_accepted(answer, kind, store, names, clause, places.as_slice())?;
         }
     }
     Ok(())
+}
+
+/// Puts the numbers of variables.
+fn put_numbers(answer: &mut Text, numbers: &[u32]) {
+    for number in numbers {
+        answer.put(b" ");
+        answer.put_number(u64::from(*number));
+    }
 }
 
 /// The goal behind the colon of a goal, in a store.

@@ -13,15 +13,15 @@ pub enum Kind {
     Blank,
     /// The number that a word is.
     Number,
-    /// What a line is, where the goal of a start is yet to be read.
-    Parts,
+    /// How many bytes the source has that follows a line, if the line is a good load.
+    Source,
     /// The next record of a script.
     Record,
     /// The accounts that the first line of a script names.
     Accounts,
     /// Whether a word is the name of an account.
     Account,
-    /// What a line is, where the goal of a start is read.
+    /// The command of a line.
     Command,
     /// The source that a load loads.
     Load,

@@ -1,7 +1,9 @@
 // Lines, names, words and numbers.
 
 use crate::rows::{cut, is_counted};
-use kl1_lines::{is_blank_line, is_same, number_in, split_line, split_name, split_word};
+use kl1_lines::{
+    is_blank_line, is_same, number_in, source_bytes_in, split_line, split_name, split_word,
+};
 
 /// Whether a text is cut into the two that stand before and behind the first bar of what is wanted.
 fn is_cut(pieces: (&[u8], &[u8]), wanted: &[u8]) -> bool {
@@ -33,10 +35,20 @@ pub fn is_blank(line: &[u8], wanted: &[u8]) -> bool {
     }
 }
 
-/// Whether a word is this number, or `none`.
-pub fn is_number(word: &[u8], wanted: &[u8]) -> bool {
-    match number_in(word) {
+/// Whether this is the number that is wanted, or `none`.
+fn is_found(number: Option<u64>, wanted: &[u8]) -> bool {
+    match number {
         Some(number) => is_counted(wanted, b"", number),
         None => is_same(wanted, b"none"),
     }
+}
+
+/// Whether a word is this number, or `none`.
+pub fn is_number(word: &[u8], wanted: &[u8]) -> bool {
+    is_found(number_in(word), wanted)
+}
+
+/// Whether a line is a good load of so many bytes, or `none`.
+pub fn is_source(line: &[u8], wanted: &[u8]) -> bool {
+    is_found(source_bytes_in(line), wanted)
 }

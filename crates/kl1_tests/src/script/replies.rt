@@ -1,16 +1,22 @@
 // What is written for replies and faults.
 
-use crate::rows::{cut, number_of};
+use crate::rows::{cut, is_joined, number_of};
 use kl1_lines::is_same;
-use kl1_script::{ScriptFault, put_reply};
+use kl1_script::{ScriptFault, put_reply, put_reply_of};
 use kl1_text::AtomText;
 use kl1_user::{Refusal, Reply, ShoenNo};
 use std::alloc::Global;
 
-/// Whether these bytes are put for a reply to alice, and nothing before them.
+/// Whether these bytes are put for a reply, and for one to alice these after her name.
 fn is_put(alloc: Global, reply: &Reply, bytes: &[u8]) -> bool {
     let mut out = Vec::new(alloc);
-    put_reply(&mut out, b"alice", reply).is_ok() && out.as_slice() == bytes
+    put_reply(&mut out, reply).is_ok() && out.as_slice() == bytes && is_put_of(alloc, reply, bytes)
+}
+
+/// Whether these bytes are put after alice's name for a reply to her.
+fn is_put_of(alloc: Global, reply: &Reply, bytes: &[u8]) -> bool {
+    let mut out = Vec::new(alloc);
+    put_reply_of(&mut out, b"alice", reply).is_ok() && is_joined(out.as_slice(), b"alice ", bytes)
 }
 
 /// Whether these bytes are put for the load of a module of this name.

@@ -4,8 +4,7 @@ use crate::script::accounts::{is_account, is_accounts};
 use crate::script::commands::{is_command, is_load};
 use crate::script::devices::{is_read, is_written};
 use crate::script::kind::Kind;
-use crate::script::lines::{is_blank, is_line, is_name, is_number, is_word};
-use crate::script::parts::is_parts;
+use crate::script::lines::{is_blank, is_line, is_name, is_number, is_source, is_word};
 use crate::script::records::is_record;
 use crate::script::replies::{is_fault, is_reply};
 use crate::script::scripts::{is_run, is_script};
@@ -19,7 +18,7 @@ pub fn is_right(alloc: Global, kind: Kind, act: &[u8], wanted: &[u8]) -> bool {
         Kind::Word => is_word(act, wanted),
         Kind::Blank => is_blank(act, wanted),
         Kind::Number => is_number(act, wanted),
-        Kind::Parts => is_parts(act, wanted),
+        Kind::Source => is_source(act, wanted),
         Kind::Record => is_record(act, wanted),
         Kind::Accounts => is_accounts(alloc, act, wanted),
         Kind::Account => is_account(act, wanted),

@@ -63,14 +63,14 @@ fn hang<N: NameValue>(
     if !store.holds(Cell::Variable(variable)) {
         return Ok(Answer::Nothing);
     }
-    store.hang(variable, small_of(number))?;
+    store.hang(variable, small_of(number) as u64)?;
     Ok(Answer::Done)
 }
 
 /// Makes two cells equal, and puts the numbers that are told of that in a list.
 fn tell<N: NameValue>(
     store: &mut Store<N>,
-    told: &mut Vec<u32>,
+    told: &mut Vec<u64>,
     left: Cell<N>,
     right: Cell<N>,
 ) -> Result<Answer<N>, AllocError> {
@@ -84,7 +84,7 @@ fn tell<N: NameValue>(
 /// What an act on two cells comes to.
 fn done_on_two<N: NameValue>(
     store: &mut Store<N>,
-    told: &mut Vec<u32>,
+    told: &mut Vec<u64>,
     letter: u8,
     left: Cell<N>,
     right: Cell<N>,
@@ -100,7 +100,7 @@ fn done_on_two<N: NameValue>(
 /// What an act comes to: `new`, `build`, `same`, `grow`, `hang`, `tell` or `unify`, by its first letter.
 pub fn answer<N: NameValue>(
     store: &mut Store<N>,
-    told: &mut Vec<u32>,
+    told: &mut Vec<u64>,
     letter: u8,
     cells: &[Cell<N>],
 ) -> Result<Answer<N>, AllocError> {

@@ -13,7 +13,7 @@ use std::alloc::{AllocError, Global};
 pub struct Sheet<N: Written> {
     store: Store<N>,
     cells: Vec<Cell<N>>,
-    told: Vec<u32>,
+    told: Vec<u64>,
 }
 
 /// In what way an act is done.

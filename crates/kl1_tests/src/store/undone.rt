@@ -62,7 +62,7 @@ fn hang<N: NameValue>(
         return Ok(Answer::Nothing);
     }
     let before = store.mark();
-    store.hang(variable, number)?;
+    store.hang(variable, number as u64)?;
     store.back(before);
     Ok(Answer::Done)
 }

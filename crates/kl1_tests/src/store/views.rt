@@ -56,17 +56,15 @@ fn seen<N: NameValue>(store: &Store<N>, letter: u8, cell: Cell<N>) -> Option<Cel
 }
 
 /// The number that was told at a place.
-fn number_at<N: NameValue>(told: &[u32], place: Cell<N>) -> Option<Cell<N>> {
-    match told.get(small_of(place) as usize) {
-        Some(number) => Some(Cell::Integer(i64::from(*number))),
-        None => None,
-    }
+fn number_at<N: NameValue>(told: &[u64], place: Cell<N>) -> Option<Cell<N>> {
+    let number = i64::try_from(*told.get(small_of(place) as usize)?).ok()?;
+    Some(Cell::Integer(number))
 }
 
 /// What a look comes to: `walk`, `name` or `count`, by its first letter, and `told` without a cell or at a place.
 pub fn answer<N: NameValue>(
     store: &Store<N>,
-    told: &[u32],
+    told: &[u64],
     letter: u8,
     cells: &[Cell<N>],
 ) -> Answer<N> {

@@ -6,8 +6,11 @@ use Rattle.kl1_lines.proofs.record.next_record.Goals as goal
 pub returns-clause-step : goal.returns-clause-step
 returns-clause-step c = grind (arith, common_steps, records_none c.loop-rest.rest.now)
 
-pub returns-then-not-is_blank_line-clause-step : goal.returns-then-not-is_blank_line-clause-step
-returns-then-not-is_blank_line-clause-step c = grind (arith, common_steps, records_more c.loop-rest.rest.now)
+pub returns-in-Some-clause-step : goal.returns-in-Some-clause-step
+returns-in-Some-clause-step c = grind (arith, common_steps, records_more c.loop-rest.rest.now)
+
+pub returns-in-None-clause-step : goal.returns-in-None-clause-step
+returns-in-None-clause-step c = grind (arith, common_steps, records_more c.loop-rest.rest.now)
 
 pub loop-rest-preserved : goal.loop-rest-preserved
 loop-rest-preserved c = record {

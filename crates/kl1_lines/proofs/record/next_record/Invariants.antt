@@ -1,5 +1,5 @@
 use Rattle.std.proofs.Common.{◌≡◌, ◌≤◌, length}
-use Rattle.kl1_model.specs.Script.{records_of}
+use Rattle.kl1_model.specs.Record.{records_of}
 use Rattle.kl1_lines.proofs.record.next_record.Given as goal
 
 -- what is left has the same records

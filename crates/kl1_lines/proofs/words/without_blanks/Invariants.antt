@@ -1,5 +1,5 @@
 use Rattle.std.proofs.Common.{◌≡◌, length}
-use Rattle.kl1_model.specs.Command.{word_in, behind_word_in, is_blank_line}
+use Rattle.kl1_model.specs.Line.{word_in, behind_word_in, is_blank_line}
 use Rattle.kl1_lines.proofs.words.without_blanks.Given as goal
 
 -- what is left has the same first word, and the same behind it, and is blank where the line is

@@ -6,9 +6,9 @@ use Rattle.kl1_read.specs.Views.{numbered_token}
 use Rattle.kl1_read.proofs.PrimarySteps.{whole_begins, doomed_begins, below_zero_reads, too_low}
 use Rattle.kl1_read.proofs.begun.below_zero.Goals as goal
 
-pub returns-then-number-clause-value : goal.returns-then-number-clause-value
-returns-then-number-clause-value c =
-    doomed_begins _ _ (integer (neg_ℤ (pos c.args.number))) (below_zero_reads c.args.number (map numbered_token c.args.rest.now)) (too_low c.args.number c.if-number.true)
+pub returns-then-number-gt-NUMBER_LIMIT-clause-value : goal.returns-then-number-gt-NUMBER_LIMIT-clause-value
+returns-then-number-gt-NUMBER_LIMIT-clause-value c =
+    doomed_begins _ _ (integer (neg_ℤ (pos c.args.number))) (below_zero_reads c.args.number (map numbered_token c.args.rest.now)) (too_low c.args.number c.if-number-gt-NUMBER_LIMIT.true)
 
 pub returns-clause-value : goal.returns-clause-value
 returns-clause-value c =

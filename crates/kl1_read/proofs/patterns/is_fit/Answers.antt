@@ -5,9 +5,9 @@ use Rattle.kl1_read.proofs.patterns.is_fit.Goals as goal
 pub returns-then-not-may_name_structure : goal.returns-then-not-may_name_structure
 returns-then-not-may_name_structure c = name_unfit c.args.name.now c.args.arguments.now (omega arith) (sym c.if-not-may_name_structure.ensures)
 
-pub returns-then-arguments-gt8 : goal.returns-then-arguments-gt8
-returns-then-arguments-gt8 c = many_unfit c.args.name.now c.args.arguments.now c.if-arguments-gt8.true
+pub returns-then-arguments-gt-MOST_ARGUMENTS : goal.returns-then-arguments-gt-MOST_ARGUMENTS
+returns-then-arguments-gt-MOST_ARGUMENTS c = many_unfit c.args.name.now c.args.arguments.now c.if-arguments-gt-MOST_ARGUMENTS.true
 
 pub returns : goal.returns
 returns c =
-    ap (λ d. nat_lt d 256) c.deepest.ensures.value ∙ depth_fits c.args.name.now c.args.arguments.now (omega arith) c.if-arguments-gt8.false (sym c.if-not-may_name_structure.ensures) c.shows_text.ensures c.deepest.ensures.narrow
+    ap (λ d. nat_lt d 256) c.deepest.ensures.value ∙ depth_fits c.args.name.now c.args.arguments.now (omega arith) c.if-arguments-gt-MOST_ARGUMENTS.false (sym c.if-not-may_name_structure.ensures) c.shows_text.ensures c.deepest.ensures.narrow

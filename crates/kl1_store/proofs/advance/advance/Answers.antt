@@ -21,7 +21,7 @@ loop-frame-preserved-then-frame g c =
     let r = closed_at g.N.NameValue.built c.args.cells.now.held c.loop-frame.frames.items c.pop.new.self.items c.in-Some.frame c.loop-frame.invariant.pairs c.in-Some.ensures.items c.if-frame.true in
     let pair = pair_popped c.args.cells.now.held c.loop-frame.frames.items c.pop.new.self.items c.in-Some.frame c.loop-frame.invariant.pairs c.in-Some.ensures.items in
     let n = nested_closed c.args.cells.now.held c.loop-frame.frames.items c.pop.new.self.items c.in-Some.frame c.mark.ensures.formed c.loop-frame.invariant.nested c.in-Some.ensures.items pair c.if-frame.true in
-    record { nested = n.nested; merged = λ f. c.in_ok-join.ensures (structure_term f c.args.cells.now.held) (c.loop-frame.invariant.merged f) (n.equal f); pairs = r.pairs; same = λ f reads last le. c.loop-frame.invariant.same f reads last le ∙ r.same f reads last le }
+    record { nested = n.nested; merged = λ f. c.in_ok-join.ensures (structure_term f c.args.cells.now.held) (c.loop-frame.invariant.merged f) (n.equal f); pairs = r.pairs; same = λ f reads. c.loop-frame.invariant.same f reads ∙ r.same f reads }
 
 pub loop-frame-smaller-in-Same : goal.loop-frame-smaller-in-Same
 loop-frame-smaller-in-Same g c = (dropped_at g.N.NameValue.built c.args.cells.now.held c.loop-frame.frames.items c.pop.new.self.items c.push.new.self.items c.in-Some.frame c.onward.result c.merged_turn-left.result.left c.merged_turn-left.result.right c.loop-frame.invariant.pairs c.in-Some.ensures.items c.in_ok-push.ensures.items c.onward.ensures c.merged_turn-left.ensures.turn c.in-Same.ensures).less
@@ -30,7 +30,7 @@ pub loop-frame-preserved-in-Same : goal.loop-frame-preserved-in-Same
 loop-frame-preserved-in-Same g c =
     let r = dropped_at g.N.NameValue.built c.args.cells.now.held c.loop-frame.frames.items c.pop.new.self.items c.push.new.self.items c.in-Some.frame c.onward.result c.merged_turn-left.result.left c.merged_turn-left.result.right c.loop-frame.invariant.pairs c.in-Some.ensures.items c.in_ok-push.ensures.items c.onward.ensures c.merged_turn-left.ensures.turn c.in-Same.ensures in
     let M : List Merge → Type 0 = λ l. AreMerged c.args.cells.now.held l in
-    record { nested = nested_same c.args.cells.now.held c.push.new.self.items c.merged_turn-left.result.left c.merged_turn-left.result.right (nested_turn c.args.cells.now.held c.loop-frame.frames.items c.pop.new.self.items c.push.new.self.items c.in-Some.frame c.onward.result c.merged_turn-left.result.left c.merged_turn-left.result.right c.loop-frame.invariant.nested c.in-Some.ensures.items c.in_ok-push.ensures.items c.onward.ensures c.merged_turn-left.ensures.turn) c.in-Same.ensures; merged = (subst M (sym c.merged_turn-left.ensures.merges) c.loop-frame.invariant.merged); pairs = r.pairs; same = λ f reads last le. c.loop-frame.invariant.same f reads last le ∙ r.same f reads last le }
+    record { nested = nested_same c.args.cells.now.held c.push.new.self.items c.merged_turn-left.result.left c.merged_turn-left.result.right (nested_turn c.args.cells.now.held c.loop-frame.frames.items c.pop.new.self.items c.push.new.self.items c.in-Some.frame c.onward.result c.merged_turn-left.result.left c.merged_turn-left.result.right c.loop-frame.invariant.nested c.in-Some.ensures.items c.in_ok-push.ensures.items c.onward.ensures c.merged_turn-left.ensures.turn) c.in-Same.ensures; merged = (subst M (sym c.merged_turn-left.ensures.merges) c.loop-frame.invariant.merged); pairs = r.pairs; same = λ f reads. c.loop-frame.invariant.same f reads ∙ r.same f reads }
 
 pub loop-frame-smaller : goal.loop-frame-smaller
 loop-frame-smaller g c = (opened_at g.N.NameValue.built c.args.cells.now.held c.loop-frame.frames.items c.pop.new.self.items c.push.new.self.items c.push-in-Open.new.self.items c.in-Some.frame c.onward.result c.in-Open.inner c.merged_turn-left.result.left c.merged_turn-left.result.right c.loop-frame.invariant.pairs c.in-Some.ensures.items c.in_ok-push.ensures.items c.onward.ensures c.in_ok-push-in-Open.ensures.items c.merged_turn-left.ensures.turn c.in-Open.ensures).less
@@ -39,22 +39,22 @@ pub loop-frame-preserved : goal.loop-frame-preserved
 loop-frame-preserved g c =
     let r = opened_at g.N.NameValue.built c.args.cells.now.held c.loop-frame.frames.items c.pop.new.self.items c.push.new.self.items c.push-in-Open.new.self.items c.in-Some.frame c.onward.result c.in-Open.inner c.merged_turn-left.result.left c.merged_turn-left.result.right c.loop-frame.invariant.pairs c.in-Some.ensures.items c.in_ok-push.ensures.items c.onward.ensures c.in_ok-push-in-Open.ensures.items c.merged_turn-left.ensures.turn c.in-Open.ensures in
     let M : List Merge → Type 0 = λ l. AreMerged c.args.cells.now.held l in
-    record { nested = nested_opens c.args.cells.now.held c.push.new.self.items c.push-in-Open.new.self.items c.in-Open.inner c.merged_turn-left.result.left c.merged_turn-left.result.right (nested_turn c.args.cells.now.held c.loop-frame.frames.items c.pop.new.self.items c.push.new.self.items c.in-Some.frame c.onward.result c.merged_turn-left.result.left c.merged_turn-left.result.right c.loop-frame.invariant.nested c.in-Some.ensures.items c.in_ok-push.ensures.items c.onward.ensures c.merged_turn-left.ensures.turn) c.in-Open.ensures c.in_ok-push-in-Open.ensures.items; merged = (subst M (sym c.merged_turn-left.ensures.merges) c.loop-frame.invariant.merged); pairs = r.pairs; same = λ f reads last le. c.loop-frame.invariant.same f reads last le ∙ r.same f reads last le }
+    record { nested = nested_opens c.args.cells.now.held c.push.new.self.items c.push-in-Open.new.self.items c.in-Open.inner c.merged_turn-left.result.left c.merged_turn-left.result.right (nested_turn c.args.cells.now.held c.loop-frame.frames.items c.pop.new.self.items c.push.new.self.items c.in-Some.frame c.onward.result c.merged_turn-left.result.left c.merged_turn-left.result.right c.loop-frame.invariant.nested c.in-Some.ensures.items c.in_ok-push.ensures.items c.onward.ensures c.merged_turn-left.ensures.turn) c.in-Open.ensures c.in_ok-push-in-Open.ensures.items; merged = (subst M (sym c.merged_turn-left.ensures.merges) c.loop-frame.invariant.merged); pairs = r.pairs; same = λ f reads. c.loop-frame.invariant.same f reads ∙ r.same f reads }
 
 pub returns-in-Clash-clause-next : goal.returns-in-Clash-clause-next
-returns-in-Clash-clause-next g c = λ f reads last le.
-    c.loop-frame.invariant.same f reads last le
-    ∙ never_at g.N.NameValue.built c.args.cells.now.held c.loop-frame.frames.items c.pop.new.self.items c.in-Some.frame c.merged_turn-left.result.left c.merged_turn-left.result.right c.in-Some.ensures.items c.merged_turn-left.ensures.turn c.in-Clash.ensures f reads last le
+returns-in-Clash-clause-next g c = λ f reads.
+    c.loop-frame.invariant.same f reads
+    ∙ never_at g.N.NameValue.built c.args.cells.now.held c.loop-frame.frames.items c.pop.new.self.items c.in-Some.frame c.merged_turn-left.result.left c.merged_turn-left.result.right c.in-Some.ensures.items c.merged_turn-left.ensures.turn c.in-Clash.ensures f reads
 
 pub returns-in-Bind-clause-next : goal.returns-in-Bind-clause-next
 returns-in-Bind-clause-next g c =
     let r = taken_at g.N.NameValue.built c.args.cells.now.held c.loop-frame.frames.items c.pop.new.self.items c.push.new.self.items c.in-Some.frame c.onward.result c.merged_turn-left.result.left c.merged_turn-left.result.right c.in-Bind.variable c.in-Bind.value c.loop-frame.invariant.pairs c.in-Some.ensures.items c.in_ok-push.ensures.items c.onward.ensures c.merged_turn-left.ensures.turn c.in-Bind.ensures in
-    (c.in-Bind.ensures.can, r.0, λ f reads last le. c.loop-frame.invariant.same f reads last le ∙ r.1 f reads last le)
+    (c.in-Bind.ensures.can, r.0, λ f reads. c.loop-frame.invariant.same f reads ∙ r.1 f reads)
 
 pub returns-clause-next : goal.returns-clause-next
-returns-clause-next g c = λ f reads last le.
+returns-clause-next g c = λ f reads.
     let e : c.loop-frame.frames.items ≡ [] = nil_from_length c.loop-frame.frames.items (omega (arith, c.loop-frame.frames.ok.0, c.in_default.ensures.cases.0)) in
-    c.loop-frame.invariant.same f reads last le ∙ ap (λ l. solve last (waiting f c.args.cells.now.held [] l)) e ∙ ap (solve last) (nothing_waits f c.args.cells.now.held) ∙ nothing_solved last
+    c.loop-frame.invariant.same f reads ∙ ap (λ l. solve (waiting f c.args.cells.now.held [] l)) e ∙ ap solve (nothing_waits f c.args.cells.now.held) ∙ nothing_solved
 
 pub returns-in-Clash-clause-merged : goal.returns-in-Clash-clause-merged
 returns-in-Clash-clause-merged g c =

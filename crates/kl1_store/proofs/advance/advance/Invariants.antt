@@ -13,7 +13,7 @@ invariant-loop-frame g l = record {
   nested : IsNested l.cells.held l.frames.items;
   merged : AreMerged l.cells.held l.merges;
   pairs : ArePairs l.cells.held l.frames.items;
-  same : ForEachReading g.N.NameValue.built l.cells.held (λ f last. solve last (waiting f l.cells.held [] l.fn.frames.items) ≡ solve last (waiting f l.cells.held [] l.frames.items));
+  same : ForEachReading g.N.NameValue.built (λ f. solve (waiting f l.cells.held [] l.fn.frames.items) ≡ solve (waiting f l.cells.held [] l.frames.items));
 }
 
 abbrev pub decreases-loop-frame : goal.decreases-loop-frame

@@ -2,7 +2,7 @@ use Rattle.std.proofs.Common.{sym, ◌∙◌}
 use Rattle.kl1_store.specs.Meaning.{term_of}
 use Rattle.kl1_model.specs.Reduction.{goes, unifies}
 use Rattle.kl1_user.specs.Calls.{call_at}
-use Rattle.kl1_user.proofs.Standings.{term_clause-call, term_clause-built_in, term_clause-none}
+use Rattle.kl1_model.proofs.LeastClause.{term_clause-call, term_clause-built_in, term_clause-none}
 use Rattle.std.proofs.lemmas.Result.{IfOk-weaker}
 use Rattle.kl1_user.proofs.moves.clause_for.Goals as goal
 

@@ -8,10 +8,10 @@ use Rattle.kl1_read.proofs.Arguments.{many_made, many_too_deep}
 use Rattle.kl1_read.proofs.piece.Piece.of_many.Goals as goal
 use Rattle.kl1_read.proofs.piece.Piece.of_many.Goals.{In_ok-put_structure}
 
-pub returns-then-deepest-ge256 : goal.returns-then-deepest-ge256
-returns-then-deepest-ge256 c =
+pub returns-then-deepest-ge-MOST_DEPTH : goal.returns-then-deepest-ge-MOST_DEPTH
+returns-then-deepest-ge-MOST_DEPTH c =
     let other : length c.args.arguments.items ≢ 2 = λ e. c.requires.other (omega (arith, e, c.args.arguments.ok.0)) in
-    many_too_deep c.args.name c.args.arguments.items c.in_ok-deepest.deepest other c.in_ok-deepest.ensures.depth c.if-deepest-ge256.true
+    many_too_deep c.args.name c.args.arguments.items c.in_ok-deepest.deepest other c.in_ok-deepest.ensures.depth c.if-deepest-ge-MOST_DEPTH.true
 
 made : (c : In_ok-put_structure) → Made (map node_of c.put_structure.new.nodes.items) (structure c.args.name (terms_of c.args.arguments.items)) (suc c.in_ok-deepest.deepest) (suc c.in_ok-deepest.deepest)
 made c =
@@ -23,7 +23,7 @@ made c =
     c.in_ok-deepest.ensures.narrow
     (c.in_ok-deepest.ensures.nodes ∙ rw c.new-nodes.ensures.items (append-nil _))
     c.in_ok-deepest.ensures.depth
-    c.if-deepest-ge256.false
+    c.if-deepest-ge-MOST_DEPTH.false
     (c.in_ok-put_structure.ensures.nodes ∙ ap (λ n. map node_of c.spill_all.new.nodes.items ++ Structure c.args.name n ∷ []) count)
 
 pub invariant_of-result : goal.invariant_of-result

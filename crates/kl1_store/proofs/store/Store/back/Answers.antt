@@ -1,18 +1,28 @@
-use Rattle.std.proofs.Common.{◌+◌, ◌-◌, ◌≤◌, length, arith, subst}
+use Rattle.std.proofs.Common.{◌≡◌, ◌≤◌, ap, sym, ◌∙◌, arith, subst}
+use Rattle.kl1_store.specs.declared.point.Point.{Point}
+use Rattle.kl1_store.specs.Held.{Held}
+use Rattle.kl1_store.specs.Sound.{Grown}
 use Rattle.kl1_store.specs.Hooks.{Kept}
+use Rattle.kl1_store.specs.Keeping.{kept_in}
 use Rattle.kl1_store.specs.Spending.{FreesRoom}
-use Rattle.kl1_store.proofs.Rooms.{list_spent}
+use Rattle.kl1_store.proofs.Rooms.{frees_kept}
 use Rattle.kl1_store.proofs.store.Store.back.Goals as goal
+
+no_more : (g : _) (c : goal.After-keep g) → c.take_back.new.cells.held.variables ≤ c.self.inside.cells.held.variables
+no_more g c =
+    let k = c.requires.0 in
+    let G : Kept g.row.N.Denot → Type 0 = λ s. Grown k.held s.held in
+    let grown = subst G (sym c.self.view_is) c.requires.1.1.1.held in
+    let v = grown.variables in
+    let e = ap (λ (h : Held g.row.N.Denot). h.variables) (c.take_back.ensures.held k.held (ap (λ (p : Point). p.sizes) c.requires.1.0) grown) in
+    omega arith
+
+pub invariant_of-self : goal.invariant_of-self
+invariant_of-self g c = record { levels = c.take_back.ensures.levels; covered = let n = no_more g c in omega arith }
 
 pub returns-clause-room : goal.returns-clause-room
 returns-clause-room g c =
+    let s = c.self.inside in
     let new = c.take_back.new.cells in
-    let P : Kept g.row.N.Denot → Type 0 = λ s. FreesRoom s.held s.room new.held new.room in
-    subst P c.self.view_is c.take_back.ensures.room
-
-pub returns-clause-hook_room : goal.returns-clause-hook_room
-returns-clause-hook_room g c =
-    let old = c.self.inside.hooks in
-    let new = c.truncate.new.self in
-    let P : Kept g.row.N.Denot → Type 0 = λ s. length s.hooks + s.hook_room ≤ length new.items + (new.cap - new.len) in
-    subst P c.self.view_is (list_spent old.len old.cap new.len new.cap (length old.items) (length new.items) old.ok.0 new.ok.0 old.ok.1 (omega (arith, c.truncate.ensures.capacity)))
+    let P : Kept g.row.N.Denot → Type 0 = λ k. FreesRoom k.held k.room new.held (kept_in new c.keep.new.self).room in
+    subst P c.self.view_is (frees_kept s.cells new s.hooks c.keep.new.self c.take_back.ensures.room c.self.invariant.covered c.keep.ensures.serves c.keep.ensures.memory (no_more g c))

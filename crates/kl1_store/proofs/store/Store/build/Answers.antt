@@ -1,9 +1,14 @@
-use Rattle.std.proofs.Common.{◌≡◌, ℕ, length}
-use Rattle.kl1_store.proofs.Levelling.{levels_build}
+use Rattle.std.proofs.Common.{◌≡◌, ◌≤◌, ℕ, length, arith, subst, sym}
+use Rattle.kl1_store.proofs.Levelling.{levels_build, same_variables}
 use Rattle.kl1_store.proofs.store.Store.build.Goals as goal
 
 pub invariant_of-self : goal.invariant_of-self
 invariant_of-self g c =
     let old = c.self.inside.cells.held in
+    let new = c.build.new.self.held in
     let P : ℕ → Type 0 = λ s. s ≡ length old.structures in
-    levels_build old c.build.new.self.held c.args.name c.args.arguments.now P c.build.result c.self.inside.levels c.build.ensures.ok c.build.ensures.err c.self.invariant
+    let e = same_variables old new c.args.name c.args.arguments.now P c.build.result c.build.ensures.ok c.build.ensures.err in
+    record {
+      levels = levels_build old new c.args.name c.args.arguments.now P c.build.result c.self.inside.levels c.build.ensures.ok c.build.ensures.err c.self.invariant.levels;
+      covered = omega (arith, e, c.self.invariant.covered);
+    }

@@ -1,0 +1,153 @@
+-- Rows of accounts: what accounts come to by events.
+use Rattle.std.specs.Prelude.{◌≡◌, ◌^◌, codes, List, [], ◌∷◌, ◌++◌, Option, Some, None, pos, ℕ, replicate, true, option_map}
+use Rattle.kl1_model.specs.Term.{Term, variable, integer, atom, structure, none, more}
+use Rattle.kl1_model.specs.Print.{print}
+use Rattle.kl1_model.specs.State.{State, fresh, shoen_at, terminated, Origin}
+use Rattle.kl1_model.specs.Event.{Event, load, start, reduce, ran, refused, syntax, exists, step_refused, journal_full}
+use Rattle.kl1_model.specs.Step.{step, origin_at}
+use Rattle.kl1_model.specs.Choice.{first, quiet}
+use Rattle.kl1_model.specs.Command.{run, parse, act}
+use Rattle.kl1_model.specs.Script.{done_by}
+
+-- lines, each ended by a line feed
+abbrev pub lines : List (List ℕ) → List ℕ
+lines [] = []
+lines (l ∷ ls) = l ++ 10 ∷ lines ls
+
+-- a module of the rows that appends lists
+abbrev pub app_text : List ℕ
+app_text = lines (codes ":- module app." ∷ codes "app([],Y,Z) :- true | Z = Y." ∷ []) ++ codes "app([A|X],Y,Z) :- true | Z = [A|W], app(X,Y,W)."
+
+-- a module with one fact
+abbrev pub one_fact : List ℕ
+one_fact = lines (codes ":- module t." ∷ codes "q(a,b)." ∷ [])
+
+-- a module with two clauses that accept the same goals
+abbrev pub two_ways : List ℕ
+two_ways = lines (codes ":- module m." ∷ codes "m(X,R) :- true | R = one." ∷ codes "m(X,R) :- true | R = two." ∷ [])
+
+-- a module with three goals in one body
+abbrev pub three_goals : List ℕ
+three_goals = lines (codes ":- module t." ∷ codes "p :- true | z:q(X), f(X) = g(X), X = 1." ∷ [])
+
+-- an account that has loaded a text
+abbrev pub having : List ℕ → State
+having text = (step (fresh (codes "alice")) (load text)).state
+
+-- an account after lines of commands
+abbrev pub after_lines : State → List (List ℕ) → State
+after_lines s [] = s
+after_lines s (l ∷ ls) = after_lines (done_by s (parse l)).state ls
+
+-- an account after events
+abbrev pub after_events : State → List Event → State
+after_events s [] = s
+after_events s (e ∷ es) = after_events (step s e).state es
+
+-- what is printed of a shoen's report stream from its beginning
+abbrev pub reports_of : Option Origin → List ℕ
+reports_of None = []
+reports_of (Some o) = print o.reports
+
+-- what is printed of the report stream of an account's shoen with this number
+abbrev pub stream : ℕ → State → List ℕ
+stream n s = reports_of (origin_at n s.shoens)
+
+-- the last numbers of a variable, a goal and a shoen, and the count of journal entries
+abbrev pub numbers : State → List ℕ
+numbers s = s.last_variable ∷ s.last_goal ∷ s.last_shoen ∷ s.entries ∷ []
+
+-- an account whose journal has so many entries
+abbrev pub with_entries : ℕ → State → State
+with_entries n s = record s { entries = n }
+
+-- the goal that two terms are equal
+abbrev pub equals : Term → Term → Term
+equals a b = structure (codes "=") (more a (more b none))
+
+-- the goal `true`
+abbrev pub true_term : Term
+true_term = atom (codes "true")
+
+-- what accounts come to by events
+pub record AccountRowsHold : Type 0 where
+  -- a start of a goal with one variable: its variable, two tails, and the tail behind its report; monitor and goal
+  pub numbers_after_a_start : numbers (after_lines (having one_fact) (codes "start 10 0 10 t:q(X,c)" ∷ [])) ≡ 4 ∷ 2 ∷ 1 ∷ 2 ∷ []
+  -- the report stream of a shoen that has opened
+  pub stream_after_a_start : stream 1 (after_lines (having one_fact) (codes "start 10 0 10 t:q(X,c)" ∷ [])) ≡ codes "[started|_4]"
+  -- a failure ends a shoen that has no other goal, and its stream
+  pub stream_after_a_failure : stream 1 (after_lines (having one_fact) (codes "start 10 0 10 t:q(X,c)" ∷ codes "run 10" ∷ [])) ≡ codes "[started,exception(failure,t:q(_1,c)),terminated]"
+  -- each report takes a variable, and the end of a stream none
+  pub numbers_after_a_failure : numbers (after_lines (having one_fact) (codes "start 10 0 10 t:q(X,c)" ∷ codes "run 10" ∷ [])) ≡ 6 ∷ 2 ∷ 1 ∷ 3 ∷ []
+  -- the shoen has ended
+  pub life_after_a_failure : option_map (λ h. h.life) (shoen_at 1 (after_lines (having one_fact) (codes "start 10 0 10 t:q(X,c)" ∷ codes "run 10" ∷ [])).shoens) ≡ Some terminated
+  -- its monitor is gone
+  pub goals_after_a_failure : (after_lines (having one_fact) (codes "start 10 0 10 t:q(X,c)" ∷ codes "run 10" ∷ [])).goals ≡ []
+  -- a second shoen has a stream of its own
+  pub second_stream : stream 2 (after_lines (having one_fact) (codes "start 10 0 10 t:q(X,c)" ∷ codes "start 9 1 12 f(X,Y,X) = Z" ∷ codes "run 1" ∷ [])) ≡ codes "[started,terminated]"
+  -- two starts
+  pub numbers_after_two_starts : numbers (after_lines (having one_fact) (codes "start 10 0 10 t:q(X,c)" ∷ codes "start 9 1 7 f(X,Y,X) = Z" ∷ [])) ≡ 10 ∷ 4 ∷ 2 ∷ 3 ∷ []
+  -- six events: a load, a start and four reductions; a fresh variable goes before the last report
+  pub append_numbers : numbers (after_lines (having app_text) (codes "start 100 0 10 app:app([1],[2],R)" ∷ codes "run 100" ∷ [])) ≡ 6 ∷ 5 ∷ 1 ∷ 6 ∷ []
+  -- the same by named reductions
+  pub append_by_reductions : stream 1 (after_events (after_lines (having app_text) (codes "start 100 0 10 app:app([1],[2],R)" ∷ [])) (reduce 2 2 ∷ reduce 3 0 ∷ reduce 4 1 ∷ reduce 5 0 ∷ [])) ≡ codes "[started,terminated]"
+  -- a named reduction may take another candidate
+  pub second_of_two_clauses : option_map (λ o. print o.goal) (origin_at 1 (after_events (after_lines (having two_ways) (codes "start 1 0 1 m:m(X,R)" ∷ [])) (reduce 2 2 ∷ reduce 3 0 ∷ [])).shoens) ≡ Some (codes "m:m(_1,two)")
+  -- what is bound later shows in the reports before
+  pub reports_are_bound_later : stream 1 (after_lines (having three_goals) (codes "start 1 0 1 t:p" ∷ codes "run 9" ∷ [])) ≡ codes "[started,exception(failure,z:q(1)),exception(failure,'='(f(1),g(1))),terminated]"
+  -- and before that they show the variable
+  pub reports_before_it : stream 1 (after_lines (having three_goals) (codes "start 1 0 1 t:p" ∷ codes "run 3" ∷ [])) ≡ codes "[started,exception(failure,z:q(_4)),exception(failure,'='(f(_4),g(_4)))|_6]"
+  -- clause 0 of a goal that doesn't fail is refused
+  pub clause_0_of_a_goal_with_candidates : (step (after_lines (having app_text) (codes "start 100 0 10 app:app([1],[2],R)" ∷ [])) (reduce 2 0)).reply ≡ refused step_refused
+  -- a clause that rejects is refused
+  pub clause_that_rejects : (step (after_lines (having app_text) (codes "start 100 0 10 app:app([1],[2],R)" ∷ [])) (reduce 2 1)).reply ≡ refused step_refused
+  -- a clause over the predicate's is refused
+  pub clause_that_is_not_there : (step (after_lines (having app_text) (codes "start 100 0 10 app:app([1],[2],R)" ∷ [])) (reduce 2 3)).reply ≡ refused step_refused
+  -- a monitor to which nothing was sent is refused
+  pub monitor_waits : (step (after_lines (having app_text) (codes "start 100 0 10 app:app([1],[2],R)" ∷ [])) (reduce 1 0)).reply ≡ refused step_refused
+  -- a goal of number 0, which no account has, is refused
+  pub goal_0 : (step (after_lines (having app_text) (codes "start 100 0 10 app:app([1],[2],R)" ∷ [])) (reduce 0 0)).reply ≡ refused step_refused
+  -- a goal that isn't there is refused
+  pub goal_that_is_not_there : (step (after_lines (having app_text) (codes "start 100 0 10 app:app([1],[2],R)" ∷ [])) (reduce 99 1)).reply ≡ refused step_refused
+  -- a clause that waits is refused
+  pub clause_that_waits : (step (after_lines (having one_fact) (codes "start 10 0 10 t:q(X,b)" ∷ [])) (reduce 2 1)).reply ≡ refused step_refused
+  -- an account whose goals wait is quiet
+  pub quiet_where_all_wait : quiet (after_lines (having one_fact) (codes "start 10 0 10 t:q(X,b)" ∷ [])) ≡ true
+  -- the first goal with its least candidate
+  pub first_with_its_clause : first (after_lines (having app_text) (codes "start 100 0 10 app:app([1],[2],R)" ∷ [])) ≡ Some (record { goal = 2; clause = 2 })
+  -- a goal that fails steps by clause 0
+  pub first_that_fails : first (after_lines (having one_fact) (codes "start 10 0 10 t:q(X,c)" ∷ [])) ≡ Some (record { goal = 2; clause = 0 })
+  -- an allowance of 2 ^ 63 is no event
+  pub allowance_of_64_bits : (step (fresh (codes "alice")) (start (2 ^ 63) 0 1 true_term)).reply ≡ refused syntax
+  -- a range from high to low is no event
+  pub low_over_high : (step (fresh (codes "alice")) (start 1 2 1 true_term)).reply ≡ refused syntax
+  -- a goal whose variables are not numbered by first occurrence is no event
+  pub variables_not_in_order : (step (fresh (codes "alice")) (start 1 0 1 (equals (variable 2) (variable 1)))).reply ≡ refused syntax
+  -- a goal with a variable 0 is no event
+  pub variable_0 : (step (fresh (codes "alice")) (start 1 0 1 (equals (variable 0) (variable 1)))).reply ≡ refused syntax
+  -- a goal with an integer that is too large is no event
+  pub integer_of_65_bits : (step (fresh (codes "alice")) (start 1 0 1 (equals (variable 1) (integer (pos (2 ^ 63)))))).reply ≡ refused syntax
+  -- a goal's number of 2 ^ 63 is no event
+  pub goal_number_of_64_bits : (step (fresh (codes "alice")) (reduce (2 ^ 63) 0)).reply ≡ refused syntax
+  -- a source of 65,537 bytes is no event
+  pub source_of_65537_bytes : (step (fresh (codes "alice")) (load (replicate 65537 32))).reply ≡ refused syntax
+  -- a full journal refuses a load
+  pub full_journal_load : (step (with_entries 262144 (after_lines (having one_fact) (codes "start 10 0 10 t:q(X,c)" ∷ []))) (load app_text)).reply ≡ refused journal_full
+  -- and before that a module that is there
+  pub full_journal_exists : (step (with_entries 262144 (after_lines (having one_fact) (codes "start 10 0 10 t:q(X,c)" ∷ []))) (load one_fact)).reply ≡ refused exists
+  -- a full journal refuses a start
+  pub full_journal_start : (step (with_entries 262144 (after_lines (having one_fact) (codes "start 10 0 10 t:q(X,c)" ∷ []))) (start 1 0 1 true_term)).reply ≡ refused journal_full
+  -- a full journal refuses a reduction
+  pub full_journal_reduction : (step (with_entries 262144 (after_lines (having one_fact) (codes "start 10 0 10 t:q(X,c)" ∷ []))) (reduce 2 0)).reply ≡ refused journal_full
+  -- and before that a step that isn't allowed
+  pub full_journal_bad_step : (step (with_entries 262144 (after_lines (having one_fact) (codes "start 10 0 10 t:q(X,c)" ∷ []))) (reduce 2 1)).reply ≡ refused step_refused
+  -- a full journal refuses a run that has something to do
+  pub full_journal_run : (act (with_entries 262144 (after_lines (having one_fact) (codes "start 10 0 10 t:q(X,c)" ∷ []))) (run 5)).reply ≡ refused journal_full
+  -- a run with nothing to do asks no journal
+  pub full_journal_quiet : (act (with_entries 262144 (after_lines (having one_fact) (codes "start 10 0 10 t:q(X,b)" ∷ []))) (run 5)).reply ≡ ran 0
+  -- a run that the journal stops answers its steps
+  pub run_to_the_last_entry : (act (with_entries 262142 (after_lines (having app_text) (codes "start 100 0 10 app:app([1],[2],R)" ∷ []))) (run 5)).reply ≡ ran 2
+  -- names in the order of first use, without the built-in ones
+  pub names_by_first_use : (after_lines (having app_text) (codes "start 1 0 1 f(X,a) = g(f,b)" ∷ [])).names ≡ codes "app" ∷ codes "f" ∷ codes "a" ∷ codes "g" ∷ codes "b" ∷ []
+  -- a refused start takes no names
+  pub refused_start_takes_no_names : (after_lines (having app_text) (codes "start 1 2 1 f(X,a) = g(f,b)" ∷ [])).names ≡ codes "app" ∷ []

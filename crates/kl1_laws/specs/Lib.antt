@@ -1,0 +1,5 @@
+pub mod Examples
+pub mod AccountRows
+pub mod ReadRows
+pub mod ReadFaults
+pub mod SameLaws

@@ -1,0 +1,8 @@
+//! What holds of the definitions alone: laws, worked rows and example scripts, each the contract of a function that does nothing.
+#![tactic(auto)]
+
+pub mod examples;
+pub mod reading;
+pub mod same;
+pub mod unification;
+pub mod waits;

@@ -1,0 +1,48 @@
+use Rattle.std.proofs.Common.{◌≡◌, Bool, get_or, sym, subst}
+use Rattle.kl1_model.specs.Waits.{least_without}
+use Rattle.kl1_clause.specs.declared.compiled_clause.CompiledClause.{CompiledClause}
+use Rattle.kl1_match.specs.declared.verdict.Verdict.{Verdict}
+use Rattle.kl1_match.specs.Instances.{IsClause}
+use Rattle.kl1_match.specs.Verdicts.{IsVerdict}
+use Rattle.kl1_match.specs.Choices.{IsChoice}
+use Rattle.kl1_match.proofs.Choosing.{clause_in, accepted_there, rejected_there, suspended_there, all_tried}
+use Rattle.kl1_match.proofs.choice.choose.Goals as goal
+
+pub judge-requires-clause-clause : goal.judge-requires-clause-clause
+judge-requires-clause-clause g c =
+    let P : CompiledClause → Type 0 = λ k. IsClause c.args.names.now k in
+    subst P (sym c.nth-clause.ensures) (clause_in c.args.names.now c.args.clauses.now c.loop-tried.tried c.nth-clause.result.now c.requires.clauses c.loop-tried-test.true)
+
+pub returns-in-Accepts : goal.returns-in-Accepts
+returns-in-Accepts g c =
+    let x = c.nth-clause.result.now in
+    let P : CompiledClause → Type 0 = λ k. IsVerdict g.N.NameValue.built c.args.names.now k c.args.store.now.held c.args.goal c.judge.new.places.items c.loop-tried.awaited.items c.judge.new.awaited.items c.in_ok-judge.field-0 in
+    let Q : Verdict → Type 0 = λ v. IsVerdict g.N.NameValue.built c.args.names.now (get_or c.args.clauses.now c.loop-tried.tried x) c.args.store.now.held c.args.goal c.judge.new.places.items c.loop-tried.awaited.items c.judge.new.awaited.items v in
+    accepted_there g.N.NameValue.built c.args.names.now c.args.clauses.now c.args.store.now.held c.args.goal c.args.awaited.now.items c.loop-tried.awaited.items c.judge.new.awaited.items c.loop-tried.tried c.loop-tried.waits x c.judge.new.places.items
+    c.loop-tried-test.true c.loop-tried.invariant (subst Q c.in-Accepts.is (subst P c.nth-clause.ensures c.in_ok-judge.ensures))
+
+pub loop-tried-preserved-in-Rejects : goal.loop-tried-preserved-in-Rejects
+loop-tried-preserved-in-Rejects g c =
+    let x = c.nth-clause.result.now in
+    let P : CompiledClause → Type 0 = λ k. IsVerdict g.N.NameValue.built c.args.names.now k c.args.store.now.held c.args.goal c.judge.new.places.items c.loop-tried.awaited.items c.judge.new.awaited.items c.in_ok-judge.field-0 in
+    let Q : Verdict → Type 0 = λ v. IsVerdict g.N.NameValue.built c.args.names.now (get_or c.args.clauses.now c.loop-tried.tried x) c.args.store.now.held c.args.goal c.judge.new.places.items c.loop-tried.awaited.items c.judge.new.awaited.items v in
+    rejected_there g.N.NameValue.built c.args.names.now c.args.clauses.now c.args.store.now.held c.args.goal c.args.awaited.now.items c.loop-tried.awaited.items c.judge.new.awaited.items c.loop-tried.tried c.loop-tried.waits x c.judge.new.places.items
+    c.loop-tried-test.true c.loop-tried.invariant (subst Q c.in-Rejects.is (subst P c.nth-clause.ensures c.in_ok-judge.ensures))
+
+pub loop-tried-preserved : goal.loop-tried-preserved
+loop-tried-preserved g c =
+    let x = c.nth-clause.result.now in
+    let P : CompiledClause → Type 0 = λ k. IsVerdict g.N.NameValue.built c.args.names.now k c.args.store.now.held c.args.goal c.judge.new.places.items c.loop-tried.awaited.items c.judge.new.awaited.items c.in_ok-judge.field-0 in
+    let Q : Verdict → Type 0 = λ v. IsVerdict g.N.NameValue.built c.args.names.now (get_or c.args.clauses.now c.loop-tried.tried x) c.args.store.now.held c.args.goal c.judge.new.places.items c.loop-tried.awaited.items c.judge.new.awaited.items v in
+    suspended_there g.N.NameValue.built c.args.names.now c.args.clauses.now c.args.store.now.held c.args.goal c.args.awaited.now.items c.loop-tried.awaited.items c.judge.new.awaited.items c.loop-tried.tried c.loop-tried.waits x c.judge.new.places.items
+    c.loop-tried-test.true c.loop-tried.invariant (subst Q c.in-Suspends.is (subst P c.nth-clause.ensures c.in_ok-judge.ensures))
+
+pub returns-then-waits : goal.returns-then-waits
+returns-then-waits g c =
+    let P : Bool → Type 0 = λ b. IsChoice g.N.NameValue.built c.args.names.now c.args.clauses.now c.args.store.now.held c.args.goal c.args.awaited.now.items c.loop-tried.awaited.items (least_without b) in
+    subst P c.if-waits.true (all_tried g.N.NameValue.built c.args.names.now c.args.clauses.now c.args.store.now.held c.args.goal c.args.awaited.now.items c.loop-tried.awaited.items c.loop-tried.tried c.loop-tried.waits c.loop-tried-test.false c.loop-tried.invariant)
+
+pub returns : goal.returns
+returns g c =
+    let P : Bool → Type 0 = λ b. IsChoice g.N.NameValue.built c.args.names.now c.args.clauses.now c.args.store.now.held c.args.goal c.args.awaited.now.items c.loop-tried.awaited.items (least_without b) in
+    subst P c.if-waits.false (all_tried g.N.NameValue.built c.args.names.now c.args.clauses.now c.args.store.now.held c.args.goal c.args.awaited.now.items c.loop-tried.awaited.items c.loop-tried.tried c.loop-tried.waits c.loop-tried-test.false c.loop-tried.invariant)

@@ -1,0 +1,57 @@
+// The clause by which a goal can step, among those of its predicate.
+
+ghost use Rattle.std.specs.Prelude.{◌≡◌, ◌<◌, length, IfOk, slice_index_or};
+ghost use Rattle.kl1_store.specs.Held.{IsIn};
+ghost use Rattle.kl1_match.specs.Choices.{AreClauses, IsChoice};
+
+use crate::scratch::Scratch;
+use crate::verdict::Verdict;
+use crate::verdicts::judge;
+use kl1_clause::CompiledClause;
+use kl1_store::{Cell, Store};
+use kl1_text::NameValue;
+use std::alloc::AllocError;
+
+/// The clause at a place, from 0.
+fn nth(clauses: &[CompiledClause], place: usize) -> &CompiledClause
+    requires { place < length clauses.now }
+    ensures { result.now ≡ slice_index_or clauses.now place result.now }
+{
+    &clauses[place]
+}
+
+/// The least number of a clause that accepts a goal, from 1, or 0 where each rejects it or there is none, or nothing where
+/// none accepts and some wait. `awaited` gets the variables that the clauses before the one that accepts wait for behind its
+/// own. Where memory is refused, nothing is said of what it got.
+pub fn choose<N: NameValue>(
+    store: &Store<N>,
+    names: &[N],
+    clauses: &[CompiledClause],
+    goal: Cell<N>,
+    scratch: &mut Scratch<N>,
+    awaited: &mut Vec<u32>,
+) -> Result<Option<u64>, AllocError>
+    requires clauses { AreClauses names.now clauses.now }
+    requires goal { IsIn store.now.held goal }
+    ensures { IfOk result (IsChoice N.built names.now clauses.now store.now.held goal awaited.old.items awaited.new.items) }
+{
+    let stack = &mut scratch.stack;
+    let places = &mut scratch.places;
+    let mut waits = false;
+    let mut tried: usize = 0;
+    while tried < clauses.len() {
+        let clause = nth(clauses, tried);
+        match judge(store, names, clause, goal, stack, places, awaited)? {
+            Verdict::Accepts => return Ok(Some(tried as u64 + 1)),
+            Verdict::Rejects => tried += 1,
+            Verdict::Suspends => {
+                waits = true;
+                tried += 1;
+            }
+        }
+    }
+    if waits {
+        return Ok(None);
+    }
+    Ok(Some(0))
+}

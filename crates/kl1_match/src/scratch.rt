@@ -1,0 +1,28 @@
+// What the calls of this crate work with.
+
+use crate::place::Place;
+use kl1_store::Cell;
+use kl1_text::NameValue;
+use std::alloc::Global;
+
+/// Lists that calls work with: each empties those that it uses, and what it leaves in them is of no use. It takes no memory
+/// until a call needs some, and keeps what it has for the next.
+#[derive(Drop)]
+pub struct Scratch<N: NameValue> {
+    pub(crate) stack: Vec<Cell<N>>,
+    pub(crate) places: Vec<Place<N>>,
+    pub(crate) variables: Vec<Cell<N>>,
+    pub(crate) arguments: Vec<Cell<N>>,
+}
+
+impl<N: NameValue> Scratch<N> {
+    /// Lists that hold nothing.
+    pub fn new(alloc: Global) -> Self {
+        Scratch {
+            stack: Vec::new(alloc),
+            places: Vec::new(alloc),
+            variables: Vec::new(alloc),
+            arguments: Vec::new(alloc),
+        }
+    }
+}

@@ -1,0 +1,157 @@
+-- By which clause a term can step, and for what it waits, when variables are replaced.
+use Rattle.std.proofs.Common.{◌≡◌, ℕ, ◌==◌, Bool, true, false, if◌then◌else◌, List, [], ◌∷◌, ◌++◌, refl, sym, ap, ap₂, ◌∙◌}
+use Rattle.std.specs.Prelude.{codes, bytes_eq, Option, Some, None, option_map, is_some, find, filter}
+use Rattle.std.proofs.lemmas.Bool.{cond-false}
+use Rattle.kl1_model.specs.Term.{Term, variable, integer, atom, structure, Terms, none, more, substituted, each_substituted, Replacement, replaced}
+use Rattle.kl1_model.specs.Module.{Module, is_of}
+use Rattle.kl1_model.specs.Match.{Call, call_of, module_of, clauses_in, clauses_of}
+use Rattle.kl1_model.specs.Reduction.{Move, unifies, built_in_move, term_move}
+use Rattle.kl1_model.specs.Choice.{call_clauses}
+use Rattle.kl1_model.specs.Waits.{LeavesEach, least_clause, term_clause, awaited_by_clauses, awaited_by_call, awaited_in_call, awaited_at_head}
+use Rattle.kl1_model.specs.WaitsLaws.{call_substituted, HeadStays, TermStays}
+use Rattle.kl1_model.proofs.Substitutions.{count-each_substituted}
+use Rattle.kl1_model.proofs.LeastClause.{term_clause-call}
+use Rattle.kl1_model.proofs.VerdictStays.{leaves_front, leaves_back, clauses_stay}
+
+-- ---- calls
+
+call_of-not_one : (f : List ℕ) (a : Term) → call_of (structure f (more a none)) ≡ None
+call_of-not_one f (variable v) = refl
+call_of-not_one f (integer i) = refl
+call_of-not_one f (atom m) = refl
+call_of-not_one f (structure g us) = refl
+
+call_of-not_many : (f : List ℕ) (a b c : Term) (us : Terms) → call_of (structure f (more a (more b (more c us)))) ≡ None
+call_of-not_many f (variable v) b c us = refl
+call_of-not_many f (integer i) b c us = refl
+call_of-not_many f (atom m) (variable p) c us = refl
+call_of-not_many f (atom m) (integer j) c us = refl
+call_of-not_many f (atom m) (atom p) c us = refl
+call_of-not_many f (atom m) (structure p ts) c us = refl
+call_of-not_many f (structure g ts) b c us = refl
+
+call_of-other : (f : List ℕ) (a b : Term) → bytes_eq f (codes ":") ≡ false → call_of (structure f (more a (more b none))) ≡ None
+call_of-other f (variable v) b e = refl
+call_of-other f (integer i) b e = refl
+call_of-other f (atom m) (variable p) e = refl
+call_of-other f (atom m) (integer j) e = refl
+call_of-other f (atom m) (atom p) e = cond-false (bytes_eq f (codes ":")) (Some (record { module_name = m; name = p; arguments = none })) None e
+call_of-other f (atom m) (structure p ts) e = cond-false (bytes_eq f (codes ":")) (Some (record { module_name = m; name = p; arguments = ts })) None e
+call_of-other f (structure g ts) b e = refl
+
+some_call : (s : ℕ → Term) (c : Bool) (k : Call) → (if c then Some (call_substituted s k) else None) ≡ option_map (call_substituted s) (if c then Some k else None)
+some_call s true k = refl
+some_call s false k = refl
+
+pair_stays : (s : ℕ → Term) (f : List ℕ) (a b : Term) → LeavesEach s (awaited_in_call a b) →
+    call_of (structure f (more (substituted s a) (more (substituted s b) none))) ≡ option_map (call_substituted s) (call_of (structure f (more a (more b none))))
+pair_stays s f (variable v) b l = ap (λ t. call_of (structure f (more t (more (substituted s b) none)))) l.0
+pair_stays s f (integer i) b l = refl
+pair_stays s f (atom m) (variable p) l = ap (λ t. call_of (structure f (more (atom m) (more t none)))) l.0
+pair_stays s f (atom m) (integer j) l = refl
+pair_stays s f (atom m) (atom p) l = some_call s (bytes_eq f (codes ":")) (record { module_name = m; name = p; arguments = none })
+pair_stays s f (atom m) (structure p ts) l = some_call s (bytes_eq f (codes ":")) (record { module_name = m; name = p; arguments = ts })
+pair_stays s f (structure g ts) b l = refl
+
+two_stay : (s : ℕ → Term) (f : List ℕ) (a b : Term) (c : Bool) → bytes_eq f (codes ":") ≡ c → LeavesEach s (if c then awaited_in_call a b else []) →
+    call_of (structure f (more (substituted s a) (more (substituted s b) none))) ≡ option_map (call_substituted s) (call_of (structure f (more a (more b none))))
+two_stay s f a b true e l = pair_stays s f a b l
+two_stay s f a b false e l = call_of-other f (substituted s a) (substituted s b) e ∙ sym (ap (option_map (call_substituted s)) (call_of-other f a b e))
+
+pub head_stays : HeadStays
+head_stays s (variable v) l = ap call_of l.0
+head_stays s (integer i) l = refl
+head_stays s (atom a) l = refl
+head_stays s (structure f none) l = refl
+head_stays s (structure f (more a none)) l = call_of-not_one f (substituted s a) ∙ sym (ap (option_map (call_substituted s)) (call_of-not_one f a))
+head_stays s (structure f (more a (more b none))) l = two_stay s f a b (bytes_eq f (codes ":")) refl l
+head_stays s (structure f (more a (more b (more c us)))) l =
+    call_of-not_many f (substituted s a) (substituted s b) (substituted s c) (each_substituted s us) ∙ sym (ap (option_map (call_substituted s)) (call_of-not_many f a b c us))
+
+-- ---- what is awaited at the head
+
+in_call_stays : (s : ℕ → Term) (a b : Term) → LeavesEach s (awaited_in_call a b) → awaited_in_call (substituted s a) (substituted s b) ≡ awaited_in_call a b
+in_call_stays s (variable v) b l = ap (λ t. awaited_in_call t (substituted s b)) l.0
+in_call_stays s (integer i) b l = refl
+in_call_stays s (atom m) (variable p) l = ap (λ t. awaited_in_call (atom m) t) l.0
+in_call_stays s (atom m) (integer j) l = refl
+in_call_stays s (atom m) (atom p) l = refl
+in_call_stays s (atom m) (structure p ts) l = refl
+in_call_stays s (structure g ts) b l = refl
+
+in_two_stays : (s : ℕ → Term) (a b : Term) (c : Bool) → LeavesEach s (if c then awaited_in_call a b else []) → (if c then awaited_in_call (substituted s a) (substituted s b) else []) ≡ (if c then awaited_in_call a b else [])
+in_two_stays s a b true l = in_call_stays s a b l
+in_two_stays s a b false l = refl
+
+pub head_awaited_stays : (s : ℕ → Term) (t : Term) → LeavesEach s (awaited_at_head t) → awaited_at_head (substituted s t) ≡ awaited_at_head t
+head_awaited_stays s (variable v) l = ap awaited_at_head l.0
+head_awaited_stays s (integer i) l = refl
+head_awaited_stays s (atom a) l = refl
+head_awaited_stays s (structure f none) l = refl
+head_awaited_stays s (structure f (more a none)) l = refl
+head_awaited_stays s (structure f (more a (more b none))) l = in_two_stays s a b (bytes_eq f (codes ":")) l
+head_awaited_stays s (structure f (more a (more b (more c us)))) l = refl
+
+-- ---- built-in goals
+
+some-if : (c : Bool) (m n : Move) → is_some (if c then Some m else None) ≡ is_some (if c then Some n else None)
+some-if true m n = refl
+some-if false m n = refl
+
+built_in_stays : (s : ℕ → Term) (t : Term) → LeavesEach s (awaited_at_head t) → is_some (built_in_move (substituted s t)) ≡ is_some (built_in_move t)
+built_in_stays s (variable v) l = ap (λ t. is_some (built_in_move t)) l.0
+built_in_stays s (integer i) l = refl
+built_in_stays s (atom a) l = refl
+built_in_stays s (structure f none) l = refl
+built_in_stays s (structure f (more a none)) l = refl
+built_in_stays s (structure f (more a (more b none))) l = some-if (bytes_eq f (codes "=")) (unifies (substituted s a) (substituted s b)) (unifies a b)
+built_in_stays s (structure f (more a (more b (more c us)))) l = refl
+
+-- a term that is no call takes 0, or nothing
+no_call : (modules : List Module) (t : Term) → call_of t ≡ None → term_clause modules t ≡ (if is_some (built_in_move t) then Some 0 else None)
+no_call modules t e = ap (λ o. find (λ clause. is_some (term_move modules t clause o)) (0 ∷ call_clauses modules o)) e
+
+-- ---- terms
+
+clauses_stay_of : (modules : List Module) (s : ℕ → Term) (k : Call) → clauses_of modules (call_substituted s k) ≡ clauses_of modules k
+clauses_stay_of modules s k = by_module (module_of modules k.module_name)
+  where
+    by_module : (o : Option Module) → clauses_in o (call_substituted s k) ≡ clauses_in o k
+    by_module None = refl
+    by_module (Some m) = ap (λ n. filter (is_of k.name n) m.clauses) (count-each_substituted s k.arguments)
+
+-- how a term stays, by the call that it is
+by_call : (modules : List Module) (s : ℕ → Term) (t : Term) (o : Option Call) → call_of t ≡ o → call_of (substituted s t) ≡ option_map (call_substituted s) o → is_some (built_in_move (substituted s t)) ≡ is_some (built_in_move t) →
+    LeavesEach s (awaited_by_call modules o) → (term_clause modules (substituted s t) ≡ term_clause modules t) × (awaited_by_call modules (call_of (substituted s t)) ≡ awaited_by_call modules (call_of t))
+by_call modules s t None e h b l =
+    (no_call modules (substituted s t) h ∙ ap (λ c. if c then Some 0 else None) b ∙ sym (no_call modules t e), ap (awaited_by_call modules) h ∙ sym (ap (awaited_by_call modules) e))
+by_call modules s t (Some k) e h b l =
+    let q = call_substituted s k in
+    let c = clauses_stay_of modules s k in
+    let r = clauses_stay s (clauses_of modules k) k.arguments l in (
+      term_clause-call modules (substituted s t) q h ∙ ap (λ cs. least_clause cs q.arguments) c ∙ r.0 ∙ sym (term_clause-call modules t k e),
+      ap (awaited_by_call modules) h ∙ ap (λ cs. awaited_by_clauses cs q.arguments) c ∙ r.1 ∙ sym (ap (awaited_by_call modules) e),
+    )
+
+pub term_stays : TermStays
+term_stays modules s t l =
+    let a = leaves_front s (awaited_at_head t) (awaited_by_call modules (call_of t)) l in
+    let b = leaves_back s (awaited_at_head t) (awaited_by_call modules (call_of t)) l in
+    let r = by_call modules s t (call_of t) refl (head_stays s t a) (built_in_stays s t a) b in
+    (r.0, ap₂ (λ (vs ws : List ℕ). vs ++ ws) (head_awaited_stays s t a) r.1)
+
+-- ---- what replacements leave
+
+-- whether a variable is replaced
+abbrev pub is_replaced : List Replacement → ℕ → Bool
+is_replaced [] v = false
+is_replaced (r ∷ rs) v = if v == r.number then true else is_replaced rs v
+
+not_first : (r : Replacement) (rs : List Replacement) (v : ℕ) (c : Bool) → v == r.number ≡ c → (if c then true else is_replaced rs v) ≡ false → (is_replaced rs v ≡ false → replaced rs (variable v) ≡ variable v) → replaced (r ∷ rs) (variable v) ≡ variable v
+not_first r rs v true h k f = absurd (cc)
+not_first r rs v false h k f = ap (replaced rs) (cond-false (v == r.number) r.by (variable v) h) ∙ f k
+
+-- a variable that no replacement names is left
+pub left_alone : (rs : List Replacement) (v : ℕ) → is_replaced rs v ≡ false → replaced rs (variable v) ≡ variable v
+left_alone [] v e = refl
+left_alone (r ∷ rs) v e = not_first r rs v (v == r.number) refl e (left_alone rs v)

@@ -1,0 +1,87 @@
+-- Each number of the language and of the server, once, with its unit: the constants of src/limits.rt.
+use Rattle.std.specs.Prelude.{ℕ}
+use Rattle.kl1_model.specs.declared.limits.TheConstants.{MOST_NAME_BYTES, MOST_ARGUMENTS, MOST_DEPTH, MOST_CLAUSES, MOST_SOURCE_BYTES, NUMBER_LIMIT, MOST_DIGITS, MOST_PRIORITY, MONITOR_PRIORITY, MOST_ENTRIES, MOST_LINE_BYTES, MOST_STEPS, MOST_COMMAND_BYTES, MOST_PRINTED_BYTES, MOST_ACCOUNT_NAME_BYTES, MOST_ACCOUNTS, MOST_SCRIPT_BYTES, MOST_WAITING_BYTES, FIRST_NUMBER, MOST_NAMES, BUCKETS_EACH}
+
+-- the most bytes of a name
+abbrev pub most_name_bytes : ℕ
+most_name_bytes = MOST_NAME_BYTES
+
+-- the most arguments of a structure
+abbrev pub most_arguments : ℕ
+most_arguments = MOST_ARGUMENTS
+
+-- the greatest depth of a term that a text can write, in levels
+abbrev pub most_depth : ℕ
+most_depth = MOST_DEPTH
+
+-- the most clauses of a module
+abbrev pub most_clauses : ℕ
+most_clauses = MOST_CLAUSES
+
+-- the most bytes of a module's source
+abbrev pub most_source_bytes : ℕ
+most_source_bytes = MOST_SOURCE_BYTES
+
+-- the first number that no command takes, and the first integer that no term has
+abbrev pub number_limit : ℕ
+number_limit = NUMBER_LIMIT
+
+-- the most digits of a number in a command
+abbrev pub most_digits : ℕ
+most_digits = MOST_DIGITS
+
+-- the greatest priority of a shoen's goals
+abbrev pub most_priority : ℕ
+most_priority = MOST_PRIORITY
+
+-- the priority of a monitor
+abbrev pub monitor_priority : ℕ
+monitor_priority = MONITOR_PRIORITY
+
+-- the most entries of a journal
+abbrev pub most_entries : ℕ
+most_entries = MOST_ENTRIES
+
+-- the most bytes of a start's line in a journal
+abbrev pub most_line_bytes : ℕ
+most_line_bytes = MOST_LINE_BYTES
+
+-- the most steps of a run
+abbrev pub most_steps : ℕ
+most_steps = MOST_STEPS
+
+-- the most bytes of a command's line, without its end
+abbrev pub most_command_bytes : ℕ
+most_command_bytes = MOST_COMMAND_BYTES
+
+-- the most bytes of a printed value
+abbrev pub most_printed_bytes : ℕ
+most_printed_bytes = MOST_PRINTED_BYTES
+
+-- the most bytes of an account's name
+abbrev pub most_account_name_bytes : ℕ
+most_account_name_bytes = MOST_ACCOUNT_NAME_BYTES
+
+-- the most accounts of a script, and of a table of names
+abbrev pub most_accounts : ℕ
+most_accounts = MOST_ACCOUNTS
+
+-- the most bytes of a script
+abbrev pub most_script_bytes : ℕ
+most_script_bytes = MOST_SCRIPT_BYTES
+
+-- the bytes of a reply that wait at most before they are written, but for one reply more
+abbrev pub most_waiting_bytes : ℕ
+most_waiting_bytes = MOST_WAITING_BYTES
+
+-- the first number of a name that isn't built in
+abbrev pub first_number : ℕ
+first_number = FIRST_NUMBER
+
+-- the most names that one account adds to a table of names
+abbrev pub most_names : ℕ
+most_names = MOST_NAMES
+
+-- the buckets of a table of names, for each account
+abbrev pub buckets_each : ℕ
+buckets_each = BUCKETS_EACH

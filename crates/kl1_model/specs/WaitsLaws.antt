@@ -1,0 +1,50 @@
+-- What holds of verdicts and of what goals wait for when variables are replaced.
+use Rattle.std.specs.Prelude.{◌≡◌, ℕ, List, [], map, option_map}
+use Rattle.kl1_model.specs.Term.{Term, Terms, substituted, each_substituted, Replacement}
+use Rattle.kl1_model.specs.Module.{Clause, Module}
+use Rattle.kl1_model.specs.Match.{accepts, rejects, suspends, verdict, Call, call_of}
+use Rattle.kl1_model.specs.Waits.{LeavesEach, least_clause, awaited_by_clauses, awaited_at_head, awaited_by_term, term_clause}
+
+-- a place after a substitution
+abbrev pub place_substituted : (ℕ → Term) → Replacement → Replacement
+place_substituted s p = record { number = p.number; by = substituted s p.by }
+
+-- places after a substitution
+abbrev pub places_substituted : (ℕ → Term) → List Replacement → List Replacement
+places_substituted s ps = map (place_substituted s) ps
+
+-- a call after a substitution
+abbrev pub call_substituted : (ℕ → Term) → Call → Call
+call_substituted s k = record { module_name = k.module_name; name = k.name; arguments = each_substituted s k.arguments }
+
+-- a clause that rejects a goal rejects it whatever takes the place of the goal's variables
+abbrev pub RejectsStays : Type 0
+RejectsStays = (s : ℕ → Term) (c : Clause) (ts : Terms) → verdict c ts ≡ rejects → verdict c (each_substituted s ts) ≡ rejects
+
+-- one that accepts it accepts it still, with what has become of the terms at its places
+abbrev pub AcceptsStays : Type 0
+AcceptsStays = (s : ℕ → Term) (c : Clause) (ts : Terms) (places : List Replacement) → verdict c ts ≡ accepts places → verdict c (each_substituted s ts) ≡ accepts (places_substituted s places)
+
+-- one that suspends does so, for the same variables, until one of these is replaced
+abbrev pub SuspendsStays : Type 0
+SuspendsStays = (s : ℕ → Term) (c : Clause) (ts : Terms) (vs : List ℕ) → verdict c ts ≡ suspends vs → LeavesEach s vs → verdict c (each_substituted s ts) ≡ suspends vs
+
+-- and names a variable
+abbrev pub SuspendsWaits : Type 0
+SuspendsWaits = (c : Clause) (ts : Terms) → verdict c ts ≡ suspends [] → ⊥
+
+-- the least clause of several, and the variables that they wait for, stay until one of these is replaced
+abbrev pub ClausesStay : Type 0
+ClausesStay =
+    (s : ℕ → Term) (cs : List Clause) (ts : Terms) → LeavesEach s (awaited_by_clauses cs ts) →
+    (least_clause cs (each_substituted s ts) ≡ least_clause cs ts) × (awaited_by_clauses cs (each_substituted s ts) ≡ awaited_by_clauses cs ts)
+
+-- what a term calls stays, but for its arguments, until a variable on which that depends is replaced
+abbrev pub HeadStays : Type 0
+HeadStays = (s : ℕ → Term) (t : Term) → LeavesEach s (awaited_at_head t) → call_of (substituted s t) ≡ option_map (call_substituted s) (call_of t)
+
+-- the clause by which a term can step, and the variables that it waits for, stay until one of these is replaced
+abbrev pub TermStays : Type 0
+TermStays =
+    (modules : List Module) (s : ℕ → Term) (t : Term) → LeavesEach s (awaited_by_term modules t) →
+    (term_clause modules (substituted s t) ≡ term_clause modules t) × (awaited_by_term modules (substituted s t) ≡ awaited_by_term modules t)

@@ -1,0 +1,64 @@
+//! Each number of the language and of the server, once, with its unit. `specs/Limits.antt` states them for contracts.
+
+/// The most bytes of a name.
+pub const MOST_NAME_BYTES: usize = 63;
+
+/// The most arguments of a structure.
+pub const MOST_ARGUMENTS: usize = 8;
+
+/// The greatest depth of a term that a text can write, in levels.
+pub const MOST_DEPTH: u64 = 256;
+
+/// The most clauses of a module.
+pub const MOST_CLAUSES: usize = 512;
+
+/// The most bytes of a module's source.
+pub const MOST_SOURCE_BYTES: usize = 65_536;
+
+/// The first number that no command takes, and the first integer that no term has.
+pub const NUMBER_LIMIT: u64 = 1 << 63;
+
+/// The most digits of a number in a command.
+pub const MOST_DIGITS: usize = 19;
+
+/// The greatest priority of a shoen's goals.
+pub const MOST_PRIORITY: u64 = 4_095;
+
+/// The priority of a monitor.
+pub const MONITOR_PRIORITY: u64 = 4_096;
+
+/// The most entries of a journal.
+pub const MOST_ENTRIES: u64 = 262_144;
+
+/// The most bytes of a start's line in a journal.
+pub const MOST_LINE_BYTES: usize = 262_144;
+
+/// The most steps of a run.
+pub const MOST_STEPS: u64 = 262_144;
+
+/// The most bytes of a command's line, without its end.
+pub const MOST_COMMAND_BYTES: usize = 4_096;
+
+/// The most bytes of a printed value.
+pub const MOST_PRINTED_BYTES: usize = 4_000;
+
+/// The most bytes of an account's name.
+pub const MOST_ACCOUNT_NAME_BYTES: usize = 16;
+
+/// The most accounts of a script, and of a table of names.
+pub const MOST_ACCOUNTS: usize = 16;
+
+/// The most bytes of a script.
+pub const MOST_SCRIPT_BYTES: usize = 16_777_216;
+
+/// The bytes of a reply that wait at most before they are written, but for one reply more.
+pub const MOST_WAITING_BYTES: usize = 65_536;
+
+/// The first number of a name that isn't built in.
+pub const FIRST_NUMBER: u32 = 64;
+
+/// The most names that one account adds to a table of names.
+pub const MOST_NAMES: usize = 1_024;
+
+/// The buckets of a table of names, for each account.
+pub const BUCKETS_EACH: u64 = 2_048;

@@ -1,0 +1,82 @@
+-- Shoens in order of number, found and exchanged by place.
+use Rattle.std.proofs.Common.{◌≡◌, ℕ, zero, suc, ◌+◌, ◌-◌, ◌<◌, ◌≤◌, if◌then◌else◌, List, [], ◌∷◌, ◌++◌, length, refl, sym, ap, ◌∙◌, arith, subst}
+use Rattle.std.specs.Prelude.{Option, Some, None, find, slice_get, slice_set, IfSome}
+use Rattle.std.proofs.lemmas.Bool.{ne_eqb, eq-eqb}
+use Rattle.kl1_shoen.specs.declared.shoen.Shoen.{Shoen}
+use Rattle.kl1_shoen.specs.Shoens.{has_number, exchanged, AreNumbered}
+
+pub numbered_push : {N : Type 0} (last : ℕ) (ss : List (Shoen N)) (s : Shoen N) → AreNumbered last ss → s.number ≡ suc (last + length ss) → AreNumbered last (ss ++ s ∷ [])
+numbered_push last [] s a e = (omega arith, tt)
+numbered_push last (r ∷ ss) s a e = (a.0, numbered_push (suc last) ss s a.1 (omega arith))
+
+pub numbered_set : {N : Type 0} (last : ℕ) (ss : List (Shoen N)) (i : ℕ) (s : Shoen N) → AreNumbered last ss → s.number ≡ suc (last + i) → AreNumbered last (slice_set ss i s)
+numbered_set last [] i s a e = tt
+numbered_set last (r ∷ ss) zero s a e = (omega arith, a.1)
+numbered_set last (r ∷ ss) (suc i) s a e = (a.0, numbered_set (suc last) ss i s a.1 (omega arith))
+
+-- no shoen has a number that is too low
+find_low : {N : Type 0} (last n : ℕ) (ss : List (Shoen N)) → AreNumbered last ss → n ≤ last → find (has_number n) ss ≡ None
+find_low last n [] a le = refl
+find_low last n (s ∷ ss) a le =
+    let m = a.0 in
+    ap (λ c. if c then Some s else find (has_number n) ss) (ne_eqb s.number n (λ x. omega arith)) ∙ find_low (suc last) n ss a.1 (omega arith)
+
+find_from : {N : Type 0} (last i n : ℕ) (ss : List (Shoen N)) → AreNumbered last ss → n ≡ suc (last + i) → find (has_number n) ss ≡ slice_get ss i
+find_from last i n [] a e = refl
+find_from last zero n (s ∷ ss) a e = let m = a.0 in ap (λ c. if c then Some s else find (has_number n) ss) (eq-eqb s.number n (omega arith))
+find_from last (suc i) n (s ∷ ss) a e =
+    let m = a.0 in
+    ap (λ c. if c then Some s else find (has_number n) ss) (ne_eqb s.number n (λ x. omega arith)) ∙ find_from (suc last) i n ss a.1 (omega arith)
+
+-- the shoen of a number stands at its place
+pub found_at : {N : Type 0} (n : ℕ) (ss : List (Shoen N)) → AreNumbered 0 ss → 0 < n → find (has_number n) ss ≡ slice_get ss (n - 1)
+found_at n ss a lt = find_from 0 (n - 1) n ss a (omega arith)
+
+pub found_none : {N : Type 0} (n : ℕ) (ss : List (Shoen N)) → AreNumbered 0 ss → n ≡ 0 → find (has_number n) ss ≡ None
+found_none n ss a e = find_low 0 n ss a (omega arith)
+
+number_from : {N : Type 0} (last i : ℕ) (ss : List (Shoen N)) → AreNumbered last ss → IfSome (slice_get ss i) (λ s. s.number ≡ suc (last + i))
+number_from last i [] a = tt
+number_from last zero (s ∷ ss) a = let m = a.0 in omega arith
+number_from {N = N} last (suc i) (s ∷ ss) a =
+    let P : ℕ → Type 0 = λ k. IfSome (slice_get ss i) (λ (x : Shoen N). x.number ≡ suc k) in
+    subst P (omega arith) (number_from (suc last) i ss a.1)
+
+-- the shoen at a place has the number of that place
+pub number_at : {N : Type 0} (n : ℕ) (ss : List (Shoen N)) (o : Option (Shoen N)) → AreNumbered 0 ss → 0 < n → o ≡ slice_get ss (n - 1) → IfSome o (λ s. s.number ≡ n)
+number_at {N = N} n ss o a lt e =
+    let P : ℕ → Type 0 = λ k. IfSome (slice_get ss (n - 1)) (λ (x : Shoen N). x.number ≡ k) in
+    let Q : Option (Shoen N) → Type 0 = λ z. IfSome z (λ (x : Shoen N). x.number ≡ n) in
+    subst Q (sym e) (subst P (omega arith) (number_from 0 (n - 1) ss a))
+
+-- a shoen whose number none has leaves all as they are
+pub exchanged_low : {N : Type 0} (last : ℕ) (ss : List (Shoen N)) (s : Shoen N) → AreNumbered last ss → s.number ≤ last → exchanged s ss ≡ ss
+exchanged_low last [] s a le = refl
+exchanged_low last (r ∷ ss) s a le =
+    let m = a.0 in
+    ap (λ c. (if c then s else r) ∷ exchanged s ss) (ne_eqb r.number s.number (λ x. omega arith)) ∙ ap (λ rs. r ∷ rs) (exchanged_low (suc last) ss s a.1 (omega arith))
+
+exchanged_high : {N : Type 0} (last : ℕ) (ss : List (Shoen N)) (s : Shoen N) → AreNumbered last ss → last + length ss < s.number → exchanged s ss ≡ ss
+exchanged_high last [] s a le = refl
+exchanged_high last (r ∷ ss) s a le =
+    let m = a.0 in
+    ap (λ c. (if c then s else r) ∷ exchanged s ss) (ne_eqb r.number s.number (λ x. omega arith)) ∙ ap (λ rs. r ∷ rs) (exchanged_high (suc last) ss s a.1 (omega arith))
+
+exchanged_from : {N : Type 0} (last i : ℕ) (ss : List (Shoen N)) (s : Shoen N) → AreNumbered last ss → s.number ≡ suc (last + i) → exchanged s ss ≡ slice_set ss i s
+exchanged_from last i [] s a e = refl
+exchanged_from last zero (r ∷ ss) s a e =
+    let m = a.0 in
+    ap (λ c. (if c then s else r) ∷ exchanged s ss) (eq-eqb r.number s.number (omega arith)) ∙ ap (λ rs. s ∷ rs) (exchanged_low (suc last) ss s a.1 (omega arith))
+exchanged_from last (suc i) (r ∷ ss) s a e =
+    let m = a.0 in
+    ap (λ c. (if c then s else r) ∷ exchanged s ss) (ne_eqb r.number s.number (λ x. omega arith)) ∙ ap (λ rs. r ∷ rs) (exchanged_from (suc last) i ss s a.1 (omega arith))
+
+-- a shoen is exchanged at the place of its number
+pub exchanged_at : {N : Type 0} (ss : List (Shoen N)) (s : Shoen N) → AreNumbered 0 ss → 0 < s.number → exchanged s ss ≡ slice_set ss (s.number - 1) s
+exchanged_at ss s a lt = exchanged_from 0 (s.number - 1) ss s a (omega arith)
+
+pub exchanged_none : {N : Type 0} (ss : List (Shoen N)) (s : Shoen N) → AreNumbered 0 ss → s.number ≡ 0 → exchanged s ss ≡ ss
+exchanged_none ss s a e = exchanged_low 0 ss s a (omega arith)
+
+pub exchanged_beyond : {N : Type 0} (ss : List (Shoen N)) (s : Shoen N) → AreNumbered 0 ss → length ss < s.number → exchanged s ss ≡ ss
+exchanged_beyond ss s a lt = exchanged_high 0 ss s a (omega arith)

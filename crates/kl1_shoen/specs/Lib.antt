@@ -1,0 +1,2 @@
+pub mod Shoens
+pub mod Meaning

@@ -1,0 +1,55 @@
+-- Shoens as the definitions have them.
+use Rattle.std.specs.Prelude.{ℕ, List, Option, Some, None, option_map}
+use Rattle.std.specs.List.{AllByRecursion}
+use Rattle.kl1_model.specs.State as model
+use Rattle.kl1_model.specs.State.{living, terminated}
+use Rattle.kl1_store.specs.Held.{Held, IsIn}
+use Rattle.kl1_store.specs.Meaning.{term_of}
+use Rattle.kl1_shoen.specs.declared.life.Life.{Life}
+use Rattle.kl1_shoen.specs.declared.life.Life.TheVariants.{Living, Terminated}
+use Rattle.kl1_shoen.specs.declared.shoen.Origin.{Origin}
+use Rattle.kl1_shoen.specs.declared.shoen.Shoen.{Shoen}
+
+-- whether a shoen lives
+abbrev pub life_of : Life → model.Life
+life_of Living = living
+life_of Terminated = terminated
+
+-- what the console keeps, with the cells of a store, names read by f
+abbrev pub origin_of : {N : Type 0} → (N → List ℕ) → Held N → Origin N → model.Origin
+origin_of f h o = record { goal = term_of f h o.goal; reports = term_of f h o.reports; control = term_of f h o.control }
+
+-- a shoen, with the cells of a store, names read by f
+abbrev pub shoen_of : {N : Type 0} → (N → List ℕ) → Held N → Shoen N → model.Shoen
+shoen_of f h s = record {
+  number = s.number;
+  life = life_of s.life;
+  allowance = s.allowance;
+  low = s.low;
+  high = s.high;
+  control = term_of f h s.control;
+  tail = term_of f h s.tail;
+  is_broken = s.is_broken;
+  origin = option_map (origin_of f h) s.origin;
+}
+
+-- the cells of what the console keeps are of a store
+pub record IsOriginIn {N : Type 0} (h : Held N) (o : Origin N) : Type 0 where
+  pub goal : IsIn h o.goal
+  pub reports : IsIn h o.reports
+  pub control : IsIn h o.control
+
+-- the same, where the console keeps something
+abbrev pub IsKeptIn : {N : Type 0} → Held N → Option (Origin N) → Type 0
+IsKeptIn h None = Unit {0}
+IsKeptIn h (Some o) = IsOriginIn h o
+
+-- the cells of a shoen are of a store
+pub record IsShoenIn {N : Type 0} (h : Held N) (s : Shoen N) : Type 0 where
+  pub control : IsIn h s.control
+  pub tail : IsIn h s.tail
+  pub origin : IsKeptIn h s.origin
+
+-- the cells of shoens are of a store
+abbrev pub AreShoensIn : {N : Type 0} → Held N → List (Shoen N) → Type 0
+AreShoensIn h shoens = AllByRecursion (IsShoenIn h) shoens

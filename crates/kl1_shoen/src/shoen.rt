@@ -1,0 +1,29 @@
+// Shoens, and what the console keeps of them.
+
+use crate::life::Life;
+use kl1_store::Cell;
+
+/// What the console keeps of a shoen that it started: the goal as started, the report stream from its beginning, and the tail
+/// of the control stream.
+#[derive(Clone, Copy)]
+pub struct Origin<N> {
+    pub goal: Cell<N>,
+    pub reports: Cell<N>,
+    pub control: Cell<N>,
+}
+
+/// A shoen: its number in the account, from 1, whether it lives, the reductions that it may be charged, its priorities from
+/// low to high, what is left of its control stream, the tail of its report stream, whether that stream is broken, and its
+/// origin at the console.
+#[derive(Clone, Copy)]
+pub struct Shoen<N> {
+    pub number: u64,
+    pub life: Life,
+    pub allowance: u64,
+    pub low: u64,
+    pub high: u64,
+    pub control: Cell<N>,
+    pub tail: Cell<N>,
+    pub is_broken: bool,
+    pub origin: Option<Origin<N>>,
+}

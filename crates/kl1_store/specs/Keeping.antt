@@ -1,0 +1,27 @@
+-- How the parts of a store stand for what it keeps.
+use Rattle.std.specs.Prelude.{ℕ, ◌-◌, ◌≤◌, min}
+use Rattle.kl1_store.specs.declared.levels.Levels.{Levels}
+use Rattle.kl1_store.specs.Held.{Stored}
+use Rattle.kl1_store.specs.Hooks.{Kept}
+use Rattle.kl1_store.specs.Chains.{Hung}
+use Rattle.kl1_store.specs.Levels.{AreLevels}
+
+-- what the cells and the hooks keep: there is room for a variable where both have it
+abbrev pub kept_in : {N : Type 0} → Stored N → Hung → Kept N
+kept_in s k =
+    record {
+      held = s.held;
+      hooks = k.hooks;
+      room = record {
+        variables = min s.room.variables (k.memory - s.held.variables);
+        structures = s.room.structures;
+        arguments = s.room.arguments;
+        bindings = s.room.bindings;
+      };
+      hook_room = k.room;
+    }
+
+-- what always holds of the parts: levels are in order, and each variable has a head
+pub record IsKept {N : Type 0} (s : Stored N) (k : Hung) (ls : Levels) : Type 0 where
+  pub levels : AreLevels s.held ls
+  pub covered : s.held.variables ≤ k.covered

@@ -1,0 +1,4 @@
+pub mod Spending
+pub mod Sendings
+pub mod Reports
+pub mod Exceptions

@@ -1,0 +1,33 @@
+// Exceptions as messages.
+
+ghost use Rattle.std.specs.Prelude.{◌≡◌, ◌<◌, ◌≤◌, IfOk, IsOk, OnErr};
+ghost use Rattle.kl1_store.specs.Held.{IsIn};
+ghost use Rattle.kl1_store.specs.Sound.{Grown};
+ghost use Rattle.kl1_store.specs.Spending.{Spends};
+ghost use Rattle.kl1_stream.specs.Exceptions.{IsException};
+
+use kl1_model::BuiltIn;
+use kl1_store::{Cell, Store};
+use kl1_text::NameValue;
+use std::alloc::AllocError;
+
+/// The message that a goal met an exception of a kind.
+pub fn exception_of<N: NameValue>(
+    store: &mut Store<N>,
+    kind: BuiltIn,
+    goal: Cell<N>,
+) -> Result<Cell<N>, AllocError>
+    requires { IsIn store.old.held goal }
+    ensures exception { IfOk result (IsException N.built store.old.held store.new.held kind goal) }
+    ensures err { OnErr result (store.new.held ≡ store.old.held) }
+    ensures grown { Grown store.old.held store.new.held }
+    ensures room { 0 < store.old.room.structures → 2 ≤ store.old.room.arguments → IsOk result }
+    ensures spends { Spends store.old.room store.new.room 0 1 2 0 }
+    ensures hooks { store.new.hooks ≡ store.old.hooks }
+    ensures hook_room { store.new.hook_room ≡ store.old.hook_room }
+{
+    let _formed = store.mark();
+    let name = N::of(BuiltIn::Exception);
+    let structure = store.build_pair(name, Cell::Atom(N::of(kind)), goal)?;
+    Ok(Cell::Structure(structure))
+}
