@@ -1,7 +1,8 @@
 -- The clauses of one predicate among those of a module.
-use Rattle.std.specs.Prelude.{◌≡◌, ℕ, Bool, if◌then◌else◌, List, [], ◌∷◌, length, map}
+use Rattle.std.specs.Prelude.{◌≡◌, ℕ, Bool, if◌then◌else◌, List, [], ◌∷◌, length, map, Option, Some, None}
 use Rattle.kl1_model.specs.Module.{Clause}
 use Rattle.kl1_clause.specs.declared.compiled_clause.CompiledClause.{CompiledClause}
+use Rattle.kl1_clause.specs.declared.predicate.Predicate.{Predicate}
 use Rattle.kl1_clause.specs.Clauses.{clause_in, AreCompiled}
 
 -- the clauses that compiled clauses mean, where the names of the code are these
@@ -28,3 +29,8 @@ pub record AreSome {N : Type 0} (names : List N) (clauses : List CompiledClause)
   pub count : length texts ≡ length names
   pub meant : List Clause
   pub are : AreCompiled texts clauses meant
+
+-- where names are read like this, what is found of clauses is them compiled; nothing is found where there is none
+abbrev pub FoundAs : {N : Type 0} → (N → List ℕ) → List Clause → Option (Predicate N) → Type 0
+FoundAs f clauses None = clauses ≡ []
+FoundAs f clauses (Some p) = AreCompiled (map f p.names.now) p.clauses.now clauses

@@ -12,8 +12,9 @@ use Rattle.kl1_model.specs.Match.{Call, module_of, clauses_in, clauses_of}
 use Rattle.kl1_text.specs.Reading.{Reads}
 use Rattle.kl1_text.specs.declared.cell_name.CellName.{CellName}
 use Rattle.kl1_clause.specs.declared.predicate.Predicate.{Predicate}
+use Rattle.kl1_clause.specs.Predicates.{FoundAs}
 use Rattle.kl1_modules.specs.Numbered.{Numbered, IsRead, AreRead, built, number_of}
-use Rattle.kl1_modules.specs.Finding.{FoundAs, FindsIn, contents, Asks, is_numbered, Finds, TellsModule}
+use Rattle.kl1_modules.specs.Finding.{FindsIn, contents, Asks, is_numbered, Finds, TellsModule}
 use Rattle.kl1_modules.specs.Shelves.{AreKeyed}
 use Rattle.kl1_modules.proofs.Answers.{same_texts, nat_same, number_is}
 use Rattle.kl1_modules.proofs.Names.{number_reads}

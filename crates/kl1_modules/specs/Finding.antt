@@ -1,19 +1,14 @@
 -- What is found by a module's name, a predicate's name and its number of arguments.
-use Rattle.std.specs.Prelude.{◌≡◌, ℕ, ◌==◌, Bool, List, [], map, filter, Option, Some, None, is_some}
+use Rattle.std.specs.Prelude.{◌≡◌, ℕ, ◌==◌, Bool, List, map, filter, Option, is_some}
 use Rattle.std.specs.List.{list_any}
 use Rattle.kl1_model.specs.Term.{count_of}
-use Rattle.kl1_model.specs.Module.{Clause, Module, is_of}
+use Rattle.kl1_model.specs.Module.{Module, is_of}
 use Rattle.kl1_model.specs.Match.{Call, module_of, clauses_of}
 use Rattle.kl1_text.specs.Reading.{Reads}
 use Rattle.kl1_text.specs.declared.cell_name.CellName.{CellName}
 use Rattle.kl1_clause.specs.declared.predicate.Predicate.{Predicate}
-use Rattle.kl1_clause.specs.Clauses.{AreCompiled}
+use Rattle.kl1_clause.specs.Predicates.{FoundAs}
 use Rattle.kl1_modules.specs.Numbered.{Numbered, IsRead, AreRead, built, number_of}
-
--- these compiled clauses are these clauses, and nothing is found where there is none
-abbrev pub FoundAs : (CellName → List ℕ) → List Clause → Option (Predicate CellName) → Type 0
-FoundAs f clauses None = clauses ≡ []
-FoundAs f clauses (Some p) = AreCompiled (map f p.names.now) p.clauses.now clauses
 
 -- however names are read, the clauses of a predicate of a module are found
 abbrev pub FindsIn : Numbered → CellName → ℕ → Option (Predicate CellName) → Type 0

@@ -22,3 +22,4 @@ pub mod Equalling
 pub mod Chaining
 pub mod Telling
 pub mod Later
+pub mod Freeing
