@@ -20,10 +20,11 @@ use Rattle.kl1_goals.specs.declared.task.Task.TheVariants.{Reduces}
 use Rattle.kl1_goals.specs.declared.goal.Goal.{Goal}
 use Rattle.kl1_goals.specs.Lists.{is_goal_of, is_monitor_of, is_other}
 use Rattle.kl1_account.specs.declared.draft.Draft.{Draft}
+use Rattle.kl1_modules.specs.Numbered.{Numbered}
 use Rattle.kl1_account.specs.Fitting.{Reading, built}
 use Rattle.kl1_account.specs.Account.{meaning}
 use Rattle.kl1_account.specs.Drafts.{goals_for, without_monitor, goals_left, goals_added, made_of, Drafts}
-use Rattle.kl1_account.specs.Works.{Made, worked, IsMadeIn, Turns}
+use Rattle.kl1_account.specs.Works.{Made, worked, IsMadeIn, Knows, Turns}
 use Rattle.kl1_account.proofs.Goals.{filter_append, goals_for_stay, any_append, any_left}
 use Rattle.kl1_account.proofs.Works.{turns_as}
 use Rattle.kl1_account.proofs.Reductions.{ended, ended_turns, terminate_turns, ended_stays, busy_stays, settle_terminates}
@@ -49,19 +50,19 @@ terminated_means : (f : Reading) (h : Held CellName) → ((b : BuiltIn) → f (b
 terminated_means f h texts = term_of-Atom f h (built TerminatedName) ∙ ap atom (texts TerminatedName)
 
 -- a draft whose shoen terminates
-pub drafts_terminate : (h k l : Held CellName) (d x : Draft) → d.is_ending ≡ false → Grown h k →
-    ((goals : List (Goal CellName)) → Drafts (λ f. report d.shoen.number (meaning f h (Atom (built TerminatedName)))) h k goals (ended_draft d) x) →
-    ((goals : List (Goal CellName)) → Drafts (λ f. close x.shoen.number) k l goals x x) →
-    (goals : List (Goal CellName)) → Drafts (λ f. terminate d.shoen.number) h l goals d x
-drafts_terminate h k l d x e g reporting closing goals i =
+pub drafts_terminate : (ms : List Numbered) (h k l : Held CellName) (d x : Draft) → d.is_ending ≡ false → Grown h k →
+    ((goals : List (Goal CellName)) → Drafts ms (λ f. report d.shoen.number (meaning f h (Atom (built TerminatedName)))) h k goals (ended_draft d) x) →
+    ((goals : List (Goal CellName)) → Drafts ms (λ f. close x.shoen.number) k l goals x x) →
+    (goals : List (Goal CellName)) → Drafts ms (λ f. terminate d.shoen.number) h l goals d x
+drafts_terminate ms h k l d x e g reporting closing goals i =
     let w = made_of goals d in
     let P : Made → Type 0 = λ m. IsMadeIn h m in
     let same = made_ended goals d e in
-    let T : Made → Type 0 = λ m. Turns (λ f. report d.shoen.number (atom (codes "terminated"))) h k m (made_of goals x) in
-    let inside : IsMadeIn h (made_of goals (ended_draft d)) = subst P (sym same) (ended_turns h w i).inside in
-    let told = turns_as (λ f. report d.shoen.number (meaning f h (Atom (built TerminatedName)))) (λ f. report d.shoen.number (atom (codes "terminated"))) h k (made_of goals (ended_draft d)) (made_of goals x)
-    (λ f reads s shoens p. ap (λ t. report d.shoen.number t (worked f s h shoens (made_of goals (ended_draft d)))) (sym (terminated_means f h reads.texts))) (reporting goals inside) in
-    terminate_turns h k l w (made_of goals x) i g (subst T same told) (closing goals)
+    let T : Made → Type 0 = λ m. Turns ms (λ f. report d.shoen.number (atom (codes "terminated"))) h k m (made_of goals x) in
+    let inside : IsMadeIn h (made_of goals (ended_draft d)) = subst P (sym same) (ended_turns ms h w i).inside in
+    let told = turns_as ms (λ f. report d.shoen.number (meaning f h (Atom (built TerminatedName)))) (λ f. report d.shoen.number (atom (codes "terminated"))) h k (made_of goals (ended_draft d)) (made_of goals x)
+    (λ f reads s shoens p. ap (λ t. report d.shoen.number t (worked f s h shoens (made_of goals (ended_draft d)))) (sym (terminated_means f h reads.reads.texts))) (reporting goals inside) in
+    terminate_turns ms h k l w (made_of goals x) i g (subst T same told) (closing goals)
 
 -- ---- whether the shoen has a goal left
 

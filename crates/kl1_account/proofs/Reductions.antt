@@ -18,19 +18,17 @@ use Rattle.kl1_store.specs.Held.{Held, AreIn}
 use Rattle.kl1_store.specs.ComparesEach.{term_list}
 use Rattle.kl1_store.specs.Sound.{Grown}
 use Rattle.kl1_store.proofs.Grows.{Grown-same}
-use Rattle.kl1_clause.specs.declared.compiled_clause.CompiledClause.{CompiledClause}
-use Rattle.kl1_clause.specs.Clauses.{IsCompiled}
-use Rattle.kl1_match.specs.declared.place.Place.{Place}
-use Rattle.kl1_match.specs.Instances.{IsInstance, replacements_of}
+use Rattle.kl1_moves.specs.Bodies.{IsBody}
 use Rattle.kl1_shoen.specs.declared.life.Life.TheVariants.{Living, Terminated}
 use Rattle.kl1_shoen.specs.declared.shoen.Shoen.{Shoen}
 use Rattle.kl1_goals.specs.declared.goal.Goal.{Goal}
 use Rattle.kl1_goals.specs.Lists.{is_goal_of, is_monitor_of}
+use Rattle.kl1_modules.specs.Numbered.{Numbered}
 use Rattle.kl1_account.specs.Fitting.{Reading, built}
 use Rattle.kl1_account.specs.Account.{Means, meaning, goal_with, shoen_with, life_of}
 use Rattle.kl1_account.specs.Kept.{AreGoalsIn, AreOwned, AreUpTo, IsShoenIn}
 use Rattle.kl1_account.specs.Drafts.{goals_for, without_monitor}
-use Rattle.kl1_account.specs.Works.{Made, with_shoen, worked, IsMadeIn, HasNumber, Turns}
+use Rattle.kl1_account.specs.Works.{Made, with_shoen, worked, IsMadeIn, HasNumber, Knows, Turns}
 use Rattle.kl1_account.proofs.States.{Agree, same_goals, same_shoens, goals_grown, shoen_grown, shoens_set}
 use Rattle.kl1_account.proofs.Works.{read_as, finds, changes, turns_then, turns_as}
 use Rattle.kl1_account.proofs.Goals.{monitors_read, has_goal_read, goals_read, count_read, goals_in_append, goals_for_in, owned_append, goals_for_owned, up_to_append, up_to_more, goals_for_up_to, filter_in, filter_owned, filter_up_to}
@@ -41,19 +39,17 @@ use Rattle.kl1_account.proofs.Goals.{monitors_read, has_goal_read, goals_read, c
 abbrev pub with_body : Made → ℕ → List (Cell CellName) → Made
 with_body w priority cells = record { goals = w.goals ++ goals_for w.last_goal w.shoen.number priority cells; shoen = w.shoen; last_goal = w.last_goal + length cells }
 
-pub commit_turns : (h k : Held CellName) (w : Made) (goal : Goal CellName) (names : List CellName) (compiled : CompiledClause) (places : List (Place CellName)) (cells : List (Cell CellName)) (candidate : Reading → Candidate) →
-    IsMadeIn h w → Grown h k → goal.shoen ≡ w.shoen.number → IsInstance built names compiled places h k cells →
-    ((f : Reading) → Reads built f → IsCompiled (map f names) compiled (candidate f).clause) → ((f : Reading) → Reads built f → replacements_of f h places ≡ (candidate f).places) →
-    Turns (λ f. committed (goal_with (meaning f h) goal) (candidate f)) h k w (with_body w goal.priority cells)
-commit_turns h k w goal names compiled places cells candidate i g own inst is at =
+pub commit_turns : (ms : List Numbered) (h k : Held CellName) (w : Made) (goal : Goal CellName) (cells : List (Cell CellName)) (candidate : Reading → Candidate) → IsMadeIn h w → Grown h k → goal.shoen ≡ w.shoen.number → AreIn k cells →
+    ((f : Reading) → Knows ms f → IsBody f (candidate f) h k cells) → Turns ms (λ f. committed (goal_with (meaning f h) goal) (candidate f)) h k w (with_body w goal.priority cells)
+commit_turns ms h k w goal cells candidate i g own inside body_is =
     let v = with_body w goal.priority cells in
     let some = i.some in
     let number = i.number in
-    let more = inst.variables in
+    let more = g.variables in
     record {
       inside = record {
         some = omega arith;
-        goals = goals_in_append k w.goals (goals_for w.last_goal w.shoen.number goal.priority cells) (goals_grown h k g w.goals i.goals) (goals_for_in k w.last_goal w.shoen.number goal.priority cells inst.inside);
+        goals = goals_in_append k w.goals (goals_for w.last_goal w.shoen.number goal.priority cells) (goals_grown h k g w.goals i.goals) (goals_for_in k w.last_goal w.shoen.number goal.priority cells inside);
         shoen = shoen_grown h k g w.shoen i.shoen;
         number = number;
         last = up_to_append v.last_goal w.goals (goals_for w.last_goal w.shoen.number goal.priority cells) (up_to_more w.last_goal v.last_goal w.goals (omega arith) i.last) (goals_for_up_to v.last_goal w.last_goal w.shoen.number goal.priority cells (omega arith));
@@ -63,14 +59,14 @@ commit_turns h k w goal names compiled places cells candidate i g own inst is at
       states = states;
     }
   where
-    states : (f : Reading) → Reads built f → (s : State) (shoens : List (Shoen CellName)) → HasNumber h shoens w.shoen.number →
+    states : (f : Reading) → Knows ms f → (s : State) (shoens : List (Shoen CellName)) → HasNumber h shoens w.shoen.number →
         committed (goal_with (meaning f h) goal) (candidate f) (worked f s h shoens w) ≡ worked f s k shoens (with_body w goal.priority cells)
-    states f reads s shoens p =
+    states f knows s shoens p =
         let c = candidate f in
-        let gs = inst.goals_are f reads c.clause (is f reads) in
-        let body : body_instance c.clause c.places (h.variables - 1) ≡ term_list f k cells = ap (λ ps. body_instance c.clause ps (h.variables - 1)) (sym (at f reads)) ∙ sym gs.terms in
+        let gs = body_is f knows in
+        let body : body_instance c.clause c.places (h.variables - 1) ≡ term_list f k cells = sym gs.terms in
         let agree : Agree h (meaning f h) (meaning f k) = λ x j. sym (gs.kept x j) in
-        let fresh : (h.variables - 1) + fresh_variables c.clause ≡ k.variables - 1 = let a = inst.variables in let b = (is f reads).fresh_variables in let d = i.some in omega arith in
+        let fresh : (h.variables - 1) + fresh_variables c.clause ≡ k.variables - 1 = let a = gs.variables in let d = i.some in omega arith in
         let added = goals_for w.last_goal w.shoen.number goal.priority cells in
         let all_goals : map (goal_with (meaning f h)) w.goals ++ goals_from w.last_goal goal.shoen goal.priority (body_instance c.clause c.places (h.variables - 1)) ≡ map (goal_with (meaning f k)) (w.goals ++ added) =
         ap (λ (xs : List model.Goal). xs ++ goals_from w.last_goal goal.shoen goal.priority (body_instance c.clause c.places (h.variables - 1))) (same_goals h (meaning f h) (meaning f k) agree w.goals i.goals)
@@ -91,9 +87,9 @@ commit_turns h k w goal names compiled places cells candidate i g own inst is at
 abbrev pub ended : Made → Made
 ended w = record { goals = without_monitor w.shoen.number w.goals; shoen = record w.shoen { life = Terminated }; last_goal = w.last_goal }
 
-pub ended_turns : (h : Held CellName) (w : Made) → IsMadeIn h w →
-    Turns (λ f s. model_report.without_monitor w.shoen.number (change_shoen w.shoen.number (λ x. record x { life = model.terminated }) s)) h h w (ended w)
-ended_turns h w i =
+pub ended_turns : (ms : List Numbered) (h : Held CellName) (w : Made) → IsMadeIn h w →
+    Turns ms (λ f s. model_report.without_monitor w.shoen.number (change_shoen w.shoen.number (λ x. record x { life = model.terminated }) s)) h h w (ended w)
+ended_turns ms h w i =
     let j = i.shoen in
     record {
       inside = record {
@@ -111,15 +107,15 @@ ended_turns h w i =
           (monitors_read (meaning f h) w.shoen.number w.goals);
     }
 
-pub terminate_turns : (h k l : Held CellName) (w x : Made) → IsMadeIn h w → Grown h k →
-    Turns (λ f. report (ended w).shoen.number (atom (codes "terminated"))) h k (ended w) x → (IsMadeIn k x → Turns (λ f. close x.shoen.number) k l x x) → Turns (λ f. terminate w.shoen.number) h l w x
-terminate_turns h k l w x i g reporting closing =
-    let first = ended_turns h w i in
+pub terminate_turns : (ms : List Numbered) (h k l : Held CellName) (w x : Made) → IsMadeIn h w → Grown h k →
+    Turns ms (λ f. report (ended w).shoen.number (atom (codes "terminated"))) h k (ended w) x → (IsMadeIn k x → Turns ms (λ f. close x.shoen.number) k l x x) → Turns ms (λ f. terminate w.shoen.number) h l w x
+terminate_turns ms h k l w x i g reporting closing =
+    let first = ended_turns ms h w i in
     let third = closing reporting.inside in
     let same : x.shoen.number ≡ w.shoen.number = reporting.number in
-    let three : Turns (λ f. close w.shoen.number) k l x x = turns_as (λ f. close x.shoen.number) (λ f. close w.shoen.number) k l x x (λ f reads s shoens p. ap (λ n. close n (worked f s k shoens x)) (sym same)) third in
-    turns_then (λ f s. report w.shoen.number (atom (codes "terminated")) (model_report.without_monitor w.shoen.number (change_shoen w.shoen.number (λ y. record y { life = model.terminated }) s))) (λ f. close w.shoen.number) h k l w x x g
-    (turns_then (λ f s. model_report.without_monitor w.shoen.number (change_shoen w.shoen.number (λ y. record y { life = model.terminated }) s)) (λ f. report w.shoen.number (atom (codes "terminated"))) h h k w (ended w) x (Grown-same h) first reporting) three
+    let three : Turns ms (λ f. close w.shoen.number) k l x x = turns_as ms (λ f. close x.shoen.number) (λ f. close w.shoen.number) k l x x (λ f reads s shoens p. ap (λ n. close n (worked f s k shoens x)) (sym same)) third in
+    turns_then ms (λ f s. report w.shoen.number (atom (codes "terminated")) (model_report.without_monitor w.shoen.number (change_shoen w.shoen.number (λ y. record y { life = model.terminated }) s))) (λ f. close w.shoen.number) h k l w x x g
+    (turns_then ms (λ f s. model_report.without_monitor w.shoen.number (change_shoen w.shoen.number (λ y. record y { life = model.terminated }) s)) (λ f. report w.shoen.number (atom (codes "terminated"))) h h k w (ended w) x (Grown-same h) first reporting) three
 
 -- ---- a shoen that is looked at
 
@@ -130,22 +126,22 @@ settles_as f s h shoens w p =
     ap (λ o. settle_of o w.shoen.number S) (finds s (meaning f h) (h.variables - 1) h shoens w p)
     ∙ ap (λ b. if is_living (life_of w.shoen.life) && not b then terminate w.shoen.number S else S) (has_goal_read (meaning f h) w.shoen.number w.goals)
 
-stays : (h : Held CellName) (w : Made) → IsMadeIn h w → (is_living (life_of w.shoen.life) && not (list_any (is_goal_of w.shoen.number) w.goals)) ≡ false → Turns (λ f. settle w.shoen.number) h h w w
-stays h w i e = record {
+stays : (ms : List Numbered) (h : Held CellName) (w : Made) → IsMadeIn h w → (is_living (life_of w.shoen.life) && not (list_any (is_goal_of w.shoen.number) w.goals)) ≡ false → Turns ms (λ f. settle w.shoen.number) h h w w
+stays ms h w i e = record {
   inside = i;
   number = refl;
   owned = λ count lt o. o;
   states = λ f reads s shoens p. settles_as f s h shoens w p ∙ ap (λ b. if b then terminate w.shoen.number (worked f s h shoens w) else worked f s h shoens w) e;
 }
 
-pub ended_stays : (h : Held CellName) (w : Made) → IsMadeIn h w → w.shoen.life ≡ Terminated → Turns (λ f. settle w.shoen.number) h h w w
-ended_stays h w i e = stays h w i (ap (λ l. is_living (life_of l) && not (list_any (is_goal_of w.shoen.number) w.goals)) e)
+pub ended_stays : (ms : List Numbered) (h : Held CellName) (w : Made) → IsMadeIn h w → w.shoen.life ≡ Terminated → Turns ms (λ f. settle w.shoen.number) h h w w
+ended_stays ms h w i e = stays ms h w i (ap (λ l. is_living (life_of l) && not (list_any (is_goal_of w.shoen.number) w.goals)) e)
 
-pub busy_stays : (h : Held CellName) (w : Made) → IsMadeIn h w → w.shoen.life ≡ Living → list_any (is_goal_of w.shoen.number) w.goals ≡ true → Turns (λ f. settle w.shoen.number) h h w w
-busy_stays h w i e b = stays h w i (ap (λ l. is_living (life_of l) && not (list_any (is_goal_of w.shoen.number) w.goals)) e ∙ ap (λ c. not c) b)
+pub busy_stays : (ms : List Numbered) (h : Held CellName) (w : Made) → IsMadeIn h w → w.shoen.life ≡ Living → list_any (is_goal_of w.shoen.number) w.goals ≡ true → Turns ms (λ f. settle w.shoen.number) h h w w
+busy_stays ms h w i e b = stays ms h w i (ap (λ l. is_living (life_of l) && not (list_any (is_goal_of w.shoen.number) w.goals)) e ∙ ap (λ c. not c) b)
 
-pub settle_terminates : (h k : Held CellName) (w v : Made) → w.shoen.life ≡ Living → list_any (is_goal_of w.shoen.number) w.goals ≡ false → Turns (λ f. terminate w.shoen.number) h k w v → Turns (λ f. settle w.shoen.number) h k w v
-settle_terminates h k w v e b t = record {
+pub settle_terminates : (ms : List Numbered) (h k : Held CellName) (w v : Made) → w.shoen.life ≡ Living → list_any (is_goal_of w.shoen.number) w.goals ≡ false → Turns ms (λ f. terminate w.shoen.number) h k w v → Turns ms (λ f. settle w.shoen.number) h k w v
+settle_terminates ms h k w v e b t = record {
   inside = t.inside;
   number = t.number;
   owned = t.owned;
@@ -157,8 +153,8 @@ settle_terminates h k w v e b t = record {
 }
 
 -- what a goal does, and then the look at its shoen
-pub reduced_turns : (change : Reading → State → State) (h k l : Held CellName) (w v x : Made) (n : ℕ) → n ≡ w.shoen.number → Grown h k → Turns change h k w v → (IsMadeIn k v → Turns (λ f. settle v.shoen.number) k l v x) → Turns (λ f s. settle n (change f s)) h l w x
-reduced_turns change h k l w v x n e g t next =
+pub reduced_turns : (ms : List Numbered) (change : Reading → State → State) (h k l : Held CellName) (w v x : Made) (n : ℕ) → n ≡ w.shoen.number → Grown h k → Turns ms change h k w v → (IsMadeIn k v → Turns ms (λ f. settle v.shoen.number) k l v x) → Turns ms (λ f s. settle n (change f s)) h l w x
+reduced_turns ms change h k l w v x n e g t next =
     let s = next t.inside in
     let same : v.shoen.number ≡ n = let c = t.number in omega arith in
-    turns_then change (λ f. settle n) h k l w v x g t (turns_as (λ f. settle v.shoen.number) (λ f. settle n) k l v x (λ f reads z shoens p. ap (λ q. settle q (worked f z k shoens v)) (sym same)) s)
+    turns_then ms change (λ f. settle n) h k l w v x g t (turns_as ms (λ f. settle v.shoen.number) (λ f. settle n) k l v x (λ f reads z shoens p. ap (λ q. settle q (worked f z k shoens v)) (sym same)) s)

@@ -22,10 +22,11 @@ use Rattle.kl1_stream.specs.Exceptions.{IsException}
 use Rattle.kl1_shoen.specs.declared.shoen.Shoen.{Shoen}
 use Rattle.kl1_goals.specs.declared.goal.Goal.{Goal}
 use Rattle.kl1_account.specs.declared.draft.Draft.{Draft}
+use Rattle.kl1_modules.specs.Numbered.{Numbered}
 use Rattle.kl1_account.specs.Fitting.{Reading, built}
 use Rattle.kl1_account.specs.Account.{Means, meaning}
 use Rattle.kl1_account.specs.Drafts.{made_of, Drafts}
-use Rattle.kl1_account.specs.Works.{Made, with_shoen, worked, IsMadeIn, HasNumber, Turns, after_report}
+use Rattle.kl1_account.specs.Works.{Made, with_shoen, worked, IsMadeIn, HasNumber, Knows, Turns, after_report}
 use Rattle.kl1_account.proofs.States.{Agree, same_state, replaced_state, all_replaced, goals_grown, shoen_grown, shoens_set}
 use Rattle.kl1_account.proofs.Works.{read_as, finds, rereads, turns_then, turns_as, report_turns}
 
@@ -35,11 +36,11 @@ made_grown h k w g i = let a = i.some in let b = g.variables in record { some = 
 
 -- ---- reports
 
-pub drafts_report : (h k : Held CellName) (d : Draft) (m : Cell CellName) (told : Told) → Grown h k → ToldAs built h k d.shoen.tail d.shoen.is_broken m told → (goals : List (Goal CellName)) →
-    Drafts (λ f. report d.shoen.number (meaning f h m)) h k goals d (record d { shoen = after_report d.shoen told })
-drafts_report h k d m Dropped g t goals = λ i. report_turns h k (made_of goals d) m Dropped g i t
-drafts_report h k d m Broken g t goals = λ i. report_turns h k (made_of goals d) m Broken g i t
-drafts_report h k d m (Sent next) g t goals = λ i. report_turns h k (made_of goals d) m (Sent next) g i t
+pub drafts_report : (ms : List Numbered) (h k : Held CellName) (d : Draft) (m : Cell CellName) (told : Told) → Grown h k → ToldAs built h k d.shoen.tail d.shoen.is_broken m told → (goals : List (Goal CellName)) →
+    Drafts ms (λ f. report d.shoen.number (meaning f h m)) h k goals d (record d { shoen = after_report d.shoen told })
+drafts_report ms h k d m Dropped g t goals = λ i. report_turns ms h k (made_of goals d) m Dropped g i t
+drafts_report ms h k d m Broken g t goals = λ i. report_turns ms h k (made_of goals d) m Broken g i t
+drafts_report ms h k d m (Sent next) g t goals = λ i. report_turns ms h k (made_of goals d) m (Sent next) g i t
 
 -- ---- the end of a stream
 
@@ -58,21 +59,21 @@ closes_by : (f : Reading) (h k : Held CellName) (s : State) (shoens : List (Shoe
 closes_by f h k s shoens w true reads i p same broken whole = ap (λ (x : Held CellName). worked f s x shoens w) (sym (broken refl))
 closes_by f h k s shoens w false reads i p same broken whole = ends_at f h k s shoens w (meaning f h w.shoen.tail) i p same (whole refl)
 
-pub closed_turns : (h k : Held CellName) (w : Made) → Grown h k → IsMadeIn h w → ClosedAs built h k w.shoen.tail w.shoen.is_broken → Turns (λ f. close w.shoen.number) h k w w
-closed_turns h k w g i c = record {
+pub closed_turns : (ms : List Numbered) (h k : Held CellName) (w : Made) → Grown h k → IsMadeIn h w → ClosedAs built h k w.shoen.tail w.shoen.is_broken → Turns ms (λ f. close w.shoen.number) h k w w
+closed_turns ms h k w g i c = record {
   inside = made_grown h k w g i;
   number = refl;
   owned = λ count lt o. o;
   states = λ f reads s shoens p.
       ap (λ o. close_of o (worked f s h shoens w)) (finds s (meaning f h) (h.variables - 1) h shoens w p)
-      ∙ closes_by f h k s shoens w w.shoen.is_broken reads i p c.variables c.broken (λ e. c.whole e f reads);
+      ∙ closes_by f h k s shoens w w.shoen.is_broken reads.reads i p c.variables c.broken (λ e. c.whole e f reads.reads);
 }
 
 -- ---- exceptions
 
 -- a store that has grown by cells that nothing stands for
-pub grown_turns : (h k : Held CellName) (w : Made) → Grown h k → k.variables ≡ h.variables → ((f : Reading) (x : Cell CellName) → IsIn h x → meaning f k x ≡ meaning f h x) → IsMadeIn h w → Turns (λ f s. s) h k w w
-grown_turns h k w g same others i = record {
+pub grown_turns : (ms : List Numbered) (h k : Held CellName) (w : Made) → Grown h k → k.variables ≡ h.variables → ((f : Reading) (x : Cell CellName) → IsIn h x → meaning f k x ≡ meaning f h x) → IsMadeIn h w → Turns ms (λ f s. s) h k w w
+grown_turns ms h k w g same others i = record {
   inside = made_grown h k w g i;
   number = refl;
   owned = λ count lt o. o;
@@ -81,33 +82,33 @@ grown_turns h k w g same others i = record {
       ∙ ap (λ n. read_as s (meaning f k) (n - 1) shoens w) (sym same);
 }
 
-pub raised_turns : (h full k : Held CellName) (w v : Made) (goal message : Cell CellName) → Grown h full → IsException built h full Failure goal message → IsMadeIn h w →
-    (IsMadeIn full w → Turns (λ f. report w.shoen.number (meaning f full message)) full k w v) → Turns (λ f. report w.shoen.number (exception failure (meaning f h goal))) h k w v
-raised_turns h full k w v goal message g e i next =
-    let first = grown_turns h full w g e.variables e.others i in
-    turns_as (λ f. report w.shoen.number (meaning f full message)) (λ f. report w.shoen.number (exception failure (meaning f h goal))) h k w v
-    (λ f reads s shoens p. ap (λ t. report w.shoen.number t (worked f s h shoens w)) (sym (e.means f reads)))
-    (turns_then (λ f s. s) (λ f. report w.shoen.number (meaning f full message)) h full k w w v g first (next first.inside))
+pub raised_turns : (ms : List Numbered) (h full k : Held CellName) (w v : Made) (goal message : Cell CellName) → Grown h full → IsException built h full Failure goal message → IsMadeIn h w →
+    (IsMadeIn full w → Turns ms (λ f. report w.shoen.number (meaning f full message)) full k w v) → Turns ms (λ f. report w.shoen.number (exception failure (meaning f h goal))) h k w v
+raised_turns ms h full k w v goal message g e i next =
+    let first = grown_turns ms h full w g e.variables e.others i in
+    turns_as ms (λ f. report w.shoen.number (meaning f full message)) (λ f. report w.shoen.number (exception failure (meaning f h goal))) h k w v
+    (λ f reads s shoens p. ap (λ t. report w.shoen.number t (worked f s h shoens w)) (sym (e.means f reads.reads)))
+    (turns_then ms (λ f s. s) (λ f. report w.shoen.number (meaning f full message)) h full k w w v g first (next first.inside))
 
 -- ---- unifications
 
-pub solved_turns : (h k : Held CellName) (w : Made) (goal left right : Cell CellName) → IsMadeIn h w → UnifiesAs built h k left right Bound →
-    Turns (λ f s. unified w.shoen.number (meaning f h goal) (solve (equation (meaning f h left) (meaning f h right))) s) h k w w
-solved_turns h k w goal left right i u = record {
+pub solved_turns : (ms : List Numbered) (h k : Held CellName) (w : Made) (goal left right : Cell CellName) → IsMadeIn h w → UnifiesAs built h k left right Bound →
+    Turns ms (λ f s. unified w.shoen.number (meaning f h goal) (solve (equation (meaning f h left) (meaning f h right))) s) h k w w
+solved_turns ms h k w goal left right i u = record {
   inside = made_grown h k w u.1 i;
   number = refl;
   owned = λ count lt o. o;
   states = λ f reads s shoens p.
-      let solved = u.0 f reads in
+      let solved = u.0 f reads.reads in
       ap (λ o. unified w.shoen.number (meaning f h goal) o (worked f s h shoens w)) solved.solves
       ∙ all_replaced solved.replacements (record s { last_goal = w.last_goal }) (meaning f h) (h.variables - 1) w.goals (with_shoen shoens w.shoen)
       ∙ rereads s (λ x. replaced solved.replacements (meaning f h x)) (meaning f k) (h.variables - 1) h shoens w (λ x j. sym (solved.everywhere x)) i p
       ∙ ap (λ n. read_as s (meaning f k) (n - 1) shoens w) (sym u.2);
 }
 
-pub clash_turns : (h mid k : Held CellName) (w v : Made) (goal left right : Cell CellName) → UnifiesAs built h mid left right Clash → Turns (λ f. report w.shoen.number (exception failure (meaning f mid goal))) mid k w v →
-    Turns (λ f s. unified w.shoen.number (meaning f h goal) (solve (equation (meaning f h left) (meaning f h right))) s) h k w v
-clash_turns h mid k w v goal left right u t =
-    let P : Held CellName → Type 0 = λ x. Turns (λ f. report w.shoen.number (exception failure (meaning f x goal))) x k w v in
-    turns_as (λ f. report w.shoen.number (exception failure (meaning f h goal))) (λ f s. unified w.shoen.number (meaning f h goal) (solve (equation (meaning f h left) (meaning f h right))) s) h k w v
-    (λ f reads s shoens p. ap (λ o. unified w.shoen.number (meaning f h goal) o (worked f s h shoens w)) (u.0 f reads)) (subst P u.1 t)
+pub clash_turns : (ms : List Numbered) (h mid k : Held CellName) (w v : Made) (goal left right : Cell CellName) → UnifiesAs built h mid left right Clash → Turns ms (λ f. report w.shoen.number (exception failure (meaning f mid goal))) mid k w v →
+    Turns ms (λ f s. unified w.shoen.number (meaning f h goal) (solve (equation (meaning f h left) (meaning f h right))) s) h k w v
+clash_turns ms h mid k w v goal left right u t =
+    let P : Held CellName → Type 0 = λ x. Turns ms (λ f. report w.shoen.number (exception failure (meaning f x goal))) x k w v in
+    turns_as ms (λ f. report w.shoen.number (exception failure (meaning f h goal))) (λ f s. unified w.shoen.number (meaning f h goal) (solve (equation (meaning f h left) (meaning f h right))) s) h k w v
+    (λ f reads s shoens p. ap (λ o. unified w.shoen.number (meaning f h goal) o (worked f s h shoens w)) (u.0 f reads.reads)) (subst P u.1 t)

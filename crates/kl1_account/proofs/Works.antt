@@ -18,10 +18,11 @@ use Rattle.kl1_stream.specs.declared.told.Told.TheVariants.{Dropped, Broken, Sen
 use Rattle.kl1_stream.specs.Reports.{Breaks, ToldAs}
 use Rattle.kl1_shoen.specs.declared.shoen.Shoen.{Shoen}
 use Rattle.kl1_goals.specs.declared.goal.Goal.{Goal}
+use Rattle.kl1_modules.specs.Numbered.{Numbered}
 use Rattle.kl1_account.specs.Fitting.{Reading, built}
 use Rattle.kl1_account.specs.Account.{Means, meaning, shoen_with, state_with}
 use Rattle.kl1_account.specs.Kept.{AreGoalsIn, AreUpTo, IsShoenIn}
-use Rattle.kl1_account.specs.Works.{Made, with_shoen, worked, IsMadeIn, HasNumber, Turns, after_report}
+use Rattle.kl1_account.specs.Works.{Made, with_shoen, worked, IsMadeIn, HasNumber, Knows, Turns, after_report}
 use Rattle.kl1_account.proofs.States.{Agree, same_state, replaced_state, found_at, changed_at, goals_grown, shoen_grown, shoens_grown, shoens_set}
 
 -- ---- changes one after another
@@ -32,16 +33,16 @@ number_grown h k shoens m n g e p =
     let b = p.there in
     record { inside = shoens_grown h k g shoens p.inside; numbered = p.numbered; from_one = omega arith; there = omega arith }
 
-pub turns_then : (f g : Reading → State → State) (h k l : Held CellName) (a b c : Made) → Grown h k → Turns f h k a b → Turns g k l b c → Turns (λ r s. g r (f r s)) h l a c
-turns_then f g h k l a b c up p q = record {
+pub turns_then : (ms : List Numbered) (f g : Reading → State → State) (h k l : Held CellName) (a b c : Made) → Grown h k → Turns ms f h k a b → Turns ms g k l b c → Turns ms (λ r s. g r (f r s)) h l a c
+turns_then ms f g h k l a b c up p q = record {
   inside = q.inside;
   number = q.number ∙ p.number;
   owned = λ count lt o. let e = p.number in q.owned count (omega arith) (p.owned count lt o);
   states = λ r reads s shoens there. ap (g r) (p.states r reads s shoens there) ∙ q.states r reads s shoens (number_grown h k shoens a.shoen.number b.shoen.number up p.number there);
 }
 
-pub turns_as : (f g : Reading → State → State) (h k : Held CellName) (a b : Made) → ((r : Reading) → Reads built r → (s : State) (shoens : List (Shoen CellName)) → HasNumber h shoens a.shoen.number → g r (worked r s h shoens a) ≡ f r (worked r s h shoens a)) → Turns f h k a b → Turns g h k a b
-turns_as f g h k a b e p = record { inside = p.inside; number = p.number; owned = p.owned; states = λ r reads s shoens there. e r reads s shoens there ∙ p.states r reads s shoens there }
+pub turns_as : (ms : List Numbered) (f g : Reading → State → State) (h k : Held CellName) (a b : Made) → ((r : Reading) → Knows ms r → (s : State) (shoens : List (Shoen CellName)) → HasNumber h shoens a.shoen.number → g r (worked r s h shoens a) ≡ f r (worked r s h shoens a)) → Turns ms f h k a b → Turns ms g h k a b
+turns_as ms f g h k a b e p = record { inside = p.inside; number = p.number; owned = p.owned; states = λ r reads s shoens there. e r reads s shoens there ∙ p.states r reads s shoens there }
 
 -- ---- the shoen at work
 
@@ -134,9 +135,9 @@ after_in h k s m Broken g i d = let j = shoen_grown h k g s i in record { contro
 after_in h k s m (Sent next) g i d = let j = shoen_grown h k g s i in record { control = j.control; tail = next_in h k next d.sent.next_is d.sent.variables; origin = j.origin }
 
 -- a report turns the state as the definitions' does
-pub report_turns : (h k : Held CellName) (w : Made) (m : Cell CellName) (told : Told) → Grown h k → IsMadeIn h w → ToldAs built h k w.shoen.tail w.shoen.is_broken m told →
-    Turns (λ f. report w.shoen.number (meaning f h m)) h k w (record w { shoen = after_report w.shoen told })
-report_turns h k w m told g i d =
+pub report_turns : (ms : List Numbered) (h k : Held CellName) (w : Made) (m : Cell CellName) (told : Told) → Grown h k → IsMadeIn h w → ToldAs built h k w.shoen.tail w.shoen.is_broken m told →
+    Turns ms (λ f. report w.shoen.number (meaning f h m)) h k w (record w { shoen = after_report w.shoen told })
+report_turns ms h k w m told g i d =
     let n = same_number w.shoen told in
     let a = i.some in
     let b = g.variables in
@@ -145,5 +146,5 @@ report_turns h k w m told g i d =
       inside = record { some = omega arith; goals = goals_grown h k g w.goals i.goals; shoen = after_in h k w.shoen m told g i.shoen d; number = omega arith; last = i.last };
       number = n;
       owned = λ count lt o. o;
-      states = report_states h k w m told i d;
+      states = λ f knows s shoens p. report_states h k w m told i d f knows.reads s shoens p;
     }

@@ -7,6 +7,7 @@ use Rattle.kl1_store.specs.Held.{Held}
 use Rattle.kl1_goals.specs.declared.task.Task.TheVariants.{Reduces}
 use Rattle.kl1_goals.specs.declared.goal.Goal.{Goal}
 use Rattle.kl1_goals.specs.Lists.{is_other, is_monitor_of}
+use Rattle.kl1_modules.specs.Numbered.{Numbered}
 use Rattle.kl1_account.specs.declared.draft.Draft.{Draft}
 use Rattle.kl1_account.specs.declared.draft.Change.{Change}
 use Rattle.kl1_account.specs.Fitting.{Reading}
@@ -35,12 +36,12 @@ abbrev pub made_of : List (Goal CellName) → Draft → Made
 made_of goals d = record { goals = goals_left goals d ++ goals_added d; shoen = d.shoen; last_goal = d.last_goal + length d.cells.items }
 
 -- a draft has come on by this change of states, for an account with these goals
-abbrev pub Drafts : (Reading → State → State) → Held CellName → Held CellName → List (Goal CellName) → Draft → Draft → Type 0
-Drafts change old new goals before after = IsMadeIn old (made_of goals before) → Turns change old new (made_of goals before) (made_of goals after)
+abbrev pub Drafts : List Numbered → (Reading → State → State) → Held CellName → Held CellName → List (Goal CellName) → Draft → Draft → Type 0
+Drafts ms change old new goals before after = IsMadeIn old (made_of goals before) → Turns ms change old new (made_of goals before) (made_of goals after)
 
 -- a draft has come on by this change of states, whatever goals the account has
 abbrev pub DraftsAll : (Reading → State → State) → Held CellName → Held CellName → Draft → Draft → Type 0
-DraftsAll change old new before after = (goals : List (Goal CellName)) → Drafts change old new goals before after
+DraftsAll change old new before after = (ms : List Numbered) (goals : List (Goal CellName)) → Drafts ms change old new goals before after
 
 -- a goal with a clause by which it can step, where it has the number of a change
 abbrev pub restood_by : Change → Goal CellName → Goal CellName

@@ -9,6 +9,7 @@ use Rattle.kl1_store.specs.declared.cell.Cell.TheVariants.{Variable}
 use Rattle.kl1_stream.specs.declared.told.Told.{Told}
 use Rattle.kl1_stream.specs.declared.told.Told.TheVariants.{Dropped, Broken, Sent}
 use Rattle.kl1_shoen.specs.declared.shoen.Shoen.{Shoen}
+use Rattle.kl1_modules.specs.Numbered.{Numbered, AreRead}
 use Rattle.kl1_account.specs.Fitting.{Reading, built}
 use Rattle.kl1_account.specs.Account.{with_kept}
 use Rattle.kl1_account.specs.Kept.{AreGoalsIn, AreOwned, AreUpTo, IsShoenIn, AreShoensIn, AreNumbered}
@@ -42,12 +43,17 @@ pub record HasNumber (h : Held CellName) (shoens : List (Shoen CellName)) (numbe
   pub from_one : 0 < number
   pub there : number < suc (length shoens)
 
--- what is made has come on by this change of states, for each reading
-pub record Turns (change : Reading → State → State) (old new : Held CellName) (before after : Made) : Type 0 where
+-- a reading that reads the names of the language, and the numbers of each of these modules as its names
+pub record Knows (ms : List Numbered) (f : Reading) : Type 0 where
+  pub reads : Reads built f
+  pub rows : AreRead f ms
+
+-- what is made has come on by this change of states, for each reading that knows these modules
+pub record Turns (ms : List Numbered) (change : Reading → State → State) (old new : Held CellName) (before after : Made) : Type 0 where
   pub inside : IsMadeIn new after
   pub number : after.shoen.number ≡ before.shoen.number
   pub owned : (count : ℕ) → before.shoen.number < suc count → AreOwned count before.goals → AreOwned count after.goals
-  pub states : (f : Reading) → Reads built f → (s : State) (shoens : List (Shoen CellName)) → HasNumber old shoens before.shoen.number →
+  pub states : (f : Reading) → Knows ms f → (s : State) (shoens : List (Shoen CellName)) → HasNumber old shoens before.shoen.number →
       change f (worked f s old shoens before) ≡ worked f s new shoens after
 
 -- a shoen after its report
