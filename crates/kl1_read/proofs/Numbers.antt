@@ -1,5 +1,5 @@
 -- What holds of the numbers that digits write.
-use Rattle.std.proofs.Common.{◌≡◌, ℕ, ◌+◌, ◌-◌, ◌*◌, ◌^◌, ◌<◌, ◌≤◌, nat_le, List, [], ◌∷◌, Option, None, Some, if◌then◌else◌, length, get_or, fold, arith}
+use Rattle.std.proofs.Common.{◌≡◌, ℕ, ◌+◌, ◌-◌, ◌*◌, ◌<◌, ◌≤◌, nat_le, List, [], ◌∷◌, Option, None, Some, if◌then◌else◌, length, get_or, fold, arith}
 use Rattle.std.proofs.lemmas.Bool.{lt-leb}
 use Rattle.kl1_model.specs.Limits.{number_limit}
 use Rattle.kl1_model.specs.Token.{number_of}

@@ -1,4 +1,4 @@
-use Rattle.std.proofs.Common.{◌≡◌, ◌≤◌, ◌^◌, length}
+use Rattle.std.proofs.Common.{◌≡◌, ◌≤◌, length}
 use Rattle.kl1_model.specs.Limits.{number_limit}
 use Rattle.kl1_model.specs.Token.{number_of}
 use Rattle.kl1_read.proofs.Numbers.{number_from}
