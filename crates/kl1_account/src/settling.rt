@@ -1,9 +1,10 @@
 // Shoens that terminate.
 
-ghost use Rattle.std.specs.Prelude.{◌≡◌, false, OnOk};
+ghost use Rattle.std.specs.Prelude.{◌≡◌, false, List, OnOk};
 ghost use Rattle.kl1_model.specs.Report.{settle, terminate};
 ghost use Rattle.kl1_store.specs.Sound.{Grown};
 ghost use Rattle.kl1_account.specs.Kept.{IsShoenIn};
+ghost use Rattle.kl1_modules.specs.Numbered.{Numbered};
 ghost use Rattle.kl1_account.specs.Drafts.{Drafts, DraftsAll};
 
 use crate::draft::Draft;
@@ -41,7 +42,7 @@ pub fn settle(
 ) -> Result<(), AllocError>
     requires shoen { IsShoenIn store.old.held draft.old.shoen }
     requires living { draft.old.is_ending ≡ false }
-    ensures ok { OnOk result (Drafts (λ f. settle draft.old.shoen.number) store.old.held store.new.held goals.now.goals draft.old draft.new) }
+    ensures ok { OnOk result ((ms : List Numbered) → Drafts ms (λ f. settle draft.old.shoen.number) store.old.held store.new.held goals.now.goals draft.old draft.new) }
     ensures grown { Grown store.old.held store.new.held }
     ensures hooks { store.new.hooks ≡ store.old.hooks }
 {

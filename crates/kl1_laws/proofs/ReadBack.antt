@@ -1,5 +1,5 @@
 -- The print of a term reads as that term.
-use Rattle.std.specs.Prelude.{◌≡◌, ℕ, ◌^◌, ◌<◌, nat_le, nat_lt, ◌&&◌, true, if◌then◌else◌, List, [], ◌∷◌, map, Some, None, option_map}
+use Rattle.std.specs.Prelude.{◌≡◌, ℕ, ◌<◌, nat_le, nat_lt, ◌&&◌, true, if◌then◌else◌, List, [], ◌∷◌, map, Some, None, option_map}
 use Rattle.std.proofs.Common.{refl, ap, sym, ◌∙◌, arith}
 use Rattle.std.proofs.lemmas.Bool.{and_parts, and_from, ltb-true}
 use Rattle.std.proofs.lemmas.List.{append-nil}

@@ -1,5 +1,5 @@
 -- The reader without a count of steps.
-use Rattle.std.proofs.Common.{◌≡◌, ℕ, zero, suc, ◌<◌, ◌≤◌, ◌^◌, nat_lt, Bool, true, false, if◌then◌else◌, List, ◌∷◌, length, Option, Some, None, refl, ap, ◌∙◌, arith}
+use Rattle.std.proofs.Common.{◌≡◌, ℕ, zero, suc, ◌<◌, ◌≤◌, nat_lt, Bool, true, false, if◌then◌else◌, List, ◌∷◌, length, Option, Some, None, refl, ap, ◌∙◌, arith}
 use Rattle.kl1_model.specs.Limits.{number_limit}
 use Rattle.kl1_model.specs.declared.sign.Sign.TheVariants.{Colon, Equals, Bar, Comma, Open, Close, OpenList, CloseList}
 use Rattle.kl1_model.specs.Token.{name_token, variable_token, digits_token, minus_token, sign_token}

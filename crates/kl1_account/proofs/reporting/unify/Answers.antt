@@ -9,7 +9,7 @@ use Rattle.kl1_account.proofs.reporting.unify.Goals as goal
 
 pub returns-in-Bound-clause-ok : goal.returns-in-Bound-clause-ok
 returns-in-Bound-clause-ok c =
-    λ goals i. solved_turns c.args.store.now.held c.unify.new.self.held (made_of goals c.args.draft.now) c.args.goal c.args.left c.args.right i (rw c.in-Bound.is at c.in_ok-unify.ensures.ok)
+    λ ms goals i. solved_turns ms c.args.store.now.held c.unify.new.self.held (made_of goals c.args.draft.now) c.args.goal c.args.left c.args.right i (rw c.in-Bound.is at c.in_ok-unify.ensures.ok)
 
 pub returns-in-Clash-clause-ok : goal.returns-in-Clash-clause-ok
 returns-in-Clash-clause-ok c =
@@ -17,7 +17,7 @@ returns-in-Clash-clause-ok c =
     let mid = c.unify.new.self.held in
     let u = rw c.in-Clash.is at c.in_ok-unify.ensures.ok in
     on_ok_weaker c.raise.result
-    (λ ok goals i.
+    (λ ok ms goals i.
     let M : Held CellName → Type 0 = λ x. IsMadeIn x (made_of goals c.args.draft.now) in
-    clash_turns h mid c.raise.new.store.held (made_of goals c.args.draft.now) (made_of goals c.raise.new.draft) c.args.goal c.args.left c.args.right u (ok goals (subst M (sym u.1) i)))
+    clash_turns ms h mid c.raise.new.store.held (made_of goals c.args.draft.now) (made_of goals c.raise.new.draft) c.args.goal c.args.left c.args.right u (ok ms goals (subst M (sym u.1) i)))
     c.raise.ensures.ok
