@@ -3,6 +3,6 @@ pub mod Works
 pub mod Goals
 pub mod Reductions
 pub mod Streams
-pub mod Settling
+pub mod SettledStays
 pub mod Waking
 pub mod Ending

@@ -22,7 +22,7 @@ use Rattle.kl1_account.specs.Kept.{IsTaskIn, AreGoalsIn}
 use Rattle.kl1_account.specs.Drafts.{restood_by, goals_for}
 use Rattle.kl1_account.specs.Settled.{task_clause, awaited_by_task, HangsOnEach, IsSettled, AreSettled}
 use Rattle.kl1_account.specs.Waking.{IsPending, IsSettledOr, AreSettledOr, AreFor, AreAmong, is_among}
-use Rattle.kl1_account.proofs.Settling.{HangsOnNone, stays_settled, settled_more}
+use Rattle.kl1_account.proofs.SettledStays.{HangsOnNone, stays_settled, settled_more}
 
 -- ---- one goal is looked at again
 
