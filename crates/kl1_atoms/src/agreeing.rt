@@ -16,7 +16,7 @@ use std::mem;
 
 impl AtomTable {
     /// Whether one look-up, by a seat that speaks for both accounts, finds a text in the table. It does wherever one of the two
-    /// seats knows the text, and what both know it by is one number. It takes no memory and never waits.
+    /// seats knows the text, and what both know it by is one number.
     pub fn agree(&self, a: &mut AtomSeat, b: &mut AtomSeat, text: AtomText) -> bool
         requires a { IsSharedSeat self.now.table.shared.table_id a.old.badge.table_id self.now.accounts (face_in a.old.badge.views) a.old.account }
         requires b { IsSharedSeat self.now.table.shared.table_id b.old.badge.table_id self.now.accounts (face_in b.old.badge.views) b.old.account }

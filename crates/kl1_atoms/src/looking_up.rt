@@ -67,8 +67,7 @@ impl AtomTable {
         resting_seat(own, account)
     }
 
-    /// The number of a name, which the seat knows from then on. It takes no memory and never waits. A turn is a bucket that was
-    /// looked at.
+    /// The number of a name, which the seat knows from then on. A turn is a bucket that was looked at.
     pub fn intern(&self, seat: &mut AtomSeat, text: AtomText, turns: &mut Turns) -> AtomNo
         requires of { IsSharedSeat self.now.table.shared.table_id seat.old.badge.table_id self.now.accounts (face_in seat.old.badge.views) seat.old.account }
         requires room { HasRoom (face_in seat.old.badge.views).knows text }
@@ -104,7 +103,7 @@ impl AtomTable {
         words
     }
 
-    /// The name of a number that the seat knows. It takes no memory and never waits.
+    /// The name of a number that the seat knows.
     pub fn text_of(&self, seat: &mut AtomSeat, number: AtomNo) -> AtomText
         requires of { IsSharedSeat self.now.table.shared.table_id seat.old.badge.table_id self.now.accounts (face_in seat.old.badge.views) seat.old.account }
         requires known { IsSome (text_by (face_in seat.old.badge.views).knows number.number) }

@@ -15,3 +15,4 @@ pub use code_fault::CodeFault;
 pub use compiled_clause::CompiledClause;
 pub use instruction::Instruction;
 pub use name::Name;
+pub use predicate::Predicate;

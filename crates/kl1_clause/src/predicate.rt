@@ -10,6 +10,13 @@ use crate::compiled_clause::CompiledClause;
 use crate::name::Name;
 use kl1_text::AtomText;
 
+/// The clauses of one predicate, in order, and the names of their code as an account has them.
+#[derive(Clone, Copy)]
+pub struct Predicate<'a, N> {
+    pub names: &'a [N],
+    pub clauses: &'a [CompiledClause],
+}
+
 /// The first clause of a predicate, with those behind it.
 pub(crate) fn from_first<'a>(
     texts: &[AtomText],

@@ -1,5 +1,5 @@
 -- The goals of places, one of which changes.
-use Rattle.std.proofs.Common.{◌≡◌, ℕ, zero, suc, ◌+◌, ◌<◌, ◌≤◌, ◌==◌, ◌&&◌, Bool, true, false, not, cond, if◌then◌else◌, List, [], ◌∷◌, ◌++◌, Option, Some, None, length, get_or, set, drop, map, refl, sym, ◌∙◌, ap, subst, arith, inl, inr, add-one, eq-eqb, nat_lt}
+use Rattle.std.proofs.Common.{◌≡◌, ℕ, zero, suc, ◌+◌, ◌<◌, ◌≤◌, ◌==◌, ◌&&◌, Bool, true, false, cond, List, [], ◌∷◌, ◌++◌, Option, Some, None, length, get_or, set, drop, map, refl, sym, ◌∙◌, ap, subst, arith, add-one, eq-eqb, nat_lt}
 use Rattle.std.proofs.lemmas.Bool.{ne_eqb, lt-ltb, le-ltb}
 use Rattle.std.specs.List.{filter, find}
 use Rattle.std.proofs.lemmas.List.{get_or-map, map-set, set-get_or, get_or_default, length-map, map_push, length-set, length_push}
@@ -7,9 +7,9 @@ use Rattle.kl1_goals.specs.declared.goal.Goal.{Goal}
 use Rattle.kl1_goals.specs.declared.slot.Slot.{Slot}
 use Rattle.kl1_goals.specs.Lists.{is_other, has_number, is_after, stood_by, number_of}
 use Rattle.kl1_goals.specs.Tables.{Ascend, AreBefore}
-use Rattle.kl1_goals.specs.Slots.{goals_in, first_of, numbers_of, number_in, level_in, rank_in, AreLow, AreBelow, IsCut, IsPlace, IsAbsent, IsHeldAt, IsWithout, AreSlots, held_in, priority_in}
+use Rattle.kl1_goals.specs.Slots.{goals_in, first_of, numbers_of, number_in, level_in, rank_in, AreLow, AreBelow, IsCut, IsAbsent, IsHeldAt, IsWithout, AreSlots, held_in, priority_in}
 use Rattle.kl1_goals.specs.Readies.{stands}
-use Rattle.kl1_queue.specs.Ranks.{IsPriority, rank_of}
+use Rattle.kl1_queue.specs.Ranks.{IsPriority}
 use Rattle.kl1_goals.proofs.Orders.{ascend_from, ascend_push, low_push}
 
 -- a number that isn't another
@@ -36,6 +36,7 @@ field_kept f ss k s t w e same = map-set f ss k t ∙ ap (λ v. set (map f ss) k
 others_on : {N : Type 0} (n : ℕ) (b : Bool) (g : Goal N) (gs : List (Goal N)) → (g.number == n) ≡ false → filter (is_other n) gs ≡ gs → filter (is_other n) (cond b (g ∷ gs) gs) ≡ cond b (g ∷ gs) gs
 others_on n false g gs e h = h
 others_on n true g gs e h = rw (e, h) refl
+
 pub all_others : {N : Type 0} (n from : ℕ) (ss : List (Slot N)) → n < from → Ascend from (numbers_of ss) → filter (is_other n) (goals_in ss) ≡ goals_in ss
 all_others n from [] p a = refl
 all_others n from (s ∷ ss) p a = others_on n s.is_held s.goal (goals_in ss) (other_number s.goal.number n (λ e. omega (arith, a.0, e))) (all_others n (suc s.goal.number) ss (omega (arith, a.0)) a.1)
@@ -75,6 +76,7 @@ without_at from (t ∷ ss) (suc k) s a w e h =
 stay_on : {N : Type 0} (n : ℕ) (clause : Option ℕ) (b : Bool) (g : Goal N) (gs hs : List (Goal N)) → (g.number == n) ≡ false → map (stood_by n clause) gs ≡ hs → map (stood_by n clause) (cond b (g ∷ gs) gs) ≡ cond b (g ∷ hs) hs
 stay_on n clause false g gs hs e h = h
 stay_on n clause true g gs hs e h = rw (e, h) refl
+
 pub all_stay : {N : Type 0} (n from : ℕ) (clause : Option ℕ) (ss : List (Slot N)) → n < from → Ascend from (numbers_of ss) → map (stood_by n clause) (goals_in ss) ≡ goals_in ss
 all_stay n from clause [] p a = refl
 all_stay n from clause (s ∷ ss) p a = stay_on n clause s.is_held s.goal (goals_in ss) (goals_in ss) (other_number s.goal.number n (λ e. omega (arith, a.0, e))) (all_stay n (suc s.goal.number) clause ss (omega (arith, a.0)) a.1)
@@ -137,6 +139,7 @@ find_at from (t ∷ ss) (suc k) s a w e =
 first_on : {N : Type 0} (n : ℕ) (b : Bool) (g : Goal N) (gs : List (Goal N)) → nat_lt n g.number ≡ true → find (is_after n) gs ≡ first_of gs → find (is_after n) (cond b (g ∷ gs) gs) ≡ first_of (cond b (g ∷ gs) gs)
 first_on n false g gs e h = h
 first_on n true g gs e h = rw e refl
+
 find_first : {N : Type 0} (n from : ℕ) (ss : List (Slot N)) → n < from → Ascend from (numbers_of ss) → find (is_after n) (goals_in ss) ≡ first_of (goals_in ss)
 find_first n from [] p a = refl
 find_first n from (s ∷ ss) p a = first_on n s.is_held s.goal (goals_in ss) (lt-ltb n s.goal.number (omega (arith, a.0))) (find_first n (suc s.goal.number) ss (omega (arith, a.0)) a.1)

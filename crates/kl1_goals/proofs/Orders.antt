@@ -1,8 +1,8 @@
 -- Numbers in order.
-use Rattle.std.proofs.Common.{◌≡◌, ℕ, zero, suc, ◌+◌, ◌<◌, ◌≤◌, List, [], ◌∷◌, ◌++◌, length, get_or, refl, sym, ◌∙◌, ap, subst, arith, inl, inr}
+use Rattle.std.proofs.Common.{◌≡◌, ℕ, zero, suc, ◌+◌, ◌<◌, ◌≤◌, List, [], ◌∷◌, ◌++◌, length, get_or, arith, inl, inr}
 use Rattle.std.proofs.lemmas.Bool.{cases_lt, cases_eq}
 use Rattle.kl1_goals.specs.Tables.{Ascend}
-use Rattle.kl1_goals.specs.Slots.{AreBelow, AreLow, IsCut, IsPlace, IsAbsent}
+use Rattle.kl1_goals.specs.Slots.{AreBelow, AreLow, IsCut, IsAbsent}
 
 -- each number is at least where they begin
 pub ascend_from : (from : ℕ) (ns : List ℕ) (j : ℕ) → Ascend from ns → j < length ns → from ≤ get_or ns j 0
@@ -19,7 +19,7 @@ ascend_lt from (n ∷ ns) (suc j) (suc k) a p w = ascend_lt (suc n) ns j k a.1 (
 
 pub ascend_le : (from : ℕ) (ns : List ℕ) (j k : ℕ) → Ascend from ns → j ≤ k → k < length ns → get_or ns j 0 ≤ get_or ns k 0
 ascend_le from ns j k a p w = elim (cases_lt j k) [
-    inl b ↦ omega (arith, ascend_lt from ns j k a b w)
+  | inl b ↦ omega (arith, ascend_lt from ns j k a b w)
   | inr b ↦ let e : j ≡ k = omega arith in rw e (omega arith)
 ]
 
@@ -52,9 +52,9 @@ cut_absent ns n c j w e = omega (arith, c.high j (omega arith) w, e)
 -- the number at the cut is another
 pub cut_other : (ns : List ℕ) (n k count : ℕ) → Ascend 0 ns → IsCut ns n count → k + 1 ≡ count → (get_or ns k 0 ≡ n → ⊥) → IsAbsent ns n
 cut_other ns n k count a c s p j w e = elim (cases_lt k j) [
-    inl b ↦ omega (arith, c.high j (omega arith) w, e)
+  | inl b ↦ omega (arith, c.high j (omega arith) w, e)
   | inr b ↦ elim (cases_eq j k) [
-      inl f ↦ p (rw (← f) e)
+    | inl f ↦ p (rw (← f) e)
     | inr f ↦ omega (arith, ascend_lt 0 ns j k a (omega (arith, f)) (omega (arith, c.within)), c.low k (omega arith), e)
-    ]
+  ]
 ]

@@ -1,9 +1,9 @@
 -- What is kept of shoens, as goals come and go.
 use Rattle.std.proofs.Common.{◌≡◌, ℕ, zero, suc, ◌+◌, ◌-◌, ◌<◌, ◌≤◌, ◌==◌, ◌&&◌, ◌||◌, not, Bool, true, false, cond, nat_lt, List, [], ◌∷◌, ◌++◌, Option, Some, None, length, get_or, map, refl, sym, ◌∙◌, ap, subst, arith, inl, inr, eq-eqb}
-use Rattle.std.specs.List.{filter, find, list_any}
+use Rattle.std.specs.List.{filter, list_any}
 use Rattle.std.specs.Option.{option_to_list}
 use Rattle.std.proofs.lemmas.Bool.{false≢true, ne_eqb, lt-ltb, cases_lt, cases_eq, eqb-true}
-use Rattle.std.proofs.lemmas.List.{append-nil, length-map, length_push, map_push, nil_from_length, get_or_past}
+use Rattle.std.proofs.lemmas.List.{append-nil, length-map, length_push, nil_from_length, get_or_past}
 use Rattle.std.proofs.lemmas.List.Elements.{filter-append}
 use Rattle.kl1_goals.specs.declared.goal.Goal.{Goal}
 use Rattle.kl1_goals.specs.declared.tally.Tally.{Tally}
@@ -135,14 +135,16 @@ unknown_on g gs false f some h = omega (arith, some (is_goal_of g.shoen) (goal_t
 
 pub shoen_known : {N : Type 0} (g : Goal N) (gs : List (Goal N)) (ts : List Tally) → ((p : Goal N → Bool) → p g ≡ true → 0 < length (filter p gs)) → ((n : ℕ) → IsTally n gs (tally_at ts n)) → (0 < g.shoen) × (g.shoen ≤ length ts)
 shoen_known g gs ts some h =
-    let T : Tally → Type 0 = λ t. IsTally g.shoen gs t in
-    (elim (cases_lt 0 g.shoen) [
-        inl a ↦ a
-      | inr a ↦ let e : g.shoen ≡ 0 = omega arith in absurd (unknown_on g gs (is_monitor g) refl some (subst T (ap (tally_at ts) e) (h g.shoen)))
-    ], elim (cases_lt (length ts) g.shoen) [
-        inl a ↦ absurd (unknown_on g gs (is_monitor g) refl some (subst T (get_or_past (nothing ∷ ts) g.shoen nothing (omega arith)) (h g.shoen)))
-      | inr a ↦ a
-    ])
+    let T : Tally → Type 0 = λ t. IsTally g.shoen gs t in (
+      elim (cases_lt 0 g.shoen) [
+        | inl a ↦ a
+        | inr a ↦ let e : g.shoen ≡ 0 = omega arith in absurd (unknown_on g gs (is_monitor g) refl some (subst T (ap (tally_at ts) e) (h g.shoen)))
+      ],
+      elim (cases_lt (length ts) g.shoen) [
+        | inl a ↦ absurd (unknown_on g gs (is_monitor g) refl some (subst T (get_or_past (nothing ∷ ts) g.shoen nothing (omega arith)) (h g.shoen)))
+        | inr a ↦ a
+      ],
+    )
 
 -- goals without the one of a number, and goals that fail a test that it alone passes
 goals_others : {N : Type 0} (n from : ℕ) (gs : List (Goal N)) → n < from → Ascend from (map number_of gs) → filter (is_other n) gs ≡ gs
@@ -156,7 +158,6 @@ none_kept false g fs gs hs e h = ap (λ l. g ∷ l) (h e)
 pub none_fail : {N : Type 0} (p : Goal N → Bool) (gs : List (Goal N)) → map number_of (filter p gs) ≡ [] → filter (λ g. not (p g)) gs ≡ gs
 none_fail p [] e = refl
 none_fail p (g ∷ gs) e = none_kept (p g) g (filter p gs) gs (filter (λ g. not (p g)) gs) e (none_fail p gs)
-
 
 from_on : {N : Type 0} (b : Bool) (from n : ℕ) (g : Goal N) (fs : List (Goal N)) → from ≤ g.number → map number_of (cond b (g ∷ fs) fs) ≡ n ∷ [] → (map number_of fs ≡ n ∷ [] → suc g.number ≤ n) → from ≤ n
 from_on true from n g fs p e h = let k : g.number ≡ n = cc in omega (arith, k)

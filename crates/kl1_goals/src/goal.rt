@@ -1,9 +1,9 @@
 // Goals.
 
-use crate::task::Task;
-
 ghost use Rattle.std.specs.Prelude.{◌≡◌};
 ghost use Rattle.kl1_goals.specs.Lists.{is_monitor};
+
+use crate::task::Task;
 
 /// A goal: its number in the account, from 1, its task, the number of its shoen, its priority, 0 to 4,096, and the number of
 /// the clause by which it can step, as of the last change; none where it can't step.

@@ -2,6 +2,7 @@
 use Rattle.std.specs.Prelude.{◌≡◌, ℕ, zero, suc, ◌^◌, nat_lt, Bool, true, false, if◌then◌else◌, List, [], ◌∷◌, length, Option, Some, None}
 use Rattle.std.proofs.Common.{refl, ap, sym, ◌∙◌}
 use Rattle.std.proofs.lemmas.Option.{none-some, some_pair_parts}
+use Rattle.kl1_model.specs.Limits.{number_limit}
 use Rattle.kl1_model.specs.declared.sign.Sign.TheVariants.{Neck, Colon, Equals, Bar, Comma, Open, Close, OpenList, CloseList}
 use Rattle.kl1_model.specs.Token.{name_token, variable_token, digits_token, minus_token, sign_token}
 use Rattle.kl1_model.specs.Grammar.{Numbered, Relation, equality, relation_token, Expression, alone, related, Part, single, qualified, Primary, numbered, positive, negative, constant, call, empty_list, list, group, Series, last, another, Rest, closed, tail, Head, bare_head, head_with, ClauseTree, fact, rule, guarded, expression_tokens, part_tokens, primary_tokens, series_tokens, rest_tokens, head_tokens, clause_tokens}
@@ -134,7 +135,7 @@ module _ (inner : Inner) (sound : IsSound inner) where
 
   pub primary_sound : (ts : List Numbered) (p : Primary) (us : List Numbered) → primary_at inner ts ≡ Some (p, us) → primary_tokens p us ≡ ts
   primary_sound (variable_token v ∷ ts) p us h = answered primary_tokens (numbered v) p ts us h
-  primary_sound (digits_token n ∷ ts) p us h = positive_sound n ts (nat_lt n (2 ^ 63)) p us h
+  primary_sound (digits_token n ∷ ts) p us h = positive_sound n ts (nat_lt n number_limit) p us h
   primary_sound (minus_token true ∷ ts) p us h = negative_sound ts p us h
   primary_sound (name_token a quotes false ∷ ts) p us h = answered primary_tokens (constant a quotes) p ts us h
   primary_sound (name_token f quotes true ∷ ts) p us h = call_sound f quotes ts p us h

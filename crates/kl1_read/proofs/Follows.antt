@@ -2,6 +2,7 @@
 use Rattle.std.proofs.Common.{◌≡◌, ℕ, zero, suc, ◌+◌, ◌==◌, nat_lt, ◌&&◌, ◌||◌, not, Bool, true, false, List, [], ◌∷◌, length, map, get_or, bytes_eq, unwrap_or, option_map, refl, ap, sym, ◌∙◌, arith}
 use Rattle.std.specs.List.{list_any}
 use Rattle.std.proofs.lemmas.Bool.{and_left}
+use Rattle.kl1_model.specs.Limits.{most_clauses}
 use Rattle.kl1_model.specs.Term.{Term, terms_of, count_of}
 use Rattle.kl1_model.specs.Module.{is_of, last_of, may_follow}
 use Rattle.kl1_read.specs.declared.clause_parts.ClauseParts.{ClauseParts}
@@ -37,25 +38,25 @@ any_is : (name : List ℕ) (count : ℕ) (ps : List ClauseParts) → holds name 
 any_is name count [] = refl
 any_is name count (p ∷ ps) = ap (λ b. b || holds name count ps) (one_is name count p) ∙ ap (λ b. is_of name count (clause_of_parts p) || b) (any_is name count ps)
 
-follows : (before : List ClauseParts) (c : ClauseParts) (count : ℕ) → true ≡ nat_lt (length before) 512 → count ≡ length c.patterns.items → ends_with c.name count before || not (holds c.name count before) ≡ may_follow (map clause_of_parts before) (clause_of_parts c)
+follows : (before : List ClauseParts) (c : ClauseParts) (count : ℕ) → true ≡ nat_lt (length before) most_clauses → count ≡ length c.patterns.items → ends_with c.name count before || not (holds c.name count before) ≡ may_follow (map clause_of_parts before) (clause_of_parts c)
 follows before c count room n =
-    let few : nat_lt (length (map clause_of_parts before)) 512 ≡ true = ap (λ k. nat_lt k 512) (mapped before) ∙ sym room in
+    let few : nat_lt (length (map clause_of_parts before)) most_clauses ≡ true = ap (λ k. nat_lt k most_clauses) (mapped before) ∙ sym room in
     ap (λ k. ends_with c.name k before || not (holds c.name k before)) (n ∙ sym (count_is c.patterns.items))
     ∙ ap (λ b. b || not (holds c.name (count_of (terms_of c.patterns.items)) before)) (last_is c.name (count_of (terms_of c.patterns.items)) before)
     ∙ ap (λ b. unwrap_or (option_map (is_of c.name (count_of (terms_of c.patterns.items))) (last_of (map clause_of_parts before))) false || not b) (any_is c.name (count_of (terms_of c.patterns.items)) before)
     ∙ sym (ap (λ b. b && (unwrap_or (option_map (is_of c.name (count_of (terms_of c.patterns.items))) (last_of (map clause_of_parts before))) false || not (list_any (is_of c.name (count_of (terms_of c.patterns.items))) (map clause_of_parts before)))) few)
 
 -- the last clause before is one of the same predicate
-pub follows_last : (before : List ClauseParts) (c : ClauseParts) (count : ℕ) (e : Bool) → true ≡ nat_lt (length before) 512 → count ≡ length c.patterns.items → e ≡ ends_with c.name count before → e ≡ true → e ≡ may_follow (map clause_of_parts before) (clause_of_parts c)
+pub follows_last : (before : List ClauseParts) (c : ClauseParts) (count : ℕ) (e : Bool) → true ≡ nat_lt (length before) most_clauses → count ≡ length c.patterns.items → e ≡ ends_with c.name count before → e ≡ true → e ≡ may_follow (map clause_of_parts before) (clause_of_parts c)
 follows_last before c count e room n is so =
     so ∙ sym (ap (λ b. b || not (holds c.name count before)) (sym is ∙ so)) ∙ follows before c count room n
 
 -- the last clause before is of another predicate
-pub follows_others : (before : List ClauseParts) (c : ClauseParts) (count : ℕ) (h : Bool) → true ≡ nat_lt (length before) 512 → count ≡ length c.patterns.items → false ≡ ends_with c.name count before → h ≡ holds c.name count before → not h ≡ may_follow (map clause_of_parts before) (clause_of_parts c)
+pub follows_others : (before : List ClauseParts) (c : ClauseParts) (count : ℕ) (h : Bool) → true ≡ nat_lt (length before) most_clauses → count ≡ length c.patterns.items → false ≡ ends_with c.name count before → h ≡ holds c.name count before → not h ≡ may_follow (map clause_of_parts before) (clause_of_parts c)
 follows_others before c count h room n is k =
     ap not k ∙ ap (λ b. b || not (holds c.name count before)) is ∙ follows before c count room n
 
 -- there is no room
-pub no_room : (before : List ClauseParts) (c : ClauseParts) → false ≡ nat_lt (length before) 512 → false ≡ may_follow (map clause_of_parts before) (clause_of_parts c)
+pub no_room : (before : List ClauseParts) (c : ClauseParts) → false ≡ nat_lt (length before) most_clauses → false ≡ may_follow (map clause_of_parts before) (clause_of_parts c)
 no_room before c full =
-    sym (and_left (nat_lt (length (map clause_of_parts before)) 512) _ (ap (λ k. nat_lt k 512) (mapped before) ∙ sym full))
+    sym (and_left (nat_lt (length (map clause_of_parts before)) most_clauses) _ (ap (λ k. nat_lt k most_clauses) (mapped before) ∙ sym full))

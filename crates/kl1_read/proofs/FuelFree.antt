@@ -1,5 +1,6 @@
 -- The reader without a count of steps.
-use Rattle.std.proofs.Common.{◌≡◌, ℕ, zero, suc, ◌<◌, ◌≤◌, ◌^◌, nat_lt, Bool, true, false, if◌then◌else◌, List, ◌∷◌, length, Option, Some, None, refl, ap, ◌∙◌, arith}
+use Rattle.std.proofs.Common.{◌≡◌, ℕ, zero, suc, ◌<◌, ◌≤◌, nat_lt, Bool, true, false, if◌then◌else◌, List, ◌∷◌, length, Option, Some, None, refl, ap, ◌∙◌, arith}
+use Rattle.kl1_model.specs.Limits.{number_limit}
 use Rattle.kl1_model.specs.declared.sign.Sign.TheVariants.{Colon, Equals, Bar, Comma, Open, Close, OpenList, CloseList}
 use Rattle.kl1_model.specs.Token.{name_token, variable_token, digits_token, minus_token, sign_token}
 use Rattle.kl1_model.specs.Grammar.{Numbered, Relation, Part, Primary, positive, last, another, call}
@@ -126,7 +127,7 @@ module _ (inner : Inner) (shrinks : Shrinks inner) where
 
   pub primary_left : (ts : List Numbered) → Left (length ts) (primary_at inner ts)
   primary_left (variable_token v ∷ ts) = omega arith
-  primary_left (digits_token n ∷ ts) = if_left (nat_lt n (2 ^ 63)) n ts
+  primary_left (digits_token n ∷ ts) = if_left (nat_lt n number_limit) n ts
   primary_left (minus_token true ∷ ts) = negative_left ts
   primary_left (name_token a quotes false ∷ ts) = omega arith
   primary_left (name_token f quotes true ∷ ts) =

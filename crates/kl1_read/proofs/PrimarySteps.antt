@@ -1,8 +1,9 @@
 -- The front of a primary, by its first token, and what goes on behind it.
-use Rattle.std.proofs.Common.{◌≡◌, ℕ, zero, suc, ◌<◌, ◌≤◌, ◌^◌, nat_lt, Bool, true, false, if◌then◌else◌, List, [], ◌∷◌, length, map, Some, None, Vec, pos, neg_ℤ, refl, ap, sym, ◌∙◌, arith}
+use Rattle.std.proofs.Common.{◌≡◌, ℕ, zero, suc, ◌<◌, ◌≤◌, nat_lt, Bool, true, false, if◌then◌else◌, List, [], ◌∷◌, length, map, Some, None, Vec, pos, neg_ℤ, refl, ap, sym, ◌∙◌, arith}
 use Rattle.std.specs.Borrow.{Bor}
 use Rattle.std.specs.declared.alloc.Global.{Global}
 use Rattle.std.proofs.lemmas.Bool.{lt-ltb, le-ltb, and_left}
+use Rattle.kl1_model.specs.Limits.{number_limit}
 use Rattle.kl1_model.specs.declared.sign.Sign.{Sign}
 use Rattle.kl1_model.specs.declared.sign.Sign.TheVariants.{Open, OpenList}
 use Rattle.kl1_model.specs.Token.{name_token, digits_token, minus_token, sign_token}
@@ -45,19 +46,19 @@ if_some b x h = ap (λ c. if◌then◌else◌ {A = Answer Term} c x None) h
 if_none : (b : Bool) (x : Answer Term) → b ≡ false → if◌then◌else◌ {A = Answer Term} b x None ≡ None
 if_none b x h = ap (λ c. if◌then◌else◌ {A = Answer Term} c x None) h
 
-pub small_positive : (n : ℕ) (ts : List grammar.Numbered) → n < 2 ^ 63 → primary_read (digits_token n ∷ ts) ≡ Some (integer (pos n), ts)
-small_positive n ts h = positive_reads n ts ∙ if_some (nat_lt n (2 ^ 63)) _ (lt-ltb n (2 ^ 63) h)
+pub small_positive : (n : ℕ) (ts : List grammar.Numbered) → n < number_limit → primary_read (digits_token n ∷ ts) ≡ Some (integer (pos n), ts)
+small_positive n ts h = positive_reads n ts ∙ if_some (nat_lt n number_limit) _ (lt-ltb n number_limit h)
 
-pub large_positive : (n : ℕ) (ts : List grammar.Numbered) → 2 ^ 63 ≤ n → primary_read (digits_token n ∷ ts) ≡ None
-large_positive n ts h = positive_reads n ts ∙ if_none (nat_lt n (2 ^ 63)) (Some (integer (pos n), ts)) (le-ltb n (2 ^ 63) h)
+pub large_positive : (n : ℕ) (ts : List grammar.Numbered) → number_limit ≤ n → primary_read (digits_token n ∷ ts) ≡ None
+large_positive n ts h = positive_reads n ts ∙ if_none (nat_lt n number_limit) (Some (integer (pos n), ts)) (le-ltb n number_limit h)
 
 pub below_zero_reads : (n : ℕ) (ts : List grammar.Numbered) → primary_read (minus_token true ∷ digits_token n ∷ ts) ≡ Some (integer (neg_ℤ (pos n)), ts)
 below_zero_reads n ts = negative_reads (digits_token n ∷ ts)
 
 -- no text can write an integer that is too low
-pub too_low : (n : ℕ) → 2 ^ 63 < n → is_writable (integer (neg_ℤ (pos n))) ≡ false
+pub too_low : (n : ℕ) → number_limit < n → is_writable (integer (neg_ℤ (pos n))) ≡ false
 too_low zero h = absurd (omega arith)
-too_low (suc n) h = and_left _ _ (le-ltb n (2 ^ 63) (omega arith))
+too_low (suc n) h = and_left _ _ (le-ltb n number_limit (omega arith))
 
 -- a name and no bracket behind it
 pub call_gone : (f : List ℕ) (quotes : Bool) (ts : List grammar.Numbered) → None ≡ behind_open ts → primary_read (name_token f quotes true ∷ ts) ≡ None

@@ -1,10 +1,9 @@
 -- Chains of hooks, one link more or less, and from link to link.
-use Rattle.std.proofs.Common.{◌≡◌, ℕ, zero, suc, ◌+◌, ◌<◌, ◌≤◌, ◌==◌, Bool, true, false, if◌then◌else◌, List, [], ◌∷◌, ◌++◌, length, map, take, set, get_or, refl, sym, ap, ◌∙◌, arith, subst, append_assoc, ◌⊎◌, inl, inr, eq-eqb}
+use Rattle.std.proofs.Common.{◌≡◌, ℕ, zero, suc, ◌+◌, ◌<◌, ◌≤◌, ◌==◌, if◌then◌else◌, List, [], ◌∷◌, ◌++◌, length, take, set, get_or, refl, sym, ap, ◌∙◌, arith, subst, append_assoc, ◌⊎◌, inl, inr, eq-eqb}
 use Rattle.std.specs.Prelude.{Some, None, slice_get}
-use Rattle.std.proofs.lemmas.Bool.{cond_both, cond-true, cond-false, cases_eq, ne_eqb}
-use Rattle.std.proofs.lemmas.List.{map-append, get_or_append_left, get_or_past, take-map, append-nil, take_all}
+use Rattle.std.proofs.lemmas.Bool.{cond-true, cond-false, cases_eq, ne_eqb}
+use Rattle.std.proofs.lemmas.List.{map-append, get_or_append_left, append-nil, take_all}
 use Rattle.std.proofs.Math.Seq.{get_or-append_seam, take-suc}
-use Rattle.std.proofs.Math.ListN.{get_or-map}
 use Rattle.std.proofs.lemmas.List.{get_or-set_same, get_or-set_other}
 use Rattle.kl1_store.specs.declared.link.Link.{Link}
 use Rattle.kl1_store.specs.Hooks.{Hook, hanging_on}
@@ -196,17 +195,17 @@ tells_on v ls start told more at m l linked t e q p =
     let w = s.within in
     let P : ℕ → Type 0 = λ n. Tells v ls start more n in
     subst P (sym b) (
-      record {
-        within = omega arith;
-        here = s.there;
-        whole =
-            ap (λ k. k ++ hanging_to v ls (newest_place v ls m)) (p ∙ ap (λ (k : Link). told ++ k.number ∷ []) q)
-            ∙ append_assoc told ((get_or ls m no_link).number ∷ []) (hanging_to v ls (newest_place v ls m))
-            ∙ ap (λ k. told ++ (get_or ls m no_link).number ∷ k) (sym (hanging_to-newest v ls m (omega arith)))
-            ∙ ap (λ k. told ++ k) (sym (hanging_to-here v ls m in_list on))
-            ∙ ap (λ n. told ++ hanging_to v ls n) (sym e)
-            ∙ t.whole;
-      })
+    record {
+      within = omega arith;
+      here = s.there;
+      whole =
+          ap (λ k. k ++ hanging_to v ls (newest_place v ls m)) (p ∙ ap (λ (k : Link). told ++ k.number ∷ []) q)
+          ∙ append_assoc told ((get_or ls m no_link).number ∷ []) (hanging_to v ls (newest_place v ls m))
+          ∙ ap (λ k. told ++ (get_or ls m no_link).number ∷ k) (sym (hanging_to-newest v ls m (omega arith)))
+          ∙ ap (λ k. told ++ k) (sym (hanging_to-here v ls m in_list on))
+          ∙ ap (λ n. told ++ hanging_to v ls n) (sym e)
+          ∙ t.whole;
+    })
 
 pub tells_end : (v : ℕ) (ls : List Link) (start told : List ℕ) (at : ℕ) → Tells v ls start told at → at ≡ 0 → told ≡ start ++ hanging_on v (hooks_in ls)
 tells_end v ls start told at t e = sym (append-nil told) ∙ ap (λ n. told ++ hanging_to v ls n) (sym e) ∙ t.whole

@@ -21,3 +21,4 @@ pub mod Nesting
 pub mod Equalling
 pub mod Chaining
 pub mod Telling
+pub mod Freeing

@@ -114,9 +114,15 @@ lower_than v (Integer i) value = tt
 lower_than v (Atom a) value = tt
 lower_than v (Structure s) value = tt
 
+walked_value : {N : Type 0} (h : Held N) (x : Cell N) → IsNoVariable x → IsWalked h x
+walked_value h (Variable w) value = absurd value
+walked_value h (Integer i) value = tt
+walked_value h (Atom a) value = tt
+walked_value h (Structure s) value = tt
+
 pub takes_left : {N : Type 0} (h : Held N) (v : ℕ) (r : Cell N) → IsFormed h → suc v ≤ h.variables → is_bound v h.bindings ≡ false → IsIn h r → IsNoVariable r → Takes h (Variable v) r v r
 takes_left h v r p inside unbound known value = record {
-  can = record { inside = inside; unbound = unbound; known = known; lower = lower_than v r value };
+  can = record { inside = inside; unbound = unbound; known = known; walked = walked_value h r value; lower = lower_than v r value };
   one = λ p q. p;
   sides = inl (refl, refl);
   leads = λ f es.
@@ -126,7 +132,7 @@ takes_left h v r p inside unbound known value = record {
 
 pub takes_right : {N : Type 0} (h : Held N) (v : ℕ) (l : Cell N) → IsFormed h → suc v ≤ h.variables → is_bound v h.bindings ≡ false → IsIn h l → IsNoVariable l → Takes h l (Variable v) v l
 takes_right h v l p inside unbound known value = record {
-  can = record { inside = inside; unbound = unbound; known = known; lower = lower_than v l value };
+  can = record { inside = inside; unbound = unbound; known = known; walked = walked_value h l value; lower = lower_than v l value };
   one = λ p q. q;
   sides = inr (refl, refl);
   leads = λ f es.
@@ -153,7 +159,7 @@ both_unbound f h v w es p q = ap (λ t. front t (term_of f h (Variable w)) es) (
 
 pub takes_lower : {N : Type 0} (h : Held N) (v w : ℕ) → suc w ≤ h.variables → is_bound v h.bindings ≡ false → is_bound w h.bindings ≡ false → v < w → Takes h (Variable v) (Variable w) w (Variable v)
 takes_lower h v w inside p q lt = record {
-  can = record { inside = inside; unbound = q; known = omega arith; lower = lt };
+  can = record { inside = inside; unbound = q; known = omega arith; walked = p; lower = lt };
   one = λ p q. p;
   sides = inr (refl, refl);
   leads = λ f es. both_unbound f h v w es p q ∙ front-lower v w es lt ∙ ap (λ t. bound_to w t es) (sym (term_of-unbound f h v p));
@@ -161,7 +167,7 @@ takes_lower h v w inside p q lt = record {
 
 pub takes_higher : {N : Type 0} (h : Held N) (v w : ℕ) → suc v ≤ h.variables → is_bound v h.bindings ≡ false → is_bound w h.bindings ≡ false → w < v → Takes h (Variable v) (Variable w) v (Variable w)
 takes_higher h v w inside p q lt = record {
-  can = record { inside = inside; unbound = p; known = omega arith; lower = lt };
+  can = record { inside = inside; unbound = p; known = omega arith; walked = q; lower = lt };
   one = λ p q. p;
   sides = inl (refl, refl);
   leads = λ f es. both_unbound f h v w es p q ∙ front-higher v w es lt ∙ ap (λ t. bound_to v t es) (sym (term_of-unbound f h w q));

@@ -1,5 +1,5 @@
 -- Hooks in chains: for each variable the place of its newest hook, and for each hook that of the one before it.
-use Rattle.std.specs.Prelude.{◌≡◌, ℕ, zero, suc, ◌≤◌, ◌<◌, ◌==◌, if◌then◌else◌, List, [], length, map, get_or}
+use Rattle.std.specs.Prelude.{◌≡◌, ℕ, zero, suc, ◌<◌, ◌==◌, if◌then◌else◌, List, length, map, get_or}
 use Rattle.kl1_store.specs.declared.link.Link.{Link}
 use Rattle.kl1_store.specs.Hooks.{Hook}
 

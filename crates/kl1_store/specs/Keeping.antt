@@ -1,5 +1,5 @@
 -- How the parts of a store stand for what it keeps.
-use Rattle.std.specs.Prelude.{ℕ, ◌-◌, ◌≤◌, min}
+use Rattle.std.specs.Prelude.{◌-◌, ◌≤◌, min}
 use Rattle.kl1_store.specs.declared.levels.Levels.{Levels}
 use Rattle.kl1_store.specs.Held.{Stored}
 use Rattle.kl1_store.specs.Hooks.{Kept}

@@ -9,6 +9,7 @@ pub mod Value
 pub mod Unifies
 pub mod Onward
 pub mod Levels
+pub mod Apart
 pub mod Tasks
 pub mod Unification
 pub mod Compares

@@ -8,7 +8,7 @@ use Rattle.kl1_store.specs.declared.cell.Cell.TheVariants.{Variable, Structure}
 use Rattle.kl1_store.specs.declared.frame.Frame.{Frame}
 use Rattle.kl1_store.specs.declared.meeting.Meeting.{Meeting}
 use Rattle.kl1_store.specs.declared.meeting.Meeting.TheVariants.{Same, Clash, Bind, Open}
-use Rattle.kl1_store.specs.Held.{Held, is_bound, IsIn, IsLower}
+use Rattle.kl1_store.specs.Held.{Held, is_bound, IsIn, IsLower, IsWalked}
 use Rattle.kl1_store.specs.Meaning.{term_of}
 use Rattle.kl1_store.specs.Value.{IsNoVariable}
 use Rattle.kl1_store.specs.Waiting.{rest_of, IsPair}
@@ -18,6 +18,7 @@ pub record CanTake {N : Type 0} (h : Held N) (v : ℕ) (x : Cell N) : Type 0 whe
   pub inside : suc v ≤ h.variables
   pub unbound : is_bound v h.bindings ≡ false
   pub known : IsIn h x
+  pub walked : IsWalked h x
   pub lower : IsLower v x
 
 -- one side of an equation is a variable that may take the other, and the equation leads to that if the variable isn't in it

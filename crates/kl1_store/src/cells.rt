@@ -71,6 +71,7 @@ impl<N: NameValue> Cells<N> {
     }
 
     /// A new variable, unbound.
+    #[inline]
     pub fn fresh(&mut self) -> Result<u32, AllocError>
         ensures ok { IfOk result (λ v. (v ≡ self.old.held.variables) × (self.new.held ≡ with_variable self.old.held)) }
         ensures err { OnErr result (self.new.held ≡ self.old.held) }
@@ -165,6 +166,7 @@ impl<N: NameValue> Cells<N> {
     }
 
     /// The variable `variable` is replaced by `value` everywhere.
+    #[inline]
     pub fn bind(&mut self, variable: u32, value: Cell<N>) -> Result<(), AllocError>
         requires inside { variable < self.old.held.variables }
         requires known { IsIn self.old.held value }
@@ -182,6 +184,7 @@ impl<N: NameValue> Cells<N> {
     }
 
     /// What a variable is bound to, or the variable itself.
+    #[inline]
     pub fn slot(&self, variable: u32) -> Cell<N>
         requires { variable < self.now.held.variables }
         ensures found { result ≡ found variable self.now.held.bindings }
@@ -191,6 +194,7 @@ impl<N: NameValue> Cells<N> {
     }
 
     /// The name of a structure, and how many arguments it has.
+    #[inline]
     pub fn head(&self, structure: u32) -> Head<N>
         requires { structure < length self.now.held.structures }
         ensures name { slice_get self.now.held.structures structure ≡ Some (record { name = result.name; arguments = arguments_of self.now.held structure }) }
@@ -205,6 +209,7 @@ impl<N: NameValue> Cells<N> {
     }
 
     /// An argument of a structure, counted from 0.
+    #[inline]
     pub fn argument(&self, structure: u32, index: u32) -> Cell<N>
         requires structure { structure < length self.now.held.structures }
         requires index { index < length (arguments_of self.now.held structure) }
@@ -216,6 +221,7 @@ impl<N: NameValue> Cells<N> {
     }
 
     /// The cell that a cell stands for: what its variable was bound to, and so on.
+    #[inline]
     pub fn walk(&self, cell: Cell<N>) -> Cell<N>
         requires { IsIn self.now.held cell }
         ensures inside { IsIn self.now.held result }
@@ -243,6 +249,7 @@ impl<N: NameValue> Cells<N> {
     }
 
     /// Whether a cell is of this store.
+    #[inline]
     pub fn holds(&self, cell: Cell<N>) -> bool
         ensures { IsTrue result ↔ IsIn self.now.held cell }
     {
@@ -257,6 +264,7 @@ impl<N: NameValue> Cells<N> {
     }
 
     /// How much is held now.
+    #[inline]
     pub fn mark(&self) -> Mark
         ensures sizes { result ≡ sizes_of self.now.held }
         ensures formed { IsFormed self.now.held }

@@ -24,6 +24,7 @@ impl Levels {
 }
 
 /// The level of a number.
+#[inline]
 pub fn level_of(levels: &Vec<u64>, number: u32) -> u64
     ensures { result ≡ level_at levels.now.items number }
 {

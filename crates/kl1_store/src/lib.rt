@@ -2,6 +2,7 @@
 #![tactic(auto)]
 
 mod advance;
+mod apart;
 mod binding;
 mod cell;
 mod cells;

@@ -1,9 +1,10 @@
 // Whether a variable is in a term.
 
 ghost use Rattle.std.specs.Prelude.{◌≡◌, ◌<◌, false, IfOk};
-ghost use Rattle.kl1_store.specs.Held.{is_bound, IsIn};
+ghost use Rattle.kl1_store.specs.Held.{is_bound, IsIn, IsWalked};
 ghost use Rattle.kl1_store.specs.Levels.{AreLevels, FindsAs};
 
+use crate::apart::is_apart;
 use crate::cell::Cell;
 use crate::cells::Cells;
 use crate::levels::{Levels, level_of};
@@ -25,11 +26,15 @@ pub fn occurs_in_term<N: NameValue>(
     requires variable { variable < cells.now.held.variables }
     requires unbound { is_bound variable cells.now.held.bindings ≡ false }
     requires inside { IsIn cells.now.held value }
+    requires walked { IsWalked cells.now.held value }
     requires levels { AreLevels cells.now.held levels.old }
     ensures found { IfOk result (FindsAs cells.now.held levels.new variable value) }
     ensures levels { AreLevels cells.now.held levels.new }
 {
     let _ = cells.mark();
+    if is_apart(cells, levels, variable, value) {
+        return Ok(false);
+    }
     if level_of(&levels.variables, variable) == u64::MAX {
         levels.keep(0, 0);
     }

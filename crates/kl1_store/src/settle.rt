@@ -96,8 +96,6 @@ pub fn unify_cells<N: NameValue>(
     ensures levels { AreLevels cells.new.held levels.new }
     ensures spends { SpendsOnBindings cells.old.held cells.old.room cells.new.held cells.new.room }
 {
-    frames.clear();
-    merges.clear();
     let first = cells.walk(left);
     let second = cells.walk(right);
     match meet(cells, first, second) {
@@ -105,6 +103,8 @@ pub fn unify_cells<N: NameValue>(
         Meeting::Clash => Ok(false),
         Meeting::Bind(variable, value) => bind_new(cells, levels, tasks, variable, value),
         Meeting::Open(frame) => {
+            frames.clear();
+            merges.clear();
             frames.push(frame)?;
             settle(cells, frames, merges, levels, tasks)
         }

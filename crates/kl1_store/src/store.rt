@@ -77,6 +77,7 @@ impl<N: NameValue> Store<N> {
     }
 
     /// A new variable, unbound: its number.
+    #[inline]
     pub fn fresh(&mut self) -> Result<u32, AllocError>
         ensures ok { IfOk result (λ v. (v ≡ self.old.held.variables) × (self.new.held ≡ with_variable self.old.held)) }
         ensures err { OnErr result (self.new.held ≡ self.old.held) }
@@ -121,6 +122,7 @@ impl<N: NameValue> Store<N> {
     }
 
     /// The cell that a cell stands for: what its variable was bound to, and so on.
+    #[inline]
     pub fn walk(&self, cell: Cell<N>) -> Cell<N>
         requires { IsIn self.now.held cell }
         ensures inside { IsIn self.now.held result }
@@ -131,6 +133,7 @@ impl<N: NameValue> Store<N> {
     }
 
     /// The name of a structure, and how many arguments it has.
+    #[inline]
     pub fn look(&self, structure: u32) -> Head<N>
         requires { structure < length self.now.held.structures }
         ensures name { slice_get self.now.held.structures structure ≡ Some (record { name = result.name; arguments = arguments_of self.now.held structure }) }
@@ -140,6 +143,7 @@ impl<N: NameValue> Store<N> {
     }
 
     /// An argument of a structure, counted from 0.
+    #[inline]
     pub fn argument(&self, structure: u32, index: u32) -> Cell<N>
         requires structure { structure < length self.now.held.structures }
         requires index { index < length (arguments_of self.now.held structure) }
@@ -222,6 +226,7 @@ impl<N: NameValue> Store<N> {
     }
 
     /// Whether a cell is of this store.
+    #[inline]
     pub fn holds(&self, cell: Cell<N>) -> bool
         ensures { IsTrue result ↔ IsIn self.now.held cell }
     {
@@ -273,6 +278,7 @@ impl<N: NameValue> Store<N> {
     }
 
     /// How much is kept now.
+    #[inline]
     pub fn mark(&self) -> Point
         ensures point { result ≡ point_of self.now }
         ensures formed { IsFormed self.now.held }

@@ -7,11 +7,13 @@ mod read;
 mod rows;
 mod script;
 mod store;
+mod tally;
 mod tried;
 mod user;
 
 use crate::atoms::put_checks;
 use crate::rows::{Text, put_report};
+use crate::tally::put_tally_checks;
 use std::io;
 use std::io::{Error, ErrorKind, Read, Write};
 
@@ -21,6 +23,7 @@ fn main(rt: HostRuntime) -> io::Result<()> {
     let mut out = Text::new(rt.alloc());
     put_report(&mut out, rows.as_slice());
     put_checks(&rt, &mut out);
+    put_tally_checks(&rt, &mut out);
     if out.has_failed {
         return Err(Error::from(ErrorKind::OutOfMemory));
     }

@@ -4,6 +4,7 @@
 mod atom_no;
 mod atom_text;
 mod built_ins;
+mod cell_name;
 mod decimals;
 mod laws;
 mod literals;
@@ -15,6 +16,7 @@ mod short_bytes;
 pub use atom_no::AtomNo;
 pub use atom_text::AtomText;
 pub use built_ins::built_in_at;
+pub use cell_name::CellName;
 pub use decimals::decimal_up_to;
 pub use laws::built_ins_differ;
 pub use name_value::NameValue;

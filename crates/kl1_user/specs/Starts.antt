@@ -4,6 +4,7 @@ use Rattle.kl1_model.specs.Term.{Term, variable}
 use Rattle.kl1_model.specs.Meaning.{highest}
 use Rattle.kl1_model.specs.Module.{Module}
 use Rattle.kl1_model.specs.State.{State, names_of, with_names}
+use Rattle.kl1_model.specs.Limits.{monitor_priority}
 use Rattle.kl1_model.specs.Opening.{started_shoen, with_next_variables, start_goal}
 use Rattle.kl1_store.specs.declared.cell.Cell.{Cell}
 use Rattle.kl1_store.specs.Held.{Held, IsIn}
@@ -30,7 +31,7 @@ pub record Opens (goal : Term) (old new : Held (List ℕ)) (last allowance low h
 -- the monitor of a shoen that opens, and its goal, with the numbers behind the last
 abbrev pub two_goals : ℕ → ℕ → ℕ → Cell (List ℕ) → List Goal
 two_goals last shoen high x =
-    record { number = suc last; task = Monitor; shoen = shoen; priority = 4096; standing = None }
+    record { number = suc last; task = Monitor; shoen = shoen; priority = monitor_priority; standing = None }
     ∷ record { number = suc (suc last); task = Reduces x; shoen = shoen; priority = high; standing = None } ∷ []
 
 -- what a start leaves: the goals, and a shoen behind the others

@@ -1,19 +1,15 @@
-// What an account takes at most.
+// Numbers that commands may have.
 
 ghost use Rattle.std.specs.Prelude.{◌≡◌, ◌&&◌};
 ghost use Rattle.kl1_model.specs.Event.{is_number};
 
-/// The most entries of a journal.
-pub(crate) const MOST_ENTRIES: u64 = 262144;
-
-/// The most bytes of a goal that are shown.
-pub(crate) const MOST_SHOWN: usize = 4000;
+use kl1_model::limits::NUMBER_LIMIT;
 
 /// Whether a command may have this number: it is below 2^63.
 pub(crate) fn is_number(number: u64) -> bool
     ensures { result ≡ is_number number }
 {
-    number < 9223372036854775808
+    number < NUMBER_LIMIT
 }
 
 /// Whether a command may have these two numbers.

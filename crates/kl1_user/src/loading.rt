@@ -7,16 +7,13 @@ ghost use Rattle.kl1_user.specs.Loadings.{IsPut, LoadsAs};
 
 use crate::goal::Goal;
 use crate::goals::standing_goals;
-use crate::limits::MOST_ENTRIES;
 use crate::refusal::Refusal;
 use crate::used_names::put_texts;
 use kl1_clause::{Code, CodeFault};
+use kl1_model::limits::{MOST_ENTRIES, MOST_SOURCE_BYTES};
 use kl1_store::Store;
 use kl1_text::AtomText;
 use std::alloc::{AllocError, Global};
-
-/// The most bytes of a source.
-const MOST_SOURCE_BYTES: usize = 65_536;
 
 /// What comes of a load: a refusal, or the name of a module that is there now, and the goals, each with the clause by which it
 /// can step now.

@@ -11,13 +11,11 @@ use crate::origin::Origin;
 use crate::shoen::Shoen;
 use crate::task::Task;
 use kl1_match::build_goal;
+use kl1_model::limits::MONITOR_PRIORITY;
 use kl1_store::{Cell, Store};
 use kl1_term::Term;
 use kl1_text::AtomText;
 use std::alloc::{AllocError, Global};
-
-/// The priority of a monitor.
-const MONITOR_PRIORITY: u64 = 4096;
 
 /// The number behind one. Numbers of 64 bits that run out are refused as for want of memory.
 pub(crate) fn next_number(last: u64) -> Result<u64, AllocError>

@@ -11,7 +11,7 @@ ghost use Rattle.kl1_user.specs.Leaving.{ReducesAs};
 
 use crate::goal::Goal;
 use crate::goals::{cell_of, goal_at, standing_goals, without_goal};
-use crate::limits::{MOST_ENTRIES, are_numbers};
+use crate::limits::are_numbers;
 use crate::moves::{Move, move_of};
 use crate::moving::reduce;
 use crate::outcome::Outcome;
@@ -19,6 +19,7 @@ use crate::refusal::Refusal;
 use crate::shoen::Shoen;
 use crate::work::Work;
 use kl1_clause::Code;
+use kl1_model::limits::MOST_ENTRIES;
 use kl1_store::{Cell, Store};
 use kl1_text::AtomText;
 use std::alloc::{AllocError, Global};

@@ -7,13 +7,13 @@ ghost use Rattle.kl1_user.specs.Begins.{BeginsAs};
 
 use crate::begun::Begun;
 use crate::goal::Goal;
-use crate::limits::MOST_ENTRIES;
 use crate::refusal::Refusal;
 use crate::shoen::Shoen;
 use crate::startable::may_start;
 use crate::starting::started;
 use crate::used_names::put_nodes;
 use kl1_clause::Code;
+use kl1_model::limits::MOST_ENTRIES;
 use kl1_store::Store;
 use kl1_term::Term;
 use kl1_text::AtomText;

@@ -6,15 +6,10 @@ ghost use Rattle.kl1_model.specs.Opening.{start_line, may_start};
 
 use crate::limits::is_number;
 use itoa::Buffer;
+use kl1_model::limits::{MOST_LINE_BYTES, MOST_PRIORITY};
 use kl1_read::is_goal;
 use kl1_term::{Term, put_whole};
 use std::alloc::{AllocError, Global};
-
-/// The greatest priority that a start may give.
-const MOST_PRIORITY: u64 = 4095;
-
-/// The most bytes of a line of a journal, without its end.
-const MOST_LINE_BYTES: usize = 262_144;
 
 /// Whether priorities from one to another are a range.
 fn is_range(low: u64, high: u64) -> bool

@@ -11,7 +11,7 @@ use crate::account_name::AccountName;
 use crate::begun::Begun;
 use crate::event::{Event, Query};
 use crate::goal::Goal;
-use crate::limits::{MOST_SHOWN, is_number};
+use crate::limits::is_number;
 use crate::loading::{Loading, load};
 use crate::numbers::{ClauseNo, GoalNo, ShoenNo};
 use crate::outcome::Outcome;
@@ -25,6 +25,7 @@ use crate::shoens::origin_at;
 use crate::start::start;
 use crate::work::{put_start, put_work};
 use kl1_clause::Code;
+use kl1_model::limits::MOST_PRINTED_BYTES;
 use kl1_store::Store;
 use kl1_term::Term;
 use kl1_text::AtomText;
@@ -130,7 +131,7 @@ impl UserState {
         match origin_at(shoens, number) {
             None => Ok(Reply::Refused(Refusal::NoShoen)),
             Some(origin) => {
-                let text = print_cell(self.alloc, &self.store, origin.goal, MOST_SHOWN)?;
+                let text = print_cell(self.alloc, &self.store, origin.goal, MOST_PRINTED_BYTES)?;
                 Ok(Reply::Shown(text))
             }
         }

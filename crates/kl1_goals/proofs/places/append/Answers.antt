@@ -1,7 +1,5 @@
-use Rattle.std.proofs.Common.{◌≡◌, ◌++◌, ◌∷◌, [], ap, ◌∙◌}
+use Rattle.std.proofs.Common.{◌++◌, ◌∷◌, [], ap, ◌∙◌}
 use Rattle.kl1_queue.specs.Ranks.{rank_of}
-use Rattle.std.proofs.lemmas.List.{map_push, length-append, length_push}
-use Rattle.kl1_goals.specs.Slots.{AreSlots}
 use Rattle.kl1_goals.proofs.Changing.{slots_push, goals_push}
 use Rattle.kl1_goals.proofs.places.append.Goals as goal
 

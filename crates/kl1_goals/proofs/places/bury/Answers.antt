@@ -1,7 +1,6 @@
-use Rattle.std.proofs.Common.{◌≡◌, true, sym, ◌∙◌, ap, subst, List, ℕ}
+use Rattle.std.proofs.Common.{sym, ◌∙◌, ap}
 use Rattle.kl1_queue.specs.Ranks.{Queued}
 use Rattle.kl1_goals.specs.declared.slot.Slot.{Slot}
-use Rattle.kl1_goals.specs.Slots.{IsWithout, goals_in, AreSlots}
 use Rattle.kl1_goals.proofs.Changing.{same_read, slots_buried, without_at}
 use Rattle.kl1_goals.proofs.places.bury.Goals as goal
 

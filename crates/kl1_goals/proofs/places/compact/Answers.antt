@@ -1,7 +1,6 @@
-use Rattle.std.proofs.Common.{◌≡◌, rules, sym, ◌∙◌, ap, subst}
+use Rattle.std.proofs.Common.{rules}
 use Rattle.std.proofs.lemmas.Fn.{filter_same}
-use Rattle.std.specs.List.{filter}
-use Rattle.kl1_goals.specs.Slots.{held_in, goals_in}
+use Rattle.kl1_goals.specs.Slots.{held_in}
 use Rattle.kl1_goals.proofs.Changing.{slots_compacted, low_kept, goals_kept, numbers_kept}
 use Rattle.kl1_goals.proofs.places.compact.Goals as goal
 

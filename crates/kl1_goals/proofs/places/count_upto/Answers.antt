@@ -1,4 +1,4 @@
-use Rattle.std.proofs.Common.{◌≡◌, ◌+◌, ◌-◌, ◌/◌, ◌<◌, length, get_or, arith}
+use Rattle.std.proofs.Common.{◌+◌, ◌-◌, ◌/◌, arith}
 use Rattle.std.proofs.lemmas.List.{length-map}
 use Rattle.kl1_goals.specs.Slots.{numbers_of, number_in}
 use Rattle.kl1_goals.proofs.Orders.{ascend_le}

@@ -1,8 +1,8 @@
-use Rattle.std.proofs.Common.{◌≡◌, ◌<◌, length, arith, refl, sym, ◌∙◌, ap, cond, Some, None, subst, ℕ}
+use Rattle.std.proofs.Common.{◌≡◌, ◌<◌, length, arith, refl, sym, ◌∙◌, None, subst, ℕ}
 use Rattle.std.specs.List.{find}
 use Rattle.std.proofs.lemmas.List.{length-map}
 use Rattle.kl1_goals.specs.Lists.{has_number}
-use Rattle.kl1_goals.specs.Slots.{numbers_of, number_in, goals_in}
+use Rattle.kl1_goals.specs.Slots.{number_in, goals_in}
 use Rattle.kl1_goals.proofs.Changing.{field_read, find_absent, find_at}
 use Rattle.kl1_goals.proofs.places.held_place.Goals as goal
 

@@ -1,4 +1,3 @@
-use Rattle.kl1_goals.specs.Slots.{AreBelow}
 use Rattle.kl1_goals.proofs.Changing.{below_goals}
 use Rattle.kl1_goals.proofs.places.make_end.Goals as goal
 

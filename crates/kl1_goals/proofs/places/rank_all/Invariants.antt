@@ -1,4 +1,4 @@
-use Rattle.std.proofs.Common.{◌≡◌, ◌+◌, ◌≤◌, length, take, map}
+use Rattle.std.proofs.Common.{◌≡◌, ◌+◌, length, take, map}
 use Rattle.kl1_goals.specs.Slots.{rank_in}
 use Rattle.kl1_goals.proofs.places.rank_all.Given as goal
 

@@ -1,8 +1,8 @@
-use Rattle.std.proofs.Common.{◌≡◌, ◌≤◌, true, None, Some, set, length, sym, ◌∙◌, ap, subst, arith, List, ℕ, Option}
+use Rattle.std.proofs.Common.{Some, set, sym, ◌∙◌, ap, arith}
 use Rattle.std.proofs.lemmas.List.{length-map}
 use Rattle.kl1_queue.specs.Ranks.{Queued, rank_of}
 use Rattle.kl1_goals.specs.declared.slot.Slot.{Slot}
-use Rattle.kl1_goals.specs.Slots.{level_in, priority_in}
+use Rattle.kl1_goals.specs.Slots.{level_in}
 use Rattle.kl1_goals.proofs.Orders.{low_at}
 use Rattle.kl1_goals.proofs.Changing.{same_read, field_read, slots_stood, stood_at, standing_by, priority_low}
 use Rattle.kl1_goals.proofs.places.stand.Goals as goal

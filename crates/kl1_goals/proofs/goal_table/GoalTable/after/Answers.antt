@@ -1,4 +1,4 @@
-use Rattle.std.proofs.Common.{◌≡◌, sym, ◌∙◌}
+use Rattle.std.proofs.Common.{sym, ◌∙◌}
 use Rattle.kl1_goals.specs.Lists.{is_after}
 use Rattle.kl1_goals.specs.Slots.{goals_in}
 use Rattle.kl1_goals.proofs.Changing.{goals_ascend, find_after}

@@ -1,10 +1,6 @@
-use Rattle.std.proofs.Common.{◌≡◌, ℕ, true, Some, None, cond, refl, sym, ap, ◌∙◌, subst}
-use Rattle.std.specs.List.{find}
-use Rattle.kl1_goals.specs.declared.slot.Slot.{Slot}
+use Rattle.std.proofs.Common.{sym}
 use Rattle.kl1_goals.specs.Lists.{has_number}
-use Rattle.kl1_goals.specs.Tables.{Tabled}
-use Rattle.kl1_goals.specs.Slots.{goals_in}
-use Rattle.kl1_goals.proofs.Changing.{goals_ascend, same_read, find_at, find_held}
+use Rattle.kl1_goals.proofs.Changing.{goals_ascend, find_held}
 use Rattle.kl1_goals.proofs.Tabling.{known_found}
 use Rattle.kl1_goals.proofs.goal_table.GoalTable.get.Goals as goal
 

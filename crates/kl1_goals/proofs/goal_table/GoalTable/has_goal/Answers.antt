@@ -1,4 +1,4 @@
-use Rattle.std.proofs.Common.{◌≡◌, nat_lt, sym, ap, ◌∙◌}
+use Rattle.std.proofs.Common.{nat_lt, sym, ap, ◌∙◌}
 use Rattle.kl1_goals.specs.declared.tally.Tally.{Tally}
 use Rattle.kl1_goals.specs.Lists.{is_goal_of}
 use Rattle.kl1_goals.specs.Slots.{goals_in}

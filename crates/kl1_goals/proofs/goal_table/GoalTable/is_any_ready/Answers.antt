@@ -1,4 +1,4 @@
-use Rattle.std.proofs.Common.{◌≡◌, ◌<◌, List, ℕ, get_or, map, sym, ap, ◌∙◌, subst}
+use Rattle.std.proofs.Common.{List, ℕ, sym, subst}
 use Rattle.kl1_queue.specs.Ranks.{AreNone, IsFirst}
 use Rattle.kl1_goals.proofs.Ranking.{none_any, some_any}
 use Rattle.kl1_goals.proofs.goal_table.GoalTable.is_any_ready.Goals as goal

@@ -1,9 +1,7 @@
-use Rattle.std.proofs.Common.{◌≡◌, Bool, arith}
+use Rattle.std.proofs.Common.{Bool, arith}
 use Rattle.kl1_goals.specs.declared.goal.Goal.{Goal}
-use Rattle.std.specs.List.{filter}
 use Rattle.std.proofs.lemmas.List.Sums.{length-filter, count_by-le-length}
 use Rattle.kl1_goals.specs.Lists.{is_goal_of}
-use Rattle.kl1_goals.specs.Tables.{Tabled, IsNext}
 use Rattle.kl1_goals.specs.Slots.{goals_in}
 use Rattle.kl1_goals.specs.Tallies.{tally_at}
 use Rattle.kl1_goals.proofs.Shoens.{raised_tally}

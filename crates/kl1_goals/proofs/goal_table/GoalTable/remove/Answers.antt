@@ -1,4 +1,4 @@
-use Rattle.std.proofs.Common.{◌≡◌, ℕ, sym, ap, ◌∙◌, subst}
+use Rattle.std.proofs.Common.{sym, ap, ◌∙◌}
 use Rattle.std.specs.List.{filter}
 use Rattle.kl1_goals.specs.Lists.{is_other, has_number}
 use Rattle.kl1_goals.specs.Slots.{goals_in}

@@ -1,4 +1,4 @@
-use Rattle.std.proofs.Common.{◌≡◌, ap, sym, ◌∙◌}
+use Rattle.std.proofs.Common.{ap, sym, ◌∙◌}
 use Rattle.std.specs.Option.{option_to_list}
 use Rattle.kl1_goals.specs.declared.tally.Tally.{Tally}
 use Rattle.kl1_goals.specs.Lists.{is_monitor_of}

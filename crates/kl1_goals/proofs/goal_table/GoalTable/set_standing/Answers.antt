@@ -1,6 +1,5 @@
-use Rattle.std.proofs.Common.{◌≡◌, ℕ, min, ◌-◌, map, sym, ap, ◌∙◌, refl, subst}
+use Rattle.std.proofs.Common.{map, ap, ◌∙◌, refl}
 use Rattle.kl1_goals.specs.Lists.{stood_by}
-use Rattle.kl1_goals.specs.Tables.{Tabled}
 use Rattle.kl1_goals.specs.Slots.{goals_in}
 use Rattle.kl1_goals.specs.Tallies.{tally_at}
 use Rattle.kl1_goals.proofs.Changing.{held_itself}

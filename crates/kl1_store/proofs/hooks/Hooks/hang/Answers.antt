@@ -10,8 +10,7 @@ invariant_of-self-2 c =
     let e = ap (λ (k : Hung). k.covered) c.self.view_is in
     let l : Link = record { number = c.args.number; variable = c.args.variable; before = c.head_of-before.result } in
     let one = length-one_more s.links.items l in
-    let more = ap length c.in_ok-push.ensures.items in
-    (
+    let more = ap length c.in_ok-push.ensures.items in (
       hung_on s.heads.items s.links.items c.push.new.self.items c.args.number c.args.variable c.head_of-before.result c.len-count.result c.self.invariant.0 (omega arith) c.head_of-before.ensures (omega arith) c.in_ok-push.ensures.items,
       omega (arith, one, more, s.links.ok.0),
     )

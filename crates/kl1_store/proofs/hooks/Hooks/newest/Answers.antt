@@ -1,8 +1,7 @@
-use Rattle.std.proofs.Common.{◌≡◌, ◌-◌, suc, sym, ap, ◌∙◌, arith, subst, length}
+use Rattle.std.proofs.Common.{◌≡◌, ◌-◌, sym, arith, subst}
 use Rattle.std.specs.Prelude.{Some, None, slice_get}
 use Rattle.kl1_store.specs.Hooks.{hanging_on}
 use Rattle.kl1_store.specs.Chains.{Hung}
-use Rattle.std.proofs.lemmas.Bool.{eqb-true, eqb-false}
 use Rattle.kl1_store.proofs.Chaining.{newest_none, newest_some, head_within}
 use Rattle.kl1_store.proofs.hooks.Hooks.newest.Goals as goal
 

@@ -1,4 +1,4 @@
-use Rattle.std.proofs.Common.{◌≡◌, ◌≤◌, ap, sym, ◌∙◌, arith, subst}
+use Rattle.std.proofs.Common.{◌≤◌, ap, sym, arith, subst}
 use Rattle.kl1_store.specs.declared.point.Point.{Point}
 use Rattle.kl1_store.specs.Held.{Held}
 use Rattle.kl1_store.specs.Sound.{Grown}

@@ -1,0 +1,7 @@
+// How fast events are counted in the tally, as ratios to an atomic sum of plain Rust.
+
+mod counting;
+mod tells;
+mod times;
+
+pub use tells::{tell_answer, tell_times};

@@ -1,0 +1,50 @@
+-- Tests that give the same answer.
+use Rattle.std.proofs.Common.{◌≡◌, ℕ, ◌==◌, ◌&&◌, Bool, true, false, List, map, refl, sym, ap, ◌∙◌, bytes_eq}
+use Rattle.std.specs.Prelude.{nat_eq}
+use Rattle.std.specs.Cmp.Lexicographic.{pointwise}
+use Rattle.std.proofs.lemmas.Bool.{eqb-true, eq-eqb}
+use Rattle.std.proofs.lemmas.Slice.Eq.{bytes_eq-Decides}
+use Rattle.kl1_model.specs.Term.{count_of}
+use Rattle.kl1_model.specs.Module.{Clause, is_of}
+use Rattle.kl1_text.specs.Reading.{Reads}
+use Rattle.kl1_text.specs.declared.cell_name.CellName.{CellName}
+use Rattle.kl1_clause.specs.declared.compiled_clause.CompiledClause.{CompiledClause}
+use Rattle.kl1_clause.specs.Instructions.{text_in}
+use Rattle.kl1_clause.specs.Clauses.{IsCompiled}
+use Rattle.kl1_modules.specs.Numbered.{built}
+use Rattle.kl1_modules.specs.Indexes.{key_by, IsKeyOf}
+
+-- two answers that imply one another are one
+pub same_answer : (a b : Bool) → (a ≡ true → b ≡ true) → (b ≡ true → a ≡ true) → a ≡ b
+same_answer true true f g = refl
+same_answer true false f g = sym (f refl)
+same_answer false true f g = g refl
+same_answer false false f g = refl
+
+pub number_is : (m n : CellName) → m.number ≡ n.number → m ≡ n
+number_is m n e = ap (λ k. let c : CellName = record { number = k } in c) e
+
+-- texts of numbers are equal where the numbers are
+pub same_texts : (f : CellName → List ℕ) → Reads built f → (m n : CellName) → bytes_eq (f m) (f n) ≡ (m.number == n.number)
+same_texts f r m n =
+    same_answer (bytes_eq (f m) (f n)) (m.number == n.number)
+    (λ e. eq-eqb m.number n.number (ap (λ c. c.number) (r.once m n ((bytes_eq-Decides (f m) (f n)).0 e))))
+    (λ e. (bytes_eq-Decides (f m) (f n)).1 (ap f (number_is m n (eqb-true m.number n.number e))))
+
+and_true : (b : Bool) → b ≡ (b && true)
+and_true true = refl
+and_true false = refl
+
+-- a clause is of a predicate where their keys are equal
+pub same_key : (f : CellName → List ℕ) → Reads built f → (row : List CellName) (names : List (List ℕ)) (compiled : CompiledClause) (c : Clause) (key : List ℕ) (name : CellName) (count : ℕ) → map f row ≡ names → IsCompiled names compiled c → IsKeyOf row compiled key →
+    is_of (f name) count c ≡ pointwise nat_eq key (key_by name count)
+same_key f r row names compiled c key name count e is k =
+    let called : c.name ≡ f k.name = sym is.name ∙ ap (λ l. text_in l compiled.name) (sym e) ∙ sym (k.reads f r) in
+    ap (λ t. bytes_eq t (f name) && count_of c.patterns == count) called
+    ∙ ap (λ b. b && count_of c.patterns == count) (same_texts f r k.name name)
+    ∙ ap (λ n. (k.name.number == name.number) && (n == count)) (sym is.count)
+    ∙ ap (λ b. (k.name.number == name.number) && b) (and_true (compiled.count == count))
+    ∙ ap (λ l. pointwise nat_eq l (key_by name count)) (sym k.is)
+
+pub nat_same : (m n : ℕ) → nat_eq m n ≡ (n == m)
+nat_same m n = same_answer (nat_eq m n) (n == m) (λ e. eq-eqb n m (sym (eqb-true m n e))) (λ e. eq-eqb m n (sym (eqb-true n m e)))

@@ -1,0 +1,6 @@
+pub mod Answers
+pub mod Runs
+pub mod Steps
+pub mod Parts
+pub mod Names
+pub mod Shelving

@@ -1,0 +1,5 @@
+pub mod Numbered
+pub mod Finding
+pub mod Spans
+pub mod Indexes
+pub mod Shelves

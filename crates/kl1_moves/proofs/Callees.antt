@@ -1,0 +1,165 @@
+-- Calls, and goals that are none.
+use Rattle.std.proofs.Common.{◌≡◌, ℕ, true, false, List, [], ◌∷◌, length, refl, sym, ap, ◌∙◌}
+use Rattle.std.specs.Prelude.{Some, None, slice_get, codes, bytes_eq}
+use Rattle.std.proofs.lemmas.Bool.{cond-true, cond-false}
+use Rattle.std.proofs.lemmas.Slice.Eq.{bytes_eq-Decides}
+use Rattle.kl1_model.specs.Term.{Term, variable, integer, atom, structure, Terms, none, more, count_of}
+use Rattle.kl1_model.specs.Match as model
+use Rattle.kl1_model.specs.Match.{call_of}
+use Rattle.kl1_model.specs.Reduction.{unifies, goes, built_in_move}
+use Rattle.kl1_model.specs.Waits.{awaited_in_call, awaited_at_head}
+use Rattle.kl1_store.specs.declared.cell.Cell.{Cell}
+use Rattle.kl1_store.specs.declared.cell.Cell.TheVariants.{Atom, Structure}
+use Rattle.kl1_store.specs.Held.{Held, arguments_of}
+use Rattle.kl1_store.specs.Meaning.{term_of, terms_of}
+use Rattle.kl1_store.specs.Sound.{IsFormed}
+use Rattle.kl1_store.proofs.Terms.{term_of-Structure}
+use Rattle.kl1_store.proofs.Meetings.{count_of-terms_of}
+use Rattle.kl1_match.specs.Verdicts.{arguments_of_goal}
+use Rattle.kl1_match.proofs.Cells.{at_atom}
+use Rattle.kl1_moves.specs.declared.call.Call.{Call}
+use Rattle.kl1_moves.specs.declared.calling.Callee.{Callee}
+use Rattle.kl1_moves.specs.declared.calling.Callee.TheVariants as callee
+use Rattle.kl1_moves.specs.Shapes.{IsNoGoal, two_terms}
+use Rattle.kl1_moves.specs.Calls.{atom_in, name_in, IsOf, IsNameless, CallsNothing, Calls, CalledIn, CalledAs}
+use Rattle.kl1_moves.specs.Kinds.{IsCall, IsUnification, IsTrueGoal}
+
+-- ---- under another name than `:`
+
+other_name : (f : List ℕ) (a b : Term) → bytes_eq f (codes ":") ≡ false → call_of (structure f (more a (more b none))) ≡ None
+other_name f (variable n) b e = refl
+other_name f (integer n) b e = refl
+other_name f (structure g us) b e = refl
+other_name f (atom m) (variable n) e = refl
+other_name f (atom m) (integer n) e = refl
+other_name f (atom m) (atom p) e = cond-false (bytes_eq f (codes ":")) (Some (record { module_name = m; name = p; arguments = none })) None e
+other_name f (atom m) (structure p ts) e = cond-false (bytes_eq f (codes ":")) (Some (record { module_name = m; name = p; arguments = ts })) None e
+
+other_head : (f : List ℕ) (a b : Term) → bytes_eq f (codes ":") ≡ false → awaited_at_head (structure f (more a (more b none))) ≡ []
+other_head f a b e = cond-false (bytes_eq f (codes ":")) (awaited_in_call a b) [] e
+
+own_head : (f : List ℕ) (a b : Term) → bytes_eq f (codes ":") ≡ true → awaited_at_head (structure f (more a (more b none))) ≡ awaited_in_call a b
+own_head f a b e = cond-true (bytes_eq f (codes ":")) (awaited_in_call a b) [] e
+
+no_unification : (f : List ℕ) (a b : Term) → bytes_eq f (codes "=") ≡ false → built_in_move (structure f (more a (more b none))) ≡ None
+no_unification f a b e = cond-false (bytes_eq f (codes "=")) (Some (unifies a b)) None e
+
+pub is_unification : {N : Type 0} (f : N → List ℕ) (h : Held N) (name : N) (left right : Cell N) → bytes_eq (f name) (codes ":") ≡ false → bytes_eq (f name) (codes "=") ≡ true → IsUnification f h (two_terms f h name left right) left right
+is_unification f h name left right ne e = record {
+  call = other_name (f name) (term_of f h left) (term_of f h right) ne;
+  built_in = cond-true (bytes_eq (f name) (codes "=")) (Some (unifies (term_of f h left) (term_of f h right))) None e;
+  awaits = other_head (f name) (term_of f h left) (term_of f h right) ne;
+}
+
+pub other_two : {N : Type 0} (f : N → List ℕ) (h : Held N) (name : N) (left right : Cell N) → bytes_eq (f name) (codes ":") ≡ false → bytes_eq (f name) (codes "=") ≡ false → IsNoGoal (two_terms f h name left right) []
+other_two f h name left right ne e = record {
+  call = other_name (f name) (term_of f h left) (term_of f h right) ne;
+  built_in = no_unification (f name) (term_of f h left) (term_of f h right) e;
+  awaits = other_head (f name) (term_of f h left) (term_of f h right) ne;
+}
+
+-- ---- modules and callees
+
+no_module_call : (f : List ℕ) (a b : Term) → atom_in a ≡ None → call_of (structure f (more a (more b none))) ≡ None
+no_module_call f (variable n) b e = refl
+no_module_call f (integer n) b e = refl
+no_module_call f (structure g us) b e = refl
+no_module_call f (atom m) b e = absurd (cc)
+
+pub no_module : (left right : Term) (vs : List ℕ) → atom_in left ≡ None → awaited_in_call left right ≡ vs → CallsNothing left right vs
+no_module left right vs e a = record { call = λ f. no_module_call f left right e; awaits = a }
+
+no_callee_call : (f : List ℕ) (a b : Term) → name_in b ≡ None → call_of (structure f (more a (more b none))) ≡ None
+no_callee_call f (variable n) b e = refl
+no_callee_call f (integer n) b e = refl
+no_callee_call f (structure g us) b e = refl
+no_callee_call f (atom m) (variable n) e = refl
+no_callee_call f (atom m) (integer n) e = refl
+no_callee_call f (atom m) (atom p) e = absurd (cc)
+no_callee_call f (atom m) (structure p ts) e = absurd (cc)
+
+no_callee : (left right : Term) (m : List ℕ) (vs : List ℕ) → left ≡ atom m → IsNameless right vs → CallsNothing left right vs
+no_callee left right m vs e n = record { call = λ f. no_callee_call f left right n.name; awaits = ap (λ t. awaited_in_call t right) e ∙ n.awaits m }
+
+-- what is called in the module of a name
+pub called_at : {N : Type 0} (f : N → List ℕ) (h : Held N) (left right : Cell N) (m : N) (r : Callee N) → term_of f h left ≡ atom (f m) → CalledIn f h m right r → CalledAs f h left right r
+called_at f h left right m (callee.Calls c) e k = record { module_is = ap atom_in e ∙ ap (λ x. Some (f x)) (sym k.module_is); goal_is = k.goal_is }
+called_at f h left right m (callee.Waits v) e k = no_callee (term_of f h left) (term_of f h right) (f m) (v ∷ []) e k
+called_at f h left right m callee.Nothing e k = no_callee (term_of f h left) (term_of f h right) (f m) [] e k
+
+pub of_structure : {N : Type 0} (f : N → List ℕ) (h : Held N) (goal x : Cell N) (s : ℕ) (m name : N) (count : ℕ) → IsFormed h → x ≡ Structure s → slice_get h.structures s ≡ Some (record { name = name; arguments = arguments_of h s }) →
+    term_of f h x ≡ term_of f h goal → count ≡ length (arguments_of h s) → IsOf f h (term_of f h goal) (record { module_name = m; name = name; count = count; structure = Some s })
+of_structure f h goal x s m name count p e at means counted =
+    let ts = terms_of f h (arguments_of h s) in
+    let is = sym means ∙ ap (term_of f h) e ∙ term_of-Structure f h s name p at in
+    record {
+      means = sym (ap (term_of f h) e) ∙ means;
+      name_is = ap name_in is;
+      counted = ap (λ t. count_of (arguments_of_goal t)) is ∙ count_of-terms_of f h (arguments_of h s) ∙ sym counted;
+    }
+
+pub of_atom : {N : Type 0} (f : N → List ℕ) (h : Held N) (goal x : Cell N) (m name : N) → x ≡ Atom name → term_of f h x ≡ term_of f h goal → IsOf f h (term_of f h goal) (record { module_name = m; name = name; count = 0; structure = None })
+of_atom f h goal x m name e means =
+    let is = sym means ∙ at_atom f h x name e in
+    record { means = sym (ap (term_of f h) e) ∙ means; name_is = ap name_in is; counted = ap (λ t. count_of (arguments_of_goal t)) is }
+
+pub nameless : (t u : Term) (vs : List ℕ) → t ≡ u → name_in u ≡ None → ((m : List ℕ) → awaited_in_call (atom m) u ≡ vs) → IsNameless t vs
+nameless t u vs e n a = record { name = ap name_in e ∙ n; awaits = λ m. ap (awaited_in_call (atom m)) e ∙ a m }
+
+-- ---- calls
+
+-- a call by its parts
+abbrev call_with : List ℕ → List ℕ → Terms → model.Call
+call_with m p ts = record { module_name = m; name = p; arguments = ts }
+
+some_text : {x y : List ℕ} → Some x ≡ Some y → x ≡ y
+some_text e = cc
+
+calls : (f m p : List ℕ) (a b : Term) → bytes_eq f (codes ":") ≡ true → atom_in a ≡ Some m → name_in b ≡ Some p → call_of (structure f (more a (more b none))) ≡ Some (call_with m p (arguments_of_goal b))
+calls f m p (variable n) b e l r = absurd (cc)
+calls f m p (integer n) b e l r = absurd (cc)
+calls f m p (structure g us) b e l r = absurd (cc)
+calls f m p (atom n) (variable k) e l r = absurd (cc)
+calls f m p (atom n) (integer k) e l r = absurd (cc)
+calls f m p (atom n) (atom q) e l r =
+    cond-true (bytes_eq f (codes ":")) (Some (call_with n q none)) None e ∙ ap (λ x. Some (call_with x q none)) (some_text l) ∙ ap (λ x. Some (call_with m x none)) (some_text r)
+calls f m p (atom n) (structure q ts) e l r =
+    cond-true (bytes_eq f (codes ":")) (Some (call_with n q ts)) None e ∙ ap (λ x. Some (call_with x q ts)) (some_text l) ∙ ap (λ x. Some (call_with m x ts)) (some_text r)
+
+call_awaits : (m p : List ℕ) (a b : Term) → atom_in a ≡ Some m → name_in b ≡ Some p → awaited_in_call a b ≡ []
+call_awaits m p (variable n) b l r = absurd (cc)
+call_awaits m p (integer n) b l r = refl
+call_awaits m p (structure g us) b l r = refl
+call_awaits m p (atom n) (variable k) l r = absurd (cc)
+call_awaits m p (atom n) (integer k) l r = refl
+call_awaits m p (atom n) (atom q) l r = refl
+call_awaits m p (atom n) (structure q ts) l r = refl
+
+pub is_call : {N : Type 0} (f : N → List ℕ) (h : Held N) (name : N) (left right : Cell N) (c : Call N) → bytes_eq (f name) (codes ":") ≡ true → Calls f h (term_of f h left) (term_of f h right) c → IsCall f h (two_terms f h name left right) c
+is_call f h name left right c e k = record {
+  is =
+      calls (f name) (f c.module_name) (f c.name) (term_of f h left) (term_of f h right) e k.module_is k.goal_is.name_is
+      ∙ ap (λ x. Some (call_with (f c.module_name) (f c.name) (arguments_of_goal x))) (sym k.goal_is.means);
+  counted = ap (λ x. count_of (arguments_of_goal x)) k.goal_is.means ∙ k.goal_is.counted;
+  awaits = own_head (f name) (term_of f h left) (term_of f h right) e ∙ call_awaits (f c.module_name) (f c.name) (term_of f h left) (term_of f h right) k.module_is k.goal_is.name_is;
+}
+
+pub nothing_called : {N : Type 0} (f : N → List ℕ) (h : Held N) (name : N) (left right : Cell N) (vs : List ℕ) → bytes_eq (f name) (codes ":") ≡ true → CallsNothing (term_of f h left) (term_of f h right) vs → IsNoGoal (two_terms f h name left right) vs
+nothing_called f h name left right vs is n =
+    let text : f name ≡ codes ":" = (bytes_eq-Decides (f name) (codes ":")).0 is in
+    record {
+      call = n.call (f name);
+      built_in = no_unification (f name) (term_of f h left) (term_of f h right) (ap (λ l. bytes_eq l (codes "=")) text);
+      awaits = own_head (f name) (term_of f h left) (term_of f h right) is ∙ n.awaits;
+    }
+
+-- ---- atoms
+
+pub is_true_goal : (t : Term) (a : List ℕ) → t ≡ atom a → bytes_eq a (codes "true") ≡ true → IsTrueGoal t
+is_true_goal t a e is = record { call = ap call_of e; built_in = ap built_in_move e ∙ cond-true (bytes_eq a (codes "true")) (Some goes) None is; awaits = ap awaited_at_head e }
+
+pub other_atom : (t : Term) (a : List ℕ) → t ≡ atom a → bytes_eq a (codes "true") ≡ false → IsNoGoal t []
+other_atom t a e is = record { call = ap call_of e; built_in = ap built_in_move e ∙ cond-false (bytes_eq a (codes "true")) (Some goes) None is; awaits = ap awaited_at_head e }
+
+pub no_goal_yet : (t : Term) (v : ℕ) → t ≡ variable v → IsNoGoal t (v ∷ [])
+no_goal_yet t v e = record { call = ap call_of e; built_in = ap built_in_move e; awaits = ap awaited_at_head e }

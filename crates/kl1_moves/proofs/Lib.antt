@@ -1,0 +1,4 @@
+pub mod Tops
+pub mod Callees
+pub mod Candidates
+pub mod Taking

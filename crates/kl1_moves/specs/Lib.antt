@@ -1,0 +1,6 @@
+pub mod Shapes
+pub mod Calls
+pub mod Kinds
+pub mod Moves
+pub mod Standing
+pub mod Bodies

@@ -1,0 +1,93 @@
+-- What a goal can do, by the definitions, told of cells and compiled clauses.
+use Rattle.std.specs.Prelude.{◌≡◌, ℕ, ◌-◌, ◌<◌, List, [], ◌∷◌, length, map, Option, Some, None, slice_get}
+use Rattle.kl1_model.specs.Term.{Term, Terms}
+use Rattle.kl1_model.specs.Module.{Clause, Module}
+use Rattle.kl1_model.specs.Match.{clauses_of, Candidate, candidate_by, verdict}
+use Rattle.kl1_model.specs.Reduction.{commits, raises, unifies, goes, failure}
+use Rattle.kl1_model.specs.Waits.{move_by, least_clause}
+use Rattle.kl1_store.specs.Held.{Held, IsIn}
+use Rattle.kl1_store.specs.Meaning.{term_of}
+use Rattle.kl1_clause.specs.declared.compiled_clause.CompiledClause.{CompiledClause}
+use Rattle.kl1_clause.specs.declared.predicate.Predicate.{Predicate}
+use Rattle.kl1_clause.specs.Clauses.{IsCompiled, AreCompiled}
+use Rattle.kl1_match.specs.declared.place.Place.{Place}
+use Rattle.kl1_match.specs.Instances.{AreThere, replacements_of}
+use Rattle.kl1_moves.specs.declared.call.Call.{Call}
+use Rattle.kl1_moves.specs.declared.kind.Kind.{Kind}
+use Rattle.kl1_moves.specs.declared.kind.Kind.TheVariants as kind
+use Rattle.kl1_moves.specs.declared.moves.Move.{Move}
+use Rattle.kl1_moves.specs.declared.moves.Move.TheVariants as move
+use Rattle.kl1_moves.specs.Calls.{arguments_at, call_at}
+
+-- where a goal is a call, these are the clauses of its predicate compiled
+abbrev pub HasPredicate : {N : Type 0} → (N → List ℕ) → Held N → List Module → Kind N → Predicate N → Type 0
+HasPredicate f h modules (kind.Calls c) p = AreCompiled (map f p.names.now) p.clauses.now (clauses_of modules (call_at f h c))
+HasPredicate f h modules (kind.Unifies a b) p = Unit {0}
+HasPredicate f h modules kind.Goes p = Unit {0}
+HasPredicate f h modules (kind.Waits v) p = Unit {0}
+HasPredicate f h modules kind.Nothing p = Unit {0}
+
+-- the clause of a move is one of the predicate, and its cells are of the store
+abbrev pub MoveIn : {N : Type 0} → Held N → Predicate N → List (Place N) → Option (Move N) → Type 0
+MoveIn h p places None = Unit {0}
+MoveIn h p places (Some (move.Commits place)) = (place < length p.clauses.now) × AreThere h places
+MoveIn h p places (Some move.Fails) = Unit {0}
+MoveIn h p places (Some (move.Unifies a b)) = IsIn h a × IsIn h b
+MoveIn h p places (Some move.Goes) = Unit {0}
+
+-- the move of a call that fails, or nothing
+abbrev pub FailsAs : {N : Type 0} → (N → List ℕ) → Held N → Call N → List Clause → Option (Move N) → Type 0
+FailsAs f h c cs None = least_clause cs (arguments_at f h c) ≡ Some 0 → ⊥
+FailsAs f h c cs (Some (move.Commits place)) = ⊥
+FailsAs f h c cs (Some move.Fails) = least_clause cs (arguments_at f h c) ≡ Some 0
+FailsAs f h c cs (Some (move.Unifies a b)) = ⊥
+FailsAs f h c cs (Some move.Goes) = ⊥
+
+-- the first candidate
+abbrev pub first_candidate : List Candidate → Option Candidate
+first_candidate [] = None
+first_candidate (k ∷ ks) = Some k
+
+-- the candidate that a clause is, where it is there and accepts
+abbrev pub candidate_of : ℕ → Terms → Option Clause → Option Candidate
+candidate_of number ts None = None
+candidate_of number ts (Some c) = first_candidate (candidate_by number c (verdict c ts))
+
+-- the candidate of a number among the clauses of a call
+abbrev pub candidate_at : {N : Type 0} → (N → List ℕ) → Held N → Call N → List Clause → ℕ → Option Candidate
+candidate_at f h c cs number = candidate_of number (arguments_at f h c) (slice_get cs (number - 1))
+
+-- this candidate has the clause at a place of a predicate, and these cells at the places of its head's variables
+pub record IsCandidate {N : Type 0} (f : N → List ℕ) (h : Held N) (p : Predicate N) (place : ℕ) (places : List (Place N)) (k : Candidate) : Type 0 where
+  pub compiled : CompiledClause
+  pub at : slice_get p.clauses.now place ≡ Some compiled
+  pub is : IsCompiled (map f p.names.now) compiled k.clause
+  pub places_are : replacements_of f h places ≡ k.places
+
+-- the candidate of a number, whose clause stands at a place
+pub record CommitsBy {N : Type 0} (f : N → List ℕ) (h : Held N) (c : Call N) (p : Predicate N) (cs : List Clause) (number place : ℕ) (places : List (Place N)) : Type 0 where
+  pub candidate : Candidate
+  pub found : candidate_at f h c cs number ≡ Some candidate
+  pub is : IsCandidate f h p place places candidate
+
+-- the move by the clause of a number, or nothing
+abbrev pub CommitsAs : {N : Type 0} → (N → List ℕ) → Held N → Call N → Predicate N → List Clause → ℕ → List (Place N) → Option (Move N) → Type 0
+CommitsAs f h c p cs number places None = candidate_at f h c cs number ≡ None
+CommitsAs f h c p cs number places (Some (move.Commits place)) = CommitsBy f h c p cs number place places
+CommitsAs f h c p cs number places (Some move.Fails) = ⊥
+CommitsAs f h c p cs number places (Some (move.Unifies a b)) = ⊥
+CommitsAs f h c p cs number places (Some move.Goes) = ⊥
+
+-- the move is a candidate, whose clause stands at a place
+pub record CommitsTo {N : Type 0} (f : N → List ℕ) (h : Held N) (modules : List Module) (t : Term) (number : ℕ) (p : Predicate N) (place : ℕ) (places : List (Place N)) : Type 0 where
+  pub candidate : Candidate
+  pub moves : move_by modules t number ≡ Some (commits candidate)
+  pub is : IsCandidate f h p place places candidate
+
+-- what a goal can do by the clause of a number is this move
+abbrev pub MovesAs : {N : Type 0} → (N → List ℕ) → Held N → List Module → Term → ℕ → Predicate N → List (Place N) → Option (Move N) → Type 0
+MovesAs f h modules t number p places None = move_by modules t number ≡ None
+MovesAs f h modules t number p places (Some (move.Commits place)) = CommitsTo f h modules t number p place places
+MovesAs f h modules t number p places (Some move.Fails) = move_by modules t number ≡ Some (raises failure)
+MovesAs f h modules t number p places (Some (move.Unifies a b)) = move_by modules t number ≡ Some (unifies (term_of f h a) (term_of f h b))
+MovesAs f h modules t number p places (Some move.Goes) = move_by modules t number ≡ Some goes

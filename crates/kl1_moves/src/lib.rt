@@ -1,0 +1,21 @@
+//! What goals can do, over cells: what goal a cell is, by which clause it can step, what it waits for, and its body's goals.
+#![tactic(auto)]
+
+mod call;
+mod calling;
+mod committing;
+mod kind;
+mod moves;
+mod naming;
+mod predicates;
+mod shape;
+mod standing;
+mod trial;
+
+pub use call::Call;
+pub use committing::commit;
+pub use kind::{Kind, kind_of};
+pub use moves::{Move, move_of};
+pub use predicates::or_none;
+pub use standing::standing_of;
+pub use trial::Trial;

@@ -1,0 +1,142 @@
+// What goals can do.
+
+ghost use Rattle.std.specs.Prelude.{◌≡◌, ℕ, ◌<◌, List, map, length, IfOk, slice_index_or};
+ghost use Rattle.kl1_model.specs.Module.{Clause, Module};
+ghost use Rattle.kl1_model.specs.Term.{Term};
+ghost use Rattle.kl1_text.specs.Reading.{Reads};
+ghost use Rattle.kl1_store.specs.Held.{IsIn};
+ghost use Rattle.kl1_clause.specs.Clauses.{AreCompiled};
+ghost use Rattle.kl1_clause.specs.Predicates.{AreSome};
+ghost use Rattle.kl1_moves.specs.Calls.{cell_of};
+ghost use Rattle.kl1_moves.specs.Kinds.{IsKind, KindIn};
+ghost use Rattle.kl1_moves.specs.Moves.{HasPredicate, MoveIn, FailsAs, CommitsAs, MovesAs};
+
+use crate::call::Call;
+use crate::kind::Kind;
+use crate::trial::Trial;
+use kl1_clause::{CompiledClause, Predicate};
+use kl1_match::{Verdict, choose, verdict_on};
+use kl1_store::{Cell, Store};
+use kl1_text::NameValue;
+use std::alloc::AllocError;
+
+/// What a goal can do: commit to the clause at a place among those of its predicate, from 0; fail; unify two terms; or nothing
+/// but go.
+#[derive(Clone, Copy)]
+pub enum Move<N> {
+    Commits(usize),
+    Fails,
+    Unifies(Cell<N>, Cell<N>),
+    Goes,
+}
+
+/// What a goal of a kind can do by the clause of a number, or nothing where that isn't allowed. Where it commits, the cells at
+/// the places of the clause's head are in the trial; otherwise nothing is said of what is there.
+pub fn move_of<N: NameValue>(
+    store: &Store<N>,
+    kind: Kind<N>,
+    predicate: Predicate<'_, N>,
+    clause: u64,
+    trial: &mut Trial<N>,
+) -> Result<Option<Move<N>>, AllocError>
+    requires kind { KindIn store.now.held kind }
+    requires predicate { AreSome predicate.names.now predicate.clauses.now }
+    ensures inside { IfOk result (MoveIn store.now.held predicate.entry trial.new.places.items) }
+    ensures moves { IfOk result (λ found. (f : N → List ℕ) → Reads N.built f → (modules : List Module) (t : Term) → IsKind f store.now.held t kind → HasPredicate f store.now.held modules kind predicate.entry → MovesAs f store.now.held modules t clause predicate.entry trial.new.places.items found) }
+{
+    match kind {
+        Kind::Calls(call) => {
+            if clause == 0 {
+                return failing(store, call, predicate, trial);
+            }
+            committing(store, call, predicate, clause, trial)
+        }
+        Kind::Unifies(left, right) => {
+            if clause == 0 {
+                return Ok(Some(Move::Unifies(left, right)));
+            }
+            Ok(None)
+        }
+        Kind::Goes => {
+            if clause == 0 {
+                return Ok(Some(Move::Goes));
+            }
+            Ok(None)
+        }
+        Kind::Waits(_) => Ok(None),
+        Kind::Nothing => Ok(None),
+    }
+}
+
+/// The move of a call that fails, or nothing.
+fn failing<N: NameValue>(
+    store: &Store<N>,
+    call: Call<N>,
+    predicate: Predicate<'_, N>,
+    trial: &mut Trial<N>,
+) -> Result<Option<Move<N>>, AllocError>
+    requires call { IsIn store.now.held (cell_of call) }
+    requires predicate { AreSome predicate.names.now predicate.clauses.now }
+    ensures inside { IfOk result (MoveIn store.now.held predicate.entry trial.new.places.items) }
+    ensures fails { IfOk result (λ found. (f : N → List ℕ) → Reads N.built f → (cs : List Clause) → AreCompiled (map f predicate.entry.names.now) predicate.entry.clauses.now cs → FailsAs f store.now.held call cs found) }
+{
+    trial.awaited.clear();
+    match choose(
+        store,
+        predicate.names,
+        predicate.clauses,
+        call.cell(),
+        &mut trial.scratch,
+        &mut trial.awaited,
+    )? {
+        None => Ok(None),
+        Some(number) => {
+            if number == 0 {
+                return Ok(Some(Move::Fails));
+            }
+            Ok(None)
+        }
+    }
+}
+
+/// The clause at a place, from 0.
+pub(crate) fn nth(clauses: &[CompiledClause], place: usize) -> &CompiledClause
+    requires { place < length clauses.now }
+    ensures { result.now ≡ slice_index_or clauses.now place result.now }
+{
+    &clauses[place]
+}
+
+/// The move of a call by the clause of a number, from 1, or nothing.
+fn committing<N: NameValue>(
+    store: &Store<N>,
+    call: Call<N>,
+    predicate: Predicate<'_, N>,
+    number: u64,
+    trial: &mut Trial<N>,
+) -> Result<Option<Move<N>>, AllocError>
+    requires call { IsIn store.now.held (cell_of call) }
+    requires number { 0 < number }
+    requires predicate { AreSome predicate.names.now predicate.clauses.now }
+    ensures inside { IfOk result (MoveIn store.now.held predicate.entry trial.new.places.items) }
+    ensures commits { IfOk result (λ found. (f : N → List ℕ) → Reads N.built f → (cs : List Clause) → AreCompiled (map f predicate.entry.names.now) predicate.entry.clauses.now cs → CommitsAs f store.now.held call predicate.entry cs number trial.new.places.items found) }
+{
+    let place = (number - 1) as usize;
+    if place >= predicate.clauses.len() {
+        return Ok(None);
+    }
+    trial.awaited.clear();
+    match verdict_on(
+        store,
+        predicate.names,
+        nth(predicate.clauses, place),
+        call.cell(),
+        &mut trial.scratch,
+        &mut trial.places,
+        &mut trial.awaited,
+    )? {
+        Verdict::Accepts => Ok(Some(Move::Commits(place))),
+        Verdict::Rejects => Ok(None),
+        Verdict::Suspends => Ok(None),
+    }
+}

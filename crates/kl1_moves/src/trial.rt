@@ -1,0 +1,25 @@
+// What trying clauses works with, and what it leaves.
+
+use kl1_match::{Place, Scratch};
+use kl1_text::NameValue;
+use std::alloc::Global;
+
+/// Lists that calls work with, and keep for the next: scratch, the cells at the places of the head's variables of the clause
+/// that was tried last, and the variables that a goal waits for. It takes no memory until a call needs some.
+#[derive(Drop)]
+pub struct Trial<N: NameValue> {
+    pub scratch: Scratch<N>,
+    pub places: Vec<Place<N>>,
+    pub awaited: Vec<u32>,
+}
+
+impl<N: NameValue> Trial<N> {
+    /// Lists that hold nothing.
+    pub fn new(alloc: Global) -> Self {
+        Trial {
+            scratch: Scratch::new(alloc),
+            places: Vec::new(alloc),
+            awaited: Vec::new(alloc),
+        }
+    }
+}
