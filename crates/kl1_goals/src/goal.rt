@@ -5,8 +5,8 @@ ghost use Rattle.kl1_goals.specs.Lists.{is_monitor, is_goal_of};
 
 use crate::task::Task;
 
-/// A goal: its number in the account, from 1, its task, the number of its shoen, its priority, at most a monitor's, and the number of
-/// the clause by which it can step, as of the last change; none where it can't step.
+/// A goal: its number in the account, from 1, its task, the number of its shoen, its priority, at most a monitor's, and the
+/// number of the clause by which it can step, as of the last change; none where it can't step.
 #[derive(Clone, Copy)]
 pub struct Goal<N> {
     pub number: u64,
