@@ -1,5 +1,6 @@
 -- Ranks of places, and the first of them.
 use Rattle.std.specs.Prelude.{◌≡◌, ℕ, ◌+◌, ◌<◌, ◌≤◌, List, length, get_or, Option, Some, None}
+use Rattle.kl1_model.specs.Limits.{monitor_priority}
 
 -- the ranks of places in order, 0 where a place isn't ready, else its priority and one, and how many more places can't be refused
 pub record Queued : Type 0 where
@@ -11,10 +12,10 @@ abbrev pub rank_of : Option ℕ → ℕ
 rank_of None = 0
 rank_of (Some priority) = priority + 1
 
--- a priority, where there is one, of at most 4,096
+-- a priority, where there is one, of at most a monitor's
 abbrev pub IsPriority : Option ℕ → Type 0
 IsPriority None = Unit {0}
-IsPriority (Some priority) = priority ≤ 4096
+IsPriority (Some priority) = priority ≤ monitor_priority
 
 -- no place is ready
 abbrev pub AreNone : List ℕ → Type 0

@@ -1,6 +1,7 @@
 // The queue of places that are ready.
 
 ghost use Rattle.std.specs.Prelude.{◌≡◌, ◌+◌, ◌<◌, ◌≤◌, List, [], ◌∷◌, ◌++◌, length, set, take, drop, MatchOption, IfOk, IfSome, IfNone, OnOk, OnErr};
+ghost use Rattle.kl1_model.specs.Limits.{monitor_priority};
 ghost use Rattle.kl1_queue.specs.Ranks.{Queued, rank_of, AreNone, IsFirst, IsPriority};
 
 use crate::tree::{first_leaf, set_leaf};
@@ -10,7 +11,7 @@ use std::marker::Model;
 /// How many places a queue can be asked to have.
 const MOST: usize = 0x4000_0000;
 
-/// Places from 0 in order, each not ready, or ready with a priority, 0 to 4,096.
+/// Places from 0 in order, each not ready, or ready with a priority, from 0 to a monitor's.
 ///
 /// The ranks are the leaves of a tree, in whose inner nodes stands the greater of two ranks: a change costs a walk up from a
 /// leaf as far as something changes, and the first is found by a walk down.
@@ -147,7 +148,7 @@ impl ReadyQueue {
     /// A place is ready with a priority from now on.
     pub fn put(&mut self, place: usize, priority: u16)
         requires place { place < length self.old.ranks }
-        requires priority { priority ≤ 4096 }
+        requires priority { priority ≤ monitor_priority }
         ensures { self.new ≡ record self.old { ranks = set self.old.ranks place (priority + 1) } }
     {
         self.set_rank(place, priority + 1);
