@@ -1,13 +1,13 @@
 -- What is kept of shoens, as goals come and go.
 use Rattle.std.proofs.Common.{◌≡◌, ℕ, zero, suc, ◌+◌, ◌-◌, ◌<◌, ◌≤◌, ◌==◌, ◌&&◌, ◌||◌, not, Bool, true, false, cond, nat_lt, List, [], ◌∷◌, ◌++◌, Option, Some, None, length, get_or, map, refl, sym, ◌∙◌, ap, subst, arith, inl, inr, eq-eqb}
-use Rattle.std.specs.List.{filter, list_any}
+use Rattle.std.specs.List.{filter, find, list_any}
 use Rattle.std.specs.Option.{option_to_list}
-use Rattle.std.proofs.lemmas.Bool.{false≢true, ne_eqb, lt-ltb, cases_lt, cases_eq, eqb-true}
+use Rattle.std.proofs.lemmas.Bool.{false≢true, ne_eqb, lt-ltb, le-ltb, cases_lt, cases_eq, eqb-true}
 use Rattle.std.proofs.lemmas.List.{append-nil, length-map, length_push, nil_from_length, get_or_past}
 use Rattle.std.proofs.lemmas.List.Elements.{filter-append}
 use Rattle.kl1_goals.specs.declared.goal.Goal.{Goal}
 use Rattle.kl1_goals.specs.declared.tally.Tally.{Tally}
-use Rattle.kl1_goals.specs.Lists.{is_monitor, is_other, is_goal_of, is_monitor_of, number_of, stood_by}
+use Rattle.kl1_goals.specs.Lists.{is_monitor, has_number, is_other, is_goal_of, is_monitor_of, number_of, stood_by}
 use Rattle.kl1_goals.specs.Tables.{Ascend}
 use Rattle.kl1_goals.specs.Slots.{IsWithout}
 use Rattle.kl1_goals.specs.Tallies.{nothing, tally_at, raised, lowered, IsTally}
@@ -182,3 +182,33 @@ only_other p from n [] a e = refl
 only_other p from n (g ∷ gs) a e =
     only_on (p g) n g (filter p gs) gs (filter (is_other n) gs) (filter (λ g. not (p g)) gs) e
     (λ k. goals_others n (suc g.number) gs (omega (arith, k)) a.1) (none_fail p gs) (λ f. (only_from p (suc g.number) n gs a.1 f, only_other p (suc g.number) n gs a.1 f))
+
+-- how a count falls when the goal of a number goes
+one_more : {N : Type 0} (b : Bool) (g : Goal N) (gs : List (Goal N)) → length (cond b (g ∷ gs) gs) ≡ length gs + cond b 1 0
+one_more false g gs = omega arith
+one_more true g gs = omega arith
+
+beside_after : {N : Type 0} (b : Bool) (h : Goal N) (fs os : List (Goal N)) (k : ℕ) → length fs ≡ length os + k → length (cond b (h ∷ fs) fs) ≡ length (cond b (h ∷ os) os) + k
+beside_after false h fs os k e = e
+beside_after true h fs os k e = omega (arith, e)
+
+beside_on : {N : Type 0} (p : Goal N → Bool) (b : Bool) (h g : Goal N) (gs others : List (Goal N)) (o : Option (Goal N)) → cond b (Some h) o ≡ Some g → (b ≡ true → others ≡ gs) →
+    (o ≡ Some g → length (filter p gs) ≡ length (filter p others) + cond (p g) 1 0) → length (filter p (h ∷ gs)) ≡ length (filter p (cond (not b) (h ∷ others) others)) + cond (p g) 1 0
+beside_on p true h g gs others o e same rest = let k : h ≡ g = cc in rw (← k, same refl) (one_more (p h) h (filter p gs))
+beside_on p false h g gs others o e same rest = beside_after (p h) h (filter p gs) (filter p others) (cond (p g) 1 0) (rest e)
+
+count_beside : {N : Type 0} (p : Goal N → Bool) (from n : ℕ) (gs : List (Goal N)) (g : Goal N) → Ascend from (map number_of gs) → find (has_number n) gs ≡ Some g → length (filter p gs) ≡ length (filter p (filter (is_other n) gs)) + cond (p g) 1 0
+count_beside p from n [] g a e = absurd (cc)
+count_beside p from n (h ∷ gs) g a e =
+    beside_on p (h.number == n) h g gs (filter (is_other n) gs) (find (has_number n) gs) e
+    (λ k. goals_others n (suc h.number) gs (omega (arith, eqb-true h.number n k)) a.1) (λ f. count_beside p (suc h.number) n gs g a.1 f)
+
+above_fallen : (b : Bool) (l count : ℕ) → count ≡ l + cond b 1 0 → nat_lt (cond b 1 0) count ≡ nat_lt 0 l
+above_fallen false l count e = elim (cases_lt 0 l) [ inl a ↦ lt-ltb 0 count (omega (arith, e)) ∙ sym (lt-ltb 0 l a) | inr a ↦ le-ltb 0 count (omega (arith, e)) ∙ sym (le-ltb 0 l a) ]
+above_fallen true l count e = elim (cases_lt 0 l) [ inl a ↦ lt-ltb 1 count (omega (arith, e)) ∙ sym (lt-ltb 0 l a) | inr a ↦ le-ltb 1 count (omega (arith, e)) ∙ sym (le-ltb 0 l a) ]
+
+pub any_beside : {N : Type 0} (p : Goal N → Bool) (b : Bool) (n count : ℕ) (gs : List (Goal N)) (g : Goal N) → Ascend 0 (map number_of gs) → find (has_number n) gs ≡ Some g → count ≡ length (filter p gs) → p g ≡ b →
+    nat_lt (cond b 1 0) count ≡ list_any p (filter (is_other n) gs)
+any_beside p b n count gs g a f e s =
+    let others = filter (is_other n) gs in
+    above_fallen b (length (filter p others)) count (e ∙ count_beside p 0 n gs g a f ∙ ap (λ x. length (filter p others) + cond x 1 0) s) ∙ sym (any_counted p others)

@@ -2,10 +2,11 @@
 use Rattle.std.proofs.Common.{◌≡◌, ℕ, zero, suc, ◌<◌, ◌≤◌, ◌==◌, Bool, true, false, cond, List, [], ◌∷◌, ◌++◌, Option, Some, None, IfSome, length, map, refl, sym, ◌∙◌, ap, arith}
 use Rattle.std.specs.List.{filter, find}
 use Rattle.std.proofs.lemmas.Bool.{ltb-true}
+use Rattle.kl1_model.specs.Limits.{monitor_priority}
 use Rattle.kl1_goals.specs.declared.goal.Goal.{Goal}
 use Rattle.kl1_goals.specs.declared.slot.Slot.{Slot}
 use Rattle.kl1_goals.specs.declared.tally.Tally.{Tally}
-use Rattle.kl1_goals.specs.Lists.{has_number, is_other, is_after, stood_by}
+use Rattle.kl1_goals.specs.Lists.{has_number, is_other, is_after, is_goal_of, stood_by}
 use Rattle.kl1_goals.specs.Tables.{IsKnown}
 use Rattle.kl1_goals.specs.Slots.{goals_in, level_in, AreLow}
 use Rattle.kl1_goals.specs.Tallies.{nothing, tally_at, IsTally, IsTable}
@@ -45,15 +46,15 @@ pub found_counts : {N : Type 0} (q p : Goal N → Bool) (gs : List (Goal N)) (g 
 found_counts q p [] g f e = absurd (cc)
 found_counts q p (h ∷ gs) g f e = counts_on q p (q h) h g gs f e (λ k. found_counts q p gs g k e)
 
-low_goal_on : {N : Type 0} (q : Goal N → Bool) (c : Bool) (h g : Goal N) (gs : List (Goal N)) → h.priority ≤ 4096 → cond c (Some h) (find q gs) ≡ Some g → (find q gs ≡ Some g → g.priority ≤ 4096) → g.priority ≤ 4096
+low_goal_on : {N : Type 0} (q : Goal N → Bool) (c : Bool) (h g : Goal N) (gs : List (Goal N)) → h.priority ≤ monitor_priority → cond c (Some h) (find q gs) ≡ Some g → (find q gs ≡ Some g → g.priority ≤ monitor_priority) → g.priority ≤ monitor_priority
 low_goal_on {N = N} q true h g gs p f rest = let k : h ≡ g = cc in omega (arith, p, ap (λ (v : Goal N). v.priority) k)
 low_goal_on q false h g gs p f rest = rest f
 
-low_slot_on : {N : Type 0} (q : Goal N → Bool) (b : Bool) (h g : Goal N) (gs : List (Goal N)) → h.priority ≤ 4096 → find q (cond b (h ∷ gs) gs) ≡ Some g → (find q gs ≡ Some g → g.priority ≤ 4096) → g.priority ≤ 4096
+low_slot_on : {N : Type 0} (q : Goal N → Bool) (b : Bool) (h g : Goal N) (gs : List (Goal N)) → h.priority ≤ monitor_priority → find q (cond b (h ∷ gs) gs) ≡ Some g → (find q gs ≡ Some g → g.priority ≤ monitor_priority) → g.priority ≤ monitor_priority
 low_slot_on q false h g gs p f rest = rest f
 low_slot_on q true h g gs p f rest = low_goal_on q (q h) h g gs p f rest
 
-found_low : {N : Type 0} (q : Goal N → Bool) (ss : List (Slot N)) (g : Goal N) → AreLow (map level_in ss) → find q (goals_in ss) ≡ Some g → g.priority ≤ 4096
+found_low : {N : Type 0} (q : Goal N → Bool) (ss : List (Slot N)) (g : Goal N) → AreLow (map level_in ss) → find q (goals_in ss) ≡ Some g → g.priority ≤ monitor_priority
 found_low q [] g a f = absurd (cc)
 found_low q (s ∷ ss) g a f = low_slot_on q s.is_held s.goal g (goals_in ss) a.0 f (found_low q ss g a.1)
 
@@ -83,3 +84,7 @@ missing_others n (g ∷ gs) e = let m = missing_head (g.number == n) g (find (ha
 pub missing_stood : {N : Type 0} (n : ℕ) (clause : Option ℕ) (gs : List (Goal N)) → find (has_number n) gs ≡ None → map (stood_by n clause) gs ≡ gs
 missing_stood n clause [] e = refl
 missing_stood n clause (g ∷ gs) e = let m = missing_head (g.number == n) g (find (has_number n) gs) e in rw m.0 (ap (λ l. g ∷ l) (missing_stood n clause gs m.1))
+
+-- how many goals a shoen has, by what is kept of it
+pub goals_counted : {N : Type 0} (n : ℕ) (ss : List (Slot N)) (empty : ℕ) (ranks : List ℕ) (ts : List Tally) (t : Tally) (gs : List (Goal N)) → IsTable ss empty ranks ts → t ≡ tally_at ts n → goals_in ss ≡ gs → t.goals ≡ length (filter (is_goal_of n) gs)
+goals_counted n ss empty ranks ts t gs h e s = ap (λ (u : Tally). u.goals) e ∙ (h.tallied n).goals ∙ ap (λ l. length (filter (is_goal_of n) l)) s

@@ -1,5 +1,6 @@
 -- The places of a table.
 use Rattle.std.specs.Prelude.{◌≡◌, ℕ, ◌+◌, ◌<◌, ◌≤◌, ◌&&◌, Bool, true, false, cond, List, [], ◌∷◌, map, length, get_or, Option, Some, None}
+use Rattle.kl1_model.specs.Limits.{monitor_priority}
 use Rattle.kl1_queue.specs.Ranks.{rank_of}
 use Rattle.kl1_goals.specs.declared.goal.Goal.{Goal}
 use Rattle.kl1_goals.specs.declared.slot.Slot.{Slot}
@@ -42,10 +43,10 @@ priority_in s = cond (s.is_held && stands s.goal) (Some s.goal.priority) None
 abbrev pub rank_in : {N : Type 0} → Slot N → ℕ
 rank_in s = rank_of (priority_in s)
 
--- priorities of at most 4,096
+-- priorities of at most a monitor's
 abbrev pub AreLow : List ℕ → Type 0
 AreLow [] = Unit {0}
-AreLow (p ∷ ps) = (p ≤ 4096) × AreLow ps
+AreLow (p ∷ ps) = (p ≤ monitor_priority) × AreLow ps
 
 -- numbers below this one
 abbrev pub AreBelow : ℕ → List ℕ → Type 0

@@ -1,12 +1,12 @@
 // Goals.
 
 ghost use Rattle.std.specs.Prelude.{◌≡◌};
-ghost use Rattle.kl1_goals.specs.Lists.{is_monitor};
+ghost use Rattle.kl1_goals.specs.Lists.{is_monitor, is_goal_of};
 
 use crate::task::Task;
 
-/// A goal: its number in the account, from 1, its task, the number of its shoen, its priority, 0 to 4,096, and the number of
-/// the clause by which it can step, as of the last change; none where it can't step.
+/// A goal: its number in the account, from 1, its task, the number of its shoen, its priority, at most a monitor's, and the
+/// number of the clause by which it can step, as of the last change; none where it can't step.
 #[derive(Clone, Copy)]
 pub struct Goal<N> {
     pub number: u64,
@@ -25,5 +25,12 @@ impl<N> Goal<N> {
             Task::Monitor => true,
             Task::Reduces(_) => false,
         }
+    }
+
+    /// Whether it is of a shoen, and not its monitor.
+    pub(crate) fn is_goal_of(&self, shoen: u64) -> bool
+        ensures { result ≡ is_goal_of shoen self.now }
+    {
+        self.shoen == shoen && !self.is_monitor()
     }
 }

@@ -218,4 +218,21 @@ impl<N: NameValue> GoalTable<N> {
     {
         tally_of(&self.tallies, shoen).goals > 0
     }
+
+    /// Whether a shoen has a goal other than its monitor beside the goal of a number.
+    pub fn has_goal_beside(&self, shoen: u64, number: u64) -> bool
+        ensures { result ≡ list_any (is_goal_of shoen) (filter (is_other number) self.now.goals) }
+    {
+        let count = tally_of(&self.tallies, shoen).goals;
+        match self.get(number) {
+            None => count > 0,
+            Some(goal) => {
+                if goal.is_goal_of(shoen) {
+                    count > 1
+                } else {
+                    count > 0
+                }
+            }
+        }
+    }
 }

@@ -7,7 +7,7 @@ use Rattle.kl1_model.specs.declared.built_in.BuiltIn.{BuiltIn}
 use Rattle.kl1_model.specs.declared.built_in.BuiltIn.TheVariants.{ListCell, EmptyList}
 use Rattle.kl1_model.specs.Term.{Term, variable, atom, structure, none, more, occurs, replace, Replacement, replaced}
 use Rattle.kl1_model.specs.Meaning.{cell, nil}
-use Rattle.kl1_model.specs.Unify.{Equation, fails, binds, after, walk, solve_within, solve}
+use Rattle.kl1_model.specs.Unify.{Equation, fails, binds, after, walk, solve_within, highest_among, solve}
 use Rattle.kl1_text.specs.Reading.{Reads}
 use Rattle.kl1_store.specs.declared.cell.Cell.{Cell}
 use Rattle.kl1_store.specs.declared.cell.Cell.TheVariants.{Variable, Integer, Atom, Structure}
@@ -39,13 +39,13 @@ unfolding solve_within walk
 front_solves last v t true = refl
 front_solves last v t false = refl
 
-solve_cell : (last v : ℕ) (h t : Term) → solve last (one_equation v (cell h t)) ≡ solved_by v (cell h t) (occurs v (cell h t))
+solve_cell : (v : ℕ) (h t : Term) → solve (one_equation v (cell h t)) ≡ solved_by v (cell h t) (occurs v (cell h t))
 unfolding solve_within walk
-solve_cell last v h t = front_solves last v (cell h t) (occurs v (cell h t))
+solve_cell v h t = front_solves (highest_among (one_equation v (cell h t))) v (cell h t) (occurs v (cell h t))
 
-solve_nil : (last v : ℕ) → solve last (one_equation v nil) ≡ solved_by v nil false
+solve_nil : (v : ℕ) → solve (one_equation v nil) ≡ solved_by v nil false
 unfolding solve_within walk
-solve_nil last v = refl
+solve_nil v = refl
 
 -- a variable beyond all others is unbound
 unbound_past_each : {N : Type 0} (vs : ℕ) (ss : List (Shape N)) (before bs : List (Binding N)) (v : ℕ) → vs ≤ v → sound.Bound vs ss before bs → is_bound v bs ≡ false
@@ -109,12 +109,12 @@ sides f h v x t u e =
     ∙ ap (λ r. let q : Equation = record { left = variable v; right = r } in q ∷ []) e
 
 -- the answer of unification, from whether the variable is in the message
-solves : {N : Type 0} (built : BuiltIn → N) (f : N → List ℕ) (h : Held N) (v : ℕ) (m : Cell N) (last : ℕ) → is_bound v h.bindings ≡ false → HasMessage built f h m → v < h.variables →
-    solve last (equation_of f (with_message built h m) (Variable v) (Structure (length h.structures))) ≡ solved_by v (cell (term_of f h m) (variable h.variables)) (occurs v (term_of f h m))
-solves built f h v m last u k lt =
+solves : {N : Type 0} (built : BuiltIn → N) (f : N → List ℕ) (h : Held N) (v : ℕ) (m : Cell N) → is_bound v h.bindings ≡ false → HasMessage built f h m → v < h.variables →
+    solve (equation_of f (with_message built h m) (Variable v) (Structure (length h.structures))) ≡ solved_by v (cell (term_of f h m) (variable h.variables)) (occurs v (term_of f h m))
+solves built f h v m u k lt =
     let t = cell (term_of f h m) (variable h.variables) in
-    ap (solve last) (sides f (with_message built h m) v (Structure (length h.structures)) t u k.cell_is)
-    ∙ solve_cell last v (term_of f h m) (variable h.variables)
+    ap solve (sides f (with_message built h m) v (Structure (length h.structures)) t u k.cell_is)
+    ∙ solve_cell v (term_of f h m) (variable h.variables)
     ∙ ap (solved_by v t) (occurs_cell v h.variables (term_of f h m) lt)
 
 the_one : (v : ℕ) (t : Term) (b : Bool) (rs : List Replacement) → solved_by v t b ≡ Some rs → (b ≡ false) × (rs ≡ record { number = v; by = t } ∷ [])
@@ -134,8 +134,8 @@ are_sent {N = N} built h new v m next p lt u i is told =
     let each : (f : N → List ℕ) → Reads built f → IsSent f h new v m h.variables = λ f reads.
     let k = has_message built f h m reads p i in
     let t = cell (term_of f h m) (variable h.variables) in
-    let solved = told.0 f reads h.variables (omega arith) in
-    let one = the_one v t (occurs v (term_of f h m)) solved.replacements (sym (solves built f h v m h.variables u k lt) ∙ solved.solves) in
+    let solved = told.0 f reads in
+    let one = the_one v t (occurs v (term_of f h m)) solved.replacements (sym (solves built f h v m u k lt) ∙ solved.solves) in
     let means : (x : Cell N) → term_of f new x ≡ replace v t (term_of f (with_message built h m) x) =
     λ x. solved.everywhere x ∙ ap (λ rs. replaced rs (term_of f (with_message built h m) x)) one.1 in
     record {
@@ -184,7 +184,7 @@ never_sent {N = N} built h mid full now v m s next name w p lt u i a b c d told 
     let G : Held N → Type 0 = λ k. Grown (with_message built h m) k in (
       λ f reads.
           let k = has_message built f h m reads p i in
-          never_one v (cell (term_of f h m) (variable h.variables)) (occurs v (term_of f h m)) (sym (solves built f h v m h.variables u k lt) ∙ t.0 f reads h.variables (omega arith)),
+          never_one v (cell (term_of f h m) (variable h.variables)) (occurs v (term_of f h m)) (sym (solves built f h v m u k lt) ∙ t.0 f reads),
       grown_message built h now m (subst G (sym t.1) (Grown-same (with_message built h m))),
     )
 
@@ -207,9 +207,9 @@ pub ends : {N : Type 0} (built : BuiltIn → N) (h k : Held N) (v : ℕ) (a : N)
 ends {N = N} built h k v a Bound free e told = record {
   variables = told.2;
   each = λ f reads x.
-      let solved = told.0 f reads h.variables (omega arith) in
+      let solved = told.0 f reads in
       let is : term_of f h (Atom a) ≡ nil = term_of-Atom f h a ∙ ap (λ n. atom (f n)) e ∙ ap atom (reads.texts EmptyList) in
-      let one : solved_by v nil false ≡ Some solved.replacements = sym (solve_nil h.variables v) ∙ ap (solve h.variables) (sym (sides f h v (Atom a) nil free is)) ∙ solved.solves in
+      let one : solved_by v nil false ≡ Some solved.replacements = sym (solve_nil v) ∙ ap solve (sym (sides f h v (Atom a) nil free is)) ∙ solved.solves in
       let rs : solved.replacements ≡ record { number = v; by = nil } ∷ [] = cc in
       solved.everywhere x ∙ ap (λ l. replaced l (term_of f h x)) rs;
 }
@@ -218,6 +218,6 @@ ends {N = N} built h k v a Clash free e told = record {
   each = λ f reads x.
       let never = told.0 f reads h.variables (omega arith) in
       let is : term_of f h (Atom a) ≡ nil = term_of-Atom f h a ∙ ap (λ n. atom (f n)) e ∙ ap atom (reads.texts EmptyList) in
-      let one : solved_by v nil false ≡ None = sym (solve_nil h.variables v) ∙ ap (solve h.variables) (sym (sides f h v (Atom a) nil free is)) ∙ never in
+      let one : solved_by v nil false ≡ None = sym (solve_nil v) ∙ ap solve (sym (sides f h v (Atom a) nil free is)) ∙ never in
       absurd (cc);
 }
