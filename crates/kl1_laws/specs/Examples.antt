@@ -322,6 +322,14 @@ producer_and_consumer_script = codes "accounts alice" ++ 10 ∷ [] ++ codes "ali
 abbrev pub producer_and_consumer_output : List ℕ
 producer_and_consumer_output = codes "alice + loaded stream" ++ 10 ∷ [] ++ codes "alice + shoen 1" ++ 10 ∷ [] ++ codes "alice + 13" ++ 10 ∷ [] ++ codes "alice + stream:both([1,2],some(1,some(2,none)))" ++ 10 ∷ []
 
+-- the bytes of reversed_list.script
+abbrev pub reversed_list_script : List ℕ
+reversed_list_script = codes "accounts alice" ++ 10 ∷ [] ++ codes "alice load 136" ++ 10 ∷ [] ++ codes ":- module reverse." ++ 10 ∷ [] ++ codes "rev(Xs,R) :- true | rev(Xs,[],R)." ++ 10 ∷ [] ++ codes "rev([],Done,R) :- true | R = Done." ++ 10 ∷ [] ++ codes "rev([X|Xs],Done,R) :- true | rev(Xs,[X|Done],R)." ++ 10 ∷ [] ++ codes "alice start 100 0 10 reverse:rev([1,2,3],R)" ++ 10 ∷ [] ++ codes "alice run 100" ++ 10 ∷ [] ++ codes "alice value 1" ++ 10 ∷ []
+
+-- the bytes of reversed_list.expected
+abbrev pub reversed_list_output : List ℕ
+reversed_list_output = codes "alice + loaded reverse" ++ 10 ∷ [] ++ codes "alice + shoen 1" ++ 10 ∷ [] ++ codes "alice + 6" ++ 10 ∷ [] ++ codes "alice + reverse:rev([1,2,3],[3,2,1])" ++ 10 ∷ []
+
 -- the bytes of second_variable_wakes.script
 abbrev pub second_variable_wakes_script : List ℕ
 second_variable_wakes_script = codes "accounts alice bob" ++ 10 ∷ [] ++ codes "alice load 96" ++ 10 ∷ [] ++ codes ":- module s." ++ 10 ∷ [] ++ codes "e(1,Y,R) :- true | R = l." ++ 10 ∷ [] ++ codes "e(X,1,R) :- true | R = r." ++ 10 ∷ [] ++ codes "g(R) :- true | e(X,Y,R), Y = 1." ++ 10 ∷ [] ++ codes "alice start 10 0 10 s:g(R)" ++ 10 ∷ [] ++ codes "alice run 10" ++ 10 ∷ [] ++ codes "alice value 1" ++ 10 ∷ []
@@ -394,6 +402,14 @@ variables_of_a_second_start_script = codes "accounts alice bob" ++ 10 ∷ [] ++ 
 abbrev pub variables_of_a_second_start_output : List ℕ
 variables_of_a_second_start_output = codes "alice + loaded t" ++ 10 ∷ [] ++ codes "alice + shoen 1" ++ 10 ∷ [] ++ codes "alice + shoen 2" ++ 10 ∷ [] ++ codes "alice + t:q(_5,_6)" ++ 10 ∷ [] ++ codes "alice + 1" ++ 10 ∷ [] ++ codes "alice + shoen 3" ++ 10 ∷ [] ++ codes "alice + t:q(_12,_13)" ++ 10 ∷ []
 
+-- the bytes of woken_by_a_binding.script
+abbrev pub woken_by_a_binding_script : List ℕ
+woken_by_a_binding_script = codes "accounts alice" ++ 10 ∷ [] ++ codes "alice load 95" ++ 10 ∷ [] ++ codes ":- module gate." ++ 10 ∷ [] ++ codes "pass(open,R) :- true | R = through." ++ 10 ∷ [] ++ codes "day(R) :- true | pass(Gate,R), Gate = open." ++ 10 ∷ [] ++ codes "alice start 100 0 10 gate:day(R)" ++ 10 ∷ [] ++ codes "alice run 1" ++ 10 ∷ [] ++ codes "alice value 1" ++ 10 ∷ [] ++ codes "alice run 100" ++ 10 ∷ [] ++ codes "alice value 1" ++ 10 ∷ []
+
+-- the bytes of woken_by_a_binding.expected
+abbrev pub woken_by_a_binding_output : List ℕ
+woken_by_a_binding_output = codes "alice + loaded gate" ++ 10 ∷ [] ++ codes "alice + shoen 1" ++ 10 ∷ [] ++ codes "alice + 1" ++ 10 ∷ [] ++ codes "alice + gate:day(_1)" ++ 10 ∷ [] ++ codes "alice + 3" ++ 10 ∷ [] ++ codes "alice + gate:day(through)" ++ 10 ∷ []
+
 -- the bytes of words_and_line_ends.script
 abbrev pub words_and_line_ends_script : List ℕ
 words_and_line_ends_script = codes "  accounts" ++ 9 ∷ [] ++ codes "alice  " ++ 13 ∷ [] ++ 10 ∷ [] ++ 10 ∷ [] ++ codes "  " ++ 9 ∷ [] ++ 10 ∷ [] ++ codes "alice  run " ++ 9 ∷ [] ++ codes " 1  " ++ 13 ∷ [] ++ 10 ∷ [] ++ codes "alice" ++ 13 ∷ [] ++ 10 ∷ [] ++ codes "alice run 00000000000000000001" ++ 10 ∷ [] ++ codes "alice value 1" ++ 10 ∷ [] ++ codes "alice value x" ++ 10 ∷ [] ++ codes "carol run 1" ++ 10 ∷ [] ++ codes " alice run 1" ++ 10 ∷ [] ++ codes "alice" ++ 9 ∷ [] ++ codes "run 1" ++ 10 ∷ [] ++ codes "alice run 0"
@@ -444,6 +460,7 @@ pub record ExamplesHold : Type 0 where
   pub no_cyclic_terms : output no_cyclic_terms_script ≡ no_cyclic_terms_output
   pub numbers_of_19_digits : output numbers_of_19_digits_script ≡ numbers_of_19_digits_output
   pub producer_and_consumer : output producer_and_consumer_script ≡ producer_and_consumer_output
+  pub reversed_list : output reversed_list_script ≡ reversed_list_output
   pub second_variable_wakes : output second_variable_wakes_script ≡ second_variable_wakes_output
   pub seventeen_accounts : output seventeen_accounts_script ≡ seventeen_accounts_output
   pub sixteen_accounts : output sixteen_accounts_script ≡ sixteen_accounts_output
@@ -453,4 +470,5 @@ pub record ExamplesHold : Type 0 where
   pub unknown_predicates_fail : output unknown_predicates_fail_script ≡ unknown_predicates_fail_output
   pub value_is_cut : output value_is_cut_script ≡ value_is_cut_output
   pub variables_of_a_second_start : output variables_of_a_second_start_script ≡ variables_of_a_second_start_output
+  pub woken_by_a_binding : output woken_by_a_binding_script ≡ woken_by_a_binding_output
   pub words_and_line_ends : output words_and_line_ends_script ≡ words_and_line_ends_output

@@ -216,7 +216,7 @@ ends {N = N} built h k v a Bound free e told = record {
 ends {N = N} built h k v a Clash free e told = record {
   variables = ap (λ (z : Held N). z.variables) told.1;
   each = λ f reads x.
-      let never = told.0 f reads h.variables (omega arith) in
+      let never = told.0 f reads in
       let is : term_of f h (Atom a) ≡ nil = term_of-Atom f h a ∙ ap (λ n. atom (f n)) e ∙ ap atom (reads.texts EmptyList) in
       let one : solved_by v nil false ≡ None = sym (solve_nil v) ∙ ap solve (sym (sides f h v (Atom a) nil free is)) ∙ never in
       absurd (cc);
