@@ -1,6 +1,6 @@
 -- A draft whose shoen ends, or stays.
 use Rattle.std.proofs.Common.{◌≡◌, true, false, if◌then◌else◌, ℕ, suc, ◌==◌, ◌+◌, not, ◌&&◌, ◌||◌, Bool, List, [], ◌∷◌, ◌++◌, length, codes, refl, sym, ap, ◌∙◌, arith, subst}
-use Rattle.std.specs.Prelude.{filter, None}
+use Rattle.std.specs.Prelude.{filter}
 use Rattle.std.specs.List.{list_any}
 use Rattle.std.proofs.lemmas.Bool.{eq-eqb}
 use Rattle.std.proofs.lemmas.List.{append-nil}
@@ -8,15 +8,14 @@ use Rattle.kl1_model.specs.declared.built_in.BuiltIn.TheVariants.{Terminated as 
 use Rattle.kl1_model.specs.declared.built_in.BuiltIn.{BuiltIn}
 use Rattle.kl1_model.specs.Text.{text_of}
 use Rattle.kl1_model.specs.Term.{atom}
-use Rattle.kl1_model.specs.Report.{report, close, terminate, settle}
+use Rattle.kl1_model.specs.Report.{report, close, terminate}
 use Rattle.kl1_text.specs.declared.cell_name.CellName.{CellName}
 use Rattle.kl1_store.specs.declared.cell.Cell.{Cell}
 use Rattle.kl1_store.specs.declared.cell.Cell.TheVariants.{Atom}
 use Rattle.kl1_store.specs.Held.{Held}
 use Rattle.kl1_store.specs.Sound.{Grown}
 use Rattle.kl1_store.proofs.Terms.{term_of-Atom}
-use Rattle.kl1_shoen.specs.declared.life.Life.TheVariants.{Living, Terminated}
-use Rattle.kl1_goals.specs.declared.task.Task.TheVariants.{Reduces}
+use Rattle.kl1_shoen.specs.declared.life.Life.TheVariants.{Terminated}
 use Rattle.kl1_goals.specs.declared.goal.Goal.{Goal}
 use Rattle.kl1_goals.specs.Lists.{is_goal_of, is_monitor_of, is_other}
 use Rattle.kl1_account.specs.declared.draft.Draft.{Draft}
@@ -24,10 +23,10 @@ use Rattle.kl1_modules.specs.Numbered.{Numbered}
 use Rattle.kl1_account.specs.Fitting.{Reading, built}
 use Rattle.kl1_account.specs.Account.{meaning}
 use Rattle.kl1_account.specs.Drafts.{goals_for, without_monitor, goals_left, goals_added, made_of, Drafts}
-use Rattle.kl1_account.specs.Works.{Made, worked, IsMadeIn, Knows, Turns}
+use Rattle.kl1_account.specs.Works.{Made, worked, IsMadeIn, Turns}
 use Rattle.kl1_account.proofs.Goals.{filter_append, goals_for_stay, any_append, any_left}
 use Rattle.kl1_account.proofs.Works.{turns_as}
-use Rattle.kl1_account.proofs.Reductions.{ended, ended_turns, terminate_turns, ended_stays, busy_stays, settle_terminates}
+use Rattle.kl1_account.proofs.Reductions.{ended, ended_turns, terminate_turns}
 
 -- a draft with its shoen ended
 abbrev pub ended_draft : Draft → Draft

@@ -1,5 +1,5 @@
 -- Lists of goals, as they are kept and as they are read.
-use Rattle.std.proofs.Common.{◌≡◌, true, false, if◌then◌else◌, ℕ, suc, ◌+◌, ◌<◌, ◌≤◌, ◌==◌, not, ◌&&◌, ◌||◌, Bool, List, [], ◌∷◌, ◌++◌, length, map, refl, sym, ap, ◌∙◌, arith, le_trans}
+use Rattle.std.proofs.Common.{◌≡◌, true, false, if◌then◌else◌, ℕ, suc, ◌+◌, ◌<◌, ◌≤◌, ◌==◌, not, ◌&&◌, ◌||◌, Bool, List, [], ◌∷◌, ◌++◌, length, map, refl, ap, ◌∙◌, arith, le_trans}
 use Rattle.std.specs.Prelude.{filter, None}
 use Rattle.std.specs.List.{list_any}
 use Rattle.kl1_model.specs.State as model

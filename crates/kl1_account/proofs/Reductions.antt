@@ -1,8 +1,7 @@
 -- What a reduction makes of the goals and of the shoen at work.
-use Rattle.std.proofs.Common.{◌≡◌, true, false, if◌then◌else◌, ℕ, suc, ◌+◌, ◌-◌, ◌<◌, ◌≤◌, not, ◌&&◌, Bool, List, [], ◌∷◌, ◌++◌, length, map, codes, refl, sym, ap, ◌∙◌, arith, subst, append_assoc}
-use Rattle.std.specs.Prelude.{slice_set, filter}
+use Rattle.std.proofs.Common.{◌≡◌, true, false, if◌then◌else◌, ℕ, ◌+◌, ◌-◌, not, ◌&&◌, List, ◌++◌, length, map, codes, refl, sym, ap, ◌∙◌, arith}
 use Rattle.std.specs.List.{list_any}
-use Rattle.std.proofs.lemmas.List.{map-append, append-nil}
+use Rattle.std.proofs.lemmas.List.{map-append}
 use Rattle.kl1_model.specs.Term.{Term, atom}
 use Rattle.kl1_model.specs.Match.{Candidate}
 use Rattle.kl1_model.specs.Instance.{body_instance, fresh_variables}
@@ -11,7 +10,6 @@ use Rattle.kl1_model.specs.State.{State, change_shoen, is_living}
 use Rattle.kl1_model.specs.Report as model_report
 use Rattle.kl1_model.specs.Report.{report, close, terminate, settle, settle_of}
 use Rattle.kl1_model.specs.Reduction.{goals_from, committed}
-use Rattle.kl1_text.specs.Reading.{Reads}
 use Rattle.kl1_text.specs.declared.cell_name.CellName.{CellName}
 use Rattle.kl1_store.specs.declared.cell.Cell.{Cell}
 use Rattle.kl1_store.specs.Held.{Held, AreIn}
@@ -24,9 +22,8 @@ use Rattle.kl1_shoen.specs.declared.shoen.Shoen.{Shoen}
 use Rattle.kl1_goals.specs.declared.goal.Goal.{Goal}
 use Rattle.kl1_goals.specs.Lists.{is_goal_of, is_monitor_of}
 use Rattle.kl1_modules.specs.Numbered.{Numbered}
-use Rattle.kl1_account.specs.Fitting.{Reading, built}
-use Rattle.kl1_account.specs.Account.{Means, meaning, goal_with, shoen_with, life_of}
-use Rattle.kl1_account.specs.Kept.{AreGoalsIn, AreOwned, AreUpTo, IsShoenIn}
+use Rattle.kl1_account.specs.Fitting.{Reading}
+use Rattle.kl1_account.specs.Account.{meaning, goal_with, shoen_with, life_of}
 use Rattle.kl1_account.specs.Drafts.{goals_for, without_monitor}
 use Rattle.kl1_account.specs.Works.{Made, with_shoen, worked, IsMadeIn, HasNumber, Knows, Turns}
 use Rattle.kl1_account.proofs.States.{Agree, same_goals, same_shoens, goals_grown, shoen_grown, shoens_set}

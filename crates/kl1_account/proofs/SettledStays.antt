@@ -1,17 +1,15 @@
 -- Goals that nothing woke stay as they stood.
-use Rattle.std.proofs.Common.{◌≡◌, ℕ, suc, ◌==◌, ◌+◌, ◌<◌, true, false, if◌then◌else◌, Bool, List, [], ◌∷◌, length, map, refl, sym, ap, ◌∙◌, arith, subst}
+use Rattle.std.proofs.Common.{◌≡◌, ℕ, suc, true, false, if◌then◌else◌, List, [], ◌∷◌, map, refl, sym, ap, ◌∙◌, arith, subst}
 use Rattle.std.specs.Prelude.{Contains}
 use Rattle.std.proofs.lemmas.Bool.{ne_eqb}
-use Rattle.kl1_model.specs.Term.{Term, variable, substituted, Replacement, replaced}
-use Rattle.kl1_model.specs.Module.{Module}
+use Rattle.kl1_model.specs.Term.{substituted, Replacement}
 use Rattle.kl1_model.specs.Waits.{LeavesEach, term_clause, awaited_by_term}
 use Rattle.kl1_model.proofs.Substitutions.{values_of, replaced_is}
 use Rattle.kl1_model.proofs.TermStays.{term_stays, is_replaced, left_alone}
 use Rattle.kl1_text.specs.declared.cell_name.CellName.{CellName}
 use Rattle.kl1_store.specs.Hooks.{Hook}
-use Rattle.kl1_store.specs.declared.cell.Cell.{Cell}
-use Rattle.kl1_store.specs.Held.{Held, IsIn}
-use Rattle.kl1_store.specs.Later.{bound_since, IsLater}
+use Rattle.kl1_store.specs.Held.{Held}
+use Rattle.kl1_store.specs.Later.{bound_since}
 use Rattle.kl1_store.specs.Sound.{IsFormed, Grown}
 use Rattle.kl1_store.proofs.Later.{is_later}
 use Rattle.kl1_goals.specs.declared.task.Task.{Task}

@@ -1,11 +1,10 @@
 -- Reports, the end of a stream, exceptions and unifications, of the shoen at work.
-use Rattle.std.proofs.Common.{◌≡◌, ℕ, suc, ◌+◌, ◌-◌, true, false, if◌then◌else◌, Bool, List, length, map, refl, sym, ap, ◌∙◌, arith, subst}
-use Rattle.std.specs.Prelude.{Option, Some, None}
+use Rattle.std.proofs.Common.{◌≡◌, ◌-◌, true, false, if◌then◌else◌, Bool, List, refl, sym, ap, ◌∙◌, arith, subst}
 use Rattle.kl1_model.specs.declared.built_in.BuiltIn.TheVariants.{Failure}
-use Rattle.kl1_model.specs.Term.{Term, variable, integer, atom, structure, replace, Replacement, replaced}
+use Rattle.kl1_model.specs.Term.{Term, variable, integer, atom, structure, replace, replaced}
 use Rattle.kl1_model.specs.Meaning.{nil}
 use Rattle.kl1_model.specs.Unify.{solve}
-use Rattle.kl1_model.specs.State.{State, replace_all}
+use Rattle.kl1_model.specs.State.{State}
 use Rattle.kl1_model.specs.Report.{report, close, close_of, closed_at, exception}
 use Rattle.kl1_model.specs.Reduction.{failure, unified, equation}
 use Rattle.kl1_text.specs.Reading.{Reads}
@@ -24,10 +23,10 @@ use Rattle.kl1_goals.specs.declared.goal.Goal.{Goal}
 use Rattle.kl1_account.specs.declared.draft.Draft.{Draft}
 use Rattle.kl1_modules.specs.Numbered.{Numbered}
 use Rattle.kl1_account.specs.Fitting.{Reading, built}
-use Rattle.kl1_account.specs.Account.{Means, meaning}
+use Rattle.kl1_account.specs.Account.{meaning}
 use Rattle.kl1_account.specs.Drafts.{made_of, Drafts}
-use Rattle.kl1_account.specs.Works.{Made, with_shoen, worked, IsMadeIn, HasNumber, Knows, Turns, after_report}
-use Rattle.kl1_account.proofs.States.{Agree, same_state, replaced_state, all_replaced, goals_grown, shoen_grown, shoens_set}
+use Rattle.kl1_account.specs.Works.{Made, with_shoen, worked, IsMadeIn, HasNumber, Turns, after_report}
+use Rattle.kl1_account.proofs.States.{replaced_state, all_replaced, goals_grown, shoen_grown}
 use Rattle.kl1_account.proofs.Works.{read_as, finds, rereads, turns_then, turns_as, report_turns}
 
 -- what is made is still there in a store that has grown

@@ -1,7 +1,6 @@
 -- What is made of an account, one change after another.
-use Rattle.std.proofs.Common.{◌≡◌, ℕ, suc, ◌-◌, ◌≤◌, ◌<◌, true, if◌then◌else◌, List, length, refl, sym, ap, ◌∙◌, arith, subst}
+use Rattle.std.proofs.Common.{◌≡◌, ℕ, suc, ◌-◌, true, if◌then◌else◌, List, refl, sym, ap, ◌∙◌, arith}
 use Rattle.std.specs.Prelude.{Some, slice_set}
-use Rattle.std.specs.List.{AllByRecursion}
 use Rattle.kl1_model.specs.Term.{Term, variable, integer, atom, structure, replace}
 use Rattle.kl1_model.specs.Meaning.{cell}
 use Rattle.kl1_model.specs.State as model
@@ -17,11 +16,10 @@ use Rattle.kl1_stream.specs.declared.told.Told.{Told}
 use Rattle.kl1_stream.specs.declared.told.Told.TheVariants.{Dropped, Broken, Sent}
 use Rattle.kl1_stream.specs.Reports.{Breaks, ToldAs}
 use Rattle.kl1_shoen.specs.declared.shoen.Shoen.{Shoen}
-use Rattle.kl1_goals.specs.declared.goal.Goal.{Goal}
 use Rattle.kl1_modules.specs.Numbered.{Numbered}
 use Rattle.kl1_account.specs.Fitting.{Reading, built}
 use Rattle.kl1_account.specs.Account.{Means, meaning, shoen_with, state_with}
-use Rattle.kl1_account.specs.Kept.{AreGoalsIn, AreUpTo, IsShoenIn}
+use Rattle.kl1_account.specs.Kept.{IsShoenIn}
 use Rattle.kl1_account.specs.Works.{Made, with_shoen, worked, IsMadeIn, HasNumber, Knows, Turns, after_report}
 use Rattle.kl1_account.proofs.States.{Agree, same_state, replaced_state, found_at, changed_at, goals_grown, shoen_grown, shoens_grown, shoens_set}
 
@@ -129,7 +127,7 @@ report_states h k w m (Sent next) i d f reads s shoens p =
 next_in : (h k : Held CellName) (next : ℕ) → next ≡ h.variables → k.variables ≡ suc h.variables → IsIn k (Variable next)
 next_in h k next a b = omega arith
 
-after_in : (h k : Held CellName) (s : Shoen CellName) (m : Cell CellName) (told : Told) → Grown h k → IsShoenIn h s → ToldAs built h k s.tail s.is_broken m told → IsShoenIn k (after_report s told)
+pub after_in : (h k : Held CellName) (s : Shoen CellName) (m : Cell CellName) (told : Told) → Grown h k → IsShoenIn h s → ToldAs built h k s.tail s.is_broken m told → IsShoenIn k (after_report s told)
 after_in h k s m Dropped g i d = shoen_grown h k g s i
 after_in h k s m Broken g i d = let j = shoen_grown h k g s i in record { control = j.control; tail = j.tail; origin = j.origin }
 after_in h k s m (Sent next) g i d = let j = shoen_grown h k g s i in record { control = j.control; tail = next_in h k next d.sent.next_is d.sent.variables; origin = j.origin }

@@ -1,7 +1,6 @@
 -- What an account keeps, with numbers for names, and the state that it is when they are read.
-use Rattle.std.specs.Prelude.{◌≡◌, ℕ, ◌-◌, List, [], ◌∷◌, length, map, Option, Some, None, option_map}
+use Rattle.std.specs.Prelude.{ℕ, ◌-◌, List, [], length, map, option_map}
 use Rattle.kl1_model.specs.Term.{Term}
-use Rattle.kl1_model.specs.Module.{Module}
 use Rattle.kl1_model.specs.State as model
 use Rattle.kl1_model.specs.State.{State, monitor, reduces, living, terminated}
 use Rattle.kl1_text.specs.declared.cell_name.CellName.{CellName}

@@ -1,5 +1,5 @@
 -- Goals that stand as the clauses have it, and that hang on each variable that they wait for.
-use Rattle.std.specs.Prelude.{◌≡◌, ℕ, List, [], ◌∷◌, Option, Some, None, Contains}
+use Rattle.std.specs.Prelude.{◌≡◌, ℕ, List, [], Option, None, Contains}
 use Rattle.std.specs.List.{AllByRecursion}
 use Rattle.kl1_model.specs.Module.{Module}
 use Rattle.kl1_model.specs.State as model

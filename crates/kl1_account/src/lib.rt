@@ -1,4 +1,4 @@
-//! One account: what each event does to it, and the reply.
+//! An account whose names are numbers: what a reduction leaves of its goals and its shoen, and what it tells on its stream.
 #![tactic(auto)]
 
 mod draft;
@@ -6,4 +6,5 @@ mod reporting;
 mod settling;
 
 pub use draft::{Change, Draft};
+pub use reporting::{raise, unify};
 pub use settling::settle;

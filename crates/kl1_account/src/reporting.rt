@@ -18,7 +18,6 @@ use kl1_text::CellName;
 use std::alloc::AllocError;
 
 /// A report of the shoen at work. Where memory is refused, the store may have grown.
-#[tactic(auto, using(crate::proofs::Streams::drafts_report))]
 pub(crate) fn report(
     store: &mut Store<CellName>,
     draft: &mut Draft,
@@ -27,6 +26,7 @@ pub(crate) fn report(
     requires message { IsIn store.old.held message }
     requires shoen { IsShoenIn store.old.held draft.old.shoen }
     ensures ok { OnOk result (DraftsAll (λ f. report draft.old.shoen.number (meaning f store.old.held message)) store.old.held store.new.held draft.old draft.new) }
+    ensures shoen { OnOk result (IsShoenIn store.new.held draft.new.shoen) }
     ensures grown { Grown store.old.held store.new.held }
     ensures hooks { store.new.hooks ≡ store.old.hooks }
 {
@@ -43,8 +43,8 @@ pub(crate) fn report(
     }
 }
 
-/// Reports that a goal of the shoen at work failed.
-pub(crate) fn raise(
+/// Reports that a goal of the shoen at work failed. Where memory is refused, the store may have grown.
+pub fn raise(
     store: &mut Store<CellName>,
     draft: &mut Draft,
     goal: Cell<CellName>,
@@ -59,8 +59,8 @@ pub(crate) fn raise(
     report(store, draft, message)
 }
 
-/// Unifies two terms for a goal of the shoen at work, or reports that it failed.
-pub(crate) fn unify(
+/// Unifies two terms for a goal of the shoen at work, or reports that it failed. Where memory is refused, the store may have grown.
+pub fn unify(
     store: &mut Store<CellName>,
     draft: &mut Draft,
     goal: Cell<CellName>,
@@ -81,7 +81,7 @@ pub(crate) fn unify(
     }
 }
 
-/// The end of the report stream of the shoen at work.
+/// Ends the report stream of the shoen at work. Where memory is refused, the store may have grown.
 pub(crate) fn close(store: &mut Store<CellName>, draft: &Draft) -> Result<(), AllocError>
     requires { IsShoenIn store.old.held draft.now.shoen }
     ensures ok { OnOk result (DraftsAll (λ f. close draft.now.shoen.number) store.old.held store.new.held draft.now draft.now) }
