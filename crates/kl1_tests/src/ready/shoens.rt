@@ -70,7 +70,9 @@ pub fn shoens_are_found(alloc: Global) -> Result<bool, AllocError> {
     open_three(&mut tree);
     let opened = has(&tree, 1, true, 10) & has(&tree, 2, true, 20) & has(&tree, 3, true, 30);
     let no_others = tree.get(0).is_none() & tree.get(4).is_none() & (tree.len() == 3);
-    let started = tree.origin_at(1).is_none() & has_origin(&tree, 2, 7) & tree.origin_at(4).is_none();
+    let started = tree.origin_at(1).is_none()
+        & has_origin(&tree, 2, 7)
+        & tree.origin_at(4).is_none();
     let mut ended = living(3, 35, None);
     ended.life = Life::Terminated;
     tree.set(ended);
