@@ -4,6 +4,7 @@
 mod atoms;
 mod part;
 mod read;
+mod ready;
 mod rows;
 mod script;
 mod store;
@@ -12,6 +13,7 @@ mod tried;
 mod user;
 
 use crate::atoms::put_checks;
+use crate::ready::put_ready_checks;
 use crate::rows::{Text, put_report};
 use crate::tally::put_tally_checks;
 use std::io;
@@ -24,6 +26,7 @@ fn main(rt: HostRuntime) -> io::Result<()> {
     put_report(&mut out, rows.as_slice());
     put_checks(&rt, &mut out);
     put_tally_checks(&rt, &mut out);
+    put_ready_checks(&mut out);
     if out.has_failed {
         return Err(Error::from(ErrorKind::OutOfMemory));
     }

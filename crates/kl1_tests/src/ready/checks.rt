@@ -1,0 +1,44 @@
+// The checks by their names.
+
+use crate::ready::goals::{
+    ends_of_shoens_are_seen, goals_are_found, the_greatest_priority_then_the_least_number,
+};
+use crate::ready::queue::{places_come_in_order, the_greatest_priority_then_the_least_place};
+use crate::ready::shoens::shoens_are_found;
+use crate::rows::Text;
+use std::alloc::AllocError;
+
+/// Puts the line on a check behind a report: its name, and `right` or `WRONG`.
+fn put_check(out: &mut Text, name: &[u8], done: Result<bool, AllocError>) {
+    out.put(b"ready ");
+    out.put(name);
+    match done {
+        Ok(true) => out.put(b" right\n"),
+        _ => out.put(b" WRONG\n"),
+    }
+}
+
+/// Puts a line on each check behind a report.
+pub fn put_ready_checks(out: &mut Text) {
+    let alloc = out.alloc;
+    let done = the_greatest_priority_then_the_least_place(alloc);
+    put_check(
+        out,
+        b"the_greatest_priority_then_the_least_place_goes_first",
+        done,
+    );
+    let done = places_come_in_order(alloc);
+    put_check(out, b"100_places_come_in_order", done);
+    let done = goals_are_found(alloc);
+    put_check(out, b"goals_are_found_by_their_numbers", done);
+    let done = the_greatest_priority_then_the_least_number(alloc);
+    put_check(
+        out,
+        b"the_greatest_priority_then_the_least_number_goes_first",
+        done,
+    );
+    let done = ends_of_shoens_are_seen(alloc);
+    put_check(out, b"the_last_goal_of_a_shoen_is_told_from_others", done);
+    let done = shoens_are_found(alloc);
+    put_check(out, b"shoens_are_found_and_changed_by_their_numbers", done);
+}
