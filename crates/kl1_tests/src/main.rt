@@ -2,6 +2,7 @@
 #![tactic(auto)]
 
 mod atoms;
+mod beside;
 mod part;
 mod read;
 mod rows;
@@ -12,6 +13,7 @@ mod tried;
 mod user;
 
 use crate::atoms::put_checks;
+use crate::beside::put_checks_beside;
 use crate::rows::{Text, put_report};
 use crate::tally::put_tally_checks;
 use std::io;
@@ -24,6 +26,7 @@ fn main(rt: HostRuntime) -> io::Result<()> {
     put_report(&mut out, rows.as_slice());
     put_checks(&rt, &mut out);
     put_tally_checks(&rt, &mut out);
+    put_checks_beside(&mut out);
     if out.has_failed {
         return Err(Error::from(ErrorKind::OutOfMemory));
     }
