@@ -2,6 +2,7 @@
 #![tactic(auto)]
 
 mod atoms;
+mod beside;
 mod part;
 mod read;
 mod ready;
@@ -13,6 +14,7 @@ mod tried;
 mod user;
 
 use crate::atoms::put_checks;
+use crate::beside::put_checks_beside;
 use crate::ready::put_ready_checks;
 use crate::rows::{Text, put_report};
 use crate::tally::put_tally_checks;
@@ -27,6 +29,7 @@ fn main(rt: HostRuntime) -> io::Result<()> {
     put_checks(&rt, &mut out);
     put_tally_checks(&rt, &mut out);
     put_ready_checks(&mut out);
+    put_checks_beside(&mut out);
     if out.has_failed {
         return Err(Error::from(ErrorKind::OutOfMemory));
     }
