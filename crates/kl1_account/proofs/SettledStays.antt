@@ -34,6 +34,7 @@ never_replaced (r ∷ rs) v h =
   where
     first_is : v ≡ r.number → Contains (r.number ∷ map (λ r. r.number) rs) v
     first_is e = (0, omega arith, sym e)
+
     later : Contains (map (λ r. r.number) rs) v → Contains (r.number ∷ map (λ r. r.number) rs) v
     later c = (suc c.0, omega arith, c.2)
 

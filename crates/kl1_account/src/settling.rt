@@ -26,11 +26,7 @@ fn terminate(store: &mut Store<CellName>, draft: &mut Draft) -> Result<(), Alloc
 {
     draft.is_ending = true;
     draft.shoen.life = Life::Terminated;
-    report(
-        store,
-        draft,
-        Cell::Atom(CellName::of(BuiltIn::Terminated)),
-    )?;
+    report(store, draft, Cell::Atom(CellName::of(BuiltIn::Terminated)))?;
     close(store, draft)
 }
 
