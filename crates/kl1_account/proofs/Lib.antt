@@ -6,3 +6,4 @@ pub mod Streams
 pub mod SettledStays
 pub mod Waking
 pub mod Ending
+pub mod NameTexts

@@ -21,7 +21,7 @@ use Rattle.kl1_account.specs.Account.{meaning, task_with}
 use Rattle.kl1_account.specs.Kept.{IsTaskIn, AreGoalsIn}
 use Rattle.kl1_account.specs.Drafts.{restood_by, goals_for}
 use Rattle.kl1_account.specs.Settled.{task_clause, awaited_by_task, HangsOnEach, IsSettled, AreSettled}
-use Rattle.kl1_account.specs.Waking.{IsPending, IsSettledOr, AreSettledOr, AreFor, AreAmong, is_among}
+use Rattle.kl1_account.specs.Waking.{IsPending, IsSettledOr, AreSettledOr, AreFor, AreAmong, is_among, IsFoundOut}
 use Rattle.kl1_account.proofs.SettledStays.{HangsOnNone, stays_settled, settled_more}
 
 -- ---- one goal is looked at again
@@ -37,11 +37,6 @@ other_stands c g other = ap (λ b. if b then record g { standing = c.standing } 
 -- the goal of the number
 same_stands : (c : Change) (g : Goal CellName) → g.number ≡ c.number → restood_by c g ≡ record g { standing = c.standing }
 same_stands c g e = ap (λ b. if b then record g { standing = c.standing } else g) (eq-eqb g.number c.number e)
-
--- what was found of a cell's goal
-pub record IsFoundOut (f : Reading) (hooks : List Hook) (h : Held CellName) (modules : List Numbered) (x : Cell CellName) (c : Change) : Type 0 where
-  pub standing : c.standing ≡ task_clause (contents modules) (model.reduces (meaning f h x))
-  pub hung : HangsOnEach hooks c.number (awaited_by_task (contents modules) (model.reduces (meaning f h x)))
 
 found_out : (f : Reading) (hooks : List Hook) (h : Held CellName) (modules : List Numbered) (x : Cell CellName) (c : Change) (g : Goal CellName) → g.number ≡ c.number → g.task ≡ Reduces x → IsFoundOut f hooks h modules x c → IsSettled f hooks h modules (record g { standing = c.standing })
 found_out f hooks h modules x c g e t s =

@@ -5,3 +5,10 @@ pub mod Works
 pub mod Drafts
 pub mod Settled
 pub mod Waking
+pub mod Views
+pub mod Naming
+pub mod Shelving
+pub mod Keeping
+pub mod Accounts
+pub mod Moving
+pub mod Looking

@@ -9,7 +9,11 @@ use Rattle.kl1_goals.specs.declared.task.Task.TheVariants.{Reduces}
 use Rattle.kl1_goals.specs.declared.goal.Goal.{Goal}
 use Rattle.kl1_modules.specs.Numbered.{Numbered}
 use Rattle.kl1_account.specs.Fitting.{Reading}
-use Rattle.kl1_account.specs.Settled.{IsSettled}
+use Rattle.kl1_model.specs.State as model
+use Rattle.kl1_modules.specs.Finding.{contents}
+use Rattle.kl1_account.specs.declared.draft.Change.{Change}
+use Rattle.kl1_account.specs.Account.{meaning}
+use Rattle.kl1_account.specs.Settled.{task_clause, awaited_by_task, HangsOnEach, IsSettled}
 
 -- whether a number is among others
 abbrev pub is_among : ℕ → List ℕ → Bool
@@ -37,3 +41,8 @@ AreFor n x goals = AllByRecursion (λ g. g.number ≡ n → g.task ≡ Reduces x
 -- each hook is among more
 abbrev pub AreAmong : List Hook → List Hook → Type 0
 AreAmong hooks more = (k : Hook) → Contains hooks k → Contains more k
+
+-- what was found of a cell's goal
+pub record IsFoundOut (f : Reading) (hooks : List Hook) (h : Held CellName) (modules : List Numbered) (x : Cell CellName) (c : Change) : Type 0 where
+  pub standing : c.standing ≡ task_clause (contents modules) (model.reduces (meaning f h x))
+  pub hung : HangsOnEach hooks c.number (awaited_by_task (contents modules) (model.reduces (meaning f h x)))

@@ -1,8 +1,11 @@
 // What a reduction is to leave of an account.
 
-use kl1_shoen::Shoen;
+ghost use Rattle.std.specs.Prelude.{◌≡◌, []};
+
+use kl1_shoen::{Life, Shoen};
 use kl1_store::Cell;
 use kl1_text::CellName;
+use std::alloc::Global;
 
 /// The clause by which the goal of a number can step from now on, or none.
 #[derive(Clone, Copy)]
@@ -13,7 +16,8 @@ pub struct Change {
 
 /// What a reduction is to leave of an account's goals and of one of its shoens, before it is put in place: the goal of a number
 /// is removed, and where the shoen ends its monitor too; goals for these cells come after the others, of the shoen, with this
-/// priority and the numbers after the last; and some goals can step by other clauses than before.
+/// priority and the numbers after the last; and some goals can step by other clauses than before. The numbers that were told of
+/// bindings are kept here while their goals are looked at.
 #[derive(Drop)]
 pub struct Draft {
     pub removed: u64,
@@ -23,4 +27,33 @@ pub struct Draft {
     pub shoen: Shoen<CellName>,
     pub last_goal: u64,
     pub changes: Vec<Change>,
+    pub told: Vec<u64>,
+}
+
+impl Draft {
+    /// A draft that leaves all as it is.
+    pub fn new(alloc: Global) -> Self
+        ensures cells { result.cells.items ≡ [] }
+    {
+        Draft {
+            removed: 0,
+            cells: Vec::new(alloc),
+            priority: 0,
+            is_ending: false,
+            shoen: Shoen {
+                number: 0,
+                life: Life::Terminated,
+                allowance: 0,
+                low: 0,
+                high: 0,
+                control: Cell::Integer(0),
+                tail: Cell::Integer(0),
+                is_broken: true,
+                origin: None,
+            },
+            last_goal: 0,
+            changes: Vec::new(alloc),
+            told: Vec::new(alloc),
+        }
+    }
 }

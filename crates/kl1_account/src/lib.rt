@@ -1,10 +1,31 @@
 //! An account whose names are numbers: what a reduction leaves of its goals and its shoen, and what it tells on its stream.
 #![tactic(auto)]
 
+mod account;
+mod account_name;
+mod committing;
 mod draft;
+mod event;
+mod installing;
+mod limits;
+mod moving;
+mod names;
+mod numbers;
+mod printing;
+mod refusal;
+mod reply;
 mod reporting;
 mod settling;
+mod looking;
 
+pub use account::Account;
+pub use account_name::AccountName;
 pub use draft::{Change, Draft};
+pub use event::{Event, Query};
+pub use names::{AccountNames, draft_row, publish};
+pub use numbers::{ClauseNo, GoalNo, ShoenNo};
+pub use printing::print_cell;
+pub use refusal::Refusal;
+pub use reply::Reply;
 pub use reporting::{raise, unify};
 pub use settling::settle;

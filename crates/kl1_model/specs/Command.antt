@@ -6,7 +6,7 @@ use Rattle.kl1_model.specs.Limits.{most_command_bytes, most_steps}
 use Rattle.kl1_model.specs.Line.{word_in, behind_word_in, number_in, up_to, only_number}
 use Rattle.kl1_model.specs.Module.{Reading, good, bad, read_goal}
 use Rattle.kl1_model.specs.State.{State}
-use Rattle.kl1_model.specs.Event.{Refusal, syntax, source, exists, no_shoen, step_refused, journal_full, value, Event, load, start, reduce, read, Reply, loaded, opened, reduced, ran, shown, refused, Stepped, refuse, is_range}
+use Rattle.kl1_model.specs.Event.{Refusal, syntax, source, exists, no_shoen, step_refused, too_many_names, journal_full, value, Event, load, start, reduce, read, Reply, loaded, opened, reduced, ran, shown, refused, Stepped, refuse, is_range}
 use Rattle.kl1_model.specs.Step.{step}
 use Rattle.kl1_model.specs.Choice.{Chosen, first}
 use Rattle.kl1_model.specs.Record.{Request, load_of, spoiled_load, other_line}
@@ -96,6 +96,7 @@ refusal_text (source line) = codes "2 source " ++ decimal line
 refusal_text exists = codes "3 exists"
 refusal_text no_shoen = codes "4 noshoen"
 refusal_text step_refused = codes "6 step"
+refusal_text too_many_names = codes "7 names"
 refusal_text journal_full = codes "9 journal"
 
 -- the lines of a reply

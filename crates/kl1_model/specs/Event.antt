@@ -1,6 +1,6 @@
 -- Events, replies and refusals.
-use Rattle.std.specs.Prelude.{ℕ, suc, nat_le, nat_lt, ◌&&◌, Bool, if◌then◌else◌, List}
-pub use Rattle.kl1_model.specs.Limits.{most_source_bytes, most_entries, most_line_bytes, most_priority}
+use Rattle.std.specs.Prelude.{ℕ, suc, nat_le, nat_lt, ◌&&◌, Bool, if◌then◌else◌, List, length}
+pub use Rattle.kl1_model.specs.Limits.{most_source_bytes, most_entries, most_line_bytes, most_priority, most_names}
 use Rattle.kl1_model.specs.Limits.{number_limit}
 use Rattle.kl1_model.specs.Term.{Term}
 use Rattle.kl1_model.specs.State.{State}
@@ -12,6 +12,7 @@ pub data Refusal : Type 0 where
   exists : Refusal
   no_shoen : Refusal
   step_refused : Refusal
+  too_many_names : Refusal
   journal_full : Refusal
 
 -- what is asked of an account without a change: the goal of a shoen as started, with what is bound now
@@ -56,6 +57,10 @@ with_entry s = record s { entries = suc s.entries }
 -- a change that is an entry of the journal: refused where the journal is full
 abbrev pub recorded : State → Stepped → Stepped
 recorded s after = if nat_lt s.entries most_entries then after else refuse s journal_full
+
+-- a change after which these names are used: refused where they are too many
+abbrev pub named : State → List (List ℕ) → Stepped → Stepped
+named s names after = if nat_le (length names) most_names then after else refuse s too_many_names
 
 -- whether priorities from low to high are a range
 abbrev pub is_range : ℕ → ℕ → Bool

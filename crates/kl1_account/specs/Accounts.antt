@@ -1,0 +1,21 @@
+-- What the fields of an account stand for.
+use Rattle.kl1_account.specs.declared.account.Account.TheInside.{Inside}
+use Rattle.kl1_account.specs.Account.{Account}
+use Rattle.kl1_account.specs.Keeping as keeping
+
+-- what an account keeps
+abbrev pub kept_in : Inside → Account
+kept_in u = record {
+  own_name = u.name;
+  held = u.store.held;
+  goals = u.goals.goals;
+  shoens = u.shoens.shoens;
+  modules = u.modules.loaded;
+  names = u.names.names;
+  last_goal = u.last_goal;
+  entries = u.entries;
+}
+
+-- what always holds of the fields
+abbrev pub IsKept : Inside → Type 0
+IsKept u = keeping.IsKept (kept_in u) u.store.hooks u.goals.shoens

@@ -1,0 +1,169 @@
+// One account.
+
+ghost use Rattle.std.specs.Prelude.{◌≡◌, [], IfOk, OnErr, option_map};
+ghost use Rattle.kl1_model.specs.State.{fresh};
+ghost use Rattle.kl1_model.specs.Step.{step};
+ghost use Rattle.kl1_model.specs.Choice.{first, quiet};
+ghost use Rattle.kl1_model.specs.Event.{load as load_event, start as start_event, reduce, read, value};
+ghost use Rattle.kl1_account.specs.Fitting.{Reading, Fits};
+ghost use Rattle.kl1_account.specs.Account.{state_of};
+ghost use Rattle.kl1_account.specs.Naming.{Keeps};
+ghost use Rattle.kl1_account.specs.Views.{reply_of, chosen_of};
+
+use crate::account_name::AccountName;
+use crate::draft::Draft;
+use crate::names::AccountNames;
+use crate::numbers::{ClauseNo, GoalNo};
+use crate::refusal::Refusal;
+use crate::reply::Reply;
+use kl1_atoms::AtomSource;
+use kl1_goals::GoalTable;
+use kl1_modules::Modules;
+use kl1_moves::Trial;
+use kl1_shoen::ShoenTree;
+use kl1_store::Store;
+use kl1_term::Term;
+use kl1_text::CellName;
+use std::alloc::{AllocError, Global};
+use std::marker::Model;
+
+/// One account, whose names are numbers of a table of names: its cells, goals, shoens, modules and names.
+#[derive(Drop)]
+pub struct Account {
+    name: AccountName,
+    store: Store<CellName>,
+    goals: GoalTable<CellName>,
+    shoens: ShoenTree<CellName>,
+    modules: Modules,
+    names: AccountNames,
+    last_goal: u64,
+    entries: u64,
+    trial: Trial<CellName>,
+    draft: Draft,
+    alloc: Global,
+}
+
+impl Model for Account {
+    ghost use Rattle.std.specs.Coded.{codes};
+    ghost use Rattle.kl1_modules.specs.Numbered.{numbered_code};
+    ghost use Rattle.kl1_account.specs.Account.{Account as Kept};
+
+    ghost Value = { Kept };
+
+    ghost coded = { Prim.hlevel (codes, numbered_code) };
+
+    ghost use Rattle.kl1_account.specs.Accounts.{kept_in, IsKept};
+
+    ghost view = { kept_in };
+
+    ghost invariant = { IsKept };
+}
+
+impl Account {
+    /// An account of this name in which nothing has happened.
+    pub fn fresh(alloc: Global, name: AccountName) -> Result<Self, AllocError>
+        ensures fresh { IfOk result (λ account. (f : Reading) → state_of f account ≡ fresh name) }
+        ensures names { IfOk result (λ account. account.names ≡ []) }
+    {
+        let mut store = Store::new(alloc);
+        let _first = store.fresh()?;
+        Ok(Account {
+            name,
+            store,
+            goals: GoalTable::new(alloc),
+            shoens: ShoenTree::new(alloc),
+            modules: Modules::new(alloc),
+            names: AccountNames::new(alloc),
+            last_goal: 0,
+            entries: 0,
+            trial: Trial::new(alloc),
+            draft: Draft::new(alloc),
+            alloc,
+        })
+    }
+
+    /// The first goal that can step, with the clause by which it steps.
+    pub fn pick(&self) -> Option<(GoalNo, ClauseNo)>
+        ensures { (f : Reading) → Fits self.now.names f → option_map chosen_of result ≡ first (state_of f self.now) }
+    {
+        match self.goals.pick() {
+            None => None,
+            Some((goal, clause)) => Some((GoalNo(goal), ClauseNo(clause))),
+        }
+    }
+
+    /// Whether no goal can step.
+    pub fn quiet(&self) -> bool
+        ensures { (f : Reading) → Fits self.now.names f → result ≡ quiet (state_of f self.now) }
+    {
+        !self.goals.is_any_ready()
+    }
+
+    /// Reduces the goal of a number by the clause of a number.
+    pub fn reduce(&mut self, number: u64, clause: u64) -> Result<Reply, AllocError>
+        ensures step { IfOk result (λ reply. (f : Reading) → Fits self.old.names f → step (state_of f self.old) (reduce number clause) ≡ record { state = state_of f self.new; reply = reply_of reply }) }
+        ensures names { self.new.names ≡ self.old.names }
+        ensures err { OnErr result (self.new ≡ self.old) }
+    {
+        let _ = number;
+        let _ = clause;
+        Err(AllocError)
+    }
+
+    /// Loads a module from its source.
+    pub fn load<A: AtomSource>(
+        &mut self,
+        names: &mut A,
+        seat: &mut A::Seat,
+        source: &[u8],
+    ) -> Result<Reply, AllocError>
+        requires of { A.is_of names.old seat.old }
+        requires knows { A.knows seat.old ≡ self.old.names }
+        ensures step { IfOk result (λ reply. (f : Reading) → Fits self.new.names f → step (state_of f self.old) (load_event source.now) ≡ record { state = state_of f self.new; reply = reply_of reply }) }
+        ensures err { OnErr result (self.new ≡ self.old) }
+        ensures keeps { Keeps A.is_of A.place A.knows names.old names.new seat.old seat.new }
+        ensures knows { A.knows seat.new ≡ self.new.names }
+    {
+        let _ = source;
+        Err(AllocError)
+    }
+
+    /// Starts a goal in a shoen of its own.
+    pub fn start<A: AtomSource>(
+        &mut self,
+        names: &mut A,
+        seat: &mut A::Seat,
+        allowance: u64,
+        low: u64,
+        high: u64,
+        goal: &Term,
+    ) -> Result<Reply, AllocError>
+        requires of { A.is_of names.old seat.old }
+        requires knows { A.knows seat.old ≡ self.old.names }
+        ensures step { IfOk result (λ reply. (f : Reading) → Fits self.new.names f → step (state_of f self.old) (start_event allowance low high goal.now) ≡ record { state = state_of f self.new; reply = reply_of reply }) }
+        ensures err { OnErr result (self.new ≡ self.old) }
+        ensures keeps { Keeps A.is_of A.place A.knows names.old names.new seat.old seat.new }
+        ensures knows { A.knows seat.new ≡ self.new.names }
+    {
+        let _ = (allowance, low, high);
+        let _ = goal;
+        Err(AllocError)
+    }
+
+    /// The goal of the shoen of a number, as started, with what is bound now.
+    pub fn value<A: AtomSource>(
+        &self,
+        names: &mut A,
+        seat: &mut A::Seat,
+        number: u64,
+    ) -> Result<Reply, AllocError>
+        requires of { A.is_of names.old seat.old }
+        requires knows { A.knows seat.old ≡ self.now.names }
+        ensures step { IfOk result (λ reply. (f : Reading) → Fits self.now.names f → step (state_of f self.now) (read (value number)) ≡ record { state = state_of f self.now; reply = reply_of reply }) }
+        ensures keeps { Keeps A.is_of A.place A.knows names.old names.new seat.old seat.new }
+        ensures knows { A.knows seat.new ≡ self.now.names }
+    {
+        let _ = number;
+        Err(AllocError)
+    }
+}

@@ -1,0 +1,130 @@
+// Goals that are looked at again.
+
+ghost use Rattle.std.specs.Prelude.{◌≡◌, ◌+◌, ◌<◌, ◌^◌, length, OnOk};
+ghost use Rattle.kl1_model.specs.Term.{Term};
+ghost use Rattle.kl1_text.specs.declared.cell_name.CellName.{CellName};
+ghost use Rattle.kl1_store.specs.Held.{Held, AreIn};
+ghost use Rattle.kl1_store.specs.Hooks.{HasGrown};
+ghost use Rattle.kl1_clause.specs.Predicates.{AreSome};
+ghost use Rattle.kl1_moves.specs.Kinds.{IsKind, KindIn};
+ghost use Rattle.kl1_moves.specs.Moves.{HasPredicate};
+ghost use Rattle.kl1_modules.specs.Finding.{contents};
+ghost use Rattle.kl1_account.specs.Fitting.{Reading};
+ghost use Rattle.kl1_account.specs.Kept.{AreGoalsIn};
+ghost use Rattle.kl1_account.specs.Works.{Knows};
+ghost use Rattle.kl1_account.specs.Looking.{LooksAt, WakesTold, WakesAdded};
+
+use crate::draft::Change;
+use kl1_clause::Predicate;
+use kl1_goals::{GoalTable, Task};
+use kl1_modules::Modules;
+use kl1_moves::{Kind, Trial, kind_of, or_none, standing_of};
+use kl1_store::{Cell, Store};
+use kl1_text::CellName;
+use std::alloc::AllocError;
+
+/// The clauses of the predicate of a goal of a kind; none where there is no such predicate, or it is no call.
+pub(crate) fn predicate_of(modules: &Modules, kind: Kind<CellName>) -> Predicate<'_, CellName>
+    ensures some { AreSome result.names.now result.clauses.now }
+    ensures has { (f : Reading) → Knows modules.now.loaded f → (h : Held CellName) (t : Term) → IsKind f h t kind → HasPredicate f h (contents modules.now.loaded) kind result }
+{
+    match kind {
+        Kind::Calls(call) => or_none(modules.find(call.module_name, call.name, call.count)),
+        Kind::Unifies(_, _) => or_none(None),
+        Kind::Goes => or_none(None),
+        Kind::Waits(_) => or_none(None),
+        Kind::Nothing => or_none(None),
+    }
+}
+
+/// Hangs a number on each variable, but where it was hung on it last.
+fn hang_on(store: &mut Store<CellName>, awaited: &[u32], number: u64) -> Result<(), AllocError>
+{
+    for variable in awaited {
+        if store.newest(*variable) != Some(number) {
+            store.hang(*variable, number)?;
+        }
+    }
+    Ok(())
+}
+
+/// Looks at the goal of a number, which is of a kind, by the clauses of its predicate: it is hung on each variable that it waits
+/// for, and the clause by which it can step becomes one change more.
+pub(crate) fn look_at(
+    store: &mut Store<CellName>,
+    kind: Kind<CellName>,
+    predicate: Predicate<'_, CellName>,
+    trial: &mut Trial<CellName>,
+    number: u64,
+    changes: &mut Vec<Change>,
+) -> Result<(), AllocError>
+    requires kind { KindIn store.old.held kind }
+    requires predicate { AreSome predicate.names.now predicate.clauses.now }
+    ensures looks { OnOk result (LooksAt store.old.held store.new.hooks kind predicate.entry number changes.old.items changes.new.items) }
+    ensures held { store.new.held ≡ store.old.held }
+    ensures grown { HasGrown store.old store.new }
+{
+    let standing = standing_of(store, kind, predicate, trial)?;
+    hang_on(store, trial.awaited.as_slice(), number)?;
+    changes.push(Change { number, standing })?;
+    Ok(())
+}
+
+/// Looks at the goals of these numbers that are there, but the one that is removed. Where memory is refused, more may hang.
+pub(crate) fn wake_told(
+    store: &mut Store<CellName>,
+    goals: &GoalTable<CellName>,
+    modules: &Modules,
+    trial: &mut Trial<CellName>,
+    removed: u64,
+    told: &[u64],
+    changes: &mut Vec<Change>,
+) -> Result<(), AllocError>
+    requires { AreGoalsIn store.old.held goals.now.goals }
+    ensures wakes { OnOk result (WakesTold modules.now.loaded store.old.held store.old.hooks store.new.hooks goals.now.goals removed told.now changes.old.items changes.new.items) }
+    ensures held { store.new.held ≡ store.old.held }
+    ensures grown { HasGrown store.old store.new }
+{
+    for number in told {
+        if *number == removed {
+            continue;
+        }
+        let Some(goal) = goals.get(*number) else {
+            continue;
+        };
+        match goal.task {
+            Task::Monitor => {}
+            Task::Reduces(cell) => {
+                let kind = kind_of(store, cell);
+                let predicate = predicate_of(modules, kind);
+                look_at(store, kind, predicate, trial, *number, changes)?;
+            }
+        }
+    }
+    Ok(())
+}
+
+/// Looks at goals for these cells, which have the numbers after the last. Where memory is refused, more may hang.
+pub(crate) fn wake_added(
+    store: &mut Store<CellName>,
+    modules: &Modules,
+    trial: &mut Trial<CellName>,
+    last_goal: u64,
+    cells: &[Cell<CellName>],
+    changes: &mut Vec<Change>,
+) -> Result<(), AllocError>
+    requires cells { AreIn store.old.held cells.now }
+    requires fits { last_goal + length cells.now < 2 ^ 64 }
+    ensures wakes { OnOk result (WakesAdded modules.now.loaded store.old.held store.old.hooks store.new.hooks last_goal cells.now changes.old.items changes.new.items) }
+    ensures held { store.new.held ≡ store.old.held }
+    ensures grown { HasGrown store.old store.new }
+{
+    let mut number = last_goal;
+    for cell in cells {
+        number += 1;
+        let kind = kind_of(store, *cell);
+        let predicate = predicate_of(modules, kind);
+        look_at(store, kind, predicate, trial, number, changes)?;
+    }
+    Ok(())
+}

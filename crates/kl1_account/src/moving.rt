@@ -1,0 +1,47 @@
+// Moves of goals.
+
+ghost use Rattle.std.specs.Prelude.{◌≡◌, ◌<◌, [], Some, OnOk};
+ghost use Rattle.kl1_store.specs.Held.{IsIn};
+ghost use Rattle.kl1_store.specs.Sound.{Grown};
+ghost use Rattle.kl1_clause.specs.Predicates.{AreSome};
+ghost use Rattle.kl1_moves.specs.Moves.{MoveIn};
+ghost use Rattle.kl1_account.specs.Kept.{IsShoenIn};
+ghost use Rattle.kl1_account.specs.Moving.{Moves, IsMoved};
+
+use crate::committing::commit;
+use crate::draft::Draft;
+use crate::reporting::{raise, unify};
+use kl1_clause::Predicate;
+use kl1_moves::{Move, Trial};
+use kl1_store::{Cell, Store};
+use kl1_text::CellName;
+use std::alloc::AllocError;
+
+/// Does a move of the goal that a draft removes, which is this cell. Where memory is refused, the store may have grown.
+pub(crate) fn do_move(
+    store: &mut Store<CellName>,
+    predicate: Predicate<'_, CellName>,
+    made: Move<CellName>,
+    trial: &mut Trial<CellName>,
+    cell: Cell<CellName>,
+    draft: &mut Draft,
+) -> Result<(), AllocError>
+    requires cell { IsIn store.old.held cell }
+    requires inside { MoveIn store.old.held predicate trial.old.places.items (Some made) }
+    requires predicate { AreSome predicate.names.now predicate.clauses.now }
+    requires some { 0 < store.old.held.variables }
+    requires empty { draft.old.cells.items ≡ [] }
+    requires shoen { IsShoenIn store.old.held draft.old.shoen }
+    ensures ok { OnOk result (Moves predicate.entry made trial.old.places.items cell store.old.held store.new.held draft.old draft.new) }
+    ensures shoen { OnOk result (IsShoenIn store.new.held draft.new.shoen) }
+    ensures moved { IsMoved draft.old draft.new }
+    ensures grown { Grown store.old.held store.new.held }
+    ensures hooks { store.new.hooks ≡ store.old.hooks }
+{
+    match made {
+        Move::Commits(place) => commit(store, predicate, place, trial, draft),
+        Move::Fails => raise(store, draft, cell),
+        Move::Unifies(left, right) => unify(store, draft, cell, left, right),
+        Move::Goes => Ok(()),
+    }
+}
