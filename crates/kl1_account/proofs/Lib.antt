@@ -7,3 +7,6 @@ pub mod SettledStays
 pub mod Waking
 pub mod Ending
 pub mod NameTexts
+pub mod StartLines
+pub mod Beyond
+pub mod Opened

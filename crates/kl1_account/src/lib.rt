@@ -16,6 +16,8 @@ mod refusal;
 mod reply;
 mod reporting;
 mod settling;
+mod startable;
+mod tryout;
 mod looking;
 
 pub use account::Account;

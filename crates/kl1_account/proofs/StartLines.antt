@@ -1,0 +1,14 @@
+-- The line of a journal for a start.
+use Rattle.std.proofs.Common.{◌≡◌, ℕ, List, [], ◌∷◌, ◌++◌, codes, ap, ◌∙◌}
+use Rattle.std.specs.Prelude.{decimal}
+use Rattle.kl1_model.specs.Term.{Term}
+use Rattle.kl1_model.specs.Print.{print}
+use Rattle.kl1_model.specs.Opening.{start_line}
+
+-- the parts of the line, put one behind another
+pub line_is : (allowance low high : ℕ) (goal : Term) (x y z w : List ℕ) →
+    x ≡ codes "start " ++ decimal allowance ++ 32 ∷ [] → y ≡ x ++ decimal low ++ 32 ∷ [] → z ≡ y ++ decimal high ++ 32 ∷ [] → w ≡ z ++ print goal →
+    w ≡ start_line allowance low high goal
+line_is allowance low high goal x y z w p q r e =
+    let blank : List ℕ = 32 ∷ [] in
+    e ∙ ap (λ v. v ++ print goal) (r ∙ ap (λ v. v ++ decimal high ++ blank) (q ∙ ap (λ v. v ++ decimal low ++ blank) p))

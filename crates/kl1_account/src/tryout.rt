@@ -1,0 +1,16 @@
+// Tries.
+ghost use Rattle.std.specs.Prelude.{◌≡◌};
+
+#[tactic(auto, using(crate::proofs::Beyond::absent_beyond))]
+fn try_beyond() -> u64
+    ensures { result ≡ 0 }
+{
+    0
+}
+
+#[tactic(auto, using(crate::proofs::Opened::start_opens))]
+fn try_opened() -> u64
+    ensures { result ≡ 0 }
+{
+    0
+}
