@@ -10,3 +10,4 @@ pub mod NameTexts
 pub mod StartLines
 pub mod Beyond
 pub mod Opened
+pub mod Streaming
