@@ -11,3 +11,6 @@ pub mod StartLines
 pub mod Beyond
 pub mod Opened
 pub mod Streaming
+pub mod Drafting
+pub mod TwoGoals
+pub mod Hanging

@@ -1,5 +1,5 @@
 -- What a start makes of an account.
-use Rattle.std.specs.Prelude.{◌≡◌, ℕ, suc, ◌+◌, ◌-◌, false, List, [], ◌∷◌, map, codes, Option, Some, None, IsTrue}
+use Rattle.std.specs.Prelude.{◌≡◌, ℕ, suc, ◌+◌, ◌-◌, false, List, [], ◌∷◌, ◌++◌, length, map, codes, Option, Some, None, IsTrue}
 use Rattle.kl1_model.specs.Term.{Term, variable, atom}
 use Rattle.kl1_model.specs.TermCode.{nodes_of}
 use Rattle.kl1_model.specs.Meaning.{cell, highest, is_numbered}
@@ -16,7 +16,7 @@ use Rattle.kl1_store.specs.Hooks.{Hook}
 use Rattle.kl1_clause.specs.declared.instruction.Instruction.{Instruction}
 use Rattle.kl1_clause.specs.Instructions.{IsRowOf}
 use Rattle.kl1_match.specs.Variables.{with_variables}
-use Rattle.kl1_account.specs.GoalCells.{AreGoalVariables}
+use Rattle.kl1_account.specs.GoalCells.{AreGoalVariables, BuildsGoal}
 use Rattle.kl1_match.specs.Waiting.{AreUnbound}
 use Rattle.kl1_moves.specs.Standing.{StandsAs}
 use Rattle.kl1_goals.specs.declared.task.Task.TheVariants.{Monitor, Reduces}
@@ -83,3 +83,12 @@ pub record IsDrafted (ms : List Numbered) (names : List Known) (texts : List (Li
 -- a number hung on each of these variables
 abbrev pub hooks_on : List ℕ → ℕ → List Hook
 hooks_on vs n = map (λ v. let k : Hook = record { variable = v; number = n } in k) vs
+
+-- a start that was drafted is in place: a cell was built of the goal's row, with these numbers for its names; the shoen's monitor
+-- and the goal come after the other goals, and the shoen after the others
+pub record IsPlaced (numbers : List CellName) (row : List Instruction) (cells : List (Cell CellName)) (old new : Held CellName) (goals after : List (Goal CellName)) (shoens more : List (Shoen CellName)) (last allowance low high : ℕ) (o : Opening) : Type 0 where
+  pub cell : Cell CellName
+  pub builds : BuildsGoal built numbers row cells old new cell
+  pub bindings : new.bindings ≡ old.bindings
+  pub goals_are : after ≡ goals ++ two_goals last (suc (length shoens)) high cell o.standing
+  pub shoens_are : more ≡ shoens ++ shoen_opened (suc (length shoens)) allowance low high cell o.streams.control o.streams.reports o.streams.tail ∷ []
