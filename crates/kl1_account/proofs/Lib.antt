@@ -14,3 +14,5 @@ pub mod Streaming
 pub mod Drafting
 pub mod TwoGoals
 pub mod Hanging
+pub mod NamesOnce
+pub mod Started

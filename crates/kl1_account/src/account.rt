@@ -12,12 +12,17 @@ ghost use Rattle.kl1_account.specs.Views.{reply_of, chosen_of};
 
 use crate::account_name::AccountName;
 use crate::draft::Draft;
-use crate::names::AccountNames;
-use crate::numbers::{ClauseNo, GoalNo};
+use crate::goal_cells::GoalCode;
+use crate::names::{AccountNames, publish};
+use crate::numbers::{ClauseNo, GoalNo, ShoenNo};
 use crate::refusal::Refusal;
 use crate::reply::Reply;
+use crate::startable::may_start;
+use crate::starting::{are_too_many, next_goals, next_number, place, prepare};
 use kl1_atoms::AtomSource;
 use kl1_goals::GoalTable;
+use kl1_match::Scratch;
+use kl1_model::limits::MOST_ENTRIES;
 use kl1_modules::Modules;
 use kl1_moves::Trial;
 use kl1_shoen::ShoenTree;
@@ -145,9 +150,53 @@ impl Account {
         ensures keeps { Keeps A.is_of A.place A.knows names.old names.new seat.old seat.new }
         ensures knows { A.knows seat.new ≡ self.new.names }
     {
-        let _ = (allowance, low, high);
-        let _ = goal;
-        Err(AllocError)
+        if !may_start(self.alloc, allowance, low, high, goal)? {
+            return Ok(Reply::Refused(Refusal::Syntax));
+        }
+        let code = GoalCode::compile(self.alloc, goal)?;
+        let texts = code.names();
+        if are_too_many(&self.names, texts) {
+            return Ok(Reply::Refused(Refusal::Names));
+        }
+        if MOST_ENTRIES <= self.entries {
+            return Ok(Reply::Refused(Refusal::Journal));
+        }
+        let last = next_goals(self.last_goal)?;
+        let shoen = next_number(self.shoens.len())?;
+        let mut numbers = Vec::new(self.alloc);
+        let mut scratch = Scratch::new(self.alloc);
+        let opening = prepare(
+            &mut self.store,
+            &mut self.goals,
+            &mut self.shoens,
+            &self.modules,
+            &mut self.names,
+            texts,
+            code.row(),
+            goal.highest(),
+            &mut numbers,
+            &mut scratch,
+            &mut self.trial,
+        )?;
+        publish(names, seat, &mut self.names, texts, &mut numbers);
+        place(
+            &mut self.store,
+            &mut self.goals,
+            &mut self.shoens,
+            numbers.as_slice(),
+            code.row(),
+            &mut scratch,
+            self.trial.awaited.as_slice(),
+            opening,
+            shoen,
+            self.last_goal,
+            allowance,
+            low,
+            high,
+        );
+        self.last_goal = last;
+        self.entries += 1;
+        Ok(Reply::Opened(ShoenNo(shoen)))
     }
 
     /// The goal of the shoen of a number, as started, with what is bound now.

@@ -1,7 +1,7 @@
 // Starts of goals: what may be refused, and what is put in place.
 
-ghost use Rattle.std.specs.Prelude.{◌≡◌, ◌+◌, ◌-◌, ◌<◌, ◌≤◌, ◌^◌, ◌++◌, ◌∷◌, ℕ, [], suc, length, map, IfOk, OnOk, OnErr, IsTrue, vec_capacity};
-ghost use Rattle.kl1_model.specs.Limits.{monitor_priority};
+ghost use Rattle.std.specs.Prelude.{◌≡◌, ◌+◌, ◌-◌, ◌<◌, ◌≤◌, ◌^◌, ◌++◌, ◌∷◌, ℕ, [], suc, length, map, IfOk, OnOk, OnErr, IsTrue, nat_lt, vec_capacity};
+ghost use Rattle.kl1_model.specs.Limits.{monitor_priority, most_names};
 ghost use Rattle.kl1_model.specs.Term.{Term};
 ghost use Rattle.kl1_model.specs.TermCode.{nodes_of};
 ghost use Rattle.kl1_model.specs.Meaning.{is_numbered, highest};
@@ -11,12 +11,12 @@ ghost use Rattle.kl1_store.specs.declared.cell.Cell.{Cell};
 ghost use Rattle.kl1_store.specs.Held.{AreIn, IsIn};
 ghost use Rattle.kl1_store.specs.Hooks.{HasGrown};
 ghost use Rattle.kl1_store.specs.Sound.{Grown};
-ghost use Rattle.kl1_clause.specs.NameList.{IsNameList};
+ghost use Rattle.kl1_clause.specs.NameList.{IsNameList, with_texts};
 ghost use Rattle.kl1_clause.specs.Instructions.{AreNamed};
 ghost use Rattle.kl1_match.specs.Built.{AreBelow};
 ghost use Rattle.kl1_match.specs.Waiting.{AreUnbound};
 ghost use Rattle.kl1_account.specs.GoalCells.{goal_variables, HasRoomForGoal, BuildsGoal};
-ghost use Rattle.kl1_account.specs.Fitting.{built};
+ghost use Rattle.kl1_account.specs.Account.{texts_of};
 ghost use Rattle.kl1_account.specs.Kept.{AreUpTo, AreOwned};
 ghost use Rattle.kl1_account.specs.Starting.{IsDrafted, IsPlaced, hooks_on};
 
@@ -29,11 +29,38 @@ use kl1_clause::Instruction;
 use kl1_goals::GoalTable;
 use kl1_match::Scratch;
 use kl1_modules::Modules;
+use kl1_model::limits::MOST_NAMES;
 use kl1_moves::Trial;
 use kl1_shoen::{Life, Origin, Shoen, ShoenTree};
 use kl1_store::Store;
 use kl1_text::{AtomText, CellName};
 use std::alloc::AllocError;
+
+/// Whether an account would use too many names with these.
+pub(crate) fn are_too_many(names: &AccountNames, texts: &[AtomText]) -> bool
+    requires { IsNameList texts.now }
+    ensures { result ≡ nat_lt most_names (length (with_texts (texts_of names.now.names) texts.now)) }
+{
+    match names.len().checked_add(names.count_new(texts)) {
+        None => true,
+        Some(count) => MOST_NAMES < count,
+    }
+}
+
+/// The number after one. Numbers of 64 bits that run out are refused as for want of memory.
+pub(crate) fn next_number(last: u64) -> Result<u64, AllocError>
+    ensures { IfOk result (λ number. number ≡ suc last) }
+{
+    last.checked_add(1).ok_or(AllocError)
+}
+
+/// The number after the next. Numbers of 64 bits that run out are refused as for want of memory.
+pub(crate) fn next_goals(last: u64) -> Result<u64, AllocError>
+    ensures value { IfOk result (λ number. number ≡ suc (suc last)) }
+    ensures fits { OnOk result (last + 2 < 2 ^ 64) }
+{
+    last.checked_add(2).ok_or(AllocError)
+}
 
 /// Makes the room that a start takes: for the goal of a row, for so many hooks and names, and for a shoen with its two goals.
 fn reserve_start(
@@ -145,6 +172,7 @@ pub(crate) fn place(
     scratch: &mut Scratch<CellName>,
     awaited: &[u32],
     opening: Opening,
+    number: u64,
     last_goal: u64,
     allowance: u64,
     low: u64,
@@ -163,6 +191,7 @@ pub(crate) fn place(
     requires last { AreUpTo last_goal goals.old.goals }
     requires owned { AreOwned goals.old.shoens goals.old.goals }
     requires count { goals.old.shoens ≡ length shoens.old.shoens }
+    requires number { number ≡ suc (length shoens.old.shoens) }
     requires high { high ≤ monitor_priority }
     ensures placed { IsPlaced numbers.now row.now (goal_variables scratch.old) store.old.held store.new.held goals.old.goals goals.new.goals shoens.old.shoens shoens.new.shoens last_goal allowance low high opening }
     ensures known { goals.new.shoens ≡ suc goals.old.shoens }
@@ -171,7 +200,6 @@ pub(crate) fn place(
 {
     let cell = put_goal(store, numbers, row, scratch);
     hang_all(store, awaited, last_goal + 2);
-    let number = shoens.len() + 1;
     put_two(goals, last_goal, number, high, cell, opening.standing);
     let streams = opening.streams;
     shoens.open(Shoen {

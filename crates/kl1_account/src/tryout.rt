@@ -14,3 +14,10 @@ fn try_opened() -> u64
 {
     0
 }
+
+#[tactic(auto, using(crate::proofs::Started::started_state))]
+fn try_started() -> u64
+    ensures { result ≡ 0 }
+{
+    0
+}
