@@ -13,6 +13,6 @@ pub mod Opened
 pub mod Streaming
 pub mod Drafting
 pub mod TwoGoals
-pub mod Hanging
+pub mod StartHooks
 pub mod NamesOnce
 pub mod Started

@@ -15,7 +15,7 @@ fn try_opened() -> u64
     0
 }
 
-#[tactic(auto, using(crate::proofs::Started::started_state))]
+#[tactic(auto, using(crate::proofs::Started::started_step))]
 fn try_started() -> u64
     ensures { result ≡ 0 }
 {

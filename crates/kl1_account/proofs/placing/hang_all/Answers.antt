@@ -1,7 +1,7 @@
 use Rattle.std.proofs.Common.{ap, arith}
 use Rattle.kl1_text.specs.declared.cell_name.CellName.{CellName}
 use Rattle.kl1_store.specs.Held.{Held}
-use Rattle.kl1_account.proofs.Hanging.{unbound_at}
+use Rattle.kl1_account.proofs.StartHooks.{unbound_at}
 use Rattle.kl1_account.proofs.placing.hang_all.Goals as goal
 
 pub hang-requires : goal.hang-requires
