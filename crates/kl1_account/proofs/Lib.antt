@@ -16,3 +16,5 @@ pub mod TwoGoals
 pub mod StartHooks
 pub mod NamesOnce
 pub mod Started
+pub mod StartChecks
+pub mod SameAccount

@@ -297,3 +297,34 @@ started_step a b mid texts row numbers count cells awaited o allowance low high 
     step_done (state_of f a) allowance low high goal texts may s.texts_are few room
     ∙ ap (λ z. R z (suc (length a.shoens))) (started_state a b mid texts row numbers count cells awaited o allowance low high goal hooks known k s f fits)
     ∙ ap (R (state_of f b)) (sym number)
+
+-- ---- the start of a draft that was put in place
+
+pub is_start : (a b : Account) (mid : Held CellName) (texts : List (List ℕ)) (row : List Instruction) (numbers sliced : List CellName) (count : ℕ) (cells : List (Cell CellName)) (awaited : List ℕ) (o : Opening) (allowance low high : ℕ) (goal code : Term) (gs : List (Goal CellName)) (ss : List (Shoen CellName)) →
+    IsFormed a.held → IsDrafted a.modules a.names texts row count a.held mid cells awaited o → Grown a.held mid → IsPlaced sliced row cells mid b.held gs b.goals ss b.shoens a.last_goal allowance low high o → gs ≡ a.goals → ss ≡ a.shoens → sliced ≡ numbers → Grown mid b.held →
+    code ≡ goal → texts ≡ with_names [] (names_of code) → IsRowOf (with_names [] (names_of code)) row (nodes_of code) → IsTrue (is_numbered goal) → count ≡ highest goal → texts_of b.names ≡ with_texts (texts_of a.names) texts → AreNumbersOf b.names texts numbers → ((f : Reading) → Fits b.names f → Fits a.names f) →
+    b.own_name ≡ a.own_name → b.modules ≡ a.modules → b.last_goal ≡ suc (suc a.last_goal) → b.entries ≡ a.entries + 1 →
+    IsStart a b mid texts row numbers count cells awaited o allowance low high goal
+is_start a b mid texts row numbers sliced count cells awaited o allowance low high goal code gs ss formed d grown p e f h more same t is numbered many names are fits own modules last entries =
+    let P : List (Goal CellName) → Type 0 = λ x. IsPlaced sliced row cells mid b.held x b.goals ss b.shoens a.last_goal allowance low high o in
+    let Q : List (Shoen CellName) → Type 0 = λ x. IsPlaced sliced row cells mid b.held a.goals b.goals x b.shoens a.last_goal allowance low high o in
+    let R : List CellName → Type 0 = λ x. IsPlaced x row cells mid b.held a.goals b.goals a.shoens b.shoens a.last_goal allowance low high o in
+    let T : Term → Type 0 = λ x. IsRowOf (with_names [] (names_of x)) row (nodes_of x) in
+    record {
+      formed = formed;
+      drafted = d;
+      grown = grown;
+      placed = subst R h (subst Q f (subst P e p));
+      more = more;
+      texts_are = t ∙ ap (λ (x : Term). with_names [] (names_of x)) same;
+      row_is = subst T same is;
+      numbered = numbered;
+      many = many;
+      names_are = names;
+      numbers_are = are;
+      fits = fits;
+      own = own;
+      modules = modules;
+      last = last;
+      entries = entries;
+    }

@@ -155,6 +155,7 @@ impl Account {
         }
         let code = GoalCode::compile(self.alloc, goal)?;
         let texts = code.names();
+        let row = code.row();
         if are_too_many(&self.names, texts) {
             return Ok(Reply::Refused(Refusal::Names));
         }
@@ -172,7 +173,7 @@ impl Account {
             &self.modules,
             &mut self.names,
             texts,
-            code.row(),
+            row,
             goal.highest(),
             &mut numbers,
             &mut scratch,
@@ -184,7 +185,7 @@ impl Account {
             &mut self.goals,
             &mut self.shoens,
             numbers.as_slice(),
-            code.row(),
+            row,
             &mut scratch,
             self.trial.awaited.as_slice(),
             opening,

@@ -10,7 +10,7 @@ ghost use Rattle.kl1_text.specs.declared.cell_name.CellName.{CellName};
 ghost use Rattle.kl1_store.specs.declared.cell.Cell.{Cell};
 ghost use Rattle.kl1_store.specs.Held.{AreIn, IsIn};
 ghost use Rattle.kl1_store.specs.Hooks.{HasGrown};
-ghost use Rattle.kl1_store.specs.Sound.{Grown};
+ghost use Rattle.kl1_store.specs.Sound.{Grown, IsFormed};
 ghost use Rattle.kl1_clause.specs.NameList.{IsNameList, with_texts};
 ghost use Rattle.kl1_clause.specs.Instructions.{AreNamed};
 ghost use Rattle.kl1_match.specs.Built.{AreBelow};
@@ -116,6 +116,7 @@ pub(crate) fn prepare(
     requires empty { numbers.old.items ≡ [] }
     ensures ok { IfOk result (IsDrafted modules.now.loaded names.old.names texts.now row.now count store.old.held store.new.held (goal_variables scratch.new) trial.new.awaited.items) }
     ensures grown { OnOk result (Grown store.old.held store.new.held) }
+    ensures formed { IsFormed store.old.held }
     ensures empty { OnOk result (numbers.new.items ≡ []) }
     ensures room { OnOk result (length texts.now ≤ vec_capacity numbers.new) }
     ensures goal_room { OnOk result (HasRoomForGoal store.new.room scratch.new row.now) }

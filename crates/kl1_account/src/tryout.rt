@@ -21,3 +21,10 @@ fn try_started() -> u64
 {
     0
 }
+
+#[tactic(auto, using(crate::proofs::StartChecks::may_high))]
+fn try_checks() -> u64
+    ensures { result ≡ 0 }
+{
+    0
+}
