@@ -27,6 +27,7 @@ used_stays names a b e = put (is_used names b)
       | inl x ↦ or_left_true (is_built_in a) (list_any (bytes_eq a) (names ++ b ∷ [])) x
       | inr x ↦ or_right_true (is_built_in a) (list_any (bytes_eq a) (names ++ b ∷ [])) (list_any-append (bytes_eq a) names (b ∷ []) ∙ or_left_true (list_any (bytes_eq a) names) (list_any (bytes_eq a) (b ∷ [])) x)
     ]
+
     put : (c : Bool) → is_used (if c then names else names ++ b ∷ []) a ≡ true
     put true = e
     put false = more

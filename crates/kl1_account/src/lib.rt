@@ -10,6 +10,7 @@ mod goal_cells;
 mod installing;
 mod judging;
 mod limits;
+mod looking;
 mod moving;
 mod names;
 mod numbers;
@@ -22,8 +23,6 @@ mod reporting;
 mod settling;
 mod startable;
 mod starting;
-mod tryout;
-mod looking;
 
 pub use account::Account;
 pub use account_name::AccountName;

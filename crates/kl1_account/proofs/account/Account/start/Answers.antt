@@ -59,7 +59,7 @@ invariant_of-self-2 g c =
     (c.publish.ensures.texts ∙ ap (λ (ks : List Known). with_texts (texts_of ks) texts) c.prepare.ensures.names) c.publish.ensures.row (λ f fits. let F : List Known → Type 0 = λ ks. Fits ks f in subst F c.prepare.ensures.names (c.publish.ensures.fits f fits))
     refl refl c.in_ok-last.ensures.value refl in
     let N : List Known → Type 0 = λ ks. AreNames ks in
-    let once : AreNames a.names = subst N (c.requires.knows ∙ ap (λ (z : Account). z.names) (sym c.self.view_is)) (g.A.AtomSource.one_to_one c.args.names.now c.args.seat.now c.requires.of) in
+    let once : AreNames a.names = subst N (c.requires.knows ∙ ap (λ (z : Account). z.names) (sym c.self.view_is)) (g.met.A.AtomSource.one_to_one c.args.names.now c.args.seat.now c.requires.of) in
     let hung : c.place.new.store.hooks ≡ u.store.hooks ++ hooks_on awaited (u.last_goal + 2) = c.place.ensures.hooks ∙ ap (λ (ks : List Hook). ks ++ hooks_on c.as_slice-2.result.now (u.last_goal + 2)) c.prepare.ensures.hooks ∙ ap (λ (vs : List ℕ). u.store.hooks ++ hooks_on vs (u.last_goal + 2)) c.as_slice-2.ensures.value in
     started_kept a b c.prepare.new.store.held texts row c.publish.new.row.items c.highest.result cells awaited c.in_ok-opening.opening c.args.allowance c.args.low c.args.high goal_term u.store.hooks c.place.new.store.hooks u.goals.shoens c.place.new.goals.shoens c.self.invariant s once c.publish.ensures.small hung (c.place.ensures.known ∙ ap suc c.prepare.ensures.known)
 
