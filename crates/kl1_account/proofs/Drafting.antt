@@ -30,7 +30,7 @@ use Rattle.kl1_match.specs.Variables.{with_variables}
 use Rattle.kl1_account.specs.declared.opening.Streams.{Streams}
 use Rattle.kl1_account.specs.declared.opening.Opening.{Opening}
 use Rattle.kl1_account.specs.Naming.{AreSmall, ReadsDraft}
-use Rattle.kl1_account.specs.GoalCells.{AreGoalVariables, BuildsGoal}
+use Rattle.kl1_match.specs.GoalCells.{AreGoalVariables, BuildsGoal}
 use Rattle.kl1_account.specs.Starting.{OpensStreams, Judges, IsDrafted}
 use Rattle.kl1_account.proofs.States.{in_grown}
 

@@ -43,7 +43,7 @@ use Rattle.kl1_account.specs.Kept.{IsTaskIn, AreGoalsIn, AreOwned, AreUpTo, IsSh
 use Rattle.kl1_account.specs.Settled.{task_clause, awaited_by_task, HangsOnEach, IsSettled, AreSettled}
 use Rattle.kl1_account.proofs.Goals.{goals_in_append, owned_append, up_to_append, up_to_more}
 use Rattle.kl1_account.proofs.SettledStays.{hung_more}
-use Rattle.kl1_account.specs.GoalCells.{AreGoalVariables}
+use Rattle.kl1_match.specs.GoalCells.{AreGoalVariables}
 use Rattle.kl1_account.specs.Starting.{two_goals, shoen_opened, IsDrafted, IsPlaced, hooks_on}
 use Rattle.kl1_account.proofs.States.{Agree, in_grown, goals_grown, shoens_grown}
 use Rattle.kl1_account.proofs.Beyond.{absent_beyond}

@@ -16,7 +16,7 @@ use Rattle.kl1_store.specs.Hooks.{Hook}
 use Rattle.kl1_clause.specs.declared.instruction.Instruction.{Instruction}
 use Rattle.kl1_clause.specs.Instructions.{IsRowOf}
 use Rattle.kl1_match.specs.Variables.{with_variables}
-use Rattle.kl1_account.specs.GoalCells.{AreGoalVariables, BuildsGoal}
+use Rattle.kl1_match.specs.GoalCells.{AreGoalVariables, BuildsGoal}
 use Rattle.kl1_match.specs.Waiting.{AreUnbound}
 use Rattle.kl1_moves.specs.Standing.{StandsAs}
 use Rattle.kl1_goals.specs.declared.task.Task.TheVariants.{Monitor, Reduces}

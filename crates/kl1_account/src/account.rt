@@ -12,7 +12,6 @@ ghost use Rattle.kl1_account.specs.Views.{reply_of, chosen_of};
 
 use crate::account_name::AccountName;
 use crate::draft::Draft;
-use crate::goal_cells::GoalCode;
 use crate::names::{AccountNames, publish};
 use crate::numbers::{ClauseNo, GoalNo, ShoenNo};
 use crate::refusal::Refusal;
@@ -20,6 +19,7 @@ use crate::reply::Reply;
 use crate::startable::may_start;
 use crate::starting::{are_too_many, next_goals, next_number, place, prepare};
 use kl1_atoms::AtomSource;
+use kl1_clause::GoalCode;
 use kl1_goals::GoalTable;
 use kl1_match::Scratch;
 use kl1_model::limits::MOST_ENTRIES;

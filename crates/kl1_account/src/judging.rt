@@ -7,15 +7,14 @@ ghost use Rattle.kl1_store.specs.Held.{AreIn};
 ghost use Rattle.kl1_store.specs.Hooks.{HasGrown};
 ghost use Rattle.kl1_match.specs.Built.{AreBelow};
 ghost use Rattle.kl1_match.specs.Waiting.{AreUnbound};
-ghost use Rattle.kl1_account.specs.GoalCells.{goal_variables};
+ghost use Rattle.kl1_match.specs.GoalCells.{goal_variables};
 ghost use Rattle.kl1_account.specs.Starting.{Judges, IsDrafted};
 
-use crate::goal_cells::{put_goal, put_goal_variables, reserve_goal};
 use crate::looking::predicate_of;
 use crate::names::{AccountNames, draft_row};
 use crate::opening::{Opening, open_streams};
 use kl1_clause::Instruction;
-use kl1_match::Scratch;
+use kl1_match::{Scratch, put_goal, put_goal_variables, reserve_goal};
 use kl1_modules::Modules;
 use kl1_moves::{Trial, kind_of, standing_of};
 use kl1_store::Store;

@@ -6,7 +6,6 @@ mod account_name;
 mod committing;
 mod draft;
 mod event;
-mod goal_cells;
 mod installing;
 mod judging;
 mod limits;

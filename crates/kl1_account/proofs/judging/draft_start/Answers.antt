@@ -1,4 +1,4 @@
-use Rattle.kl1_account.specs.GoalCells.{goal_variables}
+use Rattle.kl1_match.specs.GoalCells.{goal_variables}
 use Rattle.kl1_account.proofs.Drafting.{cells_grown, drafted}
 use Rattle.kl1_account.proofs.judging.draft_start.Goals as goal
 

@@ -2,7 +2,7 @@ use Rattle.std.proofs.Common.{ap, ◌∙◌}
 use Rattle.std.proofs.lemmas.Result.{IfOk-weaker, on_ok_weaker}
 use Rattle.kl1_store.specs.Held.{Held}
 use Rattle.kl1_text.specs.declared.cell_name.CellName.{CellName}
-use Rattle.kl1_account.specs.GoalCells.{goal_variables}
+use Rattle.kl1_match.specs.GoalCells.{goal_variables}
 use Rattle.kl1_account.specs.Starting.{Judges}
 use Rattle.kl1_account.proofs.Drafting.{judges, unbound_before}
 use Rattle.kl1_account.proofs.judging.judge.Goals as goal

@@ -13,7 +13,7 @@ use Rattle.kl1_match.specs.Built.{AreBelow}
 use Rattle.kl1_account.specs.Fitting.{Reading, Fits}
 use Rattle.kl1_account.specs.Account.{Account, state_of, texts_of}
 use Rattle.kl1_account.specs.Accounts.{kept_in}
-use Rattle.kl1_account.specs.GoalCells.{goal_variables}
+use Rattle.kl1_match.specs.GoalCells.{goal_variables}
 use Rattle.kl1_account.specs.Starting.{hooks_on}
 use Rattle.kl1_account.proofs.StartChecks.{goal_below, may_numbered}
 use Rattle.kl1_account.proofs.Started.{is_start, started_kept, started_step, step_names, step_full}
