@@ -24,6 +24,7 @@ use Rattle.kl1_account.proofs.KnownNames.{not_known}
 use Rattle.kl1_account.proofs.KnownTexts.{next_take, not_before}
 use Rattle.kl1_account.proofs.NumberRows.{AreNumbered, numbered_push, numbered_kept, numbered_read}
 
+-- what an option holds
 some_number : (m n : ℕ) → Some m ≡ Some n → m ≡ n
 some_number m n e = cc
 
@@ -77,7 +78,7 @@ text_last (x ∷ ks) k e = elim (cases_Bool (x.number.number == k.number.number)
   | inr other ↦ rw other (text_last ks k (rw other at e))
 ]
 
-pub one_grows : (ks : List Known) (k : Known) → Grows ks (ks ++ k ∷ [])
+one_grows : (ks : List Known) (k : Known) → Grows ks (ks ++ k ∷ [])
 one_grows ks k t n e = elim (option_cases (built_in_of t)) [
   | inl none ↦ rw none (number_kept ks k t n (rw none at e))
   | inr some ↦ rw some.1 (rw some.1 at e)

@@ -24,18 +24,6 @@ use Rattle.indexmap.proofs.CallerLemmas.{insert_entry-new}
 use Rattle.kl1_account.specs.Account.{texts_of}
 use Rattle.kl1_account.specs.Shelving.{known_of, AreKnown}
 
--- what an option of numbers holds
-some_number : (m n : ℕ) → Some m ≡ Some n → m ≡ n
-some_number m n e = cc
-
-some_text : (t u : List ℕ) → Some t ≡ Some u → t ≡ u
-some_text t u e = cc
-
--- an option that holds nothing
-pub nothing : {X : Type 0} (o : Option X) → is_some o ≡ false → o ≡ None
-nothing None e = refl
-nothing (Some x) e = absurd (false≢true (sym e))
-
 -- texts compared either way
 pub comm : (t u : List ℕ) → bytes_eq t u ≡ bytes_eq u t
 comm t u = bytes_eq_comm t u (bytes_eq t u) (bytes_eq u t) refl refl

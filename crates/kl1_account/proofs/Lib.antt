@@ -11,3 +11,4 @@ pub mod KnownNames
 pub mod KnownTexts
 pub mod NumberRows
 pub mod DraftRows
+pub mod Publishing
