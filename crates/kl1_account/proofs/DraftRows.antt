@@ -1,5 +1,5 @@
 -- Rows of numbers for texts some of which are new: each new text has a spare number, and is known by it in a longer list.
-use Rattle.std.proofs.Common.{◌≡◌, ℕ, ◌+◌, ◌<◌, ◌≤◌, ◌==◌, ◌^◌, ◌⊎◌, ◌||◌, Bool, true, false, List, [], ◌∷◌, ◌++◌, map, length, take, get_or, Option, Some, None, IsTrue, IsSome, is_some, bytes_eq, refl, sym, ap, ◌∙◌, subst, inl, inr, arith}
+use Rattle.std.proofs.Common.{◌≡◌, ℕ, ◌+◌, ◌<◌, ◌≤◌, ◌==◌, ◌^◌, ◌⊎◌, ◌||◌, Bool, true, false, List, [], ◌∷◌, ◌++◌, length, take, get_or, Option, Some, None, IsTrue, bytes_eq, refl, sym, ap, ◌∙◌, subst, inl, inr, arith}
 use Rattle.std.specs.Prelude.{option_map}
 use Rattle.std.specs.List.{AllByRecursion, list_any}
 use Rattle.std.proofs.lemmas.Bool.{cases_Bool, false≢true, eqb-true, eq-eqb}
@@ -7,18 +7,15 @@ use Rattle.std.proofs.lemmas.Option.{slice_get_past}
 use Rattle.std.proofs.lemmas.List.{take_all}
 use Rattle.std.proofs.lemmas.List.Folds.{list_any-append}
 use Rattle.std.proofs.lemmas.Slice.Eq.{bytes_eq-Decides}
-use Rattle.kl1_model.specs.declared.built_in.BuiltIn.{BuiltIn}
-use Rattle.kl1_model.specs.Text.{is_text, text_of, built_ins}
+use Rattle.kl1_model.specs.Text.{is_text, built_ins}
 use Rattle.kl1_text.specs.declared.atom_no.AtomNo.{AtomNo}
 use Rattle.kl1_text.specs.declared.cell_name.CellName.{CellName}
-use Rattle.kl1_text.specs.BuiltIns.{place_of, built_in_at, built_in_of}
-use Rattle.kl1_text.specs.Reading.{Reads}
-use Rattle.kl1_text.proofs.BuiltInLaws.{text_found, built_ins_are_texts}
+use Rattle.kl1_text.specs.BuiltIns.{built_in_at, built_in_of}
 use Rattle.kl1_atoms.specs.declared.known.Known.{Known}
-use Rattle.kl1_atoms.specs.Names.{number_in, text_in, number_by, text_by, AreNames, text_or_mark, reading}
+use Rattle.kl1_atoms.specs.Names.{number_in, text_in, number_by, text_by, AreNames, reading}
 use Rattle.kl1_atoms.specs.Knowing.{option_cases, number_in-last, is_reading}
 use Rattle.kl1_clause.specs.NameList.{IsNameList}
-use Rattle.kl1_account.specs.Fitting.{Reading, Fits, built}
+use Rattle.kl1_account.specs.Fitting.{Reading}
 use Rattle.kl1_account.specs.Naming.{AreSmall, ReadsDraft, Grows}
 use Rattle.kl1_account.proofs.KnownNames.{not_known}
 use Rattle.kl1_account.proofs.KnownTexts.{next_take, not_before}

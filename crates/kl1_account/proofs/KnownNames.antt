@@ -1,27 +1,19 @@
 -- Names that are known, with one more behind them.
-use Rattle.std.proofs.Common.{◌≡◌, ℕ, ◌+◌, ◌<◌, ◌≤◌, ◌==◌, ◌⊎◌, Bool, true, false, List, [], ◌∷◌, ◌++◌, map, length, Option, Some, None, IsTrue, IsSome, is_some, bytes_eq, if◌then◌else◌, ◌||◌, refl, sym, ap, ◌∙◌, subst, inl, inr, arith}
+use Rattle.std.proofs.Common.{◌≡◌, ℕ, true, false, List, [], ◌∷◌, ◌++◌, map, Option, Some, None, is_some, bytes_eq, refl, sym, ap, ◌∙◌, subst, inl, inr}
 use Rattle.std.specs.Prelude.{option_map}
-use Rattle.std.specs.List.{AllByRecursion, list_any}
 use Rattle.std.specs.Map.{lookup}
-use Rattle.std.proofs.lemmas.Bool.{cases_Bool, false≢true, eqb-true, eq-eqb}
-use Rattle.std.proofs.lemmas.Option.{slice_get_past}
+use Rattle.std.proofs.lemmas.Bool.{cases_Bool, false≢true}
 use Rattle.std.proofs.lemmas.List.{map-append}
-use Rattle.std.proofs.lemmas.Slice.Eq.{bytes_eq-Decides}
-use Rattle.kl1_model.specs.declared.built_in.BuiltIn.{BuiltIn}
-use Rattle.kl1_model.specs.Text.{is_text, text_of, built_ins}
 use Rattle.kl1_text.specs.declared.atom_no.AtomNo.{AtomNo}
-use Rattle.kl1_text.specs.BuiltIns.{built_in_at, built_in_of}
-use Rattle.kl1_text.proofs.BuiltInLaws.{text_found, built_ins_are_texts}
+use Rattle.kl1_text.specs.BuiltIns.{built_in_of}
 use Rattle.kl1_atoms.specs.declared.known.Known.{Known}
-use Rattle.kl1_atoms.specs.Names.{number_in, text_in, number_by, text_by, added, Adds, AreNames, HasRoom}
-use Rattle.kl1_atoms.specs.Knowing.{option_cases, number_in-last, adds_one, still_known}
-use Rattle.kl1_clause.specs.NameList.{is_of_language, with_text}
-use Rattle.kl1_clause.proofs.Language.{bytes_eq_comm, found_in_language, missed_in_language}
+use Rattle.kl1_atoms.specs.Names.{number_in, number_by, added}
+use Rattle.kl1_atoms.specs.Knowing.{option_cases}
+use Rattle.kl1_clause.proofs.Language.{bytes_eq_comm}
 use Rattle.kl1_text.specs.declared.cell_name.CellName.{CellName}
 use Rattle.std.specs.HashMap.{HashMap}
 use Rattle.indexmap.specs.IndexMap.{insert_entry}
 use Rattle.indexmap.proofs.CallerLemmas.{insert_entry-new}
-use Rattle.kl1_account.specs.Account.{texts_of}
 use Rattle.kl1_account.specs.Shelving.{known_of, AreKnown}
 
 -- texts compared either way

@@ -1,18 +1,17 @@
 -- The texts of names that are known, and lists of texts put to them.
-use Rattle.std.proofs.Common.{◌≡◌, ℕ, ◌+◌, ◌<◌, ◌≤◌, ◌⊎◌, Bool, true, false, cond, ◌||◌, List, [], ◌∷◌, ◌++◌, map, length, take, get_or, Option, Some, None, is_some, bytes_eq, refl, sym, ap, ◌∙◌, subst, inl, inr, arith, length-append, length-take, add-one, drop}
+use Rattle.std.proofs.Common.{◌≡◌, ℕ, ◌+◌, ◌<◌, ◌≤◌, ◌⊎◌, Bool, true, false, cond, ◌||◌, List, [], ◌∷◌, ◌++◌, length, take, get_or, Option, Some, None, is_some, bytes_eq, refl, sym, ap, ◌∙◌, inl, inr, arith, length-append, length-take, add-one, drop}
 use Rattle.std.specs.List.{list_any}
 use Rattle.std.proofs.lemmas.Bool.{cases_Bool, false≢true, or_cases}
 use Rattle.std.proofs.lemmas.List.{take_more, get_or-take, get_or_default, map-append, length-map, take-append-drop}
 use Rattle.std.proofs.lemmas.List.Folds.{list_any-append}
 use Rattle.std.proofs.lemmas.Slice.Eq.{bytes_eq-Decides}
-use Rattle.kl1_model.specs.declared.built_in.BuiltIn.{BuiltIn}
 use Rattle.kl1_text.specs.declared.atom_no.AtomNo.{AtomNo}
 use Rattle.kl1_text.specs.BuiltIns.{built_in_of}
 use Rattle.kl1_atoms.specs.declared.known.Known.{Known}
 use Rattle.kl1_atoms.specs.Names.{number_in, number_by, added}
 use Rattle.kl1_atoms.specs.Knowing.{option_cases}
 use Rattle.kl1_clause.specs.NameList.{is_of_language, with_text, with_texts, IsNameList}
-use Rattle.kl1_clause.proofs.Growth.{Grows, one_grows, all_grow, with_none, with_more, with_one, with_both}
+use Rattle.kl1_clause.proofs.Growth.{all_grow, with_none, with_more, with_one, with_both}
 use Rattle.kl1_clause.proofs.Language.{found_in_language, missed_in_language}
 use Rattle.kl1_account.specs.Account.{texts_of}
 use Rattle.kl1_account.proofs.KnownNames.{comm, not_known, added_new}

@@ -1,6 +1,5 @@
-use Rattle.std.proofs.Common.{◌≡◌, ℕ, ◌+◌, List, ◌++◌, ◌∷◌, [], length, take, sym, ap, ◌∙◌, arith}
+use Rattle.std.proofs.Common.{◌≡◌, ℕ, ◌+◌, ◌++◌, ◌∷◌, [], length, take, ap, ◌∙◌}
 use Rattle.std.proofs.lemmas.List.{length_push}
-use Rattle.kl1_text.specs.declared.cell_name.CellName.{CellName}
 use Rattle.kl1_account.proofs.DraftRows.{same_draft, next_known, next_new, whole_draft}
 use Rattle.kl1_account.proofs.names.draft_row.Goals as goal
 use Rattle.kl1_account.proofs.names.draft_row.Goals.{in-Some+in_ok-push-in-Some, in-None+in_ok-push-in-None+in_ok-spare-in-None}

@@ -1,10 +1,8 @@
-use Rattle.std.proofs.Common.{◌≡◌, ℕ, ◌+◌, ◌<◌, ◌≤◌, ◌^◌, ◌++◌, ◌∷◌, List, [], length, sym, ap, ◌∙◌, subst, arith, vec_capacity}
-use Rattle.std.proofs.lemmas.List.{length_push}
-use Rattle.kl1_text.specs.declared.cell_name.CellName.{CellName}
+use Rattle.std.proofs.Common.{List, length, sym, ap, subst, arith}
 use Rattle.kl1_atoms.specs.declared.known.Known.{Known}
 use Rattle.kl1_atoms.specs.Names.{HasRoom}
 use Rattle.kl1_account.proofs.NumberRows.{numbers_of, fits_less}
-use Rattle.kl1_account.proofs.Publishing.{Published, published_none, published_more, published_all, row_more, has_room, keeps_same, keeps_more, adds_to}
+use Rattle.kl1_account.proofs.Publishing.{published_none, published_more, published_all, row_more, has_room, keeps_same, keeps_more, adds_to}
 use Rattle.kl1_account.proofs.names.publish.Goals as goal
 
 pub loop-text-init : goal.loop-text-init

@@ -1,4 +1,4 @@
-use Rattle.std.proofs.Common.{ℕ, not, ◌+◌, ◌≡◌, ◌≤◌, length, take, sym, ap, ◌∙◌, subst, arith}
+use Rattle.std.proofs.Common.{ℕ, not, ◌+◌, ◌≡◌, length, take, sym, ap, ◌∙◌, subst, arith}
 use Rattle.kl1_clause.specs.NameList.{with_texts}
 use Rattle.kl1_account.specs.Account.{texts_of}
 use Rattle.kl1_account.proofs.KnownNames.{found_some, found_none}

@@ -1,4 +1,4 @@
-use Rattle.std.proofs.Common.{ℕ, Option, Some, None, sym, ap, ◌∙◌}
+use Rattle.std.proofs.Common.{ℕ, Some, None, sym, ap, ◌∙◌}
 use Rattle.kl1_account.proofs.KnownNames.{number_is}
 use Rattle.kl1_account.proofs.names.AccountNames.number_of.Goals as goal
 
