@@ -7,3 +7,8 @@ pub mod SettledStays
 pub mod Waking
 pub mod Ending
 pub mod NameTexts
+pub mod KnownNames
+pub mod KnownTexts
+pub mod NumberRows
+pub mod DraftRows
+pub mod Publishing
