@@ -6,4 +6,5 @@ pub mod Streams
 pub mod SettledStays
 pub mod Waking
 pub mod Ending
+pub mod Commits
 pub mod NameTexts
