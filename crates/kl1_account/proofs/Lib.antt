@@ -7,4 +7,5 @@ pub mod SettledStays
 pub mod Waking
 pub mod Ending
 pub mod Commits
+pub mod Installs
 pub mod NameTexts
