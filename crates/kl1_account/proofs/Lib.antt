@@ -8,4 +8,7 @@ pub mod Waking
 pub mod Ending
 pub mod Commits
 pub mod Installs
+pub mod Stacks
+pub mod CellReadings
+pub mod Prints
 pub mod NameTexts

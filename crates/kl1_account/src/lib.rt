@@ -17,6 +17,7 @@ mod refusal;
 mod reply;
 mod reporting;
 mod settling;
+mod top;
 
 pub use account::Account;
 pub use account_name::AccountName;
