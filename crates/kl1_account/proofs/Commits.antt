@@ -1,11 +1,10 @@
 -- What a move makes of a draft.
-use Rattle.std.proofs.Common.{◌≡◌, ℕ, ◌+◌, List, [], ◌∷◌, ◌++◌, length, refl, sym, ap, ◌∙◌, arith, subst, add-zero}
+use Rattle.std.proofs.Common.{◌≡◌, ℕ, ◌+◌, List, [], ◌++◌, length, sym, ap, ◌∙◌, arith, subst}
 use Rattle.std.specs.Prelude.{Option, Some, Result, Ok, Err, OnOk}
 use Rattle.std.proofs.lemmas.List.{append-nil}
 use Rattle.kl1_model.specs.Term as term
 use Rattle.kl1_model.specs.Match.{Candidate}
 use Rattle.kl1_model.specs.Unify.{solve}
-use Rattle.kl1_model.specs.State.{State}
 use Rattle.kl1_model.specs.Report.{report, exception}
 use Rattle.kl1_model.specs.Reduction as model
 use Rattle.kl1_model.specs.Reduction.{commits, raises, unifies, goes, failure, committed, moved, unified, equation}
@@ -15,21 +14,19 @@ use Rattle.kl1_text.specs.declared.cell_name.CellName.{CellName}
 use Rattle.kl1_store.specs.declared.cell.Cell.{Cell}
 use Rattle.kl1_store.specs.Held.{Held, AreIn}
 use Rattle.kl1_store.specs.Sound.{Grown}
-use Rattle.kl1_store.proofs.Grows.{Grown-same}
 use Rattle.kl1_clause.specs.declared.predicate.Predicate.{Predicate}
 use Rattle.kl1_match.specs.declared.place.Place.{Place}
 use Rattle.kl1_moves.specs.declared.moves.Move.TheVariants as move
-use Rattle.kl1_moves.specs.Moves.{IsCandidate, CommitsTo}
+use Rattle.kl1_moves.specs.Moves.{IsCandidate}
 use Rattle.kl1_moves.specs.Bodies.{IsBody}
 use Rattle.kl1_goals.specs.declared.goal.Goal.{Goal}
-use Rattle.kl1_modules.specs.Numbered.{Numbered}
 use Rattle.kl1_modules.specs.Finding.{contents}
 use Rattle.kl1_account.specs.declared.draft.Draft.{Draft}
 use Rattle.kl1_account.specs.Fitting.{Reading, built}
 use Rattle.kl1_account.specs.Account.{meaning, goal_with}
-use Rattle.kl1_account.specs.Works.{Made, worked, IsMadeIn, HasNumber, Knows, Turns}
-use Rattle.kl1_account.specs.Drafts.{goals_for, goals_left, goals_added, made_of, Drafts, DraftsAll}
-use Rattle.kl1_account.specs.Moving.{IsRemoved, Commits, Moves}
+use Rattle.kl1_account.specs.Works.{Made, worked, Knows, Turns}
+use Rattle.kl1_account.specs.Drafts.{goals_for, goals_left, goals_added, made_of, DraftsAll}
+use Rattle.kl1_account.specs.Moving.{Commits, Moves}
 use Rattle.kl1_account.proofs.Works.{turns_as}
 use Rattle.kl1_account.proofs.Reductions.{with_body, commit_turns}
 

@@ -11,4 +11,5 @@ pub mod Installs
 pub mod Stacks
 pub mod CellReadings
 pub mod Prints
+pub mod Origins
 pub mod NameTexts
