@@ -6,6 +6,12 @@ pub mod Streams
 pub mod SettledStays
 pub mod Waking
 pub mod Ending
+pub mod Commits
+pub mod Installs
+pub mod Stacks
+pub mod CellReadings
+pub mod Prints
+pub mod Origins
 pub mod NameTexts
 pub mod KnownNames
 pub mod KnownTexts

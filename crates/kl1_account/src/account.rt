@@ -12,12 +12,15 @@ ghost use Rattle.kl1_account.specs.Views.{reply_of, chosen_of};
 
 use crate::account_name::AccountName;
 use crate::draft::Draft;
+use crate::limits::is_number;
 use crate::names::AccountNames;
 use crate::numbers::{ClauseNo, GoalNo};
+use crate::printing::print_cell;
 use crate::refusal::Refusal;
 use crate::reply::Reply;
 use kl1_atoms::AtomSource;
 use kl1_goals::GoalTable;
+use kl1_model::limits::MOST_PRINTED_BYTES;
 use kl1_modules::Modules;
 use kl1_moves::Trial;
 use kl1_shoen::ShoenTree;
@@ -163,7 +166,22 @@ impl Account {
         ensures keeps { Keeps A.is_of A.place A.knows names.old names.new seat.old seat.new }
         ensures knows { A.knows seat.new ≡ self.now.names }
     {
-        let _ = number;
-        Err(AllocError)
+        if !is_number(number) {
+            return Ok(Reply::Refused(Refusal::Syntax));
+        }
+        match self.shoens.origin_at(number) {
+            None => Ok(Reply::Refused(Refusal::NoShoen)),
+            Some(origin) => {
+                let text = print_cell(
+                    self.alloc,
+                    names,
+                    seat,
+                    &self.store,
+                    origin.goal,
+                    MOST_PRINTED_BYTES,
+                )?;
+                Ok(Reply::Shown(text))
+            }
+        }
     }
 }
