@@ -31,9 +31,22 @@ pub record LooksAt (h : Held CellName) (hooks : List Hook) (kind : Kind CellName
   pub number_is : change.number ≡ number
   pub found : (f : Reading) (modules : List Numbered) (x : Cell CellName) → Reads built f → IsKind f h (meaning f h x) kind → HasPredicate f h (contents modules) kind p → IsFoundOut f hooks h modules x change
 
+-- the goal of a number, which is for this cell, was looked at: there is one change more
+pub record FindsOut (modules : List Numbered) (h : Held CellName) (hooks : List Hook) (x : Cell CellName) (number : ℕ) (before after : List Change) : Type 0 where
+  pub change : Change
+  pub is : after ≡ before ++ change ∷ []
+  pub number_is : change.number ≡ number
+  pub found : (f : Reading) → Knows modules f → IsFoundOut f hooks h modules x change
+
 -- goals that a table finds by their numbers, and none of them has this number
 abbrev pub AreOthersOf : List (Goal CellName) → ℕ → List (Goal CellName) → Type 0
 AreOthersOf goals removed gs = AllByRecursion (λ g. (find (has_number g.number) goals ≡ Some g) × (g.number ≡ removed → ⊥)) gs
+
+-- goals of which that of a number and those of others were pending are settled but for the others, after more changes
+abbrev pub Wakes : List Numbered → Held CellName → List Hook → List Hook → List (Goal CellName) → ℕ → ℕ → List Change → List Change → Type 0
+Wakes modules h hooks more goals removed number before after =
+    (f : Reading) → Knows modules f → (gs : List (Goal CellName)) → AreOthersOf goals removed gs → (told : List ℕ) →
+    AreSettledOr (number ∷ told) f hooks h modules (restood before gs) → AreSettledOr told f more h modules (restood after gs)
 
 -- goals of which only those of these numbers were pending are settled, after more changes
 abbrev pub WakesTold : List Numbered → Held CellName → List Hook → List Hook → List (Goal CellName) → ℕ → List ℕ → List Change → List Change → Type 0
