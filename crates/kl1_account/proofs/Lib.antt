@@ -9,3 +9,6 @@ pub mod Ending
 pub mod NameTexts
 pub mod Hanging
 pub mod Looks
+pub mod Restood
+pub mod Told
+pub mod Added
