@@ -12,3 +12,5 @@ pub mod Looks
 pub mod Restood
 pub mod Told
 pub mod Added
+pub mod GoalOrder
+pub mod Reached
