@@ -1,6 +1,5 @@
 -- Goals that are added are looked at.
-use Rattle.std.proofs.Common.{◌≡◌, ℕ, zero, suc, ◌+◌, ◌<◌, ◌≤◌, ◌==◌, true, List, [], ◌∷◌, ◌++◌, length, take, get_or, map, inl, inr, ◌||◌, refl, sym, ap, ◌∙◌, arith, subst, append_assoc, append-nil, eq-eqb, length-take}
-use Rattle.std.specs.List.{AllByRecursion}
+use Rattle.std.proofs.Common.{◌≡◌, ℕ, zero, suc, ◌+◌, ◌<◌, ◌≤◌, List, [], ◌∷◌, ◌++◌, length, take, get_or, map, inl, inr, ◌||◌, refl, sym, ap, ◌∙◌, arith, subst, append_assoc, append-nil, eq-eqb, length-take}
 use Rattle.std.specs.Prelude.{None}
 use Rattle.std.proofs.lemmas.List.{take_more, take_all}
 use Rattle.kl1_text.specs.declared.cell_name.CellName.{CellName}
@@ -14,15 +13,14 @@ use Rattle.kl1_modules.specs.Numbered.{Numbered}
 use Rattle.kl1_account.specs.declared.draft.Change.{Change}
 use Rattle.kl1_account.specs.Fitting.{Reading}
 use Rattle.kl1_account.specs.Kept.{AreUpTo}
-use Rattle.kl1_account.specs.Works.{Knows}
 use Rattle.kl1_account.specs.Drafts.{goals_for, restood, restood_by}
 use Rattle.kl1_account.specs.Settled.{IsSettled, AreSettled}
-use Rattle.kl1_account.specs.Waking.{IsPending, IsSettledOr, AreSettledOr, AreFor, AreAmong, is_among}
+use Rattle.kl1_account.specs.Waking.{IsSettledOr, AreSettledOr, AreFor, AreAmong, is_among}
 use Rattle.kl1_account.specs.Looking.{FindsOut, WakesAdded}
 use Rattle.kl1_account.proofs.Goals.{up_to_append, up_to_more, goals_for_up_to}
 use Rattle.kl1_account.proofs.Waking.{one_settled, all_settled, settled_or_append}
 use Rattle.kl1_account.proofs.Hanging.{HasGrown-same, HasGrown-trans, grown_among}
-use Rattle.kl1_account.proofs.Restood.{AllTasks, each_is, each_append, restood_keeps, restood_push, restood_append}
+use Rattle.kl1_account.proofs.Restood.{each_is, each_append, restood_keeps, restood_push, restood_append}
 
 -- a goal for a cell
 abbrev goal_for : ℕ → ℕ → ℕ → Cell CellName → Goal CellName

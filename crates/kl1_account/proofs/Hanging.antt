@@ -8,10 +8,9 @@ use Rattle.std.proofs.lemmas.List.{take_more, take-take, take_all, take-append-d
 use Rattle.std.proofs.lemmas.List.Elements.{Contains-append_left, Contains-append_cases, Contains-push}
 use Rattle.kl1_text.specs.declared.cell_name.CellName.{CellName}
 use Rattle.kl1_store.specs.Held.{Held}
-use Rattle.kl1_store.specs.Sound.{Grown}
 use Rattle.kl1_store.specs.Hooks.{Hook, Kept, hanging_on, HasGrown}
 use Rattle.kl1_store.proofs.Grows.{Grown-same, Grown-trans}
-use Rattle.kl1_match.specs.Waiting.{IsUnbound, AreUnbound}
+use Rattle.kl1_match.specs.Waiting.{AreUnbound}
 use Rattle.kl1_account.specs.Settled.{HangsOnEach}
 use Rattle.kl1_account.specs.Waking.{AreAmong}
 

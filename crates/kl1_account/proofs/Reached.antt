@@ -1,6 +1,6 @@
 -- All goals are looked at, in order of number.
-use Rattle.std.proofs.Common.{◌≡◌, ℕ, suc, ◌+◌, ◌<◌, ◌≤◌, List, [], ◌∷◌, ◌++◌, map, refl, sym, ap, ◌∙◌, arith, subst, ⊎_elim, nat_lt, Bool, true, false, if◌then◌else◌}
-use Rattle.std.specs.Prelude.{Option, Some, None}
+use Rattle.std.proofs.Common.{◌≡◌, ℕ, suc, ◌+◌, ◌<◌, ◌≤◌, List, [], ◌∷◌, map, refl, sym, ap, ◌∙◌, arith, subst, ⊎_elim, nat_lt, Bool, true, false, if◌then◌else◌}
+use Rattle.std.specs.Prelude.{Some, None}
 use Rattle.std.specs.List.{AllByRecursion, find}
 use Rattle.std.proofs.lemmas.Bool.{cases_eq, ltb-true, ltb-false}
 use Rattle.kl1_model.specs.State as model
@@ -19,11 +19,10 @@ use Rattle.kl1_account.specs.declared.draft.Change.{Change}
 use Rattle.kl1_account.specs.Fitting.{Reading}
 use Rattle.kl1_account.specs.Account.{meaning, task_with}
 use Rattle.kl1_account.specs.Kept.{IsTaskIn, AreGoalsIn}
-use Rattle.kl1_account.specs.Works.{Knows}
 use Rattle.kl1_account.specs.Drafts.{restood, restood_by}
 use Rattle.kl1_account.specs.Settled.{task_clause, awaited_by_task, HangsOnEach, IsSettled}
 use Rattle.kl1_account.specs.Waking.{AreAmong, IsFoundOut}
-use Rattle.kl1_account.specs.Looking.{FindsOut, FindsTask, AreMonitorsIdle, IsReached, LooksBelow, LooksAtAll}
+use Rattle.kl1_account.specs.Looking.{FindsTask, IsReached, LooksBelow, LooksAtAll}
 use Rattle.kl1_account.proofs.SettledStays.{settled_more}
 use Rattle.kl1_account.proofs.Waking.{found_out, other_stands, same_stands}
 use Rattle.kl1_account.proofs.Hanging.{HasGrown-trans, grown_among}
@@ -31,6 +30,13 @@ use Rattle.kl1_account.proofs.Restood.{each_is, restood_keeps, restood_push}
 use Rattle.kl1_account.proofs.GoalOrder.{IsNext, IsNextOf, next_after, next_zero, none_after, none_zero}
 
 -- ---- one goal
+
+-- monitors that are settled can't step by a clause
+pub settled_idle : (f : Reading) (hooks : List Hook) (h : Held CellName) (ms : List Numbered) (goals : List (Goal CellName)) → AllByRecursion (IsSettled f hooks h ms) goals → AreMonitorsIdle goals
+settled_idle f hooks h ms goals all =
+    each_is (IsSettled f hooks h ms) (λ g. g.task ≡ Monitor → g.standing ≡ None) goals
+    (λ g s m. s.standing ∙ ap (λ (k : Task CellName). task_clause (contents ms) (task_with (meaning f h) k)) m)
+    all
 
 -- a monitor that can't step by a clause is settled
 idle_settled : (f : Reading) (hooks : List Hook) (h : Held CellName) (ms : List Numbered) (g : Goal CellName) → g.task ≡ Monitor → g.standing ≡ None → IsSettled f hooks h ms g

@@ -1,5 +1,5 @@
 -- Goals that were told of bindings are looked at again.
-use Rattle.std.proofs.Common.{◌≡◌, ℕ, suc, ◌+◌, ◌<◌, List, [], ◌∷◌, ◌++◌, length, drop, get_or, map, refl, sym, ap, ◌∙◌, arith, subst, drop-cons, add-one, Bool, true, false, if◌then◌else◌}
+use Rattle.std.proofs.Common.{◌≡◌, ℕ, ◌+◌, ◌<◌, List, [], ◌∷◌, length, drop, get_or, refl, sym, ap, ◌∙◌, arith, subst, drop-cons, add-one, Bool, true, false, if◌then◌else◌}
 use Rattle.std.specs.Prelude.{Option, Some, None}
 use Rattle.std.specs.List.{find}
 use Rattle.std.proofs.lemmas.List.{drop_all}
@@ -16,12 +16,11 @@ use Rattle.kl1_account.specs.declared.draft.Change.{Change}
 use Rattle.kl1_account.specs.Fitting.{Reading}
 use Rattle.kl1_account.specs.Kept.{IsTaskIn, AreGoalsIn}
 use Rattle.kl1_account.specs.Works.{Knows}
-use Rattle.kl1_account.specs.Drafts.{restood, restood_by}
-use Rattle.kl1_account.specs.Settled.{AreSettled}
+use Rattle.kl1_account.specs.Drafts.{restood}
 use Rattle.kl1_account.specs.Waking.{AreSettledOr, AreFor, AreAmong}
 use Rattle.kl1_account.specs.Looking.{FindsOut, AreOthersOf, Wakes, WakesTold}
 use Rattle.kl1_account.proofs.Waking.{one_settled, none_settled, all_settled}
-use Rattle.kl1_account.proofs.Hanging.{HasGrown-same, HasGrown-trans, grown_among}
+use Rattle.kl1_account.proofs.Hanging.{HasGrown-same, HasGrown-trans}
 use Rattle.kl1_account.proofs.Restood.{each_is, restood_keeps, restood_push}
 
 -- ---- one number

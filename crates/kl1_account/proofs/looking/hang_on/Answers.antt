@@ -1,4 +1,4 @@
-use Rattle.std.proofs.Common.{◌≡◌, ◌<◌, ℕ, sym, subst, get_or}
+use Rattle.std.proofs.Common.{◌<◌, sym, subst, get_or}
 use Rattle.kl1_text.specs.declared.cell_name.CellName.{CellName}
 use Rattle.kl1_store.specs.Held.{Held}
 use Rattle.kl1_account.proofs.Hanging.{next_hangs, nth_within}

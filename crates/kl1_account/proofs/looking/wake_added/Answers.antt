@@ -2,7 +2,7 @@ use Rattle.std.proofs.Common.{arith, sym, subst, get_or}
 use Rattle.kl1_text.specs.declared.cell_name.CellName.{CellName}
 use Rattle.kl1_store.specs.declared.cell.Cell.TheVariants.{Variable}
 use Rattle.kl1_store.specs.Held.{Held, IsIn}
-use Rattle.kl1_account.proofs.Added.{next_added, nth_in, all_added}
+use Rattle.kl1_account.proofs.Added.{next_added, nth_in}
 use Rattle.kl1_account.proofs.looking.wake_added.Goals as goal
 
 pub look_at_cell-requires : goal.look_at_cell-requires
