@@ -18,3 +18,10 @@ pub mod KnownTexts
 pub mod NumberRows
 pub mod DraftRows
 pub mod Publishing
+pub mod Hanging
+pub mod Looks
+pub mod Restood
+pub mod Told
+pub mod Added
+pub mod GoalOrder
+pub mod Reached

@@ -9,6 +9,7 @@ mod event;
 mod installing;
 mod limits;
 mod looking;
+mod looking_beside;
 mod moving;
 mod names;
 mod numbers;
