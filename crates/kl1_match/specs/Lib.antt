@@ -9,3 +9,4 @@ pub mod Matching
 pub mod Verdicts
 pub mod Choices
 pub mod Stays
+pub mod GoalCells
