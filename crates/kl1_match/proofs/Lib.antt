@@ -1,6 +1,7 @@
 pub mod Rows
 pub mod Steps
 pub mod Built
+pub mod Rooms
 pub mod Places
 pub mod Bodies
 pub mod BuiltNodes

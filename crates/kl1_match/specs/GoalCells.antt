@@ -1,5 +1,5 @@
 -- The cells of a goal that is started, built of its row in room that was made before.
-use Rattle.std.specs.Prelude.{◌≡◌, ℕ, suc, ◌+◌, ◌≤◌, false, List, [], ◌∷◌, length, map, slice_index_or, IsTrue, vec_capacity}
+use Rattle.std.specs.Prelude.{◌≡◌, ℕ, ◌+◌, ◌≤◌, false, List, length, map, slice_index_or, IsTrue, vec_capacity}
 use Rattle.kl1_model.specs.declared.built_in.BuiltIn.{BuiltIn}
 use Rattle.kl1_model.specs.Term.{Term, substituted}
 use Rattle.kl1_model.specs.TermCode.{nodes_of}
@@ -11,40 +11,19 @@ use Rattle.kl1_store.specs.declared.cell.Cell.TheVariants as cell
 use Rattle.kl1_store.specs.Held.{Held, Room, is_bound, IsIn, AreIn}
 use Rattle.kl1_store.specs.Meaning.{term_of}
 use Rattle.kl1_clause.specs.declared.instruction.Instruction.{Instruction}
-use Rattle.kl1_clause.specs.declared.instruction.Instruction.TheVariants.{Variable, Integer, Atom, Structure}
 use Rattle.kl1_clause.specs.Instructions.{IsRowOf}
 use Rattle.kl1_match.specs.declared.scratch.Scratch.{Scratch}
 use Rattle.kl1_match.specs.Instances.{AreKept}
-use Rattle.kl1_match.specs.Matching.{arguments_after}
+use Rattle.kl1_match.specs.Rooms.{HasRoomForRow}
 use Rattle.kl1_match.specs.Steps.{Agrees}
-
--- how many structures an instruction builds
-abbrev pub structures_at : Instruction → ℕ
-structures_at (Variable n) = 0
-structures_at (Integer i) = 0
-structures_at (Atom a) = 0
-structures_at (Structure f n) = 1
-
--- how many structures a row builds
-abbrev pub structures_in : List Instruction → ℕ
-structures_in [] = 0
-structures_in (i ∷ is) = structures_at i + structures_in is
-
--- how many arguments the structures of a row have in all
-abbrev pub arguments_in : List Instruction → ℕ
-arguments_in [] = 0
-arguments_in (i ∷ is) = arguments_after i + arguments_in is
 
 -- the cells for a goal's variables, by their numbers from 0
 abbrev pub goal_variables : {N : Type 0} → Scratch N → List (Cell N)
 goal_variables s = s.variables.items
 
--- room to build a row in: in the store, on the stack, and in the list of arguments
-pub record HasRoomForGoal {N : Type 0} (room : Room) (scratch : Scratch N) (row : List Instruction) : Type 0 where
-  pub structures : structures_in row ≤ room.structures
-  pub arguments : arguments_in row ≤ room.arguments
-  pub stack : length row ≤ vec_capacity scratch.stack
-  pub cells : arguments_in row ≤ vec_capacity scratch.arguments
+-- room to build a row in, in a store and in the scratch
+abbrev pub HasRoomForGoal : {N : Type 0} → Room → Scratch N → List Instruction → Type 0
+HasRoomForGoal room s row = HasRoomForRow room (vec_capacity s.stack) (vec_capacity s.arguments) row
 
 -- behind a cell for none, the variables behind the last, so many
 pub record AreNext {N : Type 0} (last count : ℕ) (cells : List (Cell N)) : Type 0 where

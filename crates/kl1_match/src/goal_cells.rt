@@ -7,7 +7,8 @@ ghost use Rattle.kl1_store.specs.Spending.{Spends};
 ghost use Rattle.kl1_clause.specs.Instructions.{AreNamed};
 ghost use Rattle.kl1_match.specs.Built.{AreBelow};
 ghost use Rattle.kl1_match.specs.Variables.{with_variables};
-ghost use Rattle.kl1_match.specs.GoalCells.{structures_in, arguments_in, goal_variables, HasRoomForGoal, AreGoalVariables, BuildsGoal};
+ghost use Rattle.kl1_match.specs.Rooms.{structures_in, arguments_in};
+ghost use Rattle.kl1_match.specs.GoalCells.{goal_variables, HasRoomForGoal, AreGoalVariables, BuildsGoal};
 
 use crate::building::put_cell;
 use crate::instances::put_row;

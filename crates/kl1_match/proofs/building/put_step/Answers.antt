@@ -15,7 +15,7 @@ returns-in-Variable-clause-puts g c =
     let is : c.index-variables-number.result ≡ slice_index_or c.args.variables.now c.in-Variable.number (cell.Variable 0) = c.index-variables-number.is ∙ any_default c.args.variables.now c.in-Variable.number c.index-variables-number.result (cell.Variable 0) below in
     on_ok_weaker c.put_cell.result (λ e.
     subst (λ s. PutsStep h h c.args.variables.now s c.args.stack.now.items c.put_cell.new.stack.items) (sym c.in-Variable.is)
-    (puts_variable h c.args.variables.now c.args.stack.now.items c.put_cell.new.stack.items c.in-Variable.number c.index-variables-number.result c.requires.variables c.requires.stack below is e)) c.put_cell.ensures
+    (puts_variable h c.args.variables.now c.args.stack.now.items c.put_cell.new.stack.items c.in-Variable.number c.index-variables-number.result c.requires.variables c.requires.stack below is e)) c.put_cell.ensures.items
 
 pub returns-in-Integer-clause-puts : goal.returns-in-Integer-clause-puts
 returns-in-Integer-clause-puts g c =
@@ -24,14 +24,14 @@ returns-in-Integer-clause-puts g c =
     let P : ℤ → Type 0 = λ i. c.put_cell-in-Integer.new.stack.items ≡ c.args.stack.now.items ++ cell.Integer i ∷ [] in
     on_ok_weaker c.put_cell-in-Integer.result (λ e.
     subst (λ s. PutsStep h h c.args.variables.now s c.args.stack.now.items c.put_cell-in-Integer.new.stack.items) (sym c.in-Integer.is)
-    (puts_integer h c.args.variables.now c.args.stack.now.items c.put_cell-in-Integer.new.stack.items c.in-Integer.number c.requires.stack (subst P (to_z-of_z w64 c.in-Integer.number fits) e))) c.put_cell-in-Integer.ensures
+    (puts_integer h c.args.variables.now c.args.stack.now.items c.put_cell-in-Integer.new.stack.items c.in-Integer.number c.requires.stack (subst P (to_z-of_z w64 c.in-Integer.number fits) e))) c.put_cell-in-Integer.ensures.items
 
 pub returns-in-Atom-clause-puts : goal.returns-in-Atom-clause-puts
 returns-in-Atom-clause-puts g c =
     let h = c.args.store.now.held in
     on_ok_weaker c.put_cell-in-Atom.result (λ e.
     subst (λ s. PutsStep h h c.args.variables.now s c.args.stack.now.items c.put_cell-in-Atom.new.stack.items) (sym c.in-Atom.is)
-    (puts_atom h c.args.variables.now c.args.stack.now.items c.put_cell-in-Atom.new.stack.items c.in-Atom.name c.requires.stack e)) c.put_cell-in-Atom.ensures
+    (puts_atom h c.args.variables.now c.args.stack.now.items c.put_cell-in-Atom.new.stack.items c.in-Atom.name c.requires.stack e)) c.put_cell-in-Atom.ensures.items
 
 pub returns-in-Structure-clause-puts : goal.returns-in-Structure-clause-puts
 returns-in-Structure-clause-puts g c =
