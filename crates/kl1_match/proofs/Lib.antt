@@ -12,3 +12,4 @@ pub mod Whole
 pub mod Beside
 pub mod Choosing
 pub mod Stays
+pub mod GoalCells
