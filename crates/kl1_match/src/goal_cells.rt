@@ -1,7 +1,7 @@
 // The cells of a goal that is started, in room that was made before.
 
 ghost use Rattle.std.specs.Prelude.{◌≡◌, ◌+◌, ◌-◌, ◌<◌, length, IfOk, OnOk};
-ghost use Rattle.kl1_store.specs.Held.{AreIn};
+ghost use Rattle.kl1_store.specs.Held.{AreIn, HasRoom};
 ghost use Rattle.kl1_store.specs.Sound.{Grown};
 ghost use Rattle.kl1_store.specs.Spending.{Spends};
 ghost use Rattle.kl1_clause.specs.Instructions.{AreNamed};
@@ -68,12 +68,35 @@ pub fn reserve_goal<N: NameValue>(
     ensures hook_room { store.new.hook_room ≡ store.old.hook_room }
     ensures scratch { goal_variables scratch.new ≡ goal_variables scratch.old }
 {
-    let arguments = arguments_in(row)?;
+    reserve_goal_beside(store, row, scratch, 0, 0, 0, 0)
+}
+
+/// The same, with room for so many variables, structures, arguments and bindings beside it.
+pub fn reserve_goal_beside<N: NameValue>(
+    store: &mut Store<N>,
+    row: &[Instruction],
+    scratch: &mut Scratch<N>,
+    variables: usize,
+    structures: usize,
+    arguments: usize,
+    bindings: usize,
+) -> Result<(), AllocError>
+    ensures room { OnOk result (HasRoomForGoal store.new.room scratch.new row.now) }
+    ensures beside { OnOk result (HasRoom store.new.room variables (structures_in row.now + structures) (arguments_in row.now + arguments) bindings) }
+    ensures spends { Spends store.old.room store.new.room 0 0 0 0 }
+    ensures same { store.new.held ≡ store.old.held }
+    ensures hooks { store.new.hooks ≡ store.old.hooks }
+    ensures hook_room { store.new.hook_room ≡ store.old.hook_room }
+    ensures scratch { goal_variables scratch.new ≡ goal_variables scratch.old }
+{
+    let own = arguments_in(row)?;
+    let structures = row.len().checked_add(structures).ok_or(AllocError)?;
+    let arguments = own.checked_add(arguments).ok_or(AllocError)?;
     scratch.stack.clear();
     scratch.stack.reserve(row.len())?;
     scratch.arguments.clear();
-    scratch.arguments.reserve(arguments)?;
-    store.reserve(0, row.len(), arguments, 0)
+    scratch.arguments.reserve(own)?;
+    store.reserve(variables, structures, arguments, bindings)
 }
 
 /// The cell of the goal of a row, in room that was made for it, so that no memory is asked for. The scratch has a cell for each
