@@ -1,12 +1,12 @@
 -- Codes mean the goals that they are made of.
-use Rattle.std.proofs.Common.{◌≡◌, ℕ, List, [], map, sym, ap, subst, ◌∙◌}
+use Rattle.std.proofs.Common.{◌≡◌, ℕ, List, [], sym, ap, subst, ◌∙◌}
 use Rattle.kl1_model.specs.Term.{Term}
-use Rattle.kl1_model.specs.TermCode.{NodeCode, nodes_of, term_from, term_from-nodes_of}
+use Rattle.kl1_model.specs.TermCode.{nodes_of, term_from, term_from-nodes_of}
 use Rattle.kl1_model.specs.State.{names_of, with_names}
 use Rattle.kl1_clause.specs.declared.goal_code.GoalCode.TheInside.{Inside}
 use Rattle.kl1_clause.specs.declared.instruction.Instruction.{Instruction}
 use Rattle.kl1_clause.specs.NameList.{with_texts}
-use Rattle.kl1_clause.specs.Instructions.{code_in, IsRowOf}
+use Rattle.kl1_clause.specs.Instructions.{IsRowOf}
 use Rattle.kl1_clause.specs.Putting.{Puts}
 use Rattle.kl1_clause.specs.GoalCodes.{goal_in, IsGoalCode}
 use Rattle.kl1_clause.proofs.Growth.{names_of_one}

@@ -1,26 +1,23 @@
 -- The cells of a goal that is started.
-use Rattle.std.proofs.Common.{◌≡◌, ℕ, zero, suc, ◌+◌, ◌-◌, ◌<◌, ◌≤◌, max, true, List, [], ◌∷◌, ◌++◌, length, map, reverse, IsTrue, refl, ap, sym, ◌∙◌, subst, slice_index_or, arith}
+use Rattle.std.proofs.Common.{◌≡◌, ℕ, zero, suc, ◌+◌, ◌-◌, ◌<◌, ◌≤◌, List, [], ◌∷◌, ◌++◌, length, map, reverse, refl, ap, sym, ◌∙◌, subst, slice_index_or, arith}
 use Rattle.kl1_model.specs.declared.built_in.BuiltIn.{BuiltIn}
 use Rattle.kl1_model.specs.Term.{Term, Terms, variable, integer, atom, structure, none, more, substituted, each_substituted}
 use Rattle.kl1_model.specs.TermCode.{NodeCode, nodes_of, read_nodes, reads-back}
-use Rattle.kl1_model.specs.Meaning.{highest, highest_in, variables_of, variables_in, is_numbered}
-use Rattle.kl1_model.specs.Opening.{with_next_variables}
-use Rattle.kl1_text.specs.Reading.{Reads}
+use Rattle.kl1_model.specs.Meaning.{highest, highest_in, variables_of, variables_in}
 use Rattle.kl1_term.proofs.VariableFacts.{highest_is}
 use Rattle.kl1_store.specs.declared.cell.Cell.{Cell}
 use Rattle.kl1_store.specs.declared.cell.Cell.TheVariants as cell
-use Rattle.kl1_store.specs.Held.{Held, is_bound, IsWithin, AreWithin, IsIn, AreIn}
+use Rattle.kl1_store.specs.Held.{Held, is_bound, AreWithin, IsIn, AreIn}
 use Rattle.kl1_store.specs.Meaning.{term_of}
 use Rattle.kl1_store.specs.Sound.{Grown, IsFormed}
-use Rattle.kl1_store.specs.ComparesEach.{term_list}
 use Rattle.kl1_store.proofs.Terms.{term_of-unbound}
 use Rattle.kl1_clause.specs.declared.instruction.Instruction.{Instruction}
-use Rattle.kl1_clause.specs.Instructions.{code_in, IsRowOf, AreNamed}
+use Rattle.kl1_clause.specs.Instructions.{code_in, IsRowOf}
 use Rattle.kl1_match.specs.Rows.{first_or}
 use Rattle.kl1_match.specs.Steps.{Agrees}
 use Rattle.kl1_match.specs.Built.{AreBelow, Stacked, BuildsRow}
 use Rattle.kl1_match.specs.Variables.{with_variables, fresh_cells}
-use Rattle.kl1_match.specs.GoalCells.{AreNext, AreFreeBehind, AreGoalVariables, IsGoalBuilt, BuildsGoal}
+use Rattle.kl1_match.specs.GoalCells.{AreNext, AreGoalVariables, IsGoalBuilt, BuildsGoal}
 use Rattle.kl1_match.proofs.Rows.{AreWithin-reverse, first_within, first_term_is}
 use Rattle.kl1_match.proofs.Steps.{within_at}
 use Rattle.kl1_match.proofs.Built.{all_still_in}

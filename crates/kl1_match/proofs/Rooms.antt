@@ -9,7 +9,7 @@ use Rattle.kl1_store.specs.Spending.{Spends}
 use Rattle.kl1_clause.specs.declared.instruction.Instruction.{Instruction}
 use Rattle.kl1_clause.specs.declared.instruction.Instruction.TheVariants as instruction
 use Rattle.kl1_match.specs.Matching.{arguments_after}
-use Rattle.kl1_match.specs.Rows.{first_or, but_first, firsts}
+use Rattle.kl1_match.specs.Rows.{but_first, firsts}
 use Rattle.kl1_match.specs.Rooms.{structures_at, structures_in, arguments_in, HasRoomFor, UsesRoom, HasRoomForRow}
 use Rattle.kl1_match.proofs.Built.{element_is}
 

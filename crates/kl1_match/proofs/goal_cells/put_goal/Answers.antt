@@ -1,9 +1,7 @@
 use Rattle.std.specs.Prelude.{pos, IsOk}
 use Rattle.std.proofs.Common.{rules, ◌∙◌, subst, arith}
-use Rattle.std.proofs.lemmas.Result.{on_ok_weaker}
 use Rattle.kl1_store.specs.declared.cell.Cell.TheVariants.{Integer}
 use Rattle.kl1_match.specs.Built.{BuildsRow}
-use Rattle.kl1_match.specs.Rooms.{HasRoomForRow}
 use Rattle.kl1_match.proofs.Rows.{popped}
 use Rattle.kl1_match.proofs.GoalCells.{goal_built}
 use Rattle.kl1_match.proofs.goal_cells.put_goal.Goals as goal

@@ -4,8 +4,8 @@ use Rattle.kl1_store.specs.Spending.{Spends}
 use Rattle.kl1_match.specs.Rooms.{structures_in, arguments_in}
 use Rattle.kl1_store.proofs.Grows.{Grown-trans}
 use Rattle.kl1_clause.specs.declared.instruction.Instruction.TheVariants.{Variable}
-use Rattle.kl1_match.proofs.Rooms.{all_left, step_fits, step_used}
-use Rattle.kl1_match.proofs.Built.{nothing_built, named_at, below_at, all_still_in, more_built}
+use Rattle.kl1_match.proofs.Rooms.{step_fits, step_used}
+use Rattle.kl1_match.proofs.Built.{named_at, below_at, all_still_in, more_built}
 use Rattle.kl1_match.proofs.instances.put_row.Goals as goal
 
 pub step_in-step-requires : goal.step_in-step-requires

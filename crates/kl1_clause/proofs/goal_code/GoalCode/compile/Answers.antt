@@ -1,6 +1,5 @@
-use Rattle.std.proofs.Common.{ℕ, List, [], subst, map}
+use Rattle.std.proofs.Common.{ℕ, List, [], subst}
 use Rattle.kl1_model.specs.TermCode.{NodeCode, nodes_of}
-use Rattle.kl1_term.specs.Nodes.{code_of}
 use Rattle.kl1_clause.specs.declared.goal_code.GoalCode.TheInside.{Inside}
 use Rattle.kl1_clause.specs.declared.instruction.Instruction.{Instruction}
 use Rattle.kl1_clause.specs.Putting.{Puts}
