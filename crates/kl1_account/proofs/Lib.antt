@@ -7,3 +7,5 @@ pub mod SettledStays
 pub mod Waking
 pub mod Ending
 pub mod NameTexts
+pub mod ModuleNames
+pub mod Loads

@@ -1,5 +1,5 @@
 -- Goals that are looked at again: what is found of them, and that all are settled then.
-use Rattle.std.specs.Prelude.{◌≡◌, ℕ, List, [], ◌∷◌, ◌++◌, find, Some}
+use Rattle.std.specs.Prelude.{◌≡◌, ℕ, List, [], ◌∷◌, ◌++◌, find, Some, None}
 use Rattle.std.specs.List.{AllByRecursion}
 use Rattle.kl1_text.specs.Reading.{Reads}
 use Rattle.kl1_text.specs.declared.cell_name.CellName.{CellName}
@@ -10,6 +10,7 @@ use Rattle.kl1_clause.specs.declared.predicate.Predicate.{Predicate}
 use Rattle.kl1_moves.specs.declared.kind.Kind.{Kind}
 use Rattle.kl1_moves.specs.Kinds.{IsKind}
 use Rattle.kl1_moves.specs.Moves.{HasPredicate}
+use Rattle.kl1_goals.specs.declared.task.Task.TheVariants.{Monitor}
 use Rattle.kl1_goals.specs.declared.goal.Goal.{Goal}
 use Rattle.kl1_goals.specs.Lists.{has_number}
 use Rattle.kl1_modules.specs.Numbered.{Numbered}
@@ -46,3 +47,7 @@ abbrev pub WakesAdded : List Numbered → Held CellName → List Hook → List H
 WakesAdded modules h hooks more last cells before after =
     (f : Reading) → Knows modules f → (shoen priority : ℕ) (gs : List (Goal CellName)) → AreUpTo last gs →
     AreSettled f hooks h modules (restood before gs) → AreSettled f more h modules (restood after (gs ++ goals_for last shoen priority cells))
+
+-- no monitor among goals can step by a clause
+abbrev pub AreMonitorsIdle : List (Goal CellName) → Type 0
+AreMonitorsIdle goals = AllByRecursion (λ g. g.task ≡ Monitor → g.standing ≡ None) goals

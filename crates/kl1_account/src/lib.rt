@@ -8,6 +8,9 @@ mod draft;
 mod event;
 mod installing;
 mod limits;
+mod loading;
+mod looking;
+mod looking_beside;
 mod moving;
 mod names;
 mod numbers;
@@ -16,7 +19,6 @@ mod refusal;
 mod reply;
 mod reporting;
 mod settling;
-mod looking;
 
 pub use account::Account;
 pub use account_name::AccountName;
