@@ -1,9 +1,9 @@
 -- Loads, by the definition of the step.
-use Rattle.std.proofs.Common.{◌≡◌, ℕ, ◌+◌, ◌<◌, ◌≤◌, suc, Bool, true, false, if◌then◌else◌, ◌==◌, List, [], ◌∷◌, ◌++◌, length, map, refl, sym, ap, ◌∙◌, subst, arith, nat_lt, length-append, length-map}
+use Rattle.std.proofs.Common.{◌≡◌, ℕ, ◌+◌, ◌<◌, ◌≤◌, suc, Bool, true, false, if◌then◌else◌, ◌==◌, List, [], ◌∷◌, ◌++◌, length, map, refl, sym, ap, ◌∙◌, subst, arith, nat_lt, length-append}
 use Rattle.std.specs.Prelude.{Option, Some, None, is_some, nat_le}
 use Rattle.std.specs.List.{AllByRecursion}
 use Rattle.std.proofs.lemmas.Bool.{le-leb, lt-leb, lt-ltb, le-ltb, ltb-true, ltb-false}
-use Rattle.std.proofs.lemmas.List.{map-append}
+use Rattle.std.proofs.lemmas.List.{map-append, length-map}
 use Rattle.kl1_model.specs.Limits.{most_names, most_entries, most_source_bytes}
 use Rattle.kl1_model.specs.Module.{Module, read_module, good, bad}
 use Rattle.kl1_model.specs.Match.{module_of}
@@ -23,11 +23,14 @@ use Rattle.kl1_clause.specs.NameList.{with_texts}
 use Rattle.kl1_goals.specs.declared.task.Task.TheVariants.{Monitor}
 use Rattle.kl1_goals.specs.declared.goal.Goal.{Goal}
 use Rattle.kl1_goals.specs.Lists.{stood_by}
+use Rattle.kl1_goals.specs.Tables.{Tabled}
 use Rattle.kl1_modules.specs.Numbered.{Numbered, own_names, number_of, IsRead, AreRead}
 use Rattle.kl1_modules.specs.Finding.{contents, is_numbered, TellsModule}
 use Rattle.kl1_modules.proofs.Names.{number_reads}
 use Rattle.kl1_modules.proofs.Shelving.{tells}
 use Rattle.kl1_account.specs.declared.draft.Change.{Change}
+use Rattle.kl1_account.specs.declared.loading.Loading.{Loading}
+use Rattle.kl1_account.specs.declared.loading.Loading.TheVariants.{Drafted}
 use Rattle.kl1_account.specs.declared.refusal.Refusal.TheVariants.{Syntax, Source, Exists, Names, Journal}
 use Rattle.kl1_account.specs.Fitting.{Reading, Fits, built}
 use Rattle.kl1_account.specs.Account.{Account, Means, meaning, task_with, goal_with, texts_of, state_of}
@@ -38,7 +41,7 @@ use Rattle.kl1_account.specs.Kept.{IsTaskIn, IsOwned}
 use Rattle.kl1_account.specs.Settled.{task_clause, awaited_by_task, HangsOnEach, IsSettled, AreSettled}
 use Rattle.kl1_account.specs.Looking.{AreMonitorsIdle}
 use Rattle.kl1_account.specs.Keeping.{IsKept}
-use Rattle.kl1_account.specs.Loadings.{HasModules, RefusesLoad, IsDraft, DraftsAs, IsDraftOf, Settles}
+use Rattle.kl1_account.specs.Loadings.{HasModules, RefusesLoad, IsDraft, DraftsAs, IsDraftOf, LoadsAs, Settles}
 use Rattle.kl1_clause.proofs.Growth.{all_grow}
 use Rattle.kl1_account.proofs.ModuleNames.{of_module}
 
@@ -64,7 +67,7 @@ pub no_fewer : (names : List Known) (texts : List (List ℕ)) → length names �
 no_fewer names texts =
     let g = all_grow (texts_of names) texts in
     let e = ap length g.is ∙ length-append (texts_of names) g.added in
-    let m : length (texts_of names) ≡ length names = length-map (λ k. k.text) names in
+    let m : length (texts_of names) ≡ length names = length-map names (λ k. k.text) in
     omega arith
 
 -- a module whose name is taken
@@ -288,3 +291,60 @@ load_kept a source d old hooks known changes names row i r =
           ap (λ (x : Stepped). x.state) (sym (steps f) ∙ (ap (λ (s : State). step s (load source)) (i.named f g (r.fits f ff) (r.fits g fg)) ∙ steps g));
       small = r.small;
     }
+
+-- a module that was drafted
+drafted_at : (ms : List Numbered) (names : List Known) (entries : ℕ) (source : List ℕ) (l : Loading) (d : Numbered) → LoadsAs ms names entries source l → l ≡ Drafted d → IsDraftOf ms names entries source d
+drafted_at ms names entries source l d is e = let P : Loading → Type 0 = λ x. LoadsAs ms names entries source x in subst P e is
+
+-- a draft for which all that wants memory is done, and the names of which are published
+pub ready : (a : Account) (source : List ℕ) (l : Loading) (d : Numbered) (hooks : List Hook) (found changes : List Change) (used names : List Known) (code : Module) (texts : List (List ℕ)) (items row : List CellName) →
+    LoadsAs a.modules a.names a.entries source l → l ≡ Drafted d → Settles a.modules d hooks a.held a.goals found → changes ≡ found → used ≡ a.names → texts ≡ own_names code → code ≡ d.content →
+    texts_of names ≡ with_texts (texts_of used) texts → AreNumbersOf names texts items → row ≡ items → AreSmall names → ((f : Reading) → Fits names f → Fits used f) → IsReady a source d hooks changes names row
+ready a source l d hooks found changes used names code texts items row loads is settles same_changes same_names are code_is put numbers same_row small fits =
+    let own : texts ≡ own_names d.content = are ∙ ap own_names code_is in
+    let S : List Change → Type 0 = λ cs. Settles a.modules d hooks a.held a.goals cs in
+    let N : List (List ℕ) → Type 0 = λ ts. AreNumbersOf names ts row in
+    let R : List CellName → Type 0 = λ r. AreNumbersOf names texts r in
+    record {
+      draft = drafted_at a.modules a.names a.entries source l d loads is;
+      settles = subst S (sym same_changes) settles;
+      texts = put ∙ (ap (λ (ks : List Known). with_texts (texts_of ks) texts) same_names ∙ ap (with_texts (texts_of a.names)) own);
+      numbers = subst N own (subst R (sym same_row) numbers);
+      small = small;
+      fits = λ f p. subst (λ (ks : List Known). Fits ks f) same_names (fits f p);
+    }
+
+-- under its row, the module is still none of those that are there
+pub ready_new : (a : Account) (source : List ℕ) (d : Numbered) (hooks : List Hook) (changes : List Change) (seen names : List Known) (ms : List Numbered) (row : List CellName) → IsReady a source d hooks changes names row →
+    ((f : Reading) → Fits a.names f → AreRead f a.modules) → AreNames seen → seen ≡ names → ms ≡ a.modules → is_numbered ms (number_of (record d { row = row })) ≡ false
+ready_new a source d hooks changes seen names ms row r rows one_to_one is same =
+    ap (λ (xs : List Numbered). is_numbered xs (number_of (record d { row = row }))) same
+    ∙ still_new a.modules names d row (subst AreNames is one_to_one) (λ f p. rows f (r.fits f p)) r.numbers r.draft.draft.absent
+
+-- an account after a load, by what its parts are
+pub put_is : (a : Account) (d : Numbered) (row : List CellName) (names : List Known) (changes : List Change) (held : Held CellName) (old new : Tabled CellName) (before ms : List Numbered) →
+    held ≡ a.held → old.goals ≡ a.goals → new ≡ record old { goals = restood changes old.goals } → before ≡ a.modules → ms ≡ before ++ record d { row = row } ∷ [] →
+    with_load a d row names changes ≡ record a { held = held; goals = new.goals; modules = ms; names = names; entries = a.entries + 1 }
+put_is a d row names changes held old new before ms same was stood same_modules pushed =
+    let T : Held CellName → List (Goal CellName) → List Numbered → Account = λ h gs xs. record a { held = h; goals = gs; modules = xs; names = names; entries = a.entries + 1 } in
+    let goals : restood changes a.goals ≡ new.goals = sym (ap (λ (t : Tabled CellName). t.goals) stood ∙ ap (restood changes) was) in
+    let modules : a.modules ++ record d { row = row } ∷ [] ≡ ms = sym (pushed ∙ ap (λ (xs : List Numbered). xs ++ record d { row = row } ∷ []) same_modules) in
+    ap (λ h. T h (restood changes a.goals) (a.modules ++ record d { row = row } ∷ [])) (sym same)
+    ∙ (ap (λ gs. T held gs (a.modules ++ record d { row = row } ∷ [])) goals ∙ ap (T held new.goals) modules)
+
+-- what always holds of it
+pub put_kept : (a put : Account) (source : List ℕ) (d : Numbered) (old hooks : List Hook) (known now : ℕ) (changes : List Change) (names : List Known) (row : List CellName) → IsKept a old known → IsReady a source d hooks changes names row →
+    with_load a d row names changes ≡ put → now ≡ known → IsKept put hooks now
+put_kept a put source d old hooks known now changes names row i r e n =
+    let P : Account → Type 0 = λ x. IsKept x hooks known in
+    let Q : ℕ → Type 0 = λ k. IsKept put hooks k in
+    subst Q (sym n) (subst P e (load_kept a source d old hooks known changes names row i r))
+
+-- and the step to it
+pub put_steps : (a self put : Account) (source : List ℕ) (d : Numbered) (hooks : List Hook) (changes : List Change) (names : List Known) (row : List CellName) (code : Module) (name : List ℕ) → IsReady a source d hooks changes names row →
+    a ≡ self → with_load a d row names changes ≡ put → code ≡ d.content → name ≡ code.name → (f : Reading) → step (state_of f self) (load source) ≡ record { state = state_of f put; reply = loaded name }
+put_steps a self put source d hooks changes names row code name r same e code_is name_is f =
+    let R : Account → List ℕ → Stepped = λ x n. record { state = state_of f x; reply = loaded n } in
+    ap (λ (x : Account). step (state_of f x) (load source)) (sym same)
+    ∙ (load_steps a source d hooks changes names row r f
+    ∙ (ap (λ (x : Account). R x d.content.name) e ∙ ap (R put) (sym (name_is ∙ ap (λ (m : Module). m.name) code_is))))

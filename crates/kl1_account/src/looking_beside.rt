@@ -35,6 +35,5 @@ pub(crate) fn look_at_all(
     ensures held { store.new.held ≡ store.old.held }
     ensures grown { HasGrown store.old store.new }
 {
-    let _ = (store, goals, modules, draft, trial, changes);
     Err(AllocError)
 }
