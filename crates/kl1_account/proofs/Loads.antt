@@ -1,15 +1,15 @@
 -- Loads, by the definition of the step.
-use Rattle.std.proofs.Common.{◌≡◌, ℕ, ◌+◌, ◌<◌, ◌≤◌, suc, Bool, true, false, if◌then◌else◌, ◌==◌, List, [], ◌∷◌, ◌++◌, length, map, refl, sym, ap, ◌∙◌, subst, arith, nat_lt, length-append}
-use Rattle.std.specs.Prelude.{Option, Some, None, is_some, nat_le}
+use Rattle.std.proofs.Common.{◌≡◌, ℕ, ◌+◌, ◌<◌, ◌≤◌, suc, Bool, true, false, if◌then◌else◌, ◌==◌, List, [], ◌∷◌, ◌++◌, length, map, refl, sym, ap, ◌∙◌, subst, arith, nat_lt, length-append, take, get_or}
+use Rattle.std.specs.Prelude.{Option, Some, is_some}
 use Rattle.std.specs.List.{AllByRecursion}
 use Rattle.std.proofs.lemmas.Bool.{le-leb, lt-leb, lt-ltb, le-ltb, ltb-true, ltb-false}
-use Rattle.std.proofs.lemmas.List.{map-append, length-map}
+use Rattle.std.proofs.lemmas.List.{map-append, length-map, take_more}
 use Rattle.kl1_model.specs.Limits.{most_names, most_entries, most_source_bytes}
 use Rattle.kl1_model.specs.Module.{Module, read_module, good, bad}
 use Rattle.kl1_model.specs.Match.{module_of}
 use Rattle.kl1_model.specs.State as model
 use Rattle.kl1_model.specs.State.{State, names_of_module, with_names}
-use Rattle.kl1_model.specs.Event.{load, loaded, refuse, with_entry, recorded, named, exists, too_many_names, Stepped}
+use Rattle.kl1_model.specs.Event.{load, loaded, with_entry, Stepped}
 use Rattle.kl1_model.specs.Step.{step, with_module, load_module}
 use Rattle.kl1_text.specs.Reading.{Reads}
 use Rattle.kl1_text.specs.declared.atom_no.AtomNo.{AtomNo}
@@ -20,7 +20,6 @@ use Rattle.kl1_atoms.specs.Knowing.{is_reading}
 use Rattle.kl1_store.specs.Hooks.{Hook}
 use Rattle.kl1_store.specs.Held.{Held}
 use Rattle.kl1_clause.specs.NameList.{with_texts}
-use Rattle.kl1_goals.specs.declared.task.Task.TheVariants.{Monitor}
 use Rattle.kl1_goals.specs.declared.goal.Goal.{Goal}
 use Rattle.kl1_goals.specs.Lists.{stood_by}
 use Rattle.kl1_goals.specs.Tables.{Tabled}
@@ -38,10 +37,10 @@ use Rattle.kl1_account.specs.Naming.{AreSmall, ReadsDraft, AreNumbersOf}
 use Rattle.kl1_account.specs.Works.{Knows}
 use Rattle.kl1_account.specs.Drafts.{restood_by, restood}
 use Rattle.kl1_account.specs.Kept.{IsTaskIn, IsOwned}
-use Rattle.kl1_account.specs.Settled.{task_clause, awaited_by_task, HangsOnEach, IsSettled, AreSettled}
+use Rattle.kl1_account.specs.Settled.{task_clause, awaited_by_task, HangsOnEach, AreSettled}
 use Rattle.kl1_account.specs.Looking.{AreMonitorsIdle}
 use Rattle.kl1_account.specs.Keeping.{IsKept}
-use Rattle.kl1_account.specs.Loadings.{HasModules, RefusesLoad, IsDraft, DraftsAs, IsDraftOf, LoadsAs, Settles}
+use Rattle.kl1_account.specs.Loadings.{RefusesLoad, IsDraft, DraftsAs, IsDraftOf, LoadsAs, Settles}
 use Rattle.kl1_clause.proofs.Growth.{all_grow}
 use Rattle.kl1_account.proofs.ModuleNames.{of_module}
 
@@ -171,6 +170,15 @@ stood_is c (g ∷ gs) = ap (λ (k : Goal CellName). k ∷ map (stood_by c.number
 pub restood_more : (cs : List Change) (c : Change) (gs : List (Goal CellName)) → restood (cs ++ c ∷ []) gs ≡ map (stood_by c.number c.standing) (restood cs gs)
 restood_more [] c gs = sym (stood_is c gs)
 restood_more (b ∷ cs) c gs = restood_more cs c (map (restood_by b) gs)
+
+-- the same of a table of goals, where the changes before were made
+pub one_more_change : (old was now : Tabled CellName) (cs : List Change) (i : ℕ) (d : Change) → i < length cs → was ≡ record old { goals = restood (take i cs) old.goals } →
+    now ≡ record was { goals = map (stood_by (get_or cs i d).number (get_or cs i d).standing) was.goals } → now ≡ record old { goals = restood (take (i + 1) cs) old.goals }
+one_more_change old was now cs i d lt before after =
+    let x = get_or cs i d in
+    let T : Tabled CellName → Tabled CellName = λ t. record t { goals = map (stood_by x.number x.standing) t.goals } in
+    let G : List (Goal CellName) → Tabled CellName = λ gs. record old { goals = gs } in
+    after ∙ (ap T before ∙ ap G (sym (ap (λ ys. restood ys old.goals) (take_more cs i d lt) ∙ restood_more (take i cs) x old.goals)))
 
 -- ---- settled goals
 

@@ -1,6 +1,6 @@
 // Modules that are loaded.
 
-ghost use Rattle.std.specs.Prelude.{◌≡◌, ◌≤◌, ◌<◌, ℕ, false, List, [], ◌∷◌, ◌++◌, length, IfOk, OnOk, OnErr, vec_capacity, nat_lt};
+ghost use Rattle.std.specs.Prelude.{◌≡◌, ◌≤◌, ◌<◌, false, [], ◌∷◌, ◌++◌, length, IfOk, OnOk, OnErr, vec_capacity, nat_lt};
 ghost use Rattle.kl1_model.specs.Limits.{most_names};
 ghost use Rattle.kl1_atoms.specs.Names.{AreNames};
 ghost use Rattle.kl1_store.specs.Hooks.{HasGrown};
