@@ -25,3 +25,5 @@ pub mod Told
 pub mod Added
 pub mod GoalOrder
 pub mod Reached
+pub mod ModuleNames
+pub mod Loads

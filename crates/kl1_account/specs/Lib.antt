@@ -13,3 +13,4 @@ pub mod Accounts
 pub mod Moving
 pub mod Looking
 pub mod Tops
+pub mod Loadings

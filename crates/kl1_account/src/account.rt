@@ -13,7 +13,8 @@ ghost use Rattle.kl1_account.specs.Views.{reply_of, chosen_of};
 use crate::account_name::AccountName;
 use crate::draft::Draft;
 use crate::limits::is_number;
-use crate::names::AccountNames;
+use crate::loading::{Loading, draft_module, install_module, prepare};
+use crate::names::{AccountNames, publish};
 use crate::numbers::{ClauseNo, GoalNo};
 use crate::printing::print_cell;
 use crate::refusal::Refusal;
@@ -127,8 +128,37 @@ impl Account {
         ensures keeps { Keeps A.is_of A.place A.knows names.old names.new seat.old seat.new }
         ensures knows { A.knows seat.new ≡ self.new.names }
     {
-        let _ = source;
-        Err(AllocError)
+        let draft = match draft_module(
+            self.alloc,
+            &self.modules,
+            &self.names,
+            self.entries,
+            source,
+        )? {
+            Loading::Refused(refusal) => return Ok(Reply::Refused(refusal)),
+            Loading::Drafted(draft) => draft,
+        };
+        let mut row = prepare(
+            self.alloc,
+            &mut self.store,
+            &self.goals,
+            &mut self.modules,
+            &mut self.names,
+            &mut self.trial,
+            &draft,
+            &mut self.draft.changes,
+        )?;
+        publish(names, seat, &mut self.names, draft.code().names(), &mut row);
+        let name = draft.code().module_name();
+        install_module(
+            &mut self.goals,
+            &mut self.modules,
+            draft,
+            row.as_slice(),
+            self.draft.changes.as_slice(),
+        );
+        self.entries += 1;
+        Ok(Reply::Loaded(name))
     }
 
     /// Starts a goal in a shoen of its own.

@@ -8,6 +8,7 @@ mod draft;
 mod event;
 mod installing;
 mod limits;
+mod loading;
 mod looking;
 mod looking_beside;
 mod moving;
