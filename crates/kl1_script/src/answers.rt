@@ -15,9 +15,9 @@ use crate::command::Command;
 use crate::parsed::{Parsed, command_in};
 use crate::performed::{Performed, perform};
 use crate::replies::put_reply_of;
-use kl1_lines::{Record, is_same};
 use crate::served::Served;
 use kl1_atoms::AtomSource;
+use kl1_lines::{Record, is_same};
 use kl1_user::{AccountName, Refusal, Reply};
 use std::alloc::{AllocError, Global};
 

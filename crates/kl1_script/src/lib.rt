@@ -17,5 +17,5 @@ pub use kl1_lines::{Counted, DeviceFailed, Request, ScriptFault, Sink, Source};
 pub use parsed::{Parsed, command_in, parse};
 pub use performed::{Performed, perform};
 pub use replies::{put_reply, put_reply_of};
-pub use scripts::{answer_records, run_script};
+pub use scripts::{answer_over, run_script};
 pub use served::Served;

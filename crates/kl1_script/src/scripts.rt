@@ -18,12 +18,12 @@ ghost use Rattle.kl1_lines.specs.declared.script_fault.ScriptFault.TheVariants a
 
 use crate::accounts::accounts_in;
 use crate::answers::put_record;
+use crate::served::Served;
+use kl1_atoms::{AtomSource, AtomTable, SharedAtoms};
 use kl1_lines::{
     NextRecord, Record, ScriptFault, Sink, Source, finish, next_record, pass_on, read_all,
     split_line,
 };
-use crate::served::Served;
-use kl1_atoms::{AtomSource, AtomTable, SharedAtoms};
 use kl1_user::AccountName;
 use std::alloc::Global;
 
@@ -77,7 +77,14 @@ fn answer_shared<W: Sink>(
     match AtomTable::new(alloc, accounts.len()) {
         Ok((table, mut seats)) => {
             let seat = seats.swap_remove(0);
-            answer_records(alloc, accounts, SharedAtoms { table: &table }, seat, text, sink)
+            answer_over(
+                alloc,
+                accounts,
+                SharedAtoms { table: &table },
+                seat,
+                text,
+                sink,
+            )
         }
         Err(_) => Err(ScriptFault::Memory),
     }
@@ -85,7 +92,7 @@ fn answer_shared<W: Sink>(
 
 /// Writes what is written for the records of a text, over any table of names and the seat of the first account, which knows the
 /// built-in names alone.
-pub fn answer_records<A: AtomSource + Drop, W: Sink>(
+pub fn answer_over<A: AtomSource + Drop, W: Sink>(
     alloc: Global,
     accounts: &[AccountName],
     names: A,

@@ -3,7 +3,7 @@
 ghost use Rattle.std.specs.Prelude.{◌≡◌, [], IfOk, OnErr, option_map};
 ghost use Rattle.kl1_model.specs.State.{fresh};
 ghost use Rattle.kl1_model.specs.Step.{step};
-ghost use Rattle.kl1_model.specs.Choice.{first};
+ghost use Rattle.kl1_model.specs.Choice.{first, quiet};
 ghost use Rattle.kl1_atoms.specs.Names.{AreNames};
 ghost use Rattle.kl1_account.specs.Fitting.{Reading, Fits};
 ghost use Rattle.kl1_account.specs.Account.{state_of};
@@ -69,6 +69,13 @@ impl<A: AtomSource + Drop> Served<A> {
         ensures { (f : Reading) → Fits self.now.names f → option_map chosen_of result ≡ first (state_of f self.now) }
     {
         self.user.pick()
+    }
+
+    /// Whether no goal can step.
+    pub fn quiet(&self) -> bool
+        ensures { (f : Reading) → Fits self.now.names f → result ≡ quiet (state_of f self.now) }
+    {
+        self.user.quiet()
     }
 
     /// The names of the account are one to one with their numbers.
