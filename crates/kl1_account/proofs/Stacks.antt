@@ -19,7 +19,7 @@ use Rattle.kl1_account.specs.declared.top.Top.{Top}
 use Rattle.kl1_account.specs.declared.top.Top.TheVariants as top
 use Rattle.kl1_account.specs.Fitting.{Reading}
 use Rattle.kl1_account.specs.Account.{meaning}
-use Rattle.kl1_account.specs.Tops.{node_with, count_at, stacked_terms, weight, Reads, IsNext, Takes}
+use Rattle.kl1_account.specs.Tops.{node_with, count_at, stacked_terms, weight, ReadsTop, IsNext, Takes}
 
 -- an argument more on a stack
 pub one_argument : {A : Type 0} (arguments : List A) (left : ℕ) (x : A) (before stack after : List A) →
@@ -165,7 +165,7 @@ takes h x t stack rest after e n =
     let long : length stack ≡ length rest + 1 = ap length e ∙ length-append rest (x ∷ []) in
     let count = n.count in
     record {
-      reads = λ f. let P : List Term → Type 0 = λ ts. Reads f h ts t after in subst P (sym (terms f)) (n.reads f);
+      reads = λ f. let P : List Term → Type 0 = λ ts. ReadsTop f h ts t after in subst P (sym (terms f)) (n.reads f);
       count = omega arith;
       some = omega arith;
       inside = n.inside;
