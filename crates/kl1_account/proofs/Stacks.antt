@@ -1,7 +1,7 @@
 -- Cells on a stack as nodes, one after another.
 use Rattle.std.proofs.Common.{false, ◌≡◌, ℕ, zero, suc, ◌+◌, ◌-◌, ◌<◌, ◌≤◌, List, [], ◌∷◌, ◌++◌, length, reverse, drop, get_or, refl, ap, sym, ◌∙◌, subst, arith, length-append, ℤ}
 use Rattle.std.specs.Prelude.{Some, slice_get}
-use Rattle.std.proofs.lemmas.List.{reverse-append, length-reverse, drop_more, drop_all}
+use Rattle.std.proofs.lemmas.List.{reverse-append, length-reverse, drop_more}
 use Rattle.kl1_model.specs.Term.{Term, Terms, variable, integer, atom, structure, none, more, size, sizes, list_of, count_of}
 use Rattle.kl1_model.specs.TermCode.{structure-reads}
 use Rattle.kl1_term.specs.declared.node.Node.TheVariants as node
@@ -38,10 +38,6 @@ one_argument arguments left x before stack after some within at is pushed =
     found [] i x e = refl
     found (y ∷ xs) zero x e = some-same y x e
     found (y ∷ xs) (suc i) x e = found xs i x e
-
--- no argument yet
-pub no_argument : {A : Type 0} (arguments before : List A) (count : ℕ) → count ≡ length arguments → reverse before ≡ drop count arguments ++ reverse before
-no_argument arguments before count e = ap (λ ys. ys ++ reverse before) (sym (drop_all count arguments (omega (arith, e))))
 
 -- a constant or an unbound variable, whose term is this for a reading
 plain_next : (h : Held CellName) (x at : Cell CellName) (n : Top) (t : Reading → Term) (stack : List (Cell CellName)) →
