@@ -1,5 +1,5 @@
 -- Numbers in cells read as the names that a seat knows.
-use Rattle.std.proofs.Common.{◌≡◌, ℕ, ◌<◌, ◌≤◌, ◌==◌, ◌^◌, List, [], ◌∷◌, Some, None, IsSome, refl, ap, ◌∙◌, subst, inl, inr, arith, rules, tests, nat_lt}
+use Rattle.std.proofs.Common.{◌≡◌, ℕ, ◌<◌, ◌≤◌, ◌==◌, ◌^◌, List, [], ◌∷◌, Some, None, IsSome, refl, ap, subst, inl, inr, arith, rules, tests, nat_lt}
 use Rattle.std.proofs.lemmas.Bool.{cases_Bool, eqb-true}
 use Rattle.std.proofs.lemmas.Option.{slice_get_past}
 use Rattle.kl1_model.specs.Text.{built_ins}
@@ -11,7 +11,7 @@ use Rattle.kl1_atoms.specs.declared.known.Known.{Known}
 use Rattle.kl1_atoms.specs.Names.{text_in, text_by, text_or_mark, AreNames}
 use Rattle.kl1_atoms.specs.Knowing.{is_reading, option_cases}
 use Rattle.kl1_account.specs.Fitting.{Reading, Fits}
-use Rattle.kl1_account.specs.Naming.{AreSmall, Keeps}
+use Rattle.kl1_account.specs.Naming.{AreSmall}
 
 -- numbers read as texts, and those that aren't known as a mark and the number
 abbrev pub cell_reading : ℕ → List Known → Reading
@@ -70,16 +70,3 @@ is_small ks n small some = elim (option_cases (built_in_at n)) [
 -- a number is read as its text
 pub read_as : (ks : List Known) (c : CellName) (t : List ℕ) (f : Reading) → AreNames ks → text_by ks c.number ≡ Some t → Fits ks f → f c ≡ t
 read_as ks c t f names e fits = fits.texts t c.number (names.forth t c.number e)
-
--- nothing happens to a table of names
-pub keeps_all : {T S : Type 0} (is_of : T → S → Type 0) (place : S → ℕ × ℕ) (knows : S → List Known) (t : T) (s : S) → is_of t s → Keeps is_of place knows t t s s
-keeps_all is_of place knows t s of = record { of = of; stays = refl; others = λ other i apart. i; grows = λ text n e. e }
-
--- one call after another
-pub keeps_then : {T S : Type 0} (is_of : T → S → Type 0) (place : S → ℕ × ℕ) (knows : S → List Known) (t u v : T) (a b c : S) → Keeps is_of place knows t u a b → Keeps is_of place knows u v b c → Keeps is_of place knows t v a c
-keeps_then is_of place knows t u v a b c p q = record {
-  of = q.of;
-  stays = q.stays ∙ p.stays;
-  others = λ other i apart. q.others other (p.others other i apart) (λ e. apart (e ∙ p.stays));
-  grows = λ text n e. q.grows text n (p.grows text n e);
-}

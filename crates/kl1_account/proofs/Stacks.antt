@@ -1,7 +1,7 @@
 -- Cells on a stack as nodes, one after another.
 use Rattle.std.proofs.Common.{false, ◌≡◌, ℕ, zero, suc, ◌+◌, ◌-◌, ◌<◌, ◌≤◌, List, [], ◌∷◌, ◌++◌, length, reverse, drop, get_or, refl, ap, sym, ◌∙◌, subst, arith, length-append, ℤ}
 use Rattle.std.specs.Prelude.{Some, slice_get}
-use Rattle.std.proofs.lemmas.List.{reverse-append, length-reverse, drop_more, drop_all}
+use Rattle.std.proofs.lemmas.List.{reverse-append, length-reverse, drop_more}
 use Rattle.kl1_model.specs.Term.{Term, Terms, variable, integer, atom, structure, none, more, size, sizes, list_of, count_of}
 use Rattle.kl1_model.specs.TermCode.{structure-reads}
 use Rattle.kl1_term.specs.declared.node.Node.TheVariants as node
@@ -19,7 +19,7 @@ use Rattle.kl1_account.specs.declared.top.Top.{Top}
 use Rattle.kl1_account.specs.declared.top.Top.TheVariants as top
 use Rattle.kl1_account.specs.Fitting.{Reading}
 use Rattle.kl1_account.specs.Account.{meaning}
-use Rattle.kl1_account.specs.Tops.{node_with, count_at, stacked_terms, weight, Reads, IsNext, Takes}
+use Rattle.kl1_account.specs.Tops.{node_with, count_at, stacked_terms, weight, ReadsTop, IsNext, Takes}
 
 -- an argument more on a stack
 pub one_argument : {A : Type 0} (arguments : List A) (left : ℕ) (x : A) (before stack after : List A) →
@@ -38,10 +38,6 @@ one_argument arguments left x before stack after some within at is pushed =
     found [] i x e = refl
     found (y ∷ xs) zero x e = some-same y x e
     found (y ∷ xs) (suc i) x e = found xs i x e
-
--- no argument yet
-pub no_argument : {A : Type 0} (arguments before : List A) (count : ℕ) → count ≡ length arguments → reverse before ≡ drop count arguments ++ reverse before
-no_argument arguments before count e = ap (λ ys. ys ++ reverse before) (sym (drop_all count arguments (omega (arith, e))))
 
 -- a constant or an unbound variable, whose term is this for a reading
 plain_next : (h : Held CellName) (x at : Cell CellName) (n : Top) (t : Reading → Term) (stack : List (Cell CellName)) →
@@ -165,7 +161,7 @@ takes h x t stack rest after e n =
     let long : length stack ≡ length rest + 1 = ap length e ∙ length-append rest (x ∷ []) in
     let count = n.count in
     record {
-      reads = λ f. let P : List Term → Type 0 = λ ts. Reads f h ts t after in subst P (sym (terms f)) (n.reads f);
+      reads = λ f. let P : List Term → Type 0 = λ ts. ReadsTop f h ts t after in subst P (sym (terms f)) (n.reads f);
       count = omega arith;
       some = omega arith;
       inside = n.inside;

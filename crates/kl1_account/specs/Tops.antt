@@ -37,7 +37,7 @@ weight [] = 0
 weight (t ∷ ts) = suc (size t) + weight ts
 
 -- what is at the top of the first of these terms, with the others after it on a stack, for a reading
-pub record Reads (f : Reading) (h : Held CellName) (ts : List Term) (t : Top) (after : List (Cell CellName)) : Type 0 where
+pub record ReadsTop (f : Reading) (h : Held CellName) (ts : List Term) (t : Top) (after : List (Cell CellName)) : Type 0 where
   pub terms : with_node (node_with f t) (stacked_terms f h after) ≡ ts
   pub less : weight (stacked_terms f h after) < weight ts
 
@@ -49,14 +49,14 @@ pub record AreSame (f g : Reading) (h : Held CellName) (t : Top) (after : List (
 -- what is at the top of a cell's term, with the arguments after it on the stack: readings that are the same for the cell and the
 -- stack are the same for these
 pub record IsNext (h : Held CellName) (x : Cell CellName) (t : Top) (before after : List (Cell CellName)) : Type 0 where
-  pub reads : (f : Reading) → Reads f h (meaning f h x ∷ stacked_terms f h before) t after
+  pub reads : (f : Reading) → ReadsTop f h (meaning f h x ∷ stacked_terms f h before) t after
   pub count : length after ≡ count_at t + length before
   pub inside : AreIn h after
   pub same : (f g : Reading) → meaning f h x ≡ meaning g h x → stacked_terms f h before ≡ stacked_terms g h before → AreSame f g h t after
 
 -- what is at the top of the first term on a stack, with the arguments in its place
 pub record Takes (h : Held CellName) (t : Top) (before after : List (Cell CellName)) : Type 0 where
-  pub reads : (f : Reading) → Reads f h (stacked_terms f h before) t after
+  pub reads : (f : Reading) → ReadsTop f h (stacked_terms f h before) t after
   pub count : length after + 1 ≡ count_at t + length before
   pub some : 0 < length before
   pub inside : AreIn h after
