@@ -3,7 +3,9 @@
 use crate::rows::{cut, number_of};
 use crate::script::streams::{Faulty, cause_of};
 use crate::script::told::{are_told, end_of};
-use kl1_script::{Counted, run_script};
+use kl1_atoms::PlainTable;
+use kl1_lines::split_line;
+use kl1_script::{Counted, accounts_in, answer_over, run_script};
 use std::alloc::Global;
 
 /// Whether this is told, and this written, where a script is run between streams that give and take at most so many bytes a
@@ -38,9 +40,23 @@ fn is_between(
     are_told(told, end, &counts) && sink.inner.inner.as_slice() == output
 }
 
-/// Whether a script is run to its end, and these bytes are written for it.
+/// Whether these bytes are written for a script over a plain table of names.
+fn is_over_plain(alloc: Global, script: &[u8], output: &[u8]) -> Option<bool> {
+    let (line, rest) = split_line(script);
+    let Some(accounts) = accounts_in(alloc, line).ok()? else {
+        return Some(output == b"! accounts\n".as_slice());
+    };
+    let (names, mut seats) = PlainTable::new(alloc, accounts.len()).ok()?;
+    let seat = seats.swap_remove(0);
+    let mut sink = Counted::new(Vec::new(alloc));
+    answer_over(alloc, accounts.as_slice(), names, seat, rest, &mut sink).ok()?;
+    Some(sink.inner.as_slice() == output)
+}
+
+/// Whether a script is run to its end, and these bytes are written for it, over a shared table of names and over a plain one.
 pub fn is_script(alloc: Global, script: &[u8], output: &[u8]) -> bool {
     is_between(alloc, u64::MAX, 0, 0, script, b"ok 0 0 0", output)
+        && is_over_plain(alloc, script, output) == Some(true)
 }
 
 /// Whether this is told of running a script between streams: the most bytes of a call, the number of the read and that of the
