@@ -1,6 +1,5 @@
 -- Readings that fit names.
-use Rattle.std.proofs.Common.{◌≡◌, ℕ, List, Some, ap, subst, arith, refl}
-use Rattle.kl1_text.specs.Reading.{Reads}
+use Rattle.std.proofs.Common.{◌≡◌, List, ap, subst, arith, refl}
 use Rattle.kl1_text.specs.declared.atom_no.AtomNo.{AtomNo}
 use Rattle.kl1_text.specs.declared.cell_name.CellName.{CellName}
 use Rattle.kl1_atoms.specs.declared.known.Known.{Known}

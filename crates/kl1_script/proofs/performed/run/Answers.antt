@@ -1,6 +1,4 @@
-use Rattle.std.proofs.Common.{◌≡◌, ◌∙◌, ap, sym, arith}
-use Rattle.kl1_model.specs.Event.{Stepped, ran}
-use Rattle.kl1_model.specs.State.{State}
+use Rattle.std.proofs.Common.{◌≡◌, ◌∙◌, arith}
 use Rattle.kl1_account.specs.Account.{state_of}
 use Rattle.kl1_account.specs.Views.{refusal_of}
 use Rattle.kl1_script.proofs.Readings.{fits_before, grows_on}
