@@ -7,3 +7,4 @@ pub mod SettledStays
 pub mod Waking
 pub mod Ending
 pub mod NameTexts
+pub mod Choosing
