@@ -8,3 +8,7 @@ pub mod Waking
 pub mod Ending
 pub mod NameTexts
 pub mod Choosing
+pub mod LookedAt
+pub mod Drafted
+pub mod PutIn
+pub mod Steps

@@ -12,3 +12,4 @@ pub mod Keeping
 pub mod Accounts
 pub mod Moving
 pub mod Looking
+pub mod Reducing

@@ -12,8 +12,10 @@ ghost use Rattle.kl1_account.specs.Views.{reply_of, chosen_of};
 
 use crate::account_name::AccountName;
 use crate::draft::Draft;
+use crate::installing::install;
 use crate::names::AccountNames;
 use crate::numbers::{ClauseNo, GoalNo};
+use crate::reducing::draft_reduction;
 use crate::refusal::Refusal;
 use crate::reply::Reply;
 use kl1_atoms::AtomSource;
@@ -105,9 +107,31 @@ impl Account {
         ensures names { self.new.names ≡ self.old.names }
         ensures err { OnErr result (self.new ≡ self.old) }
     {
-        let _ = number;
-        let _ = clause;
-        Err(AllocError)
+        let mark = self.store.mark();
+        match draft_reduction(
+            &mut self.store,
+            &mut self.goals,
+            &self.shoens,
+            &self.modules,
+            &mut self.trial,
+            &mut self.draft,
+            self.last_goal,
+            self.entries,
+            number,
+            clause,
+        ) {
+            Ok(Some(refusal)) => Ok(Reply::Refused(refusal)),
+            Ok(None) => {
+                install(&mut self.goals, &mut self.shoens, &self.draft);
+                self.last_goal = self.draft.last_goal + self.draft.cells.len() as u64;
+                self.entries += 1;
+                Ok(Reply::Reduced)
+            }
+            Err(error) => {
+                self.store.back(mark);
+                Err(error)
+            }
+        }
     }
 
     /// Loads a module from its source.

@@ -12,6 +12,7 @@ mod moving;
 mod names;
 mod numbers;
 mod printing;
+mod reducing;
 mod refusal;
 mod reply;
 mod reporting;
