@@ -12,3 +12,4 @@ pub mod LookedAt
 pub mod Drafted
 pub mod PutIn
 pub mod Steps
+pub mod Reduced

@@ -108,7 +108,7 @@ impl Account {
         ensures err { OnErr result (self.new ≡ self.old) }
     {
         let mark = self.store.mark();
-        match draft_reduction(
+        let refused = match draft_reduction(
             &mut self.store,
             &mut self.goals,
             &self.shoens,
@@ -120,18 +120,19 @@ impl Account {
             number,
             clause,
         ) {
-            Ok(Some(refusal)) => Ok(Reply::Refused(refusal)),
-            Ok(None) => {
-                install(&mut self.goals, &mut self.shoens, &self.draft);
-                self.last_goal = self.draft.last_goal + self.draft.cells.len() as u64;
-                self.entries += 1;
-                Ok(Reply::Reduced)
-            }
+            Ok(refused) => refused,
             Err(error) => {
                 self.store.back(mark);
-                Err(error)
+                return Err(error);
             }
+        };
+        if let Some(refusal) = refused {
+            return Ok(Reply::Refused(refusal));
         }
+        install(&mut self.goals, &mut self.shoens, &self.draft);
+        self.last_goal = self.draft.last_goal + self.draft.cells.len() as u64;
+        self.entries += 1;
+        Ok(Reply::Reduced)
     }
 
     /// Loads a module from its source.
