@@ -192,7 +192,6 @@ pub all_stand : (f : Reading) (hooks : List Hook) (h : Held CellName) (modules :
 all_stand f hooks h modules [] all = tt
 all_stand f hooks h modules (g ∷ gs) all = (all.0.standing, all_stand f hooks h modules gs all.1)
 
-
 -- a goal that stands is one that can step, by that clause
 stands_by : (s : State) (h : Means) (g : Goal CellName) → IsStanding h s.modules g → clause_for s (goal_with h g) ≡ g.standing
 stands_by s h g e = by_task g.task g.standing e

@@ -1,5 +1,5 @@
 -- A move that is drafted.
-use Rattle.std.proofs.Common.{◌≡◌, ℕ, suc, ◌+◌, ◌<◌, ◌≤◌, ◌^◌, ◌==◌, not, Bool, true, false, if◌then◌else◌, List, [], ◌∷◌, ◌++◌, length, refl, sym, ap, ◌∙◌, arith, subst}
+use Rattle.std.proofs.Common.{◌≡◌, ℕ, suc, ◌+◌, ◌<◌, ◌≤◌, ◌^◌, not, Bool, true, false, if◌then◌else◌, List, [], ◌∷◌, ◌++◌, length, refl, sym, ap, ◌∙◌, arith, subst}
 use Rattle.std.specs.Prelude.{Option, Some, None, filter}
 use Rattle.kl1_model.specs.Module.{Module}
 use Rattle.kl1_model.specs.State.{State}
@@ -31,7 +31,7 @@ use Rattle.kl1_account.specs.Account.{meaning, goal_with}
 use Rattle.kl1_account.specs.Kept.{AreGoalsIn, AreUpTo, IsShoenIn}
 use Rattle.kl1_account.specs.Works.{Made, IsMadeIn, Knows, Turns}
 use Rattle.kl1_account.specs.Drafts.{goals_for, goals_left, goals_added, without_monitor, made_of, Drafts}
-use Rattle.kl1_account.specs.Moving.{IsRemoved, Moves, IsMoved, IsSettling}
+use Rattle.kl1_account.specs.Moving.{Moves, IsMoved, IsSettling}
 use Rattle.kl1_account.specs.Reducing.{move_or_go, move_at, reduced_to, Allows, IsBegun, WakesAll, IsDrafted}
 use Rattle.kl1_account.proofs.Goals.{goals_in_append, goals_for_in, filter_in, up_to_append, up_to_more, goals_for_up_to}
 use Rattle.kl1_account.proofs.Reductions.{reduced_turns}

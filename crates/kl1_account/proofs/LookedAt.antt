@@ -1,15 +1,14 @@
 -- The goals that a draft leaves, looked at where needed.
-use Rattle.std.proofs.Common.{◌≡◌, ℕ, zero, suc, ◌+◌, ◌<◌, ◌==◌, ◌||◌, not, Bool, true, false, if◌then◌else◌, List, [], ◌∷◌, ◌++◌, length, map, drop, refl, sym, ap, ◌∙◌, arith, subst, eq-eqb, eqb-true}
-use Rattle.std.specs.Prelude.{filter, find, Some, None, Contains}
+use Rattle.std.proofs.Common.{◌≡◌, ℕ, zero, suc, ◌<◌, ◌==◌, ◌||◌, not, Bool, true, false, if◌then◌else◌, List, [], ◌∷◌, length, map, drop, refl, sym, ap, ◌∙◌, arith, subst, eq-eqb}
+use Rattle.std.specs.Prelude.{filter, find, Some, Contains}
 use Rattle.std.specs.List.{AllByRecursion}
 use Rattle.std.proofs.lemmas.Bool.{ne_eqb, eqb-false}
 use Rattle.kl1_text.specs.declared.cell_name.CellName.{CellName}
 use Rattle.kl1_store.specs.declared.binding.Binding.{Binding}
 use Rattle.kl1_store.specs.declared.point.Point.{Point}
 use Rattle.kl1_store.specs.Held.{Held, is_bound}
-use Rattle.kl1_store.specs.Hooks.{Hook, Kept, point_of, told_by}
+use Rattle.kl1_store.specs.Hooks.{Hook, Kept, told_by}
 use Rattle.kl1_store.specs.Later.{bound_since}
-use Rattle.kl1_store.specs.Sound.{IsFormed, Grown}
 use Rattle.kl1_store.proofs.Telling.{is_told}
 use Rattle.kl1_goals.specs.declared.goal.Goal.{Goal}
 use Rattle.kl1_goals.specs.Lists.{is_other, has_number, is_monitor_of, number_of}
@@ -18,8 +17,7 @@ use Rattle.kl1_modules.specs.Numbered.{Numbered}
 use Rattle.kl1_account.specs.declared.draft.Draft.{Draft}
 use Rattle.kl1_account.specs.declared.draft.Change.{Change}
 use Rattle.kl1_account.specs.Fitting.{Reading}
-use Rattle.kl1_account.specs.Kept.{AreGoalsIn, AreUpTo}
-use Rattle.kl1_account.specs.Works.{Knows}
+use Rattle.kl1_account.specs.Kept.{AreUpTo}
 use Rattle.kl1_account.specs.Drafts.{goals_left, without_monitor, made_of, restood}
 use Rattle.kl1_account.specs.Settled.{AreSettled}
 use Rattle.kl1_account.specs.Waking.{is_among, AreSettledOr}

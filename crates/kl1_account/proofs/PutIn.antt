@@ -1,6 +1,6 @@
 -- A draft that is put in place: its goals with their clauses, and its shoen among the others.
 use Rattle.std.proofs.Common.{◌≡◌, ℕ, zero, suc, ◌+◌, ◌-◌, ◌<◌, ◌≤◌, ◌==◌, Bool, true, false, if◌then◌else◌, List, [], ◌∷◌, length, map, refl, sym, ap, ◌∙◌, arith, subst}
-use Rattle.std.specs.Prelude.{Option, Some, None, find, slice_set}
+use Rattle.std.specs.Prelude.{Some, None, find, slice_set}
 use Rattle.std.proofs.lemmas.Bool.{ne_eqb, eq-eqb}
 use Rattle.kl1_model.specs.State as model
 use Rattle.kl1_text.specs.declared.cell_name.CellName.{CellName}

@@ -1,5 +1,5 @@
 -- An account after a reduction.
-use Rattle.std.proofs.Common.{◌≡◌, ℕ, suc, ◌+◌, List, length, refl, sym, ap, ◌∙◌, subst}
+use Rattle.std.proofs.Common.{◌≡◌, ℕ, suc, ◌+◌, List, length, sym, ap, ◌∙◌, subst}
 use Rattle.std.specs.Prelude.{Option, Some, None}
 use Rattle.kl1_model.specs.State.{State}
 use Rattle.kl1_model.specs.Event.{reduce, reduced, refused, refuse, Stepped}
@@ -14,7 +14,7 @@ use Rattle.kl1_account.specs.declared.draft.Draft.{Draft}
 use Rattle.kl1_account.specs.declared.refusal.Refusal.{Refusal}
 use Rattle.kl1_account.specs.Fitting.{Reading, Fits}
 use Rattle.kl1_account.specs.Account.{Account, state_of}
-use Rattle.kl1_account.specs.Kept.{AreOwned, AreUpTo}
+use Rattle.kl1_account.specs.Kept.{AreOwned}
 use Rattle.kl1_account.specs.Keeping.{IsKept}
 use Rattle.kl1_account.specs.Works.{Knows}
 use Rattle.kl1_account.specs.Drafts.{made_of, restood}

@@ -1,5 +1,5 @@
 -- The step of a reduction, of an account as it is kept.
-use Rattle.std.proofs.Common.{◌≡◌, true, false, if◌then◌else◌, ℕ, suc, ◌+◌, ◌-◌, ◌<◌, ◌≤◌, ◌==◌, ◌&&◌, not, Bool, List, [], ◌∷◌, ◌++◌, length, map, refl, sym, ap, ◌∙◌, arith, subst}
+use Rattle.std.proofs.Common.{◌≡◌, true, false, if◌then◌else◌, ℕ, ◌+◌, ◌-◌, ◌<◌, ◌≤◌, ◌==◌, ◌&&◌, Bool, List, [], ◌∷◌, ◌++◌, length, map, refl, sym, ap, ◌∙◌, arith, subst}
 use Rattle.std.specs.Prelude.{Some, None, Option, option_map, filter, find, nat_lt}
 use Rattle.std.proofs.lemmas.Bool.{lt-ltb, le-ltb}
 use Rattle.std.proofs.lemmas.List.{append-nil}
@@ -32,8 +32,8 @@ use Rattle.kl1_modules.specs.Finding.{contents}
 use Rattle.kl1_account.specs.declared.draft.Draft.{Draft}
 use Rattle.kl1_account.specs.declared.refusal.Refusal.TheVariants as refusal
 use Rattle.kl1_account.specs.Fitting.{Reading}
-use Rattle.kl1_account.specs.Account.{Account, Means, meaning, task_with, goal_with, shoen_with, with_kept, state_of}
-use Rattle.kl1_account.specs.Kept.{IsTaskIn, AreGoalsIn, IsOwned, AreOwned, AreUpTo, IsShoenIn, AreShoensIn, AreNumbered}
+use Rattle.kl1_account.specs.Account.{Account, Means, meaning, task_with, goal_with, shoen_with, state_of}
+use Rattle.kl1_account.specs.Kept.{IsTaskIn, AreGoalsIn, IsOwned, AreOwned, AreShoensIn, AreNumbered}
 use Rattle.kl1_account.specs.Works.{Made, with_shoen, worked, HasNumber, Knows}
 use Rattle.kl1_account.specs.Drafts.{goals_left, goals_for, without_monitor, made_of, restood}
 use Rattle.kl1_account.specs.Reducing.{put_in, move_at, reduced_to, Allows, IsBegun, IsDrafted, IsReduction, IsRefused}

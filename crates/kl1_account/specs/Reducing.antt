@@ -9,7 +9,6 @@ use Rattle.kl1_model.specs.Waits.{move_by}
 use Rattle.kl1_model.specs.Event.{reduce, reduced, refuse, most_entries}
 use Rattle.kl1_model.specs.Step.{step}
 use Rattle.kl1_text.specs.declared.cell_name.CellName.{CellName}
-use Rattle.kl1_atoms.specs.declared.known.Known.{Known}
 use Rattle.kl1_store.specs.declared.cell.Cell.{Cell}
 use Rattle.kl1_store.specs.declared.point.Point.{Point}
 use Rattle.kl1_store.specs.Held.{Held}

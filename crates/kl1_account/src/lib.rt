@@ -8,6 +8,7 @@ mod draft;
 mod event;
 mod installing;
 mod limits;
+mod looking;
 mod moving;
 mod names;
 mod numbers;
@@ -17,7 +18,6 @@ mod refusal;
 mod reply;
 mod reporting;
 mod settling;
-mod looking;
 
 pub use account::Account;
 pub use account_name::AccountName;

@@ -1,8 +1,5 @@
-use Rattle.std.specs.Vec.{vec_len}
-use Rattle.std.proofs.Common.{◌≡◌, ◌<◌, ◌≤◌, ◌+◌, ◌^◌, length, arith, sym, subst}
+use Rattle.std.proofs.Common.{◌<◌, ◌+◌, ◌^◌, length, arith, sym}
 use Rattle.std.proofs.lemmas.Result.{on_ok_weaker}
-use Rattle.kl1_account.specs.Drafts.{made_of}
-use Rattle.kl1_account.specs.Works.{IsMadeIn}
 use Rattle.kl1_account.proofs.Drafted.{begins_in, drafted_turns, cells_in, is_drafted}
 use Rattle.kl1_account.proofs.reducing.draft_move.Goals as goal
 

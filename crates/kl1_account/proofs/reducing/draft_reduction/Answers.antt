@@ -1,12 +1,10 @@
-use Rattle.std.proofs.Common.{◌≡◌, ◌+◌, ◌<◌, ◌≤◌, ℕ, true, ◌&&◌, suc, List, length, arith, refl, sym, ◌∙◌, ap, subst}
-use Rattle.std.specs.Prelude.{Option, Some, None, find}
-use Rattle.kl1_model.specs.Event.{is_number}
+use Rattle.std.proofs.Common.{length, refl, sym, subst}
+use Rattle.std.specs.Prelude.{Option}
 use Rattle.kl1_text.specs.declared.cell_name.CellName.{CellName}
 use Rattle.kl1_shoen.specs.declared.shoen.Shoen.{Shoen}
 use Rattle.kl1_moves.specs.declared.moves.Move.{Move}
 use Rattle.kl1_moves.specs.Moves.{MovesAs}
 use Rattle.kl1_modules.specs.Finding.{contents}
-use Rattle.kl1_goals.specs.declared.goal.Goal.{Goal}
 use Rattle.kl1_account.specs.Account.{meaning}
 use Rattle.kl1_account.specs.Kept.{IsShoenIn}
 use Rattle.kl1_account.specs.Reducing.{Allows}

@@ -1,4 +1,3 @@
-use Rattle.std.proofs.Common.{refl}
 use Rattle.std.specs.Prelude.{Some, None}
 use Rattle.kl1_account.specs.Accounts.{kept_in}
 use Rattle.kl1_account.proofs.Choosing.{picks}

@@ -1,4 +1,3 @@
-use Rattle.std.proofs.Common.{refl}
 use Rattle.kl1_account.specs.Accounts.{kept_in}
 use Rattle.kl1_account.proofs.Choosing.{is_quiet}
 use Rattle.kl1_account.proofs.account.Account.quiet.Goals as goal
