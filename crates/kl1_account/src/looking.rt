@@ -38,7 +38,8 @@ pub(crate) fn predicate_of(modules: &Modules, kind: Kind<CellName>) -> Predicate
 }
 
 /// Hangs a number on each variable, but where it was hung on it last.
-fn hang_on(store: &mut Store<CellName>, awaited: &[u32], number: u64) -> Result<(), AllocError> {
+fn hang_on(store: &mut Store<CellName>, awaited: &[u32], number: u64) -> Result<(), AllocError>
+{
     for variable in awaited {
         if store.newest(*variable) != Some(number) {
             store.hang(*variable, number)?;
