@@ -27,3 +27,9 @@ pub mod GoalOrder
 pub mod Reached
 pub mod ModuleNames
 pub mod Loads
+pub mod Choosing
+pub mod LookedAt
+pub mod Drafted
+pub mod PutIn
+pub mod Steps
+pub mod Reduced

@@ -14,3 +14,4 @@ pub mod Moving
 pub mod Looking
 pub mod Tops
 pub mod Loadings
+pub mod Reducing

@@ -12,11 +12,13 @@ ghost use Rattle.kl1_account.specs.Views.{reply_of, chosen_of};
 
 use crate::account_name::AccountName;
 use crate::draft::Draft;
+use crate::installing::install;
 use crate::limits::is_number;
 use crate::loading::{Loading, draft_module, install_module, prepare};
 use crate::names::{AccountNames, publish};
 use crate::numbers::{ClauseNo, GoalNo};
 use crate::printing::print_cell;
+use crate::reducing::draft_reduction;
 use crate::refusal::Refusal;
 use crate::reply::Reply;
 use kl1_atoms::AtomSource;
@@ -109,9 +111,32 @@ impl Account {
         ensures names { self.new.names ≡ self.old.names }
         ensures err { OnErr result (self.new ≡ self.old) }
     {
-        let _ = number;
-        let _ = clause;
-        Err(AllocError)
+        let mark = self.store.mark();
+        let refused = match draft_reduction(
+            &mut self.store,
+            &mut self.goals,
+            &self.shoens,
+            &self.modules,
+            &mut self.trial,
+            &mut self.draft,
+            self.last_goal,
+            self.entries,
+            number,
+            clause,
+        ) {
+            Ok(refused) => refused,
+            Err(error) => {
+                self.store.back(mark);
+                return Err(error);
+            }
+        };
+        if let Some(refusal) = refused {
+            return Ok(Reply::Refused(refusal));
+        }
+        install(&mut self.goals, &mut self.shoens, &self.draft);
+        self.last_goal = self.draft.last_goal + self.draft.cells.len() as u64;
+        self.entries += 1;
+        Ok(Reply::Reduced)
     }
 
     /// Loads a module from its source.

@@ -15,6 +15,7 @@ mod moving;
 mod names;
 mod numbers;
 mod printing;
+mod reducing;
 mod refusal;
 mod reply;
 mod reporting;
