@@ -31,14 +31,14 @@ pending_rest : (n m : ℕ) (pending : List ℕ) → (m ≡ n → ⊥) → is_amo
 pending_rest n m pending other e = sym (ap (λ b. b || is_among m pending) (ne_eqb m n other)) ∙ e
 
 -- a goal of another number
-other_stands : (c : Change) (g : Goal CellName) → (g.number ≡ c.number → ⊥) → restood_by c g ≡ g
+pub other_stands : (c : Change) (g : Goal CellName) → (g.number ≡ c.number → ⊥) → restood_by c g ≡ g
 other_stands c g other = ap (λ b. if b then record g { standing = c.standing } else g) (ne_eqb g.number c.number other)
 
 -- the goal of the number
-same_stands : (c : Change) (g : Goal CellName) → g.number ≡ c.number → restood_by c g ≡ record g { standing = c.standing }
+pub same_stands : (c : Change) (g : Goal CellName) → g.number ≡ c.number → restood_by c g ≡ record g { standing = c.standing }
 same_stands c g e = ap (λ b. if b then record g { standing = c.standing } else g) (eq-eqb g.number c.number e)
 
-found_out : (f : Reading) (hooks : List Hook) (h : Held CellName) (modules : List Numbered) (x : Cell CellName) (c : Change) (g : Goal CellName) → g.number ≡ c.number → g.task ≡ Reduces x → IsFoundOut f hooks h modules x c → IsSettled f hooks h modules (record g { standing = c.standing })
+pub found_out : (f : Reading) (hooks : List Hook) (h : Held CellName) (modules : List Numbered) (x : Cell CellName) (c : Change) (g : Goal CellName) → g.number ≡ c.number → g.task ≡ Reduces x → IsFoundOut f hooks h modules x c → IsSettled f hooks h modules (record g { standing = c.standing })
 found_out f hooks h modules x c g e t s =
     let same : model.reduces (meaning f h x) ≡ task_with (meaning f h) g.task = ap (task_with (meaning f h)) (sym t) in
     let H : ℕ → Type 0 = λ n. HangsOnEach hooks n (awaited_by_task (contents modules) (task_with (meaning f h) g.task)) in

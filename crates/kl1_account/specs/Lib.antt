@@ -12,4 +12,7 @@ pub mod Keeping
 pub mod Accounts
 pub mod Moving
 pub mod Looking
+pub mod Tops
+pub mod Loadings
+pub mod Reducing
 pub mod Starting

@@ -1,5 +1,5 @@
 -- Goals that are looked at again: what is found of them, and that all are settled then.
-use Rattle.std.specs.Prelude.{◌≡◌, ℕ, List, [], ◌∷◌, ◌++◌, find, Some}
+use Rattle.std.specs.Prelude.{◌≡◌, ℕ, ◌<◌, ◌≤◌, List, [], ◌∷◌, ◌++◌, find, Some, None}
 use Rattle.std.specs.List.{AllByRecursion}
 use Rattle.kl1_text.specs.Reading.{Reads}
 use Rattle.kl1_text.specs.declared.cell_name.CellName.{CellName}
@@ -10,6 +10,8 @@ use Rattle.kl1_clause.specs.declared.predicate.Predicate.{Predicate}
 use Rattle.kl1_moves.specs.declared.kind.Kind.{Kind}
 use Rattle.kl1_moves.specs.Kinds.{IsKind}
 use Rattle.kl1_moves.specs.Moves.{HasPredicate}
+use Rattle.kl1_goals.specs.declared.task.Task.{Task}
+use Rattle.kl1_goals.specs.declared.task.Task.TheVariants.{Monitor, Reduces}
 use Rattle.kl1_goals.specs.declared.goal.Goal.{Goal}
 use Rattle.kl1_goals.specs.Lists.{has_number}
 use Rattle.kl1_modules.specs.Numbered.{Numbered}
@@ -20,7 +22,7 @@ use Rattle.kl1_account.specs.Account.{meaning}
 use Rattle.kl1_account.specs.Kept.{AreUpTo}
 use Rattle.kl1_account.specs.Works.{Knows}
 use Rattle.kl1_account.specs.Drafts.{goals_for, restood}
-use Rattle.kl1_account.specs.Settled.{AreSettled}
+use Rattle.kl1_account.specs.Settled.{IsSettled, AreSettled}
 use Rattle.kl1_account.specs.Waking.{AreSettledOr, IsFoundOut}
 
 -- the goal of a number, which is of this kind, was looked at, where these are the clauses of its predicate: there is one
@@ -31,9 +33,22 @@ pub record LooksAt (h : Held CellName) (hooks : List Hook) (kind : Kind CellName
   pub number_is : change.number ≡ number
   pub found : (f : Reading) (modules : List Numbered) (x : Cell CellName) → Reads built f → IsKind f h (meaning f h x) kind → HasPredicate f h (contents modules) kind p → IsFoundOut f hooks h modules x change
 
+-- the goal of a number, which is for this cell, was looked at: there is one change more
+pub record FindsOut (modules : List Numbered) (h : Held CellName) (hooks : List Hook) (x : Cell CellName) (number : ℕ) (before after : List Change) : Type 0 where
+  pub change : Change
+  pub is : after ≡ before ++ change ∷ []
+  pub number_is : change.number ≡ number
+  pub found : (f : Reading) → Knows modules f → IsFoundOut f hooks h modules x change
+
 -- goals that a table finds by their numbers, and none of them has this number
 abbrev pub AreOthersOf : List (Goal CellName) → ℕ → List (Goal CellName) → Type 0
 AreOthersOf goals removed gs = AllByRecursion (λ g. (find (has_number g.number) goals ≡ Some g) × (g.number ≡ removed → ⊥)) gs
+
+-- goals of which that of a number and those of others were pending are settled but for the others, after more changes
+abbrev pub Wakes : List Numbered → Held CellName → List Hook → List Hook → List (Goal CellName) → ℕ → ℕ → List Change → List Change → Type 0
+Wakes modules h hooks more goals removed number before after =
+    (f : Reading) → Knows modules f → (gs : List (Goal CellName)) → AreOthersOf goals removed gs → (told : List ℕ) →
+    AreSettledOr (number ∷ told) f hooks h modules (restood before gs) → AreSettledOr told f more h modules (restood after gs)
 
 -- goals of which only those of these numbers were pending are settled, after more changes
 abbrev pub WakesTold : List Numbered → Held CellName → List Hook → List Hook → List (Goal CellName) → ℕ → List ℕ → List Change → List Change → Type 0
@@ -46,3 +61,25 @@ abbrev pub WakesAdded : List Numbered → Held CellName → List Hook → List H
 WakesAdded modules h hooks more last cells before after =
     (f : Reading) → Knows modules f → (shoen priority : ℕ) (gs : List (Goal CellName)) → AreUpTo last gs →
     AreSettled f hooks h modules (restood before gs) → AreSettled f more h modules (restood after (gs ++ goals_for last shoen priority cells))
+
+-- the goal of a number, which has this task, was looked at; there is nothing to find of a monitor
+abbrev pub FindsTask : List Numbered → Held CellName → List Hook → ℕ → Task CellName → List Change → List Change → Type 0
+FindsTask modules h hooks number Monitor before after = after ≡ before
+FindsTask modules h hooks number (Reduces x) before after = FindsOut modules h hooks x number before after
+
+-- monitors that can't step by a clause
+abbrev pub AreMonitorsIdle : List (Goal CellName) → Type 0
+AreMonitorsIdle goals = AllByRecursion (λ g. g.task ≡ Monitor → g.standing ≡ None) goals
+
+-- a goal is settled where its number is below this one; where it isn't and the goal is a monitor, it can't step by a clause
+pub record IsReached (f : Reading) (hooks : List Hook) (h : Held CellName) (modules : List Numbered) (n : ℕ) (g : Goal CellName) : Type 0 where
+  pub settled : g.number < n → IsSettled f hooks h modules g
+  pub idle : n ≤ g.number → g.task ≡ Monitor → g.standing ≡ None
+
+-- the goals with numbers below this one are settled after changes, where no monitor could step by a clause
+abbrev pub LooksBelow : List Numbered → Held CellName → List Hook → ℕ → List (Goal CellName) → List Change → Type 0
+LooksBelow modules h hooks n goals changes = (f : Reading) → Knows modules f → AreMonitorsIdle goals → AllByRecursion (IsReached f hooks h modules n) (restood changes goals)
+
+-- all goals are settled after changes, where no monitor could step by a clause
+abbrev pub LooksAtAll : List Numbered → Held CellName → List Hook → List (Goal CellName) → List Change → Type 0
+LooksAtAll modules h hooks goals changes = (f : Reading) → Knows modules f → AreMonitorsIdle goals → AreSettled f hooks h modules (restood changes goals)

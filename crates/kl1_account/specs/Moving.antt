@@ -47,3 +47,15 @@ pub record IsMoved (before after : Draft) : Type 0 where
   pub ending : after.is_ending ≡ before.is_ending
   pub last : after.last_goal ≡ before.last_goal
   pub number : after.shoen.number ≡ before.shoen.number
+  pub changes : after.changes ≡ before.changes
+  pub told : after.told ≡ before.told
+
+-- a draft after the look at its shoen: only the shoen may be another, with its number, and it may be ending now
+pub record IsSettling (before after : Draft) : Type 0 where
+  pub removed : after.removed ≡ before.removed
+  pub priority : after.priority ≡ before.priority
+  pub last : after.last_goal ≡ before.last_goal
+  pub number : after.shoen.number ≡ before.shoen.number
+  pub cells : after.cells ≡ before.cells
+  pub changes : after.changes ≡ before.changes
+  pub told : after.told ≡ before.told

@@ -1,10 +1,9 @@
 -- The names of an account with their numbers, and what a table of names keeps of them.
-use Rattle.std.specs.Prelude.{◌≡◌, ℕ, ◌<◌, ◌^◌, List, [], map, Some}
+use Rattle.std.specs.Prelude.{◌≡◌, ℕ, ◌<◌, ◌^◌, List, map, Some}
 use Rattle.std.specs.List.{AllByRecursion}
-use Rattle.kl1_text.specs.declared.atom_no.AtomNo.{AtomNo}
 use Rattle.kl1_text.specs.declared.cell_name.CellName.{CellName}
 use Rattle.kl1_atoms.specs.declared.known.Known.{Known}
-use Rattle.kl1_atoms.specs.Names.{number_by, AreNames}
+use Rattle.kl1_atoms.specs.Names.{number_by}
 use Rattle.kl1_account.specs.Fitting.{Reading, Fits}
 
 -- names with their numbers, in order of first use, and how many more there is room for

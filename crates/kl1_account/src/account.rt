@@ -12,17 +12,22 @@ ghost use Rattle.kl1_account.specs.Views.{reply_of, chosen_of};
 
 use crate::account_name::AccountName;
 use crate::draft::Draft;
+use crate::installing::install;
+use crate::limits::is_number;
+use crate::loading::{Loading, draft_module, install_module, prepare};
 use crate::names::{AccountNames, publish};
 use crate::numbers::{ClauseNo, GoalNo, ShoenNo};
+use crate::printing::print_cell;
+use crate::reducing::draft_reduction;
 use crate::refusal::Refusal;
 use crate::reply::Reply;
 use crate::startable::may_start;
-use crate::starting::{are_too_many, next_goals, next_number, place, prepare};
+use crate::starting::{are_too_many, next_goals, next_number, place, prepare_start};
 use kl1_atoms::AtomSource;
 use kl1_clause::GoalCode;
 use kl1_goals::GoalTable;
 use kl1_match::Scratch;
-use kl1_model::limits::MOST_ENTRIES;
+use kl1_model::limits::{MOST_ENTRIES, MOST_PRINTED_BYTES};
 use kl1_modules::Modules;
 use kl1_moves::Trial;
 use kl1_shoen::ShoenTree;
@@ -110,9 +115,32 @@ impl Account {
         ensures names { self.new.names ≡ self.old.names }
         ensures err { OnErr result (self.new ≡ self.old) }
     {
-        let _ = number;
-        let _ = clause;
-        Err(AllocError)
+        let mark = self.store.mark();
+        let refused = match draft_reduction(
+            &mut self.store,
+            &mut self.goals,
+            &self.shoens,
+            &self.modules,
+            &mut self.trial,
+            &mut self.draft,
+            self.last_goal,
+            self.entries,
+            number,
+            clause,
+        ) {
+            Ok(refused) => refused,
+            Err(error) => {
+                self.store.back(mark);
+                return Err(error);
+            }
+        };
+        if let Some(refusal) = refused {
+            return Ok(Reply::Refused(refusal));
+        }
+        install(&mut self.goals, &mut self.shoens, &self.draft);
+        self.last_goal = self.draft.last_goal + self.draft.cells.len() as u64;
+        self.entries += 1;
+        Ok(Reply::Reduced)
     }
 
     /// Loads a module from its source.
@@ -129,8 +157,37 @@ impl Account {
         ensures keeps { Keeps A.is_of A.place A.knows names.old names.new seat.old seat.new }
         ensures knows { A.knows seat.new ≡ self.new.names }
     {
-        let _ = source;
-        Err(AllocError)
+        let draft = match draft_module(
+            self.alloc,
+            &self.modules,
+            &self.names,
+            self.entries,
+            source,
+        )? {
+            Loading::Refused(refusal) => return Ok(Reply::Refused(refusal)),
+            Loading::Drafted(draft) => draft,
+        };
+        let mut row = prepare(
+            self.alloc,
+            &mut self.store,
+            &self.goals,
+            &mut self.modules,
+            &mut self.names,
+            &mut self.trial,
+            &draft,
+            &mut self.draft.changes,
+        )?;
+        publish(names, seat, &mut self.names, draft.code().names(), &mut row);
+        let name = draft.code().module_name();
+        install_module(
+            &mut self.goals,
+            &mut self.modules,
+            draft,
+            row.as_slice(),
+            self.draft.changes.as_slice(),
+        );
+        self.entries += 1;
+        Ok(Reply::Loaded(name))
     }
 
     /// Starts a goal in a shoen of its own.
@@ -166,7 +223,7 @@ impl Account {
         let shoen = next_number(self.shoens.len())?;
         let mut numbers = Vec::new(self.alloc);
         let mut scratch = Scratch::new(self.alloc);
-        let opening = prepare(
+        let opening = prepare_start(
             &mut self.store,
             &mut self.goals,
             &mut self.shoens,
@@ -213,7 +270,22 @@ impl Account {
         ensures keeps { Keeps A.is_of A.place A.knows names.old names.new seat.old seat.new }
         ensures knows { A.knows seat.new ≡ self.now.names }
     {
-        let _ = number;
-        Err(AllocError)
+        if !is_number(number) {
+            return Ok(Reply::Refused(Refusal::Syntax));
+        }
+        match self.shoens.origin_at(number) {
+            None => Ok(Reply::Refused(Refusal::NoShoen)),
+            Some(origin) => {
+                let text = print_cell(
+                    self.alloc,
+                    names,
+                    seat,
+                    &self.store,
+                    origin.goal,
+                    MOST_PRINTED_BYTES,
+                )?;
+                Ok(Reply::Shown(text))
+            }
+        }
     }
 }

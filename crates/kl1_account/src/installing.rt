@@ -1,14 +1,15 @@
 // Drafts that are put in place.
 
-ghost use Rattle.std.specs.Prelude.{◌≡◌, ◌+◌, ◌<◌, ◌≤◌, ◌^◌, length};
+ghost use Rattle.std.specs.Prelude.{◌≡◌, ◌+◌, ◌<◌, ◌≤◌, ◌^◌, ◌++◌, length};
 ghost use Rattle.kl1_model.specs.Limits.{monitor_priority};
 ghost use Rattle.kl1_shoen.specs.Shoens.{exchanged};
 ghost use Rattle.kl1_account.specs.Kept.{AreUpTo};
-ghost use Rattle.kl1_account.specs.Drafts.{made_of, restood};
+ghost use Rattle.kl1_account.specs.Drafts.{goals_for, made_of, restood};
 
-use crate::draft::Draft;
+use crate::draft::{Change, Draft};
 use kl1_goals::{Goal, GoalTable, Task};
 use kl1_shoen::ShoenTree;
+use kl1_store::Cell;
 use kl1_text::CellName;
 
 /// Puts a draft in place of what it leaves of the goals and the shoens. There has to be room for its goals.
@@ -31,19 +32,53 @@ pub(crate) fn install(
     if draft.is_ending {
         goals.remove_monitor(draft.shoen.number);
     }
-    let mut number = draft.last_goal;
-    for cell in &draft.cells {
+    put_goals(
+        goals,
+        draft.last_goal,
+        draft.shoen.number,
+        draft.priority,
+        &draft.cells,
+    );
+    restand(goals, &draft.changes);
+    shoens.set(draft.shoen);
+}
+
+/// Puts goals for cells after all others: of a shoen, with a priority and the numbers after the last. There has to be room.
+fn put_goals(
+    goals: &mut GoalTable<CellName>,
+    last_goal: u64,
+    shoen: u64,
+    priority: u64,
+    cells: &[Cell<CellName>],
+)
+    requires room { length cells.now ≤ goals.old.room }
+    requires fits { last_goal + length cells.now < 2 ^ 64 }
+    requires last { AreUpTo last_goal goals.old.goals }
+    requires low { 0 < shoen }
+    requires high { shoen ≤ goals.old.shoens }
+    requires priority { priority ≤ monitor_priority }
+    ensures goals { goals.new.goals ≡ goals.old.goals ++ goals_for last_goal shoen priority cells.now }
+    ensures count { goals.new.shoens ≡ goals.old.shoens }
+{
+    let mut number = last_goal;
+    for cell in cells {
         number += 1;
         goals.put(Goal {
             number,
             task: Task::Reduces(*cell),
-            shoen: draft.shoen.number,
-            priority: draft.priority,
+            shoen,
+            priority,
             standing: None,
         });
     }
-    for change in &draft.changes {
+}
+
+/// Makes changes one after another.
+fn restand(goals: &mut GoalTable<CellName>, changes: &[Change])
+    ensures goals { goals.new.goals ≡ restood changes.now goals.old.goals }
+    ensures count { goals.new.shoens ≡ goals.old.shoens }
+{
+    for change in changes {
         goals.set_standing(change.number, change.standing);
     }
-    shoens.set(draft.shoen);
 }

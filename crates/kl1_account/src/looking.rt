@@ -1,18 +1,20 @@
 // Goals that are looked at again.
 
-ghost use Rattle.std.specs.Prelude.{◌≡◌, ◌+◌, ◌<◌, ◌^◌, length, OnOk};
+ghost use Rattle.std.specs.Prelude.{◌≡◌, ◌+◌, ◌<◌, ◌^◌, length, Contains, OnOk};
 ghost use Rattle.kl1_model.specs.Term.{Term};
 ghost use Rattle.kl1_text.specs.declared.cell_name.CellName.{CellName};
-ghost use Rattle.kl1_store.specs.Held.{Held, AreIn};
+ghost use Rattle.kl1_store.specs.Held.{Held, IsIn, AreIn};
 ghost use Rattle.kl1_store.specs.Hooks.{HasGrown};
 ghost use Rattle.kl1_clause.specs.Predicates.{AreSome};
+ghost use Rattle.kl1_match.specs.Waiting.{AreUnbound};
 ghost use Rattle.kl1_moves.specs.Kinds.{IsKind, KindIn};
 ghost use Rattle.kl1_moves.specs.Moves.{HasPredicate};
 ghost use Rattle.kl1_modules.specs.Finding.{contents};
 ghost use Rattle.kl1_account.specs.Fitting.{Reading};
 ghost use Rattle.kl1_account.specs.Kept.{AreGoalsIn};
 ghost use Rattle.kl1_account.specs.Works.{Knows};
-ghost use Rattle.kl1_account.specs.Looking.{LooksAt, WakesTold, WakesAdded};
+ghost use Rattle.kl1_account.specs.Settled.{HangsOnEach};
+ghost use Rattle.kl1_account.specs.Looking.{LooksAt, FindsOut, Wakes, WakesTold, WakesAdded};
 
 use crate::draft::Change;
 use kl1_clause::Predicate;
@@ -37,12 +39,28 @@ pub(crate) fn predicate_of(modules: &Modules, kind: Kind<CellName>) -> Predicate
     }
 }
 
-/// Hangs a number on each variable, but where it was hung on it last.
-fn hang_on(store: &mut Store<CellName>, awaited: &[u32], number: u64) -> Result<(), AllocError> {
+/// Hangs a number on a variable, but where it was hung on it last. Where memory is refused, nothing more hangs.
+fn hang_once(store: &mut Store<CellName>, variable: u32, number: u64) -> Result<(), AllocError>
+    requires { variable < store.old.held.variables }
+    ensures hangs { OnOk result (Contains store.new.hooks (record { variable = variable; number = number })) }
+    ensures held { store.new.held ≡ store.old.held }
+    ensures grown { HasGrown store.old store.new }
+{
+    if store.newest(variable) == Some(number) {
+        return Ok(());
+    }
+    store.hang(variable, number)
+}
+
+/// Hangs a number on each of these variables. Where memory is refused, it may hang on some of them.
+fn hang_on(store: &mut Store<CellName>, awaited: &[u32], number: u64) -> Result<(), AllocError>
+    requires { AreUnbound store.old.held awaited.now }
+    ensures hangs { OnOk result (HangsOnEach store.new.hooks number awaited.now) }
+    ensures held { store.new.held ≡ store.old.held }
+    ensures grown { HasGrown store.old store.new }
+{
     for variable in awaited {
-        if store.newest(*variable) != Some(number) {
-            store.hang(*variable, number)?;
-        }
+        hang_once(store, *variable, number)?;
     }
     Ok(())
 }
@@ -69,6 +87,52 @@ pub(crate) fn look_at(
     Ok(())
 }
 
+/// Looks at the goal of a number, which is for a cell.
+fn look_at_cell(
+    store: &mut Store<CellName>,
+    modules: &Modules,
+    trial: &mut Trial<CellName>,
+    number: u64,
+    cell: Cell<CellName>,
+    changes: &mut Vec<Change>,
+) -> Result<(), AllocError>
+    requires { IsIn store.old.held cell }
+    ensures finds { OnOk result (FindsOut modules.now.loaded store.old.held store.new.hooks cell number changes.old.items changes.new.items) }
+    ensures held { store.new.held ≡ store.old.held }
+    ensures grown { HasGrown store.old store.new }
+{
+    let kind = kind_of(store, cell);
+    let predicate = predicate_of(modules, kind);
+    look_at(store, kind, predicate, trial, number, changes)
+}
+
+/// Looks at the goal of a number, where it is there, is no monitor, and is not the one that is removed.
+fn wake(
+    store: &mut Store<CellName>,
+    goals: &GoalTable<CellName>,
+    modules: &Modules,
+    trial: &mut Trial<CellName>,
+    removed: u64,
+    number: u64,
+    changes: &mut Vec<Change>,
+) -> Result<(), AllocError>
+    requires { AreGoalsIn store.old.held goals.now.goals }
+    ensures wakes { OnOk result (Wakes modules.now.loaded store.old.held store.old.hooks store.new.hooks goals.now.goals removed number changes.old.items changes.new.items) }
+    ensures held { store.new.held ≡ store.old.held }
+    ensures grown { HasGrown store.old store.new }
+{
+    if number == removed {
+        return Ok(());
+    }
+    match goals.get(number) {
+        None => Ok(()),
+        Some(goal) => match goal.task {
+            Task::Monitor => Ok(()),
+            Task::Reduces(cell) => look_at_cell(store, modules, trial, number, cell, changes),
+        },
+    }
+}
+
 /// Looks at the goals of these numbers that are there, but the one that is removed. Where memory is refused, more may hang.
 pub(crate) fn wake_told(
     store: &mut Store<CellName>,
@@ -85,20 +149,7 @@ pub(crate) fn wake_told(
     ensures grown { HasGrown store.old store.new }
 {
     for number in told {
-        if *number == removed {
-            continue;
-        }
-        let Some(goal) = goals.get(*number) else {
-            continue;
-        };
-        match goal.task {
-            Task::Monitor => {}
-            Task::Reduces(cell) => {
-                let kind = kind_of(store, cell);
-                let predicate = predicate_of(modules, kind);
-                look_at(store, kind, predicate, trial, *number, changes)?;
-            }
-        }
+        wake(store, goals, modules, trial, removed, *number, changes)?;
     }
     Ok(())
 }
@@ -121,9 +172,7 @@ pub(crate) fn wake_added(
     let mut number = last_goal;
     for cell in cells {
         number += 1;
-        let kind = kind_of(store, *cell);
-        let predicate = predicate_of(modules, kind);
-        look_at(store, kind, predicate, trial, number, changes)?;
+        look_at_cell(store, modules, trial, number, *cell, changes)?;
     }
     Ok(())
 }

@@ -1,6 +1,6 @@
 // The names that an account uses, with their numbers.
 
-ghost use Rattle.std.specs.Prelude.{◌≡◌, ℕ, ◌+◌, ◌≤◌, ◌<◌, List, [], map, length, option_map, OnOk, vec_len, vec_capacity};
+ghost use Rattle.std.specs.Prelude.{◌≡◌, ℕ, ◌+◌, ◌≤◌, ◌<◌, List, [], map, length, option_map, OnOk, IfOk, vec_len, vec_capacity};
 ghost use Rattle.kl1_model.specs.Limits.{most_names};
 ghost use Rattle.kl1_text.specs.declared.cell_name.CellName.{CellName};
 ghost use Rattle.kl1_atoms.specs.Names.{number_by, added, AreNames};
@@ -120,6 +120,7 @@ pub fn draft_row(
         match names.number_of(text) {
             Some(number) => row.push(number)?,
             None => {
+                text.shows_text();
                 row.push(CellName::spare(spare))?;
                 spare = next_spare(spare)?;
             }
@@ -130,7 +131,8 @@ pub fn draft_row(
 
 /// The spare number after one. Numbers that run out are refused as for want of memory.
 fn next_spare(spare: u32) -> Result<u32, AllocError>
-    ensures { OnOk result (spare < 0xffff_ffff) }
+    ensures below { OnOk result (spare < 0xffff_ffff) }
+    ensures next { IfOk result (λ next. next ≡ spare + 1) }
 {
     spare.checked_add(1).ok_or(AllocError)
 }

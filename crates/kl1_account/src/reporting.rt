@@ -9,6 +9,7 @@ ghost use Rattle.kl1_store.specs.Sound.{Grown};
 ghost use Rattle.kl1_account.specs.Account.{meaning};
 ghost use Rattle.kl1_account.specs.Kept.{IsShoenIn};
 ghost use Rattle.kl1_account.specs.Drafts.{DraftsAll};
+ghost use Rattle.kl1_account.specs.Moving.{IsMoved};
 
 use crate::draft::Draft;
 use kl1_model::BuiltIn;
@@ -27,6 +28,8 @@ pub(crate) fn report(
     requires shoen { IsShoenIn store.old.held draft.old.shoen }
     ensures ok { OnOk result (DraftsAll (λ f. report draft.old.shoen.number (meaning f store.old.held message)) store.old.held store.new.held draft.old draft.new) }
     ensures shoen { OnOk result (IsShoenIn store.new.held draft.new.shoen) }
+    ensures moved { IsMoved draft.old draft.new }
+    ensures cells { draft.new.cells ≡ draft.old.cells }
     ensures grown { Grown store.old.held store.new.held }
     ensures hooks { store.new.hooks ≡ store.old.hooks }
 {
@@ -52,6 +55,9 @@ pub fn raise(
     requires goal { IsIn store.old.held goal }
     requires shoen { IsShoenIn store.old.held draft.old.shoen }
     ensures ok { OnOk result (DraftsAll (λ f. report draft.old.shoen.number (exception failure (meaning f store.old.held goal))) store.old.held store.new.held draft.old draft.new) }
+    ensures shoen { OnOk result (IsShoenIn store.new.held draft.new.shoen) }
+    ensures moved { IsMoved draft.old draft.new }
+    ensures cells { draft.new.cells ≡ draft.old.cells }
     ensures grown { Grown store.old.held store.new.held }
     ensures hooks { store.new.hooks ≡ store.old.hooks }
 {
@@ -72,6 +78,9 @@ pub fn unify(
     requires right { IsIn store.old.held right }
     requires shoen { IsShoenIn store.old.held draft.old.shoen }
     ensures ok { OnOk result (DraftsAll (λ f s. unified draft.old.shoen.number (meaning f store.old.held goal) (solve (equation (meaning f store.old.held left) (meaning f store.old.held right))) s) store.old.held store.new.held draft.old draft.new) }
+    ensures shoen { OnOk result (IsShoenIn store.new.held draft.new.shoen) }
+    ensures moved { IsMoved draft.old draft.new }
+    ensures cells { draft.new.cells ≡ draft.old.cells }
     ensures grown { Grown store.old.held store.new.held }
     ensures hooks { store.new.hooks ≡ store.old.hooks }
 {

@@ -6,6 +6,7 @@ ghost use Rattle.kl1_store.specs.Sound.{Grown};
 ghost use Rattle.kl1_account.specs.Kept.{IsShoenIn};
 ghost use Rattle.kl1_modules.specs.Numbered.{Numbered};
 ghost use Rattle.kl1_account.specs.Drafts.{Drafts, DraftsAll};
+ghost use Rattle.kl1_account.specs.Moving.{IsSettling};
 
 use crate::draft::Draft;
 use crate::reporting::{close, report};
@@ -21,6 +22,8 @@ fn terminate(store: &mut Store<CellName>, draft: &mut Draft) -> Result<(), Alloc
     requires shoen { IsShoenIn store.old.held draft.old.shoen }
     requires living { draft.old.is_ending ≡ false }
     ensures ok { OnOk result (DraftsAll (λ f. terminate draft.old.shoen.number) store.old.held store.new.held draft.old draft.new) }
+    ensures shoen { OnOk result (IsShoenIn store.new.held draft.new.shoen) }
+    ensures settling { IsSettling draft.old draft.new }
     ensures grown { Grown store.old.held store.new.held }
     ensures hooks { store.new.hooks ≡ store.old.hooks }
 {
@@ -39,6 +42,8 @@ pub fn settle(
     requires shoen { IsShoenIn store.old.held draft.old.shoen }
     requires living { draft.old.is_ending ≡ false }
     ensures ok { OnOk result ((ms : List Numbered) → Drafts ms (λ f. settle draft.old.shoen.number) store.old.held store.new.held goals.now.goals draft.old draft.new) }
+    ensures shoen { OnOk result (IsShoenIn store.new.held draft.new.shoen) }
+    ensures settling { IsSettling draft.old draft.new }
     ensures grown { Grown store.old.held store.new.held }
     ensures hooks { store.new.hooks ≡ store.old.hooks }
 {

@@ -95,7 +95,7 @@ fn reserve_start(
 
 /// Drafts a start of the goal of these names and this row, which has so many variables, and makes the room that it takes: nothing of
 /// it can be refused then. Where memory is refused, the store holds what it held.
-pub(crate) fn prepare(
+pub(crate) fn prepare_start(
     store: &mut Store<CellName>,
     goals: &mut GoalTable<CellName>,
     shoens: &mut ShoenTree<CellName>,

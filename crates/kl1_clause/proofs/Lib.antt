@@ -4,6 +4,7 @@ pub mod Growth
 pub mod PutNodes
 pub mod ClauseFacts
 pub mod CodeFacts
+pub mod GoalCodes
 pub mod Predicates
 pub mod Soundness
 pub mod Together

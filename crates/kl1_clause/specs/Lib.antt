@@ -1,5 +1,6 @@
 pub mod Clauses
 pub mod Codes
+pub mod GoalCodes
 pub mod Instructions
 pub mod ModuleCode
 pub mod Modules

@@ -4,6 +4,7 @@
 mod code;
 mod code_fault;
 mod compiled_clause;
+mod goal_code;
 mod instruction;
 mod name;
 mod names;
@@ -13,6 +14,7 @@ mod rows;
 pub use code::Code;
 pub use code_fault::CodeFault;
 pub use compiled_clause::CompiledClause;
+pub use goal_code::GoalCode;
 pub use instruction::Instruction;
 pub use name::Name;
 pub use predicate::Predicate;

@@ -31,7 +31,7 @@ pub(crate) fn row_of(
 }
 
 /// Puts the instructions of nodes behind the others.
-fn put_nodes(
+pub(crate) fn put_nodes(
     names: &mut Names,
     row: &mut Vec<Instruction>,
     nodes: &[Node],

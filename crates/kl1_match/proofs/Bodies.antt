@@ -25,7 +25,7 @@ use Rattle.kl1_match.proofs.Built.{within_more}
 use Rattle.kl1_match.proofs.Places.{kept_with}
 
 -- the variables of a row are below a number that its greatest is below
-rows_below : (names : List (List ℕ)) (row : List Instruction) (count : ℕ) → highest_in (map (code_in names) row) < count → AreBelow count row
+pub rows_below : (names : List (List ℕ)) (row : List Instruction) (count : ℕ) → highest_in (map (code_in names) row) < count → AreBelow count row
 rows_below names [] count h = tt
 rows_below names (Variable n ∷ is) count h = (omega (arith, h), rows_below names is count (omega (arith, h)))
 rows_below names (Integer i ∷ is) count h = (omega (arith, h), rows_below names is count h)

@@ -1,6 +1,6 @@
 -- Clauses that are tried one after another.
 use Rattle.std.proofs.Common.{◌≡◌, ℕ, zero, suc, ◌+◌, ◌<◌, ◌≤◌, Bool, true, false, List, [], ◌∷◌, ◌++◌, length, map, drop, get_or, refl, sym, ap, ◌∙◌, subst, arith, append_assoc, append-nil}
-use Rattle.std.specs.Prelude.{Option, Some, None}
+use Rattle.std.specs.Prelude.{Some}
 use Rattle.std.proofs.lemmas.List.{drop_all}
 use Rattle.kl1_model.specs.declared.built_in.BuiltIn.{BuiltIn}
 use Rattle.kl1_model.specs.Term.{Terms}
@@ -20,7 +20,7 @@ use Rattle.kl1_match.specs.declared.verdict.Verdict.TheVariants.{Accepts, Reject
 use Rattle.kl1_match.specs.Instances.{IsClause}
 use Rattle.kl1_match.specs.Waiting.{AreUnbound}
 use Rattle.kl1_match.specs.Verdicts.{arguments_of_goal, verdict_with_places, IsVerdict}
-use Rattle.kl1_match.specs.Choices.{AreClauses, Chooses, IsChoice}
+use Rattle.kl1_match.specs.Choices.{AreClauses, IsChoice}
 
 -- ---- clauses at places
 

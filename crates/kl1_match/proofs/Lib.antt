@@ -1,6 +1,7 @@
 pub mod Rows
 pub mod Steps
 pub mod Built
+pub mod Rooms
 pub mod Places
 pub mod Bodies
 pub mod BuiltNodes
@@ -11,3 +12,4 @@ pub mod Whole
 pub mod Beside
 pub mod Choosing
 pub mod Stays
+pub mod GoalCells

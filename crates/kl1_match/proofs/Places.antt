@@ -107,7 +107,7 @@ at_right [] ys i j d e = let same : j ≡ i = omega (arith, e) in ap (λ n. slic
 at_right (x ∷ xs) ys i zero d e = absurd (omega (arith, e))
 at_right (x ∷ xs) ys i (suc j) d e = at_right xs ys i j d (omega (arith, e))
 
-at_fresh : {N : Type 0} (n k i : ℕ) (d : Cell N) → i < k → slice_index_or (fresh_cells n k) i d ≡ Variable (n + i)
+pub at_fresh : {N : Type 0} (n k i : ℕ) (d : Cell N) → i < k → slice_index_or (fresh_cells n k) i d ≡ Variable (n + i)
 at_fresh n zero i d h = absurd (omega (arith, h))
 at_fresh n (suc k) zero d h = let e : n ≡ n + 0 = omega arith in ap (λ m. Variable m) e
 at_fresh n (suc k) (suc i) d h = let e : suc n + i ≡ n + suc i = omega arith in at_fresh (suc n) k i d (omega (arith, h)) ∙ ap (λ m. Variable m) e

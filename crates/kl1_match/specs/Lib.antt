@@ -9,3 +9,5 @@ pub mod Matching
 pub mod Verdicts
 pub mod Choices
 pub mod Stays
+pub mod Rooms
+pub mod GoalCells

@@ -1,11 +1,14 @@
 // The instance of a clause's body.
 
-ghost use Rattle.std.specs.Prelude.{◌≡◌, ℕ, ◌<◌, List, [], length, map, IfOk, OnOk};
+ghost use Rattle.std.specs.Prelude.{◌≡◌, ℕ, ◌<◌, List, [], length, map, IfOk, OnOk, IsOk, vec_capacity};
 ghost use Rattle.kl1_text.specs.Reading.{Reads};
 ghost use Rattle.kl1_store.specs.Held.{AreIn};
 ghost use Rattle.kl1_store.specs.Sound.{Grown};
+ghost use Rattle.kl1_store.specs.Spending.{Spends};
 ghost use Rattle.kl1_clause.specs.Instructions.{IsNamed, AreNamed, code_in};
 ghost use Rattle.kl1_match.specs.Instances.{IsClause, AreThere, IsInstance};
+ghost use Rattle.kl1_match.specs.Matching.{arguments_after};
+ghost use Rattle.kl1_match.specs.Rooms.{structures_at, structures_in, arguments_in, step_structures, step_arguments, HasRoomForRow};
 ghost use Rattle.kl1_match.specs.Steps.{step_code, IsBelow};
 ghost use Rattle.kl1_match.specs.Variables.{AreVariables};
 ghost use Rattle.kl1_match.specs.Built.{IsWithinRow, AreBelow, BuildsRow};
@@ -27,6 +30,8 @@ fn step_in<N: NameValue>(names: &[N], instruction: Instruction) -> Step<N>
     requires { IsNamed (length names.now) instruction }
     ensures code { (f : N → List ℕ) → Reads N.built f → step_code f result ≡ code_in (map f names.now) instruction }
     ensures below { (count : ℕ) → IsWithinRow count instruction → IsBelow count result }
+    ensures structures { step_structures result ≡ structures_at instruction }
+    ensures arguments { step_arguments result ≡ arguments_after instruction }
 {
     match instruction {
         Instruction::Variable(number) => Step::Variable(number),
@@ -38,7 +43,7 @@ fn step_in<N: NameValue>(names: &[N], instruction: Instruction) -> Step<N>
 
 /// Puts on an empty stack the cells of the terms of a row, the last of them first. `variables` has a cell for each variable,
 /// by its number from 0. Where memory is refused, the stack is of no use.
-fn put_row<N: NameValue>(
+pub(crate) fn put_row<N: NameValue>(
     store: &mut Store<N>,
     names: &[N],
     variables: &[Cell<N>],
@@ -54,6 +59,9 @@ fn put_row<N: NameValue>(
     ensures hooks { store.new.hooks ≡ store.old.hooks }
     ensures bindings { store.new.held.bindings ≡ store.old.held.bindings }
     ensures rows { OnOk result (BuildsRow N.built names.now store.old.held store.new.held variables.now row.now stack.new.items) }
+    ensures room { HasRoomForRow store.old.room (vec_capacity stack.old) (vec_capacity arguments.old) row.now → IsOk result }
+    ensures spends { OnOk result (Spends store.old.room store.new.room 0 (structures_in row.now) (arguments_in row.now) 0) }
+    ensures hook_room { store.new.hook_room ≡ store.old.hook_room }
 {
     let mut left = row.len();
     while 0 < left {

@@ -4,6 +4,7 @@
 mod arguments;
 mod building;
 mod choice;
+mod goal_cells;
 mod goals;
 mod instances;
 mod meets;
@@ -18,6 +19,7 @@ mod verdict;
 mod verdicts;
 
 pub use choice::choose;
+pub use goal_cells::{put_goal, put_goal_variables, reserve_goal, reserve_goal_beside};
 pub use goals::build_goal;
 pub use instances::{instance, put_instance};
 pub use name_in::name_at;

@@ -9,7 +9,7 @@ ghost use Rattle.kl1_match.specs.Matching.{arguments_after, joined};
 use kl1_clause::Instruction;
 
 /// How many arguments follow an instruction.
-fn arguments_of(instruction: Instruction) -> usize
+pub(crate) fn arguments_of(instruction: Instruction) -> usize
     ensures { result ≡ arguments_after instruction }
 {
     match instruction {

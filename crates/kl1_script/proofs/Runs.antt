@@ -30,3 +30,13 @@ none_left s after n most h less e = let same : most ≡ n + suc (most - n - 1) =
 -- a run whose next step is refused
 pub next_refused : (s after : State) (n most : ℕ) (r : Refusal) → GoesOn s n after → n < most → ((next : Going) (k : ℕ) → run_choice next after k (first after) ≡ stopped_by after k r) → run_from most 0 s ≡ stopped_by after n r
 next_refused s after n most r h less stops = let same : most ≡ n + suc (most - n - 1) = omega arith in ap (λ k. run_from k 0 s) same ∙ h (suc (most - n - 1)) ∙ stops (run_from (most - n - 1)) n
+
+-- so where the account after the last look is the same by another name
+pub left_quiet : (s after last : State) (n most : ℕ) → GoesOn s n after → n < most → first after ≡ None → last ≡ after → run_from most 0 s ≡ record { state = last; reply = ran n }
+left_quiet s after last n most h less e same = none_left s after n most h less e ∙ ap (λ (x : State). record { state = x; reply = ran n }) (sym same)
+
+pub left_refused : (s after last : State) (n most : ℕ) (r : Refusal) → GoesOn s n after → n < most → ((next : Going) (k : ℕ) → run_choice next after k (first after) ≡ stopped_by after k r) → last ≡ after → run_from most 0 s ≡ stopped_by last n r
+left_refused s after last n most r h less stops same = next_refused s after n most r h less stops ∙ ap (λ (x : State). stopped_by x n r) (sym same)
+
+pub left_short : (s after last : State) (n : ℕ) → GoesOn s n after → last ≡ after → run_from n 0 s ≡ record { state = last; reply = ran n }
+left_short s after last n h same = all_done s after n h ∙ ap (λ (x : State). record { state = x; reply = ran n }) (sym same)

@@ -4,7 +4,8 @@ use Rattle.kl1_model.specs.State.{State}
 use Rattle.kl1_model.specs.Event as model
 use Rattle.kl1_model.specs.Command.{Command, does, run, Going, run_choice, stopped_by, run_from, act}
 use Rattle.kl1_model.specs.Choice.{first}
-use Rattle.kl1_user.specs.Views.{refusal_of, reply_of}
+use Rattle.kl1_account.specs.Views.{refusal_of, reply_of}
+use Rattle.kl1_account.specs.Account.{Account}
 use Rattle.kl1_script.specs.declared.performed.Performed.{Performed}
 use Rattle.kl1_script.specs.declared.performed.Performed.TheVariants as performed
 use Rattle.kl1_script.specs.declared.first_step.FirstStep.{FirstStep}
@@ -43,3 +44,16 @@ IsFirstStep s first_step.Quiet after = (first s ≡ None) × (after ≡ s)
 IsFirstStep s first_step.Done after = (next : Going) (n : ℕ) → run_choice next s n (first s) ≡ next (suc n) after
 IsFirstStep s (first_step.Refused r) after = ((next : Going) (n : ℕ) → run_choice next s n (first s) ≡ stopped_by s n (refusal_of r)) × (after ≡ s)
 IsFirstStep s first_step.Memory after = after ≡ s
+
+-- where memory was refused at once, the account is as it was
+abbrev pub IsUntouched : Performed → Account → Account → Type 0
+IsUntouched (performed.Whole reply) before after = Unit {0}
+IsUntouched (performed.Short n) before after = Unit {0}
+IsUntouched performed.Memory before after = after ≡ before
+
+-- where memory was refused at the first step, the account is as it was
+abbrev pub IsStepUntouched : FirstStep → Account → Account → Type 0
+IsStepUntouched first_step.Quiet before after = Unit {0}
+IsStepUntouched first_step.Done before after = Unit {0}
+IsStepUntouched (first_step.Refused r) before after = Unit {0}
+IsStepUntouched first_step.Memory before after = after ≡ before

@@ -4,6 +4,9 @@ ghost use Rattle.std.specs.Prelude.{◌≡◌, ◌++◌, ◌<◌, length, OnOk, 
 ghost use Rattle.kl1_model.specs.Command.{act, reply_lines};
 ghost use Rattle.kl1_model.specs.Limits.{most_waiting_bytes};
 ghost use Rattle.kl1_model.specs.Script.{is_served, written_reply};
+ghost use Rattle.kl1_account.specs.Fitting.{Reading, Fits};
+ghost use Rattle.kl1_account.specs.Account.{state_of};
+ghost use Rattle.kl1_account.specs.Naming.{Grows};
 ghost use Rattle.kl1_script.specs.Commands.{command_view};
 ghost use Rattle.kl1_lines.specs.Records.{request_of};
 ghost use Rattle.kl1_script.specs.Told.{state_by, told_by};
@@ -12,8 +15,10 @@ use crate::command::Command;
 use crate::parsed::{Parsed, command_in};
 use crate::performed::{Performed, perform};
 use crate::replies::put_reply_of;
+use crate::served::Served;
+use kl1_atoms::AtomSource;
 use kl1_lines::{Record, is_same};
-use kl1_user::{AccountName, Refusal, Reply, UserState};
+use kl1_user::{AccountName, Refusal, Reply};
 use std::alloc::{AllocError, Global};
 
 /// Whether a name is that of the account that is served, which is the first.
@@ -28,40 +33,42 @@ fn is_served(accounts: &[AccountName], name: &[u8]) -> bool
 
 /// Does the command of a record, and puts what is written for it after the bytes. After an `Err` the bytes are as they
 /// were, and a run's first steps may be done.
-pub(crate) fn put_record(
+pub(crate) fn put_record<A: AtomSource + Drop>(
     alloc: Global,
     accounts: &[AccountName],
-    user: &mut UserState,
+    served: &mut Served<A>,
     found: Record<'_>,
     out: &mut Vec<u8>,
 ) -> Result<(), AllocError>
     requires few { length out.old.items < most_waiting_bytes }
-    ensures user { OnOk result (user.new ≡ state_by accounts.now user.old (record { name = found.entry.name.now; request = request_of found.entry.request })) }
-    ensures reply { OnOk result (out.new.items ≡ out.old.items ++ told_by accounts.now user.old (record { name = found.entry.name.now; request = request_of found.entry.request })) }
+    ensures state { OnOk result ((f : Reading) → Fits served.new.names f → state_of f served.new ≡ state_by accounts.now (state_of f served.old) (record { name = found.entry.name.now; request = request_of found.entry.request })) }
+    ensures reply { OnOk result ((f : Reading) → Fits served.new.names f → out.new.items ≡ out.old.items ++ told_by accounts.now (state_of f served.old) (record { name = found.entry.name.now; request = request_of found.entry.request })) }
+    ensures grows { Grows served.old.names served.new.names }
     ensures err { OnErr result (out.new.items ≡ out.old.items) }
 {
     if !is_served(accounts, found.name) {
         return out.extend_from_slice(b"! account\n");
     }
     match command_in(alloc, found.request) {
-        Ok(Parsed::Command(command)) => put_performed(user, &command, found.name, out),
+        Ok(Parsed::Command(command)) => put_performed(served, &command, found.name, out),
         Ok(Parsed::Refused) => put_reply_of(out, found.name, &Reply::Refused(Refusal::Syntax)),
         Err(error) => Err(error),
     }
 }
 
 /// Does a command, and puts its reply after the bytes.
-fn put_performed(
-    user: &mut UserState,
+fn put_performed<A: AtomSource + Drop>(
+    served: &mut Served<A>,
     command: &Command,
     name: &[u8],
     out: &mut Vec<u8>,
 ) -> Result<(), AllocError>
-    ensures user { OnOk result (user.new ≡ (act user.old (command_view command.now)).state) }
-    ensures reply { OnOk result (out.new.items ≡ out.old.items ++ written_reply name.now (reply_lines (act user.old (command_view command.now)).reply)) }
+    ensures state { OnOk result ((f : Reading) → Fits served.new.names f → state_of f served.new ≡ (act (state_of f served.old) (command_view command.now)).state) }
+    ensures reply { OnOk result ((f : Reading) → Fits served.new.names f → out.new.items ≡ out.old.items ++ written_reply name.now (reply_lines (act (state_of f served.old) (command_view command.now)).reply)) }
+    ensures grows { Grows served.old.names served.new.names }
     ensures err { OnErr result (out.new.items ≡ out.old.items) }
 {
-    match perform(user, command) {
+    match perform(served, command) {
         Performed::Whole(reply) => put_reply_of(out, name, &reply),
         Performed::Short { steps: _steps } => Err(AllocError),
         Performed::Memory => Err(AllocError),

@@ -1,9 +1,14 @@
 // What becomes of the first goal that can step.
 
-ghost use Rattle.kl1_user.specs.Views.{reply_of};
-ghost use Rattle.kl1_script.specs.Performing.{IsFirstStep, IsTold};
+ghost use Rattle.kl1_account.specs.Fitting.{Reading, Fits};
+ghost use Rattle.kl1_account.specs.Account.{state_of};
+ghost use Rattle.kl1_account.specs.Naming.{Grows};
+ghost use Rattle.kl1_account.specs.Views.{reply_of};
+ghost use Rattle.kl1_script.specs.Performing.{IsFirstStep, IsStepUntouched, IsTold};
 
-use kl1_user::{Event, Refusal, Reply, UserState};
+use crate::served::Served;
+use kl1_atoms::AtomSource;
+use kl1_user::{Event, Refusal, Reply};
 
 /// What became of the first goal that can step.
 pub(crate) enum FirstStep {
@@ -18,14 +23,16 @@ pub(crate) enum FirstStep {
 }
 
 /// Reduces the first goal that can step.
-pub(crate) fn reduce_first(user: &mut UserState) -> FirstStep
-    ensures { IsFirstStep user.old result user.new }
+pub(crate) fn reduce_first<A: AtomSource + Drop>(served: &mut Served<A>) -> FirstStep
+    ensures step { (f : Reading) → Fits served.new.names f → IsFirstStep (state_of f served.old) result (state_of f served.new) }
+    ensures memory { IsStepUntouched result served.old served.new }
+    ensures grows { Grows served.old.names served.new.names }
 {
-    let Some((goal, clause)) = user.pick() else {
+    let Some((goal, clause)) = served.pick() else {
         return FirstStep::Quiet;
     };
     let event = Event::Reduce { goal, clause };
-    match user.apply(&event) {
+    match served.apply(&event) {
         Ok(reply) => step_told(&reply),
         Err(_) => FirstStep::Memory,
     }

@@ -9,6 +9,7 @@ mod parsed;
 mod performed;
 mod replies;
 mod scripts;
+mod served;
 
 pub use accounts::accounts_in;
 pub use command::Command;
@@ -16,4 +17,5 @@ pub use kl1_lines::{Counted, DeviceFailed, Request, ScriptFault, Sink, Source};
 pub use parsed::{Parsed, command_in, parse};
 pub use performed::{Performed, perform};
 pub use replies::{put_reply, put_reply_of};
-pub use scripts::run_script;
+pub use scripts::{answer_over, run_script};
+pub use served::Served;

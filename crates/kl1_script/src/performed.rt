@@ -3,13 +3,18 @@
 ghost use Rattle.std.specs.Prelude.{◌≡◌};
 ghost use Rattle.kl1_model.specs.Command as model;
 ghost use Rattle.kl1_model.specs.State.{State};
-ghost use Rattle.kl1_user.specs.Views.{refusal_of, reply_of};
+ghost use Rattle.kl1_account.specs.Fitting.{Reading, Fits};
+ghost use Rattle.kl1_account.specs.Account.{state_of};
+ghost use Rattle.kl1_account.specs.Naming.{Grows};
+ghost use Rattle.kl1_account.specs.Views.{refusal_of, reply_of};
 ghost use Rattle.kl1_script.specs.Commands.{command_view};
-ghost use Rattle.kl1_script.specs.Performing.{Performs};
+ghost use Rattle.kl1_script.specs.Performing.{IsUntouched, Performs};
 
 use crate::command::Command;
 use crate::first_step::{FirstStep, reduce_first};
-use kl1_user::{Refusal, Reply, UserState};
+use crate::served::Served;
+use kl1_atoms::AtomSource;
+use kl1_user::{Refusal, Reply};
 
 /// What became of a command.
 #[derive(Drop)]
@@ -23,25 +28,29 @@ pub enum Performed {
 }
 
 /// Does a command.
-pub fn perform(user: &mut UserState, command: &Command) -> Performed
-    ensures { Performs user.old (command_view command.now) result user.new }
+pub fn perform<A: AtomSource + Drop>(served: &mut Served<A>, command: &Command) -> Performed
+    ensures does { (f : Reading) → Fits served.new.names f → Performs (state_of f served.old) (command_view command.now) result (state_of f served.new) }
+    ensures memory { IsUntouched result served.old served.new }
+    ensures grows { Grows served.old.names served.new.names }
 {
     match command {
-        Command::Does(event) => match user.apply(event) {
+        Command::Does(event) => match served.apply(event) {
             Ok(reply) => Performed::Whole(reply),
             Err(_) => Performed::Memory,
         },
-        Command::Run(most) => run(user, *most),
+        Command::Run(most) => run(served, *most),
     }
 }
 
 /// Reduces the first goal that can step, again and again, at most so many times.
-fn run(user: &mut UserState, most: u64) -> Performed
-    ensures { Performs user.old (model.run most) result user.new }
+fn run<A: AtomSource + Drop>(served: &mut Served<A>, most: u64) -> Performed
+    ensures does { (f : Reading) → Fits served.new.names f → Performs (state_of f served.old) (model.run most) result (state_of f served.new) }
+    ensures memory { IsUntouched result served.old served.new }
+    ensures grows { Grows served.old.names served.new.names }
 {
     let mut done = 0;
     while done < most {
-        match reduce_first(user) {
+        match reduce_first(served) {
             FirstStep::Quiet => return Performed::Whole(Reply::Ran(done)),
             FirstStep::Done => done += 1,
             FirstStep::Refused(refusal) => return Performed::Whole(stopped(done, refusal)),

@@ -4,7 +4,7 @@ ghost use Rattle.std.specs.Prelude.{◌≡◌, ◌++◌, ◌∷◌, [], decimal,
 ghost use Rattle.kl1_model.specs.Command.{reply_lines, written_line, written_lines};
 ghost use Rattle.kl1_model.specs.Event.{refused};
 ghost use Rattle.kl1_model.specs.Script.{written_reply};
-ghost use Rattle.kl1_user.specs.Views.{refusal_of, reply_of};
+ghost use Rattle.kl1_account.specs.Views.{refusal_of, reply_of};
 ghost use Rattle.kl1_script.specs.Replies.{written_after};
 
 use itoa::Buffer;
@@ -77,6 +77,7 @@ fn put_refusal(
         Refusal::Exists => put_line(out, account, b"- ", b"3 exists"),
         Refusal::NoShoen => put_line(out, account, b"- ", b"4 noshoen"),
         Refusal::Step => put_line(out, account, b"- ", b"6 step"),
+        Refusal::Names => put_line(out, account, b"- ", b"7 names"),
         Refusal::Journal => put_line(out, account, b"- ", b"9 journal"),
     }
 }

@@ -1,25 +1,30 @@
 // A script, from its bytes to what is written for it.
 
-ghost use Rattle.std.specs.Prelude.{◌≡◌, ◌+◌, ◌<◌, ℕ, List, [], length, Some, OnOk, IsErrOf, codes, if◌then◌else◌};
+ghost use Rattle.std.specs.Prelude.{◌≡◌, ◌+◌, ◌<◌, ◌≤◌, ℕ, List, [], length, Some, OnOk, IsErrOf, codes, if◌then◌else◌};
 ghost use Rattle.std.specs.Io.KnownBytes.{Consumes, Appends};
 ghost use Rattle.kl1_model.specs.Command.{written_line};
-ghost use Rattle.kl1_model.specs.Limits.{most_script_bytes, most_waiting_bytes};
+ghost use Rattle.kl1_model.specs.Limits.{most_accounts, most_script_bytes, most_waiting_bytes};
 ghost use Rattle.kl1_model.specs.Record.{records_of};
 ghost use Rattle.kl1_model.specs.Script.{output, written_records};
 ghost use Rattle.kl1_lines.specs.Devices.{ReadsFew};
 ghost use Rattle.kl1_script.specs.Scripts.{Answered, BreaksOff, Closes, Ends, Finishes, IsFirstOf, Passes, StopsBefore, Stops, first_written, front_of};
 ghost use Rattle.kl1_model.specs.State.{fresh};
+ghost use Rattle.kl1_account.specs.Fitting.{Reading, Fits};
+ghost use Rattle.kl1_account.specs.Account.{state_of};
+ghost use Rattle.kl1_account.specs.Naming.{Grows};
 ghost use Rattle.kl1_script.specs.Told.{state_by, told_by};
 ghost use Rattle.kl1_lines.specs.Records.{request_of};
 ghost use Rattle.kl1_lines.specs.declared.script_fault.ScriptFault.TheVariants as faults;
 
 use crate::accounts::accounts_in;
 use crate::answers::put_record;
+use crate::served::Served;
+use kl1_atoms::{AtomSource, AtomTable, SharedAtoms};
 use kl1_lines::{
     NextRecord, Record, ScriptFault, Sink, Source, finish, next_record, pass_on, read_all,
     split_line,
 };
-use kl1_user::{AccountName, UserState};
+use kl1_user::AccountName;
 use std::alloc::Global;
 
 /// Runs a script: reads all of it, and writes its output. Of several accounts the first alone is served.
@@ -52,52 +57,87 @@ fn answer<W: Sink>(alloc: Global, script: &[u8], sink: &mut W) -> Result<(), Scr
 {
     let (line, rest) = split_line(script);
     match accounts_in(alloc, line) {
-        Ok(Some(accounts)) => answer_records(alloc, accounts.as_slice(), rest, sink),
+        Ok(Some(accounts)) => answer_shared(alloc, accounts.as_slice(), rest, sink),
         Ok(None) => finish_all(sink, b"! accounts\n"),
         Err(_) => Err(ScriptFault::Memory),
     }
 }
 
-/// Writes what is written for the records of a text.
-fn answer_records<W: Sink>(
+/// Writes what is written for the records of a text, over a table of names that is made for the accounts.
+fn answer_shared<W: Sink>(
     alloc: Global,
     accounts: &[AccountName],
     text: &[u8],
     sink: &mut W,
 ) -> Result<(), ScriptFault>
-    requires { 0 < length accounts.now }
+    requires some { 0 < length accounts.now }
+    requires few { length accounts.now ≤ most_accounts }
+    ensures { Ends (W.contents sink.old) (W.contents sink.new) (W.failures sink.old) (W.failures sink.new) (written_records accounts.now (records_of text.now)) (λ n. first_written n (Some accounts.now) (records_of text.now).list) result }
+{
+    match AtomTable::new(alloc, accounts.len()) {
+        Ok((table, mut seats)) => {
+            let seat = seats.swap_remove(0);
+            answer_over(
+                alloc,
+                accounts,
+                SharedAtoms { table: &table },
+                seat,
+                text,
+                sink,
+            )
+        }
+        Err(_) => Err(ScriptFault::Memory),
+    }
+}
+
+/// Writes what is written for the records of a text, over any table of names and the seat of the first account, which knows the
+/// built-in names alone.
+pub fn answer_over<A: AtomSource + Drop, W: Sink>(
+    alloc: Global,
+    accounts: &[AccountName],
+    names: A,
+    seat: A::Seat,
+    text: &[u8],
+    sink: &mut W,
+) -> Result<(), ScriptFault>
+    requires some { 0 < length accounts.now }
+    requires of { A.is_of names seat }
+    requires nothing { A.knows seat ≡ [] }
     ensures { Ends (W.contents sink.old) (W.contents sink.new) (W.failures sink.old) (W.failures sink.new) (written_records accounts.now (records_of text.now)) (λ n. first_written n (Some accounts.now) (records_of text.now).list) result }
 {
     let first = accounts[0];
-    match UserState::fresh(alloc, first) {
-        Ok(mut user) => {
+    match Served::fresh(alloc, first, names, seat) {
+        Ok(mut served) => {
             let mut out = Vec::new(alloc);
-            answer_each(alloc, accounts, first, &mut user, text, &mut out, sink)
+            answer_each(alloc, accounts, first, &mut served, text, &mut out, sink)
         }
         Err(_) => Err(ScriptFault::Memory),
     }
 }
 
 /// Writes what is written for the records of a text, where the account that is served is fresh.
-fn answer_each<W: Sink>(
+fn answer_each<A: AtomSource + Drop, W: Sink>(
     alloc: Global,
     accounts: &[AccountName],
     first: AccountName,
-    user: &mut UserState,
+    served: &mut Served<A>,
     text: &[u8],
     out: &mut Vec<u8>,
     sink: &mut W,
 ) -> Result<(), ScriptFault>
     requires first { IsFirstOf first accounts.now }
-    requires fresh { user.now ≡ fresh first }
+    requires fresh { (f : Reading) → state_of f served.now ≡ fresh first }
     requires none { out.now.items ≡ [] }
     ensures { Ends (W.contents sink.old) (W.contents sink.new) (W.failures sink.old) (W.failures sink.new) (written_records accounts.now (records_of text.now)) (λ n. first_written n (Some accounts.now) (records_of text.now).list) result }
 {
     let mut rest = text;
     'records: loop {
+        served.shows_names();
         match next_record(rest) {
             NextRecord::Found(record) => {
-                match answer_record(alloc, accounts, user, record, out, sink) {
+                let answered = answer_record(alloc, accounts, served, record, out, sink);
+                served.shows_names();
+                match answered {
                     Ok(()) => rest = record.rest,
                     Err(fault) => return Err(fault),
                 }
@@ -110,20 +150,21 @@ fn answer_each<W: Sink>(
 
 /// Does the command of a record, and puts what is written for it after the bytes that wait, which are written where they
 /// are many, or where memory is refused.
-fn answer_record<W: Sink>(
+fn answer_record<A: AtomSource + Drop, W: Sink>(
     alloc: Global,
     accounts: &[AccountName],
-    user: &mut UserState,
+    served: &mut Served<A>,
     found: Record<'_>,
     out: &mut Vec<u8>,
     sink: &mut W,
 ) -> Result<(), ScriptFault>
     requires few { length out.old.items < most_waiting_bytes }
-    ensures user { OnOk result (user.new ≡ state_by accounts.now user.old (record { name = found.entry.name.now; request = request_of found.entry.request })) }
-    ensures bytes { Passes (W.contents sink.old) (W.contents sink.new) (W.failures sink.old) (W.failures sink.new) out.old.items (told_by accounts.now user.old (record { name = found.entry.name.now; request = request_of found.entry.request })) out.new.items result }
+    ensures state { OnOk result ((f : Reading) → Fits served.new.names f → state_of f served.new ≡ state_by accounts.now (state_of f served.old) (record { name = found.entry.name.now; request = request_of found.entry.request })) }
+    ensures bytes { (f : Reading) → Fits served.new.names f → Passes (W.contents sink.old) (W.contents sink.new) (W.failures sink.old) (W.failures sink.new) out.old.items (told_by accounts.now (state_of f served.old) (record { name = found.entry.name.now; request = request_of found.entry.request })) out.new.items result }
+    ensures grows { Grows served.old.names served.new.names }
     ensures few { OnOk result (length out.new.items < most_waiting_bytes) }
 {
-    match put_record(alloc, accounts, user, found, out) {
+    match put_record(alloc, accounts, served, found, out) {
         Ok(()) => match pass_on(sink, out) {
             Ok(()) => Ok(()),
             Err(_) => Err(ScriptFault::Write),

@@ -7,3 +7,4 @@ mod seats;
 mod sources;
 
 pub use checks::put_checks;
+pub use seats::next_plain_seat;

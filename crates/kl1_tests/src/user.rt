@@ -7,6 +7,7 @@ mod made;
 mod matching;
 mod nodes;
 mod plain;
+mod player;
 mod solving;
 
 pub use accounts::Accounts;

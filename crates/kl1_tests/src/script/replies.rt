@@ -50,6 +50,8 @@ fn refusal_of(name: &[u8]) -> Option<Refusal> {
         Some(Refusal::NoShoen)
     } else if is_same(word, b"step") {
         Some(Refusal::Step)
+    } else if is_same(word, b"names") {
+        Some(Refusal::Names)
     } else if is_same(word, b"journal") {
         Some(Refusal::Journal)
     } else {

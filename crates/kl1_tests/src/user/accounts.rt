@@ -4,24 +4,19 @@ use crate::rows::cut;
 use crate::user::acts::{event_of, is_run_right};
 use crate::user::answers::{is_answered, is_first, is_first_by, is_shown};
 use crate::user::plain::Plain;
-use kl1_user::{AccountName, Event, UserState};
+use crate::user::player::Player;
+use kl1_user::Event;
 use std::alloc::Global;
 
 /// An account, and a slow one over whole terms beside it.
 #[derive(Drop)]
 pub struct Accounts {
-    user: Option<UserState>,
+    user: Option<Player>,
     plain: Option<Plain>,
 }
 
-/// An account in which nothing has happened.
-fn fresh(alloc: Global) -> Option<UserState> {
-    let name = AccountName::read(b"alice")?;
-    UserState::fresh(alloc, name).ok()
-}
-
 /// Whether an account shows the goal of each shoen as a slow one does.
-fn are_shown_alike(user: &mut UserState, plain: &Plain) -> Option<bool> {
+fn are_shown_alike(user: &mut Player, plain: &Plain) -> Option<bool> {
     for number in 1..=plain.count() {
         let wanted = plain.value(number)?;
         if !is_shown(user, number, wanted.as_slice()) {
@@ -34,7 +29,7 @@ fn are_shown_alike(user: &mut UserState, plain: &Plain) -> Option<bool> {
 /// Whether an event does to a slow account what is wanted of it, and an account that it has been done to is like that one then:
 /// they have the same first goal, and show the same goals of shoens.
 fn are_alike(
-    user: &mut UserState,
+    user: &mut Player,
     plain: &mut Plain,
     event: &Event,
     wanted: &[u8],
@@ -51,7 +46,7 @@ fn are_alike(
 
 /// Whether an event is answered so by an account, and by a slow one where there is one.
 fn is_event_right(
-    user: &mut UserState,
+    user: &mut Player,
     plain: &mut Option<Plain>,
     event: &Event,
     wanted: &[u8],
@@ -71,7 +66,7 @@ fn is_event_right(
 /// Whether an act comes to what is wanted.
 fn is_act_right(
     alloc: Global,
-    user: &mut UserState,
+    user: &mut Player,
     plain: &mut Option<Plain>,
     act: &[u8],
     wanted: &[u8],
@@ -98,7 +93,7 @@ impl Accounts {
 
     /// Begins anew, with an account in which nothing has happened, and a slow one beside it or none.
     pub fn begin(&mut self, alloc: Global, has_plain: bool) {
-        self.user = fresh(alloc);
+        self.user = Player::fresh(alloc);
         self.plain = if has_plain {
             Some(Plain::fresh(alloc))
         } else {

@@ -16,7 +16,8 @@ use crate::user::answers::is_answered;
 use crate::user::made::made_goal;
 use kl1_read::read_goal;
 use kl1_term::Term;
-use kl1_user::{ClauseNo, Event, GoalNo, Query, ShoenNo, UserState};
+use crate::user::player::Player;
+use kl1_user::{ClauseNo, Event, GoalNo, Query, ShoenNo};
 use std::alloc::Global;
 
 /// The start of a goal with an allowance and priorities.
@@ -48,7 +49,7 @@ fn reduction_of(words: &[u8]) -> Event {
 }
 
 /// The reduction of the first goal.
-fn first_step(user: &UserState) -> Option<Event> {
+fn first_step(user: &Player) -> Option<Event> {
     let (goal, clause) = user.pick()?;
     Some(Event::Reduce { goal, clause })
 }
@@ -68,7 +69,7 @@ fn made_start(alloc: Global, words: &[u8]) -> Option<Event> {
 }
 
 /// The event that an act is.
-pub fn event_of(alloc: Global, user: &UserState, word: &[u8], words: &[u8]) -> Option<Event> {
+pub fn event_of(alloc: Global, user: &Player, word: &[u8], words: &[u8]) -> Option<Event> {
     match word {
         b"load" => load_of(alloc, words),
         b"start" => start_of(alloc, words),
@@ -81,7 +82,7 @@ pub fn event_of(alloc: Global, user: &UserState, word: &[u8], words: &[u8]) -> O
 }
 
 /// Whether the first goal is reduced.
-fn is_stepped(user: &mut UserState) -> bool {
+fn is_stepped(user: &mut Player) -> bool {
     match first_step(user) {
         None => false,
         Some(event) => is_answered(user, &event, b"+ reduced"),
@@ -89,7 +90,7 @@ fn is_stepped(user: &mut UserState) -> bool {
 }
 
 /// Whether so many first steps can be done as is wanted, at most those of a text.
-pub fn is_run_right(user: &mut UserState, words: &[u8], wanted: &[u8]) -> bool {
+pub fn is_run_right(user: &mut Player, words: &[u8], wanted: &[u8]) -> bool {
     let most = number_of(words);
     for steps in 0..most {
         if !is_stepped(user) {

@@ -2,7 +2,8 @@
 
 use crate::rows::{cut, is_counted, is_joined, number_of};
 use kl1_text::AtomText;
-use kl1_user::{Event, Query, Refusal, Reply, ShoenNo, UserState};
+use crate::user::player::Player;
+use kl1_user::{Event, Query, Refusal, Reply, ShoenNo};
 
 /// The number and word of a refusal; for the line of a source nothing.
 fn word_of(refusal: Refusal) -> &'static [u8] {
@@ -12,6 +13,7 @@ fn word_of(refusal: Refusal) -> &'static [u8] {
         Refusal::Exists => b"- 3 exists",
         Refusal::NoShoen => b"- 4 noshoen",
         Refusal::Step => b"- 6 step",
+        Refusal::Names => b"- 7 names",
         Refusal::Journal => b"- 9 journal",
     }
 }
@@ -49,7 +51,7 @@ fn is_reply(reply: &Reply, wanted: &[u8]) -> bool {
 }
 
 /// Whether an account answers an event so.
-pub fn is_answered(user: &mut UserState, event: &Event, wanted: &[u8]) -> bool {
+pub fn is_answered(user: &mut Player, event: &Event, wanted: &[u8]) -> bool {
     match user.apply(event) {
         Ok(reply) => is_reply(&reply, wanted),
         Err(_refused) => false,
@@ -57,7 +59,7 @@ pub fn is_answered(user: &mut UserState, event: &Event, wanted: &[u8]) -> bool {
 }
 
 /// Whether an account shows the goal of a shoen so.
-pub fn is_shown(user: &mut UserState, shoen: u64, text: &[u8]) -> bool {
+pub fn is_shown(user: &mut Player, shoen: u64, text: &[u8]) -> bool {
     match user.apply(&Event::Read(Query::Value(ShoenNo(shoen)))) {
         Ok(Reply::Shown(shown)) => shown.as_slice() == text,
         _ => false,
@@ -65,7 +67,7 @@ pub fn is_shown(user: &mut UserState, shoen: u64, text: &[u8]) -> bool {
 }
 
 /// Whether the first goal and its clause have these numbers, or the goal's is 0 and there is none.
-pub fn is_first_by(user: &UserState, first: u64, second: u64) -> bool {
+pub fn is_first_by(user: &Player, first: u64, second: u64) -> bool {
     let (goal, clause) = match user.pick() {
         None => (0, 0),
         Some((goal, clause)) => (goal.0, clause.0),
@@ -75,7 +77,7 @@ pub fn is_first_by(user: &UserState, first: u64, second: u64) -> bool {
 }
 
 /// Whether the first goal and its clause are those of a text such as `2 by 1`, or the text is `quiet` and there is none.
-pub fn is_first(user: &UserState, wanted: &[u8]) -> bool {
+pub fn is_first(user: &Player, wanted: &[u8]) -> bool {
     if wanted == b"quiet".as_slice() {
         return is_first_by(user, 0, 0);
     }

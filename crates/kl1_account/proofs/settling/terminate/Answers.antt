@@ -7,10 +7,15 @@ use Rattle.kl1_goals.specs.declared.goal.Goal.{Goal}
 use Rattle.kl1_account.specs.Account.{meaning}
 use Rattle.kl1_account.specs.Drafts.{Drafts}
 use Rattle.kl1_account.proofs.Ending.{ended_draft, drafts_terminate}
+use Rattle.kl1_account.proofs.States.{shoen_grown}
+use Rattle.kl1_account.proofs.Commits.{always_ok}
 use Rattle.kl1_account.proofs.settling.terminate.Goals as goal
 
 pub close-requires : goal.close-requires
 close-requires c = c.in_ok-report.ensures.shoen
+
+pub returns-clause-shoen : goal.returns-clause-shoen
+returns-clause-shoen c = always_ok c.close.result (shoen_grown c.report.new.store.held c.close.new.store.held c.close.ensures.grown c.report.new.draft.shoen c.in_ok-report.ensures.shoen)
 
 pub returns-clause-ok : goal.returns-clause-ok
 returns-clause-ok c =

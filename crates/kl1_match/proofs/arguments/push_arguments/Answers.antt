@@ -13,6 +13,6 @@ loop-left-preserved g c =
     let A : List (Cell g.row.N.Denot) → Type 0 = λ l. AreIn h l in
     record {
       within = omega (arith, i.within);
-      stack_is = pushed (arguments_of h c.args.structure) c.args.stack.now.items c.loop-left.stack.items c.put_cell.new.stack.items c.loop-left.left (c.loop-left.left - 1) c.argument.result one c.argument.ensures i.stack_is c.in_ok-put_cell.ensures;
-      inside = subst A (sym c.in_ok-put_cell.ensures) (AreIn-push h c.loop-left.stack.items c.argument.result i.inside (within_at h (arguments_of h c.args.structure) (c.loop-left.left - 1) c.argument.result (arguments_in h c.args.structure c.mark.ensures.formed) c.argument.ensures));
+      stack_is = pushed (arguments_of h c.args.structure) c.args.stack.now.items c.loop-left.stack.items c.put_cell.new.stack.items c.loop-left.left (c.loop-left.left - 1) c.argument.result one c.argument.ensures i.stack_is c.in_ok-put_cell.ensures.items;
+      inside = subst A (sym c.in_ok-put_cell.ensures.items) (AreIn-push h c.loop-left.stack.items c.argument.result i.inside (within_at h (arguments_of h c.args.structure) (c.loop-left.left - 1) c.argument.result (arguments_in h c.args.structure c.mark.ensures.formed) c.argument.ensures));
     }

@@ -1,4 +1,4 @@
-use Rattle.std.proofs.Common.{◌≡◌, Bool, get_or, sym, subst}
+use Rattle.std.proofs.Common.{Bool, get_or, sym, subst}
 use Rattle.kl1_model.specs.Waits.{least_without}
 use Rattle.kl1_clause.specs.declared.compiled_clause.CompiledClause.{CompiledClause}
 use Rattle.kl1_match.specs.declared.verdict.Verdict.{Verdict}

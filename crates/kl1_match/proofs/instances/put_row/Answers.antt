@@ -1,6 +1,10 @@
-use Rattle.std.proofs.Common.{◌-◌, ◌<◌, length, slice_index_or, arith, refl, ◌∙◌}
+use Rattle.std.proofs.Common.{◌≡◌, ◌-◌, ◌<◌, length, slice_index_or, arith, drop, refl, rules, subst, ◌∙◌}
+use Rattle.std.specs.Prelude.{IsOk}
+use Rattle.kl1_store.specs.Spending.{Spends}
+use Rattle.kl1_match.specs.Rooms.{structures_in, arguments_in}
 use Rattle.kl1_store.proofs.Grows.{Grown-trans}
 use Rattle.kl1_clause.specs.declared.instruction.Instruction.TheVariants.{Variable}
+use Rattle.kl1_match.proofs.Rooms.{step_fits, step_used}
 use Rattle.kl1_match.proofs.Built.{named_at, below_at, all_still_in, more_built}
 use Rattle.kl1_match.proofs.instances.put_row.Goals as goal
 
@@ -30,4 +34,21 @@ loop-left-preserved g c =
           c.requires.variables c.loop-left-test.true refl c.step_in-step.ensures.code b grown c.in_ok-put_step.ensures.puts,
       c.put_step.ensures.hooks ∙ c.loop-left.invariant.1,
       c.put_step.ensures.bindings ∙ c.loop-left.invariant.2,
+      step_used c.args.row.now c.loop-left.left (slice_index_or c.args.row.now (c.loop-left.left - 1) (Variable 0)) (Variable 0) _ _ c.args.store.now.room c.loop-left.store.room c.put_step.new.store.room
+          c.args.stack.now c.loop-left.stack c.put_step.new.stack c.args.arguments.now c.loop-left.arguments c.put_step.new.arguments
+          c.loop-left-test.true b.within refl c.step_in-step.ensures.structures c.step_in-step.ensures.arguments c.loop-left.invariant.3 c.in_ok-put_step.ensures.uses,
+      c.put_step.ensures.hook_room ∙ c.loop-left.invariant.4,
     )
+
+pub returns-in_err-put_step-clause-room : goal.returns-in_err-put_step-clause-room
+returns-in_err-put_step-clause-room g c h =
+    let done : IsOk c.put_step.result = c.put_step.ensures.room
+    (step_fits c.args.row.now c.loop-left.left (slice_index_or c.args.row.now (c.loop-left.left - 1) (Variable 0)) (Variable 0) _ _ c.args.store.now.room c.loop-left.store.room
+    c.args.stack.now c.loop-left.stack c.args.arguments.now c.loop-left.arguments
+    c.loop-left-test.true c.loop-left.invariant.0.within refl c.step_in-step.ensures.structures c.step_in-step.ensures.arguments c.loop-left.invariant.3 h) in
+    search rules
+
+pub returns-clause-spends : goal.returns-clause-spends
+returns-clause-spends g c =
+    let none : c.loop-left.left ≡ 0 = omega (arith, c.loop-left-test.false) in
+    subst (λ n. Spends c.args.store.now.room c.loop-left.store.room 0 (structures_in (drop n c.args.row.now)) (arguments_in (drop n c.args.row.now)) 0) none c.loop-left.invariant.3.spends

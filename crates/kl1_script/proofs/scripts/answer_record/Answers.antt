@@ -1,4 +1,5 @@
 use Rattle.std.proofs.Common.{subst, List, ℕ, ◌∙◌}
+use Rattle.kl1_account.specs.Account.{state_of}
 use Rattle.kl1_lines.specs.Records.{request_of}
 use Rattle.kl1_script.specs.Scripts.{Stops}
 use Rattle.kl1_script.specs.Told.{told_by}
@@ -6,6 +7,6 @@ use Rattle.kl1_script.proofs.Endings.{stop_fails}
 use Rattle.kl1_script.proofs.scripts.answer_record.Goals as goal
 
 pub returns-in-Err-clause-bytes : goal.returns-in-Err-clause-bytes
-returns-in-Err-clause-bytes g c =
+returns-in-Err-clause-bytes g c = λ f fits.
     let P : List ℕ → Type 0 = λ x. Stops (g.W.Sink.contents c.args.sink.now) (g.W.Sink.contents c.stop.new.sink) (g.W.Sink.failures c.args.sink.now) (g.W.Sink.failures c.stop.new.sink) x c.stop.result in
-    stop_fails (g.W.Sink.contents c.args.sink.now) (g.W.Sink.contents c.stop.new.sink) (g.W.Sink.failures c.args.sink.now) (g.W.Sink.failures c.stop.new.sink) c.args.out.now.items (told_by c.args.accounts.now c.args.user.now (record { name = c.args.found.name.now; request = request_of c.args.found.request })) c.stop.result (subst P (c.as_slice.ensures.value ∙ c.in-Err.ensures.err) c.stop.ensures)
+    stop_fails (g.W.Sink.contents c.args.sink.now) (g.W.Sink.contents c.stop.new.sink) (g.W.Sink.failures c.args.sink.now) (g.W.Sink.failures c.stop.new.sink) c.args.out.now.items (told_by c.args.accounts.now (state_of f c.args.served.now) (record { name = c.args.found.name.now; request = request_of c.args.found.request })) c.stop.result (subst P (c.as_slice.ensures.value ∙ c.in-Err.ensures.err) c.stop.ensures)

@@ -31,8 +31,8 @@ returns-then-self-ge-MOST_ENTRIES-clause-step g c =
     subst P c.self.view_is (λ f fits. step_full (state_of f (kept_in c.self.inside)) c.args.allowance c.args.low c.args.high c.args.goal.now c.names-texts.result.now
     (sym c.in_ok-may_start.ensures ∙ c.if-not-branch.false) (c.names-texts.ensures.value ∙ ap (λ (x : Term). with_names [] (names_of x)) c.in_ok-code.ensures) (sym c.are_too_many.ensures ∙ c.if-are_too_many.false) c.if-self-ge-MOST_ENTRIES.true)
 
-pub prepare-requires-clause-below : goal.prepare-requires-clause-below
-prepare-requires-clause-below g c =
+pub prepare_start-requires-clause-below : goal.prepare_start-requires-clause-below
+prepare_start-requires-clause-below g c =
     let T : Term → Type 0 = λ x. IsRowOf (with_names [] (names_of x)) c.row-row.result.now (nodes_of x) in
     goal_below c.args.goal.now (with_names [] (names_of c.args.goal.now)) c.row-row.result.now c.highest.result (subst T c.in_ok-code.ensures c.row-row.ensures) c.highest.ensures
 
@@ -51,17 +51,17 @@ invariant_of-self-2 g c =
     let may = sym c.in_ok-may_start.ensures ∙ c.if-not-branch.false in
     let texts = c.names-texts.result.now in
     let row = c.row-row.result.now in
-    let cells = goal_variables c.prepare.new.scratch in
-    let awaited = c.prepare.new.trial.awaited.items in
-    let s = is_start a b c.prepare.new.store.held texts row c.publish.new.row.items c.as_slice.result.now c.highest.result cells awaited c.in_ok-opening.opening c.args.allowance c.args.low c.args.high goal_term c.in_ok-code.code c.prepare.new.goals.goals c.prepare.new.shoens.shoens
-    c.prepare.ensures.formed c.in_ok-opening.ensures.ok c.in_ok-opening.ensures.grown c.place.ensures.placed c.prepare.ensures.goals c.prepare.ensures.shoens c.as_slice.ensures.value c.place.ensures.grown
+    let cells = goal_variables c.prepare_start.new.scratch in
+    let awaited = c.prepare_start.new.trial.awaited.items in
+    let s = is_start a b c.prepare_start.new.store.held texts row c.publish.new.row.items c.as_slice.result.now c.highest.result cells awaited c.in_ok-opening.opening c.args.allowance c.args.low c.args.high goal_term c.in_ok-code.code c.prepare_start.new.goals.goals c.prepare_start.new.shoens.shoens
+    c.prepare_start.ensures.formed c.in_ok-opening.ensures.ok c.in_ok-opening.ensures.grown c.place.ensures.placed c.prepare_start.ensures.goals c.prepare_start.ensures.shoens c.as_slice.ensures.value c.place.ensures.grown
     c.in_ok-code.ensures c.names-texts.ensures.value c.row-row.ensures (may_numbered c.args.allowance c.args.low c.args.high goal_term may) c.highest.ensures
-    (c.publish.ensures.texts ∙ ap (λ (ks : List Known). with_texts (texts_of ks) texts) c.prepare.ensures.names) c.publish.ensures.row (λ f fits. let F : List Known → Type 0 = λ ks. Fits ks f in subst F c.prepare.ensures.names (c.publish.ensures.fits f fits))
+    (c.publish.ensures.texts ∙ ap (λ (ks : List Known). with_texts (texts_of ks) texts) c.prepare_start.ensures.names) c.publish.ensures.row (λ f fits. let F : List Known → Type 0 = λ ks. Fits ks f in subst F c.prepare_start.ensures.names (c.publish.ensures.fits f fits))
     refl refl c.in_ok-last.ensures.value refl in
     let N : List Known → Type 0 = λ ks. AreNames ks in
     let once : AreNames a.names = subst N (c.requires.knows ∙ ap (λ (z : Account). z.names) (sym c.self.view_is)) (g.met.A.AtomSource.one_to_one c.args.names.now c.args.seat.now c.requires.of) in
-    let hung : c.place.new.store.hooks ≡ u.store.hooks ++ hooks_on awaited (u.last_goal + 2) = c.place.ensures.hooks ∙ ap (λ (ks : List Hook). ks ++ hooks_on c.as_slice-2.result.now (u.last_goal + 2)) c.prepare.ensures.hooks ∙ ap (λ (vs : List ℕ). u.store.hooks ++ hooks_on vs (u.last_goal + 2)) c.as_slice-2.ensures.value in
-    started_kept a b c.prepare.new.store.held texts row c.publish.new.row.items c.highest.result cells awaited c.in_ok-opening.opening c.args.allowance c.args.low c.args.high goal_term u.store.hooks c.place.new.store.hooks u.goals.shoens c.place.new.goals.shoens c.self.invariant s once c.publish.ensures.small hung (c.place.ensures.known ∙ ap suc c.prepare.ensures.known)
+    let hung : c.place.new.store.hooks ≡ u.store.hooks ++ hooks_on awaited (u.last_goal + 2) = c.place.ensures.hooks ∙ ap (λ (ks : List Hook). ks ++ hooks_on c.as_slice-2.result.now (u.last_goal + 2)) c.prepare_start.ensures.hooks ∙ ap (λ (vs : List ℕ). u.store.hooks ++ hooks_on vs (u.last_goal + 2)) c.as_slice-2.ensures.value in
+    started_kept a b c.prepare_start.new.store.held texts row c.publish.new.row.items c.highest.result cells awaited c.in_ok-opening.opening c.args.allowance c.args.low c.args.high goal_term u.store.hooks c.place.new.store.hooks u.goals.shoens c.place.new.goals.shoens c.self.invariant s once c.publish.ensures.small hung (c.place.ensures.known ∙ ap suc c.prepare_start.ensures.known)
 
 pub returns-clause-step : goal.returns-clause-step
 returns-clause-step g c =
@@ -72,12 +72,12 @@ returns-clause-step g c =
     let may = sym c.in_ok-may_start.ensures ∙ c.if-not-branch.false in
     let texts = c.names-texts.result.now in
     let row = c.row-row.result.now in
-    let cells = goal_variables c.prepare.new.scratch in
-    let awaited = c.prepare.new.trial.awaited.items in
-    let s = is_start a b c.prepare.new.store.held texts row c.publish.new.row.items c.as_slice.result.now c.highest.result cells awaited c.in_ok-opening.opening c.args.allowance c.args.low c.args.high goal_term c.in_ok-code.code c.prepare.new.goals.goals c.prepare.new.shoens.shoens
-    c.prepare.ensures.formed c.in_ok-opening.ensures.ok c.in_ok-opening.ensures.grown c.place.ensures.placed c.prepare.ensures.goals c.prepare.ensures.shoens c.as_slice.ensures.value c.place.ensures.grown
+    let cells = goal_variables c.prepare_start.new.scratch in
+    let awaited = c.prepare_start.new.trial.awaited.items in
+    let s = is_start a b c.prepare_start.new.store.held texts row c.publish.new.row.items c.as_slice.result.now c.highest.result cells awaited c.in_ok-opening.opening c.args.allowance c.args.low c.args.high goal_term c.in_ok-code.code c.prepare_start.new.goals.goals c.prepare_start.new.shoens.shoens
+    c.prepare_start.ensures.formed c.in_ok-opening.ensures.ok c.in_ok-opening.ensures.grown c.place.ensures.placed c.prepare_start.ensures.goals c.prepare_start.ensures.shoens c.as_slice.ensures.value c.place.ensures.grown
     c.in_ok-code.ensures c.names-texts.ensures.value c.row-row.ensures (may_numbered c.args.allowance c.args.low c.args.high goal_term may) c.highest.ensures
-    (c.publish.ensures.texts ∙ ap (λ (ks : List Known). with_texts (texts_of ks) texts) c.prepare.ensures.names) c.publish.ensures.row (λ f fits. let F : List Known → Type 0 = λ ks. Fits ks f in subst F c.prepare.ensures.names (c.publish.ensures.fits f fits))
+    (c.publish.ensures.texts ∙ ap (λ (ks : List Known). with_texts (texts_of ks) texts) c.prepare_start.ensures.names) c.publish.ensures.row (λ f fits. let F : List Known → Type 0 = λ ks. Fits ks f in subst F c.prepare_start.ensures.names (c.publish.ensures.fits f fits))
     refl refl c.in_ok-last.ensures.value refl in
     let P : Account → Type 0 = λ z. (f : Reading) → Fits b.names f → step (state_of f z) (start c.args.allowance c.args.low c.args.high goal_term) ≡ record { state = state_of f b; reply = opened c.in_ok-shoen.shoen } in
-    subst P c.self.view_is (λ f fits. started_step a b c.prepare.new.store.held texts row c.publish.new.row.items c.highest.result cells awaited c.in_ok-opening.opening c.args.allowance c.args.low c.args.high goal_term u.store.hooks u.goals.shoens c.in_ok-shoen.shoen c.self.invariant s may (sym c.are_too_many.ensures ∙ c.if-are_too_many.false) c.if-self-ge-MOST_ENTRIES.false (c.in_ok-shoen.ensures ∙ ap suc c.len.ensures.value) f fits)
+    subst P c.self.view_is (λ f fits. started_step a b c.prepare_start.new.store.held texts row c.publish.new.row.items c.highest.result cells awaited c.in_ok-opening.opening c.args.allowance c.args.low c.args.high goal_term u.store.hooks u.goals.shoens c.in_ok-shoen.shoen c.self.invariant s may (sym c.are_too_many.ensures ∙ c.if-are_too_many.false) c.if-self-ge-MOST_ENTRIES.false (c.in_ok-shoen.ensures ∙ ap suc c.len.ensures.value) f fits)

@@ -1,0 +1,144 @@
+-- A move that is drafted.
+use Rattle.std.proofs.Common.{◌≡◌, ℕ, suc, ◌+◌, ◌<◌, ◌≤◌, ◌^◌, not, Bool, true, false, if◌then◌else◌, List, [], ◌∷◌, ◌++◌, length, refl, sym, ap, ◌∙◌, arith, subst}
+use Rattle.std.specs.Prelude.{Option, Some, None, filter}
+use Rattle.kl1_model.specs.Module.{Module}
+use Rattle.kl1_model.specs.State.{State}
+use Rattle.kl1_model.specs.Term.{Term}
+use Rattle.kl1_model.specs.Reduction as model
+use Rattle.kl1_model.specs.Reduction.{moved}
+use Rattle.kl1_model.specs.Report.{settle}
+use Rattle.kl1_model.specs.Waits.{move_by}
+use Rattle.kl1_text.specs.declared.cell_name.CellName.{CellName}
+use Rattle.kl1_store.specs.declared.cell.Cell.{Cell}
+use Rattle.kl1_store.specs.declared.point.Point.{Point}
+use Rattle.kl1_store.specs.Held.{Held, AreIn}
+use Rattle.kl1_store.specs.Hooks.{Kept, point_of}
+use Rattle.kl1_store.specs.Sound.{IsFormed, Grown}
+use Rattle.kl1_store.proofs.Grows.{Grown-trans}
+use Rattle.kl1_clause.specs.declared.predicate.Predicate.{Predicate}
+use Rattle.kl1_match.specs.declared.place.Place.{Place}
+use Rattle.kl1_moves.specs.declared.moves.Move.{Move}
+use Rattle.kl1_moves.specs.declared.moves.Move.TheVariants as made
+use Rattle.kl1_moves.specs.Moves.{MovesAs}
+use Rattle.kl1_goals.specs.declared.goal.Goal.{Goal}
+use Rattle.kl1_goals.specs.Lists.{is_other, is_monitor_of}
+use Rattle.kl1_goals.specs.Tables.{IsKnown}
+use Rattle.kl1_modules.specs.Numbered.{Numbered}
+use Rattle.kl1_modules.specs.Finding.{contents}
+use Rattle.kl1_account.specs.declared.draft.Draft.{Draft}
+use Rattle.kl1_account.specs.Fitting.{Reading}
+use Rattle.kl1_account.specs.Account.{meaning, goal_with}
+use Rattle.kl1_account.specs.Kept.{AreGoalsIn, AreUpTo, IsShoenIn}
+use Rattle.kl1_account.specs.Works.{Made, IsMadeIn, Knows, Turns}
+use Rattle.kl1_account.specs.Drafts.{goals_for, goals_left, goals_added, without_monitor, made_of, Drafts}
+use Rattle.kl1_account.specs.Moving.{Moves, IsMoved, IsSettling}
+use Rattle.kl1_account.specs.Reducing.{move_or_go, move_at, reduced_to, Allows, IsBegun, WakesAll, IsDrafted}
+use Rattle.kl1_account.proofs.Goals.{goals_in_append, goals_for_in, filter_in, up_to_append, up_to_more, goals_for_up_to}
+use Rattle.kl1_account.proofs.Reductions.{reduced_turns}
+use Rattle.kl1_account.proofs.LookedAt.{left_up_to}
+
+-- ---- what a goal does by a clause
+
+-- a move that is found is one of the definitions
+pub found_move : (f : Reading) (h : Held CellName) (modules : List Module) (t : Term) (clause : ℕ) (p : Predicate CellName) (places : List (Place CellName)) (m : Move CellName) → MovesAs f h modules t clause p places (Some m) → (n : model.Move) × (move_by modules t clause ≡ Some n)
+found_move f h modules t clause p places (made.Commits place) k = (model.commits k.candidate, k.moves)
+found_move f h modules t clause p places made.Fails k = (model.raises model.failure, k)
+found_move f h modules t clause p places (made.Unifies a b) k = (model.unifies (meaning f h a) (meaning f h b), k)
+found_move f h modules t clause p places made.Goes k = (model.goes, k)
+
+gives : (o : Option model.Move) (m : model.Move) → o ≡ Some m → o ≡ Some (move_or_go o)
+gives None m e = absurd (cc)
+gives (Some n) m e = refl
+
+-- and so it is what the goal does
+pub allowed_move : (ms : List Numbered) (h : Held CellName) (p : Predicate CellName) (places : List (Place CellName)) (x : Cell CellName) (m : Move CellName) (clause : ℕ) → Allows ms h p places x m clause →
+    (f : Reading) → Knows ms f → move_by (contents ms) (meaning f h x) clause ≡ Some (move_at ms h x clause f)
+allowed_move ms h p places x m clause allows f knows =
+    let found = found_move f h (contents ms) (meaning f h x) clause p places m (allows f knows) in
+    gives (move_by (contents ms) (meaning f h x) clause) found.0 found.1
+
+-- ---- a draft that has begun
+
+left_in : (h : Held CellName) (goals : List (Goal CellName)) (d : Draft) → AreGoalsIn h goals → AreGoalsIn h (goals_left goals d)
+left_in h goals d i = by_case d.is_ending
+  where
+    one : AreGoalsIn h (filter (is_other d.removed) goals)
+    one = filter_in h (is_other d.removed) goals i
+
+    by_case : (b : Bool) → AreGoalsIn h (if b then without_monitor d.shoen.number (filter (is_other d.removed) goals) else filter (is_other d.removed) goals)
+    by_case true = filter_in h (λ g. not (is_monitor_of d.shoen.number g)) (filter (is_other d.removed) goals) one
+    by_case false = one
+
+-- what it makes has the cells of the store
+pub begins_in : (h : Held CellName) (goals : List (Goal CellName)) (d : Draft) → 0 < h.variables → AreGoalsIn h goals → AreUpTo d.last_goal goals → d.cells.items ≡ [] → IsShoenIn h d.shoen → 0 < d.shoen.number → IsMadeIn h (made_of goals d)
+begins_in h goals d some i up none s number =
+    let A : List (Cell CellName) → Type 0 = λ xs. AreIn h xs in
+    let last = d.last_goal + length d.cells.items in
+    record {
+      some = some;
+      goals = goals_in_append h (goals_left goals d) (goals_added d) (left_in h goals d i) (goals_for_in h d.last_goal d.shoen.number d.priority d.cells.items (subst A (sym none) tt));
+      shoen = s;
+      number = number;
+      last = up_to_append last (goals_left goals d) (goals_added d) (up_to_more d.last_goal last (goals_left goals d) (omega arith) (left_up_to d.last_goal goals d up)) (goals_for_up_to last d.last_goal d.shoen.number d.priority d.cells.items (omega arith));
+    }
+
+-- ---- the cells of goals that come
+
+for_in : (h : Held CellName) (last shoen priority : ℕ) (xs : List (Cell CellName)) → AreGoalsIn h (goals_for last shoen priority xs) → AreIn h xs
+for_in h last shoen priority [] i = tt
+for_in h last shoen priority (x ∷ xs) i = (i.0, for_in h (suc last) shoen priority xs i.1)
+
+behind_in : (h : Held CellName) (gs ks : List (Goal CellName)) → AreGoalsIn h (gs ++ ks) → AreGoalsIn h ks
+behind_in h [] ks i = i
+behind_in h (g ∷ gs) ks i = behind_in h gs ks i.1
+
+-- the cells of a draft are of the store
+pub cells_in : (h : Held CellName) (goals : List (Goal CellName)) (d : Draft) → AreGoalsIn h (made_of goals d).goals → AreIn h d.cells.items
+cells_in h goals d i = for_in h d.last_goal d.shoen.number d.priority d.cells.items (behind_in h (goals_left goals d) (goals_added d) i)
+
+-- ---- a move, and then the look at the shoen
+
+pub drafted_turns : (ms : List Numbered) (h k l : Held CellName) (goals : List (Goal CellName)) (goal : Goal CellName) (x : Cell CellName) (clause : ℕ) (p : Predicate CellName) (m : Move CellName) (places : List (Place CellName)) (before mid after : Draft) →
+    IsMadeIn h (made_of goals before) → goal.shoen ≡ before.shoen.number → goal.priority ≡ before.priority → Allows ms h p places x m clause → Grown h k → Moves p m places x h k before mid →
+    ((ns : List Numbered) → Drafts ns (λ f. settle mid.shoen.number) k l goals mid after) → Turns ms (reduced_to ms h goal x clause) h l (made_of goals before) (made_of goals after)
+drafted_turns ms h k l goals goal x clause p m places before mid after inside number priority allows grown moves settles =
+    let change : Reading → State → State = λ f. moved (goal_with (meaning f h) goal) (meaning f h x) (move_at ms h x clause f) in
+    let first : Turns ms change h k (made_of goals before) (made_of goals mid) =
+    moves ms goal clause (move_at ms h x clause) (record { shoen = number; priority = priority }) allows (allowed_move ms h p places x m clause allows) goals inside in
+    reduced_turns ms change h k l (made_of goals before) (made_of goals mid) (made_of goals after) goal.shoen number grown first (settles ms)
+
+-- ---- all of a draft
+
+-- the goals that a draft leaves and those that come were looked at
+pub is_drafted : (ms : List Numbered) (mark : Point) (old k l new : Kept CellName) (goals : List (Goal CellName)) (goal : Goal CellName) (x : Cell CellName) (clause shoens room : ℕ) (p : Predicate CellName) (m : Move CellName) (places : List (Place CellName)) (before mid after last : Draft) →
+    IsMadeIn old.held (made_of goals before) → AreGoalsIn old.held goals → AreUpTo before.last_goal goals → IsBegun goal before.shoen before.last_goal before → before.shoen.number ≡ goal.shoen → IsKnown goal shoens →
+    Moves p m places x old.held k.held before mid → IsMoved before mid → Grown old.held k.held → k.hooks ≡ old.hooks →
+    ((ns : List Numbered) → Drafts ns (λ f. settle mid.shoen.number) k.held l.held goals mid after) → IsSettling mid after → Grown k.held l.held → l.hooks ≡ k.hooks →
+    after.last_goal + length after.cells.items < 2 ^ 64 → WakesAll ms mark l new goals last → last ≡ record after { changes = last.changes; told = last.told } → new.held ≡ l.held →
+    mark ≡ point_of old → IsFormed old.held → length last.cells.items ≤ room → Allows ms old.held p places x m clause →
+    IsDrafted ms old new goals goal x clause shoens room before last
+is_drafted ms mark old k l new goals goal x clause shoens room p m places before mid after last inside goals_in up begun number known moves is_moved grown hooks settles settling grown_on hooks_on fits wakes rest held point formed enough allows =
+    let turned = drafted_turns ms old.held k.held l.held goals goal x clause p m places before mid after inside (sym number) (sym begun.priority) allows grown moves settles in
+    let N : Draft → Type 0 = λ d. d.last_goal + length d.cells.items < 2 ^ 64 in
+    let T : Made → Type 0 = λ w. Turns ms (reduced_to ms old.held goal x clause) old.held l.held (made_of goals before) w in
+    let H : Held CellName → Type 0 = λ h. Turns ms (reduced_to ms old.held goal x clause) old.held h (made_of goals before) (made_of goals last) in
+    let U : ℕ → Type 0 = λ n. AreUpTo n goals in
+    let last_is : last.last_goal ≡ before.last_goal = ap (λ (d : Draft). d.last_goal) rest ∙ settling.last ∙ is_moved.last in
+    let number_is : last.shoen.number ≡ goal.shoen = ap (λ (d : Draft). d.shoen.number) rest ∙ settling.number ∙ is_moved.number ∙ number in
+    let priority_is : last.priority ≡ goal.priority = ap (λ (d : Draft). d.priority) rest ∙ settling.priority ∙ is_moved.priority ∙ begun.priority in
+    let low = known.low in
+    let high = known.high in
+    let most = known.priority in
+    let up_to : AreUpTo last.last_goal goals = subst U (sym last_is) up in
+    record {
+      fitting = record {
+        enough = enough;
+        numbers = subst N (sym rest) fits;
+        last = up_to;
+        low = omega arith;
+        high = omega arith;
+        most = omega arith;
+      };
+      turns = subst H (sym held) (subst T (sym (ap (made_of goals) rest)) turned);
+      settles = wakes old point formed (Grown-trans old.held k.held l.held grown grown_on) (hooks_on ∙ hooks) goals_in up_to;
+    }

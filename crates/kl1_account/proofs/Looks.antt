@@ -1,0 +1,63 @@
+-- What is found where a goal is looked at.
+use Rattle.std.proofs.Common.{◌≡◌, ℕ, List, [], ◌∷◌, ◌++◌, map, refl, sym, subst, ◌∙◌}
+use Rattle.std.specs.Prelude.{Option}
+use Rattle.kl1_model.specs.Module.{Clause, Module}
+use Rattle.kl1_model.specs.Term.{Term}
+use Rattle.kl1_model.specs.Match.{clauses_of}
+use Rattle.kl1_text.specs.Reading.{Reads}
+use Rattle.kl1_text.specs.declared.cell_name.CellName.{CellName}
+use Rattle.kl1_store.specs.declared.cell.Cell.{Cell}
+use Rattle.kl1_store.specs.Hooks.{Hook}
+use Rattle.kl1_store.specs.Held.{Held}
+use Rattle.kl1_clause.specs.Clauses.{AreCompiled}
+use Rattle.kl1_clause.specs.Predicates.{FoundAs}
+use Rattle.kl1_clause.specs.declared.predicate.Predicate.{Predicate}
+use Rattle.kl1_moves.specs.declared.call.Call.{Call}
+use Rattle.kl1_moves.specs.declared.kind.Kind.{Kind}
+use Rattle.kl1_moves.specs.declared.kind.Kind.TheVariants.{Calls}
+use Rattle.kl1_moves.specs.Calls.{call_at}
+use Rattle.kl1_moves.specs.Kinds.{IsKind, IsCall}
+use Rattle.kl1_moves.specs.Moves.{HasPredicate}
+use Rattle.kl1_moves.specs.Standing.{StandsAs}
+use Rattle.kl1_modules.specs.Numbered.{Numbered}
+use Rattle.kl1_modules.specs.Finding.{contents, Finds}
+use Rattle.kl1_account.specs.declared.draft.Change.{Change}
+use Rattle.kl1_account.specs.Fitting.{Reading, built}
+use Rattle.kl1_account.specs.Account.{meaning}
+use Rattle.kl1_account.specs.Works.{Knows}
+use Rattle.kl1_account.specs.Settled.{HangsOnEach}
+use Rattle.kl1_account.specs.Looking.{LooksAt, FindsOut}
+
+-- the predicate of a call is what was found of it, or none
+pub call_has : (ms : List Numbered) (kind : Kind CellName) (c : Call CellName) (found : Option (Predicate CellName)) (p : Predicate CellName) → kind ≡ Calls c → Finds ms c.module_name c.name c.count found →
+    ((f : CellName → List ℕ) (cs : List Clause) → FoundAs f cs found → AreCompiled (map f p.names.now) p.clauses.now cs) →
+    (f : Reading) → Knows ms f → (h : Held CellName) (t : Term) → IsKind f h t kind → HasPredicate f h (contents ms) kind p
+call_has ms kind c found p e finds compiled f knows h t =
+    let P : Kind CellName → Type 0 = λ k. IsKind f h t k → HasPredicate f h (contents ms) k p in
+    subst P (sym e) (λ (is : IsCall f h t c).
+    compiled f (clauses_of (contents ms) (call_at f h c)) (finds f knows.reads knows.rows (call_at f h c) (record { module_is = refl; name_is = refl; counted = is.counted })))
+
+-- a goal was looked at where its number hangs on what it waits for, and the clause by which it can step is one change more
+pub looked : (h : Held CellName) (hooks : List Hook) (kind : Kind CellName) (p : Predicate CellName) (n : ℕ) (before after : List Change) (vs ws : List ℕ) (clause : Option ℕ) →
+    ((f : Reading) → Reads built f → (modules : List Module) (t : Term) → IsKind f h t kind → HasPredicate f h modules kind p → StandsAs modules t vs clause) →
+    ws ≡ vs → HangsOnEach hooks n ws → after ≡ before ++ record { number = n; standing = clause } ∷ [] → LooksAt h hooks kind p n before after
+looked h hooks kind p n before after vs ws clause stands same hangs is =
+    let H : List ℕ → Type 0 = λ us. HangsOnEach hooks n us in
+    record {
+      change = record { number = n; standing = clause };
+      is = is;
+      number_is = refl;
+      found = λ f ms x reads k has. let s = stands f reads (contents ms) (meaning f h x) k has in record { standing = s.clause_is; hung = subst H (same ∙ s.awaits) hangs };
+    }
+
+-- the goal for a cell was looked at where its kind and its predicate are found
+pub finds_out : (ms : List Numbered) (h : Held CellName) (hooks : List Hook) (x : Cell CellName) (kind : Kind CellName) (p : Predicate CellName) (n : ℕ) (before after : List Change) →
+    ((f : Reading) → Reads built f → IsKind f h (meaning f h x) kind) →
+    ((f : Reading) → Knows ms f → (k : Held CellName) (t : Term) → IsKind f k t kind → HasPredicate f k (contents ms) kind p) →
+    LooksAt h hooks kind p n before after → FindsOut ms h hooks x n before after
+finds_out ms h hooks x kind p n before after is has l = record {
+  change = l.change;
+  is = l.is;
+  number_is = l.number_is;
+  found = λ f knows. let k = is f knows.reads in l.found f ms x knows.reads k (has f knows h (meaning f h x) k);
+}

@@ -1,0 +1,47 @@
+use Rattle.std.proofs.Common.{refl, ap}
+use Rattle.kl1_text.specs.declared.cell_name.CellName.{CellName}
+use Rattle.kl1_goals.specs.Tables.{Tabled}
+use Rattle.kl1_account.specs.Accounts.{kept_in}
+use Rattle.kl1_account.proofs.Loads.{ready, ready_new, put_is, put_kept, put_steps}
+use Rattle.kl1_account.proofs.account.Account.load.Goals as goal
+
+pub install_module-requires-clause-new : goal.install_module-requires-clause-new
+install_module-requires-clause-new g c =
+    let a = kept_in c.self.inside in
+    let d = c.in-Drafted.draft in
+    let p = c.publish.ensures in
+    let names = c.publish.new.known.names in
+    let changes = c.as_slice-2.result.now in
+    let hooks = c.prepare.new.store.hooks in
+    let row = c.as_slice.result.now in
+    let r = ready a c.args.source.now c.in_ok-refusal.field-0 d hooks c.prepare.new.changes.items changes c.prepare.new.names.names names c.code.result.now c.names.result.now c.publish.new.row.items row
+    c.in_ok-refusal.ensures c.in-Drafted.is c.in_ok-row.ensures.settles c.as_slice-2.ensures.value c.prepare.ensures.names c.names.ensures.value c.code.ensures p.texts p.row c.as_slice.ensures.value p.small p.fits in
+    ready_new a c.args.source.now d hooks changes (g.A.AtomSource.knows c.publish.new.seat) names c.prepare.new.modules.loaded row r c.self.invariant.rows (g.met.A.AtomSource.one_to_one c.publish.new.names c.publish.new.seat p.keeps.of) p.knows c.prepare.ensures.modules
+
+pub invariant_of-self-2 : goal.invariant_of-self-2
+invariant_of-self-2 g c =
+    let a = kept_in c.self.inside in
+    let d = c.in-Drafted.draft in
+    let p = c.publish.ensures in
+    let names = c.publish.new.known.names in
+    let changes = c.as_slice-2.result.now in
+    let hooks = c.prepare.new.store.hooks in
+    let row = c.as_slice.result.now in
+    let r = ready a c.args.source.now c.in_ok-refusal.field-0 d hooks c.prepare.new.changes.items changes c.prepare.new.names.names names c.code.result.now c.names.result.now c.publish.new.row.items row
+    c.in_ok-refusal.ensures c.in-Drafted.is c.in_ok-row.ensures.settles c.as_slice-2.ensures.value c.prepare.ensures.names c.names.ensures.value c.code.ensures p.texts p.row c.as_slice.ensures.value p.small p.fits in
+    let e = put_is a d row names changes c.prepare.new.store.held c.self.inside.goals c.install_module.new.goals c.prepare.new.modules.loaded c.install_module.new.modules.loaded c.prepare.ensures.held refl c.install_module.ensures.goals c.prepare.ensures.modules c.install_module.ensures.modules in
+    put_kept a _ c.args.source.now d c.self.inside.store.hooks hooks c.self.inside.goals.shoens c.install_module.new.goals.shoens changes names row c.self.invariant r e (ap (λ (t : Tabled CellName). t.shoens) c.install_module.ensures.goals)
+
+pub returns-clause-step : goal.returns-clause-step
+returns-clause-step g c =
+    let a = kept_in c.self.inside in
+    let d = c.in-Drafted.draft in
+    let p = c.publish.ensures in
+    let names = c.publish.new.known.names in
+    let changes = c.as_slice-2.result.now in
+    let hooks = c.prepare.new.store.hooks in
+    let row = c.as_slice.result.now in
+    let r = ready a c.args.source.now c.in_ok-refusal.field-0 d hooks c.prepare.new.changes.items changes c.prepare.new.names.names names c.code.result.now c.names.result.now c.publish.new.row.items row
+    c.in_ok-refusal.ensures c.in-Drafted.is c.in_ok-row.ensures.settles c.as_slice-2.ensures.value c.prepare.ensures.names c.names.ensures.value c.code.ensures p.texts p.row c.as_slice.ensures.value p.small p.fits in
+    let e = put_is a d row names changes c.prepare.new.store.held c.self.inside.goals c.install_module.new.goals c.prepare.new.modules.loaded c.install_module.new.modules.loaded c.prepare.ensures.held refl c.install_module.ensures.goals c.prepare.ensures.modules c.install_module.ensures.modules in
+    λ f fits. put_steps a c.args.self.now _ c.args.source.now d hooks changes names row c.code-2.result.now c.module_name-name.result r c.self.view_is e c.code-2.ensures c.module_name-name.ensures f

@@ -1,0 +1,39 @@
+use Rattle.std.proofs.Common.{◌∙◌}
+use Rattle.kl1_account.proofs.Loads.{tells_name, is_free, crowds_is, draft_exists, draft_crowds, draft_full, draft_loads}
+use Rattle.kl1_account.proofs.loading.refusal_of.Goals as goal
+
+pub returns-then-has : goal.returns-then-has
+returns-then-has c =
+    let ms = c.args.modules.now.loaded in
+    let names = c.args.names.now.names in
+    let d = c.args.draft.now in
+    let there = tells_name ms names d c.number.result c.has.result c.requires.reads c.requires.rows c.number.ensures c.has.ensures.tells in
+    draft_exists ms names c.args.entries d (there ∙ c.if-has.true)
+
+pub returns-then-are_too_many : goal.returns-then-are_too_many
+returns-then-are_too_many c =
+    let ms = c.args.modules.now.loaded in
+    let names = c.args.names.now.names in
+    let d = c.args.draft.now in
+    let there = tells_name ms names d c.number.result c.has.result c.requires.reads c.requires.rows c.number.ensures c.has.ensures.tells in
+    let many = crowds_is names d c.code.result.now c.names.result.now c.are_too_many.result c.are_too_many.ensures c.names.ensures.value c.code.ensures in
+    draft_crowds ms names c.args.entries d (there ∙ c.if-has.false) (many ∙ c.if-are_too_many.true)
+
+pub returns-then-entries-ge-MOST_ENTRIES : goal.returns-then-entries-ge-MOST_ENTRIES
+returns-then-entries-ge-MOST_ENTRIES c =
+    let ms = c.args.modules.now.loaded in
+    let names = c.args.names.now.names in
+    let d = c.args.draft.now in
+    let there = tells_name ms names d c.number.result c.has.result c.requires.reads c.requires.rows c.number.ensures c.has.ensures.tells in
+    let many = crowds_is names d c.code.result.now c.names.result.now c.are_too_many.result c.are_too_many.ensures c.names.ensures.value c.code.ensures in
+    draft_full ms names c.args.entries d (there ∙ c.if-has.false) (many ∙ c.if-are_too_many.false) c.if-entries-ge-MOST_ENTRIES.true
+
+pub returns : goal.returns
+returns c =
+    let ms = c.args.modules.now.loaded in
+    let names = c.args.names.now.names in
+    let d = c.args.draft.now in
+    let there = tells_name ms names d c.number.result c.has.result c.requires.reads c.requires.rows c.number.ensures c.has.ensures.tells in
+    let free = is_free ms d c.number.result c.has.result c.has.ensures.value c.number.ensures in
+    let many = crowds_is names d c.code.result.now c.names.result.now c.are_too_many.result c.are_too_many.ensures c.names.ensures.value c.code.ensures in
+    draft_loads ms names c.args.entries d c.requires.reads (free ∙ c.if-has.false) (there ∙ c.if-has.false) (many ∙ c.if-are_too_many.false) c.if-entries-ge-MOST_ENTRIES.false

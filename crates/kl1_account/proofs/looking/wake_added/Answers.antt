@@ -1,0 +1,19 @@
+use Rattle.std.proofs.Common.{arith, sym, subst, get_or}
+use Rattle.kl1_text.specs.declared.cell_name.CellName.{CellName}
+use Rattle.kl1_store.specs.declared.cell.Cell.TheVariants.{Variable}
+use Rattle.kl1_store.specs.Held.{Held, IsIn}
+use Rattle.kl1_account.proofs.Added.{next_added, nth_in}
+use Rattle.kl1_account.proofs.looking.wake_added.Goals as goal
+
+pub look_at_cell-requires : goal.look_at_cell-requires
+look_at_cell-requires c =
+    let P : Held CellName → Type 0 = λ h. IsIn h (get_or c.args.cells.now c.loop-cell.cell-index (Variable 0)) in
+    subst P (sym c.loop-cell.invariant.adds.held) (nth_in c.args.store.now.held c.args.cells.now c.loop-cell.cell-index (Variable 0) c.requires.cells c.loop-cell-test.true)
+
+pub loop-cell-preserved : goal.loop-cell-preserved
+loop-cell-preserved c = record {
+  number = omega arith;
+  adds =
+      next_added c.args.modules.now.loaded c.args.store.now c.loop-cell.store c.look_at_cell.new.store c.args.last_goal c.loop-cell.number c.args.cells.now c.loop-cell.cell-index (Variable 0) c.args.changes.now.items c.loop-cell.changes.items c.look_at_cell.new.changes.items
+      c.loop-cell-test.true c.loop-cell.invariant.number c.loop-cell.invariant.adds c.in_ok-look_at_cell.ensures.held c.in_ok-look_at_cell.ensures.grown c.in_ok-look_at_cell.ensures.finds;
+}

@@ -1,0 +1,97 @@
+use Rattle.std.proofs.Common.{length, refl, sym, subst}
+use Rattle.std.specs.Prelude.{Option}
+use Rattle.kl1_text.specs.declared.cell_name.CellName.{CellName}
+use Rattle.kl1_shoen.specs.declared.shoen.Shoen.{Shoen}
+use Rattle.kl1_moves.specs.declared.moves.Move.{Move}
+use Rattle.kl1_moves.specs.Moves.{MovesAs}
+use Rattle.kl1_modules.specs.Finding.{contents}
+use Rattle.kl1_account.specs.Account.{meaning}
+use Rattle.kl1_account.specs.Kept.{IsShoenIn}
+use Rattle.kl1_account.specs.Reducing.{Allows}
+use Rattle.kl1_account.proofs.PutIn.{never_absent, found_shoen_in}
+use Rattle.kl1_account.proofs.Steps.{account_at, found_cell, found_owned, refused_nowhere, refused_monitor, refused_move, refused_full, is_reduction}
+use Rattle.kl1_account.proofs.reducing.draft_reduction.Goals as goal
+
+pub returns-in_default-clause-ok : goal.returns-in_default-clause-ok
+returns-in_default-clause-ok c = λ own names.
+    let a = account_at own names c.args.store.now.held c.args.goals.now.goals c.args.shoens.now.shoens c.args.modules.now.loaded c.args.last_goal c.args.entries in
+    refused_nowhere a c.args.store.now c.args.number c.args.clause (sym c.if-not-are_numbers.ensures) (sym c.in_default.ensures.goal)
+
+pub returns-in_default-task-clause-ok : goal.returns-in_default-task-clause-ok
+returns-in_default-task-clause-ok c = λ own names.
+    let a = account_at own names c.args.store.now.held c.args.goals.now.goals c.args.shoens.now.shoens c.args.modules.now.loaded c.args.last_goal c.args.entries in
+    refused_monitor a c.args.store.now c.args.number c.args.clause c.in-Some.goal (sym c.if-not-are_numbers.ensures) (sym c.in-Some.ensures.goal) c.in_default-task.is
+
+pub kind_of-kind-requires : goal.kind_of-kind-requires
+kind_of-kind-requires c = found_cell c.args.store.now.held c.args.number c.args.goals.now.goals c.in-Some.goal c.in-Reduces.cell c.requires.goals (sym c.in-Some.ensures.goal) c.in-Reduces.is
+
+pub returns-in_default-2-clause-ok : goal.returns-in_default-2-clause-ok
+returns-in_default-2-clause-ok c = λ own names.
+    let h = c.args.store.now.held in
+    let x = c.in-Reduces.cell in
+    let ms = c.args.modules.now.loaded in
+    let a = account_at own names h c.args.goals.now.goals c.args.shoens.now.shoens ms c.args.last_goal c.args.entries in
+    refused_move a c.args.store.now c.args.number c.args.clause c.in-Some.goal x (sym c.if-not-are_numbers.ensures) (sym c.in-Some.ensures.goal) c.in-Reduces.is
+    (λ f knows.
+    let P : Option (Move CellName) → Type 0 = λ o. MovesAs f h (contents ms) (meaning f h x) c.args.clause c.predicate_of-predicate.result c.move_of.new.trial.places.items o in
+    let k = c.kind_of-kind.ensures.kind f knows.reads in
+    subst P c.in_default-2.is (c.in_ok-made.ensures.moves f knows.reads (contents ms) (meaning f h x) k (c.predicate_of-predicate.ensures.has f knows h (meaning f h x) k)))
+
+pub returns-then-entries-ge-MOST_ENTRIES-clause-ok : goal.returns-then-entries-ge-MOST_ENTRIES-clause-ok
+returns-then-entries-ge-MOST_ENTRIES-clause-ok c = λ own names.
+    let h = c.args.store.now.held in
+    let x = c.in-Reduces.cell in
+    let ms = c.args.modules.now.loaded in
+    let a = account_at own names h c.args.goals.now.goals c.args.shoens.now.shoens ms c.args.last_goal c.args.entries in
+    refused_full a c.args.store.now c.args.number c.args.clause c.in-Some.goal x c.predicate_of-predicate.result c.move_of.new.trial.places.items c.in-Some-2.made (sym c.if-not-are_numbers.ensures) (sym c.in-Some.ensures.goal) c.in-Reduces.is
+    (λ f knows.
+    let P : Option (Move CellName) → Type 0 = λ o. MovesAs f h (contents ms) (meaning f h x) c.args.clause c.predicate_of-predicate.result c.move_of.new.trial.places.items o in
+    let k = c.kind_of-kind.ensures.kind f knows.reads in
+    subst P c.in-Some-2.is (c.in_ok-made.ensures.moves f knows.reads (contents ms) (meaning f h x) k (c.predicate_of-predicate.ensures.has f knows h (meaning f h x) k)))
+    c.if-entries-ge-MOST_ENTRIES.true
+
+pub unreachable-requires : goal.unreachable-requires
+unreachable-requires c =
+    let own = found_owned (length c.args.shoens.now.shoens) c.args.number c.args.goals.now.goals c.in-Some.goal c.requires.owned (sym c.in-Some.ensures.goal) in
+    never_absent c.in-Some.goal.shoen c.args.shoens.now.shoens c.requires.numbered own.low own.high (sym c.in_default-get.ensures.value)
+
+pub draft_move-requires-clause-shoen : goal.draft_move-requires-clause-shoen
+draft_move-requires-clause-shoen c =
+    let h = c.args.store.now.held in
+    let P : Shoen CellName → Type 0 = λ s. IsShoenIn h s in
+    subst P (sym c.begin.ensures.shoen_is) (found_shoen_in h c.in-Some.goal.shoen c.args.shoens.now.shoens c.in-Some-get.shoen c.requires.shoens (sym c.in-Some-get.ensures.value))
+
+pub draft_move-requires-clause-cell : goal.draft_move-requires-clause-cell
+draft_move-requires-clause-cell c = found_cell c.args.store.now.held c.args.number c.args.goals.now.goals c.in-Some.goal c.in-Reduces.cell c.requires.goals (sym c.in-Some.ensures.goal) c.in-Reduces.is
+
+pub draft_move-requires-clause-allowed : goal.draft_move-requires-clause-allowed
+draft_move-requires-clause-allowed c =
+    let h = c.args.store.now.held in
+    let x = c.in-Reduces.cell in
+    let ms = c.args.modules.now.loaded in
+    record {
+      clause = c.args.clause;
+      allows = λ f knows.
+          let P : Option (Move CellName) → Type 0 = λ o. MovesAs f h (contents ms) (meaning f h x) c.args.clause c.predicate_of-predicate.result c.move_of.new.trial.places.items o in
+          let k = c.kind_of-kind.ensures.kind f knows.reads in
+          subst P c.in-Some-2.is (c.in_ok-made.ensures.moves f knows.reads (contents ms) (meaning f h x) k (c.predicate_of-predicate.ensures.has f knows h (meaning f h x) k));
+    }
+
+pub returns-clause-ok : goal.returns-clause-ok
+returns-clause-ok c = λ own names.
+    let h = c.args.store.now.held in
+    let x = c.in-Reduces.cell in
+    let ms = c.args.modules.now.loaded in
+    let g = c.in-Some.goal in
+    let p = c.predicate_of-predicate.result in
+    let places = c.move_of.new.trial.places.items in
+    let made = c.in-Some-2.made in
+    let a = account_at own names h c.args.goals.now.goals c.args.shoens.now.shoens ms c.args.last_goal c.args.entries in
+    let allows : Allows ms h p places x made c.args.clause = λ f knows.
+    (let P : Option (Move CellName) → Type 0 = λ o. MovesAs f h (contents ms) (meaning f h x) c.args.clause p places o in
+    let k = c.kind_of-kind.ensures.kind f knows.reads in
+    subst P c.in-Some-2.is (c.in_ok-made.ensures.moves f knows.reads (contents ms) (meaning f h x) k (c.predicate_of-predicate.ensures.has f knows h (meaning f h x) k))) in
+    is_reduction a c.args.store.now c.draft_move.new.store c.args.number c.args.clause c.args.goals.now.shoens c.draft_move.new.goals.room g x c.in-Some-get.shoen p places made c.begin.new.draft c.draft_move.new.draft refl
+    (sym c.if-not-are_numbers.ensures) (sym c.in-Some.ensures.goal) c.in-Reduces.is allows c.if-entries-ge-MOST_ENTRIES.false
+    (sym c.in-Some-get.ensures.value) c.in-Some-get.ensures.number c.requires.owned c.requires.shoens c.requires.numbered c.in_ok-draft_move.ensures.grown.held
+    c.begin.ensures (c.in_ok-draft_move.ensures.ok c.args.clause allows)

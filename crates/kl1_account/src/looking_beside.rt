@@ -1,0 +1,157 @@
+// Goals that are looked at when a module is loaded.
+
+ghost use Rattle.std.specs.Prelude.{◌≡◌, ◌++◌, false, [], ◌∷◌, OnOk};
+ghost use Rattle.kl1_model.specs.Term.{Term};
+ghost use Rattle.kl1_text.specs.declared.cell_name.CellName.{CellName};
+ghost use Rattle.kl1_store.specs.Held.{Held, IsIn};
+ghost use Rattle.kl1_store.specs.Hooks.{HasGrown};
+ghost use Rattle.kl1_clause.specs.Predicates.{AreSome};
+ghost use Rattle.kl1_moves.specs.Kinds.{IsKind};
+ghost use Rattle.kl1_moves.specs.Moves.{HasPredicate};
+ghost use Rattle.kl1_modules.specs.Numbered.{number_of};
+ghost use Rattle.kl1_modules.specs.Finding.{contents, is_numbered};
+ghost use Rattle.kl1_account.specs.Fitting.{Reading};
+ghost use Rattle.kl1_account.specs.Kept.{IsTaskIn, AreGoalsIn};
+ghost use Rattle.kl1_account.specs.Works.{Knows};
+ghost use Rattle.kl1_account.specs.Looking.{FindsOut, FindsTask, LooksBelow, LooksAtAll};
+
+use crate::draft::Change;
+use crate::looking::look_at;
+use kl1_clause::Predicate;
+use kl1_goals::{Goal, GoalTable, Task};
+use kl1_modules::{Loaded, Modules};
+use kl1_moves::{Kind, Trial, kind_of, or_none};
+use kl1_store::{Cell, Store};
+use kl1_text::CellName;
+use std::alloc::AllocError;
+
+/// The clauses of the predicate of a goal of a kind, in modules or in one that is drafted; none where there is no such predicate,
+/// or it is no call.
+fn predicate_beside<'a>(
+    modules: &'a Modules,
+    draft: &'a Loaded,
+    kind: Kind<CellName>,
+) -> Predicate<'a, CellName>
+    requires { is_numbered modules.now.loaded (number_of draft.now) ≡ false }
+    ensures some { AreSome result.names.now result.clauses.now }
+    ensures has { (f : Reading) → Knows (modules.now.loaded ++ draft.now ∷ []) f → (h : Held CellName) (t : Term) → IsKind f h t kind → HasPredicate f h (contents (modules.now.loaded ++ draft.now ∷ [])) kind result }
+{
+    match kind {
+        Kind::Calls(call) => or_none(modules.find_beside(
+            draft,
+            call.module_name,
+            call.name,
+            call.count,
+        )),
+        Kind::Unifies(_, _) => or_none(None),
+        Kind::Goes => or_none(None),
+        Kind::Waits(_) => or_none(None),
+        Kind::Nothing => or_none(None),
+    }
+}
+
+/// Looks at the goal of a number, which is for a cell.
+fn look_at_cell(
+    store: &mut Store<CellName>,
+    modules: &Modules,
+    draft: &Loaded,
+    trial: &mut Trial<CellName>,
+    number: u64,
+    cell: Cell<CellName>,
+    changes: &mut Vec<Change>,
+) -> Result<(), AllocError>
+    requires cell { IsIn store.old.held cell }
+    requires new { is_numbered modules.now.loaded (number_of draft.now) ≡ false }
+    ensures finds { OnOk result (FindsOut (modules.now.loaded ++ draft.now ∷ []) store.old.held store.new.hooks cell number changes.old.items changes.new.items) }
+    ensures held { store.new.held ≡ store.old.held }
+    ensures grown { HasGrown store.old store.new }
+{
+    let kind = kind_of(store, cell);
+    let predicate = predicate_beside(modules, draft, kind);
+    look_at(store, kind, predicate, trial, number, changes)
+}
+
+/// Looks at a goal, unless it is a monitor.
+fn look_at_task(
+    store: &mut Store<CellName>,
+    modules: &Modules,
+    draft: &Loaded,
+    trial: &mut Trial<CellName>,
+    number: u64,
+    task: Task<CellName>,
+    changes: &mut Vec<Change>,
+) -> Result<(), AllocError>
+    requires task { IsTaskIn store.old.held task }
+    requires new { is_numbered modules.now.loaded (number_of draft.now) ≡ false }
+    ensures finds { OnOk result (FindsTask (modules.now.loaded ++ draft.now ∷ []) store.old.held store.new.hooks number task changes.old.items changes.new.items) }
+    ensures held { store.new.held ≡ store.old.held }
+    ensures grown { HasGrown store.old store.new }
+{
+    match task {
+        Task::Monitor => Ok(()),
+        Task::Reduces(cell) => look_at_cell(store, modules, draft, trial, number, cell, changes),
+    }
+}
+
+/// Looks at the goal of number 0, where there is one and it is no monitor.
+fn look_at_first(
+    store: &mut Store<CellName>,
+    goals: &GoalTable<CellName>,
+    modules: &Modules,
+    draft: &Loaded,
+    trial: &mut Trial<CellName>,
+    changes: &mut Vec<Change>,
+) -> Result<(), AllocError>
+    requires changes { changes.old.items ≡ [] }
+    requires goals { AreGoalsIn store.old.held goals.now.goals }
+    requires new { is_numbered modules.now.loaded (number_of draft.now) ≡ false }
+    ensures looks { OnOk result (LooksBelow (modules.now.loaded ++ draft.now ∷ []) store.old.held store.new.hooks 1 goals.now.goals changes.new.items) }
+    ensures held { store.new.held ≡ store.old.held }
+    ensures grown { HasGrown store.old store.new }
+{
+    match goals.get(0) {
+        None => Ok(()),
+        Some(goal) => look_at_task(
+            store,
+            modules,
+            draft,
+            trial,
+            goal.number,
+            goal.task,
+            changes,
+        ),
+    }
+}
+
+/// Looks at all goals but the monitors, where a module that is drafted is there too. Where memory is refused, more may hang.
+pub(crate) fn look_at_all(
+    store: &mut Store<CellName>,
+    goals: &GoalTable<CellName>,
+    modules: &Modules,
+    draft: &Loaded,
+    trial: &mut Trial<CellName>,
+    changes: &mut Vec<Change>,
+) -> Result<(), AllocError>
+    requires changes { changes.old.items ≡ [] }
+    requires goals { AreGoalsIn store.old.held goals.now.goals }
+    requires new { is_numbered modules.now.loaded (number_of draft.now) ≡ false }
+    ensures looks { OnOk result (LooksAtAll (modules.now.loaded ++ draft.now ∷ []) store.old.held store.new.hooks goals.now.goals changes.new.items) }
+    ensures held { store.new.held ≡ store.old.held }
+    ensures grown { HasGrown store.old store.new }
+{
+    look_at_first(store, goals, modules, draft, trial, changes)?;
+    let mut number = 0;
+    while let Some(goal) = goals.after(number) {
+        look_at_task(
+            store,
+            modules,
+            draft,
+            trial,
+            goal.number,
+            goal.task,
+            changes,
+        )?;
+        number = goal.number;
+    }
+    Ok(())
+}

@@ -1,0 +1,128 @@
+-- The cells of a goal that is started.
+use Rattle.std.proofs.Common.{◌≡◌, ℕ, zero, suc, ◌+◌, ◌-◌, ◌<◌, ◌≤◌, List, [], ◌∷◌, ◌++◌, length, map, reverse, refl, ap, sym, ◌∙◌, subst, slice_index_or, arith}
+use Rattle.kl1_model.specs.declared.built_in.BuiltIn.{BuiltIn}
+use Rattle.kl1_model.specs.Term.{Term, Terms, variable, integer, atom, structure, none, more, substituted, each_substituted}
+use Rattle.kl1_model.specs.TermCode.{NodeCode, nodes_of, read_nodes, reads-back}
+use Rattle.kl1_model.specs.Meaning.{highest, highest_in, variables_of, variables_in}
+use Rattle.kl1_term.proofs.VariableFacts.{highest_is}
+use Rattle.kl1_store.specs.declared.cell.Cell.{Cell}
+use Rattle.kl1_store.specs.declared.cell.Cell.TheVariants as cell
+use Rattle.kl1_store.specs.Held.{Held, is_bound, AreWithin, IsIn, AreIn}
+use Rattle.kl1_store.specs.Meaning.{term_of}
+use Rattle.kl1_store.specs.Sound.{Grown, IsFormed}
+use Rattle.kl1_store.proofs.Terms.{term_of-unbound}
+use Rattle.kl1_clause.specs.declared.instruction.Instruction.{Instruction}
+use Rattle.kl1_clause.specs.Instructions.{code_in, IsRowOf}
+use Rattle.kl1_match.specs.Rows.{first_or}
+use Rattle.kl1_match.specs.Steps.{Agrees}
+use Rattle.kl1_match.specs.Built.{AreBelow, Stacked, BuildsRow}
+use Rattle.kl1_match.specs.Variables.{with_variables, fresh_cells}
+use Rattle.kl1_match.specs.GoalCells.{AreNext, AreGoalVariables, IsGoalBuilt, BuildsGoal}
+use Rattle.kl1_match.proofs.Rows.{AreWithin-reverse, first_within, first_term_is}
+use Rattle.kl1_match.proofs.Steps.{within_at}
+use Rattle.kl1_match.proofs.Built.{all_still_in}
+use Rattle.kl1_match.proofs.Places.{length-fresh, at_fresh, beyond_unbound}
+use Rattle.kl1_match.proofs.Bodies.{rows_below}
+use Rattle.kl1_match.proofs.BuiltNodes.{AreFromOne, numbered_from_one, one_left, one_right}
+
+-- ---- the variables of a goal
+
+-- the variables from one on, so many, are of a store that has as many
+fresh_within : (N : Type 0) (vs ss n k : ℕ) → n + k ≤ vs → AreWithin {N = N} vs ss (fresh_cells n k)
+fresh_within N vs ss n zero h = tt
+fresh_within N vs ss n (suc k) h = (omega (arith, h), fresh_within N vs ss (suc n) k (omega (arith, h)))
+
+-- behind a cell for none, new variables are the next
+behind_filler : {N : Type 0} (filler : Cell N) (n count last v : ℕ) → n ≡ last + 1 → 1 ≤ v → v ≤ count → slice_index_or (filler ∷ fresh_cells n count) v (cell.Variable 0) ≡ cell.Variable (last + v)
+behind_filler filler n count last zero e low high = absurd (omega (arith, low))
+behind_filler filler n count last (suc k) e low high =
+    let same : n + k ≡ last + suc k = omega (arith, e) in
+    at_fresh n count k (cell.Variable 0) (omega (arith, high)) ∙ ap (λ m. cell.Variable m) same
+
+-- the cells that are put for a goal's variables
+pub variables_put : {N : Type 0} (old new : Held N) (count : ℕ) (name : N) (start first cells : List (Cell N)) →
+    IsFormed old → 0 < old.variables → start ≡ [] → first ≡ start ++ cell.Atom name ∷ [] → new ≡ with_variables old count → cells ≡ first ++ fresh_cells old.variables count →
+    AreGoalVariables new (old.variables - 1) count cells
+variables_put {N = N} old new count name start first cells formed some start_is first_is is cells_are =
+    let last = old.variables - 1 in
+    let made : Held N = with_variables old count in
+    let all : List (Cell N) = cell.Atom name ∷ fresh_cells old.variables count in
+    let same : cells ≡ all = cells_are ∙ ap (λ xs. xs ++ fresh_cells old.variables count) (first_is ∙ ap (λ xs. xs ++ cell.Atom name ∷ []) start_is) in
+    let result : AreGoalVariables made last count all = record {
+      inside = (tt, fresh_within N made.variables (length made.structures) old.variables count (omega arith));
+      next = record {
+        length_is = omega (arith, length-fresh N old.variables count);
+        are = λ v low high. behind_filler (cell.Atom name) old.variables count last v (omega (arith, some)) low high;
+      };
+      free = λ v low high. beyond_unbound old.variables old.structures [] old.bindings (last + v) formed.bound (omega (arith, low));
+    } in
+    let P : Held N → Type 0 = λ h. AreGoalVariables h last count all in
+    let Q : List (Cell N) → Type 0 = λ xs. AreGoalVariables new last count xs in
+    subst Q (sym same) (subst P (sym is) result)
+
+-- they still are where a store has grown and nothing was bound
+pub still_variables : {N : Type 0} (old new : Held N) (last count : ℕ) (cells : List (Cell N)) → Grown old new → new.bindings ≡ old.bindings → AreGoalVariables old last count cells → AreGoalVariables new last count cells
+still_variables old new last count cells grown same vs = record {
+  inside = all_still_in old new cells grown vs.inside;
+  next = vs.next;
+  free = λ v low high. ap (λ bs. is_bound (last + v) bs) same ∙ vs.free v low high;
+}
+
+-- the row of a goal has no variable beyond its greatest
+pub goal_row_below : (names : List (List ℕ)) (row : List Instruction) (goal : Term) (count : ℕ) → IsRowOf names row (nodes_of goal) → highest goal < count → AreBelow count row
+goal_row_below names row goal count is h = rows_below names row count (omega (arith, h, highest_is (map (code_in names) row) goal is.nodes_are))
+
+-- so none beyond the cells that were put for its variables
+pub goal_row_has : {N : Type 0} (names : List (List ℕ)) (row : List Instruction) (goal : Term) (last : ℕ) (cells : List (Cell N)) → IsRowOf names row (nodes_of goal) → AreNext last (highest goal) cells → AreBelow (length cells) row
+goal_row_has names row goal last cells is next = goal_row_below names row goal (length cells) is (omega (arith, next.length_is))
+
+-- ---- the goal
+
+-- terms that are put for variables are the same where they are for those of the term
+mutual
+  same_term : (d e : ℕ → Term) (count : ℕ) → ((v : ℕ) → 1 ≤ v → v ≤ count → d v ≡ e v) → (t : Term) → highest t ≤ count → AreFromOne (variables_of t) → substituted d t ≡ substituted e t
+  same_term d e count same (variable n) high low = same n low.0 high
+  same_term d e count same (integer i) high low = refl
+  same_term d e count same (atom a) high low = refl
+  same_term d e count same (structure f ts) high low = ap (structure f) (same_terms d e count same ts high low)
+
+  same_terms : (d e : ℕ → Term) (count : ℕ) → ((v : ℕ) → 1 ≤ v → v ≤ count → d v ≡ e v) → (ts : Terms) → highest_in ts ≤ count → AreFromOne (variables_in ts) → each_substituted d ts ≡ each_substituted e ts
+  same_terms d e count same none high low = refl
+  same_terms d e count same (more t ts) high low =
+      ap (λ u. more u (each_substituted d ts)) (same_term d e count same t (omega (arith, high)) (one_left (variables_of t) (variables_in ts) low))
+      ∙ ap (more (substituted e t)) (same_terms d e count same ts (omega (arith, high)) (one_right (variables_of t) (variables_in ts) low))
+
+-- what was built of a row is what it means
+pub goal_built : {N : Type 0} (built : BuiltIn → N) (names : List N) (row : List Instruction) (cells : List (Cell N)) (old new : Held N) (stack : List (Cell N)) (d x : Cell N) →
+    AreIn old cells → BuildsRow built names old new cells row stack → IsIn new d → first_or d (reverse stack) ≡ x → BuildsGoal built names row cells old new x
+goal_built {N = N} built names row cells old new stack d x inside b there first =
+    let P : Cell N → Type 0 = λ y. IsIn new y in
+    record {
+      inside = subst P first (first_within new.variables (length new.structures) d (reverse stack) there (AreWithin-reverse new.variables (length new.structures) stack b.inside));
+      variables = b.count;
+      kept = λ f reads. (b.stacked f reads).kept;
+      built_is = λ f reads goal is. goal_means f goal (b.stacked f reads) is;
+    }
+  where
+    goal_means : (f : N → List ℕ) (goal : Term) → Stacked f old new cells (map (code_in (map f names)) row) stack → IsRowOf (map f names) row (nodes_of goal) → IsGoalBuilt f old new cells goal x
+    goal_means f goal s is =
+        let read : read_nodes (map (code_in (map f names)) row) [] ≡ goal ∷ [] = ap (λ (cs : List NodeCode). read_nodes cs []) is.nodes_are ∙ reads-back goal [] in
+        let means : (e : ℕ → Term) → Agrees f old cells e → term_of f new x ≡ substituted e goal = λ e agrees.
+        ap (term_of f new) (sym first)
+        ∙ (first_term_is f new d (reverse stack) ∙ ap (first_or (term_of f new d)) (s.terms e agrees ∙ ap (λ (ts : List Term). map (substituted e) ts) read)) in
+        let own : ℕ → Term = λ v. term_of f old (slice_index_or cells v (cell.Variable 0)) in
+        let here : term_of f new x ≡ substituted own goal = means own (λ v below. refl) in
+        let Q : Cell N → Type 0 = λ y. IsIn old y in
+        record {
+          means = means;
+          term = λ numbered last next.
+              here ∙ same_term own (λ v. term_of f new (cell.Variable (last + v))) (highest goal)
+              (λ v low high.
+              let within : IsIn old (cell.Variable (last + v)) = subst Q (next.are v low high) (within_at old.variables (length old.structures) cells v (cell.Variable 0) inside (omega (arith, high, next.length_is))) in
+              ap (term_of f old) (next.are v low high) ∙ sym (s.kept (cell.Variable (last + v)) within))
+              goal (omega arith) (numbered_from_one 0 (variables_of goal) numbered);
+          next = λ numbered last next free.
+              here ∙ same_term own (λ v. variable (last + v)) (highest goal)
+              (λ v low high. ap (term_of f old) (next.are v low high) ∙ term_of-unbound f old (last + v) (free v low high))
+              goal (omega arith) (numbered_from_one 0 (variables_of goal) numbered);
+        }

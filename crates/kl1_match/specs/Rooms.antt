@@ -1,0 +1,63 @@
+-- The room that building takes, and what it leaves.
+use Rattle.std.specs.Prelude.{ℕ, ◌+◌, ◌<◌, ◌≤◌, List, [], ◌∷◌, length, Vec, vec_capacity}
+use Rattle.std.specs.declared.alloc.Global.{Global}
+use Rattle.kl1_store.specs.declared.cell.Cell.{Cell}
+use Rattle.kl1_store.specs.Held.{Room}
+use Rattle.kl1_store.specs.Spending.{Spends}
+use Rattle.kl1_clause.specs.declared.instruction.Instruction.{Instruction}
+use Rattle.kl1_clause.specs.declared.instruction.Instruction.TheVariants as instruction
+use Rattle.kl1_match.specs.declared.step.Step.{Step}
+use Rattle.kl1_match.specs.declared.step.Step.TheVariants.{Variable, Integer, Atom, Structure}
+use Rattle.kl1_match.specs.Matching.{arguments_after}
+
+-- how many structures an instruction builds
+abbrev pub structures_at : Instruction → ℕ
+structures_at (instruction.Variable n) = 0
+structures_at (instruction.Integer i) = 0
+structures_at (instruction.Atom a) = 0
+structures_at (instruction.Structure f n) = 1
+
+-- how many structures a row builds
+abbrev pub structures_in : List Instruction → ℕ
+structures_in [] = 0
+structures_in (i ∷ is) = structures_at i + structures_in is
+
+-- how many arguments the structures of a row have in all
+abbrev pub arguments_in : List Instruction → ℕ
+arguments_in [] = 0
+arguments_in (i ∷ is) = arguments_after i + arguments_in is
+
+-- how many structures a step builds
+abbrev pub step_structures : {N : Type 0} → Step N → ℕ
+step_structures (Variable n) = 0
+step_structures (Integer i) = 0
+step_structures (Atom a) = 0
+step_structures (Structure a n) = 1
+
+-- how many arguments a step takes
+abbrev pub step_arguments : {N : Type 0} → Step N → ℕ
+step_arguments (Variable n) = 0
+step_arguments (Integer i) = 0
+step_arguments (Atom a) = 0
+step_arguments (Structure a n) = n
+
+-- room for so many structures and arguments in the store, for one cell more on a stack, and for the arguments in a list
+pub record HasRoomFor {N : Type 0} (structures arguments : ℕ) (room : Room) (stack list : Vec (Cell N) Global) : Type 0 where
+  pub structures_fit : structures ≤ room.structures
+  pub arguments_fit : arguments ≤ room.arguments
+  pub stack_fits : length stack.items < vec_capacity stack
+  pub list_fits : arguments ≤ vec_capacity list
+
+-- at most so much of the room was used, and one cell more put on the stack
+pub record UsesRoom {N : Type 0} (structures arguments : ℕ) (old new : Room) (stack after list longer : Vec (Cell N) Global) : Type 0 where
+  pub spends : Spends old new 0 structures arguments 0
+  pub height : length after.items ≤ length stack.items + 1
+  pub stack_room : vec_capacity stack ≤ vec_capacity after
+  pub list_room : vec_capacity list ≤ vec_capacity longer
+
+-- room to build a row in: in the store, on an empty stack, and in a list for arguments, which can hold so many
+pub record HasRoomForRow (room : Room) (stack list : ℕ) (row : List Instruction) : Type 0 where
+  pub structures_fit : structures_in row ≤ room.structures
+  pub arguments_fit : arguments_in row ≤ room.arguments
+  pub stack_fits : length row ≤ stack
+  pub list_fits : arguments_in row ≤ list

@@ -1,0 +1,28 @@
+-- What an event did to an account, said of the same account and event under other names.
+use Rattle.std.proofs.Common.{◌≡◌, sym, subst}
+use Rattle.std.specs.Prelude.{List, IfOk}
+use Rattle.std.specs.declared.result.Result.{Result}
+use Rattle.kl1_model.specs.Event as model
+use Rattle.kl1_model.specs.Step.{step}
+use Rattle.kl1_atoms.specs.declared.known.Known.{Known}
+use Rattle.kl1_account.specs.declared.reply.Reply.{Reply}
+use Rattle.kl1_account.specs.Account.{Account, state_of}
+use Rattle.kl1_account.specs.Fitting.{Reading, Fits}
+use Rattle.kl1_account.specs.Views.{reply_of}
+
+-- an event did this to an account, where it was answered
+abbrev pub DoesTo : {E : Type 0} → Result Reply E → Account → model.Event → Account → Type 0
+DoesTo r old event new = IfOk r (λ reply. (f : Reading) → Fits new.names f → step (state_of f old) event ≡ record { state = state_of f new; reply = reply_of reply })
+
+-- the same of the account and the event under other names
+pub does_same : {E : Type 0} (r : Result Reply E) (old other new : Account) (event by : model.Event) → other ≡ old → event ≡ by → DoesTo r other event new → DoesTo r old by new
+does_same {E} r old other new event by was is h =
+    let P : Account → Type 0 = λ a. DoesTo {E = E} r a event new in
+    let Q : model.Event → Type 0 = λ e. DoesTo {E = E} r old e new in
+    subst Q is (subst P was h)
+
+-- so where the names are as they were
+pub does_with_names : {E : Type 0} (r : Result Reply E) (old other new : Account) (event by : model.Event) → other ≡ old → event ≡ by → new.names ≡ other.names → IfOk r (λ reply. (f : Reading) → Fits other.names f → step (state_of f other) event ≡ record { state = state_of f new; reply = reply_of reply }) → DoesTo r old by new
+does_with_names {E} r old other new event by was is names h =
+    let P : List Known → Type 0 = λ ks. IfOk {E = E} r (λ reply. (f : Reading) → Fits ks f → step (state_of f other) event ≡ record { state = state_of f new; reply = reply_of reply }) in
+    does_same r old other new event by was is (subst P (sym names) h)

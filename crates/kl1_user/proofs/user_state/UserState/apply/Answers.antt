@@ -1,0 +1,17 @@
+use Rattle.std.proofs.Common.{◌∙◌, sym, ap}
+use Rattle.kl1_model.specs.Event as model
+use Rattle.kl1_account.specs.Views.{event_of}
+use Rattle.kl1_user.proofs.Steps.{does_same, does_with_names}
+use Rattle.kl1_user.proofs.user_state.UserState.apply.Goals as goal
+
+pub returns-in-Reduce-clause-step : goal.returns-in-Reduce-clause-step
+returns-in-Reduce-clause-step g c =
+    does_with_names c.reduce.result c.args.self.now c.self.inside.account c.reduce.new.self (model.reduce c.in-Reduce.goal.0 c.in-Reduce.clause.0) (event_of c.args.event.now) c.self.view_is (sym (ap event_of c.in-Reduce.is)) c.reduce.ensures.names c.reduce.ensures.step
+
+pub returns-in-Load-clause-step : goal.returns-in-Load-clause-step
+returns-in-Load-clause-step g c =
+    does_same c.load.result c.args.self.now c.self.inside.account c.load.new.self (model.load c.as_slice.result.now) (event_of c.args.event.now) c.self.view_is (ap model.load c.as_slice.ensures.value ∙ sym (ap event_of c.in-Load.is)) c.load.ensures.step
+
+pub returns-in-Start-clause-step : goal.returns-in-Start-clause-step
+returns-in-Start-clause-step g c =
+    does_same c.start.result c.args.self.now c.self.inside.account c.start.new.self (model.start c.in-Start.allowance c.in-Start.low c.in-Start.high c.in-Start.goal) (event_of c.args.event.now) c.self.view_is (sym (ap event_of c.in-Start.is)) c.start.ensures.step
