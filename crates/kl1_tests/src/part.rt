@@ -22,7 +22,7 @@ pub enum Part {
 }
 
 /// The parts by the two words that name them at the front of a heading.
-const PARTS: [(&[u8], Part); 45] = [
+const PARTS: [(&[u8], Part); 47] = [
     (b"store numbers ", Part::Numbers),
     (b"store texts ", Part::Texts),
     (b"read name ", Part::Read(read::Kind::Name)),
@@ -48,6 +48,7 @@ const PARTS: [(&[u8], Part); 45] = [
     (b"read verdict ", Part::Read(read::Kind::Verdict)),
     (b"read bound ", Part::Read(read::Kind::Bound)),
     (b"read places ", Part::Read(read::Kind::Places)),
+    (b"read moves ", Part::Read(read::Kind::Moves)),
     (b"read built ", Part::Read(read::Kind::Built)),
     (b"user one ", Part::One),
     (b"user both ", Part::Both),
@@ -67,6 +68,7 @@ const PARTS: [(&[u8], Part); 45] = [
     (b"script read ", Part::Script(script::Kind::Read)),
     (b"script write ", Part::Script(script::Kind::Write)),
     (b"script script ", Part::Script(script::Kind::Script)),
+    (b"script both ", Part::Script(script::Kind::Both)),
     (b"script run ", Part::Script(script::Kind::Run)),
 ];
 

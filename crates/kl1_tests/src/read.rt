@@ -4,6 +4,7 @@ mod answer;
 mod codes;
 mod heads;
 mod kind;
+mod moves;
 mod names;
 mod nodes;
 mod numbers;

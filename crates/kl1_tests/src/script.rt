@@ -5,6 +5,7 @@ mod commands;
 mod devices;
 mod kind;
 mod lines;
+mod over_both;
 mod records;
 mod replies;
 mod rows;

@@ -6,9 +6,11 @@ mod operands;
 mod rooms;
 mod sheet;
 mod stores;
+mod streams;
 mod trees;
 mod undone;
 mod views;
 mod written;
 
 pub use stores::Stores;
+pub use views::argument;

@@ -2,6 +2,7 @@
 
 use crate::read::heads::put_verdict;
 use crate::read::kind::Kind;
+use crate::read::moves::put_moves;
 use crate::read::texts::put_line;
 use crate::rows::{Text, cut, small_number_of};
 use kl1_clause::{Code, CodeFault, CompiledClause, Instruction, Name};
@@ -23,6 +24,7 @@ fn put_of_code(answer: &mut Text, kind: Kind, code: &Code, source: &[u8], behind
         Kind::Code => put_compiled(answer, code, source),
         Kind::Predicate => put_predicate(answer, code, behind),
         Kind::Sizes => put_sizes(answer, code),
+        Kind::Moves => put_moves(answer, code, behind),
         _ => put_verdict(answer, kind, code, behind),
     }
 }

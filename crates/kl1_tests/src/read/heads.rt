@@ -52,7 +52,7 @@ fn put_second_in(
 }
 
 /// The cell of a goal in a store.
-fn cell_of(
+pub fn cell_of(
     answer: &mut Text,
     store: &mut Store<AtomText>,
     goal: &Term,
@@ -155,7 +155,7 @@ fn put_told(
 }
 
 /// Puts the numbers of variables.
-fn put_numbers(answer: &mut Text, numbers: &[u32]) {
+pub fn put_numbers(answer: &mut Text, numbers: &[u32]) {
     for number in numbers {
         answer.put(b" ");
         answer.put_number(u64::from(*number));
@@ -236,7 +236,7 @@ fn first_of(code: &Code) -> Option<&CompiledClause>
 }
 
 /// The goal behind the colon of a goal.
-fn behind_colon<N: NameValue>(store: &Store<N>, goal: Cell<N>) -> Option<Cell<N>>
+pub fn behind_colon<N: NameValue>(store: &Store<N>, goal: Cell<N>) -> Option<Cell<N>>
     ensures { IfSome result (IsIn store.now.held) }
 {
     match walked(store, goal) {

@@ -26,5 +26,6 @@ pub enum Kind {
     Verdict,
     Bound,
     Places,
+    Moves,
     Built,
 }

@@ -26,7 +26,7 @@ fn put_answer(answer: &mut Text, kind: Kind, act: &[u8]) {
         Kind::Module => put_module(answer, kind, act),
         Kind::Items | Kind::Clauses => put_items(answer, kind, act),
         Kind::Code | Kind::Predicate | Kind::Sizes => put_by_code(answer, kind, act),
-        Kind::Verdict | Kind::Bound | Kind::Places => put_by_code(answer, kind, act),
+        Kind::Verdict | Kind::Bound | Kind::Places | Kind::Moves => put_by_code(answer, kind, act),
         Kind::Built => put_built(answer, act),
         _ => put_terms(answer, kind, act),
     }

@@ -35,6 +35,8 @@ pub enum Kind {
     Write,
     /// What is written for a script.
     Script,
+    /// What is written for a script, over a shared table of names as over a plain one.
+    Both,
     /// What is written for a script between streams that give and take little, and fail.
     Run,
 }

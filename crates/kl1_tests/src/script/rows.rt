@@ -5,6 +5,7 @@ use crate::script::commands::{is_command, is_load};
 use crate::script::devices::{is_read, is_written};
 use crate::script::kind::Kind;
 use crate::script::lines::{is_blank, is_line, is_name, is_number, is_source, is_word};
+use crate::script::over_both::is_over_both;
 use crate::script::records::is_record;
 use crate::script::replies::{is_fault, is_reply};
 use crate::script::scripts::{is_run, is_script};
@@ -29,6 +30,7 @@ pub fn is_right(alloc: Global, kind: Kind, act: &[u8], wanted: &[u8]) -> bool {
         Kind::Read => is_read(alloc, act, wanted),
         Kind::Write => is_written(alloc, act, wanted),
         Kind::Script => is_script(alloc, act, wanted),
+        Kind::Both => is_over_both(alloc, act, wanted),
         Kind::Run => is_run(alloc, act, wanted),
     }
 }

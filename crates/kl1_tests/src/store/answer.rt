@@ -15,6 +15,10 @@ pub enum Answer<N: NameValue> {
     Refused,
     Bound,
     Clash,
+    /// The stream is broken from now on.
+    Broken,
+    /// The stream was broken before.
+    Dropped,
     Yes,
     No,
     /// So many variables are named that are waited for.
@@ -48,6 +52,8 @@ fn word_of<N: NameValue>(answer: Answer<N>) -> &'static [u8] {
         Answer::Refused => b"refused",
         Answer::Bound => b"bound",
         Answer::Clash => b"clash",
+        Answer::Broken => b"broken",
+        Answer::Dropped => b"dropped",
         Answer::Yes => b"yes",
         Answer::No => b"no",
         Answer::Wait(_) => b"wait",

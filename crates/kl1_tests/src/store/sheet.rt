@@ -4,7 +4,7 @@ use crate::rows::cut;
 use crate::store::answer::{Answer, is_wanted};
 use crate::store::operands::read_cells;
 use crate::store::written::Written;
-use crate::store::{acts, rooms, undone, views};
+use crate::store::{acts, rooms, streams, undone, views};
 use kl1_store::{Cell, Store};
 use std::alloc::{AllocError, Global};
 
@@ -26,6 +26,8 @@ enum Way {
     Room,
     /// It looks at something.
     See,
+    /// It is on a report stream.
+    Stream,
 }
 
 /// In what way an act is done, by the word before it, and the act.
@@ -38,6 +40,9 @@ fn way_of(act: &[u8]) -> (Way, &[u8]) {
     }
     if let Some(act) = act.strip_prefix(b"see ") {
         return (Way::See, act);
+    }
+    if let Some(act) = act.strip_prefix(b"stream ") {
+        return (Way::Stream, act);
     }
     (Way::Plain, act)
 }
@@ -76,6 +81,7 @@ impl<N: Written> Sheet<N> {
             Way::Back => undone::answer(&mut self.store, letter, cells),
             Way::Room => rooms::answer(&mut self.store, cells),
             Way::See => Ok(views::answer(&self.store, self.told.as_slice(), letter, cells)),
+            Way::Stream => streams::answer(&mut self.store, letter, cells),
             Way::Plain => acts::answer(&mut self.store, &mut self.told, letter, cells),
         }
     }

@@ -28,12 +28,7 @@ fn are_shown_alike(user: &mut Player, plain: &Plain) -> Option<bool> {
 
 /// Whether an event does to a slow account what is wanted of it, and an account that it has been done to is like that one then:
 /// they have the same first goal, and show the same goals of shoens.
-fn are_alike(
-    user: &mut Player,
-    plain: &mut Plain,
-    event: &Event,
-    wanted: &[u8],
-) -> Option<bool> {
+fn are_alike(user: &mut Player, plain: &mut Plain, event: &Event, wanted: &[u8]) -> Option<bool> {
     if !plain.is_answered(event, wanted)? {
         return Some(false);
     }

@@ -14,9 +14,9 @@
 use crate::rows::{cut, is_counted, number_of};
 use crate::user::answers::is_answered;
 use crate::user::made::made_goal;
+use crate::user::player::Player;
 use kl1_read::read_goal;
 use kl1_term::Term;
-use crate::user::player::Player;
 use kl1_user::{ClauseNo, Event, GoalNo, Query, ShoenNo};
 use std::alloc::Global;
 

@@ -1,8 +1,8 @@
 // Answers of an account beside the texts that are wanted.
 
 use crate::rows::{cut, is_counted, is_joined, number_of};
-use kl1_text::AtomText;
 use crate::user::player::Player;
+use kl1_text::AtomText;
 use kl1_user::{Event, Query, Refusal, Reply, ShoenNo};
 
 /// The number and word of a refusal; for the line of a source nothing.

@@ -1,0 +1,146 @@
+// What goals can do by the clauses of a code.
+
+ghost use Rattle.std.specs.Prelude.{◌<◌, length};
+ghost use Rattle.kl1_clause.specs.Predicates.{AreSome};
+ghost use Rattle.kl1_match.specs.Instances.{AreThere};
+ghost use Rattle.kl1_moves.specs.Kinds.{KindIn};
+
+use crate::read::heads::{behind_colon, cell_of, put_numbers};
+use crate::read::printed_cells::put_cells;
+use crate::rows::Text;
+use crate::store::argument;
+use kl1_clause::{Code, Predicate};
+use kl1_moves::{Kind, Move, Trial, commit, kind_of, move_of, or_none, standing_of};
+use kl1_read::read_goal;
+use kl1_store::{Cell, Store};
+use kl1_term::Term;
+use kl1_text::AtomText;
+use std::alloc::AllocError;
+
+/// Puts what each argument of the goal behind the colon of a goal can do, as a goal.
+pub fn put_moves(answer: &mut Text, code: &Code, text: &[u8]) {
+    match read_goal(answer.alloc, text) {
+        Ok(goal) => {
+            let mut store = Store::new(answer.alloc);
+            let done = put_each(answer, &mut store, code, &goal);
+            answer.note(done);
+        }
+        Err(_fault) => answer.fail(),
+    }
+}
+
+/// Puts what each argument of the goal behind the colon of a goal can do, in a new store.
+fn put_each(
+    answer: &mut Text,
+    store: &mut Store<AtomText>,
+    code: &Code,
+    goal: &Term,
+) -> Result<(), AllocError> {
+    let _zero = store.fresh()?;
+    let cell = cell_of(answer, store, goal)?;
+    let Some(Cell::Structure(structure)) = behind_colon(store, cell) else {
+        return Err(AllocError);
+    };
+    for index in 0..8 {
+        if let Some(goal) = argument(store, structure, index) {
+            put_move(answer, store, code, goal)?;
+        }
+    }
+    Ok(())
+}
+
+/// Puts the word for a kind of goal.
+fn put_kind(answer: &mut Text, kind: Kind<AtomText>) {
+    let word: &[u8] = match kind {
+        Kind::Calls(_) => b" call",
+        Kind::Unifies(_, _) => b" unification",
+        Kind::Goes => b" true",
+        Kind::Waits(_) => b" unbound",
+        Kind::Nothing => b" none",
+    };
+    answer.put(word);
+}
+
+/// The clauses of a code that are tried on a goal of a kind.
+fn predicate_of(code: &Code, kind: Kind<AtomText>) -> Predicate<'_, AtomText>
+    ensures { AreSome result.names.now result.clauses.now }
+{
+    match kind {
+        Kind::Calls(call) => Predicate {
+            names: code.names(),
+            clauses: code.predicate(&call.name, call.count),
+        },
+        _ => or_none(None),
+    }
+}
+
+/// Puts what kind of goal a cell is, and the variables that it waits for, or what it does.
+fn put_move(
+    answer: &mut Text,
+    store: &mut Store<AtomText>,
+    code: &Code,
+    goal: Cell<AtomText>,
+) -> Result<(), AllocError> {
+    if !store.holds(goal) {
+        return Err(AllocError);
+    }
+    let kind = kind_of(store, goal);
+    put_kind(answer, kind);
+    let predicate = predicate_of(code, kind);
+    let mut trial = Trial::new(answer.alloc);
+    match standing_of(store, kind, predicate, &mut trial)? {
+        Some(clause) => put_done(answer, store, kind, predicate, clause, &mut trial),
+        None => {
+            answer.put(b" waits");
+            put_numbers(answer, trial.awaited.as_slice());
+            Ok(())
+        }
+    }
+}
+
+/// Puts what a goal of a kind does by the clause of a number: the clause and the goals of its body, or the terms that it
+/// unifies, or a word.
+fn put_done(
+    answer: &mut Text,
+    store: &mut Store<AtomText>,
+    kind: Kind<AtomText>,
+    predicate: Predicate<'_, AtomText>,
+    clause: u64,
+    trial: &mut Trial<AtomText>,
+) -> Result<(), AllocError>
+    requires kind { KindIn store.old.held kind }
+    requires predicate { AreSome predicate.names.now predicate.clauses.now }
+{
+    match move_of(store, kind, predicate, clause, trial)? {
+        None => answer.fail(),
+        Some(Move::Fails) => answer.put(b" fails"),
+        Some(Move::Goes) => answer.put(b" goes"),
+        Some(Move::Unifies(left, right)) => put_cells(answer, store, &[left, right])?,
+        Some(Move::Commits(place)) => {
+            answer.put(b" ");
+            answer.put_number(clause);
+            put_body(answer, store, predicate, place, trial)?;
+        }
+    }
+    Ok(())
+}
+
+/// Puts the goals of the body of the clause at a place, with the terms at a trial's places in them.
+fn put_body(
+    answer: &mut Text,
+    store: &mut Store<AtomText>,
+    predicate: Predicate<'_, AtomText>,
+    place: usize,
+    trial: &mut Trial<AtomText>,
+) -> Result<(), AllocError>
+    requires place { place < length predicate.clauses.now }
+    requires predicate { AreSome predicate.names.now predicate.clauses.now }
+    requires places { AreThere store.old.held trial.old.places.items }
+{
+    if !store.holds(Cell::Variable(0)) {
+        return Err(AllocError);
+    }
+    let mut goals = Vec::new(answer.alloc);
+    commit(store, predicate, place, trial, &mut goals)?;
+    put_cells(answer, store, goals.as_slice())
+}
