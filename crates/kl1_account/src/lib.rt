@@ -23,9 +23,9 @@ mod refusal;
 mod reply;
 mod reporting;
 mod settling;
-mod top;
 mod startable;
 mod starting;
+mod top;
 
 pub use account::Account;
 pub use account_name::AccountName;
