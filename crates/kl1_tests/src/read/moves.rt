@@ -85,6 +85,18 @@ fn put_move(
         return Err(AllocError);
     }
     let kind = kind_of(store, goal);
+    put_of_kind(answer, store, code, kind)
+}
+
+/// Puts a kind of goal, and the variables that such a goal waits for, or what it does.
+fn put_of_kind(
+    answer: &mut Text,
+    store: &mut Store<AtomText>,
+    code: &Code,
+    kind: Kind<AtomText>,
+) -> Result<(), AllocError>
+    requires { KindIn store.old.held kind }
+{
     put_kind(answer, kind);
     let predicate = predicate_of(code, kind);
     let mut trial = Trial::new(answer.alloc);
