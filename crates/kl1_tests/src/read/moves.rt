@@ -1,6 +1,6 @@
 // What goals can do by the clauses of a code.
 
-ghost use Rattle.std.specs.Prelude.{◌<◌, length};
+ghost use Rattle.std.specs.Prelude.{◌<◌, length, IfSome};
 ghost use Rattle.kl1_clause.specs.Predicates.{AreSome};
 ghost use Rattle.kl1_match.specs.Instances.{AreThere};
 ghost use Rattle.kl1_moves.specs.Kinds.{KindIn};
@@ -14,7 +14,7 @@ use kl1_moves::{Kind, Move, Trial, commit, kind_of, move_of, or_none, standing_o
 use kl1_read::read_goal;
 use kl1_store::{Cell, Store};
 use kl1_term::Term;
-use kl1_text::AtomText;
+use kl1_text::{AtomText, NameValue};
 use std::alloc::AllocError;
 
 /// Puts what each argument of the goal behind the colon of a goal can do, as a goal.
@@ -50,7 +50,7 @@ fn put_each(
 }
 
 /// Puts the word for a kind of goal.
-fn put_kind(answer: &mut Text, kind: Kind<AtomText>) {
+fn put_kind(answer: &mut Text, kind: &Kind<AtomText>) {
     let word: &[u8] = match kind {
         Kind::Calls(_) => b" call",
         Kind::Unifies(_, _) => b" unification",
@@ -61,8 +61,18 @@ fn put_kind(answer: &mut Text, kind: Kind<AtomText>) {
     answer.put(word);
 }
 
+/// What kind of goal a cell is, where it is one of the store.
+fn kind_in<N: NameValue>(store: &Store<N>, goal: Cell<N>) -> Option<Kind<N>>
+    ensures { IfSome result (KindIn store.now.held) }
+{
+    if !store.holds(goal) {
+        return None;
+    }
+    Some(kind_of(store, goal))
+}
+
 /// The clauses of a code that are tried on a goal of a kind.
-fn predicate_of(code: &Code, kind: Kind<AtomText>) -> Predicate<'_, AtomText>
+fn predicate_of<'a>(code: &'a Code, kind: &Kind<AtomText>) -> Predicate<'a, AtomText>
     ensures { AreSome result.names.now result.clauses.now }
 {
     match kind {
@@ -81,15 +91,30 @@ fn put_move(
     code: &Code,
     goal: Cell<AtomText>,
 ) -> Result<(), AllocError> {
-    if !store.holds(goal) {
-        return Err(AllocError);
+    match kind_in(store, goal) {
+        Some(kind) => put_of_kind(answer, store, code, &kind),
+        None => Err(AllocError),
     }
-    let kind = kind_of(store, goal);
+}
+
+/// Puts a kind of goal, and the variables that such a goal waits for, or what it does.
+fn put_of_kind(
+    answer: &mut Text,
+    store: &mut Store<AtomText>,
+    code: &Code,
+    kind: &Kind<AtomText>,
+) -> Result<(), AllocError>
+    requires { KindIn store.old.held kind.now }
+{
     put_kind(answer, kind);
     let predicate = predicate_of(code, kind);
     let mut trial = Trial::new(answer.alloc);
-    match standing_of(store, kind, predicate, &mut trial)? {
-        Some(clause) => put_done(answer, store, kind, predicate, clause, &mut trial),
+    let tried = *kind;
+    match standing_of(store, tried, predicate, &mut trial)? {
+        Some(clause) => {
+            let moved = *kind;
+            put_done(answer, store, moved, predicate, clause, &mut trial)
+        }
         None => {
             answer.put(b" waits");
             put_numbers(answer, trial.awaited.as_slice());
