@@ -29,10 +29,18 @@ impl Player {
     /// An account in which nothing has happened.
     pub fn fresh(alloc: Global) -> Option<Self> {
         let name = AccountName::read(b"alice")?;
-        let user = UserState::fresh(alloc, name).ok()?;
-        let (names, mut seats) = PlainTable::new(alloc, 1).ok()?;
+        match Player::named(alloc, name) {
+            Ok(player) => Some(player),
+            Err(_refused) => None,
+        }
+    }
+
+    /// An account of this name in which nothing has happened.
+    fn named(alloc: Global, name: AccountName) -> Result<Self, AllocError> {
+        let user = UserState::fresh(alloc, name)?;
+        let (names, mut seats) = PlainTable::new(alloc, 1)?;
         let seat = next_plain_seat(&names, &mut seats);
-        Some(Player { user, names, seat })
+        Ok(Player { user, names, seat })
     }
 
     /// Does an event to the account.
