@@ -1,14 +1,14 @@
 -- The goals of places, one of which changes.
-use Rattle.std.proofs.Common.{◌≡◌, ℕ, zero, suc, ◌+◌, ◌<◌, ◌≤◌, ◌==◌, ◌&&◌, Bool, true, false, cond, List, [], ◌∷◌, ◌++◌, Option, Some, None, length, get_or, set, drop, map, refl, sym, ◌∙◌, ap, subst, arith, add-one, eq-eqb, nat_lt}
-use Rattle.std.proofs.lemmas.Bool.{ne_eqb, lt-ltb, le-ltb}
+use Rattle.std.proofs.Common.{◌≡◌, ℕ, zero, suc, ◌+◌, ◌-◌, ◌<◌, ◌≤◌, ◌==◌, ◌&&◌, Bool, not, true, false, cond, List, [], ◌∷◌, ◌++◌, Option, Some, None, length, get_or, set, take, drop, map, refl, sym, ◌∙◌, ap, subst, arith, add-one, eq-eqb, nat_lt}
+use Rattle.std.proofs.lemmas.Bool.{ne_eqb, lt-ltb, le-ltb, false≢true}
 use Rattle.std.specs.List.{filter, find}
-use Rattle.std.proofs.lemmas.List.{get_or-map, map-set, set-get_or, get_or_default, length-map, map_push, length-set, length_push}
+use Rattle.std.proofs.lemmas.List.{get_or-map, map-set, set-get_or, get_or_default, length-map, map_push, length-set, length_push, length-take-le, take-map}
 use Rattle.kl1_model.specs.Limits.{monitor_priority}
 use Rattle.kl1_goals.specs.declared.goal.Goal.{Goal}
 use Rattle.kl1_goals.specs.declared.slot.Slot.{Slot}
 use Rattle.kl1_goals.specs.Lists.{is_other, has_number, is_after, stood_by, number_of}
 use Rattle.kl1_goals.specs.Tables.{Ascend, AreBefore}
-use Rattle.kl1_goals.specs.Slots.{goals_in, first_of, numbers_of, number_in, level_in, rank_in, AreLow, AreBelow, IsCut, IsAbsent, IsHeldAt, IsWithout, AreSlots, held_in, priority_in}
+use Rattle.kl1_goals.specs.Slots.{goals_in, first_of, numbers_of, number_in, level_in, rank_in, AreLow, AreBelow, IsCut, IsAbsent, IsHeldAt, IsWithout, AreSlots, IsEmptyEnd, held_in, priority_in}
 use Rattle.kl1_goals.specs.Readies.{stands}
 use Rattle.kl1_queue.specs.Ranks.{IsPriority}
 use Rattle.kl1_goals.proofs.Orders.{ascend_from, ascend_push, low_push}
@@ -228,6 +228,63 @@ slots_changed ss k empty emptied ranks more s t h w e number level r counted =
       ranked = r ∙ ap (λ l. set l k (rank_in t)) h.ranked ∙ sym (map-set rank_in ss k t);
       counted = counted ∙ sym (length-set ss k t);
     }
+
+-- places without the last, which is empty
+end_on : {N : Type 0} (b : Bool) (g : Goal N) (gs : List (Goal N)) → b ≡ false → gs ≡ cond b (g ∷ gs) gs
+end_on b g gs e = rw e refl
+
+pub goals_taken : {N : Type 0} (ss : List (Slot N)) (k : ℕ) (s : Slot N) → length ss ≡ k + 1 → get_or ss k s ≡ s → s.is_held ≡ false → goals_in (take k ss) ≡ goals_in ss
+goals_taken [] k s w e h = absurd (omega (arith, w))
+goals_taken (t ∷ []) zero s w e h = rw e (end_on s.is_held s.goal [] h)
+goals_taken (t ∷ u ∷ ss) zero s w e h = absurd (omega (arith, w))
+goals_taken (t ∷ ss) (suc k) s w e h = ap (λ l. cond t.is_held (t.goal ∷ l) l) (goals_taken ss k s (omega (arith, w)) e h)
+
+pub not_true : (b : Bool) → not b ≡ true → b ≡ false
+not_true false e = refl
+not_true true e = absurd (false≢true e)
+
+pub empty_end : {N : Type 0} (ss : List (Slot N)) (k : ℕ) (s : Slot N) → length ss ≡ k + 1 → get_or ss k s ≡ s → s.is_held ≡ false → IsEmptyEnd ss
+empty_end ss k s w e h =
+    let one : length ss - 1 ≡ k = omega (arith, w) in
+    record { some = omega (arith, w); goals = rw one (goals_taken ss k s w e h) }
+
+ascend_take : (from k : ℕ) (ns : List ℕ) → Ascend from ns → Ascend from (take k ns)
+ascend_take from zero ns a = tt
+ascend_take from (suc k) [] a = tt
+ascend_take from (suc k) (n ∷ ns) a = (a.0, ascend_take (suc n) k ns a.1)
+
+low_take : (k : ℕ) (ps : List ℕ) → AreLow ps → AreLow (take k ps)
+low_take zero ps a = tt
+low_take (suc k) [] a = tt
+low_take (suc k) (p ∷ ps) a = (a.0, low_take k ps a.1)
+
+pub goals_trimmed : {N : Type 0} (ss ts : List (Slot N)) (count : ℕ) → count ≡ length ss → ts ≡ take (count - 1) ss → IsEmptyEnd ss → goals_in ts ≡ goals_in ss
+goals_trimmed ss ts count f t e = ap goals_in t ∙ ap (λ n. goals_in (take (n - 1) ss)) f ∙ e.goals
+
+pub slots_trimmed : {N : Type 0} (ss ts : List (Slot N)) (count empty fewer : ℕ) (ranks more : List ℕ) → AreSlots ss empty ranks → count ≡ length ss → ts ≡ take (count - 1) ss → IsEmptyEnd ss → fewer + 1 ≡ empty →
+    more ≡ take (length ranks - 1) ranks → AreSlots ts fewer more
+slots_trimmed {N = N} ss ts count empty fewer ranks more h f t e one r =
+    let k = count - 1 in
+    let A : List ℕ → Type 0 = λ ns. Ascend 0 ns in
+    let L : List ℕ → Type 0 = λ ps. AreLow ps in
+    let ranked : length ranks ≡ count = ap length h.ranked ∙ length-map ss rank_in ∙ sym f in
+    record {
+      ascend = rw t (subst A (take-map number_in k ss) (ascend_take 0 k (numbers_of ss) h.ascend));
+      low = rw t (subst L (take-map level_in k ss) (low_take k (map level_in ss) h.low));
+      ranked = r ∙ ap (λ n. take (n - 1) ranks) ranked ∙ ap (take k) h.ranked ∙ take-map rank_in k ss ∙ ap (map rank_in) (sym t);
+      counted = omega (arith, ap length (goals_trimmed ss ts count f t e), ap length t, e.some, f, one, h.counted, length-take-le k ss (omega (arith, f)));
+    }
+
+fewer_on : {N : Type 0} (b : Bool) (g : Goal N) (gs : List (Goal N)) (count : ℕ) → length gs ≤ count → length (cond b (g ∷ gs) gs) ≤ suc count
+fewer_on false g gs count h = omega (arith, h)
+fewer_on true g gs count h = omega (arith, h)
+
+goals_fewer : {N : Type 0} (ss : List (Slot N)) → length (goals_in ss) ≤ length ss
+goals_fewer [] = omega arith
+goals_fewer (s ∷ ss) = fewer_on s.is_held s.goal (goals_in ss) (length ss) (goals_fewer ss)
+
+pub empty_counted : {N : Type 0} (ss : List (Slot N)) (empty : ℕ) (ranks : List ℕ) → AreSlots ss empty ranks → IsEmptyEnd ss → 0 < empty
+empty_counted ss empty ranks h e = omega (arith, ap length e.goals, goals_fewer (take (length ss - 1) ss), length-take-le (length ss - 1) ss (omega arith), e.some, h.counted)
 
 length_all : {N : Type 0} (gs : List (Goal N)) → filter (λ _. true) gs ≡ gs
 length_all [] = refl

@@ -1,5 +1,5 @@
 -- The places of a table.
-use Rattle.std.specs.Prelude.{◌≡◌, ℕ, ◌+◌, ◌<◌, ◌≤◌, ◌&&◌, Bool, true, false, cond, List, [], ◌∷◌, map, length, get_or, Option, Some, None}
+use Rattle.std.specs.Prelude.{◌≡◌, ℕ, ◌+◌, ◌-◌, ◌<◌, ◌≤◌, ◌&&◌, Bool, true, false, cond, List, [], ◌∷◌, map, take, length, get_or, Option, Some, None}
 use Rattle.kl1_model.specs.Limits.{monitor_priority}
 use Rattle.kl1_queue.specs.Ranks.{rank_of}
 use Rattle.kl1_goals.specs.declared.goal.Goal.{Goal}
@@ -74,6 +74,11 @@ pub record IsHeldAt {N : Type 0} (ss : List (Slot N)) (n k : ℕ) (s : Slot N) :
   pub at : get_or ss k s ≡ s
   pub number : s.goal.number ≡ n
   pub held : s.is_held ≡ true
+
+-- places of which the last is empty
+pub record IsEmptyEnd {N : Type 0} (ss : List (Slot N)) : Type 0 where
+  pub some : 0 < length ss
+  pub goals : goals_in (take (length ss - 1) ss) ≡ goals_in ss
 
 -- places in order of number with their ranks, of which so many are empty
 pub record AreSlots {N : Type 0} (ss : List (Slot N)) (empty : ℕ) (ranks : List ℕ) : Type 0 where

@@ -17,7 +17,8 @@ use std::marker::Model;
 
 /// The goals of an account in order of number, each with the clause by which it can step, and its shoens, counted from 1.
 ///
-/// A goal that is removed leaves its place empty; empty places are dropped where they come to more than half.
+/// A goal that is removed leaves its place empty; empty places are dropped where no goal is after them, and where they come to
+/// more than half.
 #[derive(Drop)]
 pub struct GoalTable<N: NameValue> {
     slots: Vec<Slot<N>>,

@@ -5,7 +5,7 @@ ghost use Rattle.std.specs.List.{filter, find};
 ghost use Rattle.kl1_model.specs.Limits.{monitor_priority};
 ghost use Rattle.kl1_goals.specs.Lists.{has_number, is_other, stood_by, number_of};
 ghost use Rattle.kl1_goals.specs.Tables.{Ascend, AreBefore};
-ghost use Rattle.kl1_goals.specs.Slots.{numbers_of, goals_in, first_of, rank_in, level_in, AreLow, AreBelow, IsCut, IsPlace, IsAbsent, AreSlots, IsHeldAt, IsWithout};
+ghost use Rattle.kl1_goals.specs.Slots.{numbers_of, goals_in, first_of, rank_in, level_in, AreLow, AreBelow, IsCut, IsPlace, IsAbsent, AreSlots, IsHeldAt, IsEmptyEnd, IsWithout};
 
 use crate::goal::Goal;
 use crate::slot::Slot;
@@ -184,7 +184,34 @@ pub(crate) fn compact<N: NameValue>(
     rank_all(slots, queue);
 }
 
-/// Drops the empty places where they are more than half.
+/// Whether there is a last place and it is empty.
+fn ends_empty<N: NameValue>(slots: &Vec<Slot<N>>) -> bool
+    ensures { result ≡ true → IsEmptyEnd slots.now.items }
+{
+    let count = slots.len();
+    if count == 0 {
+        return false;
+    }
+    !slots[count - 1].is_held
+}
+
+/// Drops the empty places at the end.
+fn trim<N: NameValue>(slots: &mut Vec<Slot<N>>, empty: &mut usize, queue: &mut ReadyQueue)
+    requires { AreSlots slots.old.items empty.old queue.old.ranks }
+    ensures slots { AreSlots slots.new.items empty.new queue.new.ranks }
+    ensures goals { goals_in slots.new.items ≡ goals_in slots.old.items }
+    ensures len { vec_len slots.new ≤ vec_len slots.old }
+    ensures capacity { vec_capacity slots.new ≡ vec_capacity slots.old }
+    ensures room { queue.old.room ≤ queue.new.room }
+{
+    while ends_empty(slots) {
+        slots.pop();
+        queue.drop_last();
+        *empty -= 1;
+    }
+}
+
+/// Drops the empty places at the end, and all of them where they are more than half.
 pub(crate) fn tidy<N: NameValue>(
     slots: &mut Vec<Slot<N>>,
     empty: &mut usize,
@@ -197,6 +224,7 @@ pub(crate) fn tidy<N: NameValue>(
     ensures capacity { vec_capacity slots.new ≡ vec_capacity slots.old }
     ensures room { queue.old.room ≤ queue.new.room }
 {
+    trim(slots, empty, queue);
     let count = slots.len();
     if count <= FEW {
         return;

@@ -1,6 +1,6 @@
 -- The leaves of a queue's tree as ranks.
 use Rattle.std.proofs.Common.{◌≡◌, ℕ, ◌+◌, ◌-◌, ◌*◌, ◌^◌, ◌<◌, ◌≤◌, List, [], ◌∷◌, ◌++◌, length, get_or, set, take, drop, replicate, sym, ◌∙◌, ap, arith, inl, inr}
-use Rattle.std.proofs.lemmas.List.{get_or-take, get_or-drop, get_or_past, length-take-le, length-drop, get_or-set_same, get_or-set_other, get_or-replicate, length-replicate, take_more_set}
+use Rattle.std.proofs.lemmas.List.{get_or-take, get_or-drop, get_or_past, length-take-le, length-drop, get_or-set_same, get_or-set_other, get_or-replicate, length-replicate, take_more_set, take-set, take-take}
 use Rattle.std.proofs.Math.Seq.{take-set-lt}
 use Rattle.std.proofs.lemmas.Bool.{cases_lt, cases_eq}
 use Rattle.kl1_queue.specs.Ranks.{AreNone, IsFirst}
@@ -84,6 +84,11 @@ kept_shortened half depth len place bs cs q s t e = record {
     | inr n ↦ rest_set half len place 0 k bs cs e n ∙ q.rest k (omega arith)
   ];
 }
+
+pub ranks_shortened : (half len place count : ℕ) (bs cs : List ℕ) → place + 1 ≡ len → count ≡ len → drop half cs ≡ set (drop half bs) place 0 → take place (drop half cs) ≡ take (count - 1) (take len (drop half bs))
+ranks_shortened half len place count bs cs s f e =
+    let one : count - 1 ≡ place = omega (arith, s, f) in
+    ap (take place) e ∙ take-set (drop half bs) place 0 ∙ rw one (sym (take-take place len (drop half bs) (omega arith)))
 
 -- no rank at all
 nothing_at : (half rank i : ℕ) → get_or (replicate (2 * half) rank) i rank ≡ rank

@@ -1,6 +1,6 @@
 // The queue of places that are ready.
 
-ghost use Rattle.std.specs.Prelude.{◌≡◌, ◌+◌, ◌<◌, ◌≤◌, List, [], ◌∷◌, ◌++◌, length, set, take, drop, MatchOption, IfOk, IfSome, IfNone, OnOk, OnErr};
+ghost use Rattle.std.specs.Prelude.{◌≡◌, ◌+◌, ◌-◌, ◌<◌, ◌≤◌, List, [], ◌∷◌, ◌++◌, length, set, take, drop, MatchOption, IfOk, IfSome, IfNone, OnOk, OnErr};
 ghost use Rattle.kl1_model.specs.Limits.{monitor_priority};
 ghost use Rattle.kl1_queue.specs.Ranks.{Queued, rank_of, AreNone, IsFirst, IsPriority};
 
@@ -162,6 +162,16 @@ impl ReadyQueue {
         self.set_rank(place, 0);
     }
 
+    /// The last place is gone, and what it took is room.
+    pub fn drop_last(&mut self)
+        requires { 0 < length self.old.ranks }
+        ensures ranks { self.new.ranks ≡ take (length self.old.ranks - 1) self.old.ranks }
+        ensures room { self.new.room ≡ self.old.room + 1 }
+    {
+        self.len -= 1;
+        set_leaf(&mut self.best, self.half, self.len, 0);
+    }
+
     /// The first of the places that are ready.
     pub fn first(&self) -> Option<usize>
         ensures { MatchOption result (AreNone self.now.ranks) (λ k. IsFirst self.now.ranks k) }
@@ -192,9 +202,8 @@ impl ReadyQueue {
         ensures ranks { self.new.ranks ≡ [] }
         ensures room { self.new.room ≡ self.old.room + length self.old.ranks }
     {
-        while self.len > 0 {
-            self.len -= 1;
-            set_leaf(&mut self.best, self.half, self.len, 0);
+        while self.len() > 0 {
+            self.drop_last();
         }
     }
 }

@@ -1,13 +1,9 @@
-use Rattle.std.proofs.Common.{◌≡◌}
-use Rattle.kl1_queue.specs.Trees.{IsKept}
+use Rattle.std.proofs.Common.{◌≡◌, ◌+◌, length}
 use Rattle.kl1_queue.proofs.ready_queue.ReadyQueue.clear.Given as goal
 
--- it is a queue of the places that are left
+-- what the places took that are gone is room
 abbrev pub invariant-loop-self : goal.invariant-loop-self
-invariant-loop-self l = record {
-  kept : IsKept l.self-inside.half l.self-inside.depth l.self-inside.len l.self-inside.best.items;
-  half : l.self-inside.half ≡ l.initial.self-inside.half;
-}
+invariant-loop-self l = l.self.room + length l.self.ranks ≡ l.fn.self.room + length l.fn.self.ranks
 
 abbrev pub decreases-loop-self : goal.decreases-loop-self
-decreases-loop-self l = l.self-inside.len
+decreases-loop-self l = length l.self.ranks

@@ -1,0 +1,20 @@
+use Rattle.std.proofs.Common.{◌≡◌, ◌-◌, ◌∙◌, length, arith}
+use Rattle.kl1_goals.proofs.Changing.{goals_trimmed, slots_trimmed, empty_counted}
+use Rattle.kl1_goals.proofs.places.trim.Goals as goal
+
+pub overflow_sub-empty : goal.overflow_sub-empty
+overflow_sub-empty g c = empty_counted c.loop-slots.slots.items c.loop-slots.empty c.loop-slots.queue.ranks c.loop-slots.invariant.slots (c.ends_empty.ensures c.loop-slots-test.true)
+
+pub loop-slots-preserved : goal.loop-slots-preserved
+loop-slots-preserved g c =
+    let l = c.loop-slots in
+    let end = c.ends_empty.ensures c.loop-slots-test.true in
+    let count : l.slots.len ≡ length l.slots.items = omega (arith, l.slots.ok.0) in
+    let some = empty_counted l.slots.items l.empty l.queue.ranks l.invariant.slots end in
+    record {
+      slots = slots_trimmed l.slots.items c.pop.new.self.items l.slots.len l.empty (l.empty - 1) l.queue.ranks c.drop_last.new.self.ranks l.invariant.slots count c.pop.ensures.rest end (omega (arith, some)) c.drop_last.ensures.ranks;
+      goals = goals_trimmed l.slots.items c.pop.new.self.items l.slots.len count c.pop.ensures.rest end ∙ l.invariant.goals;
+      len = omega (arith, c.pop.ensures.len, l.invariant.len);
+      capacity = c.pop.ensures.capacity ∙ l.invariant.capacity;
+      room = omega (arith, c.drop_last.ensures.room, l.invariant.room);
+    }
