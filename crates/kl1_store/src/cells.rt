@@ -14,6 +14,7 @@ use crate::cell::Cell;
 use crate::head::Head;
 use crate::mark::Mark;
 use crate::node::Node;
+use crate::room::make_room;
 use kl1_text::NameValue;
 use std::alloc::{AllocError, Global};
 use std::marker::Model;
@@ -84,7 +85,8 @@ impl<N: NameValue> Cells<N> {
             return Err(AllocError);
         }
         let number = number as u32;
-        self.slots.push(Cell::Variable(number))?;
+        make_room(&mut self.slots, 1)?;
+        self.slots.push_reserved(Cell::Variable(number));
         Ok(number)
     }
 
@@ -130,8 +132,8 @@ impl<N: NameValue> Cells<N> {
         if number >= MOST || start > MOST - 2 {
             return Err(AllocError);
         }
-        self.nodes.reserve(1)?;
-        self.arguments.reserve(2)?;
+        make_room(&mut self.nodes, 1)?;
+        make_room(&mut self.arguments, 2)?;
         self.arguments.push_reserved(first);
         self.arguments.push_reserved(second);
         self.nodes.push_reserved(Node {
@@ -167,8 +169,8 @@ impl<N: NameValue> Cells<N> {
         if number >= MOST || count > MOST || start > MOST - count {
             return Err(AllocError);
         }
-        self.nodes.reserve(1)?;
-        self.arguments.reserve(count)?;
+        make_room(&mut self.nodes, 1)?;
+        make_room(&mut self.arguments, count)?;
         move_top(stack, &mut self.arguments, missing, count);
         self.nodes.push_reserved(Node {
             name,
@@ -215,7 +217,8 @@ impl<N: NameValue> Cells<N> {
         ensures room { 0 < self.old.room.bindings → IsOk result }
         ensures spends { SpendsOnBindings self.old.held self.old.room self.new.held self.new.room }
     {
-        self.bindings.push(Binding { variable, value })?;
+        make_room(&mut self.bindings, 1)?;
+        self.bindings.push_reserved(Binding { variable, value });
         self.slots[variable as usize] = value;
         Ok(())
     }

@@ -19,8 +19,8 @@ grown g c =
     let count = length-firsts c.args.missing c.args.count (reverse c.args.stack.now.items) in
     built_at s.slots.items s.nodes.items c.push_reserved.new.self.items s.arguments.items c.move_top.new.list.items s.bindings.items
     (record { name = c.args.name; start = c.len-start.result; count = c.args.count }) top c.args.self.now.held
-    c.self.invariant e (c.push_reserved.ensures.items ∙ ap (λ l. l ++ record { name = c.args.name; start = c.len-start.result; count = c.args.count } ∷ []) c.in_ok-reserve.ensures.items)
-    (c.move_top.ensures.moved ∙ ap (λ l. l ++ top) c.in_ok-reserve-2.ensures.items)
+    c.self.invariant e (c.push_reserved.ensures.items ∙ ap (λ l. l ++ record { name = c.args.name; start = c.len-start.result; count = c.args.count } ∷ []) c.in_ok-make_room.ensures.items)
+    (c.move_top.ensures.moved ∙ ap (λ l. l ++ top) c.in_ok-make_room-2.ensures.items)
     (top_within c.args.self.now.held c.args.missing c.args.count c.args.stack.now.items c.requires.stack c.requires.missing)
     (c.len-start.ensures ∙ s.arguments.ok.0) count (omega arith) (omega (arith, count))
 
