@@ -14,7 +14,7 @@ use Rattle.kl1_store.specs.Meaning.{term_of, terms_of}
 use Rattle.kl1_store.specs.ComparesEach.{term_list}
 use Rattle.kl1_store.specs.Sound.{IsFormed}
 use Rattle.kl1_store.proofs.Terms.{term_of-Integer, term_of-Atom, term_of-unbound, term_of-Structure, arguments_in}
-use Rattle.kl1_match.proofs.Rows.{AreWithin-append, AreWithin-left, AreWithin-reverse, AreWithin-back}
+use Rattle.kl1_store.proofs.Tops.{AreWithin-append, AreWithin-left, AreWithin-reverse, AreWithin-back}
 use Rattle.kl1_account.specs.declared.top.Top.{Top}
 use Rattle.kl1_account.specs.declared.top.Top.TheVariants as top
 use Rattle.kl1_account.specs.Fitting.{Reading}

@@ -20,7 +20,7 @@ use Rattle.kl1_match.specs.Instances.{IsClause, IsInstance, replacements_of}
 use Rattle.kl1_match.specs.Steps.{Agrees}
 use Rattle.kl1_match.specs.Built.{AreBelow, BuildsRow}
 use Rattle.kl1_match.specs.Variables.{with_variables, stands_for, AreVariables}
-use Rattle.kl1_match.proofs.Rows.{AreWithin-reverse}
+use Rattle.kl1_store.proofs.Tops.{AreWithin-reverse}
 use Rattle.kl1_match.proofs.Built.{within_more}
 use Rattle.kl1_match.proofs.Places.{kept_with}
 

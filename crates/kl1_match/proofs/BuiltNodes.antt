@@ -24,10 +24,11 @@ use Rattle.kl1_match.specs.declared.step.Step.{Step}
 use Rattle.kl1_match.specs.Steps.{step_code, PutsStep}
 use Rattle.kl1_match.specs.BuiltNodes.{IsWithinNodes, AreNodesBelow, BuildsNodes}
 use Rattle.kl1_match.specs.Variables.{stands_for}
-use Rattle.kl1_match.specs.Rows.{first_or}
+use Rattle.kl1_store.specs.Tops.{first_or}
 use Rattle.kl1_match.specs.Instances.{IsGoal}
 use Rattle.kl1_match.specs.Variables.{with_variables, fresh_cells, AreVariables}
-use Rattle.kl1_match.proofs.Rows.{AreWithin-reverse, first_within, first_term_is}
+use Rattle.kl1_store.proofs.Tops.{AreWithin-reverse, first_within}
+use Rattle.kl1_match.proofs.Rows.{first_term_is}
 use Rattle.kl1_match.proofs.Places.{are_variables, kept_with}
 use Rattle.kl1_match.proofs.Built.{element_is, still_in, still_agrees, within_more}
 

@@ -13,12 +13,13 @@ use Rattle.kl1_store.specs.Sound.{Grown, IsFormed}
 use Rattle.kl1_store.proofs.Terms.{term_of-unbound}
 use Rattle.kl1_clause.specs.declared.instruction.Instruction.{Instruction}
 use Rattle.kl1_clause.specs.Instructions.{code_in, IsRowOf}
-use Rattle.kl1_match.specs.Rows.{first_or}
+use Rattle.kl1_store.specs.Tops.{first_or}
 use Rattle.kl1_match.specs.Steps.{Agrees}
 use Rattle.kl1_match.specs.Built.{AreBelow, Stacked, BuildsRow}
 use Rattle.kl1_match.specs.Variables.{with_variables, fresh_cells}
 use Rattle.kl1_match.specs.GoalCells.{AreNext, AreGoalVariables, IsGoalBuilt, BuildsGoal}
-use Rattle.kl1_match.proofs.Rows.{AreWithin-reverse, first_within, first_term_is}
+use Rattle.kl1_store.proofs.Tops.{AreWithin-reverse, first_within}
+use Rattle.kl1_match.proofs.Rows.{first_term_is}
 use Rattle.kl1_match.proofs.Steps.{within_at}
 use Rattle.kl1_match.proofs.Built.{all_still_in}
 use Rattle.kl1_match.proofs.Places.{length-fresh, at_fresh, beyond_unbound}

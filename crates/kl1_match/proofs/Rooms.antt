@@ -9,14 +9,8 @@ use Rattle.kl1_store.specs.Spending.{Spends}
 use Rattle.kl1_clause.specs.declared.instruction.Instruction.{Instruction}
 use Rattle.kl1_clause.specs.declared.instruction.Instruction.TheVariants as instruction
 use Rattle.kl1_match.specs.Matching.{arguments_after}
-use Rattle.kl1_match.specs.Rows.{but_first, firsts}
 use Rattle.kl1_match.specs.Rooms.{structures_at, structures_in, arguments_in, HasRoomFor, UsesRoom, HasRoomForRow}
 use Rattle.kl1_match.proofs.Built.{element_is}
-
--- there are so many of the first so many
-pub length-firsts : {A : Type 0} (m : A) (n : ℕ) (xs : List A) → length (firsts m n xs) ≡ n
-length-firsts m zero xs = refl
-length-firsts m (suc n) xs = ap suc (length-firsts m n (but_first xs))
 
 -- nothing is spent
 pub no_spending : (room : Room) → Spends room room 0 0 0 0
@@ -41,53 +35,46 @@ one_before row left i d some within at =
     drop_more row (left - 1) i inside ∙ (ap (λ j. j ∷ drop (left - 1 + 1) row) (sym (at ∙ element_is row (left - 1) d i inside)) ∙ ap (λ n. i ∷ drop n row) again)
 
 -- a cell more on a stack
-pub puts_one : {N : Type 0} (structures arguments : ℕ) (room : Room) (stack after list : Vec (Cell N) Global) (x : Cell N) →
-    after.items ≡ stack.items ++ x ∷ [] → vec_capacity stack ≤ vec_capacity after → UsesRoom structures arguments room room stack after list list
-puts_one structures arguments room stack after list x e more = record {
+pub puts_one : {N : Type 0} (structures arguments : ℕ) (room : Room) (stack after : Vec (Cell N) Global) (x : Cell N) →
+    after.items ≡ stack.items ++ x ∷ [] → vec_capacity after ≡ vec_capacity stack → UsesRoom structures arguments room room stack after
+puts_one structures arguments room stack after x e same = record {
   spends = record { variables = omega arith; structures = omega arith; arguments = omega arith; bindings = omega arith };
   height = omega (arith, ap length e, length-append stack.items (x ∷ []));
-  stack_room = more;
-  list_room = omega arith;
+  capacity = same;
 }
 
 -- what is left of room where the end of a row is built
-pub record RoomLeft {N : Type 0} (row : List Instruction) (left : ℕ) (old now : Room) (stack after list longer : Vec (Cell N) Global) : Type 0 where
+pub record RoomLeft {N : Type 0} (row : List Instruction) (left : ℕ) (old now : Room) (stack : Vec (Cell N) Global) : Type 0 where
   pub spends : Spends old now 0 (structures_in (drop left row)) (arguments_in (drop left row)) 0
-  pub height : length after.items + left ≤ length row
-  pub stack_room : vec_capacity stack ≤ vec_capacity after
-  pub list_room : vec_capacity list ≤ vec_capacity longer
+  pub fits : length stack.items + left ≤ vec_capacity stack
 
 -- all is left where nothing is built
-pub all_left : {N : Type 0} (row : List Instruction) (room : Room) (stack list : Vec (Cell N) Global) → stack.items ≡ [] → RoomLeft row (length row) room room stack stack list list
-all_left row room stack list e =
+pub all_left : {N : Type 0} (row : List Instruction) (room : Room) (stack : Vec (Cell N) Global) → stack.items ≡ [] → length row ≤ vec_capacity stack → RoomLeft row (length row) room room stack
+all_left row room stack e fits =
     let rest : drop (length row) row ≡ [] = drop_all (length row) row (omega arith) in
     record {
       spends = subst (λ is. Spends room room 0 (structures_in is) (arguments_in is) 0) (sym rest) (no_spending room);
-      height = omega (arith, ap length e);
-      stack_room = omega arith;
-      list_room = omega arith;
+      fits = omega (arith, ap length e, fits);
     }
 
 -- the next step has room
-pub step_fits : {N : Type 0} (row : List Instruction) (left : ℕ) (i d : Instruction) (s a : ℕ) (old mid : Room) (stack before list cells : Vec (Cell N) Global) →
+pub step_fits : {N : Type 0} (row : List Instruction) (left : ℕ) (i d : Instruction) (s a most : ℕ) (old mid : Room) (before : Vec (Cell N) Global) →
     0 < left → left ≤ length row → i ≡ slice_index_or row (left - 1) d → s ≡ structures_at i → a ≡ arguments_after i →
-    RoomLeft row left old mid stack before list cells → HasRoomForRow old (vec_capacity stack) (vec_capacity list) row → HasRoomFor s a mid before cells
-step_fits row left i d s a old mid stack before list cells some within at s_is a_is r h =
+    RoomLeft row left old mid before → HasRoomForRow old most row → HasRoomFor s a mid
+step_fits row left i d s a most old mid before some within at s_is a_is r h =
     let rest : drop (left - 1) row ≡ i ∷ drop left row = one_before row left i d some within at in
     let structures : structures_at i + structures_in (drop left row) ≤ structures_in row = subst (λ is. structures_in is ≤ structures_in row) rest (structures_drop row (left - 1)) in
     let arguments : arguments_after i + arguments_in (drop left row) ≤ arguments_in row = subst (λ is. arguments_in is ≤ arguments_in row) rest (arguments_drop row (left - 1)) in
     record {
       structures_fit = omega (arith, structures, s_is, r.spends.structures, h.structures_fit);
       arguments_fit = omega (arith, arguments, a_is, r.spends.arguments, h.arguments_fit);
-      stack_fits = omega (arith, some, r.height, r.stack_room, h.stack_fits);
-      list_fits = omega (arith, arguments, a_is, r.list_room, h.list_fits);
     }
 
 -- and leaves what those before it need
-pub step_used : {N : Type 0} (row : List Instruction) (left : ℕ) (i d : Instruction) (s a : ℕ) (old mid new : Room) (stack before after list cells longer : Vec (Cell N) Global) →
+pub step_used : {N : Type 0} (row : List Instruction) (left : ℕ) (i d : Instruction) (s a : ℕ) (old mid new : Room) (before after : Vec (Cell N) Global) →
     0 < left → left ≤ length row → i ≡ slice_index_or row (left - 1) d → s ≡ structures_at i → a ≡ arguments_after i →
-    RoomLeft row left old mid stack before list cells → UsesRoom s a mid new before after cells longer → RoomLeft row (left - 1) old new stack after list longer
-step_used row left i d s a old mid new stack before after list cells longer some within at s_is a_is r u =
+    RoomLeft row left old mid before → UsesRoom s a mid new before after → RoomLeft row (left - 1) old new after
+step_used row left i d s a old mid new before after some within at s_is a_is r u =
     let rest : drop (left - 1) row ≡ i ∷ drop left row = one_before row left i d some within at in
     let spends : Spends old new 0 (structures_in (i ∷ drop left row)) (arguments_in (i ∷ drop left row)) 0 = record {
       variables = omega (arith, r.spends.variables, u.spends.variables);
@@ -97,9 +84,7 @@ step_used row left i d s a old mid new stack before after list cells longer some
     } in
     record {
       spends = subst (λ is. Spends old new 0 (structures_in is) (arguments_in is) 0) (sym rest) spends;
-      height = omega (arith, some, r.height, u.height);
-      stack_room = omega (arith, r.stack_room, u.stack_room);
-      list_room = omega (arith, r.list_room, u.list_room);
+      fits = omega (arith, some, r.fits, u.height, u.capacity);
     }
 
 -- the arguments of one instruction more

@@ -1,4 +1,4 @@
--- Cells that stand one behind another, moved from a stack and joined.
+-- Cells that stand one behind another, and structures of them.
 use Rattle.std.proofs.Common.{◌≡◌, ℕ, zero, suc, ◌+◌, ◌-◌, ◌<◌, List, [], ◌∷◌, ◌++◌, length, length-append, reverse, refl, ap, sym, ◌∙◌, subst, arith, append-nil, append_assoc}
 use Rattle.std.specs.Prelude.{Option, Some, None, IsSome, option_to_list, unwrap_or, slice_get}
 use Rattle.std.proofs.lemmas.Bool.{false≢true}
@@ -14,68 +14,9 @@ use Rattle.kl1_store.specs.ComparesEach.{term_list}
 use Rattle.kl1_store.proofs.Growing.{AreWithin-more, IsFormed-structure}
 use Rattle.kl1_store.proofs.Terms.{term_of-structure, term_of-Structure}
 use Rattle.kl1_match.specs.Instances.{AreKept}
-use Rattle.kl1_match.specs.Rows.{first_or, but_first, firsts, others, front_with, Joined, Joins}
-
--- what a stack gives and keeps
-pub record Popped {A : Type 0} (m : A) (old new : List A) (x : A) : Type 0 where
-  pub first : first_or m (reverse old) ≡ x
-  pub rest : but_first (reverse old) ≡ reverse new
-
-pub popped : {A : Type 0} (m : A) (old new : List A) (r : Option A) → old ≡ new ++ option_to_list r → (0 < length old → IsSome r) → Popped m old new (unwrap_or r m)
-popped m old new (Some x) e h =
-    let q : reverse old ≡ x ∷ reverse new = ap reverse e ∙ reverse-append new (x ∷ []) in
-    record { first = ap (first_or m) q; rest = ap but_first q }
-popped m [] new None e h = record { first = refl; rest = ap reverse (e ∙ append-nil new) }
-popped m (x ∷ xs) new None e h = absurd (false≢true (h (omega arith)))
-
--- one more of the first so many
-pub moved_one : {A : Type 0} (before : List A) (m : A) (left : ℕ) (xs ys : List A) (x : A) → 0 < left → first_or m xs ≡ x → but_first xs ≡ ys → (before ++ x ∷ []) ++ firsts m (left - 1) ys ≡ before ++ firsts m left xs
-moved_one before m zero xs ys x h p q = absurd (omega (arith, h))
-moved_one before m (suc k) xs ys x h p q =
-    let less : suc k - 1 ≡ k = omega arith in
-    ap (λ n. (before ++ x ∷ []) ++ firsts m n ys) less
-    ∙ (append_assoc before (x ∷ []) (firsts m k ys)
-    ∙ (ap (λ z. before ++ z ∷ firsts m k ys) (sym p) ∙ ap (λ zs. before ++ first_or m xs ∷ firsts m k zs) (sym q)))
-
-pub left_one : {A : Type 0} (left : ℕ) (xs ys : List A) → 0 < left → but_first xs ≡ ys → others (left - 1) ys ≡ others left xs
-left_one zero xs ys h q = absurd (omega (arith, h))
-left_one (suc k) xs ys h q = let less : suc k - 1 ≡ k = omega arith in ap (λ n. others n ys) less ∙ ap (others k) (sym q)
-
--- cells of a store, side by side
-pub AreWithin-append : {N : Type 0} (vs ss : ℕ) (xs ys : List (Cell N)) → AreWithin vs ss xs → AreWithin vs ss ys → AreWithin vs ss (xs ++ ys)
-AreWithin-append vs ss [] ys p q = q
-AreWithin-append vs ss (x ∷ xs) ys p q = (p.0, AreWithin-append vs ss xs ys p.1 q)
-
-pub AreWithin-left : {N : Type 0} (vs ss : ℕ) (xs ys : List (Cell N)) → AreWithin vs ss (xs ++ ys) → AreWithin vs ss xs
-AreWithin-left vs ss [] ys p = tt
-AreWithin-left vs ss (x ∷ xs) ys p = (p.0, AreWithin-left vs ss xs ys p.1)
-
-pub AreWithin-reverse : {N : Type 0} (vs ss : ℕ) (xs : List (Cell N)) → AreWithin vs ss xs → AreWithin vs ss (reverse xs)
-AreWithin-reverse vs ss [] p = tt
-AreWithin-reverse {N = N} vs ss (x ∷ xs) p =
-    let P : List (Cell N) → Type 0 = λ zs. AreWithin vs ss zs in
-    subst P (sym (reverse-append (x ∷ []) xs)) (AreWithin-append vs ss (reverse xs) (x ∷ []) (AreWithin-reverse vs ss xs p.1) (p.0, tt))
-
-pub AreWithin-back : {N : Type 0} (vs ss : ℕ) (xs : List (Cell N)) → AreWithin vs ss (reverse xs) → AreWithin vs ss xs
-AreWithin-back {N = N} vs ss xs p =
-    let P : List (Cell N) → Type 0 = λ zs. AreWithin vs ss zs in
-    subst P (reverse-reverse xs) (AreWithin-reverse vs ss (reverse xs) p)
-
-pub first_within : {N : Type 0} (vs ss : ℕ) (m : Cell N) (xs : List (Cell N)) → IsWithin vs ss m → AreWithin vs ss xs → IsWithin vs ss (first_or m xs)
-first_within vs ss m [] h p = h
-first_within vs ss m (x ∷ xs) h p = p.0
-
-rest_within : {N : Type 0} (vs ss : ℕ) (xs : List (Cell N)) → AreWithin vs ss xs → AreWithin vs ss (but_first xs)
-rest_within vs ss [] p = tt
-rest_within vs ss (x ∷ xs) p = p.1
-
-pub firsts_within : {N : Type 0} (vs ss : ℕ) (m : Cell N) (n : ℕ) (xs : List (Cell N)) → IsWithin vs ss m → AreWithin vs ss xs → AreWithin vs ss (firsts m n xs)
-firsts_within vs ss m zero xs h p = tt
-firsts_within vs ss m (suc n) xs h p = (first_within vs ss m xs h p, firsts_within vs ss m n (but_first xs) h (rest_within vs ss xs p))
-
-pub others_within : {N : Type 0} (vs ss n : ℕ) (xs : List (Cell N)) → AreWithin vs ss xs → AreWithin vs ss (others n xs)
-others_within vs ss zero xs p = p
-others_within vs ss (suc n) xs p = others_within vs ss n (but_first xs) (rest_within vs ss xs p)
+use Rattle.kl1_store.specs.Tops.{first_or, but_first, firsts, others}
+use Rattle.kl1_store.proofs.Tops.{AreWithin-reverse, AreWithin-back, firsts_within, others_within}
+use Rattle.kl1_match.specs.Rows.{front_with, Joined, Joins}
 
 -- the terms of the first so many cells
 pub first_term_is : {N : Type 0} (f : N → List ℕ) (h : Held N) (m : Cell N) (xs : List (Cell N)) → term_of f h (first_or m xs) ≡ first_or (term_of f h m) (term_list f h xs)

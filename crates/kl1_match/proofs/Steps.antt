@@ -11,9 +11,10 @@ use Rattle.kl1_store.specs.ComparesEach.{term_list}
 use Rattle.kl1_store.proofs.Terms.{term_of-Integer, term_of-Atom}
 use Rattle.kl1_match.specs.declared.step.Step.{Step}
 use Rattle.kl1_match.specs.declared.step.Step.TheVariants.{Variable, Integer, Atom, Structure}
-use Rattle.kl1_match.specs.Rows.{first_or, front_with, Joins}
+use Rattle.kl1_store.specs.Tops.{first_or}
+use Rattle.kl1_store.proofs.Tops.{AreWithin-append}
+use Rattle.kl1_match.specs.Rows.{front_with, Joins}
 use Rattle.kl1_match.specs.Steps.{step_code, Agrees, PutsStep}
-use Rattle.kl1_match.proofs.Rows.{AreWithin-append}
 
 -- a cell of a list is of the store
 pub within_at : {N : Type 0} (vs ss : ℕ) (xs : List (Cell N)) (i : ℕ) (d : Cell N) → AreWithin vs ss xs → i < length xs → IsWithin vs ss (slice_index_or xs i d)

@@ -23,7 +23,7 @@ goal_variables s = s.variables.items
 
 -- room to build a row in, in a store and in the scratch
 abbrev pub HasRoomForGoal : {N : Type 0} → Room → Scratch N → List Instruction → Type 0
-HasRoomForGoal room s row = HasRoomForRow room (vec_capacity s.stack) (vec_capacity s.arguments) row
+HasRoomForGoal room s row = HasRoomForRow room (vec_capacity s.stack) row
 
 -- behind a cell for none, the variables behind the last, so many
 pub record AreNext {N : Type 0} (last count : ℕ) (cells : List (Cell N)) : Type 0 where

@@ -1,5 +1,5 @@
 -- The room that building takes, and what it leaves.
-use Rattle.std.specs.Prelude.{ℕ, ◌+◌, ◌<◌, ◌≤◌, List, [], ◌∷◌, length, Vec, vec_capacity}
+use Rattle.std.specs.Prelude.{ℕ, ◌≡◌, ◌+◌, ◌≤◌, List, [], ◌∷◌, length, Vec, vec_capacity}
 use Rattle.std.specs.declared.alloc.Global.{Global}
 use Rattle.kl1_store.specs.declared.cell.Cell.{Cell}
 use Rattle.kl1_store.specs.Held.{Room}
@@ -41,23 +41,19 @@ step_arguments (Integer i) = 0
 step_arguments (Atom a) = 0
 step_arguments (Structure a n) = n
 
--- room for so many structures and arguments in the store, for one cell more on a stack, and for the arguments in a list
-pub record HasRoomFor {N : Type 0} (structures arguments : ℕ) (room : Room) (stack list : Vec (Cell N) Global) : Type 0 where
+-- room for so many structures and arguments in the store
+pub record HasRoomFor (structures arguments : ℕ) (room : Room) : Type 0 where
   pub structures_fit : structures ≤ room.structures
   pub arguments_fit : arguments ≤ room.arguments
-  pub stack_fits : length stack.items < vec_capacity stack
-  pub list_fits : arguments ≤ vec_capacity list
 
 -- at most so much of the room was used, and one cell more put on the stack
-pub record UsesRoom {N : Type 0} (structures arguments : ℕ) (old new : Room) (stack after list longer : Vec (Cell N) Global) : Type 0 where
+pub record UsesRoom {N : Type 0} (structures arguments : ℕ) (old new : Room) (stack after : Vec (Cell N) Global) : Type 0 where
   pub spends : Spends old new 0 structures arguments 0
   pub height : length after.items ≤ length stack.items + 1
-  pub stack_room : vec_capacity stack ≤ vec_capacity after
-  pub list_room : vec_capacity list ≤ vec_capacity longer
+  pub capacity : vec_capacity after ≡ vec_capacity stack
 
--- room to build a row in: in the store, on an empty stack, and in a list for arguments, which can hold so many
-pub record HasRoomForRow (room : Room) (stack list : ℕ) (row : List Instruction) : Type 0 where
+-- room to build a row in: in the store, and on an empty stack, which can hold so many
+pub record HasRoomForRow (room : Room) (stack : ℕ) (row : List Instruction) : Type 0 where
   pub structures_fit : structures_in row ≤ room.structures
   pub arguments_fit : arguments_in row ≤ room.arguments
   pub stack_fits : length row ≤ stack
-  pub list_fits : arguments_in row ≤ list

@@ -1,32 +1,13 @@
 -- Cells that stand one behind another, and structures that are built of them.
-use Rattle.std.specs.Prelude.{◌≡◌, ℕ, zero, suc, List, [], ◌∷◌}
+use Rattle.std.specs.Prelude.{◌≡◌, ℕ, zero, suc, List, ◌∷◌}
 use Rattle.kl1_model.specs.Term.{Term, Terms, none, more, structure}
 use Rattle.kl1_model.specs.TermCode.{behind_first, behind}
 use Rattle.kl1_store.specs.declared.cell.Cell.{Cell}
 use Rattle.kl1_store.specs.Held.{Held}
 use Rattle.kl1_store.specs.Meaning.{term_of}
 use Rattle.kl1_store.specs.ComparesEach.{term_list}
+use Rattle.kl1_store.specs.Tops.{first_or}
 use Rattle.kl1_match.specs.Instances.{AreKept}
-
--- the first of a list, or another where there is none
-abbrev pub first_or : {A : Type 0} → A → List A → A
-first_or a [] = a
-first_or a (x ∷ xs) = x
-
--- what is behind the first
-abbrev pub but_first : {A : Type 0} → List A → List A
-but_first [] = []
-but_first (x ∷ xs) = xs
-
--- the first so many of a list, with another for each that is missing
-abbrev pub firsts : {A : Type 0} → A → ℕ → List A → List A
-firsts a zero xs = []
-firsts a (suc n) xs = first_or a xs ∷ firsts a n (but_first xs)
-
--- what is behind the first so many
-abbrev pub others : {A : Type 0} → ℕ → List A → List A
-others zero xs = xs
-others (suc n) xs = others n (but_first xs)
 
 -- the first so many terms as arguments, with another for each that is missing
 abbrev pub front_with : Term → ℕ → List Term → Terms

@@ -94,8 +94,6 @@ pub fn reserve_goal_beside<N: NameValue>(
     let arguments = own.checked_add(arguments).ok_or(AllocError)?;
     scratch.stack.clear();
     scratch.stack.reserve(row.len())?;
-    scratch.arguments.clear();
-    scratch.arguments.reserve(own)?;
     store.reserve(variables, structures, arguments, bindings)
 }
 
@@ -120,10 +118,9 @@ pub fn put_goal<N: NameValue>(
     ensures goal { BuildsGoal N.built names.now row.now (goal_variables scratch.old) store.old.held store.new.held result }
 {
     let stack = &mut scratch.stack;
-    let arguments = &mut scratch.arguments;
     let variables = scratch.variables.as_slice();
     stack.clear();
-    match put_row(store, names, variables, row, stack, arguments) {
+    match put_row(store, names, variables, row, stack) {
         Ok(()) => {}
         Err(_) => unreachable!(),
     }

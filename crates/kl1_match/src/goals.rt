@@ -38,7 +38,6 @@ fn put_nodes(
     variables: &[Cell<AtomText>],
     nodes: &[Node],
     stack: &mut Vec<Cell<AtomText>>,
-    arguments: &mut Vec<Cell<AtomText>>,
 ) -> Result<(), AllocError>
     requires below { AreNodesBelow (length variables.now) nodes.now }
     requires variables { AreIn store.old.held variables.now }
@@ -48,11 +47,12 @@ fn put_nodes(
     ensures bindings { store.new.held.bindings ≡ store.old.held.bindings }
     ensures nodes { OnOk result (BuildsNodes store.old.held store.new.held variables.now nodes.now stack.new.items) }
 {
+    stack.reserve(nodes.len())?;
     let mut left = nodes.len();
     while 0 < left {
         left -= 1;
         let step = step_of(nodes[left]);
-        put_step(store, variables, step, stack, arguments)?;
+        put_step(store, variables, step, stack)?;
     }
     Ok(())
 }
@@ -76,13 +76,11 @@ pub fn build_goal(
     variables.push(Cell::Atom(AtomText::of_built_in(BuiltIn::EmptyList)))?;
     put_fresh(store, &mut variables, goal.highest())?;
     let mut stack = Vec::new(alloc);
-    let mut arguments = Vec::new(alloc);
     put_nodes(
         store,
         variables.as_slice(),
         goal.nodes(),
         &mut stack,
-        &mut arguments,
     )?;
     Ok(stack.pop().unwrap_or(Cell::Integer(0)))
 }

@@ -26,6 +26,7 @@ use kl1_text::NameValue;
 use std::alloc::{AllocError, Global};
 
 /// The step that an instruction stands for.
+#[inline]
 fn step_in<N: NameValue>(names: &[N], instruction: Instruction) -> Step<N>
     requires { IsNamed (length names.now) instruction }
     ensures code { (f : N → List ℕ) → Reads N.built f → step_code f result ≡ code_in (map f names.now) instruction }
@@ -49,7 +50,6 @@ pub(crate) fn put_row<N: NameValue>(
     variables: &[Cell<N>],
     row: &[Instruction],
     stack: &mut Vec<Cell<N>>,
-    arguments: &mut Vec<Cell<N>>,
 ) -> Result<(), AllocError>
     requires named { AreNamed (length names.now) row.now }
     requires below { AreBelow (length variables.now) row.now }
@@ -59,15 +59,16 @@ pub(crate) fn put_row<N: NameValue>(
     ensures hooks { store.new.hooks ≡ store.old.hooks }
     ensures bindings { store.new.held.bindings ≡ store.old.held.bindings }
     ensures rows { OnOk result (BuildsRow N.built names.now store.old.held store.new.held variables.now row.now stack.new.items) }
-    ensures room { HasRoomForRow store.old.room (vec_capacity stack.old) (vec_capacity arguments.old) row.now → IsOk result }
+    ensures room { HasRoomForRow store.old.room (vec_capacity stack.old) row.now → IsOk result }
     ensures spends { OnOk result (Spends store.old.room store.new.room 0 (structures_in row.now) (arguments_in row.now) 0) }
     ensures hook_room { store.new.hook_room ≡ store.old.hook_room }
 {
+    stack.reserve(row.len())?;
     let mut left = row.len();
     while 0 < left {
         left -= 1;
         let step = step_in(names, row[left]);
-        put_step(store, variables, step, stack, arguments)?;
+        put_step(store, variables, step, stack)?;
     }
     Ok(())
 }
@@ -118,7 +119,6 @@ pub fn put_instance<N: NameValue>(
     ensures goals { OnOk result (IsInstance N.built names.now clause.now places.now store.old.held store.new.held goals.new.items) }
 {
     let variables = &mut scratch.variables;
-    let arguments = &mut scratch.arguments;
     variables.clear();
     goals.clear();
     put_variables(store, clause, places, variables)?;
@@ -128,7 +128,6 @@ pub fn put_instance<N: NameValue>(
         variables.as_slice(),
         clause.goals.as_slice(),
         goals,
-        arguments,
     )?;
     goals.reverse();
     Ok(())

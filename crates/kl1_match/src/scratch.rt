@@ -12,7 +12,6 @@ pub struct Scratch<N: NameValue> {
     pub(crate) stack: Vec<Cell<N>>,
     pub(crate) places: Vec<Place<N>>,
     pub(crate) variables: Vec<Cell<N>>,
-    pub(crate) arguments: Vec<Cell<N>>,
 }
 
 impl<N: NameValue> Scratch<N> {
@@ -22,7 +21,6 @@ impl<N: NameValue> Scratch<N> {
             stack: Vec::new(alloc),
             places: Vec::new(alloc),
             variables: Vec::new(alloc),
-            arguments: Vec::new(alloc),
         }
     }
 }

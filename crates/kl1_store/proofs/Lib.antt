@@ -23,3 +23,4 @@ pub mod Chaining
 pub mod Telling
 pub mod Later
 pub mod Freeing
+pub mod Tops

@@ -23,3 +23,4 @@ pub mod Nested
 pub mod Merged
 pub mod Done
 pub mod Later
+pub mod Tops

@@ -1,18 +1,20 @@
 // The lists of a store, and what each growth does to them.
 
-ghost use Rattle.std.specs.Prelude.{◌≡◌, ℕ, suc, false, ◌+◌, ◌<◌, ◌≤◌, ◌↔◌, List, [], ◌∷◌, Some, length, take, drop, MatchOption, IfOk, OnOk, OnErr, IsOk, IsTrue, slice_get, vec_capacity};
+ghost use Rattle.std.specs.Prelude.{◌≡◌, ℕ, suc, false, ◌+◌, ◌<◌, ◌≤◌, ◌↔◌, List, [], ◌∷◌, ◌++◌, Some, length, take, drop, reverse, MatchOption, IfOk, OnOk, OnErr, IsOk, IsTrue, slice_get, vec_capacity};
 ghost use Rattle.kl1_model.specs.Term.{occurs};
 ghost use Rattle.kl1_store.specs.Held.{Held, nothing_held, with_variable, with_structure, with_binding, is_bound, found, arguments_of, IsIn, AreIn, IsLower, IsWalked, sizes_of, HasRoom};
 ghost use Rattle.kl1_store.specs.Meaning.{term_of};
 ghost use Rattle.kl1_store.specs.Spending.{Spends, SpendsOnBindings, FreesRoom};
 ghost use Rattle.kl1_store.specs.Sound.{IsFormed, Grown, IsBoundTo};
 ghost use Rattle.kl1_store.specs.Slots.{AreSlotted, AreOnce};
+ghost use Rattle.kl1_store.specs.Tops.{firsts, others};
 
 use crate::binding::Binding;
 use crate::cell::Cell;
 use crate::head::Head;
 use crate::mark::Mark;
 use crate::node::Node;
+use crate::room::make_room;
 use kl1_text::NameValue;
 use std::alloc::{AllocError, Global};
 use std::marker::Model;
@@ -83,7 +85,8 @@ impl<N: NameValue> Cells<N> {
             return Err(AllocError);
         }
         let number = number as u32;
-        self.slots.push(Cell::Variable(number))?;
+        make_room(&mut self.slots, 1)?;
+        self.slots.push_reserved(Cell::Variable(number));
         Ok(number)
     }
 
@@ -129,14 +132,50 @@ impl<N: NameValue> Cells<N> {
         if number >= MOST || start > MOST - 2 {
             return Err(AllocError);
         }
-        self.nodes.reserve(1)?;
-        self.arguments.reserve(2)?;
+        make_room(&mut self.nodes, 1)?;
+        make_room(&mut self.arguments, 2)?;
         self.arguments.push_reserved(first);
         self.arguments.push_reserved(second);
         self.nodes.push_reserved(Node {
             name,
             start: start as u32,
             count: 2,
+        });
+        Ok(number as u32)
+    }
+
+    /// A new structure of so many arguments, which are moved from the top of a stack, the first from the very top; where none is
+    /// left, `missing` stands for it. After an error the stack is as before.
+    pub fn build_top(
+        &mut self,
+        name: N,
+        stack: &mut Vec<Cell<N>>,
+        missing: Cell<N>,
+        count: usize,
+    ) -> Result<u32, AllocError>
+        requires stack { AreIn self.old.held stack.old.items }
+        requires missing { IsIn self.old.held missing }
+        ensures ok { IfOk result (λ s. (s ≡ length self.old.held.structures) × (self.new.held ≡ with_structure self.old.held name (firsts missing count (reverse stack.old.items)))) }
+        ensures left { OnOk result (reverse stack.new.items ≡ others count (reverse stack.old.items)) }
+        ensures err { OnErr result (self.new.held ≡ self.old.held) }
+        ensures same { OnErr result (stack.new.items ≡ stack.old.items) }
+        ensures room { 0 < self.old.room.structures → count ≤ self.old.room.arguments → IsOk result }
+        ensures spends { Spends self.old.room self.new.room 0 1 count 0 }
+        ensures height { length stack.new.items ≤ length stack.old.items }
+        ensures capacity { vec_capacity stack.new ≡ vec_capacity stack.old }
+    {
+        let number = self.nodes.len();
+        let start = self.arguments.len();
+        if number >= MOST || count > MOST || start > MOST - count {
+            return Err(AllocError);
+        }
+        make_room(&mut self.nodes, 1)?;
+        make_room(&mut self.arguments, count)?;
+        move_top(stack, &mut self.arguments, missing, count);
+        self.nodes.push_reserved(Node {
+            name,
+            start: start as u32,
+            count: count as u32,
         });
         Ok(number as u32)
     }
@@ -178,7 +217,8 @@ impl<N: NameValue> Cells<N> {
         ensures room { 0 < self.old.room.bindings → IsOk result }
         ensures spends { SpendsOnBindings self.old.held self.old.room self.new.held self.new.room }
     {
-        self.bindings.push(Binding { variable, value })?;
+        make_room(&mut self.bindings, 1)?;
+        self.bindings.push_reserved(Binding { variable, value });
         self.slots[variable as usize] = value;
         Ok(())
     }
@@ -290,6 +330,30 @@ impl<N: NameValue> Cells<N> {
             self.arguments.truncate(start as usize);
             self.nodes.truncate(structures);
         }
+    }
+}
+
+/// Moves so many cells from the top of a stack behind those of a list with room for them; where none is left, `missing` stands
+/// for it.
+fn move_top<N: NameValue>(
+    stack: &mut Vec<Cell<N>>,
+    list: &mut Vec<Cell<N>>,
+    missing: Cell<N>,
+    count: usize,
+)
+    requires room { length list.old.items + count ≤ vec_capacity list.old }
+    ensures moved { list.new.items ≡ list.old.items ++ firsts missing count (reverse stack.old.items) }
+    ensures left { reverse stack.new.items ≡ others count (reverse stack.old.items) }
+    ensures more { length list.new.items ≡ length list.old.items + count }
+    ensures list_capacity { vec_capacity list.new ≡ vec_capacity list.old }
+    ensures height { length stack.new.items ≤ length stack.old.items }
+    ensures stack_capacity { vec_capacity stack.new ≡ vec_capacity stack.old }
+{
+    let mut left = count;
+    while 0 < left {
+        let cell = stack.pop().unwrap_or(missing);
+        list.push_reserved(cell);
+        left -= 1;
     }
 }
 

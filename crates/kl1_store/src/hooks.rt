@@ -5,6 +5,7 @@ ghost use Rattle.kl1_store.specs.Hooks.{Hook, hanging_on};
 ghost use Rattle.kl1_store.specs.Chains.{Hung, AreChained, hook_in, hooks_in, no_link, newest_place};
 
 use crate::link::Link;
+use crate::room::make_room;
 use std::alloc::{AllocError, Global};
 use std::marker::Model;
 
@@ -56,7 +57,8 @@ impl Hooks {
         if self.heads.len() > variable {
             return Ok(());
         }
-        self.heads.push(0)?;
+        make_room(&mut self.heads, 1)?;
+        self.heads.push_reserved(0);
         Ok(())
     }
 

@@ -25,6 +25,7 @@ mod occurs;
 mod pair;
 mod pairs;
 mod point;
+mod room;
 mod same;
 mod scratch;
 mod settle;

@@ -1,6 +1,6 @@
 // The store: cells, and the scratch of its calls.
 
-ghost use Rattle.std.specs.Prelude.{◌≡◌, ℕ, ◌+◌, ◌<◌, ◌≤◌, ◌↔◌, List, [], ◌∷◌, ◌++◌, Some, length, drop, IfOk, OnOk, OnErr, IsOk, IsTrue, slice_get};
+ghost use Rattle.std.specs.Prelude.{◌≡◌, ℕ, ◌+◌, ◌<◌, ◌≤◌, ◌↔◌, List, [], ◌∷◌, ◌++◌, Some, length, drop, reverse, IfOk, OnOk, OnErr, IsOk, IsTrue, slice_get, vec_capacity};
 ghost use Rattle.kl1_store.specs.Held.{Held, nothing_held, with_variable, with_structure, arguments_of, IsIn, AreIn, IsWalked, HasRoom};
 ghost use Rattle.kl1_store.specs.Meaning.{term_of};
 ghost use Rattle.kl1_store.specs.Spending.{Spends, SpendsOnBindings, FreesRoom};
@@ -8,6 +8,7 @@ ghost use Rattle.kl1_store.specs.Sound.{IsFormed};
 ghost use Rattle.kl1_store.specs.Unification.{UnifiesAs};
 ghost use Rattle.kl1_store.specs.Sameness.{SameAs};
 ghost use Rattle.kl1_store.specs.Hooks.{Kept, hanging_on, told_by, point_of, HasGrown};
+ghost use Rattle.kl1_store.specs.Tops.{firsts, others};
 
 use crate::cell::Cell;
 use crate::cells::Cells;
@@ -119,6 +120,31 @@ impl<N: NameValue> Store<N> {
         ensures hook_room { self.new.hook_room ≡ self.old.hook_room }
     {
         self.cells.build_pair(name, first, second)
+    }
+
+    /// A new structure of so many arguments, which are moved from the top of a stack, the first from the very top; where none is
+    /// left, `missing` stands for it: its number. After an error the stack is as before.
+    pub fn build_top(
+        &mut self,
+        name: N,
+        stack: &mut Vec<Cell<N>>,
+        missing: Cell<N>,
+        count: usize,
+    ) -> Result<u32, AllocError>
+        requires stack { AreIn self.old.held stack.old.items }
+        requires missing { IsIn self.old.held missing }
+        ensures ok { IfOk result (λ s. (s ≡ length self.old.held.structures) × (self.new.held ≡ with_structure self.old.held name (firsts missing count (reverse stack.old.items)))) }
+        ensures left { OnOk result (reverse stack.new.items ≡ others count (reverse stack.old.items)) }
+        ensures err { OnErr result (self.new.held ≡ self.old.held) }
+        ensures same { OnErr result (stack.new.items ≡ stack.old.items) }
+        ensures room { 0 < self.old.room.structures → count ≤ self.old.room.arguments → IsOk result }
+        ensures spends { Spends self.old.room self.new.room 0 1 count 0 }
+        ensures height { length stack.new.items ≤ length stack.old.items }
+        ensures capacity { vec_capacity stack.new ≡ vec_capacity stack.old }
+        ensures hooks { self.new.hooks ≡ self.old.hooks }
+        ensures hook_room { self.new.hook_room ≡ self.old.hook_room }
+    {
+        self.cells.build_top(name, stack, missing, count)
     }
 
     /// The cell that a cell stands for: what its variable was bound to, and so on.

@@ -2,7 +2,7 @@ use Rattle.std.specs.Prelude.{pos, IsOk}
 use Rattle.std.proofs.Common.{rules, ◌∙◌, subst, arith}
 use Rattle.kl1_store.specs.declared.cell.Cell.TheVariants.{Integer}
 use Rattle.kl1_match.specs.Built.{BuildsRow}
-use Rattle.kl1_match.proofs.Rows.{popped}
+use Rattle.kl1_store.proofs.Tops.{popped}
 use Rattle.kl1_match.proofs.GoalCells.{goal_built}
 use Rattle.kl1_match.proofs.goal_cells.put_goal.Goals as goal
 
@@ -12,7 +12,6 @@ unreachable-requires g c =
       structures_fit = c.requires.room.structures_fit;
       arguments_fit = c.requires.room.arguments_fit;
       stack_fits = omega (arith, c.requires.room.stack_fits, c.clear.ensures.capacity);
-      list_fits = c.requires.room.list_fits;
     }) in
     search rules
 

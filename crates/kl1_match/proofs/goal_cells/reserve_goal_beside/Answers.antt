@@ -7,20 +7,19 @@ pub returns-clause-room : goal.returns-clause-room
 returns-clause-room g c =
     let structures : c.in_ok-structures.structures ≡ length c.args.row.now + c.args.structures = search rules in
     let arguments : c.in_ok-arguments.arguments ≡ c.in_ok-own.own + c.args.arguments = search rules in
-    on_ok_weaker c.reserve-3.result (λ h. record {
+    on_ok_weaker c.reserve-2.result (λ h. record {
       structures_fit = omega (arith, few_structures c.args.row.now, h.structures, structures);
       arguments_fit = omega (arith, c.in_ok-own.ensures, h.arguments, arguments);
       stack_fits = omega (arith, c.in_ok-reserve.ensures.ok, c.clear.ensures.len);
-      list_fits = omega (arith, c.in_ok-own.ensures, c.in_ok-reserve-2.ensures.ok, c.clear-2.ensures.len);
-    }) c.reserve-3.ensures.room
+    }) c.reserve-2.ensures.room
 
 pub returns-clause-beside : goal.returns-clause-beside
 returns-clause-beside g c =
     let structures : c.in_ok-structures.structures ≡ length c.args.row.now + c.args.structures = search rules in
     let arguments : c.in_ok-arguments.arguments ≡ c.in_ok-own.own + c.args.arguments = search rules in
-    on_ok_weaker c.reserve-3.result (λ h. record {
+    on_ok_weaker c.reserve-2.result (λ h. record {
       variables = h.variables;
       structures = omega (arith, few_structures c.args.row.now, h.structures, structures);
       arguments = omega (arith, c.in_ok-own.ensures, h.arguments, arguments);
       bindings = h.bindings;
-    }) c.reserve-3.ensures.room
+    }) c.reserve-2.ensures.room

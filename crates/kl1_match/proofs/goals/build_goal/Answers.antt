@@ -3,7 +3,7 @@ use Rattle.std.proofs.Common.{rules, ◌∙◌, length, subst, sym, ap}
 use Rattle.kl1_store.specs.declared.cell.Cell.TheVariants.{Integer}
 use Rattle.kl1_store.specs.Held.{AreIn}
 use Rattle.kl1_match.specs.BuiltNodes.{BuildsNodes}
-use Rattle.kl1_match.proofs.Rows.{popped}
+use Rattle.kl1_store.proofs.Tops.{popped}
 use Rattle.kl1_match.proofs.BuiltNodes.{goal_variables, goal_is, goal_below}
 use Rattle.kl1_match.proofs.goals.build_goal.Goals as goal
 

@@ -27,4 +27,5 @@ loop-left-preserved c =
           c.requires.variables c.loop-left-test.true c.index-nodes-left.is c.step_of-step.ensures.code b grown c.in_ok-put_step.ensures.puts,
       c.put_step.ensures.hooks ∙ c.loop-left.invariant.1,
       c.put_step.ensures.bindings ∙ c.loop-left.invariant.2,
+      omega (arith, c.loop-left-test.true, c.loop-left.invariant.3, c.in_ok-put_step.ensures.uses.height, c.in_ok-put_step.ensures.uses.capacity),
     )

@@ -35,7 +35,7 @@ loop-left-preserved g c =
       c.put_step.ensures.hooks ∙ c.loop-left.invariant.1,
       c.put_step.ensures.bindings ∙ c.loop-left.invariant.2,
       step_used c.args.row.now c.loop-left.left (slice_index_or c.args.row.now (c.loop-left.left - 1) (Variable 0)) (Variable 0) _ _ c.args.store.now.room c.loop-left.store.room c.put_step.new.store.room
-          c.args.stack.now c.loop-left.stack c.put_step.new.stack c.args.arguments.now c.loop-left.arguments c.put_step.new.arguments
+          c.loop-left.stack c.put_step.new.stack
           c.loop-left-test.true b.within refl c.step_in-step.ensures.structures c.step_in-step.ensures.arguments c.loop-left.invariant.3 c.in_ok-put_step.ensures.uses,
       c.put_step.ensures.hook_room ∙ c.loop-left.invariant.4,
     )
@@ -43,8 +43,8 @@ loop-left-preserved g c =
 pub returns-in_err-put_step-clause-room : goal.returns-in_err-put_step-clause-room
 returns-in_err-put_step-clause-room g c h =
     let done : IsOk c.put_step.result = c.put_step.ensures.room
-    (step_fits c.args.row.now c.loop-left.left (slice_index_or c.args.row.now (c.loop-left.left - 1) (Variable 0)) (Variable 0) _ _ c.args.store.now.room c.loop-left.store.room
-    c.args.stack.now c.loop-left.stack c.args.arguments.now c.loop-left.arguments
+    (step_fits c.args.row.now c.loop-left.left (slice_index_or c.args.row.now (c.loop-left.left - 1) (Variable 0)) (Variable 0) _ _ _ c.args.store.now.room c.loop-left.store.room
+    c.loop-left.stack
     c.loop-left-test.true c.loop-left.invariant.0.within refl c.step_in-step.ensures.structures c.step_in-step.ensures.arguments c.loop-left.invariant.3 h) in
     search rules
 

@@ -9,7 +9,7 @@ invariant-loop-left g l =
     IsBuilt g.N.NameValue.built l.names l.initial.store.held l.store.held l.variables l.row l.left l.stack.items
     × (l.store.hooks ≡ l.initial.store.hooks)
     × (l.store.held.bindings ≡ l.initial.store.held.bindings)
-    × RoomLeft l.row l.left l.initial.store.room l.store.room l.initial.stack l.stack l.initial.arguments l.arguments
+    × RoomLeft l.row l.left l.initial.store.room l.store.room l.stack
     × (l.store.hook_room ≡ l.initial.store.hook_room)
 
 abbrev pub decreases-loop-left : goal.decreases-loop-left

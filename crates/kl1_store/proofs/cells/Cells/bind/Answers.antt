@@ -1,4 +1,4 @@
-use Rattle.std.proofs.Common.{ap}
+use Rattle.std.proofs.Common.{[], ◌∷◌, ◌++◌, ap, ◌∙◌}
 use Rattle.kl1_store.specs.Held.{Stored}
 use Rattle.kl1_store.proofs.Lists.{bound_at}
 use Rattle.kl1_store.proofs.cells.Cells.bind.Goals as goal
@@ -9,4 +9,4 @@ invariant_of-self-2 g c =
     let e = ap (λ (v : Stored g.row.N.Denot). v.held) c.self.view_is in
     let r = c.requires in
     bound_at s.slots.items s.nodes.items s.arguments.items s.bindings.items _ c.args.variable c.args.value c.args.self.now.held
-    c.self.invariant e c.in_ok-push.ensures.items r.inside r.known r.unbound r.lower r.free
+    c.self.invariant e (c.push_reserved.ensures.items ∙ ap (λ l. l ++ record { variable = c.args.variable; value = c.args.value } ∷ []) c.in_ok-make_room.ensures.items) r.inside r.known r.unbound r.lower r.free

@@ -14,11 +14,11 @@ grown g c =
     let e = ap (λ (v : Stored g.row.N.Denot). v.held) c.self.view_is in
     let both : c.push_reserved-2.new.self.items ≡ s.arguments.items ++ c.args.first ∷ c.args.second ∷ [] =
     c.push_reserved-2.ensures.items
-    ∙ ap (λ l. l ++ c.args.second ∷ []) (c.push_reserved.ensures.items ∙ ap (λ l. l ++ c.args.first ∷ []) c.in_ok-reserve-2.ensures.items)
+    ∙ ap (λ l. l ++ c.args.second ∷ []) (c.push_reserved.ensures.items ∙ ap (λ l. l ++ c.args.first ∷ []) c.in_ok-make_room-2.ensures.items)
     ∙ append_assoc s.arguments.items (c.args.first ∷ []) (c.args.second ∷ []) in
     built_at s.slots.items s.nodes.items c.push_reserved-3.new.self.items s.arguments.items c.push_reserved-2.new.self.items s.bindings.items
     (record { name = c.args.name; start = c.len-start.result; count = 2 }) (c.args.first ∷ c.args.second ∷ []) c.args.self.now.held
-    c.self.invariant e (c.push_reserved-3.ensures.items ∙ ap (λ l. l ++ record { name = c.args.name; start = c.len-start.result; count = 2 } ∷ []) c.in_ok-reserve.ensures.items) both c.requires
+    c.self.invariant e (c.push_reserved-3.ensures.items ∙ ap (λ l. l ++ record { name = c.args.name; start = c.len-start.result; count = 2 } ∷ []) c.in_ok-make_room.ensures.items) both c.requires
     (c.len-start.ensures ∙ s.arguments.ok.0) refl (omega arith) (omega arith)
 
 pub invariant_of-self-2 : goal.invariant_of-self-2
