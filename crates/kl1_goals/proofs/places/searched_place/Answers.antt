@@ -3,7 +3,7 @@ use Rattle.std.proofs.lemmas.List.{length-map}
 use Rattle.kl1_goals.specs.Slots.{numbers_of, number_in}
 use Rattle.kl1_goals.proofs.Orders.{cut_other}
 use Rattle.kl1_goals.proofs.Changing.{field_read}
-use Rattle.kl1_goals.proofs.places.place_of.Goals as goal
+use Rattle.kl1_goals.proofs.places.searched_place.Goals as goal
 
 pub returns-else-index-number : goal.returns-else-index-number
 returns-else-index-number g c =
