@@ -50,6 +50,12 @@ low_at (p ∷ ps) (suc k) a w = low_at ps k a.1 (omega arith)
 pub cut_absent : (ns : List ℕ) (n : ℕ) → IsCut ns n 0 → IsAbsent ns n
 cut_absent ns n c j w e = omega (arith, c.high j (omega arith) w, e)
 
+-- a number above all has no place
+pub below_absent : (ns : List ℕ) (n : ℕ) → AreBelow n ns → IsAbsent ns n
+below_absent [] n b j w e = absurd (omega arith)
+below_absent (m ∷ ms) n b zero w e = omega (arith, b.0, e)
+below_absent (m ∷ ms) n b (suc j) w e = below_absent ms n b.1 j (omega arith) e
+
 -- the number at the cut is another
 pub cut_other : (ns : List ℕ) (n k count : ℕ) → Ascend 0 ns → IsCut ns n count → k + 1 ≡ count → (get_or ns k 0 ≡ n → ⊥) → IsAbsent ns n
 cut_other ns n k count a c s p j w e = elim (cases_lt k j) [

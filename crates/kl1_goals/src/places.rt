@@ -1,6 +1,6 @@
 // The places of a table, in order of number, with the queue over them.
 
-ghost use Rattle.std.specs.Prelude.{◌≡◌, ◌+◌, ◌-◌, ◌<◌, ◌≤◌, ℕ, true, None, List, [], ◌∷◌, ◌++◌, length, map, drop, get_or, nat_lt, MatchOption, vec_len, vec_capacity};
+ghost use Rattle.std.specs.Prelude.{◌≡◌, ◌+◌, ◌-◌, ◌<◌, ◌≤◌, ℕ, true, None, List, [], ◌∷◌, ◌++◌, length, map, drop, get_or, nat_lt, IfSome, MatchOption, vec_len, vec_capacity};
 ghost use Rattle.std.specs.List.{filter, find};
 ghost use Rattle.kl1_model.specs.Limits.{monitor_priority};
 ghost use Rattle.kl1_goals.specs.Lists.{has_number, is_other, stood_by, number_of};
@@ -33,8 +33,38 @@ pub(crate) fn count_upto<N: NameValue>(slots: &Vec<Slot<N>>, number: u64) -> usi
     low
 }
 
-/// The place of a number.
-fn place_of<N: NameValue>(slots: &Vec<Slot<N>>, number: u64) -> Option<usize>
+/// Whether all places have a lesser number.
+fn ends_before<N: NameValue>(slots: &Vec<Slot<N>>, number: u64) -> bool
+    requires { Ascend 0 (numbers_of slots.now.items) }
+    ensures { result ≡ true → AreBelow number (numbers_of slots.now.items) }
+{
+    let count = slots.len();
+    if count == 0 {
+        return true;
+    }
+    slots[count - 1].goal.number < number
+}
+
+/// The place of a number, where none is left out between it and the last.
+fn near_place<N: NameValue>(slots: &Vec<Slot<N>>, number: u64) -> Option<usize>
+    ensures { IfSome result (λ k. IsPlace (numbers_of slots.now.items) number k) }
+{
+    let count = slots.len();
+    if count == 0 {
+        return None;
+    }
+    let last = slots[count - 1].goal.number;
+    let back = last.saturating_sub(number);
+    let guess = (count - 1).saturating_sub(back as usize);
+    if slots[guess].goal.number == number {
+        Some(guess)
+    } else {
+        None
+    }
+}
+
+/// The place of a number, by a search.
+fn searched_place<N: NameValue>(slots: &Vec<Slot<N>>, number: u64) -> Option<usize>
     requires { Ascend 0 (numbers_of slots.now.items) }
     ensures { MatchOption result (IsAbsent (numbers_of slots.now.items) number) (λ k. IsPlace (numbers_of slots.now.items) number k) }
 {
@@ -47,6 +77,20 @@ fn place_of<N: NameValue>(slots: &Vec<Slot<N>>, number: u64) -> Option<usize>
         Some(place)
     } else {
         None
+    }
+}
+
+/// The place of a number.
+fn place_of<N: NameValue>(slots: &Vec<Slot<N>>, number: u64) -> Option<usize>
+    requires { Ascend 0 (numbers_of slots.now.items) }
+    ensures { MatchOption result (IsAbsent (numbers_of slots.now.items) number) (λ k. IsPlace (numbers_of slots.now.items) number k) }
+{
+    if ends_before(slots, number) {
+        return None;
+    }
+    match near_place(slots, number) {
+        None => searched_place(slots, number),
+        Some(place) => Some(place),
     }
 }
 
@@ -232,18 +276,6 @@ pub(crate) fn tidy<N: NameValue>(
     if *empty > count / 2 {
         compact(slots, empty, queue);
     }
-}
-
-/// Whether all places have a lesser number.
-fn ends_before<N: NameValue>(slots: &Vec<Slot<N>>, number: u64) -> bool
-    requires { Ascend 0 (numbers_of slots.now.items) }
-    ensures { result ≡ true → AreBelow number (numbers_of slots.now.items) }
-{
-    let count = slots.len();
-    if count == 0 {
-        return true;
-    }
-    slots[count - 1].goal.number < number
 }
 
 /// Drops the empty places where one of them may have this number or a greater one.

@@ -1,6 +1,6 @@
 -- A tree whose leaf is changed, from the leaf up.
-use Rattle.std.proofs.Common.{◌≡◌, ℕ, ◌+◌, ◌*◌, ◌<◌, ◌≤◌, ◌⊎◌, max, List, get_or, set, refl, sym, ◌∙◌, subst, arith, inl, inr}
-use Rattle.std.proofs.lemmas.List.{get_or-set_same, get_or-set_other, length-set}
+use Rattle.std.proofs.Common.{◌≡◌, ℕ, ◌+◌, ◌*◌, ◌<◌, ◌≤◌, ◌⊎◌, max, List, get_or, set, drop, refl, sym, ◌∙◌, ap, subst, arith, inl, inr}
+use Rattle.std.proofs.lemmas.List.{get_or-set_same, get_or-set_other, get_or-drop, set-get_or, length-set}
 use Rattle.std.proofs.lemmas.Bool.{cases_eq}
 use Rattle.kl1_queue.specs.Trees.{Tops, IsTree, IsTreeBut}
 
@@ -52,3 +52,7 @@ whole_at half parent node bs r here t =
 
 pub whole_top : (half node : ℕ) (bs : List ℕ) → node ≤ 1 → IsTreeBut half node bs → IsTree half bs
 whole_top half node bs p t = record { size = t.size; nodes = λ i c d. t.nodes i c d (λ e. omega (arith, e)) (λ e. omega (arith, e)) }
+
+-- a leaf that has the rank already
+pub leaf_same : (half place rank : ℕ) (bs : List ℕ) → get_or bs (half + place) 0 ≡ rank → drop half bs ≡ set (drop half bs) place rank
+leaf_same half place rank bs e = sym (ap (λ v. set (drop half bs) place v) (sym (get_or-drop half bs place 0 ∙ e)) ∙ set-get_or (drop half bs) place 0)

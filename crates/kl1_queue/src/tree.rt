@@ -11,6 +11,9 @@ pub(crate) fn set_leaf(best: &mut Vec<u16>, half: usize, place: usize, rank: u16
     ensures leaves { drop half best.new.items ≡ set (drop half best.old.items) place rank }
 {
     let mut node = half + place;
+    if best[node] == rank {
+        return;
+    }
     best[node] = rank;
     while node > 1 {
         let parent = node / 2;
