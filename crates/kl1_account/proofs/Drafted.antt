@@ -114,10 +114,10 @@ pub is_drafted : (ms : List Numbered) (mark : Point) (old k l new : Kept CellNam
     IsMadeIn old.held (made_of goals before) → AreGoalsIn old.held goals → AreUpTo before.last_goal goals → IsBegun goal before.shoen before.last_goal before → before.shoen.number ≡ goal.shoen → IsKnown goal shoens →
     Moves p m places x old.held k.held before mid → IsMoved before mid → Grown old.held k.held → k.hooks ≡ old.hooks →
     ((ns : List Numbered) → Drafts ns (λ f. settle mid.shoen.number) k.held l.held goals mid after) → IsSettling mid after → Grown k.held l.held → l.hooks ≡ k.hooks →
-    after.last_goal + length after.cells.items < 2 ^ 64 → WakesAll ms mark l new goals last → last ≡ record after { changes = last.changes; told = last.told } → new.held ≡ l.held →
+    after.last_goal + length after.cells.items < 2 ^ 64 → WakesAll ms mark l new goals last → last ≡ record after { changes = last.changes; standings = last.standings; told = last.told } → length last.standings.items ≡ length last.cells.items → new.held ≡ l.held →
     mark ≡ point_of old → IsFormed old.held → length last.cells.items ≤ room → Allows ms old.held p places x m clause →
     IsDrafted ms old new goals goal x clause shoens room before last
-is_drafted ms mark old k l new goals goal x clause shoens room p m places before mid after last inside goals_in up begun number known moves is_moved grown hooks settles settling grown_on hooks_on fits wakes rest held point formed enough allows =
+is_drafted ms mark old k l new goals goal x clause shoens room p m places before mid after last inside goals_in up begun number known moves is_moved grown hooks settles settling grown_on hooks_on fits wakes rest counted held point formed enough allows =
     let turned = drafted_turns ms old.held k.held l.held goals goal x clause p m places before mid after inside (sym number) (sym begun.priority) allows grown moves settles in
     let N : Draft → Type 0 = λ d. d.last_goal + length d.cells.items < 2 ^ 64 in
     let T : Made → Type 0 = λ w. Turns ms (reduced_to ms old.held goal x clause) old.held l.held (made_of goals before) w in
@@ -134,11 +134,12 @@ is_drafted ms mark old k l new goals goal x clause shoens room p m places before
       fitting = record {
         enough = enough;
         numbers = subst N (sym rest) fits;
+        standings = counted;
         last = up_to;
         low = omega arith;
         high = omega arith;
         most = omega arith;
       };
       turns = subst H (sym held) (subst T (sym (ap (made_of goals) rest)) turned);
-      settles = wakes old point formed (Grown-trans old.held k.held l.held grown grown_on) (hooks_on ∙ hooks) goals_in up_to;
+      settles = wakes old point formed (Grown-trans old.held k.held l.held grown grown_on) (hooks_on ∙ hooks) goals_in;
     }

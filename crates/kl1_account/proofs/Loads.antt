@@ -43,6 +43,7 @@ use Rattle.kl1_account.specs.Keeping.{IsKept}
 use Rattle.kl1_account.specs.Loadings.{RefusesLoad, IsDraft, DraftsAs, IsDraftOf, LoadsAs, Settles}
 use Rattle.kl1_clause.proofs.Growth.{all_grow}
 use Rattle.kl1_account.proofs.ModuleNames.{of_module}
+use Rattle.kl1_account.proofs.Restood.{restood_holds, restood_read}
 
 -- ---- whether a drafted module may be loaded
 
@@ -124,38 +125,6 @@ pub load_good : (text : List ℕ) (m : Module) → length text ≤ most_source_b
 load_good text m h r = λ s. rw (le-leb (length text) most_source_bytes h) (ap (load_module s) r)
 
 -- ---- goals that stand otherwise
-
-one_read : (t : Means) (c : Change) (gs : List (Goal CellName)) → map (goal_with t) (map (restood_by c) gs) ≡ map (goal_with t) gs
-one_read t c [] = refl
-one_read t c (g ∷ gs) =
-    ap (λ (k : model.Goal). k ∷ map (goal_with t) (map (restood_by c) gs)) (by (g.number == c.number))
-    ∙ ap (λ (ks : List model.Goal). goal_with t g ∷ ks) (one_read t c gs)
-  where
-    by : (b : Bool) → goal_with t (if b then record g { standing = c.standing } else g) ≡ goal_with t g
-    by true = refl
-    by false = refl
-
--- the definitions' goals don't show by which clause a goal can step
-pub restood_read : (t : Means) (cs : List Change) (gs : List (Goal CellName)) → map (goal_with t) (restood cs gs) ≡ map (goal_with t) gs
-restood_read t [] gs = refl
-restood_read t (c ∷ cs) gs = restood_read t cs (map (restood_by c) gs) ∙ one_read t c gs
-
--- what holds of goals by whatever clause they can step
-abbrev pub Holds : (Goal CellName → Type 0) → Type 0
-Holds P = (g : Goal CellName) (o : Option ℕ) → P g → P (record g { standing = o })
-
-one_keeps : (P : Goal CellName → Type 0) → Holds P → (c : Change) (gs : List (Goal CellName)) → AllByRecursion P gs → AllByRecursion P (map (restood_by c) gs)
-one_keeps P all c [] a = tt
-one_keeps P all c (g ∷ gs) a = (by (g.number == c.number), one_keeps P all c gs a.1)
-  where
-    by : (b : Bool) → P (if b then record g { standing = c.standing } else g)
-    by true = all g c.standing a.0
-    by false = a.0
-
--- holds of goals that stand otherwise
-pub restood_keeps : (P : Goal CellName → Type 0) → Holds P → (cs : List Change) (gs : List (Goal CellName)) → AllByRecursion P gs → AllByRecursion P (restood cs gs)
-restood_keeps P all [] gs a = a
-restood_keeps P all (c ∷ cs) gs a = restood_keeps P all cs (map (restood_by c) gs) (one_keeps P all c gs a)
 
 -- a goal that is stood by a change in a table of goals
 pub stood_is : (c : Change) (gs : List (Goal CellName)) → map (stood_by c.number c.standing) gs ≡ map (restood_by c) gs
@@ -286,12 +255,12 @@ pub load_kept : (a : Account) (source : List ℕ) (d : Numbered) (old hooks : Li
 load_kept a source d old hooks known changes names row i r =
     record {
       some = i.some;
-      goals = restood_keeps (λ g. IsTaskIn a.held g.task) (λ g o p. p) changes a.goals i.goals;
-      owned = restood_keeps (IsOwned (length a.shoens)) (λ g o p. record { low = p.low; high = p.high }) changes a.goals i.owned;
+      goals = restood_holds (λ g. IsTaskIn a.held g.task) (λ g o p. p) changes a.goals i.goals;
+      owned = restood_holds (IsOwned (length a.shoens)) (λ g o p. record { low = p.low; high = p.high }) changes a.goals i.owned;
       shoens = i.shoens;
       numbered = i.numbered;
       count = i.count;
-      last = restood_keeps (λ g. g.number ≤ a.last_goal) (λ g o p. p) changes a.goals i.last;
+      last = restood_holds (λ g. g.number ≤ a.last_goal) (λ g o p. p) changes a.goals i.last;
       settled = load_settled a source d old hooks known changes names row i r;
       rows = λ f fits. read_more f a.modules (record d { row = row }) (i.rows f (r.fits f fits)) (r.numbers f fits);
       named = λ f g ff fg.

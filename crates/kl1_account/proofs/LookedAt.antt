@@ -1,5 +1,5 @@
 -- The goals that a draft leaves, looked at where needed.
-use Rattle.std.proofs.Common.{◌≡◌, ℕ, zero, suc, ◌<◌, ◌==◌, ◌||◌, not, Bool, true, false, if◌then◌else◌, List, [], ◌∷◌, length, map, drop, refl, sym, ap, ◌∙◌, arith, subst, eq-eqb}
+use Rattle.std.proofs.Common.{◌≡◌, ℕ, zero, suc, ◌<◌, ◌==◌, ◌||◌, not, Bool, true, false, if◌then◌else◌, List, [], ◌∷◌, ◌++◌, length, map, drop, refl, sym, ap, ◌∙◌, arith, subst, eq-eqb}
 use Rattle.std.specs.Prelude.{filter, find, Some, Contains}
 use Rattle.std.specs.List.{AllByRecursion}
 use Rattle.std.proofs.lemmas.Bool.{ne_eqb, eqb-false}
@@ -7,7 +7,7 @@ use Rattle.kl1_text.specs.declared.cell_name.CellName.{CellName}
 use Rattle.kl1_store.specs.declared.binding.Binding.{Binding}
 use Rattle.kl1_store.specs.declared.point.Point.{Point}
 use Rattle.kl1_store.specs.Held.{Held, is_bound}
-use Rattle.kl1_store.specs.Hooks.{Hook, Kept, told_by}
+use Rattle.kl1_store.specs.Hooks.{Hook, Kept, HasGrown, told_by}
 use Rattle.kl1_store.specs.Later.{bound_since}
 use Rattle.kl1_store.proofs.Telling.{is_told}
 use Rattle.kl1_goals.specs.declared.goal.Goal.{Goal}
@@ -15,15 +15,17 @@ use Rattle.kl1_goals.specs.Lists.{is_other, has_number, is_monitor_of, number_of
 use Rattle.kl1_goals.specs.Tables.{Ascend, AreInOrder}
 use Rattle.kl1_modules.specs.Numbered.{Numbered}
 use Rattle.kl1_account.specs.declared.draft.Draft.{Draft}
-use Rattle.kl1_account.specs.declared.draft.Change.{Change}
 use Rattle.kl1_account.specs.Fitting.{Reading}
 use Rattle.kl1_account.specs.Kept.{AreUpTo}
-use Rattle.kl1_account.specs.Drafts.{goals_left, without_monitor, made_of, restood}
-use Rattle.kl1_account.specs.Settled.{AreSettled}
+use Rattle.kl1_account.specs.Drafts.{goals_left, without_monitor, restood, goals_standing}
+use Rattle.kl1_account.specs.Settled.{IsSettled, AreSettled}
 use Rattle.kl1_account.specs.Waking.{is_among, AreSettledOr}
 use Rattle.kl1_account.specs.Looking.{AreOthersOf, WakesTold, WakesAdded}
 use Rattle.kl1_account.specs.Reducing.{WakesAll}
+use Rattle.kl1_account.proofs.Added.{all_more}
 use Rattle.kl1_account.proofs.Goals.{filter_up_to}
+use Rattle.kl1_account.proofs.Hanging.{grown_among}
+use Rattle.kl1_account.proofs.Restood.{each_append}
 use Rattle.kl1_account.proofs.Waking.{AreTold, told_are_pending, filter_settled_or}
 
 -- ---- goals in order of number are found by their numbers
@@ -112,20 +114,21 @@ are_told hooks bs told e v n c h =
 -- ---- all of them
 
 -- the goals that were told and those that come are looked at: all are settled
-pub all_woken : (ms : List Numbered) (mark : Point) (now mid new : Kept CellName) (goals : List (Goal CellName)) (d : Draft) (told : List ℕ) (first second : List Change) →
+pub all_woken : (ms : List Numbered) (mark : Point) (now mid new : Kept CellName) (goals : List (Goal CellName)) (d : Draft) (told : List ℕ) →
     AreInOrder goals → told ≡ told_by (drop mark.sizes.bindings now.held.bindings) now.hooks →
-    WakesTold ms now.held now.hooks mid.hooks goals d.removed told [] first → mid.held ≡ now.held →
-    WakesAdded ms mid.held mid.hooks new.hooks d.last_goal d.cells.items first second → new.held ≡ mid.held → d.changes.items ≡ second →
+    WakesTold ms now.held now.hooks mid.hooks goals d.removed told [] d.changes.items → mid.held ≡ now.held →
+    WakesAdded ms mid.held new.hooks d.last_goal d.cells.items d.standings.items → new.held ≡ mid.held → HasGrown mid new →
     WakesAll ms mark now new goals d
-all_woken ms mark now mid new goals d told first second order told_is wakes_told same wakes_added again changes_are old m formed grown hooks_are inside up_to f knows settled =
+all_woken ms mark now mid new goals d told order told_is wakes_told same wakes_added again more old m formed grown hooks_are inside f knows settled =
+    let left = restood d.changes.items (goals_left goals d) in
+    let added = goals_standing d.last_goal d.shoen.number d.priority d.cells.items d.standings.items in
     let H : List Hook → Type 0 = λ hs. AreSettled f hs old.held ms goals in
     let since : drop mark.sizes.bindings now.held.bindings ≡ drop (length old.held.bindings) now.held.bindings = ap (λ (p : Point). drop p.sizes.bindings now.held.bindings) m in
     let all_told : AreTold now.hooks (bound_since old.held now.held) told =
     are_told now.hooks (drop (length old.held.bindings) now.held.bindings) told (told_is ∙ ap (λ (bs : List (Binding CellName)). told_by bs now.hooks) since) in
     let pending = left_settled_or f now.hooks now.held ms told goals d (told_are_pending f now.hooks old.held now.held ms told goals formed grown inside all_told (subst H (sym hooks_are) settled)) in
-    let one : AreSettled f mid.hooks now.held ms (restood first (goals_left goals d)) = wakes_told f knows (goals_left goals d) (left_others goals d order) pending in
-    let M : Held CellName → Type 0 = λ h. AreSettled f mid.hooks h ms (restood first (goals_left goals d)) in
-    let two : AreSettled f new.hooks mid.held ms (restood second (made_of goals d).goals) = wakes_added f knows d.shoen.number d.priority (goals_left goals d) (left_up_to d.last_goal goals d up_to) (subst M (sym same) one) in
-    let N : Held CellName → Type 0 = λ h. AreSettled f new.hooks h ms (restood second (made_of goals d).goals) in
-    let C : List Change → Type 0 = λ cs. AreSettled f new.hooks new.held ms (restood cs (made_of goals d).goals) in
-    subst C (sym changes_are) (subst N (sym again) two)
+    let stay : AreSettled f mid.hooks now.held ms left = wakes_told f knows (goals_left goals d) (left_others goals d order) pending in
+    let M : Held CellName → Type 0 = λ h. AreSettled f mid.hooks h ms left in
+    let come : AreSettled f new.hooks mid.held ms added = wakes_added f knows d.shoen.number d.priority in
+    let N : Held CellName → Type 0 = λ h. AreSettled f new.hooks h ms (left ++ added) in
+    subst N (sym again) (each_append (IsSettled f new.hooks mid.held ms) left added (all_more f mid.hooks new.hooks mid.held ms left (grown_among mid new more) (subst M (sym same) stay)) come)

@@ -26,7 +26,7 @@ use Rattle.kl1_account.specs.Fitting.{Reading, built}
 use Rattle.kl1_account.specs.Account.{meaning}
 use Rattle.kl1_account.specs.Works.{Knows}
 use Rattle.kl1_account.specs.Settled.{HangsOnEach}
-use Rattle.kl1_account.specs.Looking.{LooksAt, FindsOut}
+use Rattle.kl1_account.specs.Looking.{StandsBy, StandsAt, FindsOut}
 
 -- the predicate of a call is what was found of it, or none
 pub call_has : (ms : List Numbered) (kind : Kind CellName) (c : Call CellName) (found : Option (Predicate CellName)) (p : Predicate CellName) → kind ≡ Calls c → Finds ms c.module_name c.name c.count found →
@@ -37,27 +37,22 @@ call_has ms kind c found p e finds compiled f knows h t =
     subst P (sym e) (λ (is : IsCall f h t c).
     compiled f (clauses_of (contents ms) (call_at f h c)) (finds f knows.reads knows.rows (call_at f h c) (record { module_is = refl; name_is = refl; counted = is.counted })))
 
--- a goal was looked at where its number hangs on what it waits for, and the clause by which it can step is one change more
-pub looked : (h : Held CellName) (hooks : List Hook) (kind : Kind CellName) (p : Predicate CellName) (n : ℕ) (before after : List Change) (vs ws : List ℕ) (clause : Option ℕ) →
+-- what is found of a goal where its number hangs on what it waits for, and this is the clause by which it can step
+pub stands_by : (h : Held CellName) (hooks : List Hook) (kind : Kind CellName) (p : Predicate CellName) (n : ℕ) (vs ws : List ℕ) (clause : Option ℕ) →
     ((f : Reading) → Reads built f → (modules : List Module) (t : Term) → IsKind f h t kind → HasPredicate f h modules kind p → StandsAs modules t vs clause) →
-    ws ≡ vs → HangsOnEach hooks n ws → after ≡ before ++ record { number = n; standing = clause } ∷ [] → LooksAt h hooks kind p n before after
-looked h hooks kind p n before after vs ws clause stands same hangs is =
+    ws ≡ vs → HangsOnEach hooks n ws → StandsBy h hooks kind p (record { number = n; standing = clause })
+stands_by h hooks kind p n vs ws clause stands same hangs =
     let H : List ℕ → Type 0 = λ us. HangsOnEach hooks n us in
-    record {
-      change = record { number = n; standing = clause };
-      is = is;
-      number_is = refl;
-      found = λ f ms x reads k has. let s = stands f reads (contents ms) (meaning f h x) k has in record { standing = s.clause_is; hung = subst H (same ∙ s.awaits) hangs };
-    }
+    record { found = λ f ms x reads k has. let s = stands f reads (contents ms) (meaning f h x) k has in record { standing = s.clause_is; hung = subst H (same ∙ s.awaits) hangs } }
 
--- the goal for a cell was looked at where its kind and its predicate are found
-pub finds_out : (ms : List Numbered) (h : Held CellName) (hooks : List Hook) (x : Cell CellName) (kind : Kind CellName) (p : Predicate CellName) (n : ℕ) (before after : List Change) →
+-- the same of the goal for a cell, where its kind and its predicate are found
+pub stands_at : (ms : List Numbered) (h : Held CellName) (hooks : List Hook) (x : Cell CellName) (kind : Kind CellName) (p : Predicate CellName) (c : Change) →
     ((f : Reading) → Reads built f → IsKind f h (meaning f h x) kind) →
     ((f : Reading) → Knows ms f → (k : Held CellName) (t : Term) → IsKind f k t kind → HasPredicate f k (contents ms) kind p) →
-    LooksAt h hooks kind p n before after → FindsOut ms h hooks x n before after
-finds_out ms h hooks x kind p n before after is has l = record {
-  change = l.change;
-  is = l.is;
-  number_is = l.number_is;
-  found = λ f knows. let k = is f knows.reads in l.found f ms x knows.reads k (has f knows h (meaning f h x) k);
-}
+    StandsBy h hooks kind p c → StandsAt ms h hooks x c
+stands_at ms h hooks x kind p c is has s = record { found = λ f knows. let k = is f knows.reads in s.found f ms x knows.reads k (has f knows h (meaning f h x) k) }
+
+-- what is found becomes one change more
+pub finds_out : (ms : List Numbered) (h : Held CellName) (hooks : List Hook) (x : Cell CellName) (n : ℕ) (clause : Option ℕ) (before after : List Change) →
+    StandsAt ms h hooks x (record { number = n; standing = clause }) → after ≡ before ++ record { number = n; standing = clause } ∷ [] → FindsOut ms h hooks x n before after
+finds_out ms h hooks x n clause before after s e = record { change = record { number = n; standing = clause }; is = e; number_is = refl; found = s.found }

@@ -1,69 +1,54 @@
 -- A draft that is put in place: its goals with their clauses, and its shoen among the others.
-use Rattle.std.proofs.Common.{◌≡◌, ℕ, zero, suc, ◌+◌, ◌-◌, ◌<◌, ◌≤◌, ◌==◌, Bool, true, false, if◌then◌else◌, List, [], ◌∷◌, length, map, refl, sym, ap, ◌∙◌, arith, subst}
-use Rattle.std.specs.Prelude.{Some, None, find, slice_set}
+use Rattle.std.proofs.Common.{◌≡◌, ℕ, zero, suc, ◌+◌, ◌-◌, ◌<◌, ◌≤◌, ◌==◌, Bool, true, false, if◌then◌else◌, List, [], ◌∷◌, ◌++◌, length, map, refl, sym, ap, ◌∙◌, arith, subst}
+use Rattle.std.specs.Prelude.{Option, Some, None, find, slice_set}
+use Rattle.std.specs.List.{AllByRecursion}
+use Rattle.std.proofs.lemmas.List.{map-append}
 use Rattle.std.proofs.lemmas.Bool.{ne_eqb, eq-eqb}
 use Rattle.kl1_model.specs.State as model
 use Rattle.kl1_text.specs.declared.cell_name.CellName.{CellName}
 use Rattle.kl1_store.specs.Held.{Held}
+use Rattle.kl1_store.specs.declared.cell.Cell.{Cell}
+use Rattle.kl1_goals.specs.declared.task.Task.TheVariants.{Reduces}
 use Rattle.kl1_goals.specs.declared.goal.Goal.{Goal}
 use Rattle.kl1_shoen.specs.declared.shoen.Shoen.{Shoen}
 use Rattle.kl1_shoen.specs.Shoens.{has_number, exchanged}
-use Rattle.kl1_account.specs.declared.draft.Change.{Change}
+use Rattle.kl1_account.specs.declared.draft.Draft.{Draft}
 use Rattle.kl1_account.specs.Account.{Means, goal_with}
-use Rattle.kl1_account.specs.Kept.{AreGoalsIn, AreOwned, AreUpTo, IsShoenIn, AreShoensIn, AreNumbered}
+use Rattle.kl1_account.specs.Kept.{IsShoenIn, AreShoensIn, AreNumbered}
 use Rattle.kl1_account.specs.Works.{with_shoen}
-use Rattle.kl1_account.specs.Drafts.{restood_by, restood}
+use Rattle.kl1_account.specs.Drafts.{goals_for, goals_left, goals_added, made_of, restood, goals_standing, goals_after}
+use Rattle.kl1_account.proofs.Restood.{Holds, restood_holds, restood_read, each_append, each_part}
 
 -- ---- goals with their clauses
 
-one_read : (t : Means) (c : Change) (gs : List (Goal CellName)) → map (goal_with t) (map (restood_by c) gs) ≡ map (goal_with t) gs
-one_read t c [] = refl
-one_read t c (g ∷ gs) = ap (λ (k : model.Goal). k ∷ map (goal_with t) (map (restood_by c) gs)) (by_case (g.number == c.number)) ∙ ap (λ (ks : List model.Goal). goal_with t g ∷ ks) (one_read t c gs)
-  where
-    by_case : (b : Bool) → goal_with t (if b then record g { standing = c.standing } else g) ≡ goal_with t g
-    by_case true = refl
-    by_case false = refl
+standing_read : (t : Means) (last shoen priority : ℕ) (xs : List (Cell CellName)) (ss : List (Option ℕ)) → map (goal_with t) (goals_standing last shoen priority xs ss) ≡ map (goal_with t) (goals_for last shoen priority xs)
+standing_read t last shoen priority [] ss = refl
+standing_read t last shoen priority (x ∷ xs) [] = refl
+standing_read t last shoen priority (x ∷ xs) (s ∷ ss) =
+    ap (λ (gs : List model.Goal). let g : model.Goal = record { number = suc last; task = model.reduces (t x); shoen = shoen; priority = priority } in g ∷ gs) (standing_read t (suc last) shoen priority xs ss)
 
--- the clauses of goals are no part of what they are
-pub restood_read : (t : Means) (cs : List Change) (gs : List (Goal CellName)) → map (goal_with t) (restood cs gs) ≡ map (goal_with t) gs
-restood_read t [] gs = refl
-restood_read t (c ∷ cs) gs = restood_read t cs (map (restood_by c) gs) ∙ one_read t c gs
+-- the goals of a draft in place are those that it makes: their clauses are no part of what they are
+pub after_read : (t : Means) (goals : List (Goal CellName)) (d : Draft) → map (goal_with t) (goals_after goals d) ≡ map (goal_with t) (made_of goals d).goals
+after_read t goals d =
+    let left = goals_left goals d in
+    let added = goals_standing d.last_goal d.shoen.number d.priority d.cells.items d.standings.items in
+    map-append (goal_with t) (restood d.changes.items left) added
+    ∙ ap (λ (gs : List model.Goal). gs ++ map (goal_with t) added) (restood_read t d.changes.items left)
+    ∙ ap (λ (gs : List model.Goal). map (goal_with t) left ++ gs) (standing_read t d.last_goal d.shoen.number d.priority d.cells.items d.standings.items)
+    ∙ sym (map-append (goal_with t) left (goals_added d))
 
-one_in : (h : Held CellName) (c : Change) (gs : List (Goal CellName)) → AreGoalsIn h gs → AreGoalsIn h (map (restood_by c) gs)
-one_in h c [] i = tt
-one_in h c (g ∷ gs) i = by_case (g.number == c.number) (one_in h c gs i.1)
-  where
-    by_case : (b : Bool) → AreGoalsIn h (map (restood_by c) gs) → AreGoalsIn h ((if b then record g { standing = c.standing } else g) ∷ map (restood_by c) gs)
-    by_case true j = (i.0, j)
-    by_case false j = (i.0, j)
+standing_holds : (P : Goal CellName → Type 0) → Holds P → (last shoen priority : ℕ) (xs : List (Cell CellName)) (ss : List (Option ℕ)) → AllByRecursion P (goals_for last shoen priority xs) → AllByRecursion P (goals_standing last shoen priority xs ss)
+standing_holds P all last shoen priority [] ss a = tt
+standing_holds P all last shoen priority (x ∷ xs) [] a = a
+standing_holds P all last shoen priority (x ∷ xs) (s ∷ ss) a =
+    (all (record { number = suc last; task = Reduces x; shoen = shoen; priority = priority; standing = None }) s a.0, standing_holds P all (suc last) shoen priority xs ss a.1)
 
-pub restood_in : (h : Held CellName) (cs : List Change) (gs : List (Goal CellName)) → AreGoalsIn h gs → AreGoalsIn h (restood cs gs)
-restood_in h [] gs i = i
-restood_in h (c ∷ cs) gs i = restood_in h cs (map (restood_by c) gs) (one_in h c gs i)
-
-one_owned : (count : ℕ) (c : Change) (gs : List (Goal CellName)) → AreOwned count gs → AreOwned count (map (restood_by c) gs)
-one_owned count c [] i = tt
-one_owned count c (g ∷ gs) i = by_case (g.number == c.number) (one_owned count c gs i.1)
-  where
-    by_case : (b : Bool) → AreOwned count (map (restood_by c) gs) → AreOwned count ((if b then record g { standing = c.standing } else g) ∷ map (restood_by c) gs)
-    by_case true j = (record { low = i.0.low; high = i.0.high }, j)
-    by_case false j = (i.0, j)
-
-pub restood_owned : (count : ℕ) (cs : List Change) (gs : List (Goal CellName)) → AreOwned count gs → AreOwned count (restood cs gs)
-restood_owned count [] gs i = i
-restood_owned count (c ∷ cs) gs i = restood_owned count cs (map (restood_by c) gs) (one_owned count c gs i)
-
-one_up_to : (last : ℕ) (c : Change) (gs : List (Goal CellName)) → AreUpTo last gs → AreUpTo last (map (restood_by c) gs)
-one_up_to last c [] i = tt
-one_up_to last c (g ∷ gs) i = by_case (g.number == c.number) (one_up_to last c gs i.1)
-  where
-    by_case : (b : Bool) → AreUpTo last (map (restood_by c) gs) → AreUpTo last ((if b then record g { standing = c.standing } else g) ∷ map (restood_by c) gs)
-    by_case true j = (i.0, j)
-    by_case false j = (i.0, j)
-
-pub restood_up_to : (last : ℕ) (cs : List Change) (gs : List (Goal CellName)) → AreUpTo last gs → AreUpTo last (restood cs gs)
-restood_up_to last [] gs i = i
-restood_up_to last (c ∷ cs) gs i = restood_up_to last cs (map (restood_by c) gs) (one_up_to last c gs i)
+-- what holds of goals by whatever clause they can step holds of them
+pub after_holds : (P : Goal CellName → Type 0) → Holds P → (goals : List (Goal CellName)) (d : Draft) → AllByRecursion P (made_of goals d).goals → AllByRecursion P (goals_after goals d)
+after_holds P all goals d a =
+    let parts = each_part P (goals_left goals d) (goals_added d) a in
+    each_append P (restood d.changes.items (goals_left goals d)) (goals_standing d.last_goal d.shoen.number d.priority d.cells.items d.standings.items)
+    (restood_holds P all d.changes.items (goals_left goals d) parts.0) (standing_holds P all d.last_goal d.shoen.number d.priority d.cells.items d.standings.items parts.1)
 
 -- ---- a shoen among the others
 

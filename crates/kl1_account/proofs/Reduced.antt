@@ -17,7 +17,7 @@ use Rattle.kl1_account.specs.Account.{Account, state_of}
 use Rattle.kl1_account.specs.Kept.{AreOwned}
 use Rattle.kl1_account.specs.Keeping.{IsKept}
 use Rattle.kl1_account.specs.Works.{Knows}
-use Rattle.kl1_account.specs.Drafts.{made_of, restood}
+use Rattle.kl1_account.specs.Drafts.{goals_after}
 use Rattle.kl1_account.specs.Settled.{AreSettled}
 use Rattle.kl1_account.specs.Views.{refusal_of}
 use Rattle.kl1_account.specs.Reducing.{put_in, IsReduction, IsRefused, ReducesAs}
@@ -62,13 +62,13 @@ refused_step a b z old new hooks known n c r view kept same i f fits =
 -- ---- where it is done
 
 -- a draft that is put in place
-pub placed_as : (a : Account) (h : Held CellName) (d : Draft) (mid gs : List (Goal CellName)) (ss : List (Shoen CellName)) (last entries : ℕ) → mid ≡ a.goals → gs ≡ restood d.changes.items (made_of mid d).goals → ss ≡ exchanged d.shoen a.shoens →
+pub placed_as : (a : Account) (h : Held CellName) (d : Draft) (mid gs : List (Goal CellName)) (ss : List (Shoen CellName)) (last entries : ℕ) → mid ≡ a.goals → gs ≡ goals_after mid d → ss ≡ exchanged d.shoen a.shoens →
     last ≡ d.last_goal + length d.cells.items → entries ≡ suc a.entries → record a { held = h; goals = gs; shoens = ss; last_goal = last; entries = entries } ≡ put_in a h d
 placed_as a h d mid gs ss last entries m g s l e =
-    ap (λ (xs : List (Goal CellName)). let z : Account = record a { held = h; goals = xs; shoens = ss; last_goal = last; entries = entries } in z) (g ∙ ap (λ (xs : List (Goal CellName)). restood d.changes.items (made_of xs d).goals) m)
-    ∙ ap (λ (xs : List (Shoen CellName)). let z : Account = record a { held = h; goals = restood d.changes.items (made_of a.goals d).goals; shoens = xs; last_goal = last; entries = entries } in z) s
-    ∙ ap (λ n. let z : Account = record a { held = h; goals = restood d.changes.items (made_of a.goals d).goals; shoens = exchanged d.shoen a.shoens; last_goal = n; entries = entries } in z) l
-    ∙ ap (λ n. let z : Account = record a { held = h; goals = restood d.changes.items (made_of a.goals d).goals; shoens = exchanged d.shoen a.shoens; last_goal = d.last_goal + length d.cells.items; entries = n } in z) e
+    ap (λ (xs : List (Goal CellName)). let z : Account = record a { held = h; goals = xs; shoens = ss; last_goal = last; entries = entries } in z) (g ∙ ap (λ (xs : List (Goal CellName)). goals_after xs d) m)
+    ∙ ap (λ (xs : List (Shoen CellName)). let z : Account = record a { held = h; goals = goals_after a.goals d; shoens = xs; last_goal = last; entries = entries } in z) s
+    ∙ ap (λ n. let z : Account = record a { held = h; goals = goals_after a.goals d; shoens = exchanged d.shoen a.shoens; last_goal = n; entries = entries } in z) l
+    ∙ ap (λ n. let z : Account = record a { held = h; goals = goals_after a.goals d; shoens = exchanged d.shoen a.shoens; last_goal = d.last_goal + length d.cells.items; entries = n } in z) e
 
 pub done_step : (a b z : Account) (old new : Kept CellName) (hooks : List Hook) (known n c shoens room : ℕ) (d : Draft) → a ≡ b → IsKept a hooks known → z ≡ put_in a new.held d → IsReduction a old new n c shoens room d →
     (f : Reading) → Fits b.names f → step (state_of f b) (reduce n c) ≡ record { state = state_of f z; reply = reduced }

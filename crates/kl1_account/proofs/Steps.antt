@@ -35,12 +35,12 @@ use Rattle.kl1_account.specs.Fitting.{Reading}
 use Rattle.kl1_account.specs.Account.{Account, Means, meaning, task_with, goal_with, shoen_with, state_of}
 use Rattle.kl1_account.specs.Kept.{IsTaskIn, AreGoalsIn, IsOwned, AreOwned, AreShoensIn, AreNumbered}
 use Rattle.kl1_account.specs.Works.{Made, with_shoen, worked, HasNumber, Knows}
-use Rattle.kl1_account.specs.Drafts.{goals_left, goals_for, without_monitor, made_of, restood}
+use Rattle.kl1_account.specs.Drafts.{goals_left, goals_for, without_monitor, made_of, goals_after}
 use Rattle.kl1_account.specs.Reducing.{put_in, move_at, reduced_to, Allows, IsBegun, IsDrafted, IsReduction, IsRefused}
 use Rattle.kl1_account.proofs.Goals.{others_read, filter_owned}
 use Rattle.kl1_account.proofs.States.{shoens_grown, shoens_set, numbered_set}
 use Rattle.kl1_account.proofs.Drafted.{allowed_move}
-use Rattle.kl1_account.proofs.PutIn.{restood_read, restood_in, restood_owned, restood_up_to, exchanged_is, exchanged_count, put_back}
+use Rattle.kl1_account.proofs.PutIn.{after_read, after_holds, exchanged_is, exchanged_count, put_back}
 
 -- ---- the goal of a number
 
@@ -166,9 +166,9 @@ ends f a h d same =
     let w = made_of a.goals d in
     let t = meaning f h in
     let count : length a.shoens ≡ length (exchanged d.shoen a.shoens) = sym (exchanged_count a.shoens d.shoen) in
-    ap (λ (gs : List model.Goal). let z : State = record (with_entry (state_of f a)) { goals = gs; shoens = map (shoen_with t) (with_shoen a.shoens d.shoen); last_variable = h.variables - 1; last_goal = w.last_goal } in z) (sym (restood_read t d.changes.items w.goals))
-    ∙ ap (λ (ss : List (Shoen CellName)). let z : State = record (with_entry (state_of f a)) { goals = map (goal_with t) (restood d.changes.items w.goals); shoens = map (shoen_with t) ss; last_variable = h.variables - 1; last_goal = w.last_goal } in z) (sym same)
-    ∙ ap (λ n. let z : State = record (with_entry (state_of f a)) { goals = map (goal_with t) (restood d.changes.items w.goals); shoens = map (shoen_with t) (exchanged d.shoen a.shoens); last_variable = h.variables - 1; last_goal = w.last_goal; last_shoen = n } in z) count
+    ap (λ (gs : List model.Goal). let z : State = record (with_entry (state_of f a)) { goals = gs; shoens = map (shoen_with t) (with_shoen a.shoens d.shoen); last_variable = h.variables - 1; last_goal = w.last_goal } in z) (sym (after_read t a.goals d))
+    ∙ ap (λ (ss : List (Shoen CellName)). let z : State = record (with_entry (state_of f a)) { goals = map (goal_with t) (goals_after a.goals d); shoens = map (shoen_with t) ss; last_variable = h.variables - 1; last_goal = w.last_goal } in z) (sym same)
+    ∙ ap (λ n. let z : State = record (with_entry (state_of f a)) { goals = map (goal_with t) (goals_after a.goals d); shoens = map (shoen_with t) (exchanged d.shoen a.shoens); last_variable = h.variables - 1; last_goal = w.last_goal; last_shoen = n } in z) count
 
 -- a reduction that is drafted
 pub is_reduction : (a : Account) (old new : Kept CellName) (n c known room : ℕ) (g : Goal CellName) (x : Cell CellName) (sh : Shoen CellName) (p : Predicate CellName) (places : List (Place CellName)) (m : Move CellName) (before d : Draft) → a.held ≡ old.held →
@@ -194,9 +194,9 @@ is_reduction a old new n c known room g x sh p places m before d held numbers fo
       fitting = drafted.fitting;
       journal = journal;
       some = t.inside.some;
-      goals = restood_in new.held d.changes.items (made_of a.goals d).goals t.inside.goals;
-      owned = restood_owned (length a.shoens) d.changes.items (made_of a.goals d).goals (t.owned (length a.shoens) (omega arith) (subst O (sym start) (filter_owned (length a.shoens) (is_other g.number) a.goals owned)));
-      last = restood_up_to (d.last_goal + length d.cells.items) d.changes.items (made_of a.goals d).goals t.inside.last;
+      goals = after_holds (λ k. IsTaskIn new.held k.task) (λ k o p. p) a.goals d t.inside.goals;
+      owned = after_holds (IsOwned (length a.shoens)) (λ k o p. record { low = p.low; high = p.high }) a.goals d (t.owned (length a.shoens) (omega arith) (subst O (sym start) (filter_owned (length a.shoens) (is_other g.number) a.goals owned)));
+      last = after_holds (λ k. k.number ≤ d.last_goal + length d.cells.items) (λ k o p. p) a.goals d t.inside.last;
       inside = subst I (sym exchanges) (shoens_set new.held a.shoens (d.shoen.number - 1) d.shoen (shoens_grown old.held new.held grown a.shoens inside) t.inside.shoen);
       numbered = subst N (sym exchanges) (numbered_set 0 a.shoens (d.shoen.number - 1) d.shoen numbered (omega arith));
       settles = drafted.settles;

@@ -1,5 +1,5 @@
 -- What a draft stands for.
-use Rattle.std.specs.Prelude.{ℕ, suc, ◌+◌, ◌==◌, not, if◌then◌else◌, List, [], ◌∷◌, ◌++◌, length, filter, map, None}
+use Rattle.std.specs.Prelude.{ℕ, suc, ◌+◌, ◌==◌, not, if◌then◌else◌, List, [], ◌∷◌, ◌++◌, length, filter, map, Option, None}
 use Rattle.kl1_model.specs.State.{State}
 use Rattle.kl1_text.specs.declared.cell_name.CellName.{CellName}
 use Rattle.kl1_store.specs.declared.cell.Cell.{Cell}
@@ -51,3 +51,15 @@ restood_by c g = if g.number == c.number then record g { standing = c.standing }
 abbrev pub restood : List Change → List (Goal CellName) → List (Goal CellName)
 restood [] goals = goals
 restood (c ∷ cs) goals = restood cs (map (restood_by c) goals)
+
+-- goals for cells, each with its own of these clauses by which they can step, with the numbers after the last; without clauses none
+-- can step
+abbrev pub goals_standing : ℕ → ℕ → ℕ → List (Cell CellName) → List (Option ℕ) → List (Goal CellName)
+goals_standing last shoen priority [] standings = []
+goals_standing last shoen priority (x ∷ xs) [] = goals_for last shoen priority (x ∷ xs)
+goals_standing last shoen priority (x ∷ xs) (standing ∷ standings) =
+    record { number = suc last; task = Reduces x; shoen = shoen; priority = priority; standing = standing } ∷ goals_standing (suc last) shoen priority xs standings
+
+-- the goals of an account with a draft in place: those that stay, after its changes, and those that come, with their clauses
+abbrev pub goals_after : List (Goal CellName) → Draft → List (Goal CellName)
+goals_after goals d = restood d.changes.items (goals_left goals d) ++ goals_standing d.last_goal d.shoen.number d.priority d.cells.items d.standings.items

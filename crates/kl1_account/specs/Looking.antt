@@ -1,5 +1,5 @@
 -- Goals that are looked at again: what is found of them, and that all are settled then.
-use Rattle.std.specs.Prelude.{◌≡◌, ℕ, ◌<◌, ◌≤◌, List, [], ◌∷◌, ◌++◌, find, Some, None}
+use Rattle.std.specs.Prelude.{◌≡◌, ℕ, ◌<◌, ◌≤◌, List, [], ◌∷◌, ◌++◌, find, Option, Some, None}
 use Rattle.std.specs.List.{AllByRecursion}
 use Rattle.kl1_text.specs.Reading.{Reads}
 use Rattle.kl1_text.specs.declared.cell_name.CellName.{CellName}
@@ -19,19 +19,19 @@ use Rattle.kl1_modules.specs.Finding.{contents}
 use Rattle.kl1_account.specs.declared.draft.Change.{Change}
 use Rattle.kl1_account.specs.Fitting.{Reading, built}
 use Rattle.kl1_account.specs.Account.{meaning}
-use Rattle.kl1_account.specs.Kept.{AreUpTo}
 use Rattle.kl1_account.specs.Works.{Knows}
-use Rattle.kl1_account.specs.Drafts.{goals_for, restood}
+use Rattle.kl1_account.specs.Drafts.{goals_standing, restood}
 use Rattle.kl1_account.specs.Settled.{IsSettled, AreSettled}
 use Rattle.kl1_account.specs.Waking.{AreSettledOr, IsFoundOut}
 
--- the goal of a number, which is of this kind, was looked at, where these are the clauses of its predicate: there is one
--- change more
-pub record LooksAt (h : Held CellName) (hooks : List Hook) (kind : Kind CellName) (p : Predicate CellName) (number : ℕ) (before after : List Change) : Type 0 where
-  pub change : Change
-  pub is : after ≡ before ++ change ∷ []
-  pub number_is : change.number ≡ number
-  pub found : (f : Reading) (modules : List Numbered) (x : Cell CellName) → Reads built f → IsKind f h (meaning f h x) kind → HasPredicate f h (contents modules) kind p → IsFoundOut f hooks h modules x change
+-- this was found of a goal of this kind, where these are the clauses of its predicate: the clause by which it can step, and that its
+-- number hangs on each variable that it waits for
+pub record StandsBy (h : Held CellName) (hooks : List Hook) (kind : Kind CellName) (p : Predicate CellName) (c : Change) : Type 0 where
+  pub found : (f : Reading) (modules : List Numbered) (x : Cell CellName) → Reads built f → IsKind f h (meaning f h x) kind → HasPredicate f h (contents modules) kind p → IsFoundOut f hooks h modules x c
+
+-- the same of a goal for this cell
+pub record StandsAt (modules : List Numbered) (h : Held CellName) (hooks : List Hook) (x : Cell CellName) (c : Change) : Type 0 where
+  pub found : (f : Reading) → Knows modules f → IsFoundOut f hooks h modules x c
 
 -- the goal of a number, which is for this cell, was looked at: there is one change more
 pub record FindsOut (modules : List Numbered) (h : Held CellName) (hooks : List Hook) (x : Cell CellName) (number : ℕ) (before after : List Change) : Type 0 where
@@ -56,11 +56,9 @@ WakesTold modules h hooks more goals removed told before after =
     (f : Reading) → Knows modules f → (gs : List (Goal CellName)) → AreOthersOf goals removed gs →
     AreSettledOr told f hooks h modules (restood before gs) → AreSettled f more h modules (restood after gs)
 
--- goals for cells that come after goals which are settled are settled too, after more changes
-abbrev pub WakesAdded : List Numbered → Held CellName → List Hook → List Hook → ℕ → List (Cell CellName) → List Change → List Change → Type 0
-WakesAdded modules h hooks more last cells before after =
-    (f : Reading) → Knows modules f → (shoen priority : ℕ) (gs : List (Goal CellName)) → AreUpTo last gs →
-    AreSettled f hooks h modules (restood before gs) → AreSettled f more h modules (restood after (gs ++ goals_for last shoen priority cells))
+-- goals for cells with these clauses, which have the numbers after the last, are settled, whatever shoen they are of
+abbrev pub WakesAdded : List Numbered → Held CellName → List Hook → ℕ → List (Cell CellName) → List (Option ℕ) → Type 0
+WakesAdded modules h hooks last cells standings = (f : Reading) → Knows modules f → (shoen priority : ℕ) → AreSettled f hooks h modules (goals_standing last shoen priority cells standings)
 
 -- the goal of a number, which has this task, was looked at; there is nothing to find of a monitor
 abbrev pub FindsTask : List Numbered → Held CellName → List Hook → ℕ → Task CellName → List Change → List Change → Type 0

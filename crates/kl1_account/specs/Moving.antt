@@ -48,6 +48,7 @@ pub record IsMoved (before after : Draft) : Type 0 where
   pub last : after.last_goal ≡ before.last_goal
   pub number : after.shoen.number ≡ before.shoen.number
   pub changes : after.changes ≡ before.changes
+  pub standings : after.standings ≡ before.standings
   pub told : after.told ≡ before.told
 
 -- a draft after the look at its shoen: only the shoen may be another, with its number, and it may be ending now
@@ -58,4 +59,5 @@ pub record IsSettling (before after : Draft) : Type 0 where
   pub number : after.shoen.number ≡ before.shoen.number
   pub cells : after.cells ≡ before.cells
   pub changes : after.changes ≡ before.changes
+  pub standings : after.standings ≡ before.standings
   pub told : after.told ≡ before.told

@@ -29,7 +29,7 @@ use Rattle.kl1_account.specs.Fitting.{Reading}
 use Rattle.kl1_account.specs.Account.{Account, meaning, goal_with, state_of}
 use Rattle.kl1_account.specs.Kept.{AreGoalsIn, AreOwned, AreUpTo, AreShoensIn, AreNumbered}
 use Rattle.kl1_account.specs.Works.{Knows, Turns}
-use Rattle.kl1_account.specs.Drafts.{made_of, restood}
+use Rattle.kl1_account.specs.Drafts.{made_of, goals_after}
 use Rattle.kl1_account.specs.Settled.{AreSettled}
 use Rattle.kl1_account.specs.Views.{refusal_of}
 
@@ -37,7 +37,7 @@ use Rattle.kl1_account.specs.Views.{refusal_of}
 abbrev pub put_in : Account → Held CellName → Draft → Account
 put_in a h d = record a {
   held = h;
-  goals = restood d.changes.items (made_of a.goals d).goals;
+  goals = goals_after a.goals d;
   shoens = exchanged d.shoen a.shoens;
   last_goal = d.last_goal + length d.cells.items;
   entries = suc a.entries;
@@ -74,10 +74,12 @@ pub record IsBegun (goal : Goal CellName) (shoen : Shoen CellName) (last : ℕ) 
   pub shoen_is : d.shoen ≡ shoen
   pub last_is : d.last_goal ≡ last
 
--- a draft can be put in place of these goals, where so many shoens are known and there is so much room
+-- a draft can be put in place of these goals, where so many shoens are known and there is so much room: each goal that comes has
+-- its clause
 pub record IsFitting (goals : List (Goal CellName)) (shoens room : ℕ) (d : Draft) : Type 0 where
   pub enough : length d.cells.items ≤ room
   pub numbers : d.last_goal + length d.cells.items < 2 ^ 64
+  pub standings : length d.standings.items ≡ length d.cells.items
   pub last : AreUpTo d.last_goal goals
   pub low : 0 < d.shoen.number
   pub high : d.shoen.number ≤ shoens
@@ -90,14 +92,14 @@ Settles ms old new before after = (f : Reading) → Knows ms f → AreSettled f 
 -- the goals that a draft leaves have been looked at since a mark, where needed
 abbrev pub WakesAll : List Numbered → Point → Kept CellName → Kept CellName → List (Goal CellName) → Draft → Type 0
 WakesAll ms mark now new goals d =
-    (old : Kept CellName) → mark ≡ point_of old → IsFormed old.held → Grown old.held now.held → now.hooks ≡ old.hooks → AreGoalsIn old.held goals → AreUpTo d.last_goal goals →
-    Settles ms old new goals (restood d.changes.items (made_of goals d).goals)
+    (old : Kept CellName) → mark ≡ point_of old → IsFormed old.held → Grown old.held now.held → now.hooks ≡ old.hooks → AreGoalsIn old.held goals →
+    Settles ms old new goals (goals_after goals d)
 
 -- the reduction of a goal for a cell by the clause of a number is drafted
 pub record IsDrafted (ms : List Numbered) (old new : Kept CellName) (goals : List (Goal CellName)) (goal : Goal CellName) (x : Cell CellName) (clause shoens room : ℕ) (before after : Draft) : Type 0 where
   pub fitting : IsFitting goals shoens room after
   pub turns : Turns ms (reduced_to ms old.held goal x clause) old.held new.held (made_of goals before) (made_of goals after)
-  pub settles : Settles ms old new goals (restood after.changes.items (made_of goals after).goals)
+  pub settles : Settles ms old new goals (goals_after goals after)
 
 -- a reduction of an account is drafted, and can be put in place
 pub record IsReduction (a : Account) (old new : Kept CellName) (number clause shoens room : ℕ) (d : Draft) : Type 0 where

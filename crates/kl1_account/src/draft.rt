@@ -15,9 +15,9 @@ pub struct Change {
 }
 
 /// What a reduction is to leave of an account's goals and of one of its shoens, before it is put in place: the goal of a number
-/// is removed, and where the shoen ends its monitor too; goals for these cells come after the others, of the shoen, with this
-/// priority and the numbers after the last; and some goals can step by other clauses than before. The numbers that were told of
-/// bindings are kept here while their goals are looked at.
+/// is removed, and where the shoen ends its monitor too; some goals that stay can step by other clauses than before; and goals for
+/// these cells come after the others, of the shoen, with this priority and the numbers after the last, each with its own of the
+/// clauses by which they can step. The numbers that were told of bindings are kept here while their goals are looked at.
 #[derive(Drop)]
 pub struct Draft {
     pub removed: u64,
@@ -27,6 +27,7 @@ pub struct Draft {
     pub shoen: Shoen<CellName>,
     pub last_goal: u64,
     pub changes: Vec<Change>,
+    pub standings: Vec<Option<u64>>,
     pub told: Vec<u64>,
 }
 
@@ -53,6 +54,7 @@ impl Draft {
             },
             last_goal: 0,
             changes: Vec::new(alloc),
+            standings: Vec::new(alloc),
             told: Vec::new(alloc),
         }
     }

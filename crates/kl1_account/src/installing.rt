@@ -4,7 +4,7 @@ ghost use Rattle.std.specs.Prelude.{◌≡◌, ◌+◌, ◌<◌, ◌≤◌, ◌^
 ghost use Rattle.kl1_model.specs.Limits.{monitor_priority};
 ghost use Rattle.kl1_shoen.specs.Shoens.{exchanged};
 ghost use Rattle.kl1_account.specs.Kept.{AreUpTo};
-ghost use Rattle.kl1_account.specs.Drafts.{goals_for, made_of, restood};
+ghost use Rattle.kl1_account.specs.Drafts.{goals_standing, goals_after, restood};
 
 use crate::draft::{Change, Draft};
 use kl1_goals::{Goal, GoalTable, Task};
@@ -12,7 +12,7 @@ use kl1_shoen::ShoenTree;
 use kl1_store::Cell;
 use kl1_text::CellName;
 
-/// Puts a draft in place of what it leaves of the goals and the shoens. There has to be room for its goals.
+/// Puts a draft in place of what it leaves of the goals and the shoens. There has to be room for its goals, and a clause for each.
 pub(crate) fn install(
     goals: &mut GoalTable<CellName>,
     shoens: &mut ShoenTree<CellName>,
@@ -20,11 +20,12 @@ pub(crate) fn install(
 )
     requires room { length draft.now.cells.items ≤ goals.old.room }
     requires fits { draft.now.last_goal + length draft.now.cells.items < 2 ^ 64 }
+    requires standings { length draft.now.standings.items ≡ length draft.now.cells.items }
     requires last { AreUpTo draft.now.last_goal goals.old.goals }
     requires low { 0 < draft.now.shoen.number }
     requires high { draft.now.shoen.number ≤ goals.old.shoens }
     requires priority { draft.now.priority ≤ monitor_priority }
-    ensures goals { goals.new.goals ≡ restood draft.now.changes.items (made_of goals.old.goals draft.now).goals }
+    ensures goals { goals.new.goals ≡ goals_after goals.old.goals draft.now }
     ensures count { goals.new.shoens ≡ goals.old.shoens }
     ensures shoens { shoens.new.shoens ≡ exchanged draft.now.shoen shoens.old.shoens }
 {
@@ -32,49 +33,54 @@ pub(crate) fn install(
     if draft.is_ending {
         goals.remove_monitor(draft.shoen.number);
     }
+    restand(goals, &draft.changes);
     put_goals(
         goals,
         draft.last_goal,
         draft.shoen.number,
         draft.priority,
         &draft.cells,
+        &draft.standings,
     );
-    restand(goals, &draft.changes);
     shoens.set(draft.shoen);
 }
 
-/// Puts goals for cells after all others: of a shoen, with a priority and the numbers after the last. There has to be room.
+/// Puts goals for cells, each with its own of the clauses by which they can step, after all others: of a shoen, with a priority and
+/// the numbers after the last. There has to be room.
 fn put_goals(
     goals: &mut GoalTable<CellName>,
     last_goal: u64,
     shoen: u64,
     priority: u64,
     cells: &[Cell<CellName>],
+    standings: &[Option<u64>],
 )
     requires room { length cells.now ≤ goals.old.room }
     requires fits { last_goal + length cells.now < 2 ^ 64 }
+    requires standings { length standings.now ≡ length cells.now }
     requires last { AreUpTo last_goal goals.old.goals }
     requires low { 0 < shoen }
     requires high { shoen ≤ goals.old.shoens }
     requires priority { priority ≤ monitor_priority }
-    ensures goals { goals.new.goals ≡ goals.old.goals ++ goals_for last_goal shoen priority cells.now }
+    ensures goals { goals.new.goals ≡ goals.old.goals ++ goals_standing last_goal shoen priority cells.now standings.now }
     ensures count { goals.new.shoens ≡ goals.old.shoens }
 {
     let mut number = last_goal;
-    for cell in cells {
+    for (place, cell) in cells.iter().enumerate() {
         number += 1;
         goals.put(Goal {
             number,
             task: Task::Reduces(*cell),
             shoen,
             priority,
-            standing: None,
+            standing: standings[place],
         });
     }
 }
 
 /// Makes changes one after another.
 fn restand(goals: &mut GoalTable<CellName>, changes: &[Change])
+    ensures room { goals.new.room ≡ goals.old.room }
     ensures goals { goals.new.goals ≡ restood changes.now goals.old.goals }
     ensures count { goals.new.shoens ≡ goals.old.shoens }
 {

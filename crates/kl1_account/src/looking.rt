@@ -1,6 +1,6 @@
 // Goals that are looked at again.
 
-ghost use Rattle.std.specs.Prelude.{◌≡◌, ◌+◌, ◌<◌, ◌^◌, length, Contains, OnOk};
+ghost use Rattle.std.specs.Prelude.{◌≡◌, ◌+◌, ◌<◌, ◌^◌, [], length, Contains, IfOk, OnOk};
 ghost use Rattle.kl1_model.specs.Term.{Term};
 ghost use Rattle.kl1_text.specs.declared.cell_name.CellName.{CellName};
 ghost use Rattle.kl1_store.specs.Held.{Held, IsIn, AreIn};
@@ -14,7 +14,7 @@ ghost use Rattle.kl1_account.specs.Fitting.{Reading};
 ghost use Rattle.kl1_account.specs.Kept.{AreGoalsIn};
 ghost use Rattle.kl1_account.specs.Works.{Knows};
 ghost use Rattle.kl1_account.specs.Settled.{HangsOnEach};
-ghost use Rattle.kl1_account.specs.Looking.{LooksAt, FindsOut, Wakes, WakesTold, WakesAdded};
+ghost use Rattle.kl1_account.specs.Looking.{StandsBy, StandsAt, FindsOut, Wakes, WakesTold, WakesAdded};
 
 use crate::draft::Change;
 use kl1_clause::Predicate;
@@ -65,29 +65,45 @@ fn hang_on(store: &mut Store<CellName>, awaited: &[u32], number: u64) -> Result<
     Ok(())
 }
 
-/// Looks at the goal of a number, which is of a kind, by the clauses of its predicate: it is hung on each variable that it waits
-/// for, and the clause by which it can step becomes one change more.
-pub(crate) fn look_at(
+/// The clause by which the goal of a number, which is of a kind, can step by the clauses of its predicate, or none. The number is
+/// hung on each variable that the goal waits for then; where memory is refused, it may hang on some of them.
+pub(crate) fn hung_standing(
     store: &mut Store<CellName>,
     kind: Kind<CellName>,
     predicate: Predicate<'_, CellName>,
     trial: &mut Trial<CellName>,
     number: u64,
-    changes: &mut Vec<Change>,
-) -> Result<(), AllocError>
+) -> Result<Option<u64>, AllocError>
     requires kind { KindIn store.old.held kind }
     requires predicate { AreSome predicate.names.now predicate.clauses.now }
-    ensures looks { OnOk result (LooksAt store.old.held store.new.hooks kind predicate.entry number changes.old.items changes.new.items) }
+    ensures stands { IfOk result (λ standing. StandsBy store.old.held store.new.hooks kind predicate.entry (record { number = number; standing = standing })) }
     ensures held { store.new.held ≡ store.old.held }
     ensures grown { HasGrown store.old store.new }
 {
     let standing = standing_of(store, kind, predicate, trial)?;
     hang_on(store, trial.awaited.as_slice(), number)?;
-    changes.push(Change { number, standing })?;
-    Ok(())
+    Ok(standing)
 }
 
-/// Looks at the goal of a number, which is for a cell.
+/// The same of the goal of a number, which is for a cell.
+fn standing_at(
+    store: &mut Store<CellName>,
+    modules: &Modules,
+    trial: &mut Trial<CellName>,
+    number: u64,
+    cell: Cell<CellName>,
+) -> Result<Option<u64>, AllocError>
+    requires { IsIn store.old.held cell }
+    ensures stands { IfOk result (λ standing. StandsAt modules.now.loaded store.old.held store.new.hooks cell (record { number = number; standing = standing })) }
+    ensures held { store.new.held ≡ store.old.held }
+    ensures grown { HasGrown store.old store.new }
+{
+    let kind = kind_of(store, cell);
+    let predicate = predicate_of(modules, kind);
+    hung_standing(store, kind, predicate, trial, number)
+}
+
+/// Looks at the goal of a number, which is for a cell: the clause by which it can step becomes one change more.
 fn look_at_cell(
     store: &mut Store<CellName>,
     modules: &Modules,
@@ -101,9 +117,9 @@ fn look_at_cell(
     ensures held { store.new.held ≡ store.old.held }
     ensures grown { HasGrown store.old store.new }
 {
-    let kind = kind_of(store, cell);
-    let predicate = predicate_of(modules, kind);
-    look_at(store, kind, predicate, trial, number, changes)
+    let standing = standing_at(store, modules, trial, number, cell)?;
+    changes.push(Change { number, standing })?;
+    Ok(())
 }
 
 /// Looks at the goal of a number, where it is there, is no monitor, and is not the one that is removed.
@@ -154,25 +170,30 @@ pub(crate) fn wake_told(
     Ok(())
 }
 
-/// Looks at goals for these cells, which have the numbers after the last. Where memory is refused, more may hang.
+/// Looks at goals for these cells, which have the numbers after the last: the clauses by which they can step are put down, one for
+/// each. Where memory is refused, more may hang.
 pub(crate) fn wake_added(
     store: &mut Store<CellName>,
     modules: &Modules,
     trial: &mut Trial<CellName>,
     last_goal: u64,
     cells: &[Cell<CellName>],
-    changes: &mut Vec<Change>,
+    standings: &mut Vec<Option<u64>>,
 ) -> Result<(), AllocError>
     requires cells { AreIn store.old.held cells.now }
     requires fits { last_goal + length cells.now < 2 ^ 64 }
-    ensures wakes { OnOk result (WakesAdded modules.now.loaded store.old.held store.old.hooks store.new.hooks last_goal cells.now changes.old.items changes.new.items) }
+    requires empty { standings.old.items ≡ [] }
+    ensures wakes { OnOk result (WakesAdded modules.now.loaded store.old.held store.new.hooks last_goal cells.now standings.new.items) }
+    ensures count { OnOk result (length standings.new.items ≡ length cells.now) }
     ensures held { store.new.held ≡ store.old.held }
     ensures grown { HasGrown store.old store.new }
 {
+    standings.reserve(cells.len())?;
     let mut number = last_goal;
     for cell in cells {
         number += 1;
-        look_at_cell(store, modules, trial, number, *cell, changes)?;
+        let standing = standing_at(store, modules, trial, number, *cell)?;
+        standings.push_reserved(standing);
     }
     Ok(())
 }

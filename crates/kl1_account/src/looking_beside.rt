@@ -16,7 +16,7 @@ ghost use Rattle.kl1_account.specs.Works.{Knows};
 ghost use Rattle.kl1_account.specs.Looking.{FindsOut, FindsTask, LooksBelow, LooksAtAll};
 
 use crate::draft::Change;
-use crate::looking::look_at;
+use crate::looking::hung_standing;
 use kl1_clause::Predicate;
 use kl1_goals::{Goal, GoalTable, Task};
 use kl1_modules::{Loaded, Modules};
@@ -50,7 +50,7 @@ fn predicate_beside<'a>(
     }
 }
 
-/// Looks at the goal of a number, which is for a cell.
+/// Looks at the goal of a number, which is for a cell: the clause by which it can step becomes one change more.
 fn look_at_cell(
     store: &mut Store<CellName>,
     modules: &Modules,
@@ -68,7 +68,9 @@ fn look_at_cell(
 {
     let kind = kind_of(store, cell);
     let predicate = predicate_beside(modules, draft, kind);
-    look_at(store, kind, predicate, trial, number, changes)
+    let standing = hung_standing(store, kind, predicate, trial, number)?;
+    changes.push(Change { number, standing })?;
+    Ok(())
 }
 
 /// Looks at a goal, unless it is a monitor.

@@ -61,12 +61,14 @@ fn wake(
     requires cells { AreIn store.old.held draft.old.cells.items }
     requires fits { draft.old.last_goal + length draft.old.cells.items < 2 ^ 64 }
     ensures wakes { OnOk result (WakesAll modules.now.loaded mark store.old store.new goals.now.goals draft.new) }
-    ensures rest { draft.new ≡ record draft.old { changes = draft.new.changes; told = draft.new.told } }
+    ensures count { OnOk result (length draft.new.standings.items ≡ length draft.new.cells.items) }
+    ensures rest { draft.new ≡ record draft.old { changes = draft.new.changes; standings = draft.new.standings; told = draft.new.told } }
     ensures held { store.new.held ≡ store.old.held }
     ensures grown { HasGrown store.old store.new }
 {
     draft.told.clear();
     draft.changes.clear();
+    draft.standings.clear();
     store.tell(mark, &mut draft.told)?;
     wake_told(
         store,
@@ -83,7 +85,7 @@ fn wake(
         trial,
         draft.last_goal,
         &draft.cells,
-        &mut draft.changes,
+        &mut draft.standings,
     )
 }
 

@@ -38,6 +38,6 @@ returns-clause-ok c =
     d c.do_move.new.draft after last inside c.requires.goals c.requires.last c.requires.begun n c.requires.known
     c.in_ok-do_move.ensures.ok c.in_ok-do_move.ensures.moved c.in_ok-do_move.ensures.grown c.in_ok-do_move.ensures.hooks
     c.in_ok-settle.ensures.ok c.in_ok-settle.ensures.settling c.in_ok-settle.ensures.grown c.in_ok-settle.ensures.hooks
-    fits c.in_ok-wake.ensures.wakes c.in_ok-wake.ensures.rest c.in_ok-wake.ensures.held
+    fits c.in_ok-wake.ensures.wakes c.in_ok-wake.ensures.rest c.in_ok-wake.ensures.count c.in_ok-wake.ensures.held
     c.mark-mark.ensures.point c.mark-mark.ensures.formed (let e = c.len-2.ensures in omega (arith, last.cells.ok.0, e, room)) allows)
     c.reserve.ensures.room

@@ -1,9 +1,17 @@
-use Rattle.std.proofs.Common.{refl, ap}
+use Rattle.std.proofs.Common.{List, refl, sym, ap, ◌∙◌, subst}
+use Rattle.kl1_atoms.specs.declared.known.Known.{Known}
+use Rattle.kl1_atoms.specs.Names.{AreNames}
+use Rattle.kl1_account.specs.Account.{Account}
 use Rattle.kl1_text.specs.declared.cell_name.CellName.{CellName}
 use Rattle.kl1_goals.specs.Tables.{Tabled}
 use Rattle.kl1_account.specs.Accounts.{kept_in}
 use Rattle.kl1_account.proofs.Loads.{ready, ready_new, put_is, put_kept, put_steps}
 use Rattle.kl1_account.proofs.account.Account.load.Goals as goal
+
+pub draft_module-requires-clause-names : goal.draft_module-requires-clause-names
+draft_module-requires-clause-names g c =
+    let P : List Known → Type 0 = λ ks. AreNames ks in
+    subst P (c.requires.knows ∙ sym (ap (λ (a : Account). a.names) c.self.view_is)) (g.met.A.AtomSource.one_to_one c.args.names.now c.args.seat.now c.requires.of)
 
 pub install_module-requires-clause-new : goal.install_module-requires-clause-new
 install_module-requires-clause-new g c =

@@ -46,6 +46,15 @@ install-requires-clause-fits c =
     let r = done_of (kept_in u) u.store k c.args.number c.args.clause u.goals.shoens gs.room d c.in-Ok.refused c.in_default.is (c.in-Ok.ensures.ok u.name u.names.names) in
     r.fitting.numbers
 
+pub install-requires-clause-standings : goal.install-requires-clause-standings
+install-requires-clause-standings c =
+    let u = c.self.inside in
+    let d = c.draft_reduction.new.draft in
+    let k = c.draft_reduction.new.store in
+    let gs = c.draft_reduction.new.goals in
+    let r = done_of (kept_in u) u.store k c.args.number c.args.clause u.goals.shoens gs.room d c.in-Ok.refused c.in_default.is (c.in-Ok.ensures.ok u.name u.names.names) in
+    r.fitting.standings
+
 pub install-requires-clause-last : goal.install-requires-clause-last
 install-requires-clause-last c =
     let u = c.self.inside in

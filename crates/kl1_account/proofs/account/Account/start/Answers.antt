@@ -15,7 +15,7 @@ use Rattle.kl1_account.specs.Account.{Account, state_of, texts_of}
 use Rattle.kl1_account.specs.Accounts.{kept_in}
 use Rattle.kl1_match.specs.GoalCells.{goal_variables}
 use Rattle.kl1_account.specs.Starting.{hooks_on}
-use Rattle.kl1_account.proofs.StartChecks.{goal_below, may_numbered}
+use Rattle.kl1_account.proofs.StartChecks.{goal_below, may_numbered, may_high}
 use Rattle.kl1_account.proofs.Started.{is_start, started_kept, started_step, step_names, step_full}
 use Rattle.kl1_account.proofs.account.Account.start.Goals as goal
 
@@ -35,6 +35,9 @@ pub prepare_start-requires-clause-below : goal.prepare_start-requires-clause-bel
 prepare_start-requires-clause-below g c =
     let T : Term → Type 0 = λ x. IsRowOf (with_names [] (names_of x)) c.row-row.result.now (nodes_of x) in
     goal_below c.args.goal.now (with_names [] (names_of c.args.goal.now)) c.row-row.result.now c.highest.result (subst T c.in_ok-code.ensures c.row-row.ensures) c.highest.ensures
+
+pub place-requires-clause-high : goal.place-requires-clause-high
+place-requires-clause-high g c = may_high c.args.allowance c.args.low c.args.high c.args.goal.now (sym c.in_ok-may_start.ensures ∙ c.if-not-branch.false)
 
 pub place-requires-clause-below : goal.place-requires-clause-below
 place-requires-clause-below g c =

@@ -1,0 +1,20 @@
+use Rattle.std.proofs.Common.{ℕ}
+use Rattle.std.specs.Prelude.{Option}
+use Rattle.std.proofs.lemmas.Result.{IfOk-weaker}
+use Rattle.kl1_account.specs.declared.draft.Change.{Change}
+use Rattle.kl1_account.specs.Looking.{StandsBy, StandsAt}
+use Rattle.kl1_account.proofs.Looks.{stands_at}
+use Rattle.kl1_account.proofs.looking.standing_at.Goals as goal
+
+pub returns-clause-stands : goal.returns-clause-stands
+returns-clause-stands c =
+    let ms = c.args.modules.now.loaded in
+    let h = c.args.store.now.held in
+    let hooks = c.hung_standing.new.store.hooks in
+    let x = c.args.cell in
+    let kind = c.kind_of-kind.result in
+    let p = c.predicate_of-predicate.result in
+    let one : Option ℕ → Change = λ s. record { number = c.args.number; standing = s } in
+    IfOk-weaker c.hung_standing.result (λ s. StandsBy h hooks kind p (one s)) (λ s. StandsAt ms h hooks x (one s))
+    (λ s found. stands_at ms h hooks x kind p (one s) c.kind_of-kind.ensures.kind c.predicate_of-predicate.ensures.has found)
+    c.hung_standing.ensures.stands
