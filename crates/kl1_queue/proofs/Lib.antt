@@ -1,3 +1,4 @@
 pub mod Climbing
 pub mod Descending
 pub mod Leaves
+pub mod Holding

@@ -1,40 +1,35 @@
 // The queue of places that are ready.
 
-ghost use Rattle.std.specs.Prelude.{◌≡◌, ◌+◌, ◌-◌, ◌<◌, ◌≤◌, List, [], ◌∷◌, ◌++◌, length, set, take, drop, MatchOption, IfOk, IfSome, IfNone, OnOk, OnErr};
+ghost use Rattle.std.specs.Prelude.{◌≡◌, ◌+◌, ◌-◌, ◌<◌, ◌≤◌, [], ◌∷◌, ◌++◌, length, set, take, MatchOption, IfSome, IfNone, OnOk, OnErr};
 ghost use Rattle.kl1_model.specs.Limits.{monitor_priority};
-ghost use Rattle.kl1_queue.specs.Ranks.{Queued, rank_of, AreNone, IsFirst, IsPriority};
+ghost use Rattle.kl1_queue.specs.Ranks.{rank_of, AreNone, IsFirst, IsPriority};
 
-use crate::tree::{first_leaf, set_leaf};
+use crate::rank_tree::RankTree;
 use std::alloc::{AllocError, Global};
 use std::marker::Model;
 
-/// How many places a queue can be asked to have.
-const MOST: usize = 0x4000_0000;
-
 /// Places from 0 in order, each not ready, or ready with a priority, from 0 to a monitor's.
 ///
-/// The ranks are the leaves of a tree, in whose inner nodes stands the greater of two ranks: a change costs a walk up from a
-/// leaf as far as something changes, and the first is found by a walk down.
+/// The rank of one place is held beside the tree of the others, in which that place isn't ready: where places are put and
+/// removed one after another, none costs a walk through the tree.
 #[derive(Drop)]
 pub struct ReadyQueue {
-    best: Vec<u16>,
-    half: usize,
-    depth: usize,
-    len: usize,
-    alloc: Global,
+    tree: RankTree,
+    held: usize,
+    held_rank: u16,
 }
 
 impl Model for ReadyQueue {
-    ghost use Rattle.std.specs.Prelude.{◌-◌, take, drop};
+    ghost use Rattle.std.specs.Prelude.{set};
     ghost use Rattle.kl1_queue.specs.Ranks.{Queued};
 
     ghost Value = { Queued };
 
-    ghost use Rattle.kl1_queue.specs.Trees.{IsKept};
+    ghost use Rattle.kl1_queue.specs.Holding.{IsBeside};
 
-    ghost view = { λ q. record { ranks = take q.len (drop q.half q.best.items); room = q.half - q.len } };
+    ghost view = { λ q. record { ranks = set q.tree.ranks q.held q.held_rank; room = q.tree.room } };
 
-    ghost invariant = { λ q. IsKept q.half q.depth q.len q.best.items };
+    ghost invariant = { λ q. IsBeside q.tree.ranks q.held q.held_rank };
 }
 
 impl ReadyQueue {
@@ -43,11 +38,9 @@ impl ReadyQueue {
         ensures ranks { result.ranks ≡ [] }
     {
         ReadyQueue {
-            best: Vec::new(alloc),
-            half: 0,
-            depth: 0,
-            len: 0,
-            alloc,
+            tree: RankTree::new(alloc),
+            held: 0,
+            held_rank: 0,
         }
     }
 
@@ -55,7 +48,7 @@ impl ReadyQueue {
     pub fn len(&self) -> usize
         ensures { result ≡ length self.now.ranks }
     {
-        self.len
+        self.tree.len()
     }
 
     /// Makes room for so many more places: to extend by these can't be refused then.
@@ -67,69 +60,25 @@ impl ReadyQueue {
         ensures room { self.old.room ≤ self.new.room }
         ensures err { OnErr result (self.new ≡ self.old) }
     {
-        if more <= self.half - self.len {
-            return Ok(());
-        }
-        if more > MOST || self.len > MOST {
-            return Err(AllocError);
-        }
-        let mut grown = Self::with_room(self.alloc, self.len + more)?;
-        grown.append_ranks(&self.best, self.half, self.len);
-        *self = grown;
-        Ok(())
+        self.tree.reserve(more)
     }
 
-    /// A queue without places, with room for so many.
-    fn with_room(alloc: Global, room: usize) -> Result<ReadyQueue, AllocError>
-        requires some { 0 < room }
-        requires most { room ≤ 0x8000_0000 }
-        ensures ranks { IfOk result (λ q. q.ranks ≡ []) }
-        ensures room { IfOk result (λ q. room ≤ q.room) }
+    /// Gives a place this rank, and holds it beside the tree where no other is held.
+    fn hold(&mut self, next: usize, rank: u16)
+        requires { next < length self.old.ranks }
+        ensures { self.new ≡ record self.old { ranks = set self.old.ranks next rank } }
     {
-        let mut half = 1;
-        let mut depth = 0;
-        while half < room {
-            half *= 2;
-            depth += 1;
+        if next == self.held {
+            self.held_rank = rank;
+            return;
         }
-        let best = vec![in alloc; 0; 2 * half]?;
-        Ok(ReadyQueue {
-            best,
-            half,
-            depth,
-            len: 0,
-            alloc,
-        })
-    }
-
-    /// Appends the ranks that stand in `best` from `half` on, `count` of them.
-    fn append_ranks(&mut self, best: &Vec<u16>, half: usize, count: usize)
-        requires within { half + count ≤ length best.now.items }
-        requires room { count ≤ self.old.room }
-        ensures ranks { self.new.ranks ≡ self.old.ranks ++ take count (drop half best.now.items) }
-        ensures room { self.new.room + count ≡ self.old.room }
-    {
-        for place in 0..count {
-            self.extend_rank(best[half + place]);
+        if self.held_rank > 0 {
+            self.tree.set_rank(next, rank);
+            return;
         }
-    }
-
-    /// One more place, of this rank.
-    fn extend_rank(&mut self, rank: u16)
-        requires { 0 < self.old.room }
-        ensures ranks { self.new.ranks ≡ self.old.ranks ++ rank ∷ [] }
-        ensures room { self.new.room + 1 ≡ self.old.room }
-    {
-        set_leaf(&mut self.best, self.half, self.len, rank);
-        self.len += 1;
-    }
-
-    /// Gives a place this rank.
-    fn set_rank(&mut self, place: usize, rank: u16)
-        requires { place < length self.old.ranks }
-        ensures { self.new ≡ record self.old { ranks = set self.old.ranks place rank } }
-    {
-        set_leaf(&mut self.best, self.half, place, rank);
+        self.tree.set_rank(next, 0);
+        self.held = next;
+        self.held_rank = rank;
     }
 
     /// One more place at the end, ready with a priority or not ready.
@@ -139,9 +88,11 @@ impl ReadyQueue {
         ensures ranks { self.new.ranks ≡ self.old.ranks ++ rank_of priority ∷ [] }
         ensures room { self.new.room + 1 ≡ self.old.room }
     {
+        let place = self.tree.len();
+        self.tree.extend_rank(0);
         match priority {
-            None => self.extend_rank(0),
-            Some(priority) => self.extend_rank(priority + 1),
+            None => {}
+            Some(priority) => self.hold(place, priority + 1),
         }
     }
 
@@ -151,7 +102,7 @@ impl ReadyQueue {
         requires priority { priority ≤ monitor_priority }
         ensures { self.new ≡ record self.old { ranks = set self.old.ranks place (priority + 1) } }
     {
-        self.set_rank(place, priority + 1);
+        self.hold(place, priority + 1);
     }
 
     /// A place isn't ready from now on.
@@ -159,7 +110,11 @@ impl ReadyQueue {
         requires { place < length self.old.ranks }
         ensures { self.new ≡ record self.old { ranks = set self.old.ranks place 0 } }
     {
-        self.set_rank(place, 0);
+        if place == self.held {
+            self.held_rank = 0;
+        } else {
+            self.tree.set_rank(place, 0);
+        }
     }
 
     /// The last place is gone, and what it took is room.
@@ -168,22 +123,35 @@ impl ReadyQueue {
         ensures ranks { self.new.ranks ≡ take (length self.old.ranks - 1) self.old.ranks }
         ensures room { self.new.room ≡ self.old.room + 1 }
     {
-        self.len -= 1;
-        set_leaf(&mut self.best, self.half, self.len, 0);
+        let last = self.tree.len() - 1;
+        self.tree.drop_last();
+        if self.held == last {
+            self.held_rank = 0;
+        }
     }
 
     /// The first of the places that are ready.
     pub fn first(&self) -> Option<usize>
         ensures { MatchOption result (AreNone self.now.ranks) (λ k. IsFirst self.now.ranks k) }
     {
-        if self.half == 0 {
-            return None;
+        match self.tree.first() {
+            None => {
+                if self.held_rank == 0 {
+                    return None;
+                }
+                Some(self.held)
+            }
+            Some(place) => {
+                let rank = self.tree.rank_at(place);
+                if self.held_rank < rank {
+                    return Some(place);
+                }
+                if rank == self.held_rank && place < self.held {
+                    return Some(place);
+                }
+                Some(self.held)
+            }
         }
-        if self.best[1] == 0 {
-            return None;
-        }
-        let leaf = first_leaf(&self.best, self.depth);
-        Some(leaf - self.half)
     }
 
     /// The first of the places that are ready, which isn't ready from now on.

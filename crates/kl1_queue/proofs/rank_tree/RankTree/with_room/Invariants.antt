@@ -1,5 +1,5 @@
 use Rattle.std.proofs.Common.{◌≡◌, ◌^◌, ◌-◌, ◌*◌, ◌<◌}
-use Rattle.kl1_queue.proofs.ready_queue.ReadyQueue.with_room.Given as goal
+use Rattle.kl1_queue.proofs.rank_tree.RankTree.with_room.Given as goal
 
 abbrev pub invariant-loop-half : goal.invariant-loop-half
 invariant-loop-half l = record {

@@ -1,5 +1,5 @@
 use Rattle.std.proofs.Common.{◌≡◌, ◌+◌, ◌++◌, take, drop}
-use Rattle.kl1_queue.proofs.ready_queue.ReadyQueue.append_ranks.Given as goal
+use Rattle.kl1_queue.proofs.rank_tree.RankTree.append_ranks.Given as goal
 
 abbrev pub invariant-loop-place : goal.invariant-loop-place
 invariant-loop-place l = record {

@@ -1,7 +1,7 @@
 use Rattle.std.proofs.Common.{◌<◌, arith}
 use Rattle.std.proofs.lemmas.List.{get_or_read}
 use Rattle.kl1_queue.proofs.Leaves.{none_ready, first_ready}
-use Rattle.kl1_queue.proofs.ready_queue.ReadyQueue.first.Goals as goal
+use Rattle.kl1_queue.proofs.rank_tree.RankTree.first.Goals as goal
 
 pub returns-then-index-eq0 : goal.returns-then-index-eq0
 returns-then-index-eq0 c =

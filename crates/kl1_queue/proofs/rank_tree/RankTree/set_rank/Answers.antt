@@ -1,7 +1,7 @@
 use Rattle.std.proofs.Common.{◌<◌, length, refl, arith, ap}
 use Rattle.kl1_queue.specs.Ranks.{Queued}
 use Rattle.kl1_queue.proofs.Leaves.{ranks_set, length_ranks}
-use Rattle.kl1_queue.proofs.ready_queue.ReadyQueue.set_rank.Goals as goal
+use Rattle.kl1_queue.proofs.rank_tree.RankTree.set_rank.Goals as goal
 
 pub returns : goal.returns
 returns c =
