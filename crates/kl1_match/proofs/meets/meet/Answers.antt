@@ -8,8 +8,7 @@ use mir.Val.{SFits}
 use Rattle.std.proofs.lemmas.Int.{to_z-of_z}
 use mir.Syntax.{w64}
 use Rattle.kl1_clause.specs.declared.instruction.Instruction.{Instruction}
-use Rattle.kl1_match.specs.Matching.{WaitsAt, MetUnbound, IntegerMeets, StructureMeets, MeetsFirst}
-use Rattle.kl1_match.specs.declared.met.Met.{Met}
+use Rattle.kl1_match.specs.Matching.{IntegerMeets, MeetsFirst}
 use Rattle.kl1_match.specs.declared.met.Met.TheVariants.{Agrees}
 use Rattle.kl1_match.proofs.Beside.{met_unbound, variable_meets, integer_meets, atom_meets, structure_meets}
 use Rattle.kl1_match.proofs.meets.meet.Goals as goal

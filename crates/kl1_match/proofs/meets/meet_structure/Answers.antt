@@ -4,7 +4,7 @@ use Rattle.kl1_model.specs.Term.{structure}
 use Rattle.kl1_model.specs.Match.{match_term}
 use Rattle.kl1_match.proofs.Cells.{at_variable, at_integer, at_atom, opened, name_clashes, count_clashes, put_before, AreSpans-push}
 use Rattle.kl1_match.specs.declared.span.Span.{Span}
-use Rattle.kl1_match.specs.Spans.{IsSpan, AreSpans, cells_left}
+use Rattle.kl1_match.specs.Spans.{AreSpans, cells_left}
 use Rattle.kl1_match.proofs.meets.meet_structure.Goals as goal
 
 -- the arguments of a structure before one

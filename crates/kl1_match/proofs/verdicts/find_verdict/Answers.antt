@@ -1,4 +1,4 @@
-use Rattle.std.proofs.Common.{◌≡◌, ◌<◌, ◌≤◌, List, [], length, drop, map, get_or, arith, ap, sym, ◌∙◌, subst, vec_len}
+use Rattle.std.proofs.Common.{◌≡◌, ◌<◌, ◌≤◌, List, length, drop, map, get_or, arith, ap, sym, ◌∙◌, subst}
 use Rattle.kl1_model.specs.Term.{Term, Terms, more}
 use Rattle.kl1_model.specs.TermCode.{nodes_of_all}
 use Rattle.kl1_clause.specs.Instructions.{IsNamed, code_in}
