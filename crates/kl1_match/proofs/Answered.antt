@@ -1,7 +1,6 @@
--- What is left of a row and of a stack, and the answer of all.
+-- What is left of a row and of cells, and the answer of all.
 use Rattle.std.proofs.Common.{◌≡◌, ℕ, List, [], ◌∷◌, ◌++◌, refl, sym, ap, ◌∙◌, subst, arith, append_assoc}
-use Rattle.std.specs.Prelude.{reverse}
-use Rattle.std.proofs.lemmas.List.{append-nil, reverse-append}
+use Rattle.std.proofs.lemmas.List.{append-nil}
 use Rattle.kl1_model.specs.Term.{Term, variable, integer, atom, structure, Terms, none, more, count_of, Replacement}
 use Rattle.kl1_model.specs.TermCode.{NodeCode, nodes_of_all}
 use Rattle.kl1_model.specs.Match.{Outcome, agrees, clashes, waits, both, Matched, with_outcome, match_both, match_term, match_terms}
@@ -63,29 +62,29 @@ match-joined (more p ps) (more t ts) qs us e =
 
 -- ---- one step
 
--- what is left of a row and of a stack gives the answer of all
-pub record IsLeft {N : Type 0} (f : N → List ℕ) (h : Held N) (patterns arguments : Terms) (nodes : List NodeCode) (stack : List (Cell N)) (places : List (Place N)) (named : List ℕ) : Type 0 where
+-- what is left of a row and of cells gives the answer of all
+pub record IsLeft {N : Type 0} (f : N → List ℕ) (h : Held N) (patterns arguments : Terms) (nodes : List NodeCode) (cells : List (Cell N)) (places : List (Place N)) (named : List ℕ) : Type 0 where
   pub left : Terms
   pub nodes_are : nodes ≡ nodes_of_all left
-  pub answer : match_terms patterns arguments ≡ match_both (matched_with (so_far named) (replacements_of f h places)) (match_terms left (terms_of f h (reverse stack)))
+  pub answer : match_terms patterns arguments ≡ match_both (matched_with (so_far named) (replacements_of f h places)) (match_terms left (terms_of f h cells))
 
-pub begun : {N : Type 0} (f : N → List ℕ) (h : Held N) (patterns arguments : Terms) (nodes : List NodeCode) (stack : List (Cell N)) (places : List (Place N)) →
-    nodes ≡ nodes_of_all patterns → terms_of f h (reverse stack) ≡ arguments → places ≡ [] → IsLeft f h patterns arguments nodes stack places []
-begun {N = N} f h patterns arguments nodes stack places are e none_yet =
-    let P : List (Place N) → Type 0 = λ l. IsLeft f h patterns arguments nodes stack l [] in
+pub begun : {N : Type 0} (f : N → List ℕ) (h : Held N) (patterns arguments : Terms) (nodes : List NodeCode) (cells : List (Cell N)) (places : List (Place N)) →
+    nodes ≡ nodes_of_all patterns → terms_of f h cells ≡ arguments → places ≡ [] → IsLeft f h patterns arguments nodes cells places []
+begun {N = N} f h patterns arguments nodes cells places are e none_yet =
+    let P : List (Place N) → Type 0 = λ l. IsLeft f h patterns arguments nodes cells l [] in
     subst P (sym none_yet) (record { left = patterns; nodes_are = are; answer = ap (match_terms patterns) (sym e) })
 
-terms_of-pop : {N : Type 0} (f : N → List ℕ) (h : Held N) (stack rest : List (Cell N)) (x : Cell N) → stack ≡ rest ++ x ∷ [] → terms_of f h (reverse stack) ≡ more (term_of f h x) (terms_of f h (reverse rest))
+terms_of-pop : {N : Type 0} (f : N → List ℕ) (h : Held N) (cells rest : List (Cell N)) (x : Cell N) → cells ≡ x ∷ rest → terms_of f h cells ≡ more (term_of f h x) (terms_of f h rest)
 unfolding terms_of
-terms_of-pop f h stack rest x e = ap (λ l. terms_of f h (reverse l)) e ∙ ap (terms_of f h) (reverse-append rest (x ∷ []))
+terms_of-pop f h cells rest x e = ap (λ l. terms_of f h l) e
 
 -- the first pattern that is left
-pub record IsNext {N : Type 0} (f : N → List ℕ) (h : Held N) (patterns arguments : Terms) (c : NodeCode) (behind : List NodeCode) (x : Cell N) (stack : List (Cell N)) (places : List (Place N)) (named : List ℕ) : Type 0 where
+pub record IsNext {N : Type 0} (f : N → List ℕ) (h : Held N) (patterns arguments : Terms) (c : NodeCode) (behind : List NodeCode) (x : Cell N) (cells : List (Cell N)) (places : List (Place N)) (named : List ℕ) : Type 0 where
   pub first : Term
   pub others : Terms
   pub begins : Begins c first
   pub nodes_are : c ∷ behind ≡ nodes_of_all (more first others)
-  pub answer : match_terms patterns arguments ≡ match_both (matched_with (so_far named) (replacements_of f h places)) (match_both (match_term first (term_of f h x)) (match_terms others (terms_of f h (reverse stack))))
+  pub answer : match_terms patterns arguments ≡ match_both (matched_with (so_far named) (replacements_of f h places)) (match_both (match_term first (term_of f h x)) (match_terms others (terms_of f h cells)))
 
 begins-with : (c : NodeCode) (behind : List NodeCode) (p : Term) (ps : Terms) → c ∷ behind ≡ nodes_of_all (more p ps) → Begins c p
 begins-with c behind (variable n) ps e = record { behind = []; nodes = cc }
@@ -93,11 +92,11 @@ begins-with c behind (integer i) ps e = record { behind = []; nodes = cc }
 begins-with c behind (atom a) ps e = record { behind = []; nodes = cc }
 begins-with c behind (structure f us) ps e = record { behind = nodes_of_all us; nodes = cc }
 
-pub next_of : {N : Type 0} (f : N → List ℕ) (h : Held N) (patterns arguments : Terms) (c : NodeCode) (nodes behind : List NodeCode) (x : Cell N) (stack rest : List (Cell N)) (places : List (Place N)) (named : List ℕ) →
-    nodes ≡ c ∷ behind → stack ≡ rest ++ x ∷ [] → IsLeft f h patterns arguments nodes stack places named → IsNext f h patterns arguments c behind x rest places named
-next_of f h patterns arguments c nodes behind x stack rest places named e popped l = of_terms l.left (sym e ∙ l.nodes_are) l.answer
+pub next_of : {N : Type 0} (f : N → List ℕ) (h : Held N) (patterns arguments : Terms) (c : NodeCode) (nodes behind : List NodeCode) (x : Cell N) (cells rest : List (Cell N)) (places : List (Place N)) (named : List ℕ) →
+    nodes ≡ c ∷ behind → cells ≡ x ∷ rest → IsLeft f h patterns arguments nodes cells places named → IsNext f h patterns arguments c behind x rest places named
+next_of f h patterns arguments c nodes behind x cells rest places named e popped l = of_terms l.left (sym e ∙ l.nodes_are) l.answer
   where
-    of_terms : (ps : Terms) → c ∷ behind ≡ nodes_of_all ps → match_terms patterns arguments ≡ match_both (matched_with (so_far named) (replacements_of f h places)) (match_terms ps (terms_of f h (reverse stack))) →
+    of_terms : (ps : Terms) → c ∷ behind ≡ nodes_of_all ps → match_terms patterns arguments ≡ match_both (matched_with (so_far named) (replacements_of f h places)) (match_terms ps (terms_of f h cells)) →
         IsNext f h patterns arguments c behind x rest places named
     of_terms none is answer = absurd (cc)
     of_terms (more p ps) is answer = record {
@@ -105,17 +104,17 @@ next_of f h patterns arguments c nodes behind x stack rest places named e popped
       others = ps;
       begins = begins-with c behind p ps is;
       nodes_are = is;
-      answer = answer ∙ ap (λ ts. match_both (matched_with (so_far named) (replacements_of f h places)) (match_terms (more p ps) ts)) (terms_of-pop f h stack rest x popped);
+      answer = answer ∙ ap (λ ts. match_both (matched_with (so_far named) (replacements_of f h places)) (match_terms (more p ps) ts)) (terms_of-pop f h cells rest x popped);
     }
 
 behind_same : {A : Type 0} {x : A} {xs ys : List A} → x ∷ xs ≡ x ∷ ys → xs ≡ ys
 behind_same e = cc
 
 -- a pattern that agrees is left behind, with its arguments in front of the others
-pub agreed : {N : Type 0} (f : N → List ℕ) (h : Held N) (patterns arguments : Terms) (c : NodeCode) (behind : List NodeCode) (x : Cell N) (stack now : List (Cell N)) (places longer : List (Place N)) (named : List ℕ) →
-    (n : IsNext f h patterns arguments c behind x stack places named) → GoesInto f h c n.first (term_of f h x) stack now places longer → IsLeft f h patterns arguments behind now longer named
-agreed f h patterns arguments c behind x stack now places longer named n g =
-    let ts = terms_of f h (reverse stack) in
+pub agreed : {N : Type 0} (f : N → List ℕ) (h : Held N) (patterns arguments : Terms) (c : NodeCode) (behind : List NodeCode) (x : Cell N) (cells now : List (Cell N)) (places longer : List (Place N)) (named : List ℕ) →
+    (n : IsNext f h patterns arguments c behind x cells places named) → GoesInto f h c n.first (term_of f h x) cells now places longer → IsLeft f h patterns arguments behind now longer named
+agreed f h patterns arguments c behind x cells now places longer named n g =
+    let ts = terms_of f h cells in
     let old = matched_with (so_far named) (replacements_of f h places) in
     let here = matched_with agrees g.taken in
     let inner = match_terms g.inner g.arguments in
@@ -131,14 +130,14 @@ agreed f h patterns arguments c behind x stack now places longer named n g =
           ∙ ap (λ m. match_both (match_both old here) m) (match-joined g.inner g.arguments n.others ts g.counted)
           ∙ ap (λ o. match_both (matched_with o (replacements_of f h places ++ g.taken)) (match_terms (joined g.inner n.others) (joined g.arguments ts))) (both-agrees (so_far named))
           ∙ ap (λ (l : List Replacement). match_both (matched_with (so_far named) l) (match_terms (joined g.inner n.others) (joined g.arguments ts))) (sym g.places_are)
-          ∙ ap (λ us. match_both (matched_with (so_far named) (replacements_of f h longer)) (match_terms (joined g.inner n.others) us)) (sym g.stack_is);
+          ∙ ap (λ us. match_both (matched_with (so_far named) (replacements_of f h longer)) (match_terms (joined g.inner n.others) us)) (sym g.cells_are);
     }
 
 -- a pattern that waits is left behind
-pub waited : {N : Type 0} (f : N → List ℕ) (h : Held N) (patterns arguments : Terms) (c : NodeCode) (behind nodes : List NodeCode) (x : Cell N) (stack : List (Cell N)) (places : List (Place N)) (named : List ℕ) (w : ℕ) →
-    (n : IsNext f h patterns arguments c behind x stack places named) → match_term n.first (term_of f h x) ≡ with_outcome (waits (w ∷ [])) → nodes ≡ nodes_of_all n.others → IsLeft f h patterns arguments nodes stack places (named ++ w ∷ [])
-waited f h patterns arguments c behind nodes x stack places named w n m are =
-    let rest = match_terms n.others (terms_of f h (reverse stack)) in
+pub waited : {N : Type 0} (f : N → List ℕ) (h : Held N) (patterns arguments : Terms) (c : NodeCode) (behind nodes : List NodeCode) (x : Cell N) (cells : List (Cell N)) (places : List (Place N)) (named : List ℕ) (w : ℕ) →
+    (n : IsNext f h patterns arguments c behind x cells places named) → match_term n.first (term_of f h x) ≡ with_outcome (waits (w ∷ [])) → nodes ≡ nodes_of_all n.others → IsLeft f h patterns arguments nodes cells places (named ++ w ∷ [])
+waited f h patterns arguments c behind nodes x cells places named w n m are =
+    let rest = match_terms n.others (terms_of f h cells) in
     let old = matched_with (so_far named) (replacements_of f h places) in
     record {
       left = n.others;
@@ -152,22 +151,22 @@ waited f h patterns arguments c behind nodes x stack places named w n m are =
     }
 
 -- a pattern that clashes decides
-pub clashed : {N : Type 0} (f : N → List ℕ) (h : Held N) (patterns arguments : Terms) (c : NodeCode) (behind : List NodeCode) (x : Cell N) (stack : List (Cell N)) (places : List (Place N)) (named : List ℕ) →
-    (n : IsNext f h patterns arguments c behind x stack places named) → match_term n.first (term_of f h x) ≡ with_outcome clashes → (match_terms patterns arguments).outcome ≡ clashes
-clashed f h patterns arguments c behind x stack places named n m =
-    let rest = match_terms n.others (terms_of f h (reverse stack)) in
+pub clashed : {N : Type 0} (f : N → List ℕ) (h : Held N) (patterns arguments : Terms) (c : NodeCode) (behind : List NodeCode) (x : Cell N) (cells : List (Cell N)) (places : List (Place N)) (named : List ℕ) →
+    (n : IsNext f h patterns arguments c behind x cells places named) → match_term n.first (term_of f h x) ≡ with_outcome clashes → (match_terms patterns arguments).outcome ≡ clashes
+clashed f h patterns arguments c behind x cells places named n m =
+    let rest = match_terms n.others (terms_of f h cells) in
     ap (λ (k : Matched). k.outcome) (n.answer ∙ ap (λ k. match_both (matched_with (so_far named) (replacements_of f h places)) (match_both k rest)) m) ∙ both-clashes (so_far named)
 
 -- patterns without terms, or terms without patterns, clash
-pub no_terms : {N : Type 0} (f : N → List ℕ) (h : Held N) (patterns arguments : Terms) (c : NodeCode) (behind nodes : List NodeCode) (stack : List (Cell N)) (places : List (Place N)) (named : List ℕ) →
-    nodes ≡ c ∷ behind → stack ≡ [] → IsLeft f h patterns arguments nodes stack places named → (match_terms patterns arguments).outcome ≡ clashes
+pub no_terms : {N : Type 0} (f : N → List ℕ) (h : Held N) (patterns arguments : Terms) (c : NodeCode) (behind nodes : List NodeCode) (cells : List (Cell N)) (places : List (Place N)) (named : List ℕ) →
+    nodes ≡ c ∷ behind → cells ≡ [] → IsLeft f h patterns arguments nodes cells places named → (match_terms patterns arguments).outcome ≡ clashes
 unfolding terms_of
-no_terms f h patterns arguments c behind nodes stack places named e empty l = of_terms l.left (sym e ∙ l.nodes_are) l.answer
+no_terms f h patterns arguments c behind nodes cells places named e empty l = of_terms l.left (sym e ∙ l.nodes_are) l.answer
   where
-    of_terms : (ps : Terms) → c ∷ behind ≡ nodes_of_all ps → match_terms patterns arguments ≡ match_both (matched_with (so_far named) (replacements_of f h places)) (match_terms ps (terms_of f h (reverse stack))) → (match_terms patterns arguments).outcome ≡ clashes
+    of_terms : (ps : Terms) → c ∷ behind ≡ nodes_of_all ps → match_terms patterns arguments ≡ match_both (matched_with (so_far named) (replacements_of f h places)) (match_terms ps (terms_of f h cells)) → (match_terms patterns arguments).outcome ≡ clashes
     of_terms none is answer = absurd (cc)
     of_terms (more p ps) is answer =
-        ap (λ (k : Matched). k.outcome) (answer ∙ ap (λ s. match_both (matched_with (so_far named) (replacements_of f h places)) (match_terms (more p ps) (terms_of f h (reverse s)))) empty) ∙ both-clashes (so_far named)
+        ap (λ (k : Matched). k.outcome) (answer ∙ ap (λ s. match_both (matched_with (so_far named) (replacements_of f h places)) (match_terms (more p ps) (terms_of f h s))) empty) ∙ both-clashes (so_far named)
 
 no_nodes : (ps : Terms) → [] ≡ nodes_of_all ps → ps ≡ none
 no_nodes none e = refl
@@ -176,22 +175,22 @@ no_nodes (more (integer i) ps) e = absurd (cc)
 no_nodes (more (atom a) ps) e = absurd (cc)
 no_nodes (more (structure f us) ps) e = absurd (cc)
 
-pub no_patterns : {N : Type 0} (f : N → List ℕ) (h : Held N) (patterns arguments : Terms) (nodes : List NodeCode) (stack rest : List (Cell N)) (x : Cell N) (places : List (Place N)) (named : List ℕ) →
-    nodes ≡ [] → stack ≡ rest ++ x ∷ [] → IsLeft f h patterns arguments nodes stack places named → (match_terms patterns arguments).outcome ≡ clashes
-no_patterns f h patterns arguments nodes stack rest x places named e more_terms l =
+pub no_patterns : {N : Type 0} (f : N → List ℕ) (h : Held N) (patterns arguments : Terms) (nodes : List NodeCode) (cells rest : List (Cell N)) (x : Cell N) (places : List (Place N)) (named : List ℕ) →
+    nodes ≡ [] → cells ≡ x ∷ rest → IsLeft f h patterns arguments nodes cells places named → (match_terms patterns arguments).outcome ≡ clashes
+no_patterns f h patterns arguments nodes cells rest x places named e more_terms l =
     let old = matched_with (so_far named) (replacements_of f h places) in
     ap (λ (k : Matched). k.outcome)
-    (l.answer ∙ ap (λ ps. match_both old (match_terms ps (terms_of f h (reverse stack)))) (no_nodes l.left (sym e ∙ l.nodes_are)) ∙ ap (λ ts. match_both old (match_terms none ts)) (terms_of-pop f h stack rest x more_terms))
+    (l.answer ∙ ap (λ ps. match_both old (match_terms ps (terms_of f h cells))) (no_nodes l.left (sym e ∙ l.nodes_are)) ∙ ap (λ ts. match_both old (match_terms none ts)) (terms_of-pop f h cells rest x more_terms))
     ∙ both-clashes (so_far named)
 
 -- nothing is left
-pub all_matched : {N : Type 0} (f : N → List ℕ) (h : Held N) (patterns arguments : Terms) (nodes : List NodeCode) (stack : List (Cell N)) (places : List (Place N)) (named : List ℕ) →
-    nodes ≡ [] → stack ≡ [] → IsLeft f h patterns arguments nodes stack places named → match_terms patterns arguments ≡ matched_with (so_far named) (replacements_of f h places)
+pub all_matched : {N : Type 0} (f : N → List ℕ) (h : Held N) (patterns arguments : Terms) (nodes : List NodeCode) (cells : List (Cell N)) (places : List (Place N)) (named : List ℕ) →
+    nodes ≡ [] → cells ≡ [] → IsLeft f h patterns arguments nodes cells places named → match_terms patterns arguments ≡ matched_with (so_far named) (replacements_of f h places)
 unfolding terms_of
-all_matched f h patterns arguments nodes stack places named e empty l =
+all_matched f h patterns arguments nodes cells places named e empty l =
     let old = matched_with (so_far named) (replacements_of f h places) in
     l.answer
-    ∙ ap (λ ps. match_both old (match_terms ps (terms_of f h (reverse stack)))) (no_nodes l.left (sym e ∙ l.nodes_are))
-    ∙ ap (λ s. match_both old (match_terms none (terms_of f h (reverse s)))) empty
+    ∙ ap (λ ps. match_both old (match_terms ps (terms_of f h cells))) (no_nodes l.left (sym e ∙ l.nodes_are))
+    ∙ ap (λ s. match_both old (match_terms none (terms_of f h s))) empty
     ∙ ap (λ o. matched_with o (replacements_of f h places ++ [])) (both-agrees (so_far named))
     ∙ ap (λ (ps : List Replacement). matched_with (so_far named) ps) (append-nil (replacements_of f h places))

@@ -1,19 +1,18 @@
 -- Patterns beside walked cells.
-use Rattle.std.proofs.Common.{◌≡◌, ℕ, zero, suc, inl, inr, drop, append_assoc, ◌==◌, ◌&&◌, Bool, true, false, List, [], ◌∷◌, ◌++◌, length, refl, sym, ap, ◌∙◌, subst, ℤ}
+use Rattle.std.proofs.Common.{◌≡◌, ℕ, zero, suc, ◌+◌, ◌<◌, ◌≤◌, arith, inl, inr, take, drop, append_assoc, ◌==◌, ◌&&◌, Bool, true, false, List, [], ◌∷◌, ◌++◌, length, length-append, length-drop, refl, sym, ap, ◌∙◌, subst, ℤ}
 use Rattle.std.specs.Prelude.{Some, slice_get, bytes_eq}
 use Rattle.std.specs.Ordering.{int_eq}
-use Rattle.std.proofs.lemmas.List.{reverse-append, reverse-reverse, append-nil, map-append}
+use Rattle.std.proofs.lemmas.List.{append-nil, map-append, drop_all, take_all, length-take-le}
 use Rattle.std.proofs.lemmas.Slice.Eq.{bytes_eq-Decides}
 use Rattle.std.proofs.lemmas.Bool.{ne_eqb, eq-eqb, cond-true, cond-false, false_from_ne_true, and_left, and_right, and_from}
 use Rattle.std.proofs.lemmas.Bool.Decides.{Decides-int_eq}
-use Rattle.std.specs.Prelude.{reverse}
 use Rattle.kl1_model.specs.declared.built_in.BuiltIn.{BuiltIn}
 use Rattle.kl1_model.specs.Term.{Term, variable, integer, atom, structure, Terms, none, more, count_of}
 use Rattle.kl1_model.specs.Match.{Outcome, agrees, clashes, decided, with_outcome, match_term, match_terms}
 use Rattle.kl1_text.specs.Reading.{Reads}
 use Rattle.kl1_store.specs.declared.cell.Cell.{Cell}
 use Rattle.kl1_store.specs.declared.cell.Cell.TheVariants.{Variable, Integer, Atom, Structure}
-use Rattle.kl1_store.specs.Held.{Held, IsIn, AreIn, IsWalked, arguments_of}
+use Rattle.kl1_store.specs.Held.{Shape, Held, IsIn, IsWalked, shape_arguments, arguments_of}
 use Rattle.kl1_store.specs.Meaning.{term_of, terms_of}
 use Rattle.kl1_store.specs.Sound.{IsFormed}
 use Rattle.kl1_store.proofs.Terms.{term_of-Integer, term_of-Atom, term_of-Structure, term_of-unbound}
@@ -21,6 +20,8 @@ use Rattle.kl1_store.proofs.Meetings.{named, count_of-terms_of}
 use Rattle.kl1_model.specs.TermCode.{NodeCode, nodes_of, nodes_of_all}
 use Rattle.kl1_match.specs.declared.place.Place.{Place}
 use Rattle.kl1_match.specs.Instances.{AreThere, replacement_of, replacements_of}
+use Rattle.kl1_match.specs.declared.span.Span.{Span}
+use Rattle.kl1_match.specs.Spans.{span_cells, cells_behind, cells_left, IsSpan, AreSpans}
 use Rattle.kl1_match.specs.Matching.{joined, IsOpened, Stays, Begins, GoesInto}
 use Rattle.kl1_match.specs.Verdicts.{arguments_of_goal}
 
@@ -58,9 +59,9 @@ pub integers_clash : (i j : ℤ) → (i ≡ j → ⊥) → match_term (integer i
 integers_clash i j ne = ap (λ b. with_outcome (decided b)) (false_from_ne_true (int_eq i j) (λ e. ne ((Decides-int_eq i j).0 e)))
 
 -- a structure as a pattern beside what is no structure
-pub stays : {N : Type 0} (built : BuiltIn → N) (h : Held N) (name : N) (count : ℕ) (x : Cell N) (stack : List (Cell N)) (outcome : _) →
-    ((f : N → List ℕ) → Reads built f → (ps : Terms) → count_of ps ≡ count → match_term (structure (f name) ps) (term_of f h x) ≡ with_outcome outcome) → Stays built h name count x stack stack outcome
-stays built h name count x stack outcome matched = record { stack_is = refl; matched = matched }
+pub stays : {N : Type 0} (built : BuiltIn → N) (h : Held N) (name : N) (count : ℕ) (x : Cell N) (cells : List (Cell N)) (outcome : _) →
+    ((f : N → List ℕ) → Reads built f → (ps : Terms) → count_of ps ≡ count → match_term (structure (f name) ps) (term_of f h x) ≡ with_outcome outcome) → Stays built h name count x cells cells outcome
+stays built h name count x cells outcome matched = record { cells_are = refl; matched = matched }
 
 both_same : (b : Bool) (m n : ℕ) → b ≡ true → m ≡ n → (b && m == n) ≡ true
 both_same b m n e same = and_from b (m == n) e (eq-eqb m n same)
@@ -70,10 +71,10 @@ unfolding terms_of
 terms_of-joined f h [] ys = refl
 terms_of-joined f h (x ∷ xs) ys = ap (more (term_of f h x)) (terms_of-joined f h xs ys)
 
-pub opened : {N : Type 0} (f : N → List ℕ) (h : Held N) (name called : N) (count s : ℕ) (x : Cell N) (stack now : List (Cell N)) →
+pub opened : {N : Type 0} (f : N → List ℕ) (h : Held N) (name called : N) (count s : ℕ) (x : Cell N) (cells now : List (Cell N)) →
     IsFormed h → x ≡ Structure s → slice_get h.structures s ≡ Some (record { name = called; arguments = arguments_of h s }) →
-    length (arguments_of h s) ≡ count → name ≡ called → now ≡ stack ++ reverse (arguments_of h s) → IsOpened f h name count (term_of f h x) stack now
-opened {N = N} f h name called count s x stack now p e at counted same is =
+    length (arguments_of h s) ≡ count → name ≡ called → now ≡ arguments_of h s ++ cells → IsOpened f h name count (term_of f h x) cells now
+opened {N = N} f h name called count s x cells now p e at counted same is =
     let us = terms_of f h (arguments_of h s) in
     let number : count_of us ≡ count = count_of-terms_of f h (arguments_of h s) ∙ counted in
     record {
@@ -83,7 +84,7 @@ opened {N = N} f h name called count s x stack now p e at counted same is =
           ap (match_term (structure (f name) ps)) (ap (term_of f h) e ∙ term_of-Structure f h s called p at)
           ∙ cond-true (bytes_eq (f name) (f called) && count_of ps == count_of us) (match_terms ps us) (with_outcome clashes)
           (both_same (bytes_eq (f name) (f called)) (count_of ps) (count_of us) (names_same f name called same) (c ∙ sym number));
-      stack_is = ap (λ l. terms_of f h (reverse l)) is ∙ ap (terms_of f h) (reverse-append stack (reverse (arguments_of h s)) ∙ ap (λ l. l ++ reverse stack) (reverse-reverse (arguments_of h s))) ∙ terms_of-joined f h (arguments_of h s) (reverse stack);
+      cells_are = ap (terms_of f h) is ∙ terms_of-joined f h (arguments_of h s) cells;
     }
 
 pub name_clashes : {N : Type 0} (built : BuiltIn → N) (f : N → List ℕ) (h : Held N) (name called : N) (s : ℕ) (x : Cell N) (ps : Terms) → Reads built f →
@@ -106,54 +107,88 @@ count_clashes f h name called count s x ps counted p e at ne =
 
 -- ---- the arguments of a goal
 
-pub AreIn-push : {N : Type 0} (h : Held N) (xs : List (Cell N)) (x : Cell N) → AreIn h xs → IsIn h x → AreIn h (xs ++ x ∷ [])
-AreIn-push h [] x p q = (q, tt)
-AreIn-push h (y ∷ xs) x p q = (p.0, AreIn-push h xs x p.1 q)
-
-pub AreIn-pop : {N : Type 0} (h : Held N) (all xs : List (Cell N)) (x : Cell N) → all ≡ xs ++ x ∷ [] → AreIn h all → AreIn h xs × IsIn h x
-AreIn-pop {N = N} h all xs x e p = let P : List (Cell N) → Type 0 = λ l. AreIn h l in parts xs (subst P e p)
-  where
-    parts : (ys : List (Cell N)) → AreIn h (ys ++ x ∷ []) → AreIn h ys × IsIn h x
-    parts [] q = (tt, q.0)
-    parts (y ∷ ys) q = let r = parts ys q.1 in ((q.0, r.0), r.1)
-
 some_same : {A : Type 0} {x y : A} → Some x ≡ Some y → x ≡ y
 some_same p = cc
 
-drop_at : {A : Type 0} (xs : List A) (i : ℕ) (x : A) → slice_get xs i ≡ Some x → drop i xs ≡ x ∷ drop (suc i) xs
-drop_at [] i x e = absurd (cc)
-drop_at (y ∷ xs) zero x e = ap (λ z. z ∷ xs) (some_same e)
-drop_at (y ∷ xs) (suc i) x e = drop_at xs i x e
+at_next : {A : Type 0} (xs : List A) (next end : ℕ) (x : A) → next < end → slice_get xs next ≡ Some x → drop next (take end xs) ≡ x ∷ drop (suc next) (take end xs)
+at_next [] next end x lt e = absurd (cc)
+at_next (y ∷ xs) next zero x lt e = absurd (omega (arith, lt))
+at_next (y ∷ xs) zero (suc end) x lt e = ap (λ z. z ∷ take end xs) (some_same e)
+at_next (y ∷ xs) (suc next) (suc end) x lt e = at_next xs next end x (omega (arith, lt)) e
 
--- one argument more on the stack
-pub pushed : {N : Type 0} (arguments before stack now : List (Cell N)) (left next : ℕ) (x : Cell N) → left ≡ suc next → slice_get arguments next ≡ Some x →
-    stack ≡ before ++ reverse (drop left arguments) → now ≡ stack ++ x ∷ [] → now ≡ before ++ reverse (drop next arguments)
-pushed arguments before stack now left next x one at is e =
-    e ∙ ap (λ l. l ++ x ∷ []) (is ∙ ap (λ n. before ++ reverse (drop n arguments)) one)
-    ∙ append_assoc before (reverse (drop (suc next) arguments)) (x ∷ [])
-    ∙ ap (λ l. before ++ l) (sym (reverse-append (x ∷ []) (drop (suc next) arguments)) ∙ ap reverse (sym (drop_at arguments next x at)))
+-- a structure with an argument is there
+pub is_there : {N : Type 0} (h : Held N) (s i : ℕ) → i < length (arguments_of h s) → s < length h.structures
+is_there {N = N} h s i lt = among h.structures s lt
+  where
+    among : (ss : List (Shape N)) (n : ℕ) → i < length (shape_arguments (slice_get ss n)) → n < length ss
+    among [] n less = absurd (omega (arith, less))
+    among (k ∷ ss) zero less = omega arith
+    among (k ∷ ss) (suc n) less = omega (arith, among ss n less)
+
+-- the next cell of a row is taken
+pub taken_next : {N : Type 0} (h : Held N) (span after : Span) (x : Cell N) → span.next < span.end → slice_get (arguments_of h span.structure) span.next ≡ Some x → after ≡ record span { next = span.next + 1 } →
+    span_cells h span ≡ x ∷ span_cells h after
+taken_next h span after x lt at e =
+    let one : suc span.next ≡ span.next + 1 = omega arith in
+    at_next (arguments_of h span.structure) span.next span.end x lt at ∙ ap (λ n. x ∷ drop n (take span.end (arguments_of h span.structure))) one
+    ∙ ap (λ s. x ∷ span_cells h s) (sym e)
+
+cells_behind-append : {N : Type 0} (h : Held N) (ss : List Span) (s : Span) → cells_behind h (ss ++ s ∷ []) ≡ span_cells h s ++ cells_behind h ss
+cells_behind-append h [] s = sym (append-nil (span_cells h s))
+cells_behind-append h (t ∷ ss) s = ap (λ l. l ++ span_cells h t) (cells_behind-append h ss s) ∙ append_assoc (span_cells h s) (cells_behind h ss) (span_cells h t)
+
+pub no_cells : {N : Type 0} (h : Held N) (span : Span) → IsSpan h span → span.end ≤ span.next → span_cells h span ≡ []
+no_cells h span within le = drop_all span.next (take span.end (arguments_of h span.structure)) (omega (arith, le, length-take-le span.end (arguments_of h span.structure) within))
+
+-- where a row has no cell, the last one behind it goes before the others
+pub no_next : {N : Type 0} (h : Held N) (span outer : Span) (behind rest : List Span) → IsSpan h span → span.end ≤ span.next → behind ≡ rest ++ outer ∷ [] → cells_left h span behind ≡ cells_left h outer rest
+no_next h span outer behind rest within le e =
+    ap (λ l. l ++ cells_behind h behind) (no_cells h span within le) ∙ ap (cells_behind h) e ∙ cells_behind-append h rest outer
+
+pub cells_there : {N : Type 0} (h : Held N) (span : Span) (behind : List Span) → IsSpan h span → span.next < span.end → cells_left h span behind ≡ [] → ⊥
+cells_there h span behind within lt e =
+    omega (arith, lt, ap length e, length-append (span_cells h span) (cells_behind h behind), length-drop span.next (take span.end (arguments_of h span.structure)), length-take-le span.end (arguments_of h span.structure) within)
+
+pub AreSpans-push : {N : Type 0} (h : Held N) (ss : List Span) (s : Span) → AreSpans h ss → IsSpan h s → AreSpans h (ss ++ s ∷ [])
+AreSpans-push h [] s p q = (q, tt)
+AreSpans-push h (t ∷ ss) s p q = (p.0, AreSpans-push h ss s p.1 q)
+
+pub AreSpans-pop : {N : Type 0} (h : Held N) (all ss : List Span) (s : Span) → all ≡ ss ++ s ∷ [] → AreSpans h all → AreSpans h ss × IsSpan h s
+AreSpans-pop {N = N} h all ss s e p = let P : List Span → Type 0 = λ l. AreSpans h l in parts ss (subst P e p)
+  where
+    parts : (ts : List Span) → AreSpans h (ts ++ s ∷ []) → AreSpans h ts × IsSpan h s
+    parts [] q = (tt, q.0)
+    parts (t ∷ ts) q = let r = parts ts q.1 in ((q.0, r.0), r.1)
+
+-- all the arguments of a structure, before the cells that were left
+pub put_before : {N : Type 0} (h : Held N) (span inner : Span) (behind now : List Span) (s : ℕ) → inner ≡ record { structure = s; next = 0; end = length (arguments_of h s) } → now ≡ behind ++ span ∷ [] →
+    cells_left h inner now ≡ arguments_of h s ++ cells_left h span behind
+put_before h span inner behind now s e is =
+    ap (λ i. span_cells h i ++ cells_behind h now) e
+    ∙ ap (λ l. l ++ cells_behind h now) (take_all (length (arguments_of h s)) (arguments_of h s) (omega arith))
+    ∙ ap (λ l. arguments_of h s ++ l) (ap (cells_behind h) is ∙ cells_behind-append h behind span)
 
 -- what a goal means that a cell stands for
 pub goal_at : {N : Type 0} (f : N → List ℕ) (h : Held N) (goal x : Cell N) (t : Term) → term_of f h x ≡ term_of f h goal → term_of f h x ≡ t → arguments_of_goal t ≡ arguments_of_goal (term_of f h goal)
 goal_at f h goal x t e is = ap arguments_of_goal (sym is ∙ e)
 
-pub no_arguments : {N : Type 0} (f : N → List ℕ) (h : Held N) (stack : List (Cell N)) → stack ≡ [] → terms_of f h (reverse stack) ≡ none
+pub no_arguments : {N : Type 0} (f : N → List ℕ) (h : Held N) (cells : List (Cell N)) → cells ≡ [] → terms_of f h cells ≡ none
 unfolding terms_of
-no_arguments f h stack e = ap (λ l. terms_of f h (reverse l)) e
+no_arguments f h cells e = ap (λ l. terms_of f h l) e
 
-pub all_arguments : {N : Type 0} (f : N → List ℕ) (h : Held N) (goal x : Cell N) (s : ℕ) (stack now : List (Cell N)) → IsFormed h → IsIn h x → x ≡ Structure s → term_of f h x ≡ term_of f h goal →
-    stack ≡ [] → now ≡ stack ++ reverse (arguments_of h s) → terms_of f h (reverse now) ≡ arguments_of_goal (term_of f h goal)
-all_arguments {N = N} f h goal x s stack now p inside e means empty is =
+pub all_arguments : {N : Type 0} (f : N → List ℕ) (h : Held N) (goal x : Cell N) (s count : ℕ) → IsFormed h → IsIn h x → x ≡ Structure s → term_of f h x ≡ term_of f h goal →
+    count ≡ length (arguments_of h s) → terms_of f h (take count (arguments_of h s)) ≡ arguments_of_goal (term_of f h goal)
+all_arguments {N = N} f h goal x s count p inside e means counted =
     let I : Cell N → Type 0 = λ c. IsIn h c in
     let r = named h s (subst I e inside) in
-    ap (λ l. terms_of f h (reverse l)) (is ∙ ap (λ l. l ++ reverse (arguments_of h s)) empty) ∙ ap (terms_of f h) (reverse-reverse (arguments_of h s))
+    ap (terms_of f h) (take_all count (arguments_of h s) (omega (arith, counted)))
     ∙ ap arguments_of_goal (sym (ap (term_of f h) e ∙ term_of-Structure f h s r.0 p r.1) ∙ means)
 
 -- ---- the outcomes of a structure as a pattern
 
-pub structure_beside : {N : Type 0} (built : BuiltIn → N) (h : Held N) (name : N) (count : ℕ) (x : Cell N) (stack now : List (Cell N)) (outcome : Outcome) → now ≡ stack →
-    ((f : N → List ℕ) → Reads built f → (ps : Terms) → count_of ps ≡ count → match_term (structure (f name) ps) (term_of f h x) ≡ with_outcome outcome) → Stays built h name count x stack now outcome
-structure_beside built h name count x stack now outcome e matched = record { stack_is = e; matched = matched }
+pub structure_beside : {N : Type 0} (built : BuiltIn → N) (h : Held N) (name : N) (count : ℕ) (x : Cell N) (cells now : List (Cell N)) (outcome : Outcome) → now ≡ cells →
+    ((f : N → List ℕ) → Reads built f → (ps : Terms) → count_of ps ≡ count → match_term (structure (f name) ps) (term_of f h x) ≡ with_outcome outcome) → Stays built h name count x cells now outcome
+structure_beside built h name count x cells now outcome e matched = record { cells_are = e; matched = matched }
 
 -- ---- instructions
 
@@ -161,11 +196,11 @@ pub code_same : {A : Type 0} {x y : A} {xs ys : List A} → x ∷ xs ≡ y ∷ y
 code_same e = cc
 
 -- a pattern that begins with the node of a variable
-pub takes_place : {N : Type 0} (f : N → List ℕ) (h : Held N) (v : ℕ) (x : Cell N) (p : Term) (stack : List (Cell N)) (places longer : List (Place N)) → Begins (inl (inl v)) p →
-    longer ≡ places ++ record { variable = v; cell = x } ∷ [] → GoesInto f h (inl (inl v)) p (term_of f h x) stack stack places longer
-takes_place {N = N} f h v x (variable w) stack places longer b e =
+pub takes_place : {N : Type 0} (f : N → List ℕ) (h : Held N) (v : ℕ) (x : Cell N) (p : Term) (cells : List (Cell N)) (places longer : List (Place N)) → Begins (inl (inl v)) p →
+    longer ≡ places ++ record { variable = v; cell = x } ∷ [] → GoesInto f h (inl (inl v)) p (term_of f h x) cells cells places longer
+takes_place {N = N} f h v x (variable w) cells places longer b e =
     let same : v ≡ w = number (code_same b.nodes) in
-    let P : ℕ → Type 0 = λ n. GoesInto f h (inl (inl v)) (variable n) (term_of f h x) stack stack places longer in
+    let P : ℕ → Type 0 = λ n. GoesInto f h (inl (inl v)) (variable n) (term_of f h x) cells cells places longer in
     subst P same (record {
       inner = none;
       arguments = none;
@@ -173,15 +208,15 @@ takes_place {N = N} f h v x (variable w) stack places longer b e =
       nodes = refl;
       counted = refl;
       matched = refl;
-      stack_is = refl;
+      cells_are = refl;
       places_are = ap (replacements_of f h) e ∙ map-append (replacement_of f h) places (record { variable = v; cell = x } ∷ []);
     })
   where
     number : {v w : ℕ} → (let c : NodeCode = inl (inl w) in c) ≡ inl (inl v) → v ≡ w
     number e = cc
-takes_place f h v x (integer i) stack places longer b e = absurd (cc b.nodes)
-takes_place f h v x (atom a) stack places longer b e = absurd (cc b.nodes)
-takes_place f h v x (structure g us) stack places longer b e = absurd (cc b.nodes)
+takes_place f h v x (integer i) cells places longer b e = absurd (cc b.nodes)
+takes_place f h v x (atom a) cells places longer b e = absurd (cc b.nodes)
+takes_place f h v x (structure g us) cells places longer b e = absurd (cc b.nodes)
 
 -- a pattern that begins with the node of an integer is that integer
 pub is_integer : (i : ℤ) (p : Term) → Begins (inl (inr i)) p → p ≡ integer i
@@ -221,10 +256,10 @@ is_structure g n (structure k us) b =
     name_of (inr (inr q)) = q.0
 
 -- a pattern without arguments agrees
-pub agrees_alone : {N : Type 0} (f : N → List ℕ) (h : Held N) (c : NodeCode) (p q t : Term) (stack : List (Cell N)) (places : List (Place N)) →
-    p ≡ q → nodes_of q ≡ c ∷ [] → match_term q t ≡ with_outcome agrees → GoesInto f h c p t stack stack places places
-agrees_alone {N = N} f h c p q t stack places e nodes m =
-    let P : Term → Type 0 = λ r. GoesInto f h c r t stack stack places places in
+pub agrees_alone : {N : Type 0} (f : N → List ℕ) (h : Held N) (c : NodeCode) (p q t : Term) (cells : List (Cell N)) (places : List (Place N)) →
+    p ≡ q → nodes_of q ≡ c ∷ [] → match_term q t ≡ with_outcome agrees → GoesInto f h c p t cells cells places places
+agrees_alone {N = N} f h c p q t cells places e nodes m =
+    let P : Term → Type 0 = λ r. GoesInto f h c r t cells cells places places in
     subst P (sym e) (record {
       inner = none;
       arguments = none;
@@ -232,16 +267,16 @@ agrees_alone {N = N} f h c p q t stack places e nodes m =
       nodes = nodes;
       counted = refl;
       matched = m;
-      stack_is = refl;
+      cells_are = refl;
       places_are = sym (append-nil (replacements_of f h places));
     })
 
 -- a structure as a pattern agrees if its arguments do
-pub agrees_inside : {N : Type 0} (f : N → List ℕ) (h : Held N) (name : N) (g : List ℕ) (n : ℕ) (p t : Term) (stack now : List (Cell N)) (places : List (Place N)) →
-    f name ≡ g → Begins (inr (inr (g, n))) p → IsOpened f h name n t stack now → GoesInto f h (inr (inr (g, n))) p t stack now places places
-agrees_inside {N = N} f h name g n p t stack now places same b o =
+pub agrees_inside : {N : Type 0} (f : N → List ℕ) (h : Held N) (name : N) (g : List ℕ) (n : ℕ) (p t : Term) (cells now : List (Cell N)) (places : List (Place N)) →
+    f name ≡ g → Begins (inr (inr (g, n))) p → IsOpened f h name n t cells now → GoesInto f h (inr (inr (g, n))) p t cells now places places
+agrees_inside {N = N} f h name g n p t cells now places same b o =
     let r = is_structure g n p b in
-    let P : Term → Type 0 = λ q. GoesInto f h (inr (inr (g, n))) q t stack now places places in
+    let P : Term → Type 0 = λ q. GoesInto f h (inr (inr (g, n))) q t cells now places places in
     let Q : ℕ → Type 0 = λ m. (nodes_of (structure g r.arguments) ≡ inr (inr (g, m)) ∷ nodes_of_all r.arguments) in
     let S : List ℕ → Type 0 = λ l. match_term (structure l r.arguments) t ≡ match_terms r.arguments o.arguments in
     subst P (sym r.is) (record {
@@ -251,7 +286,7 @@ agrees_inside {N = N} f h name g n p t stack now places same b o =
       nodes = subst Q r.counted refl;
       counted = r.counted ∙ sym o.counted;
       matched = subst S same (o.matched r.arguments r.counted);
-      stack_is = o.stack_is;
+      cells_are = o.cells_are;
       places_are = sym (append-nil (replacements_of f h places));
     })
 

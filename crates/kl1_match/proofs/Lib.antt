@@ -9,6 +9,7 @@ pub mod Cells
 pub mod Skipping
 pub mod Answered
 pub mod Whole
+pub mod Trying
 pub mod Beside
 pub mod Choosing
 pub mod Stays

@@ -1,7 +1,6 @@
 -- What is left of a clause's patterns, for each reading of the names.
 use Rattle.std.proofs.Common.{◌≡◌, ℕ, zero, suc, ◌+◌, ◌<◌, ◌≤◌, List, [], ◌∷◌, ◌++◌, length, map, drop, get_or, refl, sym, ap, ◌∙◌, subst, arith, drop-cons, take, append_assoc, append-nil, length-append}
 use Rattle.std.proofs.Math.Seq.{take-append_seam}
-use Rattle.std.specs.Prelude.{reverse}
 use Rattle.std.proofs.lemmas.List.{drop_all}
 use Rattle.kl1_model.specs.declared.built_in.BuiltIn.{BuiltIn}
 use Rattle.kl1_model.specs.Term.{Term, Terms, more}
@@ -10,7 +9,7 @@ use Rattle.kl1_model.specs.Module.{Clause}
 use Rattle.kl1_model.specs.Match.{agrees, clashes, waits, both, Matched, match_terms, tests_outcome, verdict, verdict_of, verdict_with, rejects}
 use Rattle.kl1_text.specs.Reading.{Reads}
 use Rattle.kl1_store.specs.declared.cell.Cell.{Cell}
-use Rattle.kl1_store.specs.Held.{Held, AreIn}
+use Rattle.kl1_store.specs.Held.{Held}
 use Rattle.kl1_store.specs.Meaning.{term_of, terms_of}
 use Rattle.kl1_clause.specs.declared.compiled_clause.CompiledClause.{CompiledClause}
 use Rattle.kl1_clause.specs.declared.instruction.Instruction.{Instruction}
@@ -23,19 +22,17 @@ use Rattle.kl1_match.specs.Instances.{AreThere, IsClause, replacements_of}
 use Rattle.kl1_match.specs.Matching.{Continues, Decides}
 use Rattle.kl1_match.specs.Verdicts.{arguments_of_goal, verdict_with_places, MayName, IsTried, IsVerdict}
 use Rattle.kl1_match.specs.Waiting.{IsUnbound, AreUnbound}
-use Rattle.kl1_match.proofs.Cells.{AreIn-pop}
 use Rattle.kl1_match.proofs.Answered.{matched_with, so_far, both-agrees, IsLeft, IsNext, begun, next_of, agreed, waited, clashed, no_terms, no_patterns, all_matched}
 
--- what is left from a place of the row on, and of the stack, gives the answer of all, for each reading
-pub record GivesAll {N : Type 0} (built : BuiltIn → N) (names : List N) (compiled : CompiledClause) (h : Held N) (goal : Cell N) (at : ℕ) (stack : List (Cell N)) (places : List (Place N)) (before after : List ℕ) : Type 0 where
+-- what is left from a place of the row on, and of cells, gives the answer of all, for each reading
+pub record GivesAll {N : Type 0} (built : BuiltIn → N) (names : List N) (compiled : CompiledClause) (h : Held N) (goal : Cell N) (at : ℕ) (cells : List (Cell N)) (places : List (Place N)) (before after : List ℕ) : Type 0 where
   pub below : at ≤ length compiled.patterns.items
-  pub stack_in : AreIn h stack
   pub places_in : AreThere h places
   pub named : List ℕ
   pub awaited : after ≡ before ++ named
   pub unbound : AreUnbound h named
   pub left : (f : N → List ℕ) → Reads built f → (clause : Clause) → IsCompiled (map f names) compiled clause →
-      IsLeft f h clause.patterns (arguments_of_goal (term_of f h goal)) (map (code_in (map f names)) (drop at compiled.patterns.items)) stack places named
+      IsLeft f h clause.patterns (arguments_of_goal (term_of f h goal)) (map (code_in (map f names)) (drop at compiled.patterns.items)) cells places named
 
 AreUnbound-push : {N : Type 0} (h : Held N) (vs : List ℕ) (v : ℕ) → AreUnbound h vs → IsUnbound h v → AreUnbound h (vs ++ v ∷ [])
 AreUnbound-push h [] v a u = (u, tt)
@@ -55,18 +52,17 @@ named_at names compiled at i c lt =
 
 -- ---- steps
 
-pub starts : {N : Type 0} (built : BuiltIn → N) (names : List N) (compiled : CompiledClause) (h : Held N) (goal : Cell N) (stack : List (Cell N)) (places : List (Place N)) (before : List ℕ) →
-    AreIn h stack → ((f : N → List ℕ) → terms_of f h (reverse stack) ≡ arguments_of_goal (term_of f h goal)) → places ≡ [] → GivesAll built names compiled h goal 0 stack places before before
-starts {N = N} built names compiled h goal stack places before inside means empty =
+pub starts : {N : Type 0} (built : BuiltIn → N) (names : List N) (compiled : CompiledClause) (h : Held N) (goal : Cell N) (cells : List (Cell N)) (places : List (Place N)) (before : List ℕ) →
+    ((f : N → List ℕ) → terms_of f h cells ≡ arguments_of_goal (term_of f h goal)) → places ≡ [] → GivesAll built names compiled h goal 0 cells places before before
+starts {N = N} built names compiled h goal cells places before means empty =
     let P : List (Place N) → Type 0 = λ l. AreThere h l in
     record {
       below = omega arith;
-      stack_in = inside;
       places_in = subst P (sym empty) tt;
       named = [];
       awaited = sym (append-nil before);
       unbound = tt;
-      left = λ f reads clause is. begun f h clause.patterns (arguments_of_goal (term_of f h goal)) (map (code_in (map f names)) compiled.patterns.items) stack places is.patterns.nodes_are (means f) empty;
+      left = λ f reads clause is. begun f h clause.patterns (arguments_of_goal (term_of f h goal)) (map (code_in (map f names)) compiled.patterns.items) cells places is.patterns.nodes_are (means f) empty;
     }
 
 row_at : (names : List (List ℕ)) (row : List Instruction) (at : ℕ) (i : Instruction) → at < length row → map (code_in names) (drop at row) ≡ code_in names (get_or row at i) ∷ map (code_in names) (drop (at + 1) row)
@@ -74,47 +70,45 @@ row_at names row at i lt =
     let one : suc at ≡ at + 1 = omega arith in
     ap (map (code_in names)) (drop-cons row at i lt) ∙ ap (λ n. code_in names (get_or row at i) ∷ map (code_in names) (drop n row)) one
 
-next_at : {N : Type 0} (built : BuiltIn → N) (names : List N) (compiled : CompiledClause) (h : Held N) (goal x : Cell N) (at : ℕ) (i : Instruction) (stack rest : List (Cell N)) (places : List (Place N)) (before after : List ℕ) →
-    at < length compiled.patterns.items → stack ≡ rest ++ x ∷ [] → (all : GivesAll built names compiled h goal at stack places before after) →
+next_at : {N : Type 0} (built : BuiltIn → N) (names : List N) (compiled : CompiledClause) (h : Held N) (goal x : Cell N) (at : ℕ) (i : Instruction) (cells rest : List (Cell N)) (places : List (Place N)) (before after : List ℕ) →
+    at < length compiled.patterns.items → cells ≡ x ∷ rest → (all : GivesAll built names compiled h goal at cells places before after) →
     (f : N → List ℕ) → Reads built f → (clause : Clause) → IsCompiled (map f names) compiled clause →
     IsNext f h clause.patterns (arguments_of_goal (term_of f h goal)) (code_in (map f names) (get_or compiled.patterns.items at i)) (map (code_in (map f names)) (drop (at + 1) compiled.patterns.items)) x rest places all.named
-next_at built names compiled h goal x at i stack rest places before after lt popped all = λ f reads clause is.
-    next_of f h clause.patterns (arguments_of_goal (term_of f h goal)) (code_in (map f names) (get_or compiled.patterns.items at i)) (map (code_in (map f names)) (drop at compiled.patterns.items)) (map (code_in (map f names)) (drop (at + 1) compiled.patterns.items)) x stack rest places all.named
+next_at built names compiled h goal x at i cells rest places before after lt popped all = λ f reads clause is.
+    next_of f h clause.patterns (arguments_of_goal (term_of f h goal)) (code_in (map f names) (get_or compiled.patterns.items at i)) (map (code_in (map f names)) (drop at compiled.patterns.items)) (map (code_in (map f names)) (drop (at + 1) compiled.patterns.items)) x cells rest places all.named
     (row_at (map f names) compiled.patterns.items at i lt) popped (all.left f reads clause is)
 
-pub goes_on : {N : Type 0} (built : BuiltIn → N) (names : List N) (compiled : CompiledClause) (h : Held N) (goal x : Cell N) (at : ℕ) (i : Instruction) (stack rest now : List (Cell N)) (places longer : List (Place N)) (before after : List ℕ) →
-    at < length compiled.patterns.items → stack ≡ rest ++ x ∷ [] → GivesAll built names compiled h goal at stack places before after →
+pub goes_on : {N : Type 0} (built : BuiltIn → N) (names : List N) (compiled : CompiledClause) (h : Held N) (goal x : Cell N) (at : ℕ) (i : Instruction) (cells rest now : List (Cell N)) (places longer : List (Place N)) (before after : List ℕ) →
+    at < length compiled.patterns.items → cells ≡ x ∷ rest → GivesAll built names compiled h goal at cells places before after →
     Continues built h names (get_or compiled.patterns.items at i) x rest now places longer → GivesAll built names compiled h goal (at + 1) now longer before after
-goes_on built names compiled h goal x at i stack rest now places longer before after lt popped all met = record {
+goes_on built names compiled h goal x at i cells rest now places longer before after lt popped all met = record {
   below = omega arith;
-  stack_in = met.stack_in;
   places_in = met.places_in;
   named = all.named;
   awaited = all.awaited;
   unbound = all.unbound;
   left = λ f reads clause is.
-      let n = next_at built names compiled h goal x at i stack rest places before after lt popped all f reads clause is in
+      let n = next_at built names compiled h goal x at i cells rest places before after lt popped all f reads clause is in
       agreed f h clause.patterns (arguments_of_goal (term_of f h goal)) (code_in (map f names) (get_or compiled.patterns.items at i)) (map (code_in (map f names)) (drop (at + 1) compiled.patterns.items)) x rest now places longer all.named n
       (met.goes_into f reads n.first n.begins);
 }
 
-pub waits_there : {N : Type 0} (built : BuiltIn → N) (names : List N) (compiled : CompiledClause) (h : Held N) (goal x : Cell N) (at next : ℕ) (i : Instruction) (stack rest now : List (Cell N)) (places longer : List (Place N)) (before after later : List ℕ) (v : ℕ) →
-    at < length compiled.patterns.items → stack ≡ rest ++ x ∷ [] → GivesAll built names compiled h goal at stack places before after →
+pub waits_there : {N : Type 0} (built : BuiltIn → N) (names : List N) (compiled : CompiledClause) (h : Held N) (goal x : Cell N) (at next : ℕ) (i : Instruction) (cells rest now : List (Cell N)) (places longer : List (Place N)) (before after later : List ℕ) (v : ℕ) →
+    at < length compiled.patterns.items → cells ≡ x ∷ rest → GivesAll built names compiled h goal at cells places before after →
     Decides built h names (get_or compiled.patterns.items at i) x rest now places longer (waits (v ∷ [])) → IsUnbound h v → later ≡ after ++ v ∷ [] → next ≤ length compiled.patterns.items →
     ((texts : List (List ℕ)) (p : Term) (ps : Terms) → map (code_in texts) (drop at compiled.patterns.items) ≡ nodes_of_all (more p ps) → map (code_in texts) (drop next compiled.patterns.items) ≡ nodes_of_all ps) →
     GivesAll built names compiled h goal next now longer before later
-waits_there {N = N} built names compiled h goal x at next i stack rest now places longer before after later v lt popped all met unbound e le skips =
+waits_there {N = N} built names compiled h goal x at next i cells rest now places longer before after later v lt popped all met unbound e le skips =
     let P : List (Cell N) → Type 0 = λ l. GivesAll built names compiled h goal next l longer before later in
     let Q : List (Place N) → Type 0 = λ l. GivesAll built names compiled h goal next rest l before later in
-    subst P (sym met.stack_is) (subst Q (sym met.places_are) (record {
+    subst P (sym met.cells_are) (subst Q (sym met.places_are) (record {
       below = le;
-      stack_in = (AreIn-pop h stack rest x popped all.stack_in).0;
       places_in = all.places_in;
       named = all.named ++ v ∷ [];
       awaited = e ∙ ap (λ l. l ++ v ∷ []) all.awaited ∙ append_assoc before all.named (v ∷ []);
       unbound = AreUnbound-push h all.named v all.unbound unbound;
       left = λ f reads clause is.
-          let n = next_at built names compiled h goal x at i stack rest places before after lt popped all f reads clause is in
+          let n = next_at built names compiled h goal x at i cells rest places before after lt popped all f reads clause is in
           let c = code_in (map f names) (get_or compiled.patterns.items at i) in
           let behind = map (code_in (map f names)) (drop (at + 1) compiled.patterns.items) in
           waited f h clause.patterns (arguments_of_goal (term_of f h goal)) c behind (map (code_in (map f names)) (drop next compiled.patterns.items)) x rest places all.named v n (met.matched f reads n.first n.begins)
@@ -146,39 +140,38 @@ rejected built names compiled h goal places before after named inside unbound aw
   verdict_is = λ f reads clause is. verdict-clash clause (arguments_of_goal (term_of f h goal)) (clash f reads clause is);
 }
 
-pub clash_there : {N : Type 0} (built : BuiltIn → N) (names : List N) (compiled : CompiledClause) (h : Held N) (goal x : Cell N) (at : ℕ) (i : Instruction) (stack rest now : List (Cell N)) (places longer : List (Place N)) (before after : List ℕ) →
-    at < length compiled.patterns.items → stack ≡ rest ++ x ∷ [] → GivesAll built names compiled h goal at stack places before after →
+pub clash_there : {N : Type 0} (built : BuiltIn → N) (names : List N) (compiled : CompiledClause) (h : Held N) (goal x : Cell N) (at : ℕ) (i : Instruction) (cells rest now : List (Cell N)) (places longer : List (Place N)) (before after : List ℕ) →
+    at < length compiled.patterns.items → cells ≡ x ∷ rest → GivesAll built names compiled h goal at cells places before after →
     Decides built h names (get_or compiled.patterns.items at i) x rest now places longer clashes → IsTried built names compiled h goal longer before after Rejects
-clash_there {N = N} built names compiled h goal x at i stack rest now places longer before after lt popped all met =
+clash_there {N = N} built names compiled h goal x at i cells rest now places longer before after lt popped all met =
     let Q : List (Place N) → Type 0 = λ l. IsTried built names compiled h goal l before after Rejects in
     subst Q (sym met.places_are) (rejected built names compiled h goal places before after all.named all.places_in all.unbound all.awaited (λ f reads clause is.
-    let n = next_at built names compiled h goal x at i stack rest places before after lt popped all f reads clause is in
+    let n = next_at built names compiled h goal x at i cells rest places before after lt popped all f reads clause is in
     let c = code_in (map f names) (get_or compiled.patterns.items at i) in
     let behind = map (code_in (map f names)) (drop (at + 1) compiled.patterns.items) in
     clashed f h clause.patterns (arguments_of_goal (term_of f h goal)) c behind x rest places all.named n (met.matched f reads n.first n.begins)))
 
-pub terms_wanted : {N : Type 0} (built : BuiltIn → N) (names : List N) (compiled : CompiledClause) (h : Held N) (goal : Cell N) (at : ℕ) (i : Instruction) (stack : List (Cell N)) (places : List (Place N)) (before after : List ℕ) →
-    at < length compiled.patterns.items → stack ≡ [] → GivesAll built names compiled h goal at stack places before after → IsTried built names compiled h goal places before after Rejects
-terms_wanted built names compiled h goal at i stack places before after lt empty all =
+pub terms_wanted : {N : Type 0} (built : BuiltIn → N) (names : List N) (compiled : CompiledClause) (h : Held N) (goal : Cell N) (at : ℕ) (i : Instruction) (cells : List (Cell N)) (places : List (Place N)) (before after : List ℕ) →
+    at < length compiled.patterns.items → cells ≡ [] → GivesAll built names compiled h goal at cells places before after → IsTried built names compiled h goal places before after Rejects
+terms_wanted built names compiled h goal at i cells places before after lt empty all =
     rejected built names compiled h goal places before after all.named all.places_in all.unbound all.awaited (λ f reads clause is.
-    no_terms f h clause.patterns (arguments_of_goal (term_of f h goal)) (code_in (map f names) (get_or compiled.patterns.items at i)) (map (code_in (map f names)) (drop (at + 1) compiled.patterns.items)) (map (code_in (map f names)) (drop at compiled.patterns.items)) stack places all.named
+    no_terms f h clause.patterns (arguments_of_goal (term_of f h goal)) (code_in (map f names) (get_or compiled.patterns.items at i)) (map (code_in (map f names)) (drop (at + 1) compiled.patterns.items)) (map (code_in (map f names)) (drop at compiled.patterns.items)) cells places all.named
     (row_at (map f names) compiled.patterns.items at i lt) empty (all.left f reads clause is))
 
--- the last of a list
-last_of : {A : Type 0} (xs : List A) → (xs ≡ [] → ⊥) → (rest : List A) × (x : A) × (xs ≡ rest ++ x ∷ [])
-last_of [] ne = absurd (ne refl)
-last_of (x ∷ []) ne = ([], x, refl)
-last_of (x ∷ y ∷ xs) ne = let r = last_of (y ∷ xs) (λ e. absurd (cc)) in (x ∷ r.0, r.1, ap (λ l. x ∷ l) r.2)
+-- the first of a list
+first_of : {A : Type 0} (xs : List A) → (xs ≡ [] → ⊥) → (x : A) × (rest : List A) × (xs ≡ x ∷ rest)
+first_of [] ne = absurd (ne refl)
+first_of (x ∷ xs) ne = (x, xs, refl)
 
 nothing_more : (names : List (List ℕ)) (row : List Instruction) (at : ℕ) → length row ≤ at → map (code_in names) (drop at row) ≡ []
 nothing_more names row at le = ap (map (code_in names)) (drop_all at row le)
 
-pub patterns_wanted : {N : Type 0} (built : BuiltIn → N) (names : List N) (compiled : CompiledClause) (h : Held N) (goal : Cell N) (at : ℕ) (stack : List (Cell N)) (places : List (Place N)) (before after : List ℕ) →
-    length compiled.patterns.items ≤ at → (stack ≡ [] → ⊥) → GivesAll built names compiled h goal at stack places before after → IsTried built names compiled h goal places before after Rejects
-patterns_wanted built names compiled h goal at stack places before after le some all =
-    let r = last_of stack some in
+pub patterns_wanted : {N : Type 0} (built : BuiltIn → N) (names : List N) (compiled : CompiledClause) (h : Held N) (goal : Cell N) (at : ℕ) (cells : List (Cell N)) (places : List (Place N)) (before after : List ℕ) →
+    length compiled.patterns.items ≤ at → (cells ≡ [] → ⊥) → GivesAll built names compiled h goal at cells places before after → IsTried built names compiled h goal places before after Rejects
+patterns_wanted built names compiled h goal at cells places before after le some all =
+    let r = first_of cells some in
     rejected built names compiled h goal places before after all.named all.places_in all.unbound all.awaited (λ f reads clause is.
-    no_patterns f h clause.patterns (arguments_of_goal (term_of f h goal)) (map (code_in (map f names)) (drop at compiled.patterns.items)) stack r.0 r.1 places all.named (nothing_more (map f names) compiled.patterns.items at le) r.2 (all.left f reads clause is))
+    no_patterns f h clause.patterns (arguments_of_goal (term_of f h goal)) (map (code_in (map f names)) (drop at compiled.patterns.items)) cells r.1 r.0 places all.named (nothing_more (map f names) compiled.patterns.items at le) r.2 (all.left f reads clause is))
 
 -- the verdict where nothing clashed
 abbrev pub verdict_so_far : List ℕ → Verdict
@@ -193,9 +186,9 @@ may_name : (named : List ℕ) → MayName (verdict_so_far named) named
 may_name [] = refl
 may_name (v ∷ vs) = λ e. absurd (cc)
 
-ends : {N : Type 0} (built : BuiltIn → N) (names : List N) (compiled : CompiledClause) (h : Held N) (goal : Cell N) (at : ℕ) (stack : List (Cell N)) (places : List (Place N)) (before after : List ℕ) →
-    length compiled.patterns.items ≤ at → stack ≡ [] → (all : GivesAll built names compiled h goal at stack places before after) → IsTried built names compiled h goal places before after (verdict_so_far all.named)
-ends built names compiled h goal at stack places before after le empty all = record {
+ends : {N : Type 0} (built : BuiltIn → N) (names : List N) (compiled : CompiledClause) (h : Held N) (goal : Cell N) (at : ℕ) (cells : List (Cell N)) (places : List (Place N)) (before after : List ℕ) →
+    length compiled.patterns.items ≤ at → cells ≡ [] → (all : GivesAll built names compiled h goal at cells places before after) → IsTried built names compiled h goal places before after (verdict_so_far all.named)
+ends built names compiled h goal at cells places before after le empty all = record {
   inside = all.places_in;
   named = all.named;
   named_as = may_name all.named;
@@ -204,7 +197,7 @@ ends built names compiled h goal at stack places before after le empty all = rec
   verdict_is = λ f reads clause is.
       let ts = arguments_of_goal (term_of f h goal) in
       let m = matched_with (so_far all.named) (replacements_of f h places) in
-      verdict-matched clause ts m (all_matched f h clause.patterns ts (map (code_in (map f names)) (drop at compiled.patterns.items)) stack places all.named (nothing_more (map f names) compiled.patterns.items at le) empty (all.left f reads clause is))
+      verdict-matched clause ts m (all_matched f h clause.patterns ts (map (code_in (map f names)) (drop at compiled.patterns.items)) cells places all.named (nothing_more (map f names) compiled.patterns.items at le) empty (all.left f reads clause is))
       ∙ with_so_far f h places all.named;
 }
 
@@ -220,17 +213,17 @@ some_named (v ∷ vs) ne = refl
 named_count : (before after named : List ℕ) → after ≡ before ++ named → length after ≡ length before + length named
 named_count before after named e = ap length e ∙ length-append before named
 
-pub accepted : {N : Type 0} (built : BuiltIn → N) (names : List N) (compiled : CompiledClause) (h : Held N) (goal : Cell N) (at : ℕ) (stack : List (Cell N)) (places : List (Place N)) (before after : List ℕ) →
-    length compiled.patterns.items ≤ at → stack ≡ [] → length after ≡ length before → GivesAll built names compiled h goal at stack places before after → IsTried built names compiled h goal places before after Accepts
-accepted built names compiled h goal at stack places before after le empty same all =
+pub accepted : {N : Type 0} (built : BuiltIn → N) (names : List N) (compiled : CompiledClause) (h : Held N) (goal : Cell N) (at : ℕ) (cells : List (Cell N)) (places : List (Place N)) (before after : List ℕ) →
+    length compiled.patterns.items ≤ at → cells ≡ [] → length after ≡ length before → GivesAll built names compiled h goal at cells places before after → IsTried built names compiled h goal places before after Accepts
+accepted built names compiled h goal at cells places before after le empty same all =
     let V : Verdict → Type 0 = λ v. IsTried built names compiled h goal places before after v in
-    subst V (none_named all.named (omega (arith, named_count before after all.named all.awaited))) (ends built names compiled h goal at stack places before after le empty all)
+    subst V (none_named all.named (omega (arith, named_count before after all.named all.awaited))) (ends built names compiled h goal at cells places before after le empty all)
 
-pub suspended : {N : Type 0} (built : BuiltIn → N) (names : List N) (compiled : CompiledClause) (h : Held N) (goal : Cell N) (at : ℕ) (stack : List (Cell N)) (places : List (Place N)) (before after : List ℕ) →
-    length compiled.patterns.items ≤ at → stack ≡ [] → (length after ≡ length before → ⊥) → GivesAll built names compiled h goal at stack places before after → IsTried built names compiled h goal places before after Suspends
-suspended built names compiled h goal at stack places before after le empty ne all =
+pub suspended : {N : Type 0} (built : BuiltIn → N) (names : List N) (compiled : CompiledClause) (h : Held N) (goal : Cell N) (at : ℕ) (cells : List (Cell N)) (places : List (Place N)) (before after : List ℕ) →
+    length compiled.patterns.items ≤ at → cells ≡ [] → (length after ≡ length before → ⊥) → GivesAll built names compiled h goal at cells places before after → IsTried built names compiled h goal places before after Suspends
+suspended built names compiled h goal at cells places before after le empty ne all =
     let V : Verdict → Type 0 = λ v. IsTried built names compiled h goal places before after v in
-    subst V (some_named all.named (λ e. ne (omega (arith, named_count before after all.named all.awaited, e)))) (ends built names compiled h goal at stack places before after le empty all)
+    subst V (some_named all.named (λ e. ne (omega (arith, named_count before after all.named all.awaited, e)))) (ends built names compiled h goal at cells places before after le empty all)
 
 -- ---- what a clause that rejects named is dropped
 

@@ -5,6 +5,7 @@ pub mod Built
 pub mod Variables
 pub mod BuiltNodes
 pub mod Waiting
+pub mod Spans
 pub mod Matching
 pub mod Verdicts
 pub mod Choices

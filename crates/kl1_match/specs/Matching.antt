@@ -1,5 +1,5 @@
 -- What a pattern beside a cell comes to.
-use Rattle.std.specs.Prelude.{◌≡◌, ℕ, ℤ, List, [], ◌∷◌, ◌++◌, map, reverse}
+use Rattle.std.specs.Prelude.{◌≡◌, ℕ, ℤ, Bool, true, List, [], ◌∷◌, ◌++◌, map}
 use Rattle.kl1_model.specs.declared.built_in.BuiltIn.{BuiltIn}
 use Rattle.kl1_model.specs.Term.{Term, integer, atom, structure, Terms, none, more, count_of, Replacement}
 use Rattle.kl1_model.specs.TermCode.{NodeCode, nodes_of, nodes_of_all}
@@ -7,7 +7,7 @@ use Rattle.kl1_model.specs.Match.{Outcome, agrees, clashes, waits, with_outcome,
 use Rattle.kl1_text.specs.Reading.{Reads}
 use Rattle.kl1_store.specs.declared.cell.Cell.{Cell}
 use Rattle.kl1_store.specs.declared.cell.Cell.TheVariants as cell
-use Rattle.kl1_store.specs.Held.{Held, AreIn}
+use Rattle.kl1_store.specs.Held.{Held}
 use Rattle.kl1_store.specs.Meaning.{term_of, terms_of}
 use Rattle.kl1_clause.specs.declared.instruction.Instruction.{Instruction}
 use Rattle.kl1_clause.specs.declared.instruction.Instruction.TheVariants.{Variable, Integer, Atom, Structure}
@@ -56,59 +56,78 @@ IntegerMeets {N = N} built h i x met = (f : N → List ℕ) → match_term (inte
 abbrev pub AtomMeets : {N : Type 0} → (BuiltIn → N) → Held N → N → Cell N → Met → Type 0
 AtomMeets {N = N} built h a x met = (f : N → List ℕ) → Reads built f → match_term (atom (f a)) (term_of f h x) ≡ with_outcome (outcome_of met)
 
--- a structure of this name and number of arguments beside a pattern of these: its arguments are put on the stack
-pub record IsOpened {N : Type 0} (f : N → List ℕ) (h : Held N) (name : N) (count : ℕ) (t : Term) (stack now : List (Cell N)) : Type 0 where
+-- a structure of this name and number of arguments beside a pattern of these: its arguments stand before the cells that are left
+pub record IsOpened {N : Type 0} (f : N → List ℕ) (h : Held N) (name : N) (count : ℕ) (t : Term) (cells now : List (Cell N)) : Type 0 where
   pub arguments : Terms
   pub counted : count_of arguments ≡ count
   pub matched : (ps : Terms) → count_of ps ≡ count → match_term (structure (f name) ps) t ≡ match_terms ps arguments
-  pub stack_is : terms_of f h (reverse now) ≡ joined arguments (terms_of f h (reverse stack))
+  pub cells_are : terms_of f h now ≡ joined arguments (terms_of f h cells)
 
--- the same of the term of a cell, however names are read, and what is on the stack then is of the store
-pub record Opens {N : Type 0} (built : BuiltIn → N) (h : Held N) (name : N) (count : ℕ) (x : Cell N) (stack now : List (Cell N)) : Type 0 where
-  pub inside : AreIn h now
-  pub opened : (f : N → List ℕ) → Reads built f → IsOpened f h name count (term_of f h x) stack now
+-- the same of the term of a cell, however names are read
+pub record Opens {N : Type 0} (built : BuiltIn → N) (h : Held N) (name : N) (count : ℕ) (x : Cell N) (cells now : List (Cell N)) : Type 0 where
+  pub opened : (f : N → List ℕ) → Reads built f → IsOpened f h name count (term_of f h x) cells now
 
--- a structure as a pattern beside a cell with this outcome, where nothing is put on the stack
-pub record Stays {N : Type 0} (built : BuiltIn → N) (h : Held N) (name : N) (count : ℕ) (x : Cell N) (stack now : List (Cell N)) (outcome : Outcome) : Type 0 where
-  pub stack_is : now ≡ stack
+-- a structure as a pattern beside a cell with this outcome, where the cells that are left stay
+pub record Stays {N : Type 0} (built : BuiltIn → N) (h : Held N) (name : N) (count : ℕ) (x : Cell N) (cells now : List (Cell N)) (outcome : Outcome) : Type 0 where
+  pub cells_are : now ≡ cells
   pub matched : (f : N → List ℕ) → Reads built f → (ps : Terms) → count_of ps ≡ count → match_term (structure (f name) ps) (term_of f h x) ≡ with_outcome outcome
 
 -- what a structure as a pattern beside a cell comes to
 abbrev pub StructureMeets : {N : Type 0} → (BuiltIn → N) → Held N → N → ℕ → Cell N → List (Cell N) → List (Cell N) → Met → Type 0
-StructureMeets built h name count x stack now Agrees = Opens built h name count x stack now
-StructureMeets built h name count x stack now (Waits v) = Stays built h name count x stack now (waits (v ∷ []))
-StructureMeets built h name count x stack now Clashes = Stays built h name count x stack now clashes
+StructureMeets built h name count x cells now Agrees = Opens built h name count x cells now
+StructureMeets built h name count x cells now (Waits v) = Stays built h name count x cells now (waits (v ∷ []))
+StructureMeets built h name count x cells now Clashes = Stays built h name count x cells now clashes
 
 -- a pattern begins with a node
 pub record Begins (c : NodeCode) (p : Term) : Type 0 where
   pub behind : List NodeCode
   pub nodes : nodes_of p ≡ c ∷ behind
 
--- a pattern agrees with a term if its arguments do, which stand beside those that are put on the stack
-pub record GoesInto {N : Type 0} (f : N → List ℕ) (h : Held N) (c : NodeCode) (p t : Term) (stack now : List (Cell N)) (places longer : List (Place N)) : Type 0 where
+-- a pattern agrees with a term if its arguments do, which stand beside those that are put before the cells that are left
+pub record GoesInto {N : Type 0} (f : N → List ℕ) (h : Held N) (c : NodeCode) (p t : Term) (cells now : List (Cell N)) (places longer : List (Place N)) : Type 0 where
   pub inner : Terms
   pub arguments : Terms
   pub taken : List Replacement
   pub nodes : nodes_of p ≡ c ∷ nodes_of_all inner
   pub counted : count_of inner ≡ count_of arguments
   pub matched : match_term p t ≡ match_both (record { outcome = agrees; places = taken }) (match_terms inner arguments)
-  pub stack_is : terms_of f h (reverse now) ≡ joined arguments (terms_of f h (reverse stack))
+  pub cells_are : terms_of f h now ≡ joined arguments (terms_of f h cells)
   pub places_are : replacements_of f h longer ≡ replacements_of f h places ++ taken
 
--- the same of an instruction's pattern and the term of a cell, however names are read, and what is kept then is of the store
-pub record Continues {N : Type 0} (built : BuiltIn → N) (h : Held N) (names : List N) (i : Instruction) (x : Cell N) (stack now : List (Cell N)) (places longer : List (Place N)) : Type 0 where
-  pub stack_in : AreIn h now
+-- the same of an instruction's pattern and the term of a cell, however names are read, and the places are of the store
+pub record Continues {N : Type 0} (built : BuiltIn → N) (h : Held N) (names : List N) (i : Instruction) (x : Cell N) (cells now : List (Cell N)) (places longer : List (Place N)) : Type 0 where
   pub places_in : AreThere h longer
-  pub goes_into : (f : N → List ℕ) → Reads built f → (p : Term) → Begins (code_in (map f names) i) p → GoesInto f h (code_in (map f names) i) p (term_of f h x) stack now places longer
+  pub goes_into : (f : N → List ℕ) → Reads built f → (p : Term) → Begins (code_in (map f names) i) p → GoesInto f h (code_in (map f names) i) p (term_of f h x) cells now places longer
 
 -- a pattern has this outcome beside a cell, and nothing is put anywhere
-pub record Decides {N : Type 0} (built : BuiltIn → N) (h : Held N) (names : List N) (i : Instruction) (x : Cell N) (stack now : List (Cell N)) (places longer : List (Place N)) (outcome : Outcome) : Type 0 where
-  pub stack_is : now ≡ stack
+pub record Decides {N : Type 0} (built : BuiltIn → N) (h : Held N) (names : List N) (i : Instruction) (x : Cell N) (cells now : List (Cell N)) (places longer : List (Place N)) (outcome : Outcome) : Type 0 where
+  pub cells_are : now ≡ cells
   pub places_are : longer ≡ places
   pub matched : (f : N → List ℕ) → Reads built f → (p : Term) → Begins (code_in (map f names) i) p → match_term p (term_of f h x) ≡ with_outcome outcome
 
 -- what a pattern that begins with an instruction comes to beside a cell
 abbrev pub MeetsAs : {N : Type 0} → (BuiltIn → N) → Held N → List N → Instruction → Cell N → List (Cell N) → List (Cell N) → List (Place N) → List (Place N) → Met → Type 0
-MeetsAs built h names i x stack now places longer Agrees = Continues built h names i x stack now places longer
-MeetsAs built h names i x stack now places longer (Waits v) = Decides built h names i x stack now places longer (waits (v ∷ []))
-MeetsAs built h names i x stack now places longer Clashes = Decides built h names i x stack now places longer clashes
+MeetsAs built h names i x cells now places longer Agrees = Continues built h names i x cells now places longer
+MeetsAs built h names i x cells now places longer (Waits v) = Decides built h names i x cells now places longer (waits (v ∷ []))
+MeetsAs built h names i x cells now places longer Clashes = Decides built h names i x cells now places longer clashes
+
+-- places, and the one that a pattern's variable takes
+abbrev pub with_place : {N : Type 0} → List (Place N) → Instruction → Cell N → List (Place N)
+with_place places (Variable v) x = places ++ record { variable = v; cell = x } ∷ []
+with_place places (Integer i) x = places
+with_place places (Atom a) x = places
+with_place places (Structure a n) x = places
+
+-- a pattern that begins with an instruction is met by the first of cells; its place is kept where places are
+pub record MeetsFirst {N : Type 0} (built : BuiltIn → N) (h : Held N) (names : List N) (i : Instruction) (keeps : Bool) (cells now : List (Cell N)) (places longer : List (Place N)) (met : Met) : Type 0 where
+  pub first : Cell N
+  pub rest : List (Cell N)
+  pub cells_are : cells ≡ first ∷ rest
+  pub kept : keeps ≡ true → longer ≡ with_place places i first
+  pub meets : (ps : List (Place N)) → AreThere h ps → MeetsAs built h names i first rest now ps (with_place ps i first) met
+
+-- a fact of places, which are these where places are kept
+pub record Keeps {N : Type 0} (keeps : Bool) (places : List (Place N)) (Fact : List (Place N) → Type 0) : Type 0 where
+  pub taken : List (Place N)
+  pub kept : keeps ≡ true → places ≡ taken
+  pub holds : Fact taken

@@ -1,51 +1,84 @@
-// The arguments of a goal on a stack.
+// The cells that are still to be matched, in order: what is left of the arguments of structures within one another.
 
-ghost use Rattle.std.specs.Prelude.{◌≡◌, ℕ, ◌<◌, List, ◌++◌, [], reverse, length, OnOk};
-ghost use Rattle.kl1_store.specs.Held.{arguments_of, IsIn, AreIn};
+ghost use Rattle.std.specs.Prelude.{◌≡◌, ◌<◌, ℕ, List, [], ◌∷◌, ◌≤◌, IsTrue, false, vec_len, vec_capacity};
+ghost use Rattle.kl1_store.specs.Held.{IsIn};
 ghost use Rattle.kl1_store.specs.Meaning.{term_of, terms_of};
 ghost use Rattle.kl1_match.specs.Verdicts.{arguments_of_goal};
+ghost use Rattle.kl1_match.specs.Spans.{span_cells, cells_left, IsSpan, AreSpans};
 
-use crate::building::put_cell;
+use crate::span::Span;
 use kl1_store::{Cell, Store};
 use kl1_text::NameValue;
-use std::alloc::AllocError;
 
-/// Puts the arguments of a structure on a stack, the first on top.
-pub(crate) fn push_arguments<N: NameValue>(
-    store: &Store<N>,
-    structure: u32,
-    stack: &mut Vec<Cell<N>>,
-) -> Result<(), AllocError>
-    requires structure { structure < length store.now.held.structures }
-    requires stack { AreIn store.now.held stack.old.items }
-    ensures stack { OnOk result (stack.new.items ≡ stack.old.items ++ reverse (arguments_of store.now.held structure)) }
-    ensures inside { OnOk result (AreIn store.now.held stack.new.items) }
-{
-    let _ = store.mark();
-    let mut left = store.look(structure).count;
-    while left > 0 {
-        left -= 1;
-        put_cell(stack, store.argument(structure, left))?;
-    }
-    Ok(())
-}
-
-/// Puts the arguments of a goal on an empty stack, the first on top.
-pub(crate) fn put_arguments<N: NameValue>(
-    store: &Store<N>,
-    goal: Cell<N>,
-    stack: &mut Vec<Cell<N>>,
-) -> Result<(), AllocError>
-    requires goal { IsIn store.now.held goal }
-    requires empty { stack.old.items ≡ [] }
-    ensures inside { OnOk result (AreIn store.now.held stack.new.items) }
-    ensures means { OnOk result ((f : N → List ℕ) → terms_of f store.now.held (reverse stack.new.items) ≡ arguments_of_goal (term_of f store.now.held goal)) }
+/// The arguments of a goal; one that is no structure has none.
+#[inline]
+pub(crate) fn span_of<N: NameValue>(store: &Store<N>, goal: Cell<N>) -> Span
+    requires { IsIn store.now.held goal }
+    ensures within { IsSpan store.now.held result }
+    ensures means { (f : N → List ℕ) → terms_of f store.now.held (span_cells store.now.held result) ≡ arguments_of_goal (term_of f store.now.held goal) }
 {
     let _ = store.mark();
     match store.walk(goal) {
-        Cell::Variable(_) => Ok(()),
-        Cell::Integer(_) => Ok(()),
-        Cell::Atom(_) => Ok(()),
-        Cell::Structure(structure) => push_arguments(store, structure, stack),
+        Cell::Variable(_) => Span {
+            structure: 0,
+            next: 0,
+            end: 0,
+        },
+        Cell::Integer(_) => Span {
+            structure: 0,
+            next: 0,
+            end: 0,
+        },
+        Cell::Atom(_) => Span {
+            structure: 0,
+            next: 0,
+            end: 0,
+        },
+        Cell::Structure(structure) => Span {
+            structure,
+            next: 0,
+            end: store.look(structure).count,
+        },
     }
+}
+
+/// Whether a cell is left; where one is, it is the next of `span` then.
+#[inline]
+pub(crate) fn is_left<N: NameValue>(
+    store: &Store<N>,
+    span: &mut Span,
+    behind: &mut Vec<Span>,
+) -> bool
+    requires span { IsSpan store.now.held span.old }
+    requires behind { AreSpans store.now.held behind.old.items }
+    ensures span { IsSpan store.now.held span.new }
+    ensures behind { AreSpans store.now.held behind.new.items }
+    ensures same { cells_left store.now.held span.new behind.new.items ≡ cells_left store.now.held span.old behind.old.items }
+    ensures some { IsTrue result → span.new.next < span.new.end }
+    ensures capacity { vec_capacity behind.new ≡ vec_capacity behind.old }
+    ensures len { vec_len behind.new ≤ vec_len behind.old }
+    ensures none { result ≡ false → cells_left store.now.held span.new behind.new.items ≡ [] }
+{
+    while span.next >= span.end {
+        let Some(outer) = behind.pop() else {
+            return false;
+        };
+        *span = outer;
+    }
+    true
+}
+
+/// Takes the next cell of a span.
+#[inline]
+pub(crate) fn take_cell<N: NameValue>(store: &Store<N>, span: &mut Span) -> Cell<N>
+    requires span { IsSpan store.now.held span.old }
+    requires some { span.old.next < span.old.end }
+    ensures span { IsSpan store.now.held span.new }
+    ensures cells { span_cells store.now.held span.old ≡ result ∷ span_cells store.now.held span.new }
+    ensures inside { IsIn store.now.held result }
+{
+    let _ = store.mark();
+    let index = span.next;
+    span.next = index + 1;
+    store.argument(span.structure, index)
 }

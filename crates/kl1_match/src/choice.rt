@@ -35,13 +35,13 @@ pub fn choose<N: NameValue>(
     requires goal { IsIn store.now.held goal }
     ensures { IfOk result (IsChoice N.built names.now clauses.now store.now.held goal awaited.old.items awaited.new.items) }
 {
-    let stack = &mut scratch.stack;
+    let behind = &mut scratch.spans;
     let places = &mut scratch.places;
     let mut waits = false;
     let mut tried: usize = 0;
     while tried < clauses.len() {
         let clause = nth(clauses, tried);
-        match judge(store, names, clause, goal, stack, places, awaited)? {
+        match judge(store, names, clause, goal, false, behind, places, awaited)? {
             Verdict::Accepts => return Ok(Some(tried as u64 + 1)),
             Verdict::Rejects => tried += 1,
             Verdict::Suspends => {

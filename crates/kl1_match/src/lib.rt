@@ -13,6 +13,7 @@ mod name_in;
 mod place;
 mod scratch;
 mod skips;
+mod span;
 mod step;
 mod variables;
 mod verdict;

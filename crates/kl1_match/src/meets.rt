@@ -1,20 +1,21 @@
 // A pattern beside a term, one kind of instruction after another.
 
-ghost use Rattle.std.specs.Prelude.{◌≡◌, ℕ, List, length, IfOk};
-ghost use Rattle.kl1_store.specs.Held.{IsIn, AreIn, IsWalked};
+ghost use Rattle.std.specs.Prelude.{◌≡◌, ◌<◌, ◌≤◌, ◌+◌, ℕ, List, length, IsTrue, vec_len, vec_capacity};
+ghost use Rattle.kl1_store.specs.Held.{IsIn, IsWalked};
 ghost use Rattle.kl1_clause.specs.Instructions.{IsNamed};
-ghost use Rattle.kl1_match.specs.Instances.{AreThere};
-ghost use Rattle.kl1_match.specs.Matching.{WaitsAt, MetUnbound, IntegerMeets, AtomMeets, StructureMeets, MeetsAs};
+ghost use Rattle.kl1_match.specs.Spans.{cells_left, IsSpan, AreSpans};
+ghost use Rattle.kl1_match.specs.Matching.{WaitsAt, MetUnbound, IntegerMeets, AtomMeets, StructureMeets, MeetsFirst};
 
-use crate::arguments::push_arguments;
+use crate::arguments::take_cell;
 use crate::met::Met;
 use crate::name_in::name_at;
 use crate::place::Place;
+use crate::span::Span;
 use kl1_clause::Instruction;
 use kl1_store::{Cell, Store};
 use kl1_text::NameValue;
-use std::alloc::AllocError;
 
+#[inline]
 fn meet_integer<N: NameValue>(store: &Store<N>, integer: i64, cell: Cell<N>) -> Met
     requires cell { IsIn store.now.held cell }
     requires walked { IsWalked store.now.held cell }
@@ -35,6 +36,7 @@ fn meet_integer<N: NameValue>(store: &Store<N>, integer: i64, cell: Cell<N>) -> 
     }
 }
 
+#[inline]
 fn meet_atom<N: NameValue>(store: &Store<N>, name: N, cell: Cell<N>) -> Met
     requires cell { IsIn store.now.held cell }
     requires walked { IsWalked store.now.held cell }
@@ -55,68 +57,101 @@ fn meet_atom<N: NameValue>(store: &Store<N>, name: N, cell: Cell<N>) -> Met
     }
 }
 
+#[inline]
 fn meet_structure<N: NameValue>(
     store: &Store<N>,
     name: N,
     count: usize,
     cell: Cell<N>,
-    stack: &mut Vec<Cell<N>>,
-) -> Result<Met, AllocError>
+    span: &mut Span,
+    behind: &mut Vec<Span>,
+) -> Met
     requires cell { IsIn store.now.held cell }
     requires walked { IsWalked store.now.held cell }
-    requires stack { AreIn store.now.held stack.old.items }
-    ensures meets { IfOk result (StructureMeets N.built store.now.held name count cell stack.old.items stack.new.items) }
-    ensures waits { IfOk result (WaitsAt cell) }
+    requires span { IsSpan store.now.held span.old }
+    requires behind { AreSpans store.now.held behind.old.items }
+    requires room { vec_len behind.old < vec_capacity behind.old }
+    ensures meets { StructureMeets N.built store.now.held name count cell (cells_left store.now.held span.old behind.old.items) (cells_left store.now.held span.new behind.new.items) result }
+    ensures span { IsSpan store.now.held span.new }
+    ensures behind { AreSpans store.now.held behind.new.items }
+    ensures behind_capacity { vec_capacity behind.new ≡ vec_capacity behind.old }
+    ensures behind_len { vec_len behind.new ≤ vec_len behind.old + 1 }
+    ensures waits { WaitsAt cell result }
 {
     let _ = store.mark();
     match cell {
-        Cell::Variable(variable) => Ok(Met::Waits(variable)),
-        Cell::Integer(_) => Ok(Met::Clashes),
-        Cell::Atom(_) => Ok(Met::Clashes),
+        Cell::Variable(variable) => Met::Waits(variable),
+        Cell::Integer(_) => Met::Clashes,
+        Cell::Atom(_) => Met::Clashes,
         Cell::Structure(structure) => {
             let head = store.look(structure);
             if head.count as usize != count {
-                return Ok(Met::Clashes);
+                return Met::Clashes;
             }
             if !name.same(&head.name) {
-                return Ok(Met::Clashes);
+                return Met::Clashes;
             }
-            push_arguments(store, structure, stack)?;
-            Ok(Met::Agrees)
+            behind.push_reserved(*span);
+            *span = Span {
+                structure,
+                next: 0,
+                end: head.count,
+            };
+            Met::Agrees
         }
     }
 }
 
-/// What comes of a pattern that begins with an instruction beside a term: the arguments of a structure that may agree are
-/// put on the stack, and a variable of the pattern takes the term as its place.
+/// What comes of a pattern that begins with an instruction beside the next cell of `span`, which is taken. Where they may agree,
+/// a structure's arguments are to be matched next, before what was left, and a variable of the pattern takes the cell as its
+/// place. There is room behind, and where places are kept in these.
+#[inline]
 pub(crate) fn meet<N: NameValue>(
     store: &Store<N>,
     names: &[N],
     instruction: Instruction,
-    cell: Cell<N>,
-    stack: &mut Vec<Cell<N>>,
+    keep: bool,
+    span: &mut Span,
+    behind: &mut Vec<Span>,
     places: &mut Vec<Place<N>>,
-) -> Result<Met, AllocError>
+) -> Met
     requires named { IsNamed (length names.now) instruction }
-    requires cell { IsIn store.now.held cell }
-    requires stack { AreIn store.now.held stack.old.items }
-    requires places { AreThere store.now.held places.old.items }
-    ensures meets { IfOk result (MeetsAs N.built store.now.held names.now instruction cell stack.old.items stack.new.items places.old.items places.new.items) }
-    ensures unbound { IfOk result (MetUnbound store.now.held) }
+    requires span { IsSpan store.now.held span.old }
+    requires some { span.old.next < span.old.end }
+    requires behind { AreSpans store.now.held behind.old.items }
+    requires behind_room { vec_len behind.old < vec_capacity behind.old }
+    requires room { IsTrue keep → vec_len places.old < vec_capacity places.old }
+    ensures meets { MeetsFirst N.built store.now.held names.now instruction keep (cells_left store.now.held span.old behind.old.items) (cells_left store.now.held span.new behind.new.items) places.old.items places.new.items result }
+    ensures span { IsSpan store.now.held span.new }
+    ensures behind { AreSpans store.now.held behind.new.items }
+    ensures unbound { MetUnbound store.now.held result }
+    ensures behind_capacity { vec_capacity behind.new ≡ vec_capacity behind.old }
+    ensures behind_len { vec_len behind.new ≤ vec_len behind.old + 1 }
+    ensures capacity { vec_capacity places.new ≡ vec_capacity places.old }
+    ensures len { vec_len places.new ≤ vec_len places.old + 1 }
 {
     match instruction {
         Instruction::Variable(variable) => {
-            places.push(Place { variable, cell })?;
-            Ok(Met::Agrees)
+            let cell = take_cell(store, span);
+            if keep {
+                places.push_reserved(Place { variable, cell });
+                return Met::Agrees;
+            }
+            Met::Agrees
         }
-        Instruction::Integer(integer) => Ok(meet_integer(store, integer, store.walk(cell))),
+        Instruction::Integer(integer) => {
+            let cell = take_cell(store, span);
+            meet_integer(store, integer, store.walk(cell))
+        }
         Instruction::Atom(name) => {
             let name = name_at(names, name);
-            Ok(meet_atom(store, name, store.walk(cell)))
+            let cell = take_cell(store, span);
+            meet_atom(store, name, store.walk(cell))
         }
         Instruction::Structure(name, count) => {
             let name = name_at(names, name);
-            meet_structure(store, name, count, store.walk(cell), stack)
+            let cell = take_cell(store, span);
+            meet_structure(store, name, count, store.walk(cell), span, behind)
         }
     }
 }

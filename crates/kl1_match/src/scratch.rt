@@ -1,6 +1,7 @@
 // What the calls of this crate work with.
 
 use crate::place::Place;
+use crate::span::Span;
 use kl1_store::Cell;
 use kl1_text::NameValue;
 use std::alloc::Global;
@@ -10,6 +11,7 @@ use std::alloc::Global;
 #[derive(Drop)]
 pub struct Scratch<N: NameValue> {
     pub(crate) stack: Vec<Cell<N>>,
+    pub(crate) spans: Vec<Span>,
     pub(crate) places: Vec<Place<N>>,
     pub(crate) variables: Vec<Cell<N>>,
 }
@@ -19,6 +21,7 @@ impl<N: NameValue> Scratch<N> {
     pub fn new(alloc: Global) -> Self {
         Scratch {
             stack: Vec::new(alloc),
+            spans: Vec::new(alloc),
             places: Vec::new(alloc),
             variables: Vec::new(alloc),
         }

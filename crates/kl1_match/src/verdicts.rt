@@ -1,16 +1,18 @@
 // The verdict of a clause on a goal.
 
-ghost use Rattle.std.specs.Prelude.{◌≡◌, IfOk};
+ghost use Rattle.std.specs.Prelude.{◌≡◌, ◌≤◌, [], IfOk, OnOk, IsTrue, vec_capacity};
 ghost use Rattle.kl1_store.specs.Held.{IsIn};
 ghost use Rattle.kl1_match.specs.Instances.{IsClause};
+ghost use Rattle.kl1_match.specs.Matching.{Keeps};
 ghost use Rattle.kl1_match.specs.Verdicts.{IsVerdict, IsTried};
 
-use crate::arguments::put_arguments;
+use crate::arguments::{is_left, span_of};
 use crate::meets::meet;
 use crate::met::Met;
 use crate::place::Place;
 use crate::scratch::Scratch;
 use crate::skips::behind_term;
+use crate::span::Span;
 use crate::verdict::Verdict;
 use kl1_clause::CompiledClause;
 use kl1_store::{Cell, Store};
@@ -39,28 +41,30 @@ pub fn verdict_on<N: NameValue>(
         names,
         clause,
         goal,
-        &mut scratch.stack,
+        true,
+        &mut scratch.spans,
         places,
         awaited,
     )
 }
 
-/// The same, over a stack in place of scratch.
+/// The same, over a list of spans in place of scratch; where `keep` is false, nothing is put in `places`.
 pub(crate) fn judge<N: NameValue>(
     store: &Store<N>,
     names: &[N],
     clause: &CompiledClause,
     goal: Cell<N>,
-    stack: &mut Vec<Cell<N>>,
+    keep: bool,
+    behind: &mut Vec<Span>,
     places: &mut Vec<Place<N>>,
     awaited: &mut Vec<u32>,
 ) -> Result<Verdict, AllocError>
     requires clause { IsClause names.now clause.now }
     requires goal { IsIn store.now.held goal }
-    ensures { IfOk result (IsVerdict N.built names.now clause.now store.now.held goal places.new.items awaited.old.items awaited.new.items) }
+    ensures { IfOk result (λ v. Keeps keep places.new.items (λ ps. IsVerdict N.built names.now clause.now store.now.held goal ps awaited.old.items awaited.new.items v)) }
 {
     let before = awaited.len();
-    match find_verdict(store, names, clause, goal, stack, places, awaited)? {
+    match find_verdict(store, names, clause, goal, keep, behind, places, awaited)? {
         Verdict::Accepts => Ok(Verdict::Accepts),
         Verdict::Suspends => Ok(Verdict::Suspends),
         Verdict::Rejects => {
@@ -70,31 +74,50 @@ pub(crate) fn judge<N: NameValue>(
     }
 }
 
+/// Empties places, and makes room for so many where they are kept.
+#[inline]
+fn clear_places<N: NameValue>(
+    keep: bool,
+    places: &mut Vec<Place<N>>,
+    count: usize,
+) -> Result<(), AllocError>
+    ensures empty { places.new.items ≡ [] }
+    ensures room { OnOk result (IsTrue keep → count ≤ vec_capacity places.new) }
+{
+    places.clear();
+    if keep {
+        return places.reserve(count);
+    }
+    Ok(())
+}
+
 /// The verdict of a clause on a goal. `awaited` gets the variables that its patterns wait for, also where a later one clashes.
 fn find_verdict<N: NameValue>(
     store: &Store<N>,
     names: &[N],
     clause: &CompiledClause,
     goal: Cell<N>,
-    stack: &mut Vec<Cell<N>>,
+    keep: bool,
+    behind: &mut Vec<Span>,
     places: &mut Vec<Place<N>>,
     awaited: &mut Vec<u32>,
 ) -> Result<Verdict, AllocError>
     requires clause { IsClause names.now clause.now }
     requires goal { IsIn store.now.held goal }
-    ensures { IfOk result (IsTried N.built names.now clause.now store.now.held goal places.new.items awaited.old.items awaited.new.items) }
+    ensures { IfOk result (λ v. Keeps keep places.new.items (λ ps. IsTried N.built names.now clause.now store.now.held goal ps awaited.old.items awaited.new.items v)) }
 {
-    stack.clear();
-    places.clear();
     let before = awaited.len();
-    put_arguments(store, goal, stack)?;
     let row = clause.patterns.as_slice();
+    clear_places(keep, places, row.len())?;
+    behind.clear();
+    behind.reserve(row.len())?;
+    let mut span = span_of(store, goal);
     let mut at: usize = 0;
     while at < row.len() {
-        let Some(cell) = stack.pop() else {
+        if !is_left(store, &mut span, behind) {
             return Ok(Verdict::Rejects);
-        };
-        match meet(store, names, row[at], cell, stack, places)? {
+        }
+        match meet(store, names, row[at], keep, &mut span, behind, places) {
             Met::Agrees => at += 1,
             Met::Waits(variable) => {
                 awaited.push(variable)?;
@@ -103,7 +126,7 @@ fn find_verdict<N: NameValue>(
             Met::Clashes => return Ok(Verdict::Rejects),
         }
     }
-    if !stack.is_empty() {
+    if is_left(store, &mut span, behind) {
         return Ok(Verdict::Rejects);
     }
     if awaited.len() == before {

@@ -16,26 +16,26 @@ judge-requires-clause-clause g c =
 pub returns-in-Accepts : goal.returns-in-Accepts
 returns-in-Accepts g c =
     let x = c.nth-clause.result.now in
-    let P : CompiledClause → Type 0 = λ k. IsVerdict g.N.NameValue.built c.args.names.now k c.args.store.now.held c.args.goal c.judge.new.places.items c.loop-tried.awaited.items c.judge.new.awaited.items c.in_ok-judge.field-0 in
-    let Q : Verdict → Type 0 = λ v. IsVerdict g.N.NameValue.built c.args.names.now (get_or c.args.clauses.now c.loop-tried.tried x) c.args.store.now.held c.args.goal c.judge.new.places.items c.loop-tried.awaited.items c.judge.new.awaited.items v in
-    accepted_there g.N.NameValue.built c.args.names.now c.args.clauses.now c.args.store.now.held c.args.goal c.args.awaited.now.items c.loop-tried.awaited.items c.judge.new.awaited.items c.loop-tried.tried c.loop-tried.waits x c.judge.new.places.items
-    c.loop-tried-test.true c.loop-tried.invariant (subst Q c.in-Accepts.is (subst P c.nth-clause.ensures c.in_ok-judge.ensures))
+    let P : CompiledClause → Type 0 = λ k. IsVerdict g.N.NameValue.built c.args.names.now k c.args.store.now.held c.args.goal c.in_ok-judge.ensures.taken c.loop-tried.awaited.items c.judge.new.awaited.items c.in_ok-judge.field-0 in
+    let Q : Verdict → Type 0 = λ v. IsVerdict g.N.NameValue.built c.args.names.now (get_or c.args.clauses.now c.loop-tried.tried x) c.args.store.now.held c.args.goal c.in_ok-judge.ensures.taken c.loop-tried.awaited.items c.judge.new.awaited.items v in
+    accepted_there g.N.NameValue.built c.args.names.now c.args.clauses.now c.args.store.now.held c.args.goal c.args.awaited.now.items c.loop-tried.awaited.items c.judge.new.awaited.items c.loop-tried.tried c.loop-tried.waits x c.in_ok-judge.ensures.taken
+    c.loop-tried-test.true c.loop-tried.invariant (subst Q c.in-Accepts.is (subst P c.nth-clause.ensures c.in_ok-judge.ensures.holds))
 
 pub loop-tried-preserved-in-Rejects : goal.loop-tried-preserved-in-Rejects
 loop-tried-preserved-in-Rejects g c =
     let x = c.nth-clause.result.now in
-    let P : CompiledClause → Type 0 = λ k. IsVerdict g.N.NameValue.built c.args.names.now k c.args.store.now.held c.args.goal c.judge.new.places.items c.loop-tried.awaited.items c.judge.new.awaited.items c.in_ok-judge.field-0 in
-    let Q : Verdict → Type 0 = λ v. IsVerdict g.N.NameValue.built c.args.names.now (get_or c.args.clauses.now c.loop-tried.tried x) c.args.store.now.held c.args.goal c.judge.new.places.items c.loop-tried.awaited.items c.judge.new.awaited.items v in
-    rejected_there g.N.NameValue.built c.args.names.now c.args.clauses.now c.args.store.now.held c.args.goal c.args.awaited.now.items c.loop-tried.awaited.items c.judge.new.awaited.items c.loop-tried.tried c.loop-tried.waits x c.judge.new.places.items
-    c.loop-tried-test.true c.loop-tried.invariant (subst Q c.in-Rejects.is (subst P c.nth-clause.ensures c.in_ok-judge.ensures))
+    let P : CompiledClause → Type 0 = λ k. IsVerdict g.N.NameValue.built c.args.names.now k c.args.store.now.held c.args.goal c.in_ok-judge.ensures.taken c.loop-tried.awaited.items c.judge.new.awaited.items c.in_ok-judge.field-0 in
+    let Q : Verdict → Type 0 = λ v. IsVerdict g.N.NameValue.built c.args.names.now (get_or c.args.clauses.now c.loop-tried.tried x) c.args.store.now.held c.args.goal c.in_ok-judge.ensures.taken c.loop-tried.awaited.items c.judge.new.awaited.items v in
+    rejected_there g.N.NameValue.built c.args.names.now c.args.clauses.now c.args.store.now.held c.args.goal c.args.awaited.now.items c.loop-tried.awaited.items c.judge.new.awaited.items c.loop-tried.tried c.loop-tried.waits x c.in_ok-judge.ensures.taken
+    c.loop-tried-test.true c.loop-tried.invariant (subst Q c.in-Rejects.is (subst P c.nth-clause.ensures c.in_ok-judge.ensures.holds))
 
 pub loop-tried-preserved : goal.loop-tried-preserved
 loop-tried-preserved g c =
     let x = c.nth-clause.result.now in
-    let P : CompiledClause → Type 0 = λ k. IsVerdict g.N.NameValue.built c.args.names.now k c.args.store.now.held c.args.goal c.judge.new.places.items c.loop-tried.awaited.items c.judge.new.awaited.items c.in_ok-judge.field-0 in
-    let Q : Verdict → Type 0 = λ v. IsVerdict g.N.NameValue.built c.args.names.now (get_or c.args.clauses.now c.loop-tried.tried x) c.args.store.now.held c.args.goal c.judge.new.places.items c.loop-tried.awaited.items c.judge.new.awaited.items v in
-    suspended_there g.N.NameValue.built c.args.names.now c.args.clauses.now c.args.store.now.held c.args.goal c.args.awaited.now.items c.loop-tried.awaited.items c.judge.new.awaited.items c.loop-tried.tried c.loop-tried.waits x c.judge.new.places.items
-    c.loop-tried-test.true c.loop-tried.invariant (subst Q c.in-Suspends.is (subst P c.nth-clause.ensures c.in_ok-judge.ensures))
+    let P : CompiledClause → Type 0 = λ k. IsVerdict g.N.NameValue.built c.args.names.now k c.args.store.now.held c.args.goal c.in_ok-judge.ensures.taken c.loop-tried.awaited.items c.judge.new.awaited.items c.in_ok-judge.field-0 in
+    let Q : Verdict → Type 0 = λ v. IsVerdict g.N.NameValue.built c.args.names.now (get_or c.args.clauses.now c.loop-tried.tried x) c.args.store.now.held c.args.goal c.in_ok-judge.ensures.taken c.loop-tried.awaited.items c.judge.new.awaited.items v in
+    suspended_there g.N.NameValue.built c.args.names.now c.args.clauses.now c.args.store.now.held c.args.goal c.args.awaited.now.items c.loop-tried.awaited.items c.judge.new.awaited.items c.loop-tried.tried c.loop-tried.waits x c.in_ok-judge.ensures.taken
+    c.loop-tried-test.true c.loop-tried.invariant (subst Q c.in-Suspends.is (subst P c.nth-clause.ensures c.in_ok-judge.ensures.holds))
 
 pub returns-then-waits : goal.returns-then-waits
 returns-then-waits g c =
