@@ -11,7 +11,7 @@ use Rattle.kl1_clause.specs.Predicates.{from_first, front_run, AreSome}
 use Rattle.kl1_clause.proofs.Together.{together, run_is_all}
 use Rattle.kl1_modules.specs.declared.span.Span.{Span}
 use Rattle.kl1_modules.specs.Spans.{IsSpan, SpanIs}
-use Rattle.kl1_modules.specs.Indexes.{key_by, span_at, IsIndexed}
+use Rattle.kl1_modules.specs.Indexes.{Rows, key_by, span_at, IsIndexed}
 use Rattle.kl1_modules.specs.Numbered.{Numbered, built, own_names}
 
 front : (names : List (List ℕ)) (cs : List CompiledClause) (ds : List Clause) (n : ℕ) → AreCompiled names cs ds → AreCompiled names (take n cs) (take n ds)
@@ -41,16 +41,16 @@ pub there : (source : List ℕ) (m : Module) (name : List ℕ) (count : ℕ) (s 
 there source m name count s meant is =
     sym is.run ∙ ap (front_run (is_of name count)) (sym is.first) ∙ run_is_all (is_of name count) m.clauses (together source m name count meant)
 
--- what an index doesn't have is no predicate
-pub missed : {S : Type 0} (source : List ℕ) (l : Numbered) (index : _) (name : CellName) (count : ℕ) (f : CellName → List ℕ) → IsMeant source l.content → IsIndexed {S = S} l.content l.row index → span_at index (key_by name count) ≡ None → Reads built f → map f l.row ≡ own_names l.content →
+-- what the rows don't have is no predicate
+pub missed : (source : List ℕ) (l : Numbered) (rows : Rows) (capacity : ℕ) (name : CellName) (count : ℕ) (f : CellName → List ℕ) → IsMeant source l.content → IsIndexed l.content l.row rows capacity → span_at rows (key_by name count) ≡ None → Reads built f → map f l.row ≡ own_names l.content →
     filter (is_of (f name) count) l.content.clauses ≡ []
-missed source l index name count f meant i e r m =
+missed source l rows capacity name count f meant i e r m =
     not_there source l.content (f name) count meant (subst (SpanIs (is_of (f name) count) l.content.clauses 0) e (i.spans.spans f r m name count))
 
--- and the span that it has is that of the predicate's clauses
-pub found : {S : Type 0} (source : List ℕ) (l : Numbered) (index : _) (cs : List CompiledClause) (name : CellName) (count : ℕ) (s : Span) (f : CellName → List ℕ) → IsMeant source l.content → IsIndexed {S = S} l.content l.row index → span_at index (key_by name count) ≡ Some s → AreCompiled (own_names l.content) cs l.content.clauses → Reads built f → map f l.row ≡ own_names l.content →
+-- and the span that they have is that of the predicate's clauses
+pub found : (source : List ℕ) (l : Numbered) (rows : Rows) (capacity : ℕ) (cs : List CompiledClause) (name : CellName) (count : ℕ) (s : Span) (f : CellName → List ℕ) → IsMeant source l.content → IsIndexed l.content l.row rows capacity → span_at rows (key_by name count) ≡ Some s → AreCompiled (own_names l.content) cs l.content.clauses → Reads built f → map f l.row ≡ own_names l.content →
     AreCompiled (map f l.row) (take (s.end - s.start) (drop s.start cs)) (filter (is_of (f name) count) l.content.clauses)
-found source l index cs name count s f meant i e a r m =
+found source l rows capacity cs name count s f meant i e a r m =
     let is : IsSpan (is_of (f name) count) l.content.clauses 0 s = subst (SpanIs (is_of (f name) count) l.content.clauses 0) e (i.spans.spans f r m name count) in
     let P : List (List ℕ) → Type 0 = λ names. AreCompiled names (take (s.end - s.start) (drop s.start cs)) (filter (is_of (f name) count) l.content.clauses) in
     let Q : List Clause → Type 0 = λ ds. AreCompiled (own_names l.content) (take (s.end - s.start) (drop s.start cs)) ds in

@@ -1,19 +1,17 @@
--- An index that gets the span of one clause more, the one before.
+-- Rows that get the span of one clause more, the one before.
 use Rattle.std.proofs.Common.{◌≡◌, ℕ, zero, suc, ◌+◌, ◌<◌, ◌≤◌, cond, Bool, true, false, List, [], ◌∷◌, length, drop, get_or, refl, sym, ap, ◌∙◌, subst, arith}
-use Rattle.std.specs.Prelude.{Option, Some, None, IfSome, nat_eq}
-use Rattle.std.specs.Cmp.Lexicographic.{pointwise}
-use Rattle.std.specs.HashMap.{HashMap, Updates, IsEmpty}
-use Rattle.std.specs.Map.{lookup}
+use Rattle.std.specs.Prelude.{Option, Some, IfSome}
+use Rattle.std.specs.Ordering.{eq_by_cmp}
 use Rattle.kl1_model.specs.Module.{Clause, is_of}
 use Rattle.kl1_text.specs.declared.cell_name.CellName.{CellName}
 use Rattle.kl1_clause.specs.declared.compiled_clause.CompiledClause.{CompiledClause}
 use Rattle.kl1_clause.specs.Clauses.{IsCompiled, AreCompiled}
 use Rattle.kl1_clause.specs.Predicates.{from_first}
 use Rattle.std.proofs.lemmas.List.{drop_all}
-use Rattle.std.proofs.lemmas.Slice.Eq.{bytes_eq-Decides}
 use Rattle.kl1_modules.specs.declared.span.Span.{Span}
 use Rattle.kl1_modules.specs.Spans.{IsWithin, SpanIs}
-use Rattle.kl1_modules.specs.Indexes.{key_by, span_at, IsKeyOf, Spans}
+use Rattle.kl1_modules.specs.Indexes.{Key, Rows, key_by, key_order, span_at, IsKeyOf, HasPut, Spans}
+use Rattle.kl1_modules.proofs.Rows.{one_key, equal_is}
 use Rattle.kl1_modules.proofs.Answers.{same_key}
 use Rattle.kl1_modules.proofs.Runs.{span_from, span_within, passes, passes_not}
 
@@ -35,41 +33,33 @@ compiled_at names (c ∷ cs) [] place x a lt = absurd a
 compiled_at names (c ∷ cs) (d ∷ ds) zero x a lt = record { clause = d; at = refl; is = a.0 }
 compiled_at names (c ∷ cs) (d ∷ ds) (suc place) x a lt = let r = compiled_at names cs ds place x a.1 (omega arith) in record { clause = r.clause; at = r.at; is = r.is }
 
--- an empty index has nothing after the last clause
-pub no_spans : {S : Type 0} (row : List CellName) (names : List (List ℕ)) (cs : List Clause) (place : ℕ) (index : HashMap (List ℕ) Span S) → IsEmpty index → length cs ≤ place → Spans row names cs place index
-no_spans row names cs place index e le =
-    let none : (key : List ℕ) → None ≡ span_at index key = λ key. ap (lookup (pointwise nat_eq key)) (sym e) in
-    record {
-      within = λ key. subst (λ o. IfSome o (IsWithin (length cs))) (none key) tt;
-      spans = λ f r m name count. subst (SpanIs (is_of (f name) count) cs place) (none (key_by name count)) (ap (from_first (is_of (f name) count)) (drop_all place cs le));
-    }
+-- no rows have nothing after the last clause
+pub no_spans : (row : List CellName) (names : List (List ℕ)) (cs : List Clause) (place : ℕ) → length cs ≤ place → Spans row names cs place []
+no_spans row names cs place le = record { within = λ key. tt; spans = λ f r m name count. ap (from_first (is_of (f name) count)) (drop_all place cs le) }
 
--- what the index has, with one clause more
-pub one_more : {S : Type 0} (row : List CellName) (names : List (List ℕ)) (cs : List Clause) (place : ℕ) (compiled : CompiledClause) (key : List ℕ) (old new : HashMap (List ℕ) Span S) (s : Span) → place < length cs → IsCompiledAt names compiled cs place → IsKeyOf row compiled key →
-    s ≡ span_from place (span_at old key) → Spans row names cs (suc place) old → Updates (pointwise nat_eq) old new key (Some s) → Spans row names cs place new
-one_more row names cs place compiled key old new s lt at k is before u =
+-- what the rows have, with one clause more
+pub one_more : (row : List CellName) (names : List (List ℕ)) (cs : List Clause) (place : ℕ) (compiled : CompiledClause) (key : Key) (old new : Rows) (s : Span) → place < length cs → IsCompiledAt names compiled cs place → IsKeyOf row compiled key →
+    s ≡ span_from place (span_at old key) → Spans row names cs (suc place) old → HasPut old new key s → Spans row names cs place new
+one_more row names cs place compiled key old new s lt at k is before put =
     let next : suc place ≡ place + 1 = omega arith in
     let here : drop place cs ≡ at.clause ∷ drop (place + 1) cs = at.at ∙ ap (λ n. at.clause ∷ drop n cs) next in
     let own : IsWithin (length cs) s = subst (IsWithin (length cs)) (sym is) (span_within (length cs) place (span_at old key) (before.within key) lt) in
     record {
-      within = λ q. subst (λ o. IfSome o (IsWithin (length cs))) (sym (u.0 q)) (either (pointwise nat_eq key q) (span_at old q) own (before.within q));
+      within = λ q. subst (λ o. IfSome o (IsWithin (length cs))) (sym (put q)) (either (eq_by_cmp key_order q key) (span_at old q) own (before.within q));
       spans = λ f r m name count.
           let test = is_of (f name) count in
           let q = key_by name count in
-          let same : test at.clause ≡ pointwise nat_eq key q = same_key f r row names compiled at.clause key name count m at.is k in
+          let same : test at.clause ≡ eq_by_cmp key_order q key = same_key f r row names compiled at.clause key name count m at.is k in
           let rest : SpanIs test cs (place + 1) (span_at old q) = subst (λ n. SpanIs test cs n (span_at old q)) next (before.spans f r m name count) in
-          subst (SpanIs test cs place) (sym (u.0 q)) (turn (pointwise nat_eq key q) test q here rest same refl);
+          subst (SpanIs test cs place) (sym (put q)) (turn (eq_by_cmp key_order q key) test q here rest same refl);
     }
   where
-    key_is : (k q : List ℕ) → pointwise nat_eq k q ≡ true → k ≡ q
-    key_is k q e = (bytes_eq-Decides k q).0 e
-
     either : (b : Bool) (o : Option Span) → IsWithin (length cs) s → IfSome o (IsWithin (length cs)) → IfSome (cond b (Some s) o) (IsWithin (length cs))
     either true o w v = w
     either false o w v = v
 
-    turn : (b : Bool) (test : Clause → Bool) (q : List ℕ) → drop place cs ≡ at.clause ∷ drop (place + 1) cs → SpanIs test cs (place + 1) (span_at old q) → test at.clause ≡ b → pointwise nat_eq key q ≡ b → SpanIs test cs place (cond b (Some s) (span_at old q))
+    turn : (b : Bool) (test : Clause → Bool) (q : Key) → drop place cs ≡ at.clause ∷ drop (place + 1) cs → SpanIs test cs (place + 1) (span_at old q) → test at.clause ≡ b → eq_by_cmp key_order q key ≡ b → SpanIs test cs place (cond b (Some s) (span_at old q))
     turn true test q here rest t e =
         let P : Span → Type 0 = λ x. SpanIs test cs place (Some x) in
-        subst P (ap (λ o. span_from place o) (ap (span_at old) (sym (key_is key q e))) ∙ sym is) (passes test cs place at.clause (span_at old q) here lt (before.within q) rest t)
+        subst P (ap (λ o. span_from place o) (ap (span_at old) (one_key q key (equal_is (key_order q key) e))) ∙ sym is) (passes test cs place at.clause (span_at old q) here lt (before.within q) rest t)
     turn false test q here rest t e = passes_not test cs place at.clause (span_at old q) here rest t

@@ -5,12 +5,11 @@ ghost use Rattle.kl1_modules.specs.Numbered.{own_names, number_of};
 ghost use Rattle.kl1_clause.specs.Predicates.{AreSome};
 ghost use Rattle.kl1_modules.specs.Finding.{FindsIn};
 
-use crate::indexing::{Index, key_by, put_spans};
+use crate::indexing::{Index, key_by, put_spans, span_of};
 use crate::span::part;
 use kl1_clause::{Code, Predicate};
 use kl1_text::{CellName, NameValue};
 use std::alloc::{AllocError, Global};
-use std::collections::HashMap;
 use std::marker::Model;
 
 /// A module compiled, with the numbers of its names in an account, and where the clauses of each predicate stand. The numbers
@@ -29,11 +28,12 @@ impl Model for Loaded {
 
     ghost coded = { numbered_code };
 
+    ghost use Rattle.std.specs.Prelude.{vec_capacity};
     ghost use Rattle.kl1_modules.specs.Indexes.{IsIndexed};
 
     ghost view = { λ l. record { content = l.code; row = l.row.items } };
 
-    ghost invariant = { λ l. IsIndexed l.code l.row.items l.index };
+    ghost invariant = { λ l. IsIndexed l.code l.row.items l.index.items (vec_capacity l.index) };
 }
 
 impl Loaded {
@@ -42,8 +42,7 @@ impl Loaded {
         requires { length row.items ≡ length (own_names code) }
         ensures { IfOk result (λ loaded. loaded ≡ record { content = code; row = row.items }) }
     {
-        let mut index = HashMap::new(alloc);
-        index.reserve(code.clause_count())?;
+        let mut index = Vec::with_capacity(alloc, code.clause_count())?;
         put_spans(&mut index, &code, &row);
         Ok(Loaded { code, row, index })
     }
@@ -93,11 +92,11 @@ impl Loaded {
     {
         // The clauses of a predicate stand together in a module that is the meaning of its source.
         let _ = self.code.source();
-        match self.index.get(&key_by(name, count)) {
+        match span_of(&self.index, key_by(name, count)) {
             None => None,
             Some(span) => Some(Predicate {
                 names: &self.row,
-                clauses: part(self.code.clauses(), *span),
+                clauses: part(self.code.clauses(), span),
             }),
         }
     }

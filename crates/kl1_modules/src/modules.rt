@@ -13,6 +13,10 @@ use kl1_text::CellName;
 use std::alloc::{AllocError, Global};
 use std::marker::Model;
 
+/// How many modules are compared one by one, before the others are looked up: to compare a number with that of each of so many
+/// costs less than to look it up.
+const FEW: usize = 8;
+
 /// The modules of an account in order of loading, each found by the number of its name.
 #[derive(Drop)]
 pub struct Modules {
@@ -78,7 +82,7 @@ impl Modules {
         ensures finds { Finds self.now.loaded module_name name count result }
         ensures some { IfSome result (λ p. AreSome p.names.now p.clauses.now) }
     {
-        match self.loaded.get(&module_name.number) {
+        match loaded_under(&self.loaded, module_name.number) {
             None => None,
             Some(loaded) => loaded.find(name, count),
         }
@@ -121,6 +125,23 @@ impl Modules {
         let number = loaded.number().number;
         put_last(&mut self.loaded, number, loaded);
     }
+}
+
+/// The module under a number, or nothing where there is none.
+fn loaded_under(modules: &IndexMap<u64, Loaded>, number: u64) -> Option<&Loaded>
+    ensures { option_copied result ≡ get nat_eq modules.now number }
+{
+    for place in 0..FEW {
+        match modules.get_index(place) {
+            None => break,
+            Some((other, loaded)) => {
+                if *other == number {
+                    return Some(loaded);
+                }
+            }
+        }
+    }
+    modules.get(&number)
 }
 
 /// Puts a module under a number that none has, where there is room.

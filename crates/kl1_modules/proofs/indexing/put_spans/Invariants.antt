@@ -1,16 +1,16 @@
-use Rattle.std.proofs.Common.{◌+◌, ◌≤◌, length}
-use Rattle.std.specs.HashMap.{hash_map_len, spare}
+use Rattle.std.proofs.Common.{◌+◌, ◌≤◌, length, vec_len, vec_capacity}
 use Rattle.kl1_modules.specs.Numbered.{own_names}
-use Rattle.kl1_modules.specs.Indexes.{Spans}
+use Rattle.kl1_modules.specs.Indexes.{Spans, IsInOrder}
 use Rattle.kl1_modules.proofs.indexing.put_spans.Given as goal
 
 -- the index has the spans of the clauses from the place on, and room for those before it
 abbrev pub invariant-loop-start : goal.invariant-loop-start
 invariant-loop-start l = record {
   below : l.start ≤ length l.clauses;
-  spans : Spans l.row (own_names l.code) l.code.clauses l.start l.index;
-  used : hash_map_len l.index + l.start ≤ length l.clauses;
-  room : length l.clauses ≤ hash_map_len l.index + spare l.index;
+  order : IsInOrder l.index.items;
+  spans : Spans l.row (own_names l.code) l.code.clauses l.start l.index.items;
+  used : vec_len l.index + l.start ≤ length l.clauses;
+  room : length l.clauses ≤ vec_capacity l.index;
 }
 
 abbrev pub decreases-loop-start : goal.decreases-loop-start

@@ -1,4 +1,4 @@
-use Rattle.std.proofs.Common.{◌≡◌, ℕ, List, length, sym, ap, subst, ◌∙◌}
+use Rattle.std.proofs.Common.{◌≡◌, ℕ, List, length, vec_capacity, sym, ap, subst, ◌∙◌}
 use Rattle.std.specs.Prelude.{Option, None, IfSome}
 use Rattle.kl1_text.specs.declared.cell_name.CellName.{CellName}
 use Rattle.kl1_clause.specs.declared.compiled_clause.CompiledClause.{CompiledClause}
@@ -10,7 +10,7 @@ use Rattle.kl1_modules.specs.declared.span.Span.{Span}
 use Rattle.kl1_modules.specs.Numbered.{Numbered, own_names}
 use Rattle.kl1_modules.specs.Finding.{FindsIn}
 use Rattle.kl1_modules.specs.Spans.{IsWithin}
-use Rattle.kl1_modules.specs.Indexes.{span_at}
+use Rattle.kl1_modules.specs.Indexes.{Rows, key_by, span_at}
 use Rattle.kl1_modules.proofs.Steps.{compiled_count}
 use Rattle.kl1_modules.proofs.Parts.{missed, found, some_part}
 use Rattle.kl1_modules.proofs.loaded.Loaded.find.Goals as goal
@@ -18,31 +18,32 @@ use Rattle.kl1_modules.proofs.loaded.Loaded.find.Goals as goal
 pub part-requires : goal.part-requires
 part-requires c =
     let P : Option Span → Type 0 = λ o. IfSome o (IsWithin (length c.self.inside.code.clauses)) in
-    let Q : ℕ → Type 0 = λ n. IsWithin n c.in-Some.span.now in
-    subst Q (sym (compiled_count (own_names c.self.inside.code) c.clauses.result.now c.self.inside.code.clauses c.clauses.ensures)) (subst P (sym c.in-Some.ensures.value) (c.self.invariant.spans.within c.key_by.result))
+    let Q : ℕ → Type 0 = λ n. IsWithin n c.in-Some.span in
+    let known = ap (λ (rows : Rows). span_at rows (key_by c.args.name c.args.count)) (sym c.deref.ensures.value) ∙ ap (span_at c.deref.result.now) (sym c.key_by.ensures) ∙ sym c.span_of.ensures ∙ c.in-Some.is in
+    subst Q (sym (compiled_count (own_names c.self.inside.code) c.clauses.result.now c.self.inside.code.clauses c.clauses.ensures)) (subst P known (c.self.invariant.spans.within (key_by c.args.name c.args.count)))
 
 pub returns-in-None-clause-finds : goal.returns-in-None-clause-finds
 returns-in-None-clause-finds c =
     let l : Numbered = record { content = c.self.inside.code; row = c.self.inside.row.items } in
     let P : Numbered → Type 0 = λ x. FindsIn x c.args.name c.args.count None in
     subst P c.self.view_is
-    (λ f r m. missed c.source.result.now l c.self.inside.index c.args.name c.args.count f c.source.ensures.meant c.self.invariant (sym (ap (span_at c.self.inside.index) c.key_by.ensures) ∙ sym c.in-None.ensures.value) r m)
+    (λ f r m. missed c.source.result.now l c.self.inside.index.items (vec_capacity c.self.inside.index) c.args.name c.args.count f c.source.ensures.meant c.self.invariant (ap (λ (rows : Rows). span_at rows (key_by c.args.name c.args.count)) (sym c.deref.ensures.value) ∙ ap (span_at c.deref.result.now) (sym c.key_by.ensures) ∙ sym c.span_of.ensures ∙ c.in-None.is) r m)
 
 pub returns-in-Some-clause-finds : goal.returns-in-Some-clause-finds
 returns-in-Some-clause-finds c =
     let l : Numbered = record { content = c.self.inside.code; row = c.self.inside.row.items } in
-    let s = c.in-Some.span.now in
-    let P : Numbered → Type 0 = λ x. (f : CellName → List ℕ) → _ → map f x.row ≡ own_names x.content → AreCompiled (map f c.deref.result.now) c.part.result.now (filter (is_of (f c.args.name) c.args.count) x.content.clauses) in
+    let s = c.in-Some.span in
+    let P : Numbered → Type 0 = λ x. (f : CellName → List ℕ) → _ → map f x.row ≡ own_names x.content → AreCompiled (map f c.deref-in-Some.result.now) c.part.result.now (filter (is_of (f c.args.name) c.args.count) x.content.clauses) in
     subst P c.self.view_is
     (λ f r m.
     let Q : List CellName → Type 0 = λ row. AreCompiled (map f row) c.part.result.now (filter (is_of (f c.args.name) c.args.count) l.content.clauses) in
     let R : List CompiledClause → Type 0 = λ cs. AreCompiled (map f l.row) cs (filter (is_of (f c.args.name) c.args.count) l.content.clauses) in
-    subst Q (sym c.deref.ensures.value) (subst R (sym c.part.ensures)
-    (found c.source.result.now l c.self.inside.index c.clauses.result.now c.args.name c.args.count s f c.source.ensures.meant c.self.invariant (sym (ap (span_at c.self.inside.index) c.key_by.ensures) ∙ sym c.in-Some.ensures.value) c.clauses.ensures r m)))
+    subst Q (sym c.deref-in-Some.ensures.value) (subst R (sym c.part.ensures)
+    (found c.source.result.now l c.self.inside.index.items (vec_capacity c.self.inside.index) c.clauses.result.now c.args.name c.args.count s f c.source.ensures.meant c.self.invariant (ap (λ (rows : Rows). span_at rows (key_by c.args.name c.args.count)) (sym c.deref.ensures.value) ∙ ap (span_at c.deref.result.now) (sym c.key_by.ensures) ∙ sym c.span_of.ensures ∙ c.in-Some.is) c.clauses.ensures r m)))
 
 pub returns-in-Some-clause-some : goal.returns-in-Some-clause-some
 returns-in-Some-clause-some c =
     let l : Numbered = record { content = c.self.inside.code; row = c.self.inside.row.items } in
     let Q : List CellName → Type 0 = λ row. AreSome row c.part.result.now in
     let R : List CompiledClause → Type 0 = λ cs. AreSome l.row cs in
-    subst Q (sym c.deref.ensures.value) (subst R (sym c.part.ensures) (some_part l c.clauses.result.now c.in-Some.span.now c.self.invariant.named c.clauses.ensures))
+    subst Q (sym c.deref-in-Some.ensures.value) (subst R (sym c.part.ensures) (some_part l c.clauses.result.now c.in-Some.span c.self.invariant.named c.clauses.ensures))
