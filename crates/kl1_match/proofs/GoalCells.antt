@@ -1,9 +1,10 @@
 -- The cells of a goal that is started.
-use Rattle.std.proofs.Common.{◌≡◌, ℕ, zero, suc, ◌+◌, ◌-◌, ◌<◌, ◌≤◌, List, [], ◌∷◌, ◌++◌, length, map, reverse, refl, ap, sym, ◌∙◌, subst, slice_index_or, arith}
+use Rattle.std.proofs.Common.{◌≡◌, ℕ, zero, suc, ◌+◌, ◌-◌, ◌<◌, ◌≤◌, ◌&&◌, max, nat_le, true, List, [], ◌∷◌, ◌++◌, length, map, reverse, refl, ap, sym, ◌∙◌, subst, slice_index_or, arith}
+use Rattle.std.proofs.lemmas.Bool.{and_parts, leb-true}
 use Rattle.kl1_model.specs.declared.built_in.BuiltIn.{BuiltIn}
 use Rattle.kl1_model.specs.Term.{Term, Terms, variable, integer, atom, structure, none, more, substituted, each_substituted}
 use Rattle.kl1_model.specs.TermCode.{NodeCode, nodes_of, read_nodes, reads-back}
-use Rattle.kl1_model.specs.Meaning.{highest, highest_in, variables_of, variables_in}
+use Rattle.kl1_model.specs.Meaning.{highest, highest_in, variables_of, variables_in, numbered_after}
 use Rattle.kl1_term.proofs.VariableFacts.{highest_is}
 use Rattle.kl1_store.specs.declared.cell.Cell.{Cell}
 use Rattle.kl1_store.specs.declared.cell.Cell.TheVariants as cell
@@ -24,7 +25,6 @@ use Rattle.kl1_match.proofs.Steps.{within_at}
 use Rattle.kl1_match.proofs.Built.{all_still_in}
 use Rattle.kl1_match.proofs.Places.{length-fresh, at_fresh, beyond_unbound}
 use Rattle.kl1_match.proofs.Bodies.{rows_below}
-use Rattle.kl1_match.proofs.BuiltNodes.{AreFromOne, numbered_from_one, one_left, one_right}
 
 -- ---- the variables of a goal
 
@@ -78,6 +78,26 @@ pub goal_row_has : {N : Type 0} (names : List (List ℕ)) (row : List Instructio
 goal_row_has names row goal last cells is next = goal_row_below names row goal (length cells) is (omega (arith, next.length_is))
 
 -- ---- the goal
+
+-- variables from 1 on
+abbrev AreFromOne : List ℕ → Type 0
+AreFromOne [] = Unit {0}
+AreFromOne (v ∷ vs) = (1 ≤ v) × AreFromOne vs
+
+numbered_from_one : (seen : ℕ) (vs : List ℕ) → numbered_after seen vs ≡ true → AreFromOne vs
+numbered_from_one seen [] h = tt
+numbered_from_one seen (v ∷ vs) h =
+    let p = and_parts (nat_le 1 v && nat_le v (suc seen)) (numbered_after (max seen v) vs) h in
+    let q = and_parts (nat_le 1 v) (nat_le v (suc seen)) p.0 in
+    (leb-true 1 v q.0, numbered_from_one (max seen v) vs p.1)
+
+one_left : (us vs : List ℕ) → AreFromOne (us ++ vs) → AreFromOne us
+one_left [] vs h = tt
+one_left (u ∷ us) vs h = (h.0, one_left us vs h.1)
+
+one_right : (us vs : List ℕ) → AreFromOne (us ++ vs) → AreFromOne vs
+one_right [] vs h = h
+one_right (u ∷ us) vs h = one_right us vs h.1
 
 -- terms that are put for variables are the same where they are for those of the term
 mutual

@@ -4,7 +4,6 @@ pub mod Built
 pub mod Rooms
 pub mod Places
 pub mod Bodies
-pub mod BuiltNodes
 pub mod Cells
 pub mod Skipping
 pub mod Answered

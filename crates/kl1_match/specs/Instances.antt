@@ -1,11 +1,9 @@
 -- What an instance of a clause's body is, in cells.
 use Rattle.std.specs.Prelude.{◌≡◌, ℕ, ◌+◌, ◌-◌, List, [], ◌∷◌, map, length}
 use Rattle.kl1_model.specs.declared.built_in.BuiltIn.{BuiltIn}
-use Rattle.kl1_model.specs.Term.{Term, Replacement}
-use Rattle.kl1_model.specs.Meaning.{highest}
+use Rattle.kl1_model.specs.Term.{Replacement}
 use Rattle.kl1_model.specs.Module.{Clause}
 use Rattle.kl1_model.specs.Instance.{body_instance}
-use Rattle.kl1_model.specs.Opening.{with_next_variables}
 use Rattle.kl1_text.specs.Reading.{Reads}
 use Rattle.kl1_store.specs.declared.cell.Cell.{Cell}
 use Rattle.kl1_store.specs.Held.{Held, IsIn, AreIn}
@@ -49,10 +47,3 @@ pub record IsInstance {N : Type 0} (built : BuiltIn → N) (names : List N) (com
   pub inside : AreIn new goals
   pub variables : new.variables ≡ old.variables + compiled.fresh_variables
   pub goals_are : (f : N → List ℕ) → Reads built f → (clause : Clause) → IsCompiled (map f names) compiled clause → GoalsAre f clause places old new goals
-
--- a cell is this goal with the next variables in place of its own
-pub record IsGoal (goal : Term) (old new : Held (List ℕ)) (cell : Cell (List ℕ)) : Type 0 where
-  pub inside : IsIn new cell
-  pub variables : new.variables ≡ old.variables + highest goal
-  pub term : term_of (λ a. a) new cell ≡ with_next_variables (old.variables - 1) goal
-  pub kept : AreKept (λ a. a) old new

@@ -3,7 +3,6 @@ pub mod Rows
 pub mod Steps
 pub mod Built
 pub mod Variables
-pub mod BuiltNodes
 pub mod Waiting
 pub mod Spans
 pub mod Matching

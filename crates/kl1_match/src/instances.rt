@@ -1,6 +1,6 @@
 // The instance of a clause's body.
 
-ghost use Rattle.std.specs.Prelude.{◌≡◌, ℕ, ◌<◌, List, [], length, map, IfOk, OnOk, IsOk, vec_capacity};
+ghost use Rattle.std.specs.Prelude.{◌≡◌, ℕ, ◌<◌, List, [], length, map, OnOk, IsOk, vec_capacity};
 ghost use Rattle.kl1_text.specs.Reading.{Reads};
 ghost use Rattle.kl1_store.specs.Held.{AreIn};
 ghost use Rattle.kl1_store.specs.Sound.{Grown};
@@ -23,7 +23,7 @@ use kl1_clause::{CompiledClause, Instruction};
 use kl1_model::BuiltIn;
 use kl1_store::{Cell, Store};
 use kl1_text::NameValue;
-use std::alloc::{AllocError, Global};
+use std::alloc::AllocError;
 
 /// The step that an instruction stands for.
 #[inline]
@@ -131,26 +131,4 @@ pub fn put_instance<N: NameValue>(
     )?;
     goals.reverse();
     Ok(())
-}
-
-/// The same over scratch of its own.
-pub fn instance<N: NameValue>(
-    alloc: Global,
-    store: &mut Store<N>,
-    names: &[N],
-    clause: &CompiledClause,
-    places: &[Place<N>],
-) -> Result<Vec<Cell<N>>, AllocError>
-    requires clause { IsClause names.now clause.now }
-    requires places { AreThere store.old.held places.now }
-    requires some { 0 < store.old.held.variables }
-    ensures grown { Grown store.old.held store.new.held }
-    ensures hooks { store.new.hooks ≡ store.old.hooks }
-    ensures bindings { store.new.held.bindings ≡ store.old.held.bindings }
-    ensures goals { IfOk result (λ goals. IsInstance N.built names.now clause.now places.now store.old.held store.new.held goals.items) }
-{
-    let mut scratch = Scratch::new(alloc);
-    let mut goals = Vec::new(alloc);
-    put_instance(store, names, clause, places, &mut scratch, &mut goals)?;
-    Ok(goals)
 }

@@ -5,7 +5,6 @@ mod arguments;
 mod building;
 mod choice;
 mod goal_cells;
-mod goals;
 mod instances;
 mod meets;
 mod met;
@@ -21,8 +20,7 @@ mod verdicts;
 
 pub use choice::choose;
 pub use goal_cells::{put_goal, put_goal_variables, reserve_goal, reserve_goal_beside};
-pub use goals::build_goal;
-pub use instances::{instance, put_instance};
+pub use instances::put_instance;
 pub use name_in::name_at;
 pub use place::Place;
 pub use scratch::Scratch;

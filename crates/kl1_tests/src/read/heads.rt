@@ -8,8 +8,10 @@ ghost use Rattle.kl1_match.specs.Instances.{IsClause, AreThere};
 use crate::read::kind::Kind;
 use crate::read::printed_cells::{put_cells, walked};
 use crate::rows::Text;
-use kl1_clause::{Code, CompiledClause};
-use kl1_match::{Place, Scratch, Verdict, build_goal, instance, verdict_on};
+use kl1_clause::{Code, CompiledClause, GoalCode};
+use kl1_match::{
+    Place, Scratch, Verdict, put_goal, put_goal_variables, put_instance, reserve_goal, verdict_on,
+};
 use kl1_read::read_goal;
 use kl1_store::{Cell, Store};
 use kl1_term::Term;
@@ -62,7 +64,12 @@ pub fn cell_of(
     if !goal.is_numbered() {
         return Err(AllocError);
     }
-    build_goal(answer.alloc, store, goal)
+    let code = GoalCode::compile(answer.alloc, goal)?;
+    let mut scratch = Scratch::new(answer.alloc);
+    let row = code.row();
+    put_goal_variables(store, goal.highest(), &mut scratch)?;
+    reserve_goal(store, row, &mut scratch)?;
+    Ok(put_goal(store, code.names(), row, &mut scratch))
 }
 
 /// Puts the verdict of the first clause of a code on the goal behind the colon of a goal, and what belongs to a clause that
@@ -197,7 +204,9 @@ fn put_accepted(
     if !store.holds(Cell::Variable(0)) {
         return Err(AllocError);
     }
-    let goals = instance(answer.alloc, store, names, clause, places)?;
+    let mut scratch = Scratch::new(answer.alloc);
+    let mut goals = Vec::new(answer.alloc);
+    put_instance(store, names, clause, places, &mut scratch, &mut goals)?;
     put_cells(answer, store, goals.as_slice())
 }
 
