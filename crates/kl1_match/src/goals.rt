@@ -72,15 +72,13 @@ pub fn build_goal(
     ensures goal { IfOk result (IsGoal goal.now store.old.held store.new.held) }
 {
     let _ = store.mark();
+    let count = goal.highest();
+    let all = (count as usize).checked_add(1).ok_or(AllocError)?;
     let mut variables = Vec::new(alloc);
-    variables.push(Cell::Atom(AtomText::of_built_in(BuiltIn::EmptyList)))?;
-    put_fresh(store, &mut variables, goal.highest())?;
+    variables.reserve(all)?;
+    variables.push_reserved(Cell::Atom(AtomText::of_built_in(BuiltIn::EmptyList)));
+    put_fresh(store, &mut variables, count)?;
     let mut stack = Vec::new(alloc);
-    put_nodes(
-        store,
-        variables.as_slice(),
-        goal.nodes(),
-        &mut stack,
-    )?;
+    put_nodes(store, variables.as_slice(), goal.nodes(), &mut stack)?;
     Ok(stack.pop().unwrap_or(Cell::Integer(0)))
 }
