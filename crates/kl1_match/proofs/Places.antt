@@ -1,10 +1,10 @@
 -- The cells that stand for a clause's variables.
-use Rattle.std.proofs.Common.{◌≡◌, ℕ, zero, suc, ◌+◌, ◌-◌, ◌<◌, ◌≤◌, ◌==◌, Bool, true, false, if◌then◌else◌, List, [], ◌∷◌, ◌++◌, length, drop, replicate, refl, ap, sym, ◌∙◌, subst, slice_index_or, arith, append_assoc, ◌||◌, ◌⊎◌, inl, inr, ne_eqb, length-append, take}
-use Rattle.std.proofs.lemmas.List.{drop_all, length-replicate}
+use Rattle.std.proofs.Common.{◌≡◌, ℕ, zero, suc, ◌+◌, ◌-◌, ◌<◌, ◌≤◌, ◌==◌, Bool, true, false, if◌then◌else◌, List, [], ◌∷◌, ◌++◌, length, drop, replicate, refl, ap, sym, ◌∙◌, subst, slice_index_or, arith, append_assoc, append-nil, get_or, ◌||◌, ◌⊎◌, inl, inr, ne_eqb, eq-eqb, length-append, take}
+use Rattle.std.proofs.lemmas.List.{drop_all, take_all, length-replicate}
 use Rattle.kl1_store.specs.declared.cell.Cell.{Cell}
 use Rattle.kl1_store.specs.declared.cell.Cell.TheVariants.{Variable, Atom}
 use Rattle.kl1_model.specs.Term.{Term, variable, atom}
-use Rattle.std.proofs.lemmas.Bool.{le-leb, lt-leb}
+use Rattle.std.proofs.lemmas.Bool.{le-leb, lt-leb, false≢true}
 use Rattle.kl1_model.specs.declared.built_in.BuiltIn.{BuiltIn}
 use Rattle.kl1_model.specs.declared.built_in.BuiltIn.TheVariants.{EmptyList}
 use Rattle.kl1_model.specs.Meaning.{nil}
@@ -19,7 +19,7 @@ use Rattle.kl1_match.specs.declared.place.Place.{Place}
 use Rattle.kl1_match.specs.Instances.{AreThere, replacements_of}
 use Rattle.kl1_store.proofs.Terms.{term_of-Atom, term_of-unbound}
 use Rattle.kl1_match.specs.Steps.{Agrees}
-use Rattle.kl1_match.specs.Variables.{cell_at, with_variables, fresh_cells, stands_for, AreVariables}
+use Rattle.kl1_match.specs.Variables.{cell_at, cells_at, AreFrom, with_variables, fresh_cells, stands_for, AreVariables}
 use Rattle.kl1_match.proofs.Built.{within_more}
 
 -- the cells so far, where the places from one on are set
@@ -141,6 +141,77 @@ filled_up n len old now x e none zero_is =
     let more : n - len ≡ n = omega (arith, zero_is) in
     e ∙ (ap (λ xs. xs ++ replicate (n - len) x) (take_none n old none) ∙ ap (λ m. replicate m x) more)
 
+-- cells of which each was one for none, and was set to that at its variable's place
+pub all_set : {N : Type 0} (count : ℕ) (none : Cell N) (places : List (Place N)) (empty first : List (Cell N)) → empty ≡ replicate count none →
+    ((v : ℕ) (d : Cell N) → v < length empty → slice_index_or first v d ≡ cell_at places v (slice_index_or empty v d)) →
+    (v : ℕ) (d : Cell N) → v < count → slice_index_or first v d ≡ cell_at places v none
+all_set count none places empty first is set v d h =
+    let same : length empty ≡ count = ap length is ∙ length-replicate count none in
+    set v d (omega (arith, h, same)) ∙ ap (cell_at places v) (ap (λ xs. slice_index_or xs v d) is ∙ at_same count v none d h)
+
+choice_true : {A : Type 0} (b : Bool) (x y : A) → b ≡ true → (if b then x else y) ≡ x
+choice_true true x y e = refl
+choice_true false x y e = absurd (false≢true e)
+
+choice_false : {A : Type 0} (b : Bool) (x y : A) → b ≡ false → (if b then x else y) ≡ y
+choice_false false x y e = refl
+choice_false true x y e = absurd (false≢true (sym e))
+
+-- a variable before those of places in order has none
+before_order : {N : Type 0} (n : ℕ) (ps : List (Place N)) (v : ℕ) (x : Cell N) → AreFrom n ps → v < n → cell_at ps v x ≡ x
+before_order n [] v x h lt = refl
+before_order n (p ∷ ps) v x h lt =
+    choice_false (p.variable == v) p.cell (cell_at ps v x) (ne_eqb p.variable v (λ e. absurd (omega (arith, e, h.0, lt)))) ∙ before_order (suc n) ps v x h.1 (omega (arith, lt))
+
+-- the place of each other is as far behind the first as its variable
+in_order : {N : Type 0} (n : ℕ) (ps : List (Place N)) (i v : ℕ) (x d : Cell N) → AreFrom n ps → i < length ps → v ≡ n + i → slice_index_or (cells_at ps) i d ≡ cell_at ps v x
+in_order n [] i v x d h lt e = absurd (omega (arith, lt))
+in_order n (p ∷ ps) zero v x d h lt e =
+    let same : p.variable ≡ v = omega (arith, h.0, e) in
+    sym (choice_true (p.variable == v) p.cell (cell_at ps v x) (eq-eqb p.variable v same))
+in_order n (p ∷ ps) (suc i) v x d h lt e =
+    in_order (suc n) ps i v x d h.1 (omega (arith, lt)) (omega (arith, e))
+    ∙ sym (choice_false (p.variable == v) p.cell (cell_at ps v x) (ne_eqb p.variable v (λ q. absurd (omega (arith, q, h.0, e)))))
+
+-- cells at places that are in order
+pub all_in_order : {N : Type 0} (count : ℕ) (none : Cell N) (places : List (Place N)) (cells : List (Cell N)) → cells ≡ none ∷ cells_at places → AreFrom 1 places → length places + 1 ≡ count →
+    (v : ℕ) (d : Cell N) → v < count → slice_index_or cells v d ≡ cell_at places v none
+all_in_order count none places cells is order all zero d h = ap (λ xs. slice_index_or xs 0 d) is ∙ sym (before_order 1 places 0 none order (omega arith))
+all_in_order count none places cells is order all (suc i) d h = ap (λ xs. slice_index_or xs (suc i) d) is ∙ in_order 1 places i (suc i) none d order (omega (arith, h, all)) (omega arith)
+
+-- the cells with those at the places that are left are all, and if the places that are left are in order, then all are
+pub record InOrder {N : Type 0} (start cells : List (Cell N)) (places rest : List (Place N)) : Type 0 where
+  pub are : cells ++ cells_at rest ≡ start ++ cells_at places
+  pub order : AreFrom (length cells) rest → AreFrom (length start) places
+
+-- one place more that is in order
+order_step : {N : Type 0} (start cells after : List (Cell N)) (places more : List (Place N)) (p : Place N) → p.variable ≡ length cells → after ≡ cells ++ p.cell ∷ [] →
+    InOrder start cells places (p ∷ more) → InOrder start after places more
+order_step start cells after places more p numbered pushed o =
+    let longer : length after ≡ suc (length cells) = omega (arith, ap length pushed, length-append cells (p.cell ∷ [])) in
+    record {
+      are = ap (λ xs. xs ++ cells_at more) pushed ∙ (append_assoc cells (p.cell ∷ []) (cells_at more) ∙ o.are);
+      order = λ h. o.order (numbered, subst (λ m. AreFrom m more) longer h);
+    }
+
+pub order_step_at : {N : Type 0} (start cells after : List (Cell N)) (places rest : List (Place N)) (p : Place N) → 1 ≤ length rest → p ≡ get_or rest 0 p → p.variable ≡ length cells → after ≡ cells ++ p.cell ∷ [] →
+    InOrder start cells places rest → InOrder start after places (take (length rest - 1) (drop 1 rest))
+order_step_at start cells after places [] p le e numbered pushed o = absurd (omega arith)
+order_step_at {N = N} start cells after places (q ∷ more) p le e numbered pushed o =
+    let P : List (Place N) → Type 0 = λ l. InOrder start after places l in
+    let Q : Place N → Type 0 = λ k. InOrder start cells places (k ∷ more) in
+    subst P (sym (take_all (length (q ∷ more) - 1) more (omega arith))) (order_step start cells after places more p numbered pushed (subst Q (sym e) o))
+
+-- no place is left
+pub order_end_at : {N : Type 0} (start cells : List (Cell N)) (places rest : List (Place N)) → length rest < 1 → InOrder start cells places rest → AreFrom (length start) places × (cells ≡ start ++ cells_at places)
+order_end_at start cells places [] le o = (o.order tt, sym (append-nil cells) ∙ o.are)
+order_end_at start cells places (p ∷ ps) le o = absurd (omega arith)
+
+-- there are as many cells as places
+pub length-cells_at : {N : Type 0} (ps : List (Place N)) → length (cells_at ps) ≡ length ps
+length-cells_at [] = refl
+length-cells_at (p ∷ ps) = ap suc (length-cells_at ps)
+
 -- the cells of the head's variables with the new variables behind them are cells for all variables
 pub are_variables : {N : Type 0} (built : BuiltIn → N) (head fresh : ℕ) (places : List (Place N)) (old new : Held N) (none : Cell N) (empty first cells : List (Cell N)) →
     IsFormed old → 0 < old.variables → AreThere old places → none ≡ Atom (built EmptyList) → empty ≡ replicate (head + 1) none → length first ≡ length empty →
@@ -186,3 +257,14 @@ are_variables {N = N} built head fresh places old new none empty first cells for
     let P : Held N → Type 0 = λ h. AreVariables built head fresh places old h all in
     let Q : List (Cell N) → Type 0 = λ xs. AreVariables built head fresh places old new xs in
     subst Q (sym cells_are) (subst P (sym is) result)
+
+-- the same of cells of which it is known what stands at each variable
+pub variables_are : {N : Type 0} (built : BuiltIn → N) (head fresh : ℕ) (places : List (Place N)) (old new : Held N) (none : Cell N) (first cells : List (Cell N)) →
+    IsFormed old → 0 < old.variables → AreThere old places → none ≡ Atom (built EmptyList) → length first ≡ head + 1 →
+    ((v : ℕ) (d : Cell N) → v < head + 1 → slice_index_or first v d ≡ cell_at places v none) →
+    new ≡ with_variables old fresh → cells ≡ first ++ fresh_cells old.variables fresh → AreVariables built head fresh places old new cells
+variables_are {N = N} built head fresh places old new none first cells formed some there none_is length_is set is cells_are =
+    let many = length-replicate (head + 1) none in
+    are_variables built head fresh places old new none (replicate (head + 1) none) first cells formed some there none_is refl (length_is ∙ sym many)
+    (λ v d h. let low : v < head + 1 = omega (arith, h, many) in set v d low ∙ ap (cell_at places v) (sym (at_same (head + 1) v none d low)))
+    is cells_are

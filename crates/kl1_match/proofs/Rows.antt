@@ -1,13 +1,12 @@
 -- Cells that stand one behind another, and structures of them.
-use Rattle.std.proofs.Common.{◌≡◌, ℕ, zero, suc, ◌+◌, ◌-◌, ◌<◌, List, [], ◌∷◌, ◌++◌, length, length-append, reverse, refl, ap, sym, ◌∙◌, subst, arith, append-nil, append_assoc}
-use Rattle.std.specs.Prelude.{Option, Some, None, IsSome, option_to_list, unwrap_or, slice_get}
-use Rattle.std.proofs.lemmas.Bool.{false≢true}
-use Rattle.std.proofs.lemmas.List.{reverse-append, reverse-reverse}
+use Rattle.std.proofs.Common.{◌≡◌, ℕ, zero, suc, ◌+◌, List, [], ◌∷◌, ◌++◌, length, length-append, reverse, refl, ap, sym, ◌∙◌, subst, arith}
+use Rattle.std.specs.Prelude.{Some, slice_get}
+use Rattle.std.proofs.lemmas.List.{reverse-append}
 use Rattle.kl1_model.specs.Term.{more, structure}
 use Rattle.kl1_model.specs.TermCode.{behind_first, behind}
 use Rattle.kl1_store.specs.declared.cell.Cell.{Cell}
 use Rattle.kl1_store.specs.declared.cell.Cell.TheVariants.{Structure}
-use Rattle.kl1_store.specs.Held.{Shape, Held, with_structure, IsWithin, AreWithin, IsIn, AreIn, arguments_of, shape_arguments}
+use Rattle.kl1_store.specs.Held.{Shape, Held, with_structure, IsIn, AreIn, arguments_of, shape_arguments}
 use Rattle.kl1_store.specs.Meaning.{term_of, terms_of}
 use Rattle.kl1_store.specs.Sound.{IsFormed}
 use Rattle.kl1_store.specs.ComparesEach.{term_list}

@@ -17,6 +17,16 @@ abbrev pub cell_at : {N : Type 0} → List (Place N) → ℕ → Cell N → Cell
 cell_at [] v x = x
 cell_at (p ∷ ps) v x = if p.variable == v then p.cell else cell_at ps v x
 
+-- the cells at places
+abbrev pub cells_at : {N : Type 0} → List (Place N) → List (Cell N)
+cells_at [] = []
+cells_at (p ∷ ps) = p.cell ∷ cells_at ps
+
+-- places of the variables from a number on, one of each in order
+abbrev pub AreFrom : {N : Type 0} → ℕ → List (Place N) → Type 0
+AreFrom n [] = Unit {0}
+AreFrom n (p ∷ ps) = (p.variable ≡ n) × AreFrom (suc n) ps
+
 -- so many variables more
 abbrev pub with_variables : {N : Type 0} → Held N → ℕ → Held N
 with_variables h count = record { variables = h.variables + count; structures = h.structures; bindings = h.bindings }

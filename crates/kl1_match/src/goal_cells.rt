@@ -10,7 +10,6 @@ ghost use Rattle.kl1_match.specs.Variables.{with_variables};
 ghost use Rattle.kl1_match.specs.Rooms.{structures_in, arguments_in};
 ghost use Rattle.kl1_match.specs.GoalCells.{goal_variables, HasRoomForGoal, AreGoalVariables, BuildsGoal};
 
-use crate::building::put_cell;
 use crate::instances::put_row;
 use crate::scratch::Scratch;
 use crate::skips::arguments_of;
@@ -37,8 +36,10 @@ pub fn put_goal_variables<N: NameValue>(
 {
     let _ = store.mark();
     let variables = &mut scratch.variables;
+    let all = (count as usize).checked_add(1).ok_or(AllocError)?;
     variables.clear();
-    put_cell(variables, Cell::Atom(N::of(BuiltIn::EmptyList)))?;
+    variables.reserve(all)?;
+    variables.push_reserved(Cell::Atom(N::of(BuiltIn::EmptyList)));
     put_fresh(store, variables, count)
 }
 

@@ -1,7 +1,8 @@
 // The instance of a clause's body.
 
-ghost use Rattle.std.specs.Prelude.{◌≡◌, ℕ, ◌<◌, List, [], length, map, OnOk, IsOk, vec_capacity};
+ghost use Rattle.std.specs.Prelude.{◌≡◌, ℕ, ◌<◌, ◌≤◌, List, [], length, map, OnOk, IsOk, slice_index_or, vec_capacity};
 ghost use Rattle.kl1_text.specs.Reading.{Reads};
+ghost use Rattle.kl1_store.specs.declared.cell.Cell.{Cell};
 ghost use Rattle.kl1_store.specs.Held.{AreIn};
 ghost use Rattle.kl1_store.specs.Sound.{Grown};
 ghost use Rattle.kl1_store.specs.Spending.{Spends};
@@ -10,7 +11,7 @@ ghost use Rattle.kl1_match.specs.Instances.{IsClause, AreThere, IsInstance};
 ghost use Rattle.kl1_match.specs.Matching.{arguments_after};
 ghost use Rattle.kl1_match.specs.Rooms.{structures_at, structures_in, arguments_in, step_structures, step_arguments, HasRoomForRow};
 ghost use Rattle.kl1_match.specs.Steps.{step_code, IsBelow};
-ghost use Rattle.kl1_match.specs.Variables.{AreVariables};
+ghost use Rattle.kl1_match.specs.Variables.{cell_at, AreVariables};
 ghost use Rattle.kl1_match.specs.Built.{IsWithinRow, AreBelow, BuildsRow};
 
 use crate::building::put_step;
@@ -18,7 +19,7 @@ use crate::name_in::name_at;
 use crate::place::Place;
 use crate::scratch::Scratch;
 use crate::step::Step;
-use crate::variables::{put_fresh, set_places};
+use crate::variables::{put_fresh, put_in_order, set_places};
 use kl1_clause::{CompiledClause, Instruction};
 use kl1_model::BuiltIn;
 use kl1_store::{Cell, Store};
@@ -73,6 +74,32 @@ pub(crate) fn put_row<N: NameValue>(
     Ok(())
 }
 
+/// Puts so many cells in a list without any, which has room for them: those of the variables of a head, by their number from 0,
+/// where `none` stands for 0 and for each variable that has no place.
+fn put_places<N: NameValue>(
+    cells: &mut Vec<Cell<N>>,
+    places: &[Place<N>],
+    none: Cell<N>,
+    count: usize,
+) -> Result<(), AllocError>
+    requires empty { cells.old.items ≡ [] }
+    requires fits { count ≤ vec_capacity cells.old }
+    ensures length { OnOk result (length cells.new.items ≡ count) }
+    ensures set { OnOk result ((v : ℕ) (d : Cell N) → v < count → slice_index_or cells.new.items v d ≡ cell_at places.now v none) }
+    ensures capacity { vec_capacity cells.old ≤ vec_capacity cells.new }
+{
+    if places.len() < count && places.len() + 1 == count {
+        cells.push_reserved(none);
+        if put_in_order(cells, places) {
+            return Ok(());
+        }
+    }
+    cells.clear();
+    cells.resize(count, none)?;
+    set_places(cells, places);
+    Ok(())
+}
+
 /// Puts a cell for each variable of a clause where there is none yet, by its number from 0: for those of the head the cells at
 /// their places, and for the others new variables of the store. Where memory is refused, the store may have grown.
 fn put_variables<N: NameValue>(
@@ -94,8 +121,11 @@ fn put_variables<N: NameValue>(
     let count = (clause.head_variables as usize)
         .checked_add(1)
         .ok_or(AllocError)?;
-    cells.resize(count, none)?;
-    set_places(cells, places);
+    let all = count
+        .checked_add(clause.fresh_variables as usize)
+        .ok_or(AllocError)?;
+    cells.reserve(all)?;
+    put_places(cells, places, none, count)?;
     put_fresh(store, cells, clause.fresh_variables)
 }
 

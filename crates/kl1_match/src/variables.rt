@@ -1,11 +1,10 @@
 // The cells that stand for a clause's variables.
 
-ghost use Rattle.std.specs.Prelude.{◌≡◌, ℕ, ◌+◌, ◌<◌, List, ◌++◌, length, OnOk, slice_index_or};
+ghost use Rattle.std.specs.Prelude.{◌≡◌, ℕ, ◌+◌, ◌<◌, ◌≤◌, List, ◌++◌, length, OnOk, IsTrue, slice_index_or, vec_capacity};
 ghost use Rattle.kl1_store.specs.declared.cell.Cell.{Cell};
 ghost use Rattle.kl1_store.specs.Sound.{Grown};
-ghost use Rattle.kl1_match.specs.Variables.{cell_at, with_variables, fresh_cells};
+ghost use Rattle.kl1_match.specs.Variables.{cell_at, cells_at, AreFrom, with_variables, fresh_cells};
 
-use crate::building::put_cell;
 use crate::place::Place;
 use kl1_store::{Cell, Store};
 use kl1_text::NameValue;
@@ -15,6 +14,7 @@ use std::alloc::AllocError;
 /// variable it is the first that counts.
 pub(crate) fn set_places<N: NameValue>(cells: &mut Vec<Cell<N>>, places: &[Place<N>])
     ensures length { length cells.new.items ≡ length cells.old.items }
+    ensures capacity { vec_capacity cells.new ≡ vec_capacity cells.old }
     ensures set { (v : ℕ) (d : Cell N) → v < length cells.old.items → slice_index_or cells.new.items v d ≡ cell_at places.now v (slice_index_or cells.old.items v d) }
 {
     let mut left = places.len();
@@ -28,12 +28,34 @@ pub(crate) fn set_places<N: NameValue>(cells: &mut Vec<Cell<N>>, places: &[Place
     }
 }
 
-/// Puts so many new variables of the store behind cells. Where memory is refused, the store may have grown.
+/// Puts the cells at places behind cells, if the places are of the variables that come next, one of each in order: whether they
+/// are. If not, what stands behind the cells is of no use.
+pub(crate) fn put_in_order<N: NameValue>(cells: &mut Vec<Cell<N>>, places: &[Place<N>]) -> bool
+    requires fits { length cells.old.items + length places.now ≤ vec_capacity cells.old }
+    ensures order { IsTrue result → AreFrom (length cells.old.items) places.now }
+    ensures put { IsTrue result → cells.new.items ≡ cells.old.items ++ cells_at places.now }
+    ensures capacity { vec_capacity cells.new ≡ vec_capacity cells.old }
+{
+    let mut rest = places;
+    while let [place, more @ ..] = rest {
+        let place = *place;
+        if place.variable as usize != cells.len() {
+            return false;
+        }
+        cells.push_reserved(place.cell);
+        rest = more;
+    }
+    true
+}
+
+/// Puts so many new variables of the store behind cells, which have room for them. Where memory is refused, the store may have
+/// grown.
 pub(crate) fn put_fresh<N: NameValue>(
     store: &mut Store<N>,
     cells: &mut Vec<Cell<N>>,
     count: u64,
 ) -> Result<(), AllocError>
+    requires fits { length cells.old.items + count ≤ vec_capacity cells.old }
     ensures grown { Grown store.old.held store.new.held }
     ensures hooks { store.new.hooks ≡ store.old.hooks }
     ensures bindings { store.new.held.bindings ≡ store.old.held.bindings }
@@ -42,7 +64,7 @@ pub(crate) fn put_fresh<N: NameValue>(
     let mut left = count;
     while 0 < left {
         let number = store.fresh()?;
-        put_cell(cells, Cell::Variable(number))?;
+        cells.push_reserved(Cell::Variable(number));
         left -= 1;
     }
     Ok(())

@@ -1,5 +1,5 @@
 -- What a store that has grown means.
-use Rattle.std.proofs.Common.{◌≡◌, ℕ, ◌+◌, List, [], ◌∷◌, ◌++◌, length, take, drop, map, refl, sym, ap, ◌∙◌, arith, subst, append_assoc}
+use Rattle.std.proofs.Common.{◌≡◌, ℕ, List, [], ◌∷◌, ◌++◌, length, drop, map, refl, sym, ap, ◌∙◌, arith, subst, append_assoc}
 use Rattle.std.proofs.lemmas.List.{append-nil, take-append-drop}
 use Rattle.kl1_model.specs.Term.{Term, Replacement, replaced}
 use Rattle.kl1_store.specs.declared.cell.Cell.{Cell}
@@ -7,7 +7,7 @@ use Rattle.kl1_store.specs.declared.binding.Binding.{Binding}
 use Rattle.kl1_store.specs.Held.{Shape, Held, IsWithin, IsIn}
 use Rattle.kl1_store.specs.Meaning.{mean, shapes, shapes_from, replacements, replacements_from, term_of}
 use Rattle.kl1_store.specs.Sound.{IsFormed, Grown}
-use Rattle.kl1_store.specs.Later.{bound_since, IsLater}
+use Rattle.kl1_store.specs.Later.{IsLater}
 use Rattle.kl1_store.proofs.Replacing.{replaced-append}
 use Rattle.kl1_store.proofs.Meanings.{term_at, replacement_of, shapes_from-front, length-shapes_from, mean-more, replacements_from-more}
 

@@ -1,4 +1,4 @@
-use Rattle.std.proofs.Common.{◌≡◌, [], ◌∷◌, ap, arith, refl, length, length-append, reverse, rules}
+use Rattle.std.proofs.Common.{[], ◌∷◌, ap, arith, refl, length, length-append, reverse, rules}
 use Rattle.std.specs.Prelude.{IsOk}
 use Rattle.kl1_store.specs.declared.cell.Cell.TheVariants.{Structure}
 use Rattle.kl1_store.specs.Tops.{firsts}

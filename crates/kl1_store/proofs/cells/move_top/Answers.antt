@@ -1,4 +1,4 @@
-use Rattle.std.proofs.Common.{◌≡◌, ◌∙◌, ◌++◌, ◌-◌, ◌<◌, ap, length, length-append, reverse, rules, arith, [], ◌∷◌}
+use Rattle.std.proofs.Common.{◌≡◌, ◌∙◌, ◌++◌, ◌-◌, ap, length, length-append, reverse, rules, arith, [], ◌∷◌}
 use Rattle.std.specs.Prelude.{option_to_list}
 use Rattle.kl1_store.specs.Tops.{first_or, firsts}
 use Rattle.kl1_store.proofs.Tops.{popped, moved_one, left_one}

@@ -1,4 +1,4 @@
-use Rattle.std.proofs.Common.{◌≡◌, ◌≤◌, ℕ, List, [], ◌∷◌, length, arith}
+use Rattle.std.proofs.Common.{◌≡◌, ℕ, [], ◌∷◌, length, arith}
 use Rattle.kl1_store.proofs.Levelling.{levels_build, same_variables}
 use Rattle.kl1_store.proofs.store.Store.build_pair.Goals as goal
 
