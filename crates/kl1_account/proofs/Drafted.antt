@@ -21,6 +21,7 @@ use Rattle.kl1_moves.specs.declared.moves.Move.{Move}
 use Rattle.kl1_moves.specs.declared.moves.Move.TheVariants as made
 use Rattle.kl1_moves.specs.Moves.{MovesAs}
 use Rattle.kl1_goals.specs.declared.goal.Goal.{Goal}
+use Rattle.kl1_shoen.specs.declared.shoen.Shoen.{Shoen}
 use Rattle.kl1_goals.specs.Lists.{is_other, is_monitor_of}
 use Rattle.kl1_goals.specs.Tables.{IsKnown}
 use Rattle.kl1_modules.specs.Numbered.{Numbered}
@@ -32,10 +33,11 @@ use Rattle.kl1_account.specs.Kept.{AreGoalsIn, AreUpTo, IsShoenIn}
 use Rattle.kl1_account.specs.Works.{Made, IsMadeIn, Knows, Turns}
 use Rattle.kl1_account.specs.Drafts.{goals_for, goals_left, goals_added, without_monitor, made_of, Drafts}
 use Rattle.kl1_account.specs.Moving.{Moves, IsMoved, IsSettling}
-use Rattle.kl1_account.specs.Reducing.{move_or_go, move_at, reduced_to, Allows, IsBegun, WakesAll, IsDrafted}
+use Rattle.kl1_account.specs.Reducing.{move_or_go, move_at, reduced_to, Allows, IsBegun, WakesAll, Finishes, IsDrafted}
 use Rattle.kl1_account.proofs.Goals.{goals_in_append, goals_for_in, filter_in, up_to_append, up_to_more, goals_for_up_to}
 use Rattle.kl1_account.proofs.Reductions.{reduced_turns}
 use Rattle.kl1_account.proofs.LookedAt.{left_up_to}
+use Rattle.kl1_account.proofs.States.{goals_grown}
 
 -- ---- what a goal does by a clause
 
@@ -109,37 +111,88 @@ drafted_turns ms h k l goals goal x clause p m places before mid after inside nu
 
 -- ---- all of a draft
 
--- the goals that a draft leaves and those that come were looked at
-pub is_drafted : (ms : List Numbered) (mark : Point) (old k l new : Kept CellName) (goals : List (Goal CellName)) (goal : Goal CellName) (x : Cell CellName) (clause shoens room : ℕ) (p : Predicate CellName) (m : Move CellName) (places : List (Place CellName)) (before mid after last : Draft) →
-    IsMadeIn old.held (made_of goals before) → AreGoalsIn old.held goals → AreUpTo before.last_goal goals → IsBegun goal before.shoen before.last_goal before → before.shoen.number ≡ goal.shoen → IsKnown goal shoens →
-    Moves p m places x old.held k.held before mid → IsMoved before mid → Grown old.held k.held → k.hooks ≡ old.hooks →
-    ((ns : List Numbered) → Drafts ns (λ f. settle mid.shoen.number) k.held l.held goals mid after) → IsSettling mid after → Grown k.held l.held → l.hooks ≡ k.hooks →
-    after.last_goal + length after.cells.items < 2 ^ 64 → WakesAll ms mark l new goals last → last ≡ record after { changes = last.changes; standings = last.standings; told = last.told } → length last.standings.items ≡ length last.cells.items → new.held ≡ l.held →
-    mark ≡ point_of old → IsFormed old.held → length last.cells.items ≤ room → Allows ms old.held p places x m clause →
-    IsDrafted ms old new goals goal x clause shoens room before last
-is_drafted ms mark old k l new goals goal x clause shoens room p m places before mid after last inside goals_in up begun number known moves is_moved grown hooks settles settling grown_on hooks_on fits wakes rest counted held point formed enough allows =
-    let turned = drafted_turns ms old.held k.held l.held goals goal x clause p m places before mid after inside (sym number) (sym begun.priority) allows grown moves settles in
+-- a draft whose shoen and whose goals were looked at is finished
+pub finishes : (ms : List Numbered) (mark : Point) (now l new : Kept CellName) (goals : List (Goal CellName)) (room : ℕ) (before after last : Draft) →
+    ((ns : List Numbered) → Drafts ns (λ f. settle before.shoen.number) now.held l.held goals before after) → IsSettling before after → Grown now.held l.held → l.hooks ≡ now.hooks →
+    after.last_goal + length after.cells.items < 2 ^ 64 → WakesAll ms mark l new goals last → last ≡ record after { changes = last.changes; standings = last.standings; told = last.told } →
+    length last.standings.items ≡ length last.cells.items → new.held ≡ l.held → length last.cells.items ≤ room → Finishes ms mark now new goals room before last
+finishes ms mark now l new goals room before after last settles settling grown hooks fits wakes rest counted held enough =
     let N : Draft → Type 0 = λ d. d.last_goal + length d.cells.items < 2 ^ 64 in
-    let T : Made → Type 0 = λ w. Turns ms (reduced_to ms old.held goal x clause) old.held l.held (made_of goals before) w in
-    let H : Held CellName → Type 0 = λ h. Turns ms (reduced_to ms old.held goal x clause) old.held h (made_of goals before) (made_of goals last) in
-    let U : ℕ → Type 0 = λ n. AreUpTo n goals in
-    let last_is : last.last_goal ≡ before.last_goal = ap (λ (d : Draft). d.last_goal) rest ∙ settling.last ∙ is_moved.last in
-    let number_is : last.shoen.number ≡ goal.shoen = ap (λ (d : Draft). d.shoen.number) rest ∙ settling.number ∙ is_moved.number ∙ number in
-    let priority_is : last.priority ≡ goal.priority = ap (λ (d : Draft). d.priority) rest ∙ settling.priority ∙ is_moved.priority ∙ begun.priority in
+    let T : Made → Type 0 = λ w. (ns : List Numbered) → IsMadeIn now.held (made_of goals before) → Turns ns (λ f. settle before.shoen.number) now.held l.held (made_of goals before) w in
+    let H : Held CellName → Type 0 = λ h. (ns : List Numbered) → Drafts ns (λ f. settle before.shoen.number) now.held h goals before last in
+    record {
+      settles = subst H (sym held) (subst T (sym (ap (made_of goals) rest)) settles);
+      wakes = λ old point formed up same inside. wakes old point formed (Grown-trans old.held now.held l.held up grown) (hooks ∙ same) inside;
+      last_is = ap (λ (d : Draft). d.last_goal) rest ∙ settling.last;
+      number_is = ap (λ (d : Draft). d.shoen.number) rest ∙ settling.number;
+      priority_is = ap (λ (d : Draft). d.priority) rest ∙ settling.priority;
+      numbers = subst N (sym rest) fits;
+      standings = counted;
+      enough = enough;
+    }
+
+-- a draft that has begun for a goal, of which so many shoens are known
+pub record HasBegun (h : Held CellName) (goals : List (Goal CellName)) (goal : Goal CellName) (shoens : ℕ) (d : Draft) : Type 0 where
+  pub inside : IsMadeIn h (made_of goals d)
+  pub goals_in : AreGoalsIn h goals
+  pub last : AreUpTo d.last_goal goals
+  pub priority : d.priority ≡ goal.priority
+  pub ending : d.is_ending ≡ false
+  pub number : d.shoen.number ≡ goal.shoen
+  pub known : IsKnown goal shoens
+
+pub has_begun : (h : Held CellName) (goals : List (Goal CellName)) (goal : Goal CellName) (shoens last : ℕ) (sh : Shoen CellName) (d : Draft) → 0 < h.variables → AreGoalsIn h goals → AreUpTo last goals → IsShoenIn h sh → sh.number ≡ goal.shoen → IsKnown goal shoens →
+    IsBegun goal sh last d → HasBegun h goals goal shoens d
+has_begun h goals goal shoens last sh d some goals_in up shoen_in same known b =
     let low = known.low in
-    let high = known.high in
-    let most = known.priority in
-    let up_to : AreUpTo last.last_goal goals = subst U (sym last_is) up in
+    let U : ℕ → Type 0 = λ n. AreUpTo n goals in
+    let S : Shoen CellName → Type 0 = λ s. IsShoenIn h s in
+    let up_to : AreUpTo d.last_goal goals = subst U (sym b.last_is) up in
+    let number : d.shoen.number ≡ goal.shoen = ap (λ (s : Shoen CellName). s.number) b.shoen_is ∙ same in
+    record {
+      inside = begins_in h goals d some goals_in up_to b.cells (subst S (sym b.shoen_is) shoen_in) (omega arith);
+      goals_in = goals_in;
+      last = up_to;
+      priority = b.priority;
+      ending = b.ending;
+      number = number;
+      known = known;
+    }
+
+-- what a draft has after a move, before it is finished
+pub record IsReady (h : Held CellName) (goals : List (Goal CellName)) (d : Draft) : Type 0 where
+  pub goals_in : AreGoalsIn h goals
+  pub living : d.is_ending ≡ false
+  pub cells : AreIn h d.cells.items
+
+pub is_ready : (ms : List Numbered) (old k : Held CellName) (goals : List (Goal CellName)) (goal : Goal CellName) (x : Cell CellName) (clause shoens : ℕ) (p : Predicate CellName) (m : Move CellName) (places : List (Place CellName)) (before mid : Draft) →
+    HasBegun old goals goal shoens before → Allows ms old p places x m clause → Moves p m places x old k before mid → IsMoved before mid → Grown old k → IsReady k goals mid
+is_ready ms old k goals goal x clause shoens p m places before mid begun allows moves is_moved grown =
+    let turned : Turns ms (λ f. moved (goal_with (meaning f old) goal) (meaning f old x) (move_at ms old x clause f)) old k (made_of goals before) (made_of goals mid) =
+    moves ms goal clause (move_at ms old x clause) (record { shoen = sym begun.number; priority = sym begun.priority }) allows (allowed_move ms old p places x m clause allows) goals begun.inside in
+    record { goals_in = goals_grown old k grown goals begun.goals_in; living = is_moved.ending ∙ begun.ending; cells = cells_in k goals mid turned.inside.goals }
+
+-- a reduction is drafted by a move and what finishes it
+pub is_drafted : (ms : List Numbered) (mark : Point) (old k new : Kept CellName) (goals : List (Goal CellName)) (goal : Goal CellName) (x : Cell CellName) (clause shoens room : ℕ) (p : Predicate CellName) (m : Move CellName) (places : List (Place CellName)) (before mid last : Draft) →
+    HasBegun old.held goals goal shoens before → Allows ms old.held p places x m clause → Moves p m places x old.held k.held before mid → IsMoved before mid → Grown old.held k.held → k.hooks ≡ old.hooks → Finishes ms mark k new goals room mid last →
+    mark ≡ point_of old → IsFormed old.held → IsDrafted ms old new goals goal x clause shoens room before last
+is_drafted ms mark old k new goals goal x clause shoens room p m places before mid last begun allows moves is_moved grown hooks finished point formed =
+    let low = begun.known.low in
+    let high = begun.known.high in
+    let most = begun.known.priority in
+    let U : ℕ → Type 0 = λ n. AreUpTo n goals in
+    let number_is : last.shoen.number ≡ goal.shoen = finished.number_is ∙ is_moved.number ∙ begun.number in
+    let priority_is : last.priority ≡ goal.priority = finished.priority_is ∙ is_moved.priority ∙ begun.priority in
     record {
       fitting = record {
-        enough = enough;
-        numbers = subst N (sym rest) fits;
-        standings = counted;
-        last = up_to;
+        enough = finished.enough;
+        numbers = finished.numbers;
+        standings = finished.standings;
+        last = subst U (sym (finished.last_is ∙ is_moved.last)) begun.last;
         low = omega arith;
         high = omega arith;
         most = omega arith;
       };
-      turns = subst H (sym held) (subst T (sym (ap (made_of goals) rest)) turned);
-      settles = wakes old point formed (Grown-trans old.held k.held l.held grown grown_on) (hooks_on ∙ hooks) goals_in;
+      turns = drafted_turns ms old.held k.held new.held goals goal x clause p m places before mid last begun.inside (sym begun.number) (sym begun.priority) allows grown moves finished.settles;
+      settles = finished.wakes old point formed grown hooks begun.goals_in;
     }

@@ -1,13 +1,18 @@
 -- Goals that are looked at again: what is found of them, and that all are settled then.
-use Rattle.std.specs.Prelude.{◌≡◌, ℕ, ◌<◌, ◌≤◌, List, [], ◌∷◌, ◌++◌, find, Option, Some, None}
+use Rattle.std.specs.Prelude.{◌≡◌, ℕ, ◌<◌, ◌≤◌, ◌==◌, ◌&&◌, Bool, false, List, [], ◌∷◌, ◌++◌, map, find, Option, Some, None}
 use Rattle.std.specs.List.{AllByRecursion}
+use Rattle.kl1_model.specs.Match as model
+use Rattle.kl1_model.specs.Match.{clauses_of}
 use Rattle.kl1_text.specs.Reading.{Reads}
 use Rattle.kl1_text.specs.declared.cell_name.CellName.{CellName}
 use Rattle.kl1_store.specs.declared.cell.Cell.{Cell}
 use Rattle.kl1_store.specs.Hooks.{Hook}
 use Rattle.kl1_store.specs.Held.{Held}
 use Rattle.kl1_clause.specs.declared.predicate.Predicate.{Predicate}
+use Rattle.kl1_clause.specs.Clauses.{AreCompiled}
+use Rattle.kl1_moves.specs.declared.call.Call.{Call}
 use Rattle.kl1_moves.specs.declared.kind.Kind.{Kind}
+use Rattle.kl1_moves.specs.declared.kind.Kind.TheVariants as kind
 use Rattle.kl1_moves.specs.Kinds.{IsKind}
 use Rattle.kl1_moves.specs.Moves.{HasPredicate}
 use Rattle.kl1_goals.specs.declared.task.Task.{Task}
@@ -15,7 +20,7 @@ use Rattle.kl1_goals.specs.declared.task.Task.TheVariants.{Monitor, Reduces}
 use Rattle.kl1_goals.specs.declared.goal.Goal.{Goal}
 use Rattle.kl1_goals.specs.Lists.{has_number}
 use Rattle.kl1_modules.specs.Numbered.{Numbered}
-use Rattle.kl1_modules.specs.Finding.{contents}
+use Rattle.kl1_modules.specs.Finding.{contents, Asks}
 use Rattle.kl1_account.specs.declared.draft.Change.{Change}
 use Rattle.kl1_account.specs.Fitting.{Reading, built}
 use Rattle.kl1_account.specs.Account.{meaning}
@@ -23,6 +28,22 @@ use Rattle.kl1_account.specs.Works.{Knows}
 use Rattle.kl1_account.specs.Drafts.{goals_standing, restood}
 use Rattle.kl1_account.specs.Settled.{IsSettled, AreSettled}
 use Rattle.kl1_account.specs.Waking.{AreSettledOr, IsFoundOut}
+
+-- however names are read, these are the clauses of the predicate that goals of a kind call
+abbrev pub Serves : List Numbered → Kind CellName → Predicate CellName → Type 0
+Serves modules (kind.Calls c) p = (f : Reading) → Knows modules f → (call : model.Call) → Asks f c.module_name c.name c.count call → AreCompiled (map f p.names.now) p.clauses.now (clauses_of (contents modules) call)
+Serves modules (kind.Unifies left right) p = Unit {0}
+Serves modules kind.Goes p = Unit {0}
+Serves modules (kind.Waits v) p = Unit {0}
+Serves modules kind.Nothing p = Unit {0}
+
+-- whether goals of a kind call the predicate that a call does
+abbrev pub calls_same : Call CellName → Kind CellName → Bool
+calls_same c (kind.Calls d) = d.module_name.number == c.module_name.number && d.name.number == c.name.number && d.count == c.count
+calls_same c (kind.Unifies left right) = false
+calls_same c kind.Goes = false
+calls_same c (kind.Waits v) = false
+calls_same c kind.Nothing = false
 
 -- this was found of a goal of this kind, where these are the clauses of its predicate: the clause by which it can step, and that its
 -- number hangs on each variable that it waits for

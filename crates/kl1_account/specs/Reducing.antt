@@ -29,7 +29,7 @@ use Rattle.kl1_account.specs.Fitting.{Reading}
 use Rattle.kl1_account.specs.Account.{Account, meaning, goal_with, state_of}
 use Rattle.kl1_account.specs.Kept.{AreGoalsIn, AreOwned, AreUpTo, AreShoensIn, AreNumbered}
 use Rattle.kl1_account.specs.Works.{Knows, Turns}
-use Rattle.kl1_account.specs.Drafts.{made_of, goals_after}
+use Rattle.kl1_account.specs.Drafts.{made_of, goals_after, Drafts}
 use Rattle.kl1_account.specs.Settled.{AreSettled}
 use Rattle.kl1_account.specs.Views.{refusal_of}
 
@@ -60,11 +60,6 @@ reduced_to ms h goal x clause f s = settle goal.shoen (moved (goal_with (meaning
 abbrev pub Allows : List Numbered → Held CellName → Predicate CellName → List (Place CellName) → Cell CellName → Move CellName → ℕ → Type 0
 Allows ms h p places x made clause = (f : Reading) → Knows ms f → MovesAs f h (contents ms) (meaning f h x) clause p places (Some made)
 
--- a goal for a cell can do this move by the clause of some number
-pub record IsAllowed (ms : List Numbered) (h : Held CellName) (p : Predicate CellName) (places : List (Place CellName)) (x : Cell CellName) (made : Move CellName) : Type 0 where
-  pub clause : ℕ
-  pub allows : Allows ms h p places x made clause
-
 -- a draft that removes a goal, and leaves the rest and this shoen as they are
 pub record IsBegun (goal : Goal CellName) (shoen : Shoen CellName) (last : ℕ) (d : Draft) : Type 0 where
   pub removed : d.removed ≡ goal.number
@@ -94,6 +89,18 @@ abbrev pub WakesAll : List Numbered → Point → Kept CellName → Kept CellNam
 WakesAll ms mark now new goals d =
     (old : Kept CellName) → mark ≡ point_of old → IsFormed old.held → Grown old.held now.held → now.hooks ≡ old.hooks → AreGoalsIn old.held goals →
     Settles ms old new goals (goals_after goals d)
+
+-- a draft whose goal has done its move since a mark is finished: its shoen was looked at, and the goals that it leaves; each goal that
+-- comes has a number, a clause and room
+pub record Finishes (ms : List Numbered) (mark : Point) (now new : Kept CellName) (goals : List (Goal CellName)) (room : ℕ) (before after : Draft) : Type 0 where
+  pub settles : (ns : List Numbered) → Drafts ns (λ f. settle before.shoen.number) now.held new.held goals before after
+  pub wakes : WakesAll ms mark now new goals after
+  pub last_is : after.last_goal ≡ before.last_goal
+  pub number_is : after.shoen.number ≡ before.shoen.number
+  pub priority_is : after.priority ≡ before.priority
+  pub numbers : after.last_goal + length after.cells.items < 2 ^ 64
+  pub standings : length after.standings.items ≡ length after.cells.items
+  pub enough : length after.cells.items ≤ room
 
 -- the reduction of a goal for a cell by the clause of a number is drafted
 pub record IsDrafted (ms : List Numbered) (old new : Kept CellName) (goals : List (Goal CellName)) (goal : Goal CellName) (x : Cell CellName) (clause shoens room : ℕ) (before after : Draft) : Type 0 where

@@ -14,13 +14,13 @@ ghost use Rattle.kl1_account.specs.Fitting.{Reading};
 ghost use Rattle.kl1_account.specs.Kept.{AreGoalsIn};
 ghost use Rattle.kl1_account.specs.Works.{Knows};
 ghost use Rattle.kl1_account.specs.Settled.{HangsOnEach};
-ghost use Rattle.kl1_account.specs.Looking.{StandsBy, StandsAt, FindsOut, Wakes, WakesTold, WakesAdded};
+ghost use Rattle.kl1_account.specs.Looking.{Serves, calls_same, StandsBy, StandsAt, FindsOut, Wakes, WakesTold, WakesAdded};
 
 use crate::draft::Change;
 use kl1_clause::Predicate;
 use kl1_goals::{GoalTable, Task};
 use kl1_modules::Modules;
-use kl1_moves::{Kind, Trial, kind_of, or_none, standing_of};
+use kl1_moves::{Call, Kind, Trial, kind_of, or_none, standing_of};
 use kl1_store::{Cell, Store};
 use kl1_text::CellName;
 use std::alloc::AllocError;
@@ -29,6 +29,7 @@ use std::alloc::AllocError;
 pub(crate) fn predicate_of(modules: &Modules, kind: Kind<CellName>) -> Predicate<'_, CellName>
     ensures some { AreSome result.names.now result.clauses.now }
     ensures has { (f : Reading) → Knows modules.now.loaded f → (h : Held CellName) (t : Term) → IsKind f h t kind → HasPredicate f h (contents modules.now.loaded) kind result }
+    ensures serves { Serves modules.now.loaded kind result }
 {
     match kind {
         Kind::Calls(call) => or_none(modules.find(call.module_name, call.name, call.count)),
@@ -36,6 +37,50 @@ pub(crate) fn predicate_of(modules: &Modules, kind: Kind<CellName>) -> Predicate
         Kind::Goes => or_none(None),
         Kind::Waits(_) => or_none(None),
         Kind::Nothing => or_none(None),
+    }
+}
+
+/// Whether goals of a kind call the predicate that a call does.
+fn calls_same(call: Call<CellName>, kind: Kind<CellName>) -> bool
+    ensures { result ≡ calls_same call kind }
+{
+    match kind {
+        Kind::Calls(other) => {
+            other.module_name.number == call.module_name.number
+                && other.name.number == call.name.number
+                && other.count == call.count
+        }
+        Kind::Unifies(_, _) => false,
+        Kind::Goes => false,
+        Kind::Waits(_) => false,
+        Kind::Nothing => false,
+    }
+}
+
+/// The clauses of the predicate of a goal of a kind, where those of goals of another kind are known: of the same predicate they
+/// aren't looked up again.
+fn predicate_near<'a>(
+    modules: &'a Modules,
+    known: Kind<CellName>,
+    predicate: Predicate<'a, CellName>,
+    kind: Kind<CellName>,
+) -> Predicate<'a, CellName>
+    requires some { AreSome predicate.names.now predicate.clauses.now }
+    requires serves { Serves modules.now.loaded known predicate }
+    ensures some { AreSome result.names.now result.clauses.now }
+    ensures serves { Serves modules.now.loaded kind result }
+{
+    match known {
+        Kind::Calls(call) => {
+            if calls_same(call, kind) {
+                return predicate;
+            }
+            predicate_of(modules, kind)
+        }
+        Kind::Unifies(_, _) => predicate_of(modules, kind),
+        Kind::Goes => predicate_of(modules, kind),
+        Kind::Waits(_) => predicate_of(modules, kind),
+        Kind::Nothing => predicate_of(modules, kind),
     }
 }
 
@@ -85,39 +130,48 @@ pub(crate) fn hung_standing(
     Ok(standing)
 }
 
-/// The same of the goal of a number, which is for a cell.
+/// The same of the goal of a number, which is for a cell, where the predicate of goals of one kind is known.
 fn standing_at(
     store: &mut Store<CellName>,
     modules: &Modules,
+    known: Kind<CellName>,
+    predicate: Predicate<'_, CellName>,
     trial: &mut Trial<CellName>,
     number: u64,
     cell: Cell<CellName>,
 ) -> Result<Option<u64>, AllocError>
-    requires { IsIn store.old.held cell }
+    requires cell { IsIn store.old.held cell }
+    requires some { AreSome predicate.names.now predicate.clauses.now }
+    requires serves { Serves modules.now.loaded known predicate }
     ensures stands { IfOk result (λ standing. StandsAt modules.now.loaded store.old.held store.new.hooks cell (record { number = number; standing = standing })) }
     ensures held { store.new.held ≡ store.old.held }
     ensures grown { HasGrown store.old store.new }
 {
     let kind = kind_of(store, cell);
-    let predicate = predicate_of(modules, kind);
-    hung_standing(store, kind, predicate, trial, number)
+    let clauses = predicate_near(modules, known, predicate, kind);
+    hung_standing(store, kind, clauses, trial, number)
 }
 
-/// Looks at the goal of a number, which is for a cell: the clause by which it can step becomes one change more.
+/// Looks at the goal of a number, which is for a cell: the clause by which it can step becomes one change more. The predicate of
+/// goals of one kind is known here and below.
 fn look_at_cell(
     store: &mut Store<CellName>,
     modules: &Modules,
+    known: Kind<CellName>,
+    predicate: Predicate<'_, CellName>,
     trial: &mut Trial<CellName>,
     number: u64,
     cell: Cell<CellName>,
     changes: &mut Vec<Change>,
 ) -> Result<(), AllocError>
-    requires { IsIn store.old.held cell }
+    requires cell { IsIn store.old.held cell }
+    requires some { AreSome predicate.names.now predicate.clauses.now }
+    requires serves { Serves modules.now.loaded known predicate }
     ensures finds { OnOk result (FindsOut modules.now.loaded store.old.held store.new.hooks cell number changes.old.items changes.new.items) }
     ensures held { store.new.held ≡ store.old.held }
     ensures grown { HasGrown store.old store.new }
 {
-    let standing = standing_at(store, modules, trial, number, cell)?;
+    let standing = standing_at(store, modules, known, predicate, trial, number, cell)?;
     changes.push(Change { number, standing })?;
     Ok(())
 }
@@ -127,12 +181,16 @@ fn wake(
     store: &mut Store<CellName>,
     goals: &GoalTable<CellName>,
     modules: &Modules,
+    known: Kind<CellName>,
+    predicate: Predicate<'_, CellName>,
     trial: &mut Trial<CellName>,
     removed: u64,
     number: u64,
     changes: &mut Vec<Change>,
 ) -> Result<(), AllocError>
-    requires { AreGoalsIn store.old.held goals.now.goals }
+    requires goals { AreGoalsIn store.old.held goals.now.goals }
+    requires some { AreSome predicate.names.now predicate.clauses.now }
+    requires serves { Serves modules.now.loaded known predicate }
     ensures wakes { OnOk result (Wakes modules.now.loaded store.old.held store.old.hooks store.new.hooks goals.now.goals removed number changes.old.items changes.new.items) }
     ensures held { store.new.held ≡ store.old.held }
     ensures grown { HasGrown store.old store.new }
@@ -144,7 +202,9 @@ fn wake(
         None => Ok(()),
         Some(goal) => match goal.task {
             Task::Monitor => Ok(()),
-            Task::Reduces(cell) => look_at_cell(store, modules, trial, number, cell, changes),
+            Task::Reduces(cell) => look_at_cell(
+                store, modules, known, predicate, trial, number, cell, changes,
+            ),
         },
     }
 }
@@ -154,18 +214,24 @@ pub(crate) fn wake_told(
     store: &mut Store<CellName>,
     goals: &GoalTable<CellName>,
     modules: &Modules,
+    known: Kind<CellName>,
+    predicate: Predicate<'_, CellName>,
     trial: &mut Trial<CellName>,
     removed: u64,
     told: &[u64],
     changes: &mut Vec<Change>,
 ) -> Result<(), AllocError>
-    requires { AreGoalsIn store.old.held goals.now.goals }
+    requires goals { AreGoalsIn store.old.held goals.now.goals }
+    requires some { AreSome predicate.names.now predicate.clauses.now }
+    requires serves { Serves modules.now.loaded known predicate }
     ensures wakes { OnOk result (WakesTold modules.now.loaded store.old.held store.old.hooks store.new.hooks goals.now.goals removed told.now changes.old.items changes.new.items) }
     ensures held { store.new.held ≡ store.old.held }
     ensures grown { HasGrown store.old store.new }
 {
     for number in told {
-        wake(store, goals, modules, trial, removed, *number, changes)?;
+        wake(
+            store, goals, modules, known, predicate, trial, removed, *number, changes,
+        )?;
     }
     Ok(())
 }
@@ -175,6 +241,8 @@ pub(crate) fn wake_told(
 pub(crate) fn wake_added(
     store: &mut Store<CellName>,
     modules: &Modules,
+    known: Kind<CellName>,
+    predicate: Predicate<'_, CellName>,
     trial: &mut Trial<CellName>,
     last_goal: u64,
     cells: &[Cell<CellName>],
@@ -183,6 +251,8 @@ pub(crate) fn wake_added(
     requires cells { AreIn store.old.held cells.now }
     requires fits { last_goal + length cells.now < 2 ^ 64 }
     requires empty { standings.old.items ≡ [] }
+    requires some { AreSome predicate.names.now predicate.clauses.now }
+    requires serves { Serves modules.now.loaded known predicate }
     ensures wakes { OnOk result (WakesAdded modules.now.loaded store.old.held store.new.hooks last_goal cells.now standings.new.items) }
     ensures count { OnOk result (length standings.new.items ≡ length cells.now) }
     ensures held { store.new.held ≡ store.old.held }
@@ -192,7 +262,7 @@ pub(crate) fn wake_added(
     let mut number = last_goal;
     for cell in cells {
         number += 1;
-        let standing = standing_at(store, modules, trial, number, *cell)?;
+        let standing = standing_at(store, modules, known, predicate, trial, number, *cell)?;
         standings.push_reserved(standing);
     }
     Ok(())

@@ -1,6 +1,6 @@
 // Reductions that are drafted.
 
-ghost use Rattle.std.specs.Prelude.{◌≡◌, ◌+◌, ◌<◌, ◌^◌, List, ℕ, length, Some, IfOk, OnOk};
+ghost use Rattle.std.specs.Prelude.{◌≡◌, ◌+◌, ◌<◌, ◌^◌, false, List, ℕ, length, Some, IfOk, OnOk};
 ghost use Rattle.kl1_atoms.specs.declared.known.Known.{Known};
 ghost use Rattle.kl1_store.specs.Held.{IsIn, AreIn};
 ghost use Rattle.kl1_store.specs.Hooks.{HasGrown};
@@ -9,7 +9,8 @@ ghost use Rattle.kl1_moves.specs.Moves.{MoveIn};
 ghost use Rattle.kl1_goals.specs.Tables.{IsKnown, AreInOrder};
 ghost use Rattle.kl1_account.specs.Account.{Account};
 ghost use Rattle.kl1_account.specs.Kept.{AreGoalsIn, AreOwned, AreUpTo, IsShoenIn, AreShoensIn, AreNumbered};
-ghost use Rattle.kl1_account.specs.Reducing.{Allows, IsAllowed, IsBegun, WakesAll, IsDrafted, ReducesAs};
+ghost use Rattle.kl1_account.specs.Looking.{Serves};
+ghost use Rattle.kl1_account.specs.Reducing.{IsBegun, WakesAll, Finishes, ReducesAs};
 
 use crate::draft::Draft;
 use crate::limits::are_numbers;
@@ -21,7 +22,7 @@ use kl1_clause::Predicate;
 use kl1_goals::{Goal, GoalTable, Task};
 use kl1_model::limits::MOST_ENTRIES;
 use kl1_modules::Modules;
-use kl1_moves::{Move, Trial, kind_of, move_of};
+use kl1_moves::{Kind, Move, Trial, kind_of, move_of};
 use kl1_shoen::{Shoen, ShoenTree};
 use kl1_store::{Cell, Point, Store};
 use kl1_text::CellName;
@@ -46,12 +47,14 @@ fn last_of(last: u64, more: usize) -> Result<u64, AllocError>
     last.checked_add(more as u64).ok_or(AllocError)
 }
 
-/// Looks at the goals of a draft that hang on variables which were bound since a mark, and at those that come. Where memory is
-/// refused, more may hang.
+/// Looks at the goals of a draft that hang on variables which were bound since a mark, and at those that come. The
+/// predicate of goals of one kind is known. Where memory is refused, more may hang.
 fn wake(
     store: &mut Store<CellName>,
     goals: &GoalTable<CellName>,
     modules: &Modules,
+    known: Kind<CellName>,
+    predicate: Predicate<'_, CellName>,
     trial: &mut Trial<CellName>,
     draft: &mut Draft,
     mark: Point,
@@ -59,6 +62,8 @@ fn wake(
     requires goals { AreGoalsIn store.old.held goals.now.goals }
     requires order { AreInOrder goals.now.goals }
     requires cells { AreIn store.old.held draft.old.cells.items }
+    requires some { AreSome predicate.names.now predicate.clauses.now }
+    requires serves { Serves modules.now.loaded known predicate }
     requires fits { draft.old.last_goal + length draft.old.cells.items < 2 ^ 64 }
     ensures wakes { OnOk result (WakesAll modules.now.loaded mark store.old store.new goals.now.goals draft.new) }
     ensures count { OnOk result (length draft.new.standings.items ≡ length draft.new.cells.items) }
@@ -74,6 +79,8 @@ fn wake(
         store,
         goals,
         modules,
+        known,
+        predicate,
         trial,
         draft.removed,
         &draft.told,
@@ -82,6 +89,8 @@ fn wake(
     wake_added(
         store,
         modules,
+        known,
+        predicate,
         trial,
         draft.last_goal,
         &draft.cells,
@@ -89,40 +98,33 @@ fn wake(
     )
 }
 
-/// Drafts a move of a goal, which is this cell, for a draft that has begun. Where memory is refused, the store may have grown.
-fn draft_move(
+/// Finishes a draft whose goal has done its move since a mark: looks at the shoen, and at the goals that are to be looked at, and
+/// makes room for those that come. The predicate of goals of one kind is known. Where memory is refused, the store may have grown.
+fn finish(
     store: &mut Store<CellName>,
     goals: &mut GoalTable<CellName>,
     modules: &Modules,
+    known: Kind<CellName>,
+    predicate: Predicate<'_, CellName>,
     trial: &mut Trial<CellName>,
     draft: &mut Draft,
-    goal: Goal<CellName>,
-    cell: Cell<CellName>,
-    predicate: Predicate<'_, CellName>,
-    made: Move<CellName>,
+    mark: Point,
 ) -> Result<(), AllocError>
-    requires some { 0 < store.old.held.variables }
     requires goals { AreGoalsIn store.old.held goals.old.goals }
     requires order { AreInOrder goals.old.goals }
-    requires last { AreUpTo draft.old.last_goal goals.old.goals }
-    requires begun { IsBegun goal draft.old.shoen draft.old.last_goal draft.old }
     requires shoen { IsShoenIn store.old.held draft.old.shoen }
-    requires number { draft.old.shoen.number ≡ goal.shoen }
-    requires known { IsKnown goal goals.old.shoens }
-    requires cell { IsIn store.old.held cell }
-    requires inside { MoveIn store.old.held predicate trial.old.places.items (Some made) }
-    requires predicate { AreSome predicate.names.now predicate.clauses.now }
-    requires allowed { IsAllowed modules.now.loaded store.old.held predicate trial.old.places.items cell made }
-    ensures ok { OnOk result ((clause : ℕ) → Allows modules.now.loaded store.old.held predicate.entry trial.old.places.items cell made clause → IsDrafted modules.now.loaded store.old store.new goals.old.goals goal cell clause goals.old.shoens goals.new.room draft.old draft.new) }
+    requires living { draft.old.is_ending ≡ false }
+    requires cells { AreIn store.old.held draft.old.cells.items }
+    requires some { AreSome predicate.names.now predicate.clauses.now }
+    requires serves { Serves modules.now.loaded known predicate }
+    ensures ok { OnOk result (Finishes modules.now.loaded mark store.old store.new goals.old.goals goals.new.room draft.old draft.new) }
     ensures goals { goals.new.goals ≡ goals.old.goals }
     ensures shoens { goals.new.shoens ≡ goals.old.shoens }
     ensures grown { HasGrown store.old store.new }
 {
-    let mark = store.mark();
-    do_move(store, predicate, made, trial, cell, draft)?;
     settle(store, goals, draft)?;
     let _last = last_of(draft.last_goal, draft.cells.len())?;
-    wake(store, goals, modules, trial, draft, mark)?;
+    wake(store, goals, modules, known, predicate, trial, draft, mark)?;
     goals.reserve(draft.cells.len(), 0)
 }
 
@@ -172,8 +174,8 @@ pub(crate) fn draft_reduction(
         unreachable!()
     };
     begin(draft, goal, shoen, last_goal);
-    draft_move(
-        store, goals, modules, trial, draft, goal, cell, predicate, made,
-    )?;
+    let mark = store.mark();
+    do_move(store, predicate, made, trial, cell, draft)?;
+    finish(store, goals, modules, kind, predicate, trial, draft, mark)?;
     Ok(None)
 }

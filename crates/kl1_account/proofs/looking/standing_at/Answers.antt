@@ -3,7 +3,7 @@ use Rattle.std.specs.Prelude.{Option}
 use Rattle.std.proofs.lemmas.Result.{IfOk-weaker}
 use Rattle.kl1_account.specs.declared.draft.Change.{Change}
 use Rattle.kl1_account.specs.Looking.{StandsBy, StandsAt}
-use Rattle.kl1_account.proofs.Looks.{stands_at}
+use Rattle.kl1_account.proofs.Looks.{serves_has, stands_at}
 use Rattle.kl1_account.proofs.looking.standing_at.Goals as goal
 
 pub returns-clause-stands : goal.returns-clause-stands
@@ -13,8 +13,8 @@ returns-clause-stands c =
     let hooks = c.hung_standing.new.store.hooks in
     let x = c.args.cell in
     let kind = c.kind_of-kind.result in
-    let p = c.predicate_of-predicate.result in
+    let p = c.predicate_near-clauses.result in
     let one : Option ℕ → Change = λ s. record { number = c.args.number; standing = s } in
     IfOk-weaker c.hung_standing.result (λ s. StandsBy h hooks kind p (one s)) (λ s. StandsAt ms h hooks x (one s))
-    (λ s found. stands_at ms h hooks x kind p (one s) c.kind_of-kind.ensures.kind c.predicate_of-predicate.ensures.has found)
+    (λ s found. stands_at ms h hooks x kind p (one s) c.kind_of-kind.ensures.kind (serves_has ms kind p c.predicate_near-clauses.ensures.serves) found)
     c.hung_standing.ensures.stands

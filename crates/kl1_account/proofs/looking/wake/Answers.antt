@@ -7,8 +7,8 @@ use Rattle.kl1_account.proofs.looking.wake.Goals as goal
 pub returns-then-number-removed-clause-wakes : goal.returns-then-number-removed-clause-wakes
 returns-then-number-removed-clause-wakes c = removed_wakes c.args.modules.now.loaded c.args.store.now.held c.args.store.now.hooks c.args.goals.now.goals c.args.removed c.args.number c.args.changes.now.items c.if-number-removed.true
 
-pub look_at_cell-requires : goal.look_at_cell-requires
-look_at_cell-requires c = found_in c.args.store.now.held (has_number c.args.number) c.args.goals.now.goals c.in-Some.goal c.in-Reduces.cell c.requires c.in-Some.ensures.goal c.in-Reduces.is
+pub look_at_cell-requires-clause-cell : goal.look_at_cell-requires-clause-cell
+look_at_cell-requires-clause-cell c = found_in c.args.store.now.held (has_number c.args.number) c.args.goals.now.goals c.in-Some.goal c.in-Reduces.cell c.requires.goals c.in-Some.ensures.goal c.in-Reduces.is
 
 pub returns-in-None-clause-wakes : goal.returns-in-None-clause-wakes
 returns-in-None-clause-wakes c = absent_wakes c.args.modules.now.loaded c.args.store.now.held c.args.store.now.hooks c.args.goals.now.goals c.args.removed c.args.number c.args.changes.now.items c.in-None.ensures.goal

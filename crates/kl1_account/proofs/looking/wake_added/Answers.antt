@@ -5,8 +5,8 @@ use Rattle.kl1_store.specs.Held.{Held, IsIn}
 use Rattle.kl1_account.proofs.Added.{next_added, nth_in}
 use Rattle.kl1_account.proofs.looking.wake_added.Goals as goal
 
-pub standing_at-requires : goal.standing_at-requires
-standing_at-requires c =
+pub standing_at-requires-clause-cell : goal.standing_at-requires-clause-cell
+standing_at-requires-clause-cell c =
     let P : Held CellName → Type 0 = λ h. IsIn h (get_or c.args.cells.now c.loop-cell.cell-index (Variable 0)) in
     subst P (sym c.loop-cell.invariant.adds.held) (nth_in c.args.store.now.held c.args.cells.now c.loop-cell.cell-index (Variable 0) c.requires.cells c.loop-cell-test.true)
 
