@@ -7,11 +7,7 @@ use crate::{read, script};
 pub enum Part {
     /// Nothing that there is: no row is right.
     Unknown,
-    /// A store with names that are numbers.
-    Numbers,
-    /// A store with names that are texts.
-    Texts,
-    /// Names, terms, texts and code, by what is asked of them.
+    /// Clauses on goals, by what is asked of them.
     Read(read::Kind),
     /// An account.
     One,
@@ -22,29 +18,7 @@ pub enum Part {
 }
 
 /// The parts by the two words that name them at the front of a heading.
-const PARTS: [(&[u8], Part); 47] = [
-    (b"store numbers ", Part::Numbers),
-    (b"store texts ", Part::Texts),
-    (b"read name ", Part::Read(read::Kind::Name)),
-    (b"read place ", Part::Read(read::Kind::Place)),
-    (b"read built_in ", Part::Read(read::Kind::BuiltIn)),
-    (b"read text_is ", Part::Read(read::Kind::TextIs)),
-    (b"read number_is ", Part::Read(read::Kind::NumberIs)),
-    (b"read integer ", Part::Read(read::Kind::Integer)),
-    (b"read print ", Part::Read(read::Kind::Print)),
-    (b"read put ", Part::Read(read::Kind::Put)),
-    (b"read copy ", Part::Read(read::Kind::Copy)),
-    (b"read variables ", Part::Read(read::Kind::Variables)),
-    (b"read depth ", Part::Read(read::Kind::Depth)),
-    (b"read of_nodes ", Part::Read(read::Kind::OfNodes)),
-    (b"read nodes ", Part::Read(read::Kind::Nodes)),
-    (b"read goal ", Part::Read(read::Kind::Goal)),
-    (b"read module ", Part::Read(read::Kind::Module)),
-    (b"read items ", Part::Read(read::Kind::Items)),
-    (b"read clauses ", Part::Read(read::Kind::Clauses)),
-    (b"read code ", Part::Read(read::Kind::Code)),
-    (b"read predicate ", Part::Read(read::Kind::Predicate)),
-    (b"read sizes ", Part::Read(read::Kind::Sizes)),
+const PARTS: [(&[u8], Part); 25] = [
     (b"read verdict ", Part::Read(read::Kind::Verdict)),
     (b"read bound ", Part::Read(read::Kind::Bound)),
     (b"read places ", Part::Read(read::Kind::Places)),

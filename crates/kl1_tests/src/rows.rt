@@ -1,10 +1,3 @@
-// Rows of tests: lines of an act and the answer that is wanted, in groups, and the report of which groups are right.
+// Rows of tests, as `kl1_rows` reads them.
 
-mod decoding;
-mod groups;
-mod pieces;
-mod text;
-
-pub use groups::put_report;
-pub use pieces::{cut, is_counted, is_joined, number_of, small_number_of};
-pub use text::Text;
+pub use kl1_rows::{Text, Tried, cut, is_counted, is_joined, number_of, put_report};

@@ -7,7 +7,7 @@ ghost use Rattle.kl1_match.specs.Instances.{IsClause, AreThere};
 
 use crate::read::kind::Kind;
 use crate::read::printed_cells::{put_cells, walked};
-use crate::rows::{Text, cut};
+use crate::rows::Text;
 use kl1_clause::{Code, CompiledClause};
 use kl1_match::{Place, Scratch, Verdict, build_goal, instance, verdict_on};
 use kl1_read::read_goal;
@@ -16,9 +16,8 @@ use kl1_term::Term;
 use kl1_text::{AtomText, NameValue};
 use std::alloc::AllocError;
 
-/// Puts the second of two goals, with `?` between them, in a store that has the first.
-pub fn put_built(answer: &mut Text, act: &[u8]) {
-    let (front, behind) = cut(act, b'?');
+/// Puts the second of two goals in a store that has the first.
+pub fn put_built(answer: &mut Text, front: &[u8], behind: &[u8]) {
     match read_goal(answer.alloc, front) {
         Ok(first) => match read_goal(answer.alloc, behind) {
             Ok(second) => {

@@ -6,9 +6,8 @@ ghost use Rattle.kl1_match.specs.Instances.{AreThere};
 ghost use Rattle.kl1_moves.specs.Kinds.{KindIn};
 
 use crate::read::heads::{behind_colon, cell_of, put_numbers};
-use crate::read::printed_cells::put_cells;
+use crate::read::printed_cells::{push_arguments, put_cells};
 use crate::rows::Text;
-use crate::store::argument;
 use kl1_clause::{Code, Predicate};
 use kl1_moves::{Kind, Move, Trial, commit, kind_of, move_of, or_none, standing_of};
 use kl1_read::read_goal;
@@ -41,10 +40,11 @@ fn put_each(
     let Some(Cell::Structure(structure)) = behind_colon(store, cell) else {
         return Err(AllocError);
     };
-    for index in 0..8 {
-        if let Some(goal) = argument(store, structure, index) {
-            put_move(answer, store, code, goal)?;
-        }
+    let mut goals = Vec::new(answer.alloc);
+    push_arguments(store, structure, &mut goals)?;
+    goals.reverse();
+    for goal in &goals {
+        put_move(answer, store, code, *goal)?;
     }
     Ok(())
 }

@@ -5,7 +5,7 @@ ghost use Rattle.kl1_store.specs.Held.{IsIn};
 
 use crate::rows::Text;
 use kl1_store::{Cell, Store};
-use kl1_text::{AtomText, NameValue};
+use kl1_text::{AtomText, NameValue, put_atom, put_int};
 use std::alloc::AllocError;
 
 /// What a cell is bound to, where it is one of the store.
@@ -49,11 +49,11 @@ fn put_top(
             answer.put(b"_");
             answer.put_number(u64::from(number));
         }
-        Some(Cell::Integer(number)) => answer.put_integer(number),
-        Some(Cell::Atom(name)) => answer.put_atom(&name),
+        Some(Cell::Integer(number)) => put_int(&mut answer.bytes, number)?,
+        Some(Cell::Atom(name)) => put_atom(&mut answer.bytes, &name)?,
         Some(Cell::Structure(structure)) => {
             let head = store.look(structure);
-            answer.put_atom(&head.name);
+            put_atom(&mut answer.bytes, &head.name)?;
             answer.put(b"/");
             answer.put_number(u64::from(head.count));
             push_arguments(store, structure, stack)?;
@@ -63,7 +63,7 @@ fn put_top(
 }
 
 /// Puts the arguments of a structure on a stack, the first on top.
-fn push_arguments<N: NameValue>(
+pub fn push_arguments<N: NameValue>(
     store: &Store<N>,
     structure: u32,
     stack: &mut Vec<Cell<N>>,

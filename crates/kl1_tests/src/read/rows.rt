@@ -1,34 +1,22 @@
 // The answers to rows, by the kinds of their groups.
 
-use crate::read::codes::put_by_code;
-use crate::read::heads::put_built;
+use crate::read::heads::{put_built, put_verdict};
 use crate::read::kind::Kind;
-use crate::read::names::{put_built_in, put_forms, put_number_is, put_place, put_text_is};
-use crate::read::nodes::{put_of_nodes, put_printer};
-use crate::read::numbers::integer_of;
-use crate::read::terms::put_terms;
-use crate::read::texts::{put_goal, put_items, put_module};
-use crate::rows::Text;
+use crate::read::moves::put_moves;
+use crate::rows::{Text, cut};
+use kl1_clause::Code;
 use std::alloc::Global;
 
-/// Puts the answer to an act of a kind.
+/// Puts the answer to an act of a kind: two goals, or a source and a goal, with a question mark between them.
 fn put_answer(answer: &mut Text, kind: Kind, act: &[u8]) {
-    match kind {
-        Kind::Name => put_forms(answer, act),
-        Kind::Place => put_place(answer, act),
-        Kind::BuiltIn => put_built_in(answer, act),
-        Kind::TextIs => put_text_is(answer, act),
-        Kind::NumberIs => put_number_is(answer, act),
-        Kind::Integer => answer.put_integer(integer_of(act)),
-        Kind::Nodes => put_printer(answer, act),
-        Kind::OfNodes => put_of_nodes(answer, act),
-        Kind::Goal => put_goal(answer, act),
-        Kind::Module => put_module(answer, kind, act),
-        Kind::Items | Kind::Clauses => put_items(answer, kind, act),
-        Kind::Code | Kind::Predicate | Kind::Sizes => put_by_code(answer, kind, act),
-        Kind::Verdict | Kind::Bound | Kind::Places | Kind::Moves => put_by_code(answer, kind, act),
-        Kind::Built => put_built(answer, act),
-        _ => put_terms(answer, kind, act),
+    let (front, goal) = cut(act, b'?');
+    if matches!(kind, Kind::Built) {
+        return put_built(answer, front, goal);
+    }
+    match Code::compile(answer.alloc, front) {
+        Ok(code) if matches!(kind, Kind::Moves) => put_moves(answer, &code, goal),
+        Ok(code) => put_verdict(answer, kind, &code, goal),
+        Err(_fault) => answer.fail(),
     }
 }
 

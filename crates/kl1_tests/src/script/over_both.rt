@@ -1,8 +1,7 @@
 // Scripts over a plain table of names and over a shared one.
 
-use crate::atoms::next_plain_seat;
 use crate::script::scripts::is_script;
-use kl1_atoms::PlainTable;
+use crate::seats::names_of_one;
 use kl1_lines::split_line;
 use kl1_script::{Counted, accounts_in, answer_over};
 use kl1_user::AccountName;
@@ -13,10 +12,9 @@ fn is_answered(alloc: Global, accounts: &[AccountName], records: &[u8], output: 
     if accounts.is_empty() {
         return false;
     }
-    let Ok((names, mut seats)) = PlainTable::new(alloc, 1) else {
+    let Ok((names, seat)) = names_of_one(alloc) else {
         return false;
     };
-    let seat = next_plain_seat(&names, &mut seats);
     let mut sink = Counted::new(Vec::new(alloc));
     let done = answer_over(alloc, accounts, names, seat, records, &mut sink);
     done.is_ok() && sink.inner.as_slice() == output

@@ -1,6 +1,6 @@
 // An account over a table of names of its own.
 
-use crate::atoms::next_plain_seat;
+use crate::seats::names_of_one;
 use kl1_atoms::{PlainSeat, PlainTable};
 use kl1_user::{AccountName, ClauseNo, Event, GoalNo, Reply, UserState};
 use std::alloc::{AllocError, Global};
@@ -38,8 +38,7 @@ impl Player {
     /// An account of this name in which nothing has happened.
     fn named(alloc: Global, name: AccountName) -> Result<Self, AllocError> {
         let user = UserState::fresh(alloc, name)?;
-        let (names, mut seats) = PlainTable::new(alloc, 1)?;
-        let seat = next_plain_seat(&names, &mut seats);
+        let (names, seat) = names_of_one(alloc)?;
         Ok(Player { user, names, seat })
     }
 

@@ -1,0 +1,15 @@
+// Rows on a store of cells.
+
+mod acts;
+mod answer;
+mod operands;
+mod rooms;
+mod sheet;
+mod stores;
+mod streams;
+mod trees;
+mod undone;
+mod views;
+mod written;
+
+pub use stores::Stores;
