@@ -9,11 +9,21 @@ use std::alloc::Global;
 /// What a line before a group begins with.
 const HEADING: &[u8] = b"== ";
 
+/// What a text stands for, at the second try where memory is refused at the first.
+fn decoded_again(alloc: Global, text: &[u8]) -> Text {
+    let whole = decoded(alloc, text);
+    if whole.has_failed {
+        decoded(alloc, text)
+    } else {
+        whole
+    }
+}
+
 /// Whether the act of a row comes to its answer, where it is tried on this.
 fn is_right<T: Tried>(alloc: Global, tried: &mut T, row: &[u8]) -> bool {
     let (act, wanted) = cut(row, b'#');
-    let act = decoded(alloc, act);
-    let wanted = decoded(alloc, wanted);
+    let act = decoded_again(alloc, act);
+    let wanted = decoded_again(alloc, wanted);
     if act.has_failed | wanted.has_failed {
         return false;
     }

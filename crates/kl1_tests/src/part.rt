@@ -11,6 +11,8 @@ pub enum Part {
     Read(read::Kind),
     /// An account.
     One,
+    /// An account, to which an event is done again where memory was refused.
+    Again,
     /// An account, and a slow one beside it.
     Both,
     /// Scripts and what they are made of, by what is asked of them.
@@ -18,13 +20,14 @@ pub enum Part {
 }
 
 /// The parts by the two words that name them at the front of a heading.
-const PARTS: [(&[u8], Part); 25] = [
+const PARTS: [(&[u8], Part); 26] = [
     (b"read verdict ", Part::Read(read::Kind::Verdict)),
     (b"read bound ", Part::Read(read::Kind::Bound)),
     (b"read places ", Part::Read(read::Kind::Places)),
     (b"read moves ", Part::Read(read::Kind::Moves)),
     (b"read built ", Part::Read(read::Kind::Built)),
     (b"user one ", Part::One),
+    (b"user again ", Part::Again),
     (b"user both ", Part::Both),
     (b"script line ", Part::Script(script::Kind::Line)),
     (b"script name ", Part::Script(script::Kind::Name)),

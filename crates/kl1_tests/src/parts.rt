@@ -29,7 +29,7 @@ impl Tried for Parts {
     fn begin(&mut self, heading: &[u8]) {
         self.part = part_of(heading);
         match self.part {
-            Part::One => self.accounts.begin(self.alloc, false),
+            Part::One | Part::Again => self.accounts.begin(self.alloc, false),
             Part::Both => self.accounts.begin(self.alloc, true),
             _ => (),
         }
@@ -40,6 +40,7 @@ impl Tried for Parts {
             Part::Unknown => false,
             Part::Read(kind) => read::is_right(self.alloc, kind, act, wanted),
             Part::One | Part::Both => self.accounts.is_right(self.alloc, act, wanted),
+            Part::Again => self.accounts.is_right_again(self.alloc, act, wanted),
             Part::Script(kind) => script::is_right(self.alloc, kind, act, wanted),
         }
     }

@@ -2,6 +2,7 @@
 
 mod accounts;
 mod acts;
+mod again;
 mod answers;
 mod made;
 mod matching;

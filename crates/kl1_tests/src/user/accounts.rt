@@ -2,6 +2,7 @@
 
 use crate::rows::cut;
 use crate::user::acts::{event_of, is_run_right};
+use crate::user::again::is_right_again;
 use crate::user::answers::{is_answered, is_first, is_first_by, is_shown};
 use crate::user::plain::Plain;
 use crate::user::player::Player;
@@ -86,9 +87,13 @@ impl Accounts {
         }
     }
 
-    /// Begins anew, with an account in which nothing has happened, and a slow one beside it or none.
+    /// Begins anew, with an account in which nothing has happened, and a slow one beside it or none. Where memory is refused,
+    /// it is tried once more.
     pub fn begin(&mut self, alloc: Global, has_plain: bool) {
-        self.user = Player::fresh(alloc);
+        self.user = match Player::fresh(alloc) {
+            None => Player::fresh(alloc),
+            user => user,
+        };
         self.plain = if has_plain {
             Some(Plain::fresh(alloc))
         } else {
@@ -101,6 +106,14 @@ impl Accounts {
         match &mut self.user {
             None => false,
             Some(user) => is_act_right(alloc, user, &mut self.plain, act, wanted),
+        }
+    }
+
+    /// Whether an act comes to the answer that is wanted, also where memory is refused once.
+    pub fn is_right_again(&mut self, alloc: Global, act: &[u8], wanted: &[u8]) -> bool {
+        match &mut self.user {
+            None => false,
+            Some(user) => is_right_again(alloc, user, act, wanted),
         }
     }
 }

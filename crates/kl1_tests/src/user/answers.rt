@@ -42,7 +42,7 @@ fn is_change(reply: &Reply, wanted: &[u8]) -> bool {
 }
 
 /// Whether a reply has this text.
-fn is_reply(reply: &Reply, wanted: &[u8]) -> bool {
+pub fn is_reply(reply: &Reply, wanted: &[u8]) -> bool {
     match reply {
         Reply::Shown(text) => is_joined(wanted, b"+ ", text.as_slice()),
         Reply::Refused(refusal) => is_refusal(*refusal, wanted),
