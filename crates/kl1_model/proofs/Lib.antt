@@ -12,5 +12,10 @@ pub mod ReadSteps
 pub mod Clashes
 pub mod SameEach
 pub mod LeastClause
+pub mod SameStays
+pub mod ScanStays
+pub mod GuardStays
 pub mod VerdictStays
+pub mod VerdictWaits
+pub mod OpenSections
 pub mod TermStays
