@@ -1,5 +1,5 @@
 -- Outcomes of tests when variables are replaced.
-use Rattle.std.proofs.Common.{◌≡◌, ℕ, suc, ◌+◌, ◌-◌, ◌≤◌, ◌==◌, max, Bool, true, false, if◌then◌else◌, List, [], ◌∷◌, ◌++◌, refl, sym, ap, ap₂, ◌∙◌, subst, arith, ◌⊎◌, inl, inr}
+use Rattle.std.proofs.Common.{◌≡◌, ℕ, suc, ◌+◌, ◌-◌, ◌≤◌, ◌==◌, Bool, true, false, if◌then◌else◌, List, [], ◌∷◌, ◌++◌, refl, sym, ap, ap₂, ◌∙◌, arith, inl, inr}
 use Rattle.std.specs.Prelude.{nat_le, bytes_eq, codes, Option, Some, None, option_map}
 use Rattle.std.proofs.lemmas.Bool.{cond-true, cond-false, eqb-true, leb-true, le-leb, false_from_ne_true, false≢true}
 use Rattle.std.proofs.lemmas.Bool.Decides.{leb_tells}
@@ -10,7 +10,7 @@ use Rattle.kl1_model.specs.Term.{Term, variable, integer, atom, structure, Terms
 use Rattle.kl1_model.specs.Meaning.{highest, highest_in}
 use Rattle.kl1_model.specs.Same.{Passive, same, differs, unknown, passive, awaited, all_awaited}
 use Rattle.kl1_model.specs.Arithmetic.{Evaluated, comes_to, awaits, is_no_expression, evaluated}
-use Rattle.kl1_model.specs.Guard.{Outcome, agrees, clashes, waits, both, decided, Test, holds, looks, is_same, is_other, compares, test_of, inspection_named, comparison_named, test_substituted, is_found, look, same_outcome, other_outcome, alike, compared_sides, comparison, outcome_of, outcome_by}
+use Rattle.kl1_model.specs.Guard.{Outcome, agrees, clashes, waits, both, decided, Test, holds, looks, is_same, is_other, compares, test_of, inspection_named, comparison_named, test_substituted, is_found, look, same_outcome, other_outcome, alike, compared_sides, outcome_of, outcome_by}
 use Rattle.kl1_model.specs.Match.{awaited_in, places_alike, alike_with, each_alike, beside, test_variable, own_variables, own_outcome, test_outcome, tests_outcome, guard_outcome}
 use Rattle.kl1_model.specs.Waits.{LeavesEach, awaited_by_evaluated}
 use Rattle.kl1_model.specs.WaitsLaws.{place_substituted, places_substituted}
@@ -228,7 +228,7 @@ module _ (last : ℕ) (s : ℕ → Term) (places : List Replacement) where
   by_test (Some test) few l = ap outcome_of (test_again test few) ∙ outcome_stays (lift last s) (test_substituted before test) l
 
 more_than : (v last : ℕ) → nat_le v last ≡ false → suc last ≤ v
-more_than v last e = elim (leb_tells v last) [ | inl a ↦ absurd (false≢true (sym e ∙ a.0)) | inr b ↦ b.1 ]
+more_than v last e = elim (leb_tells v last) [ inl a ↦ absurd (false≢true (sym e ∙ a.0)) | inr b ↦ b.1 ]
 
 lifted_by : (last : ℕ) (s : ℕ → Term) (v : ℕ) (vs : List ℕ) (c : Bool) → nat_le v last ≡ c → (LeavesEach s (own_variables last vs) → LeavesEach (lift last s) vs) → LeavesEach s (if c then own_variables last vs else (v - suc last) ∷ own_variables last vs) → LeavesEach (lift last s) (v ∷ vs)
 lifted_by last s v vs true e f k = (cond-true (nat_le v last) (variable v) (beside last (s (v - suc last))) e, f k)

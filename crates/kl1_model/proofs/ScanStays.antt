@@ -1,10 +1,10 @@
 -- What a term comes to as an expression when variables are replaced.
-use Rattle.std.proofs.Common.{◌≡◌, ℕ, zero, suc, List, [], ◌∷◌, refl, sym, ap, ◌∙◌, subst}
+use Rattle.std.proofs.Common.{◌≡◌, ℕ, zero, suc, refl, sym, ap, ◌∙◌, subst}
 use Rattle.std.specs.Prelude.{Option, Some, None}
 use Rattle.kl1_model.specs.declared.operator.Operator.{Operator}
 use Rattle.kl1_model.specs.Limits.{most_operators}
 use Rattle.kl1_model.specs.Term.{Term, variable, integer, atom, structure, Terms, none, more, substituted, each_substituted}
-use Rattle.kl1_model.specs.Arithmetic.{Scan, Formula, found, waits_for, wrong_type, operation, operator_named, with_left, with_right, scan, scan_operation, Evaluated, comes_to, awaits, is_no_expression, computed, evaluated}
+use Rattle.kl1_model.specs.Arithmetic.{Scan, Formula, found, waits_for, wrong_type, operator_named, with_left, with_right, scan, scan_operation, computed, evaluated}
 use Rattle.kl1_model.specs.Waits.{LeavesEach, awaited_by_evaluated}
 
 -- the variable for which a scan waits is left

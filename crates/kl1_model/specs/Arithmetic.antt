@@ -1,5 +1,5 @@
 -- Expressions of arithmetic: how a term is scanned, and what it comes to.
-use Rattle.std.specs.Prelude.{ℕ, zero, suc, nat_lt, if◌then◌else◌, Bool, ℤ, pos, negsuc, ◌+ℤ◌, ◌-ℤ◌, ◌*ℤ◌, int_div, int_rem, List, [], ◌∷◌, codes, bytes_eq, find, Option, Some, None}
+use Rattle.std.specs.Prelude.{ℕ, suc, nat_lt, if◌then◌else◌, Bool, ℤ, pos, negsuc, ◌+ℤ◌, ◌-ℤ◌, ◌*ℤ◌, int_div, int_rem, List, [], ◌∷◌, codes, bytes_eq, find, Option, Some}
 use Rattle.std.specs.Ordering.{int_eq}
 pub use Rattle.kl1_model.specs.Limits.{most_operators}
 use Rattle.kl1_model.specs.Limits.{number_limit}

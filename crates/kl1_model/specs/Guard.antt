@@ -1,13 +1,13 @@
 -- The tests of a guard: which terms are tests, and what comes of each of them.
-use Rattle.std.specs.Prelude.{ℕ, ◌++◌, not, Bool, true, false, if◌then◌else◌, ℤ, int_lt, int_le, List, [], ◌∷◌, codes, bytes_eq, find, Option, Some, None, option_map, is_some}
+use Rattle.std.specs.Prelude.{ℕ, ◌++◌, not, Bool, true, false, if◌then◌else◌, ℤ, int_lt, int_le, List, [], ◌∷◌, codes, bytes_eq, find, Option, Some, None, option_map}
 use Rattle.std.specs.Ordering.{int_eq}
 use Rattle.kl1_model.specs.declared.comparison.Comparison.{Comparison}
 use Rattle.kl1_model.specs.declared.comparison.Comparison.TheVariants.{Less, Greater, AtMost, AtLeast, SameNumber, OtherNumber}
 use Rattle.kl1_model.specs.declared.inspection.Inspection.{Inspection}
 use Rattle.kl1_model.specs.declared.inspection.Inspection.TheVariants.{Bound, Integer, Atom, Cell}
 use Rattle.kl1_model.specs.declared.number.Number.{Number}
-use Rattle.kl1_model.specs.declared.number.Number.TheVariants.{Value, Overflow, ZeroDivisor}
-use Rattle.kl1_model.specs.Term.{Term, variable, integer, atom, structure, Terms, none, more, substituted}
+use Rattle.kl1_model.specs.declared.number.Number.TheVariants.{Value}
+use Rattle.kl1_model.specs.Term.{Term, variable, integer, atom, structure, none, more, substituted}
 use Rattle.kl1_model.specs.Same.{Passive, same, differs, unknown, passive, awaited}
 use Rattle.kl1_model.specs.Arithmetic.{Evaluated, comes_to, awaits, is_no_expression, evaluated}
 

@@ -199,8 +199,8 @@ abbrev pub clauses_from : List ℕ → List Clause → Option ℕ → List Item 
 clauses_from m before behind [] = clauses_ended before behind
 clauses_from m before behind (item ∷ items) =
     elim (is_otherwise item.tokens) [
-      true ↦ if_good item.line (otherwise_on item.line before behind) (λ line. clauses_from m before (Some line) items) |
-      false ↦ if_good item.line (with_clause before (is_some behind) (option_and_then (clause_of m) item.tokens)) (λ now. clauses_from m now None items)
+      | true ↦ if_good item.line (otherwise_on item.line before behind) (λ line. clauses_from m before (Some line) items)
+      | false ↦ if_good item.line (with_clause before (is_some behind) (option_and_then (clause_of m) item.tokens)) (λ now. clauses_from m now None items)
     ]
 
 -- a module with its clauses, or the line of the bad item among them
