@@ -9,7 +9,7 @@ use Rattle.std.proofs.lemmas.Option.{none-some, same_Some, cond_some, option_and
 use Rattle.kl1_model.specs.declared.sign.Sign.TheVariants.{Neck, Bar, Close}
 use Rattle.kl1_model.specs.Term.{Term, atom, Terms, none, more, list_of}
 use Rattle.kl1_model.specs.Token.{Token, sign_token, tokens_of_text}
-use Rattle.kl1_model.specs.Grammar.{Numbered, Series, Head, bare_head, head_with, GoalTree, plain_goal, urgent_goal, Body, last_goal, another_goal, ClauseTree, fact, rule, guarded, series_tokens, head_tokens, body_tokens, clause_tokens}
+use Rattle.kl1_model.specs.Grammar.{Numbered, Head, bare_head, head_with, GoalTree, plain_goal, urgent_goal, Body, last_goal, another_goal, ClauseTree, fact, rule, guarded, series_tokens, head_tokens, body_tokens, clause_tokens}
 use Rattle.kl1_model.specs.Reader.{clause_tree}
 use Rattle.kl1_model.specs.Numbering.{numbered_tokens}
 use Rattle.kl1_model.specs.Meaning.{pair, expression_term, series_terms, is_writable, variables_of, variables_in, numbered_after}
@@ -139,8 +139,8 @@ ended_numbered before (Some line) cs h all = cc
 -- an item, and what follows it
 by_item : (m : List ℕ) (item : Item) (items : List Item) (before cs : List Clause) (behind : Option ℕ) (x : Bool) → ((now : List Clause) (pending : Option ℕ) → clauses_from m now pending items ≡ good cs → list_all is_numbered_clause now ≡ true → list_all is_numbered_clause cs ≡ true) →
     elim x [
-      true ↦ if_good item.line (otherwise_on item.line before behind) (λ line. clauses_from m before (Some line) items) |
-      false ↦ if_good item.line (with_clause before (is_some behind) (option_and_then (clause_of m) item.tokens)) (λ now. clauses_from m now None items)
+      | true ↦ if_good item.line (otherwise_on item.line before behind) (λ line. clauses_from m before (Some line) items)
+      | false ↦ if_good item.line (with_clause before (is_some behind) (option_and_then (clause_of m) item.tokens)) (λ now. clauses_from m now None items)
     ] ≡ good cs → list_all is_numbered_clause before ≡ true → list_all is_numbered_clause cs ≡ true
 by_item m item items before cs behind true go h all = good_some item.line (otherwise_on item.line before behind) _ cs h (λ line is rest. go before (Some line) rest all)
 by_item m item items before cs behind false go h all =

@@ -5,6 +5,7 @@ use Rattle.kl1_model.specs.declared.comparison.Comparison.TheVariants.{SameNumbe
 use Rattle.kl1_model.specs.declared.number.Number.TheVariants.{Value, Overflow, ZeroDivisor}
 use Rattle.kl1_model.specs.Term.{Term, variable, integer, atom, structure, Terms, none}
 use Rattle.kl1_model.specs.Meaning.{pair}
+use Rattle.kl1_model.specs.Print.{print}
 use Rattle.kl1_model.specs.Token.{tokens_of_text}
 use Rattle.kl1_model.specs.Arithmetic.{operated, comes_to, awaits, is_no_expression, evaluated}
 use Rattle.kl1_model.specs.Guard.{Outcome, agrees, clashes, waits, test_of, comparison, outcome_by}
@@ -230,6 +231,10 @@ pub record GuardRowsHold : Type 0 where
   pub fault_of_computing : outcome_in (codes "1 / 0 =\\= 1") ≡ clashes
   -- and is looked for where neither side waits
   pub scan_before_fault : outcome_in (codes "1 / 0 < X") ≡ waits (1 ∷ [])
+  -- a sum prints as structures, and its print reads back
+  pub print_of_a_sum : option_map print (term_in (codes "X := 1 - 2 - 3")) ≡ Some (codes "':='(_1,'-'('-'(1,2),3))")
+  -- as the same term
+  pub print_of_a_sum_reads_back : term_in (codes "':='(_1,'-'('-'(1,2),3))") ≡ term_in (codes "X := 1 - 2 - 3")
   -- `otherwise` stands behind a clause
   pub otherwise_first : read_module (lines (codes ":- module z." ∷ codes "otherwise." ∷ codes "p." ∷ [])) ≡ bad 2
   -- `otherwise` stands before a clause

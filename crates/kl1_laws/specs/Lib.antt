@@ -3,3 +3,4 @@ pub mod AccountRows
 pub mod ReadRows
 pub mod ReadFaults
 pub mod GuardRows
+pub mod ArithmeticLaws

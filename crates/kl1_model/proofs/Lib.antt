@@ -13,6 +13,7 @@ pub mod Clashes
 pub mod SameEach
 pub mod LeastClause
 pub mod SameStays
+pub mod ScanFinds
 pub mod ScanStays
 pub mod GuardStays
 pub mod VerdictStays

@@ -29,6 +29,7 @@ pub mod Line
 pub mod Record
 pub mod SameLaws
 pub mod WaitsLaws
+pub mod ScanLaws
 pub mod Command
 pub mod Script
 pub mod UnifyLaws

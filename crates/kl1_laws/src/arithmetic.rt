@@ -1,0 +1,13 @@
+//! Laws of arithmetic.
+ghost use Rattle.kl1_laws.specs.ArithmeticLaws.{RemaindersAreLeft};
+ghost use Rattle.kl1_model.specs.ScanLaws.{ScanFinds};
+
+/// A scan finds an expression in a term exactly where the term writes it, with one operator fewer left for each that it has.
+pub fn scans_find_expressions()
+    ensures { ScanFinds }
+{}
+
+/// A remainder is the dividend less the quotient times the divisor.
+pub fn remainders_are_left()
+    ensures { RemaindersAreLeft }
+{}
