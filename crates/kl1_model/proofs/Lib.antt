@@ -16,6 +16,7 @@ pub mod SameStays
 pub mod ScanFinds
 pub mod ScanStays
 pub mod GuardStays
+pub mod Beside
 pub mod VerdictStays
 pub mod VerdictWaits
 pub mod OpenSections
