@@ -214,11 +214,11 @@ built_in_goal_by_clause_0_row : (done_by (after_lines (fresh (codes "alice")) (c
 unfolding digits tokens_within expression_at series_by grouped_by body_by solve_within walk
 built_in_goal_by_clause_0_row = refl
 
-clause_below_opens_row : first (after_lines (having (lines (codes ":- module m." ∷ codes "p(f(X),X) :- X > 5 | true." ∷ codes "otherwise." ∷ codes "p(X,Y)." ∷ codes "g :- p(V,1), V = f(W)." ∷ []))) (codes "start 9 0 9 m:p(V,1)" ∷ [])) ≡ Some (record { goal = 2; clause = 2 })
+clause_below_opens_row : first (after_lines (having (lines (codes ":- module m." ∷ codes "p(f(X),X) :- X > 5 | true." ∷ codes "otherwise." ∷ codes "p(X,Y)." ∷ codes "g :- p(V,1), V = f(W)." ∷ []))) (codes "start 9 0 9 m:g" ∷ codes "run 1" ∷ [])) ≡ Some (record { goal = 3; clause = 2 })
 unfolding digits tokens_within expression_at series_by grouped_by body_by solve_within walk
 clause_below_opens_row = refl
 
-clause_below_closes_row : first (after_lines (having (lines (codes ":- module m." ∷ codes "p(f(X),X) :- X > 5 | true." ∷ codes "otherwise." ∷ codes "p(X,Y)." ∷ codes "g :- p(V,1), V = f(W)." ∷ []))) (codes "start 9 0 9 m:p(f(W),1)" ∷ [])) ≡ None
+clause_below_closes_row : first (after_lines (having (lines (codes ":- module m." ∷ codes "p(f(X),X) :- X > 5 | true." ∷ codes "otherwise." ∷ codes "p(X,Y)." ∷ codes "g :- p(V,1), V = f(W)." ∷ []))) (codes "start 9 0 9 m:g" ∷ codes "run 1" ∷ codes "reduce 4 0" ∷ [])) ≡ None
 unfolding digits tokens_within expression_at series_by grouped_by body_by solve_within walk
 clause_below_closes_row = refl
 
@@ -230,6 +230,46 @@ one_variable_seven_and_one_row : stream 1 (after_lines (having (lines (codes ":-
 unfolding digits tokens_within expression_at series_by grouped_by body_by solve_within walk
 one_variable_seven_and_one_row = refl
 
+failure_is_open_row : (done_by (after_lines (having (lines (codes ":- module m." ∷ codes "p(f(X),X) :- X > 5 | true." ∷ codes "g :- p(V,1), V = f(W)." ∷ []))) (codes "start 9 0 9 m:g" ∷ codes "run 1" ∷ [])) (parse (codes "reduce 3 0"))).reply ≡ reduced
+unfolding digits tokens_within expression_at series_by grouped_by body_by solve_within walk
+failure_is_open_row = refl
+
+failure_closes_row : (done_by (after_lines (having (lines (codes ":- module m." ∷ codes "p(f(X),X) :- X > 5 | true." ∷ codes "g :- p(V,1), V = f(W)." ∷ []))) (codes "start 9 0 9 m:g" ∷ codes "run 1" ∷ codes "reduce 4 0" ∷ [])) (parse (codes "reduce 3 0"))).reply ≡ refused step_refused
+unfolding digits tokens_within expression_at series_by grouped_by body_by solve_within walk
+failure_closes_row = refl
+
+clause_below_opens_by_number_row : (done_by (after_lines (having (lines (codes ":- module m." ∷ codes "p(f(X),X) :- X > 5 | true." ∷ codes "otherwise." ∷ codes "p(X,Y)." ∷ codes "g :- p(V,1), V = f(W)." ∷ []))) (codes "start 9 0 9 m:g" ∷ codes "run 1" ∷ [])) (parse (codes "reduce 3 2"))).reply ≡ reduced
+unfolding digits tokens_within expression_at series_by grouped_by body_by solve_within walk
+clause_below_opens_by_number_row = refl
+
+clause_below_closes_by_number_row : (done_by (after_lines (having (lines (codes ":- module m." ∷ codes "p(f(X),X) :- X > 5 | true." ∷ codes "otherwise." ∷ codes "p(X,Y)." ∷ codes "g :- p(V,1), V = f(W)." ∷ []))) (codes "start 9 0 9 m:g" ∷ codes "run 1" ∷ codes "reduce 4 0" ∷ [])) (parse (codes "reduce 3 2"))).reply ≡ refused step_refused
+unfolding digits tokens_within expression_at series_by grouped_by body_by solve_within walk
+clause_below_closes_by_number_row = refl
+
+second_section_waits_row : (done_by (after_lines (having (lines (codes ":- module m." ∷ codes "p(a,X)." ∷ codes "otherwise." ∷ codes "p(X,b)." ∷ codes "otherwise." ∷ codes "p(X,Y)." ∷ []))) (codes "start 9 0 9 m:p(c,V)" ∷ [])) (parse (codes "quiet"))).reply ≡ quiet_is true
+unfolding digits tokens_within expression_at series_by grouped_by body_by solve_within walk
+second_section_waits_row = refl
+
+third_section_is_closed_row : (done_by (after_lines (having (lines (codes ":- module m." ∷ codes "p(a,X)." ∷ codes "otherwise." ∷ codes "p(X,b)." ∷ codes "otherwise." ∷ codes "p(X,Y)." ∷ []))) (codes "start 9 0 9 m:p(c,V)" ∷ [])) (parse (codes "reduce 2 3"))).reply ≡ refused step_refused
+unfolding digits tokens_within expression_at series_by grouped_by body_by solve_within walk
+third_section_is_closed_row = refl
+
+third_section_is_open_row : (done_by (after_lines (having (lines (codes ":- module m." ∷ codes "p(a,X)." ∷ codes "otherwise." ∷ codes "p(X,b)." ∷ codes "otherwise." ∷ codes "p(X,Y)." ∷ []))) (codes "start 9 0 9 m:p(c,d)" ∷ [])) (parse (codes "reduce 2 3"))).reply ≡ reduced
+unfolding digits tokens_within expression_at series_by grouped_by body_by solve_within walk
+third_section_is_open_row = refl
+
+clause_0_of_a_goal_that_waits_row : (done_by (after_lines (having one_fact) (codes "start 10 0 10 t:q(X,b)" ∷ [])) (parse (codes "reduce 2 0"))).reply ≡ refused step_refused
+unfolding digits tokens_within expression_at series_by grouped_by body_by solve_within walk
+clause_0_of_a_goal_that_waits_row = refl
+
+variable_in_its_own_expression_row : (done_by (after_lines (fresh (codes "alice")) (codes "start 10 0 10 X := X + 1" ∷ [])) (parse (codes "quiet"))).reply ≡ quiet_is true
+unfolding digits tokens_within expression_at series_by grouped_by body_by solve_within walk
+variable_in_its_own_expression_row = refl
+
+equation_of_an_equation_row : stream 1 (after_lines (fresh (codes "alice")) (codes "start 10 0 10 (a = b) = c" ∷ codes "run 10" ∷ [])) ≡ codes "[started,exception(failure,'='('='(a,b),c)),terminated]"
+unfolding digits tokens_within expression_at series_by grouped_by body_by solve_within walk
+equation_of_an_equation_row = refl
+
 -- all of them
 pub account_rows_hold : AccountRowsHold
-account_rows_hold = record { numbers_after_a_start = numbers_after_a_start_row; stream_after_a_start = stream_after_a_start_row; stream_after_a_failure = stream_after_a_failure_row; numbers_after_a_failure = numbers_after_a_failure_row; life_after_a_failure = life_after_a_failure_row; goals_after_a_failure = goals_after_a_failure_row; second_stream = second_stream_row; numbers_after_two_starts = numbers_after_two_starts_row; append_numbers = append_numbers_row; append_by_reductions = append_by_reductions_row; second_of_two_clauses = second_of_two_clauses_row; reports_are_bound_later = reports_are_bound_later_row; reports_before_it = reports_before_it_row; clause_0_of_a_goal_with_candidates = clause_0_of_a_goal_with_candidates_row; clause_that_rejects = clause_that_rejects_row; clause_that_is_not_there = clause_that_is_not_there_row; monitor_waits = monitor_waits_row; goal_0 = goal_0_row; goal_that_is_not_there = goal_that_is_not_there_row; clause_that_waits = clause_that_waits_row; quiet_where_all_wait = quiet_where_all_wait_row; first_with_its_clause = first_with_its_clause_row; first_that_fails = first_that_fails_row; allowance_of_64_bits = allowance_of_64_bits_row; low_over_high = low_over_high_row; variables_not_in_order = variables_not_in_order_row; variable_0 = variable_0_row; integer_of_65_bits = integer_of_65_bits_row; goal_number_of_64_bits = goal_number_of_64_bits_row; source_of_65537_bytes = source_of_65537_bytes_row; full_journal_load = full_journal_load_row; full_journal_exists = full_journal_exists_row; full_journal_start = full_journal_start_row; full_journal_reduction = full_journal_reduction_row; full_journal_bad_step = full_journal_bad_step_row; full_journal_run = full_journal_run_row; full_journal_quiet = full_journal_quiet_row; run_to_the_last_entry = run_to_the_last_entry_row; names_by_first_use = names_by_first_use_row; refused_start_takes_no_names = refused_start_takes_no_names_row; sum_that_overflows = sum_that_overflows_row; expression_of_a_wrong_type = expression_of_a_wrong_type_row; division_by_zero = division_by_zero_row; result_that_clashes = result_that_clashes_row; result_that_agrees = result_that_agrees_row; result_in_the_goal = result_in_the_goal_row; expression_that_waits = expression_that_waits_row; expression_by_clause_0 = expression_by_clause_0_row; built_in_goal_by_clause_1 = built_in_goal_by_clause_1_row; built_in_goal_by_clause_0 = built_in_goal_by_clause_0_row; clause_below_opens = clause_below_opens_row; clause_below_closes = clause_below_closes_row; one_variable_eight_times = one_variable_eight_times_row; one_variable_seven_and_one = one_variable_seven_and_one_row }
+account_rows_hold = record { numbers_after_a_start = numbers_after_a_start_row; stream_after_a_start = stream_after_a_start_row; stream_after_a_failure = stream_after_a_failure_row; numbers_after_a_failure = numbers_after_a_failure_row; life_after_a_failure = life_after_a_failure_row; goals_after_a_failure = goals_after_a_failure_row; second_stream = second_stream_row; numbers_after_two_starts = numbers_after_two_starts_row; append_numbers = append_numbers_row; append_by_reductions = append_by_reductions_row; second_of_two_clauses = second_of_two_clauses_row; reports_are_bound_later = reports_are_bound_later_row; reports_before_it = reports_before_it_row; clause_0_of_a_goal_with_candidates = clause_0_of_a_goal_with_candidates_row; clause_that_rejects = clause_that_rejects_row; clause_that_is_not_there = clause_that_is_not_there_row; monitor_waits = monitor_waits_row; goal_0 = goal_0_row; goal_that_is_not_there = goal_that_is_not_there_row; clause_that_waits = clause_that_waits_row; quiet_where_all_wait = quiet_where_all_wait_row; first_with_its_clause = first_with_its_clause_row; first_that_fails = first_that_fails_row; allowance_of_64_bits = allowance_of_64_bits_row; low_over_high = low_over_high_row; variables_not_in_order = variables_not_in_order_row; variable_0 = variable_0_row; integer_of_65_bits = integer_of_65_bits_row; goal_number_of_64_bits = goal_number_of_64_bits_row; source_of_65537_bytes = source_of_65537_bytes_row; full_journal_load = full_journal_load_row; full_journal_exists = full_journal_exists_row; full_journal_start = full_journal_start_row; full_journal_reduction = full_journal_reduction_row; full_journal_bad_step = full_journal_bad_step_row; full_journal_run = full_journal_run_row; full_journal_quiet = full_journal_quiet_row; run_to_the_last_entry = run_to_the_last_entry_row; names_by_first_use = names_by_first_use_row; refused_start_takes_no_names = refused_start_takes_no_names_row; sum_that_overflows = sum_that_overflows_row; expression_of_a_wrong_type = expression_of_a_wrong_type_row; division_by_zero = division_by_zero_row; result_that_clashes = result_that_clashes_row; result_that_agrees = result_that_agrees_row; result_in_the_goal = result_in_the_goal_row; expression_that_waits = expression_that_waits_row; expression_by_clause_0 = expression_by_clause_0_row; built_in_goal_by_clause_1 = built_in_goal_by_clause_1_row; built_in_goal_by_clause_0 = built_in_goal_by_clause_0_row; clause_below_opens = clause_below_opens_row; clause_below_closes = clause_below_closes_row; one_variable_eight_times = one_variable_eight_times_row; one_variable_seven_and_one = one_variable_seven_and_one_row; failure_is_open = failure_is_open_row; failure_closes = failure_closes_row; clause_below_opens_by_number = clause_below_opens_by_number_row; clause_below_closes_by_number = clause_below_closes_by_number_row; second_section_waits = second_section_waits_row; third_section_is_closed = third_section_is_closed_row; third_section_is_open = third_section_is_open_row; clause_0_of_a_goal_that_waits = clause_0_of_a_goal_that_waits_row; variable_in_its_own_expression = variable_in_its_own_expression_row; equation_of_an_equation = equation_of_an_equation_row }

@@ -114,6 +114,14 @@ clash_outweighs_waiting_script = codes "accounts alice" ++ 10 ∷ [] ++ codes "a
 abbrev pub clash_outweighs_waiting_output : List ℕ
 clash_outweighs_waiting_output = codes "alice + loaded t" ++ 10 ∷ [] ++ codes "alice + shoen 1" ++ 10 ∷ [] ++ codes "alice + 1" ++ 10 ∷ [] ++ codes "alice + t:q(_1,c)" ++ 10 ∷ []
 
+-- the bytes of clause_below_otherwise_closes.script
+abbrev pub clause_below_otherwise_closes_script : List ℕ
+clause_below_otherwise_closes_script = codes "accounts alice" ++ 10 ∷ [] ++ codes "alice load 81" ++ 10 ∷ [] ++ codes ":- module m." ++ 10 ∷ [] ++ codes "p(f(X),X) :- X > 5 | true." ++ 10 ∷ [] ++ codes "otherwise." ++ 10 ∷ [] ++ codes "p(X,Y)." ++ 10 ∷ [] ++ codes "g :- p(V,1), V = f(W)." ++ 10 ∷ [] ++ codes "alice start 9 0 9 m:g" ++ 10 ∷ [] ++ codes "alice run 1" ++ 10 ∷ [] ++ codes "alice reduce 4 0" ++ 10 ∷ [] ++ codes "alice quiet" ++ 10 ∷ [] ++ codes "alice reduce 3 2" ++ 10 ∷ [] ++ codes "alice start 9 0 9 m:g" ++ 10 ∷ [] ++ codes "alice run 1" ++ 10 ∷ [] ++ codes "alice reduce 7 2" ++ 10 ∷ []
+
+-- the bytes of clause_below_otherwise_closes.expected
+abbrev pub clause_below_otherwise_closes_output : List ℕ
+clause_below_otherwise_closes_output = codes "alice + loaded m" ++ 10 ∷ [] ++ codes "alice + shoen 1" ++ 10 ∷ [] ++ codes "alice + 1" ++ 10 ∷ [] ++ codes "alice + reduced" ++ 10 ∷ [] ++ codes "alice + yes" ++ 10 ∷ [] ++ codes "alice - 6 step" ++ 10 ∷ [] ++ codes "alice + shoen 2" ++ 10 ∷ [] ++ codes "alice + 1" ++ 10 ∷ [] ++ codes "alice + reduced" ++ 10 ∷ []
+
 -- the bytes of commands_that_are_none.script
 abbrev pub commands_that_are_none_script : List ℕ
 commands_that_are_none_script = codes "accounts alice bob" ++ 10 ∷ [] ++ codes "alice quiet now" ++ 10 ∷ [] ++ codes "alice modules" ++ 10 ∷ [] ++ codes "alice status 1" ++ 10 ∷ [] ++ codes "alice reduce 2" ++ 10 ∷ [] ++ codes "alice login" ++ 10 ∷ [] ++ codes "alice journal 1 1" ++ 10 ∷ [] ++ codes "alice RUN 1" ++ 10 ∷ []
@@ -124,11 +132,11 @@ commands_that_are_none_output = codes "alice - 1 syntax" ++ 10 ∷ [] ++ codes "
 
 -- the bytes of countdown.script
 abbrev pub countdown_script : List ℕ
-countdown_script = codes "accounts alice" ++ 10 ∷ [] ++ codes "alice load 73" ++ 10 ∷ [] ++ codes ":- module n." ++ 10 ∷ [] ++ codes "w(0) :- true | true, true." ++ 10 ∷ [] ++ codes "w(N) :- N > 0 | M := N - 1, w(M)." ++ 10 ∷ [] ++ codes "alice start 100 0 10 n:w(2)" ++ 10 ∷ [] ++ codes "alice run 100" ++ 10 ∷ [] ++ codes "alice quiet" ++ 10 ∷ [] ++ codes "alice start 100 0 10 n:w(-1)" ++ 10 ∷ [] ++ codes "alice reduce 12 1" ++ 10 ∷ [] ++ codes "alice run 9" ++ 10 ∷ []
+countdown_script = codes "accounts alice" ++ 10 ∷ [] ++ codes "alice load 73" ++ 10 ∷ [] ++ codes ":- module n." ++ 10 ∷ [] ++ codes "w(0) :- true | true, true." ++ 10 ∷ [] ++ codes "w(N) :- N > 0 | M := N - 1, w(M)." ++ 10 ∷ [] ++ codes "alice start 100 0 10 n:w(2)" ++ 10 ∷ [] ++ codes "alice run 100" ++ 10 ∷ [] ++ codes "alice quiet" ++ 10 ∷ [] ++ codes "alice start 100 0 10 n:w(-1)" ++ 10 ∷ [] ++ codes "alice reduce 10 1" ++ 10 ∷ [] ++ codes "alice reduce 10 2" ++ 10 ∷ [] ++ codes "alice run 9" ++ 10 ∷ []
 
 -- the bytes of countdown.expected
 abbrev pub countdown_output : List ℕ
-countdown_output = codes "alice + loaded n" ++ 10 ∷ [] ++ codes "alice + shoen 1" ++ 10 ∷ [] ++ codes "alice + 7" ++ 10 ∷ [] ++ codes "alice + yes" ++ 10 ∷ [] ++ codes "alice + shoen 2" ++ 10 ∷ [] ++ codes "alice - 6 step" ++ 10 ∷ [] ++ codes "alice + 1" ++ 10 ∷ []
+countdown_output = codes "alice + loaded n" ++ 10 ∷ [] ++ codes "alice + shoen 1" ++ 10 ∷ [] ++ codes "alice + 7" ++ 10 ∷ [] ++ codes "alice + yes" ++ 10 ∷ [] ++ codes "alice + shoen 2" ++ 10 ∷ [] ++ codes "alice - 6 step" ++ 10 ∷ [] ++ codes "alice - 6 step" ++ 10 ∷ [] ++ codes "alice + 1" ++ 10 ∷ []
 
 -- the bytes of doubled_account.script
 abbrev pub doubled_account_script : List ℕ
@@ -172,11 +180,11 @@ goal_waits_for_ever_output = codes "alice + loaded app" ++ 10 ∷ [] ++ codes "a
 
 -- the bytes of goals_of_a_start.script
 abbrev pub goals_of_a_start_script : List ℕ
-goals_of_a_start_script = codes "accounts alice bob" ++ 10 ∷ [] ++ codes "alice start 9223372036854775807 0 4095 true" ++ 10 ∷ [] ++ codes "alice start 9223372036854775808 0 1 true" ++ 10 ∷ [] ++ codes "alice start 1 0 4096 true" ++ 10 ∷ [] ++ codes "alice start 1 2 1 true" ++ 10 ∷ [] ++ codes "alice start 1 0 1" ++ 10 ∷ [] ++ codes "alice start 1 0 1 p(X)" ++ 10 ∷ [] ++ codes "alice start 1 0 1 X" ++ 10 ∷ [] ++ codes "alice start 1 0 1 true." ++ 10 ∷ [] ++ codes "alice start 1 0 1 X = -1 % a comment" ++ 10 ∷ [] ++ codes "alice start 1 0 1 X := 1" ++ 10 ∷ [] ++ codes "alice start 1 0 1 atom_from(X,Y)" ++ 10 ∷ [] ++ codes "alice start 1 0 1 shoen:execute(true,0,1,2,C,R)" ++ 10 ∷ [] ++ codes "alice start 1 0 1 shoen:execute(true)" ++ 10 ∷ [] ++ codes "alice start 1 0 1 m:[]" ++ 10 ∷ [] ++ codes "alice start 1 0 1 '='(X,1)" ++ 10 ∷ [] ++ codes "alice start 1 0 1 m:p:q" ++ 10 ∷ [] ++ codes "alice start 1 0 1 m:p@priority(1)" ++ 10 ∷ []
+goals_of_a_start_script = codes "accounts alice bob" ++ 10 ∷ [] ++ codes "alice start 9223372036854775807 0 4095 true" ++ 10 ∷ [] ++ codes "alice start 9223372036854775808 0 1 true" ++ 10 ∷ [] ++ codes "alice start 1 0 4096 true" ++ 10 ∷ [] ++ codes "alice start 1 2 1 true" ++ 10 ∷ [] ++ codes "alice start 1 0 1" ++ 10 ∷ [] ++ codes "alice start 1 0 1 p(X)" ++ 10 ∷ [] ++ codes "alice start 1 0 1 X" ++ 10 ∷ [] ++ codes "alice start 1 0 1 true." ++ 10 ∷ [] ++ codes "alice start 1 0 1 X = -1 % a comment" ++ 10 ∷ [] ++ codes "alice start 1 0 1 X := 1" ++ 10 ∷ [] ++ codes "alice start 1 0 1 atom_from(X,Y)" ++ 10 ∷ [] ++ codes "alice start 1 0 1 shoen:execute(true,0,1,2,C,R)" ++ 10 ∷ [] ++ codes "alice start 1 0 1 shoen:execute(true)" ++ 10 ∷ [] ++ codes "alice start 1 0 1 m:[]" ++ 10 ∷ [] ++ codes "alice start 1 0 1 '='(X,1)" ++ 10 ∷ [] ++ codes "alice start 1 0 1 m:p:q" ++ 10 ∷ [] ++ codes "alice start 1 0 1 m:p@priority(1)" ++ 10 ∷ [] ++ codes "alice start 1 0 1 X < 1" ++ 10 ∷ [] ++ codes "alice start 1 0 1 a + b" ++ 10 ∷ []
 
 -- the bytes of goals_of_a_start.expected
 abbrev pub goals_of_a_start_output : List ℕ
-goals_of_a_start_output = codes "alice + shoen 1" ++ 10 ∷ [] ++ codes "alice - 1 syntax" ++ 10 ∷ [] ++ codes "alice - 1 syntax" ++ 10 ∷ [] ++ codes "alice - 1 syntax" ++ 10 ∷ [] ++ codes "alice - 1 syntax" ++ 10 ∷ [] ++ codes "alice - 1 syntax" ++ 10 ∷ [] ++ codes "alice - 1 syntax" ++ 10 ∷ [] ++ codes "alice - 1 syntax" ++ 10 ∷ [] ++ codes "alice + shoen 2" ++ 10 ∷ [] ++ codes "alice + shoen 3" ++ 10 ∷ [] ++ codes "alice - 1 syntax" ++ 10 ∷ [] ++ codes "alice - 1 syntax" ++ 10 ∷ [] ++ codes "alice + shoen 4" ++ 10 ∷ [] ++ codes "alice + shoen 5" ++ 10 ∷ [] ++ codes "alice + shoen 6" ++ 10 ∷ [] ++ codes "alice - 1 syntax" ++ 10 ∷ [] ++ codes "alice - 1 syntax" ++ 10 ∷ []
+goals_of_a_start_output = codes "alice + shoen 1" ++ 10 ∷ [] ++ codes "alice - 1 syntax" ++ 10 ∷ [] ++ codes "alice - 1 syntax" ++ 10 ∷ [] ++ codes "alice - 1 syntax" ++ 10 ∷ [] ++ codes "alice - 1 syntax" ++ 10 ∷ [] ++ codes "alice - 1 syntax" ++ 10 ∷ [] ++ codes "alice - 1 syntax" ++ 10 ∷ [] ++ codes "alice - 1 syntax" ++ 10 ∷ [] ++ codes "alice + shoen 2" ++ 10 ∷ [] ++ codes "alice + shoen 3" ++ 10 ∷ [] ++ codes "alice - 1 syntax" ++ 10 ∷ [] ++ codes "alice - 1 syntax" ++ 10 ∷ [] ++ codes "alice + shoen 4" ++ 10 ∷ [] ++ codes "alice + shoen 5" ++ 10 ∷ [] ++ codes "alice + shoen 6" ++ 10 ∷ [] ++ codes "alice - 1 syntax" ++ 10 ∷ [] ++ codes "alice - 1 syntax" ++ 10 ∷ [] ++ codes "alice - 1 syntax" ++ 10 ∷ [] ++ codes "alice - 1 syntax" ++ 10 ∷ []
 
 -- the bytes of greater_priority_then_least_number.script
 abbrev pub greater_priority_then_least_number_script : List ℕ
@@ -332,11 +340,11 @@ numbers_of_19_digits_output = codes "alice + 0" ++ 10 ∷ [] ++ codes "alice - 1
 
 -- the bytes of otherwise_waits.script
 abbrev pub otherwise_waits_script : List ℕ
-otherwise_waits_script = codes "accounts alice" ++ 10 ∷ [] ++ codes "alice load 71" ++ 10 ∷ [] ++ codes ":- module o." ++ 10 ∷ [] ++ codes "p(a,R) :- true | R = 1." ++ 10 ∷ [] ++ codes "otherwise." ++ 10 ∷ [] ++ codes "p(X,R) :- true | R = 2." ++ 10 ∷ [] ++ codes "alice start 10 0 10 o:p(b,R)" ++ 10 ∷ [] ++ codes "alice run 10" ++ 10 ∷ [] ++ codes "alice value 1" ++ 10 ∷ [] ++ codes "alice start 10 0 10 o:p(X,R)" ++ 10 ∷ [] ++ codes "alice run 10" ++ 10 ∷ [] ++ codes "alice reduce 4 2" ++ 10 ∷ [] ++ codes "alice reduce 4 1" ++ 10 ∷ [] ++ codes "alice quiet" ++ 10 ∷ []
+otherwise_waits_script = codes "accounts alice" ++ 10 ∷ [] ++ codes "alice load 71" ++ 10 ∷ [] ++ codes ":- module o." ++ 10 ∷ [] ++ codes "p(a,R) :- true | R = 1." ++ 10 ∷ [] ++ codes "otherwise." ++ 10 ∷ [] ++ codes "p(X,R) :- true | R = 2." ++ 10 ∷ [] ++ codes "alice start 10 0 10 o:p(b,R)" ++ 10 ∷ [] ++ codes "alice run 10" ++ 10 ∷ [] ++ codes "alice value 1" ++ 10 ∷ [] ++ codes "alice start 10 0 10 o:p(X,R)" ++ 10 ∷ [] ++ codes "alice run 10" ++ 10 ∷ [] ++ codes "alice reduce 5 2" ++ 10 ∷ [] ++ codes "alice reduce 5 1" ++ 10 ∷ [] ++ codes "alice reduce 5 0" ++ 10 ∷ [] ++ codes "alice quiet" ++ 10 ∷ []
 
 -- the bytes of otherwise_waits.expected
 abbrev pub otherwise_waits_output : List ℕ
-otherwise_waits_output = codes "alice + loaded o" ++ 10 ∷ [] ++ codes "alice + shoen 1" ++ 10 ∷ [] ++ codes "alice + 2" ++ 10 ∷ [] ++ codes "alice + o:p(b,2)" ++ 10 ∷ [] ++ codes "alice + shoen 2" ++ 10 ∷ [] ++ codes "alice + 0" ++ 10 ∷ [] ++ codes "alice - 6 step" ++ 10 ∷ [] ++ codes "alice - 6 step" ++ 10 ∷ [] ++ codes "alice + yes" ++ 10 ∷ []
+otherwise_waits_output = codes "alice + loaded o" ++ 10 ∷ [] ++ codes "alice + shoen 1" ++ 10 ∷ [] ++ codes "alice + 2" ++ 10 ∷ [] ++ codes "alice + o:p(b,2)" ++ 10 ∷ [] ++ codes "alice + shoen 2" ++ 10 ∷ [] ++ codes "alice + 0" ++ 10 ∷ [] ++ codes "alice - 6 step" ++ 10 ∷ [] ++ codes "alice - 6 step" ++ 10 ∷ [] ++ codes "alice - 6 step" ++ 10 ∷ [] ++ codes "alice + yes" ++ 10 ∷ []
 
 -- the bytes of places_of_one_variable.script
 abbrev pub places_of_one_variable_script : List ℕ
@@ -474,6 +482,7 @@ pub record ExamplesHold : Type 0 where
   pub blanks_between_accounts : output blanks_between_accounts_script ≡ blanks_between_accounts_output
   pub bytes_behind_a_load : output bytes_behind_a_load_script ≡ bytes_behind_a_load_output
   pub clash_outweighs_waiting : output clash_outweighs_waiting_script ≡ clash_outweighs_waiting_output
+  pub clause_below_otherwise_closes : output clause_below_otherwise_closes_script ≡ clause_below_otherwise_closes_output
   pub commands_that_are_none : output commands_that_are_none_script ≡ commands_that_are_none_output
   pub countdown : output countdown_script ≡ countdown_output
   pub doubled_account : output doubled_account_script ≡ doubled_account_output
