@@ -35,6 +35,11 @@ abbrev pub ones_to_the_right : ℕ → Term
 ones_to_the_right zero = integer (pos 1)
 ones_to_the_right (suc n) = pair (codes "+") (integer (pos 1)) (ones_to_the_right n)
 
+-- a term and ones behind it, joined by so many operators, each sum the left operand of the next
+abbrev pub ones_behind : ℕ → Term → Term
+ones_behind zero t = t
+ones_behind (suc n) t = pair (codes "+") (ones_behind n t) (integer (pos 1))
+
 -- whether a text was read as a module
 abbrev pub is_good : Reading Module → Bool
 is_good (good m) = true
@@ -331,3 +336,47 @@ pub record GuardRowsHold : Type 0 where
   pub first_place_changes : verdict_in (codes "p(f(X),X) :- X > 5 | true.") (codes "p(f(W),1)") ≡ Some (suspends (1 ∷ 1 ∷ []))
   -- a clause accepts where match, places and tests agree
   pub accepts_by_all : verdict_in (codes "p(f(X),X) :- X > 5 | true.") (codes "p(f(6),6)") ≡ Some (accepts (record { number = 1; by = integer (pos 6) } ∷ record { number = 1; by = integer (pos 6) } ∷ []))
+  -- an unbound leaf below 64 operators is waited for
+  pub unbound_below_64_operators : evaluated (ones_behind 64 (variable 1)) ≡ awaits 1
+  -- below 65 the last operator is met first
+  pub unbound_below_65_operators : evaluated (ones_behind 65 (variable 1)) ≡ is_no_expression
+  -- before the 65th it is met first itself
+  pub unbound_before_65_operators : evaluated (pair (codes "+") (variable 1) (ones_to_the_right 64)) ≡ awaits 1
+  -- an unbound variable is the same as itself
+  pub one_variable_is_the_same : outcome_in (codes "X = X") ≡ agrees
+  -- parentheses make a relation an operand
+  pub relation_as_an_operand_clashes : outcome_in (codes "(a = b) = c") ≡ clashes
+  -- which is a structure
+  pub relation_as_an_operand : term_in (codes "(a = b) = c") ≡ Some (pair (codes "=") (pair (codes "=") (atom (codes "a")) (atom (codes "b"))) (atom (codes "c")))
+  -- `mod` is an operand where one is expected
+  pub mod_three_times : term_in (codes "mod mod mod") ≡ Some (pair (codes "mod") (atom (codes "mod")) (atom (codes "mod")))
+  -- and groups to the left
+  pub mods_group_to_the_left : term_in (codes "a mod b mod c") ≡ Some (pair (codes "mod") (pair (codes "mod") (atom (codes "a")) (atom (codes "b"))) (atom (codes "c")))
+  -- behind an operand it takes one operand
+  pub mod_before_two_operands : term_in (codes "7 mod(1,2)") ≡ None
+  -- and no less
+  pub mod_at_the_end : term_in (codes "7 mod") ≡ None
+  -- also as an argument
+  pub mod_before_a_parenthesis : term_in (codes "f(a mod)") ≡ None
+  -- `-` before digits is a part of them behind `mod`
+  pub mod_of_a_negative_integer : term_in (codes "7 mod -5") ≡ Some (pair (codes "mod") (integer (pos 7)) (integer (negsuc 4)))
+  -- but an operator where `mod` is the operand
+  pub mod_less_five : term_in (codes "mod -5") ≡ Some (pair (codes "-") (atom (codes "mod")) (integer (pos 5)))
+  -- and behind a name
+  pub name_less_five : term_in (codes "a -5") ≡ Some (pair (codes "-") (atom (codes "a")) (integer (pos 5)))
+  -- behind an operator it is a part of the digits
+  pub twice_minus_three : term_in (codes "2*-3") ≡ Some (pair (codes "*") (integer (pos 2)) (integer (negsuc 2)))
+  -- also without blanks
+  pub one_less_minus_one : term_in (codes "1--1") ≡ Some (pair (codes "-") (integer (pos 1)) (integer (negsuc 0)))
+  -- a blank parts it from them
+  pub minus_and_a_blank : term_in (codes "- 1") ≡ None
+  -- no variable has a sign
+  pub minus_a_variable : term_in (codes "X := -Y") ≡ None
+  -- so is a variable of the goal at two places of a test
+  pub same_variables_are_the_same : verdict_in (codes "p(X,Y) :- X = Y | true.") (codes "p(V,V)") ≡ Some (accepts (record { number = 1; by = variable 1 } ∷ record { number = 2; by = variable 1 } ∷ []))
+  -- a test that agrees leaves the match's wait, which names its variable once
+  pub same_that_waits : verdict_in (codes "p(f(X)) :- X = X | true.") (codes "p(V)") ≡ Some (suspends (1 ∷ []))
+  -- a test that clashes by the first place rejects, and names what the match waits for
+  pub first_place_is_reached : verdict_in (codes "p(X,f(X)) :- X > 5 | true.") (codes "p(1,V)") ≡ Some (rejects (1 ∷ []))
+  -- and rejects still when that is bound
+  pub first_place_stays : verdict_in (codes "p(X,f(X)) :- X > 5 | true.") (codes "p(1,f(W))") ≡ Some (rejects [])
