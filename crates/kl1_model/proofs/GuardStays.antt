@@ -115,7 +115,7 @@ outcome_stays s (compares c t u) l = sides_stay s c (evaluated (substituted s t)
 -- ---- substitutions one after another, and substitutions that agree
 
 mutual
-  then_substituted : (f g : ℕ → Term) (t : Term) → substituted f (substituted g t) ≡ substituted (λ v. substituted f (g v)) t
+  pub then_substituted : (f g : ℕ → Term) (t : Term) → substituted f (substituted g t) ≡ substituted (λ v. substituted f (g v)) t
   then_substituted f g (variable v) = refl
   then_substituted f g (integer i) = refl
   then_substituted f g (atom a) = refl
@@ -136,7 +136,7 @@ mutual
   each_agreeing f g last same_to none few = refl
   each_agreeing f g last same_to (more t ts) few = ap₂ more (agreeing f g last same_to t (omega (arith, few))) (each_agreeing f g last same_to ts (omega (arith, few)))
 
-everywhere : (f g : ℕ → Term) → ((v : ℕ) → f v ≡ g v) → (t : Term) → substituted f t ≡ substituted g t
+pub everywhere : (f g : ℕ → Term) → ((v : ℕ) → f v ≡ g v) → (t : Term) → substituted f t ≡ substituted g t
 everywhere f g all t = agreeing f g (highest t) (λ v few. all v) t (omega arith)
 
 -- ---- tests beside the goal's variables
@@ -148,7 +148,7 @@ lift last s n = if nat_le n last then variable n else beside last (s (n - suc la
 lift_own : (last : ℕ) (s : ℕ → Term) (v : ℕ) → v ≤ last → lift last s v ≡ variable v
 lift_own last s v few = cond-true (nat_le v last) (variable v) (beside last (s (v - suc last))) (le-leb v last few)
 
-behind_last : (last v : ℕ) → nat_le (suc (last + v)) last ≡ false
+pub behind_last : (last v : ℕ) → nat_le (suc (last + v)) last ≡ false
 behind_last last v = false_from_ne_true (nat_le (suc (last + v)) last) (λ e. let less = leb-true (suc (last + v)) last e in omega (arith, less))
 
 lift_goal : (last : ℕ) (s : ℕ → Term) (v : ℕ) → lift last s (suc (last + v)) ≡ beside last (s v)
@@ -171,29 +171,24 @@ test_variable_stays last s [] v few = sym (lift_own last s v few)
 test_variable_stays last s (p ∷ places) v few =
     by_place last s (p.number == v) p.by (test_variable last (places_substituted s places) v) (test_variable last places v) (test_variable_stays last s places v few)
 
-module _ (last : ℕ) (s : ℕ → Term) (places : List Replacement) where
-  abbrev before : ℕ → Term
-  before v = test_variable last places v
-
-  abbrev later : ℕ → Term
-  later v = test_variable last (places_substituted s places) v
-
-  term_again : (t : Term) → highest t ≤ last → substituted later t ≡ substituted (lift last s) (substituted before t)
-  term_again t few = agreeing later (λ v. substituted (lift last s) (before v)) last (test_variable_stays last s places) t few ∙ sym (then_substituted (lift last s) before t)
+-- what stands for the variables of a test before and after, where a substitution makes the one of the other
+module _ (last : ℕ) (s before later : ℕ → Term) (again : (v : ℕ) → v ≤ last → later v ≡ substituted s (before v)) where
+  term_again : (t : Term) → highest t ≤ last → substituted later t ≡ substituted s (substituted before t)
+  term_again t few = agreeing later (λ v. substituted s (before v)) last again t few ∙ sym (then_substituted s before t)
 
   -- the variables of a test are numbered up to the last
-  abbrev FewIn : Test → Type 0
+  abbrev pub FewIn : Test → Type 0
   FewIn holds = Unit {0}
   FewIn (looks i t) = highest t ≤ last
   FewIn (is_same t u) = (highest t ≤ last) × (highest u ≤ last)
   FewIn (is_other t u) = (highest t ≤ last) × (highest u ≤ last)
   FewIn (compares c t u) = (highest t ≤ last) × (highest u ≤ last)
 
-  abbrev FewOption : Option Test → Type 0
+  abbrev pub FewOption : Option Test → Type 0
   FewOption None = Unit {0}
   FewOption (Some test) = FewIn test
 
-  test_again : (test : Test) → FewIn test → test_substituted later test ≡ test_substituted (lift last s) (test_substituted before test)
+  test_again : (test : Test) → FewIn test → test_substituted later test ≡ test_substituted s (test_substituted before test)
   test_again holds few = refl
   test_again (looks i t) few = ap (looks i) (term_again t few)
   test_again (is_same t u) few = ap₂ is_same (term_again t few.0) (term_again u few.1)
@@ -214,7 +209,7 @@ module _ (last : ℕ) (s : ℕ → Term) (places : List Replacement) where
   few_two false false None a b few less = tt
   few_two false false (Some k) a b few less = (few, less)
 
-  few_test : (t : Term) → highest t ≤ last → FewOption (test_of t)
+  pub few_test : (t : Term) → highest t ≤ last → FewOption (test_of t)
   few_test (variable v) few = tt
   few_test (integer i) few = tt
   few_test (atom a) few = few_true (bytes_eq a (codes "true"))
@@ -223,9 +218,9 @@ module _ (last : ℕ) (s : ℕ → Term) (places : List Replacement) where
   few_test (structure f (more a (more b none))) few = few_two (bytes_eq f (codes "=")) (bytes_eq f (codes "\\=")) (comparison_named f) a b (omega (arith, few)) (omega (arith, few))
   few_test (structure f (more a (more b (more c ts)))) few = tt
 
-  by_test : (x : Option Test) → FewOption x → Stays (lift last s) (outcome_by before x) (outcome_by later x)
+  pub by_test : (x : Option Test) → FewOption x → Stays s (outcome_by before x) (outcome_by later x)
   by_test None few l = refl
-  by_test (Some test) few l = ap outcome_of (test_again test few) ∙ outcome_stays (lift last s) (test_substituted before test) l
+  by_test (Some test) few l = ap outcome_of (test_again test few) ∙ outcome_stays s (test_substituted before test) l
 
 more_than : (v last : ℕ) → nat_le v last ≡ false → suc last ≤ v
 more_than v last e = elim (leb_tells v last) [ inl a ↦ absurd (false≢true (sym e ∙ a.0)) | inr b ↦ b.1 ]
@@ -248,7 +243,10 @@ own_left last s (waits vs) l = lifted last s vs l
 
 test_stays : (last : ℕ) (s : ℕ → Term) (places : List Replacement) (t : Term) → highest t ≤ last → Stays s (test_outcome last places t) (test_outcome last (places_substituted s places) t)
 test_stays last s places t few l =
-    ap (own_outcome last) (by_test last s places (test_of t) (few_test last s places t few) (own_left last s (outcome_by (test_variable last places) (test_of t)) l))
+    let before = test_variable last places in
+    let later = test_variable last (places_substituted s places) in
+    let again = test_variable_stays last s places in
+    ap (own_outcome last) (by_test last (lift last s) before later again (test_of t) (few_test last (lift last s) before later again t few) (own_left last s (outcome_by before (test_of t)) l))
 
 tests_stay : (last : ℕ) (s : ℕ → Term) (places : List Replacement) (ts : List Term) → highest_in (terms_of ts) ≤ last → Stays s (tests_outcome last places ts) (tests_outcome last (places_substituted s places) ts)
 tests_stay last s places [] few l = refl

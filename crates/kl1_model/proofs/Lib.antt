@@ -18,6 +18,7 @@ pub mod ScanStays
 pub mod GuardStays
 pub mod Beside
 pub mod VerdictStays
+pub mod RejectsNever
 pub mod VerdictWaits
 pub mod OpenSections
 pub mod TermStays

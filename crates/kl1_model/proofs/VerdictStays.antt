@@ -66,17 +66,17 @@ mutual
 
 -- ---- clashes stay
 
-both_clash : (a b : Outcome) → both a b ≡ clashes → (a ≡ clashes) ⊎ (b ≡ clashes)
+pub both_clash : (a b : Outcome) → both a b ≡ clashes → (a ≡ clashes) ⊎ (b ≡ clashes)
 both_clash agrees b e = inr e
 both_clash clashes b e = inl refl
 both_clash (waits vs) agrees e = absurd (cc)
 both_clash (waits vs) clashes e = inr refl
 both_clash (waits vs) (waits ws) e = absurd (cc)
 
-clash_left : (a b : Outcome) → a ≡ clashes → both a b ≡ clashes
+pub clash_left : (a b : Outcome) → a ≡ clashes → both a b ≡ clashes
 clash_left a b e = ap (λ o. both o b) e
 
-clash_right : (a b : Outcome) → b ≡ clashes → both a b ≡ clashes
+pub clash_right : (a b : Outcome) → b ≡ clashes → both a b ≡ clashes
 clash_right agrees b e = e
 clash_right clashes b e = refl
 clash_right (waits vs) b e = ap (both (waits vs)) e
@@ -103,7 +103,7 @@ mutual
       ap (λ n. (if bytes_eq f g && count_of ps == n then match_terms ps (each_substituted s ts) else with_outcome clashes).outcome) (count-each_substituted s ts)
       ∙ clash_inside (bytes_eq f g && count_of ps == count_of ts) (match_terms ps ts) (match_terms ps (each_substituted s ts)) e (clashes_stay s ps ts)
 
-  clashes_stay : (s : ℕ → Term) (ps ts : Terms) → (match_terms ps ts).outcome ≡ clashes → (match_terms ps (each_substituted s ts)).outcome ≡ clashes
+  pub clashes_stay : (s : ℕ → Term) (ps ts : Terms) → (match_terms ps ts).outcome ≡ clashes → (match_terms ps (each_substituted s ts)).outcome ≡ clashes
   clashes_stay s none none e = absurd (cc)
   clashes_stay s none (more t ts) e = e
   clashes_stay s (more p ps) none e = e
@@ -116,7 +116,7 @@ mutual
 -- ---- verdicts
 
 -- the whole outcome of a match and a guard
-abbrev whole : List Term → Matched → Outcome
+abbrev pub whole : List Term → Matched → Outcome
 whole tests m = both (both m.outcome (each_alike m.places)) (guard_outcome m.places tests)
 
 -- it stays where the match does, until a variable for which it waits is replaced
@@ -134,12 +134,12 @@ stays_with s c ts o e left l =
     ap (verdict_of c.tests) (match_all_stays s c.patterns ts left)
     ∙ ap (verdict_with (after s m)) (whole_stays s c.tests m (subst (λ p. LeavesEach s (awaited_in p)) (sym e) l) ∙ e)
 
-was_clash : (m : Matched) (o : Outcome) (vs : List ℕ) → verdict_with m o ≡ rejects vs → (o ≡ clashes) × (awaited_in m.outcome ≡ vs)
+pub was_clash : (m : Matched) (o : Outcome) (vs : List ℕ) → verdict_with m o ≡ rejects vs → (o ≡ clashes) × (awaited_in m.outcome ≡ vs)
 was_clash m agrees vs e = absurd (cc)
 was_clash m clashes vs e = (refl, cc)
 was_clash m (waits ws) vs e = absurd (cc)
 
-was_agreed : (m : Matched) (o : Outcome) (ps : List Replacement) → verdict_with m o ≡ accepts ps → (o ≡ agrees) × (m.places ≡ ps)
+pub was_agreed : (m : Matched) (o : Outcome) (ps : List Replacement) → verdict_with m o ≡ accepts ps → (o ≡ agrees) × (m.places ≡ ps)
 was_agreed m agrees ps e = (refl, cc)
 was_agreed m clashes ps e = absurd (cc)
 was_agreed m (waits vs) ps e = absurd (cc)

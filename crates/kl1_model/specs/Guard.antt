@@ -11,7 +11,8 @@ use Rattle.kl1_model.specs.Term.{Term, variable, integer, atom, structure, none,
 use Rattle.kl1_model.specs.Same.{Passive, same, differs, unknown, passive, awaited}
 use Rattle.kl1_model.specs.Arithmetic.{Evaluated, comes_to, awaits, is_no_expression, evaluated}
 
--- what comes of a comparison: it agrees, it clashes, or it waits for variables
+-- what comes of a part of a clause, be it a pattern, the places of a variable or a test: it agrees, it clashes, or it waits for
+-- variables
 pub data Outcome : Type 0 where
   agrees : Outcome
   clashes : Outcome
@@ -25,7 +26,7 @@ both (waits vs) agrees = waits vs
 both (waits vs) clashes = clashes
 both (waits vs) (waits ws) = waits (vs ++ ws)
 
--- whether two constants agree or clash
+-- an outcome that is known
 abbrev pub decided : Bool → Outcome
 decided b = if b then agrees else clashes
 
@@ -160,7 +161,8 @@ outcome_of (is_same t u) = alike t u
 outcome_of (is_other t u) = other_outcome (passive t u) (awaited t u)
 outcome_of (compares c t u) = comparison c t u
 
--- the outcome of what may be a test, with terms in place of its variables; a term that is none clashes
+-- the outcome of what may be a test, with terms in place of its variables; a term that is none, which no clause that was read has
+-- there, clashes
 abbrev pub outcome_by : (ℕ → Term) → Option Test → Outcome
 outcome_by s None = clashes
 outcome_by s (Some test) = outcome_of (test_substituted s test)

@@ -102,8 +102,8 @@ awaited_in agrees = []
 awaited_in clashes = []
 awaited_in (waits vs) = vs
 
--- the verdict that an outcome leads to, beside that of the match alone: while the match waits, a place of a variable before its
--- others may yet be reached, and then the tests speak of another term
+-- the verdict that an outcome leads to, beside that of the match alone: while the match waits, an earlier place of a variable may
+-- yet be reached, and then the tests speak of the term there
 abbrev pub verdict_with : Matched → Outcome → Verdict
 verdict_with m agrees = accepts m.places
 verdict_with m clashes = rejects (awaited_in m.outcome)

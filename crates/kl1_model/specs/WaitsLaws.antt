@@ -23,6 +23,11 @@ call_substituted s k = record { module_name = k.module_name; name = k.name; argu
 abbrev pub RejectsStays : Type 0
 RejectsStays = (s : ℕ → Term) (c : Clause) (ts : Terms) (vs : List ℕ) → verdict c ts ≡ rejects vs → LeavesEach s vs → verdict c (each_substituted s ts) ≡ rejects vs
 
+-- and never comes to accept it: a test that clashes by the terms at the places that were reached clashes by all of them, once
+-- these have one term for each variable
+abbrev pub RejectsNeverAccepts : Type 0
+RejectsNeverAccepts = (s : ℕ → Term) (c : Clause) (ts : Terms) (vs : List ℕ) (places : List Replacement) → verdict c ts ≡ rejects vs → verdict c (each_substituted s ts) ≡ accepts places → ⊥
+
 -- one that accepts it accepts it still, with what has become of the terms at its places
 abbrev pub AcceptsStays : Type 0
 AcceptsStays = (s : ℕ → Term) (c : Clause) (ts : Terms) (places : List Replacement) → verdict c ts ≡ accepts places → verdict c (each_substituted s ts) ≡ accepts (places_substituted s places)
