@@ -1,8 +1,8 @@
--- The clauses of a module that was read have their variables numbered by first occurrence.
+-- The clauses of a module that was read have their variables numbered by first occurrence, and guards of their heads' variables.
 use Rattle.std.specs.Prelude.{◌≡◌, ℕ, ◌&&◌, Bool, true, false, cond, List, [], ◌∷◌, ◌++◌, Option, Some, None, is_some, option_map, option_and_then, codes}
 use Rattle.std.specs.List.{list_all}
 use Rattle.std.proofs.Common.{refl, ap, sym, ◌∙◌}
-use Rattle.std.proofs.lemmas.Bool.{and_from}
+use Rattle.std.proofs.lemmas.Bool.{and_from, and_parts}
 use Rattle.std.proofs.lemmas.List.{append_assoc, append-nil}
 use Rattle.std.proofs.lemmas.List.Folds.{list_all-append}
 use Rattle.std.proofs.lemmas.Option.{none-some, same_Some, cond_some, option_and_then_some}
@@ -16,6 +16,7 @@ use Rattle.kl1_model.specs.Meaning.{pair, expression_term, series_terms, is_writ
 use Rattle.kl1_model.specs.Goal.{is_test, is_goal, is_unqualified_goal, body_goal}
 use Rattle.kl1_model.specs.Module.{BodyGoal, Clause, goals_of, Module, Reading, good, bad, Item, items_of, named_module, each_of, head_patterns, is_fit_head, has_only, fit_test, without_priority, fit_goal, fit_body, clause_with, true_goal, clause_of_tree, clause_of, section_after, may_follow, with_clause, is_otherwise, if_good, clauses_ended, otherwise_on, clauses_from, module_with, module_named, module_of_items, read_module}
 use Rattle.kl1_model.specs.ReadLaws.{variables_of_each, clause_variables, is_numbered_clause}
+use Rattle.kl1_model.specs.WaitsLaws.{is_guarded}
 use Rattle.kl1_model.proofs.ReadSound.{clause_trees_sound}
 use Rattle.kl1_laws.proofs.ReadMeans.{numbers_of, series_variables, tree_term, body_terms, body_variables}
 use Rattle.kl1_laws.proofs.ReadCounts.{numbered_in_order}
@@ -113,56 +114,88 @@ clause_numbered m ts c h =
     option_and_then_some (clause_of_tree m) (clause_tree (numbered_tokens ts)) c h (λ t read is.
     ap (numbered_after 0) (tree_variables m t c is ∙ ap numbers_of (clause_trees_sound (numbered_tokens ts) t read)) ∙ numbered_in_order ts [])
 
-item_numbered : (m : List ℕ) (tokens : Option (List (Token (List ℕ)))) (c : Clause) → option_and_then (clause_of m) tokens ≡ Some c → is_numbered_clause c ≡ true
-item_numbered m tokens c h = option_and_then_some (clause_of m) tokens c h (λ ts there is. clause_numbered m ts c is)
+-- whether each variable of the tests is the head's
+guarded_each : (vs : List ℕ) (ts us : List Term) → each_of (fit_test vs) ts ≡ Some us → list_all (has_only vs) us ≡ true
+guarded_each vs [] us h = ap (list_all (has_only vs)) (sym (same_Some [] us h))
+guarded_each vs (t ∷ ts) us h =
+    option_and_then_some (λ y. option_map (λ ys. y ∷ ys) (each_of (fit_test vs) ts)) (fit_test vs t) us h (λ u first rest.
+    option_map_some (λ ys. u ∷ ys) (each_of (fit_test vs) ts) us rest (λ ws others is.
+    let k = cond_some (is_writable t && is_test t && has_only vs t) t u first in
+    ap (list_all (has_only vs)) (sym is)
+    ∙ and_from (has_only vs u) (list_all (has_only vs) ws)
+    (ap (has_only vs) (sym k.1) ∙ (and_parts (is_writable t && is_test t) (has_only vs t) k.0).1)
+    (guarded_each vs ts ws others)))
+
+guarded_with : (h : Head) (tests : List Term) (body : Option (List BodyGoal)) (c : Clause) → clause_with h tests body ≡ Some c → is_guarded c ≡ true
+guarded_with h tests body c is =
+    option_and_then_some _ (each_of (fit_test (variables_in (head_patterns h))) tests) c (else_none (is_fit_head h) _ c is) (λ ts kept rest.
+    option_map_some _ body c rest (λ gs there here.
+    ap is_guarded (sym here) ∙ guarded_each (variables_in (head_patterns h)) tests ts kept))
+
+guarded_tree : (m : List ℕ) (t : ClauseTree) (c : Clause) → clause_of_tree m t ≡ Some c → is_guarded c ≡ true
+guarded_tree m (fact h) c is = guarded_with h [] (Some (without_priority true_goal ∷ [])) c is
+guarded_tree m (rule h body) c is = guarded_with h [] (fit_body m body) c is
+guarded_tree m (guarded h tests body) c is = guarded_with h (list_of (series_terms tests)) (fit_body m body) c is
+
+clause_guarded : (m : List ℕ) (ts : List (Token (List ℕ))) (c : Clause) → clause_of m ts ≡ Some c → is_guarded c ≡ true
+clause_guarded m ts c h = option_and_then_some (clause_of_tree m) (clause_tree (numbered_tokens ts)) c h (λ t read is. guarded_tree m t c is)
 
 goods : {A : Type 0} (a b : A) → good a ≡ good b → a ≡ b
 goods a b h = cc
-
--- clauses that were good go on where another is
-added : (before : List Clause) (behind : Bool) (x : Option Clause) (now : List Clause) → with_clause before behind x ≡ Some now → list_all is_numbered_clause before ≡ true → ((c : Clause) → x ≡ Some c → is_numbered_clause c ≡ true) → list_all is_numbered_clause now ≡ true
-added before behind None now h all one = absurd (none-some now h)
-added before behind (Some c) now h all one =
-    let placed : Clause = record c { section = section_after before behind c } in
-    ap (list_all is_numbered_clause) (sym (cond_some (may_follow before behind c) (before ++ placed ∷ []) now h).1)
-    ∙ list_all-append is_numbered_clause before (placed ∷ [])
-    ∙ and_from (list_all is_numbered_clause before) (is_numbered_clause placed && true) all (and_from (is_numbered_clause placed) true (one c refl) refl)
 
 good_some : {A P : Type 0} (line : ℕ) (x : Option A) (go : A → Reading (List Clause)) (cs : List Clause) → if_good line x go ≡ good cs → ((now : A) → x ≡ Some now → go now ≡ good cs → P) → P
 good_some line None go cs h k = cc
 good_some line (Some now) go cs h k = k now refl h
 
-ended_numbered : (before : List Clause) (behind : Option ℕ) (cs : List Clause) → clauses_ended before behind ≡ good cs → list_all is_numbered_clause before ≡ true → list_all is_numbered_clause cs ≡ true
-ended_numbered before None cs h all = ap (list_all is_numbered_clause) (sym (goods before cs h)) ∙ all
-ended_numbered before (Some line) cs h all = cc
+-- what holds of each clause that an item means, whatever its section, holds of each clause of a module
+module _ (ok : Clause → Bool) (free : (c : Clause) (n : ℕ) → ok (record c { section = n }) ≡ ok c) (one : (m : List ℕ) (ts : List (Token (List ℕ))) (c : Clause) → clause_of m ts ≡ Some c → ok c ≡ true) where
+  item_holds : (m : List ℕ) (tokens : Option (List (Token (List ℕ)))) (c : Clause) → option_and_then (clause_of m) tokens ≡ Some c → ok c ≡ true
+  item_holds m tokens c h = option_and_then_some (clause_of m) tokens c h (λ ts there is. one m ts c is)
 
--- an item, and what follows it
-by_item : (m : List ℕ) (item : Item) (items : List Item) (before cs : List Clause) (behind : Option ℕ) (x : Bool) → ((now : List Clause) (pending : Option ℕ) → clauses_from m now pending items ≡ good cs → list_all is_numbered_clause now ≡ true → list_all is_numbered_clause cs ≡ true) →
-    elim x [
-      | true ↦ if_good item.line (otherwise_on item.line before behind) (λ line. clauses_from m before (Some line) items)
-      | false ↦ if_good item.line (with_clause before (is_some behind) (option_and_then (clause_of m) item.tokens)) (λ now. clauses_from m now None items)
-    ] ≡ good cs → list_all is_numbered_clause before ≡ true → list_all is_numbered_clause cs ≡ true
-by_item m item items before cs behind true go h all = good_some item.line (otherwise_on item.line before behind) _ cs h (λ line is rest. go before (Some line) rest all)
-by_item m item items before cs behind false go h all =
-    good_some item.line (with_clause before (is_some behind) (option_and_then (clause_of m) item.tokens)) _ cs h (λ now is rest.
-    go now None rest (added before (is_some behind) (option_and_then (clause_of m) item.tokens) now is all (item_numbered m item.tokens)))
+  -- clauses that were good go on where another is
+  added : (before : List Clause) (behind : Bool) (x : Option Clause) (now : List Clause) → with_clause before behind x ≡ Some now → list_all ok before ≡ true → ((c : Clause) → x ≡ Some c → ok c ≡ true) → list_all ok now ≡ true
+  added before behind None now h all each = absurd (none-some now h)
+  added before behind (Some c) now h all each =
+      let placed : Clause = record c { section = section_after before behind c } in
+      ap (list_all ok) (sym (cond_some (may_follow before behind c) (before ++ placed ∷ []) now h).1)
+      ∙ list_all-append ok before (placed ∷ [])
+      ∙ and_from (list_all ok before) (ok placed && true) all (and_from (ok placed) true (free c (section_after before behind c) ∙ each c refl) refl)
 
-all_numbered : (m : List ℕ) (items : List Item) (before cs : List Clause) (behind : Option ℕ) → clauses_from m before behind items ≡ good cs → list_all is_numbered_clause before ≡ true → list_all is_numbered_clause cs ≡ true
-all_numbered m [] before cs behind h all = ended_numbered before behind cs h all
-all_numbered m (item ∷ items) before cs behind h all = by_item m item items before cs behind (is_otherwise item.tokens) (λ now pending rest every. all_numbered m items now cs pending rest every) h all
+  ended_holds : (before : List Clause) (behind : Option ℕ) (cs : List Clause) → clauses_ended before behind ≡ good cs → list_all ok before ≡ true → list_all ok cs ≡ true
+  ended_holds before None cs h all = ap (list_all ok) (sym (goods before cs h)) ∙ all
+  ended_holds before (Some line) cs h all = cc
 
-module_case : (name source : List ℕ) (x : Reading (List Clause)) (m : Module) → ((cs : List Clause) → x ≡ good cs → list_all is_numbered_clause cs ≡ true) → module_with name source x ≡ good m → list_all is_numbered_clause m.clauses ≡ true
-module_case name source (bad line) m all h = cc
-module_case name source (good cs) m all h = ap (λ (n : Module). list_all is_numbered_clause n.clauses) (sym (goods _ m h)) ∙ all cs refl
+  -- an item, and what follows it
+  by_item : (m : List ℕ) (item : Item) (items : List Item) (before cs : List Clause) (behind : Option ℕ) (x : Bool) → ((now : List Clause) (pending : Option ℕ) → clauses_from m now pending items ≡ good cs → list_all ok now ≡ true → list_all ok cs ≡ true) →
+      elim x [
+        | true ↦ if_good item.line (otherwise_on item.line before behind) (λ line. clauses_from m before (Some line) items)
+        | false ↦ if_good item.line (with_clause before (is_some behind) (option_and_then (clause_of m) item.tokens)) (λ now. clauses_from m now None items)
+      ] ≡ good cs → list_all ok before ≡ true → list_all ok cs ≡ true
+  by_item m item items before cs behind true go h all = good_some item.line (otherwise_on item.line before behind) _ cs h (λ line is rest. go before (Some line) rest all)
+  by_item m item items before cs behind false go h all =
+      good_some item.line (with_clause before (is_some behind) (option_and_then (clause_of m) item.tokens)) _ cs h (λ now is rest.
+      go now None rest (added before (is_some behind) (option_and_then (clause_of m) item.tokens) now is all (item_holds m item.tokens)))
 
-named_case : (source : List ℕ) (item : Item) (items : List Item) (x : Option (List ℕ)) (m : Module) → module_named source item items x ≡ good m → list_all is_numbered_clause m.clauses ≡ true
-named_case source item items None m h = cc
-named_case source item items (Some name) m h = module_case name source (clauses_from name [] None items) m (λ cs is. all_numbered name items [] cs None is refl) h
+  all_holds : (m : List ℕ) (items : List Item) (before cs : List Clause) (behind : Option ℕ) → clauses_from m before behind items ≡ good cs → list_all ok before ≡ true → list_all ok cs ≡ true
+  all_holds m [] before cs behind h all = ended_holds before behind cs h all
+  all_holds m (item ∷ items) before cs behind h all = by_item m item items before cs behind (is_otherwise item.tokens) (λ now pending rest every. all_holds m items now cs pending rest every) h all
 
-items_numbered : (source : List ℕ) (items : List Item) (m : Module) → module_of_items source items ≡ good m → list_all is_numbered_clause m.clauses ≡ true
-items_numbered source [] m h = cc
-items_numbered source (item ∷ items) m h = named_case source item items (option_and_then named_module item.tokens) m h
+  module_case : (name source : List ℕ) (x : Reading (List Clause)) (m : Module) → ((cs : List Clause) → x ≡ good cs → list_all ok cs ≡ true) → module_with name source x ≡ good m → list_all ok m.clauses ≡ true
+  module_case name source (bad line) m all h = cc
+  module_case name source (good cs) m all h = ap (λ (n : Module). list_all ok n.clauses) (sym (goods _ m h)) ∙ all cs refl
+
+  named_case : (source : List ℕ) (item : Item) (items : List Item) (x : Option (List ℕ)) (m : Module) → module_named source item items x ≡ good m → list_all ok m.clauses ≡ true
+  named_case source item items None m h = cc
+  named_case source item items (Some name) m h = module_case name source (clauses_from name [] None items) m (λ cs is. all_holds name items [] cs None is refl) h
+
+  items_holds : (source : List ℕ) (items : List Item) (m : Module) → module_of_items source items ≡ good m → list_all ok m.clauses ≡ true
+  items_holds source [] m h = cc
+  items_holds source (item ∷ items) m h = named_case source item items (option_and_then named_module item.tokens) m h
 
 -- each clause of a module that was read has its variables numbered by first occurrence
 pub clauses_are_numbered : (source : List ℕ) (m : Module) → read_module source ≡ good m → list_all is_numbered_clause m.clauses ≡ true
-clauses_are_numbered source m h = items_numbered source (items_of (tokens_of_text source)) m h
+clauses_are_numbered source m h = items_holds is_numbered_clause (λ c n. refl) clause_numbered source (items_of (tokens_of_text source)) m h
+
+-- and its guard has variables of its head alone
+pub clauses_are_guarded : (source : List ℕ) (m : Module) → read_module source ≡ good m → list_all is_guarded m.clauses ≡ true
+clauses_are_guarded source m h = items_holds is_guarded (λ c n. refl) clause_guarded source (items_of (tokens_of_text source)) m h

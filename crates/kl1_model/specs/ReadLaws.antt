@@ -11,6 +11,7 @@ use Rattle.kl1_model.specs.Meaning.{is_narrow, is_writable, variables_of, variab
 use Rattle.kl1_model.specs.Goal.{is_goal}
 use Rattle.kl1_model.specs.Print.{print}
 use Rattle.kl1_model.specs.Module.{Clause, goals_of, Module, Reading, good, bad, bare_tokens, term_of_tokens, read_module, read_goal}
+use Rattle.kl1_model.specs.WaitsLaws.{is_guarded}
 
 -- whether each integer of a tree that stands without `-` is below 2 ^ 63
 abbrev mutual
@@ -215,3 +216,7 @@ is_numbered_clause c = numbered_after 0 (clause_variables c)
 -- the variables of each clause that is read are numbered from 1 by first occurrence, those of the head first
 abbrev pub ClausesAreNumbered : Type 0
 ClausesAreNumbered = (source : List ℕ) (m : Module) → read_module source ≡ good m → IsTrue (list_all is_numbered_clause m.clauses)
+
+-- the guard of each clause that is read has variables of its head alone
+abbrev pub ClausesAreGuarded : Type 0
+ClausesAreGuarded = (source : List ℕ) (m : Module) → read_module source ≡ good m → IsTrue (list_all is_guarded m.clauses)
