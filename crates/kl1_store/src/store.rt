@@ -178,6 +178,17 @@ impl<N: NameValue> Store<N> {
         self.cells.argument(structure, index)
     }
 
+    /// The arguments of a structure; they are of this store.
+    #[inline]
+    #[tactic(auto, using(crate::proofs::Terms::arguments_in))]
+    pub fn arguments(&self, structure: u32) -> &[Cell<N>]
+        requires { structure < length self.now.held.structures }
+        ensures are { result.now ≡ arguments_of self.now.held structure }
+        ensures inside { AreIn self.now.held result.now }
+    {
+        self.cells.arguments(structure)
+    }
+
     /// Makes two cells mean the same term, if that can be, by as few replacements as serve.
     pub fn unify(&mut self, left: Cell<N>, right: Cell<N>) -> Result<Unified, AllocError>
         requires left_in { IsIn self.old.held left }
