@@ -6,6 +6,7 @@ ghost use Rattle.kl1_store.specs.Held.{Held, nothing_held, with_variable, with_s
 ghost use Rattle.kl1_store.specs.Meaning.{term_of};
 ghost use Rattle.kl1_store.specs.Spending.{Spends, SpendsOnBindings, FreesRoom};
 ghost use Rattle.kl1_store.specs.Sound.{IsFormed, Grown, IsBoundTo};
+ghost use Rattle.kl1_store.specs.Places.{all_arguments, StandFrom};
 ghost use Rattle.kl1_store.specs.Slots.{AreSlotted, AreOnce};
 ghost use Rattle.kl1_store.specs.Tops.{firsts, others};
 
@@ -269,6 +270,25 @@ impl<N: NameValue> Cells<N> {
     {
         let node = self.nodes[structure as usize];
         part(&self.arguments, node.start as usize, node.count as usize)
+    }
+
+    /// The place of a structure's first argument among those of all structures, from 0.
+    #[inline]
+    pub fn first_argument(&self, structure: u32) -> u32
+        requires { structure < length self.now.held.structures }
+        ensures { StandFrom self.now.held structure result }
+    {
+        self.nodes[structure as usize].start
+    }
+
+    /// An argument by its place among those of all structures, from 0.
+    #[inline]
+    pub fn argument_at(&self, place: u32) -> Cell<N>
+        requires { place < length (all_arguments self.now.held) }
+        ensures is { slice_get (all_arguments self.now.held) place ≡ Some result }
+        ensures inside { IsIn self.now.held result }
+    {
+        self.arguments[place as usize]
     }
 
     /// The cell that a cell stands for: what its variable was bound to, and so on.

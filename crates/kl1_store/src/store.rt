@@ -5,6 +5,7 @@ ghost use Rattle.kl1_store.specs.Held.{Held, nothing_held, with_variable, with_s
 ghost use Rattle.kl1_store.specs.Meaning.{term_of};
 ghost use Rattle.kl1_store.specs.Spending.{Spends, SpendsOnBindings, FreesRoom};
 ghost use Rattle.kl1_store.specs.Sound.{IsFormed};
+ghost use Rattle.kl1_store.specs.Places.{all_arguments, StandFrom};
 ghost use Rattle.kl1_store.specs.Unification.{UnifiesAs};
 ghost use Rattle.kl1_store.specs.Sameness.{SameAs};
 ghost use Rattle.kl1_store.specs.Hooks.{Kept, hanging_on, told_by, point_of, HasGrown};
@@ -187,6 +188,25 @@ impl<N: NameValue> Store<N> {
         ensures inside { AreIn self.now.held result.now }
     {
         self.cells.arguments(structure)
+    }
+
+    /// The place of a structure's first argument among those of all structures, from 0.
+    #[inline]
+    pub fn first_argument(&self, structure: u32) -> u32
+        requires { structure < length self.now.held.structures }
+        ensures { StandFrom self.now.held structure result }
+    {
+        self.cells.first_argument(structure)
+    }
+
+    /// An argument by its place among those of all structures, from 0.
+    #[inline]
+    pub fn argument_at(&self, place: u32) -> Cell<N>
+        requires { place < length (all_arguments self.now.held) }
+        ensures is { slice_get (all_arguments self.now.held) place ≡ Some result }
+        ensures inside { IsIn self.now.held result }
+    {
+        self.cells.argument_at(place)
     }
 
     /// Makes two cells mean the same term, if that can be, by as few replacements as serve.
