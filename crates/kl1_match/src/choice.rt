@@ -41,7 +41,7 @@ pub fn choose<N: NameValue>(
     let mut tried: usize = 0;
     while tried < clauses.len() {
         let clause = nth(clauses, tried);
-        match judge(store, names, clause, goal, false, behind, places, awaited)? {
+        match judge::<_, false>(store, names, clause, goal, behind, places, awaited)? {
             Verdict::Accepts => return Ok(Some(tried as u64 + 1)),
             Verdict::Rejects => tried += 1,
             Verdict::Suspends => {
