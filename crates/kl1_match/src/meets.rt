@@ -61,7 +61,7 @@ fn meet_atom<N: NameValue>(store: &Store<N>, name: N, cell: Cell<N>) -> Met
 fn meet_structure<N: NameValue>(
     store: &Store<N>,
     name: N,
-    count: usize,
+    count: u32,
     cell: Cell<N>,
     span: &mut Span,
     behind: &mut Vec<Span>,
@@ -85,7 +85,7 @@ fn meet_structure<N: NameValue>(
         Cell::Atom(_) => Met::Clashes,
         Cell::Structure(structure) => {
             let head = store.look(structure);
-            if head.count as usize != count {
+            if head.count != count {
                 return Met::Clashes;
             }
             if !name.same(&head.name) {
