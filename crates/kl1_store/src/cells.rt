@@ -389,6 +389,42 @@ fn move_top<N: NameValue>(
     ensures height { length stack.new.items ≤ length stack.old.items }
     ensures stack_capacity { vec_capacity stack.new ≡ vec_capacity stack.old }
 {
+    if count > stack.len() {
+        return move_or_fill(stack, list, missing, count);
+    }
+    let from = stack.len() - count;
+    put_reversed(list, &stack[from..]);
+    stack.truncate(from);
+}
+
+/// Puts cells behind those of a list with room for them, the last of them first.
+fn put_reversed<N: NameValue>(list: &mut Vec<Cell<N>>, cells: &[Cell<N>])
+    requires room { length list.old.items + length cells.now ≤ vec_capacity list.old }
+    ensures items { list.new.items ≡ list.old.items ++ reverse cells.now }
+    ensures capacity { vec_capacity list.new ≡ vec_capacity list.old }
+{
+    let mut left = cells.len();
+    while 0 < left {
+        left -= 1;
+        list.push_reserved(cells[left]);
+    }
+}
+
+/// The same, one cell after another.
+fn move_or_fill<N: NameValue>(
+    stack: &mut Vec<Cell<N>>,
+    list: &mut Vec<Cell<N>>,
+    missing: Cell<N>,
+    count: usize,
+)
+    requires room { length list.old.items + count ≤ vec_capacity list.old }
+    ensures moved { list.new.items ≡ list.old.items ++ firsts missing count (reverse stack.old.items) }
+    ensures left { reverse stack.new.items ≡ others count (reverse stack.old.items) }
+    ensures more { length list.new.items ≡ length list.old.items + count }
+    ensures list_capacity { vec_capacity list.new ≡ vec_capacity list.old }
+    ensures height { length stack.new.items ≤ length stack.old.items }
+    ensures stack_capacity { vec_capacity stack.new ≡ vec_capacity stack.old }
+{
     let mut left = count;
     while 0 < left {
         let cell = stack.pop().unwrap_or(missing);
