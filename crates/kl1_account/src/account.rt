@@ -8,7 +8,7 @@ ghost use Rattle.kl1_model.specs.Event.{load as load_event, start as start_event
 ghost use Rattle.kl1_account.specs.Fitting.{Reading, Fits};
 ghost use Rattle.kl1_account.specs.Account.{state_of};
 ghost use Rattle.kl1_account.specs.Naming.{Keeps};
-ghost use Rattle.kl1_account.specs.Views.{reply_of, chosen_of};
+ghost use Rattle.kl1_account.specs.Views.{reply_of, reduced_or, chosen_of};
 
 use crate::account_name::AccountName;
 use crate::draft::Draft;
@@ -109,9 +109,9 @@ impl Account {
         !self.goals.is_any_ready()
     }
 
-    /// Reduces the goal of a number by the clause of a number.
-    pub fn reduce(&mut self, number: u64, clause: u64) -> Result<Reply, AllocError>
-        ensures step { IfOk result (λ reply. (f : Reading) → Fits self.old.names f → step (state_of f self.old) (reduce number clause) ≡ record { state = state_of f self.new; reply = reply_of reply }) }
+    /// Reduces the goal of a number by the clause of a number, or says why it is refused.
+    pub fn reduce(&mut self, number: u64, clause: u64) -> Result<Option<Refusal>, AllocError>
+        ensures step { IfOk result (λ refused. (f : Reading) → Fits self.old.names f → step (state_of f self.old) (reduce number clause) ≡ record { state = state_of f self.new; reply = reduced_or refused }) }
         ensures names { self.new.names ≡ self.old.names }
         ensures err { OnErr result (self.new ≡ self.old) }
     {
@@ -135,12 +135,12 @@ impl Account {
             }
         };
         if let Some(refusal) = refused {
-            return Ok(Reply::Refused(refusal));
+            return Ok(Some(refusal));
         }
         install(&mut self.goals, &mut self.shoens, &self.draft);
         self.last_goal = self.draft.last_goal + self.draft.cells.len() as u64;
         self.entries += 1;
-        Ok(Reply::Reduced)
+        Ok(None)
     }
 
     /// Loads a module from its source.
