@@ -42,7 +42,7 @@ pub(crate) fn install(
         &draft.cells,
         &draft.standings,
     );
-    shoens.set(draft.shoen);
+    shoens.set(&draft.shoen);
 }
 
 /// Puts goals for cells, each with its own of the clauses by which they can step, after all others: of a shoen, with a priority and
