@@ -20,9 +20,6 @@ before_next : (last : ℕ) (gs : List (Goal CellName)) → AreUpTo last gs → A
 before_next last [] i = tt
 before_next last (g ∷ gs) i = let le = i.0 in (omega arith, before_next last gs i.1)
 
-pub next_goal : (last shoen priority count : ℕ) (x : Cell CellName) (s : Option ℕ) (gs : List (Goal CellName)) → AreUpTo last gs → 0 < shoen → shoen ≤ count → priority ≤ monitor_priority → IsNext (goal_for (last + 1) shoen priority x s) gs count
-next_goal last shoen priority count x s gs up low high level = record { number = before_next last gs up; low = low; high = high; priority = level; monitor = λ e. absurd (cc) }
-
 pub up_to_next : (last shoen priority : ℕ) (x : Cell CellName) (s : Option ℕ) (gs : List (Goal CellName)) → AreUpTo last gs → AreUpTo (last + 1) (gs ++ goal_for (last + 1) shoen priority x s ∷ [])
 up_to_next last shoen priority x s gs up = up_to_append (last + 1) gs (goal_for (last + 1) shoen priority x s ∷ []) (up_to_more last (last + 1) gs (omega arith) up) (omega arith, tt)
 

@@ -27,13 +27,6 @@ numbered_kept old new [] (u ∷ ts) g n = absurd n
 numbered_kept old new (d ∷ cs) [] g n = absurd n
 numbered_kept old new (d ∷ cs) (u ∷ ts) g n = (g u d.number n.0, numbered_kept old new cs ts g n.1)
 
--- there are as many numbers as texts
-pub numbered_length : (ks : List Known) (cs : List CellName) (ts : List (List ℕ)) → AreNumbered ks cs ts → length cs ≡ length ts
-numbered_length ks [] [] n = refl
-numbered_length ks [] (u ∷ ts) n = absurd n
-numbered_length ks (d ∷ cs) [] n = absurd n
-numbered_length ks (d ∷ cs) (u ∷ ts) n = ap suc (numbered_length ks cs ts n.1)
-
 -- numbers are read as their texts
 pub numbered_read : (ks : List Known) (f : Reading) (cs : List CellName) (ts : List (List ℕ)) → ((t : List ℕ) (n : ℕ) → number_by ks t ≡ Some n → f (record { number = n }) ≡ t) → AreNumbered ks cs ts → map f cs ≡ ts
 numbered_read ks f [] [] r n = refl

@@ -31,13 +31,6 @@ use Rattle.kl1_account.proofs.GoalOrder.{IsNext, IsNextOf, next_after, next_zero
 
 -- ---- one goal
 
--- monitors that are settled can't step by a clause
-pub settled_idle : (f : Reading) (hooks : List Hook) (h : Held CellName) (ms : List Numbered) (goals : List (Goal CellName)) → AllByRecursion (IsSettled f hooks h ms) goals → AreMonitorsIdle goals
-settled_idle f hooks h ms goals all =
-    each_is (IsSettled f hooks h ms) (λ g. g.task ≡ Monitor → g.standing ≡ None) goals
-    (λ g s m. s.standing ∙ ap (λ (k : Task CellName). task_clause (contents ms) (task_with (meaning f h) k)) m)
-    all
-
 -- a monitor that can't step by a clause is settled
 idle_settled : (f : Reading) (hooks : List Hook) (h : Held CellName) (ms : List Numbered) (g : Goal CellName) → g.task ≡ Monitor → g.standing ≡ None → IsSettled f hooks h ms g
 idle_settled f hooks h ms g m idle =

@@ -11,8 +11,13 @@ use Rattle.kl1_account.specs.Kept.{IsShoenIn}
 use Rattle.kl1_account.specs.Reducing.{Allows}
 use Rattle.kl1_account.proofs.PutIn.{never_absent, found_shoen_in}
 use Rattle.kl1_account.proofs.Drafted.{has_begun, is_ready, is_drafted}
-use Rattle.kl1_account.proofs.Steps.{account_at, found_cell, found_owned, refused_nowhere, refused_monitor, refused_move, refused_full, is_reduction}
+use Rattle.kl1_account.proofs.Steps.{account_at, found_cell, found_owned, refused_syntax, refused_nowhere, refused_monitor, refused_move, refused_full, is_reduction}
 use Rattle.kl1_account.proofs.reducing.draft_reduction.Goals as goal
+
+pub returns-then-not-are_numbers-clause-ok : goal.returns-then-not-are_numbers-clause-ok
+returns-then-not-are_numbers-clause-ok c = λ own names.
+    let a = account_at own names c.args.store.now.held c.args.goals.now.goals c.args.shoens.now.shoens c.args.modules.now.loaded c.args.last_goal c.args.entries in
+    refused_syntax a c.args.store.now c.args.number c.args.clause (sym c.if-not-are_numbers.ensures)
 
 pub returns-in_default-clause-ok : goal.returns-in_default-clause-ok
 returns-in_default-clause-ok c = λ own names.
