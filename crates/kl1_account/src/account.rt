@@ -49,6 +49,8 @@ pub struct Account {
     entries: u64,
     trial: Trial<CellName>,
     draft: Draft,
+    numbers: Vec<CellName>,
+    scratch: Scratch<CellName>,
     alloc: Global,
 }
 
@@ -87,6 +89,8 @@ impl Account {
             entries: 0,
             trial: Trial::new(alloc),
             draft: Draft::new(alloc),
+            numbers: Vec::new(alloc),
+            scratch: Scratch::new(alloc),
             alloc,
         })
     }
@@ -222,8 +226,7 @@ impl Account {
         };
         let texts = code.names();
         let row = code.row();
-        let mut numbers = Vec::new(self.alloc);
-        let mut scratch = Scratch::new(self.alloc);
+        self.numbers.clear();
         let opening = prepare_start(
             &mut self.store,
             &mut self.goals,
@@ -233,18 +236,18 @@ impl Account {
             texts,
             row,
             goal.highest(),
-            &mut numbers,
-            &mut scratch,
+            &mut self.numbers,
+            &mut self.scratch,
             &mut self.trial,
         )?;
-        publish(names, seat, &mut self.names, texts, &mut numbers);
+        publish(names, seat, &mut self.names, texts, &mut self.numbers);
         place(
             &mut self.store,
             &mut self.goals,
             &mut self.shoens,
-            numbers.as_slice(),
+            self.numbers.as_slice(),
             row,
-            &mut scratch,
+            &mut self.scratch,
             self.trial.awaited.as_slice(),
             opening,
             shoen,
