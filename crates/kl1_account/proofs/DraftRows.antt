@@ -1,5 +1,5 @@
 -- Rows of numbers for texts some of which are new: each new text has a spare number, and is known by it in a longer list.
-use Rattle.std.proofs.Common.{◌≡◌, ℕ, ◌+◌, ◌<◌, ◌≤◌, ◌==◌, ◌^◌, ◌⊎◌, ◌||◌, Bool, true, false, List, [], ◌∷◌, ◌++◌, length, take, get_or, Option, Some, None, IsTrue, bytes_eq, refl, sym, ap, ◌∙◌, subst, inl, inr, arith}
+use Rattle.std.proofs.Common.{◌≡◌, ℕ, ◌+◌, ◌<◌, ◌≤◌, ◌==◌, ◌^◌, ◌⊎◌, ◌||◌, true, false, List, [], ◌∷◌, ◌++◌, length, take, get_or, Option, Some, None, IsTrue, bytes_eq, refl, sym, ap, ◌∙◌, subst, inl, inr, arith}
 use Rattle.std.specs.Prelude.{option_map}
 use Rattle.std.specs.List.{AllByRecursion, list_any}
 use Rattle.std.proofs.lemmas.Bool.{cases_Bool, false≢true, eqb-true, eq-eqb}
@@ -16,7 +16,7 @@ use Rattle.kl1_atoms.specs.Names.{number_in, text_in, number_by, text_by, AreNam
 use Rattle.kl1_atoms.specs.Knowing.{option_cases, number_in-last, is_reading}
 use Rattle.kl1_clause.specs.NameList.{IsNameList}
 use Rattle.kl1_account.specs.Fitting.{Reading}
-use Rattle.kl1_account.specs.Naming.{AreSmall, ReadsDraft, Grows}
+use Rattle.kl1_account.specs.Naming.{ReadsDraft, Grows}
 use Rattle.kl1_account.proofs.ModuleNames.{last_among}
 use Rattle.kl1_account.proofs.KnownNames.{not_known}
 use Rattle.kl1_account.proofs.KnownTexts.{next_take, not_before}

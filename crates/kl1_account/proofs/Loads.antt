@@ -1,11 +1,10 @@
 -- Loads, by the definition of the step.
-use Rattle.std.proofs.Common.{◌≡◌, ℕ, ◌+◌, ◌<◌, ◌≤◌, suc, Bool, true, false, if◌then◌else◌, ◌==◌, List, [], ◌∷◌, ◌++◌, length, map, refl, sym, ap, ◌∙◌, subst, arith, nat_lt, length-append, take, get_or}
-use Rattle.std.specs.Prelude.{Option, Some, is_some}
-use Rattle.std.specs.List.{AllByRecursion}
+use Rattle.std.proofs.Common.{◌≡◌, ℕ, ◌+◌, ◌<◌, ◌≤◌, suc, Bool, true, false, if◌then◌else◌, ◌==◌, List, [], ◌∷◌, ◌++◌, length, map, refl, sym, ap, ◌∙◌, subst, arith, nat_lt, take, get_or}
+use Rattle.std.specs.Prelude.{Some, is_some}
 use Rattle.std.proofs.lemmas.Bool.{le-leb, lt-leb, lt-ltb, le-ltb, ltb-true, ltb-false}
-use Rattle.std.proofs.lemmas.List.{map-append, length-map, take_more}
+use Rattle.std.proofs.lemmas.List.{map-append, take_more}
 use Rattle.kl1_model.specs.Limits.{most_names, most_entries, most_source_bytes}
-use Rattle.kl1_model.specs.Module.{Module, read_module, good, bad}
+use Rattle.kl1_model.specs.Module.{Module, read_module, good}
 use Rattle.kl1_model.specs.Match.{module_of}
 use Rattle.kl1_model.specs.State as model
 use Rattle.kl1_model.specs.State.{State, names_of_module, with_names}
@@ -32,9 +31,9 @@ use Rattle.kl1_account.specs.declared.loading.Loading.{Loading}
 use Rattle.kl1_account.specs.declared.loading.Loading.TheVariants.{Refused, Drafted}
 use Rattle.kl1_account.specs.declared.refusal.Refusal.{Refusal}
 use Rattle.kl1_account.specs.Views.{refusal_of}
-use Rattle.kl1_account.specs.declared.refusal.Refusal.TheVariants.{Syntax, Source, Exists, Names, Journal}
+use Rattle.kl1_account.specs.declared.refusal.Refusal.TheVariants.{Exists, Names, Journal}
 use Rattle.kl1_account.specs.Fitting.{Reading, Fits, built}
-use Rattle.kl1_account.specs.Account.{Account, Means, meaning, task_with, goal_with, texts_of, state_of}
+use Rattle.kl1_account.specs.Account.{Account, meaning, task_with, goal_with, texts_of, state_of}
 use Rattle.kl1_account.specs.Naming.{AreSmall, ReadsDraft, AreNumbersOf}
 use Rattle.kl1_account.specs.Works.{Knows}
 use Rattle.kl1_account.specs.Drafts.{restood_by, restood}
@@ -42,8 +41,7 @@ use Rattle.kl1_account.specs.Kept.{IsTaskIn, IsOwned}
 use Rattle.kl1_account.specs.Settled.{task_clause, awaited_by_task, HangsOnEach, AreSettled}
 use Rattle.kl1_account.specs.Looking.{AreMonitorsIdle}
 use Rattle.kl1_account.specs.Keeping.{IsKept}
-use Rattle.kl1_account.specs.Loadings.{RefusesLoad, IsDraft, DraftsAs, IsDraftOf, LoadsAs, Settles}
-use Rattle.kl1_clause.proofs.Growth.{all_grow}
+use Rattle.kl1_account.specs.Loadings.{IsDraft, DraftsAs, IsDraftOf, LoadsAs, Settles}
 use Rattle.kl1_account.proofs.ModuleNames.{of_module}
 use Rattle.kl1_account.proofs.Restood.{restood_holds, restood_read}
 

@@ -22,7 +22,7 @@ use Rattle.kl1_account.specs.Kept.{IsTaskIn, AreGoalsIn}
 use Rattle.kl1_account.specs.Drafts.{restood, restood_by}
 use Rattle.kl1_account.specs.Settled.{task_clause, awaited_by_task, HangsOnEach, IsSettled}
 use Rattle.kl1_account.specs.Waking.{AreAmong, IsFoundOut}
-use Rattle.kl1_account.specs.Looking.{FindsTask, AreMonitorsIdle, IsReached, LooksBelow, LooksAtAll}
+use Rattle.kl1_account.specs.Looking.{FindsTask, IsReached, LooksBelow, LooksAtAll}
 use Rattle.kl1_account.proofs.SettledStays.{settled_more}
 use Rattle.kl1_account.proofs.Waking.{found_out, other_stands, same_stands}
 use Rattle.kl1_account.proofs.Hanging.{HasGrown-trans, grown_among}

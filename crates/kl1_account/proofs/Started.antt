@@ -1,9 +1,9 @@
 -- A start that is put in place.
-use Rattle.std.proofs.Common.{◌≡◌, ℕ, zero, suc, ◌+◌, ◌-◌, ◌<◌, ◌≤◌, Bool, false, true, if◌then◌else◌, List, [], ◌∷◌, ◌++◌, length, map, IsTrue, refl, sym, ap, ◌∙◌, arith, subst, length-append, append_assoc, codes}
+use Rattle.std.proofs.Common.{◌≡◌, ℕ, suc, ◌+◌, ◌-◌, ◌<◌, ◌≤◌, Bool, false, true, if◌then◌else◌, List, [], ◌∷◌, ◌++◌, length, map, IsTrue, refl, sym, ap, ◌∙◌, arith, subst, length-append, append_assoc, codes}
 use Rattle.std.proofs.lemmas.List.{take_all}
 use Rattle.std.proofs.lemmas.List.Elements.{Contains-append_left, Contains-append_right}
 use Rattle.std.proofs.lemmas.Bool.{ltb-true, ltb-false, lt-leb, le-leb, le-ltb, lt-ltb}
-use Rattle.std.specs.Prelude.{Option, None, Contains, nat_lt}
+use Rattle.std.specs.Prelude.{Contains, nat_lt}
 use Rattle.kl1_model.specs.Module.{Module}
 use Rattle.kl1_model.specs.Term.{Term, variable, atom}
 use Rattle.kl1_model.specs.TermCode.{nodes_of}
@@ -18,7 +18,6 @@ use Rattle.kl1_text.specs.declared.cell_name.CellName.{CellName}
 use Rattle.kl1_atoms.specs.declared.known.Known.{Known}
 use Rattle.kl1_atoms.specs.Names.{AreNames}
 use Rattle.kl1_store.specs.declared.cell.Cell.{Cell}
-use Rattle.kl1_store.specs.declared.cell.Cell.TheVariants.{Variable}
 use Rattle.kl1_store.specs.Held.{Held, IsIn}
 use Rattle.kl1_store.specs.Hooks.{Hook}
 use Rattle.kl1_store.specs.Sound.{IsFormed, Grown}
@@ -40,8 +39,8 @@ use Rattle.kl1_account.specs.declared.refusal.Refusal.TheVariants.{Names, Journa
 use Rattle.kl1_account.specs.declared.startable.Starting.{Starting}
 use Rattle.kl1_account.specs.declared.startable.Starting.TheVariants.{Refused, Coded}
 use Rattle.kl1_account.specs.Views.{refusal_of}
-use Rattle.kl1_account.specs.Fitting.{Reading, Fits, built}
-use Rattle.kl1_account.specs.Account.{Account, meaning, task_with, goal_with, shoen_with, state_with, state_of, texts_of}
+use Rattle.kl1_account.specs.Fitting.{Reading, Fits}
+use Rattle.kl1_account.specs.Account.{Account, meaning, task_with, goal_with, shoen_with, state_of, texts_of}
 use Rattle.kl1_account.specs.Keeping.{IsKept}
 use Rattle.kl1_account.specs.Naming.{AreNumbersOf, AreSmall}
 use Rattle.kl1_account.specs.Kept.{IsTaskIn, AreGoalsIn, AreOwned, AreUpTo, IsShoenIn, AreShoensIn, AreNumbered}

@@ -1,5 +1,5 @@
 -- Goals that were told of bindings are looked at again.
-use Rattle.std.proofs.Common.{◌≡◌, ℕ, ◌+◌, ◌<◌, List, [], ◌∷◌, length, drop, get_or, refl, sym, ap, ◌∙◌, arith, subst, drop-cons, add-one, Bool, true, false, if◌then◌else◌}
+use Rattle.std.proofs.Common.{◌≡◌, ℕ, ◌+◌, ◌<◌, List, [], ◌∷◌, length, drop, get_or, sym, ap, ◌∙◌, arith, subst, drop-cons, add-one, Bool, true, false, if◌then◌else◌}
 use Rattle.std.specs.Prelude.{Option, Some, None}
 use Rattle.std.specs.List.{find}
 use Rattle.std.proofs.lemmas.List.{drop_all}
@@ -21,7 +21,7 @@ use Rattle.kl1_account.specs.Waking.{AreSettledOr, AreFor, AreAmong}
 use Rattle.kl1_account.specs.Looking.{FindsOut, AreOthersOf, Wakes, WakesTold}
 use Rattle.kl1_account.proofs.GoalOrder.{same_goal}
 use Rattle.kl1_account.proofs.Waking.{one_settled, none_settled, all_settled}
-use Rattle.kl1_account.proofs.Hanging.{HasGrown-same, HasGrown-trans}
+use Rattle.kl1_account.proofs.Hanging.{HasGrown-trans}
 use Rattle.kl1_account.proofs.Restood.{each_is, restood_keeps, restood_push}
 
 -- ---- one number

@@ -1,5 +1,5 @@
 -- Goals that are looked at again, one after another.
-use Rattle.std.proofs.Common.{◌≡◌, ℕ, suc, ◌==◌, true, false, if◌then◌else◌, Bool, List, [], ◌∷◌, ◌++◌, inl, inr, ◌||◌, map, refl, sym, ap, ◌∙◌, subst, ⊎_elim}
+use Rattle.std.proofs.Common.{◌≡◌, ℕ, true, false, if◌then◌else◌, Bool, List, [], ◌∷◌, inl, inr, ◌||◌, map, refl, sym, ap, ◌∙◌, subst, ⊎_elim}
 use Rattle.std.specs.Prelude.{Contains, filter}
 use Rattle.std.specs.List.{AllByRecursion}
 use Rattle.std.proofs.lemmas.Bool.{ne_eqb, eq-eqb, cases_eq}
@@ -19,7 +19,7 @@ use Rattle.kl1_account.specs.declared.draft.Change.{Change}
 use Rattle.kl1_account.specs.Fitting.{Reading}
 use Rattle.kl1_account.specs.Account.{meaning, task_with}
 use Rattle.kl1_account.specs.Kept.{IsTaskIn, AreGoalsIn}
-use Rattle.kl1_account.specs.Drafts.{restood_by, goals_for}
+use Rattle.kl1_account.specs.Drafts.{restood_by}
 use Rattle.kl1_account.specs.Settled.{task_clause, awaited_by_task, HangsOnEach, IsSettled, AreSettled}
 use Rattle.kl1_account.specs.Waking.{IsPending, IsSettledOr, AreSettledOr, AreFor, AreAmong, is_among, IsFoundOut}
 use Rattle.kl1_account.proofs.SettledStays.{HangsOnNone, stays_settled, settled_more}

@@ -1,5 +1,4 @@
 use Rattle.std.proofs.Common.{◌≡◌, ◌+◌, length, arith, refl, ◌∙◌}
-use Rattle.kl1_text.specs.declared.cell_name.CellName.{CellName}
 use Rattle.kl1_account.specs.Account.{Account}
 use Rattle.kl1_account.specs.Accounts.{kept_in}
 use Rattle.kl1_account.specs.Reducing.{put_in}

@@ -1,8 +1,8 @@
-use Rattle.std.proofs.Common.{◌≡◌, ℕ, suc, ◌+◌, ◌++◌, true, List, [], length, refl, sym, ap, ◌∙◌, arith, subst}
+use Rattle.std.proofs.Common.{◌≡◌, ℕ, suc, ◌+◌, ◌++◌, List, [], refl, sym, ap, ◌∙◌, subst}
 use Rattle.kl1_model.specs.Term.{Term}
 use Rattle.kl1_model.specs.TermCode.{nodes_of}
-use Rattle.kl1_model.specs.State.{State, names_of, with_names}
-use Rattle.kl1_model.specs.Event.{start, refuse, opened, too_many_names, journal_full}
+use Rattle.kl1_model.specs.State.{names_of, with_names}
+use Rattle.kl1_model.specs.Event.{start, opened}
 use Rattle.kl1_model.specs.Step.{step}
 use Rattle.kl1_atoms.specs.declared.known.Known.{Known}
 use Rattle.kl1_atoms.specs.Names.{AreNames}
