@@ -84,10 +84,6 @@ each_push : (hooks : List Hook) (n v : ℕ) (vs : List ℕ) → HangsOnEach hook
 each_push hooks n v [] h c = (c, tt)
 each_push hooks n v (w ∷ vs) h c = (h.0, each_push hooks n v vs h.1 c)
 
--- nothing hangs yet
-pub none_hangs : (k : Kept CellName) (n : ℕ) → Hangs k k n []
-none_hangs k n = record { held = refl; grown = HasGrown-same k; hung = tt }
-
 -- one more hangs
 pub next_hangs : (old mid new : Kept CellName) (n i d : ℕ) (vs : List ℕ) → i < length vs → Hangs old mid n (take i vs) → new.held ≡ mid.held → HasGrown mid new → Contains new.hooks (record { variable = get_or vs i d; number = n }) → Hangs old new n (take (i + 1) vs)
 next_hangs old mid new n i d vs lt h same grown c =
@@ -97,12 +93,6 @@ next_hangs old mid new n i d vs lt h same grown c =
       grown = HasGrown-trans old mid new h.grown grown;
       hung = subst H (sym (take_more vs i d lt)) (each_push new.hooks n (get_or vs i d) (take i vs) (each_more mid.hooks new.hooks n (take i vs) (grown_among mid new grown) h.hung) c);
     }
-
--- and all hang in the end
-pub all_hang : (old new : Kept CellName) (n i : ℕ) (vs : List ℕ) → length vs < i + 1 → Hangs old new n (take i vs) → HangsOnEach new.hooks n vs
-all_hang old new n i vs le h =
-    let H : List ℕ → Type 0 = λ ws. HangsOnEach new.hooks n ws in
-    subst H (take_all i vs (omega arith)) h.hung
 
 -- a variable of these is of the store
 pub nth_within : (h : Held CellName) (vs : List ℕ) (i d : ℕ) → AreUnbound h vs → i < length vs → get_or vs i d < h.variables
