@@ -9,15 +9,15 @@ use Rattle.kl1_store.specs.Hooks.{Hook, Kept, HasGrown}
 use Rattle.kl1_goals.specs.declared.task.Task.TheVariants.{Reduces}
 use Rattle.kl1_goals.specs.declared.goal.Goal.{Goal}
 use Rattle.kl1_modules.specs.Numbered.{Numbered}
+use Rattle.kl1_moves.specs.Hanging.{AreAmong}
 use Rattle.kl1_account.specs.declared.draft.Change.{Change}
 use Rattle.kl1_account.specs.Fitting.{Reading}
 use Rattle.kl1_account.specs.Drafts.{goals_standing}
 use Rattle.kl1_account.specs.Settled.{IsSettled, AreSettled}
-use Rattle.kl1_account.specs.Waking.{AreAmong}
 use Rattle.kl1_account.specs.Looking.{StandsAt, WakesAdded}
 use Rattle.kl1_account.proofs.SettledStays.{settled_more}
 use Rattle.kl1_account.proofs.Waking.{found_out}
-use Rattle.kl1_account.proofs.Hanging.{HasGrown-same, HasGrown-trans, grown_among}
+use Rattle.kl1_moves.proofs.Hooked.{HasGrown-same, HasGrown-trans, grown_among}
 use Rattle.kl1_account.proofs.Restood.{each_is, each_append}
 
 -- a goal for a cell, with the clause by which it can step

@@ -26,6 +26,7 @@ use Rattle.kl1_modules.specs.Numbered.{Numbered, own_names, number_of, IsRead, A
 use Rattle.kl1_modules.specs.Finding.{contents, is_numbered, TellsModule}
 use Rattle.kl1_modules.proofs.Names.{number_reads}
 use Rattle.kl1_modules.proofs.Shelving.{tells}
+use Rattle.kl1_moves.specs.Hanging.{HangsOnEach}
 use Rattle.kl1_account.specs.declared.draft.Change.{Change}
 use Rattle.kl1_account.specs.declared.loading.Loading.{Loading}
 use Rattle.kl1_account.specs.declared.loading.Loading.TheVariants.{Refused, Drafted}
@@ -38,7 +39,7 @@ use Rattle.kl1_account.specs.Naming.{AreSmall, ReadsDraft, AreNumbersOf}
 use Rattle.kl1_account.specs.Works.{Knows}
 use Rattle.kl1_account.specs.Drafts.{restood_by, restood}
 use Rattle.kl1_account.specs.Kept.{IsTaskIn, IsOwned}
-use Rattle.kl1_account.specs.Settled.{task_clause, awaited_by_task, HangsOnEach, AreSettled}
+use Rattle.kl1_account.specs.Settled.{task_clause, awaited_by_task, AreSettled}
 use Rattle.kl1_account.specs.Looking.{AreMonitorsIdle}
 use Rattle.kl1_account.specs.Keeping.{IsKept}
 use Rattle.kl1_account.specs.Loadings.{IsDraft, DraftsAs, IsDraftOf, LoadsAs, Settles}

@@ -15,17 +15,18 @@ use Rattle.kl1_goals.specs.Lists.{has_number, is_after}
 use Rattle.kl1_goals.specs.Tables.{AreInOrder}
 use Rattle.kl1_modules.specs.Numbered.{Numbered}
 use Rattle.kl1_modules.specs.Finding.{contents}
+use Rattle.kl1_moves.specs.Hanging.{HangsOnEach, AreAmong}
 use Rattle.kl1_account.specs.declared.draft.Change.{Change}
 use Rattle.kl1_account.specs.Fitting.{Reading}
 use Rattle.kl1_account.specs.Account.{meaning, task_with}
 use Rattle.kl1_account.specs.Kept.{IsTaskIn, AreGoalsIn}
 use Rattle.kl1_account.specs.Drafts.{restood, restood_by}
-use Rattle.kl1_account.specs.Settled.{task_clause, awaited_by_task, HangsOnEach, IsSettled}
-use Rattle.kl1_account.specs.Waking.{AreAmong, IsFoundOut}
+use Rattle.kl1_account.specs.Settled.{task_clause, awaited_by_task, IsSettled}
+use Rattle.kl1_account.specs.Waking.{IsFoundOut}
 use Rattle.kl1_account.specs.Looking.{FindsTask, IsReached, LooksBelow, LooksAtAll}
 use Rattle.kl1_account.proofs.SettledStays.{settled_more}
 use Rattle.kl1_account.proofs.Waking.{found_out, other_stands, same_stands}
-use Rattle.kl1_account.proofs.Hanging.{HasGrown-trans, grown_among}
+use Rattle.kl1_moves.proofs.Hooked.{HasGrown-trans, grown_among}
 use Rattle.kl1_account.proofs.Restood.{each_is, restood_keeps, restood_push}
 use Rattle.kl1_account.proofs.GoalOrder.{IsNext, IsNextOf, next_after, next_zero, none_after, none_zero}
 

@@ -33,6 +33,7 @@ use Rattle.kl1_goals.specs.declared.goal.Goal.{Goal}
 use Rattle.kl1_modules.specs.Numbered.{Numbered, AreRead}
 use Rattle.kl1_shoen.specs.declared.shoen.Shoen.{Shoen}
 use Rattle.kl1_modules.specs.Finding.{contents}
+use Rattle.kl1_moves.specs.Hanging.{HangsOnEach}
 use Rattle.kl1_account.specs.declared.opening.Opening.{Opening}
 use Rattle.kl1_account.specs.declared.refusal.Refusal.{Refusal}
 use Rattle.kl1_account.specs.declared.refusal.Refusal.TheVariants.{Names, Journal}
@@ -44,7 +45,7 @@ use Rattle.kl1_account.specs.Account.{Account, meaning, task_with, goal_with, sh
 use Rattle.kl1_account.specs.Keeping.{IsKept}
 use Rattle.kl1_account.specs.Naming.{AreNumbersOf, AreSmall}
 use Rattle.kl1_account.specs.Kept.{IsTaskIn, AreGoalsIn, AreOwned, AreUpTo, IsShoenIn, AreShoensIn, AreNumbered}
-use Rattle.kl1_account.specs.Settled.{task_clause, awaited_by_task, HangsOnEach, IsSettled, AreSettled}
+use Rattle.kl1_account.specs.Settled.{task_clause, awaited_by_task, IsSettled, AreSettled}
 use Rattle.kl1_account.proofs.Goals.{goals_in_append, owned_append, up_to_append, up_to_more}
 use Rattle.kl1_account.proofs.SettledStays.{hung_more}
 use Rattle.kl1_match.specs.GoalCells.{AreGoalVariables}

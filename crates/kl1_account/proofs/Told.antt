@@ -12,16 +12,17 @@ use Rattle.kl1_goals.specs.declared.task.Task.TheVariants.{Monitor, Reduces}
 use Rattle.kl1_goals.specs.declared.goal.Goal.{Goal}
 use Rattle.kl1_goals.specs.Lists.{has_number}
 use Rattle.kl1_modules.specs.Numbered.{Numbered}
+use Rattle.kl1_moves.specs.Hanging.{AreAmong}
 use Rattle.kl1_account.specs.declared.draft.Change.{Change}
 use Rattle.kl1_account.specs.Fitting.{Reading}
 use Rattle.kl1_account.specs.Kept.{IsTaskIn, AreGoalsIn}
 use Rattle.kl1_account.specs.Works.{Knows}
 use Rattle.kl1_account.specs.Drafts.{restood}
-use Rattle.kl1_account.specs.Waking.{AreSettledOr, AreFor, AreAmong}
+use Rattle.kl1_account.specs.Waking.{AreSettledOr, AreFor}
 use Rattle.kl1_account.specs.Looking.{FindsOut, AreOthersOf, Wakes, WakesTold}
 use Rattle.kl1_account.proofs.GoalOrder.{same_goal}
 use Rattle.kl1_account.proofs.Waking.{one_settled, none_settled, all_settled}
-use Rattle.kl1_account.proofs.Hanging.{HasGrown-trans}
+use Rattle.kl1_moves.proofs.Hooked.{HasGrown-trans}
 use Rattle.kl1_account.proofs.Restood.{each_is, restood_keeps, restood_push}
 
 -- ---- one number

@@ -15,13 +15,14 @@ use Rattle.kl1_goals.specs.declared.task.Task.TheVariants.{Monitor, Reduces}
 use Rattle.kl1_goals.specs.declared.goal.Goal.{Goal}
 use Rattle.kl1_modules.specs.Numbered.{Numbered}
 use Rattle.kl1_modules.specs.Finding.{contents}
+use Rattle.kl1_moves.specs.Hanging.{HangsOnEach, AreAmong}
 use Rattle.kl1_account.specs.declared.draft.Change.{Change}
 use Rattle.kl1_account.specs.Fitting.{Reading}
 use Rattle.kl1_account.specs.Account.{meaning, task_with}
 use Rattle.kl1_account.specs.Kept.{IsTaskIn, AreGoalsIn}
 use Rattle.kl1_account.specs.Drafts.{restood_by}
-use Rattle.kl1_account.specs.Settled.{task_clause, awaited_by_task, HangsOnEach, IsSettled, AreSettled}
-use Rattle.kl1_account.specs.Waking.{IsPending, IsSettledOr, AreSettledOr, AreFor, AreAmong, is_among, IsFoundOut}
+use Rattle.kl1_account.specs.Settled.{task_clause, awaited_by_task, IsSettled, AreSettled}
+use Rattle.kl1_account.specs.Waking.{IsPending, IsSettledOr, AreSettledOr, AreFor, is_among, IsFoundOut}
 use Rattle.kl1_account.proofs.SettledStays.{HangsOnNone, stays_settled, settled_more}
 
 -- ---- one goal is looked at again

@@ -6,13 +6,11 @@ use Rattle.std.proofs.Math.Dec.{eqb}
 use Rattle.std.proofs.lemmas.Bool.{eqb-true}
 use Rattle.std.proofs.lemmas.List.{take_more, take-take, take_all, take-append-drop}
 use Rattle.std.proofs.lemmas.List.Elements.{Contains-append_left, Contains-append_cases, Contains-push}
-use Rattle.kl1_text.specs.declared.cell_name.CellName.{CellName}
 use Rattle.kl1_store.specs.Held.{Held}
 use Rattle.kl1_store.specs.Hooks.{Hook, Kept, hanging_on, HasGrown}
 use Rattle.kl1_store.proofs.Grows.{Grown-same, Grown-trans}
 use Rattle.kl1_match.specs.Waiting.{AreUnbound}
-use Rattle.kl1_account.specs.Settled.{HangsOnEach}
-use Rattle.kl1_account.specs.Waking.{AreAmong}
+use Rattle.kl1_moves.specs.Hanging.{HangsOnEach, AreAmong}
 
 -- ---- what hangs newest was hung
 
@@ -49,7 +47,7 @@ just_hung ks new k e = let P : List Hook → Type 0 = λ ls. Contains ls k in su
 -- ---- stores that have grown
 
 -- a store has grown from itself
-pub HasGrown-same : (k : Kept CellName) → HasGrown k k
+pub HasGrown-same : {N : Type 0} (k : Kept N) → HasGrown k k
 HasGrown-same k = record { held = Grown-same k.held; hooks = take_all (length k.hooks) k.hooks (omega arith) }
 
 still_first : (xs ys zs : List Hook) → take (length xs) ys ≡ xs → take (length ys) zs ≡ ys → take (length xs) zs ≡ xs
@@ -58,11 +56,11 @@ still_first xs ys zs p q =
     sym (take-take (length xs) (length ys) zs (omega arith)) ∙ ap (take (length xs)) q ∙ p
 
 -- and twice
-pub HasGrown-trans : (a b c : Kept CellName) → HasGrown a b → HasGrown b c → HasGrown a c
+pub HasGrown-trans : {N : Type 0} (a b c : Kept N) → HasGrown a b → HasGrown b c → HasGrown a c
 HasGrown-trans a b c p q = record { held = Grown-trans a.held b.held c.held p.held q.held; hooks = still_first a.hooks b.hooks c.hooks p.hooks q.hooks }
 
 -- what hung still hangs
-pub grown_among : (a b : Kept CellName) → HasGrown a b → AreAmong a.hooks b.hooks
+pub grown_among : {N : Type 0} (a b : Kept N) → HasGrown a b → AreAmong a.hooks b.hooks
 grown_among a b g k h =
     let P : List Hook → Type 0 = λ ks. Contains ks k in
     let all : a.hooks ++ drop (length a.hooks) b.hooks ≡ b.hooks = ap (λ ks. ks ++ drop (length a.hooks) b.hooks) (sym g.hooks) ∙ take-append-drop (length a.hooks) b.hooks in
@@ -71,7 +69,7 @@ grown_among a b g k h =
 -- ---- one variable after another
 
 -- a store that holds what it held, and in which a number hangs on each of these variables
-pub record Hangs (old new : Kept CellName) (n : ℕ) (vs : List ℕ) : Type 0 where
+pub record Hangs {N : Type 0} (old new : Kept N) (n : ℕ) (vs : List ℕ) : Type 0 where
   pub held : new.held ≡ old.held
   pub grown : HasGrown old new
   pub hung : HangsOnEach new.hooks n vs
@@ -85,7 +83,7 @@ each_push hooks n v [] h c = (c, tt)
 each_push hooks n v (w ∷ vs) h c = (h.0, each_push hooks n v vs h.1 c)
 
 -- one more hangs
-pub next_hangs : (old mid new : Kept CellName) (n i d : ℕ) (vs : List ℕ) → i < length vs → Hangs old mid n (take i vs) → new.held ≡ mid.held → HasGrown mid new → Contains new.hooks (record { variable = get_or vs i d; number = n }) → Hangs old new n (take (i + 1) vs)
+pub next_hangs : {N : Type 0} (old mid new : Kept N) (n i d : ℕ) (vs : List ℕ) → i < length vs → Hangs old mid n (take i vs) → new.held ≡ mid.held → HasGrown mid new → Contains new.hooks (record { variable = get_or vs i d; number = n }) → Hangs old new n (take (i + 1) vs)
 next_hangs old mid new n i d vs lt h same grown c =
     let H : List ℕ → Type 0 = λ ws. HangsOnEach new.hooks n ws in
     record {
@@ -95,7 +93,13 @@ next_hangs old mid new n i d vs lt h same grown c =
     }
 
 -- a variable of these is of the store
-pub nth_within : (h : Held CellName) (vs : List ℕ) (i d : ℕ) → AreUnbound h vs → i < length vs → get_or vs i d < h.variables
+nth_within : {N : Type 0} (h : Held N) (vs : List ℕ) (i d : ℕ) → AreUnbound h vs → i < length vs → get_or vs i d < h.variables
 nth_within h [] i d u lt = absurd (omega arith)
 nth_within h (v ∷ vs) zero d u lt = u.0.within
 nth_within h (v ∷ vs) (suc i) d u lt = nth_within h vs i d u.1 (omega arith)
+
+-- the next of these is of a store that holds what it held
+pub next_within : {N : Type 0} (old mid : Kept N) (n i d : ℕ) (vs : List ℕ) → AreUnbound old.held vs → i < length vs → Hangs old mid n (take i vs) → get_or vs i d < mid.held.variables
+next_within {N} old mid n i d vs u lt h =
+    let P : Held N → Type 0 = λ k. get_or vs i d < k.variables in
+    subst P (sym h.held) (nth_within old.held vs i d u lt)
