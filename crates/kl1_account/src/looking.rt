@@ -84,6 +84,7 @@ fn predicate_near<'a>(
 
 /// The clause by which the goal of a number, which is of a kind, can step by the clauses of its predicate, or none. The number is
 /// hung on each variable that the goal waits for then; where memory is refused, it may hang on some of them.
+#[inline(always)]
 pub(crate) fn hung_standing(
     store: &mut Store<CellName>,
     kind: Kind<CellName>,
@@ -103,6 +104,7 @@ pub(crate) fn hung_standing(
 }
 
 /// The same of the goal of a number, which is for a cell, where the predicate of goals of one kind is known.
+#[inline(always)]
 fn standing_at(
     store: &mut Store<CellName>,
     modules: &Modules,

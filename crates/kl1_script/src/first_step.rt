@@ -3,7 +3,8 @@
 ghost use Rattle.kl1_account.specs.Fitting.{Reading, Fits};
 ghost use Rattle.kl1_account.specs.Account.{state_of};
 ghost use Rattle.kl1_account.specs.Naming.{Grows};
-ghost use Rattle.kl1_script.specs.Performing.{IsFirstStep, IsStepUntouched};
+ghost use Rattle.kl1_account.specs.Views.{reduced_or};
+ghost use Rattle.kl1_script.specs.Performing.{IsFirstStep, IsStepUntouched, IsTold};
 
 use crate::served::Served;
 use kl1_atoms::AtomSource;
@@ -31,8 +32,17 @@ pub(crate) fn reduce_first<A: AtomSource + Drop>(served: &mut Served<A>) -> Firs
         return FirstStep::Quiet;
     };
     match served.reduce(goal, clause) {
-        Ok(None) => FirstStep::Done,
-        Ok(Some(refusal)) => FirstStep::Refused(refusal),
+        Ok(refused) => step_by(refused),
         Err(_) => FirstStep::Memory,
+    }
+}
+
+/// What became of a goal whose reduction is refused for this reason, or done where there is none.
+fn step_by(refused: Option<Refusal>) -> FirstStep
+    ensures { IsTold (reduced_or refused) result }
+{
+    match refused {
+        None => FirstStep::Done,
+        Some(refusal) => FirstStep::Refused(refusal),
     }
 }
