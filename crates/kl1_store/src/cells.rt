@@ -261,17 +261,6 @@ impl<N: NameValue> Cells<N> {
         self.arguments[node.start as usize + index as usize]
     }
 
-    /// The arguments of a structure.
-    #[inline]
-    pub fn arguments(&self, structure: u32) -> &[Cell<N>]
-        requires { structure < length self.now.held.structures }
-        ensures are { result.now ≡ arguments_of self.now.held structure }
-        ensures formed { IsFormed self.now.held }
-    {
-        let node = self.nodes[structure as usize];
-        part(&self.arguments, node.start as usize, node.count as usize)
-    }
-
     /// The place of a structure's first argument among those of all structures, from 0.
     #[inline]
     pub fn first_argument(&self, structure: u32) -> u32
@@ -362,15 +351,6 @@ impl<N: NameValue> Cells<N> {
             self.nodes.truncate(structures);
         }
     }
-}
-
-/// So many cells of a list, from a place on.
-#[inline]
-fn part<N: NameValue>(cells: &[Cell<N>], start: usize, count: usize) -> &[Cell<N>]
-    requires { start + count ≤ length cells.now }
-    ensures { result.now ≡ take count (drop start cells.now) }
-{
-    &cells[start..start + count]
 }
 
 /// Moves so many cells from the top of a stack behind those of a list with room for them; where none is left, `missing` stands

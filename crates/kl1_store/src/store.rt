@@ -18,7 +18,6 @@ use crate::head::Head;
 use crate::hooks::Hooks;
 use crate::levels::Levels;
 use crate::merges::Merges;
-use crate::pairs::Pairs;
 use crate::point::Point;
 use crate::same::Same;
 use crate::scratch::Scratch;
@@ -28,6 +27,7 @@ use crate::unified::Unified;
 use crate::unify::unify_or_undo;
 use kl1_text::NameValue;
 use std::alloc::{AllocError, Global};
+use std::collections::HashSet;
 use std::marker::Model;
 
 /// Terms as cells that share parts: variables and structures by number, each variable bound at most once.
@@ -70,7 +70,7 @@ impl<N: NameValue> Store<N> {
             scratch: Scratch {
                 frames: Vec::new(alloc),
                 merges: Merges::new(alloc),
-                pairs: Pairs::new(alloc),
+                pairs: HashSet::new(alloc),
                 tasks: Vec::new(alloc),
             },
             hooks: Hooks::new(alloc),
@@ -177,17 +177,6 @@ impl<N: NameValue> Store<N> {
         ensures { slice_get (arguments_of self.now.held structure) index ≡ Some result }
     {
         self.cells.argument(structure, index)
-    }
-
-    /// The arguments of a structure; they are of this store.
-    #[inline]
-    #[tactic(auto, using(crate::proofs::Terms::arguments_in))]
-    pub fn arguments(&self, structure: u32) -> &[Cell<N>]
-        requires { structure < length self.now.held.structures }
-        ensures are { result.now ≡ arguments_of self.now.held structure }
-        ensures inside { AreIn self.now.held result.now }
-    {
-        self.cells.arguments(structure)
     }
 
     /// The place of a structure's first argument among those of all structures, from 0.
