@@ -17,4 +17,4 @@ pub mod ReadMeans
 pub mod ReadStrict
 pub mod ReadClauses
 pub mod ReadPlain
-pub mod SameStays
+pub mod GuardRowProofs

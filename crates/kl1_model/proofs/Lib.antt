@@ -12,5 +12,13 @@ pub mod ReadSteps
 pub mod Clashes
 pub mod SameEach
 pub mod LeastClause
+pub mod SameStays
+pub mod ScanFinds
+pub mod ScanStays
+pub mod GuardStays
+pub mod Beside
 pub mod VerdictStays
+pub mod RejectsNever
+pub mod VerdictWaits
+pub mod OpenSections
 pub mod TermStays

@@ -6,7 +6,7 @@ use Rattle.std.proofs.lemmas.Slice.Eq.{bytes_eq-Decides}
 use Rattle.kl1_model.specs.Term.{Term, variable, integer, atom, structure, Terms, none, more, count_of, same_term, same_terms, substituted, each_substituted}
 use Rattle.kl1_model.specs.Same.{clash, any_clash, awaited, all_awaited, same, differs, unknown, same_as_all, all_same, clashes_with_some, some_clash, awaited_with, awaited_by}
 use Rattle.kl1_model.specs.Waits.{LeavesEach}
-use Rattle.kl1_laws.specs.SameLaws.{all_substituted, SameStays, DiffersStays, UnknownWaits, UnknownStays, AllSameStays, SomeDifferStays, AllUnknownWaits, AllUnknownStays}
+use Rattle.kl1_model.specs.SameLaws.{all_substituted, SameStays, DiffersStays, UnknownWaits, UnknownStays, AllSameStays, SomeDifferStays, AllUnknownWaits, AllUnknownStays}
 use Rattle.kl1_model.proofs.TermFacts.{same_term_decides}
 use Rattle.kl1_model.proofs.Substitutions.{count-each_substituted}
 use Rattle.kl1_model.proofs.Clashes.{no_clash, clash_differs, same_is_equal, same_or, differs_or}
@@ -14,11 +14,11 @@ use Rattle.kl1_model.proofs.SameEach.{in_both, same_from, same_each, quiet_each}
 
 -- ---- lists of variables that are left
 
-left_front : (s : ℕ → Term) (vs ws : List ℕ) → LeavesEach s (vs ++ ws) → LeavesEach s vs
+pub left_front : (s : ℕ → Term) (vs ws : List ℕ) → LeavesEach s (vs ++ ws) → LeavesEach s vs
 left_front s [] ws a = tt
 left_front s (v ∷ vs) ws a = (a.0, left_front s vs ws a.1)
 
-left_back : (s : ℕ → Term) (vs ws : List ℕ) → LeavesEach s (vs ++ ws) → LeavesEach s ws
+pub left_back : (s : ℕ → Term) (vs ws : List ℕ) → LeavesEach s (vs ++ ws) → LeavesEach s ws
 left_back s [] ws a = a
 left_back s (v ∷ vs) ws a = left_back s vs ws a.1
 
