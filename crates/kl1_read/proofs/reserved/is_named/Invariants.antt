@@ -1,9 +1,7 @@
-use Rattle.std.proofs.Common.{◌≡◌, bytes_eq, drop}
-use Rattle.std.specs.List.{list_any}
-use Rattle.kl1_model.specs.Text.{text_of}
-use Rattle.kl1_model.specs.Goal.{is_reserved, reserved_names}
-use Rattle.kl1_read.proofs.reserved.is_reserved.Given as goal
+use Rattle.std.proofs.Common.{◌≡◌, drop}
+use Rattle.kl1_read.specs.Heads.{is_named}
+use Rattle.kl1_read.proofs.reserved.is_named.Given as goal
 
 -- the name is one of all, where it is one of those that are left
-abbrev pub invariant-loop-reserved : goal.invariant-loop-reserved
-invariant-loop-reserved l = list_any (λ b. bytes_eq l.name (text_of b)) (drop l.reserved-index reserved_names) ≡ is_reserved l.name
+abbrev pub invariant-loop-built_in : goal.invariant-loop-built_in
+invariant-loop-built_in l = is_named l.name (drop l.built_in-index l.names) ≡ is_named l.name l.names
