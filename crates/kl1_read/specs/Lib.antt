@@ -19,5 +19,6 @@ pub mod Marked
 pub mod Followings
 pub mod Spellings
 pub mod Held
+pub mod Infixes
 pub mod Waits
 pub mod SmallNodes
