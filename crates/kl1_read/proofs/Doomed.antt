@@ -16,7 +16,7 @@ use Rattle.kl1_read.specs.declared.frame.Frame.{Frame}
 use Rattle.kl1_read.specs.Waits.{opened_of, left_of}
 use Rattle.kl1_read.specs.Infixes.{infix_in_front}
 use Rattle.kl1_read.specs.Pieces.{writable}
-use Rattle.kl1_read.specs.Meanings.{expression_read, primary_read, series_read, operand_read, operation, joined, Going, after_relation, after_sum, after_operand, after_colon, after_primary, after_elements, after_arguments, after_opened, after_last, after_expression, fit, Dooms}
+use Rattle.kl1_read.specs.Meanings.{expression_read, primary_read, series_read, operand_read, operation, joined, Going, after_relation, after_sum, after_operand, after_product, after_part, after_colon, after_primary, after_elements, after_arguments, after_opened, after_last, after_expression, fit, Dooms}
 use Rattle.kl1_read.proofs.Arguments.{unwritable_is}
 use Rattle.kl1_read.proofs.Unwritable.{structure_unwritable, first_unwritable, second_unwritable, tail_unwritable, element_unwritable, list_unwritable}
 
@@ -95,14 +95,16 @@ module _ (k : Going) (dooms : Dooms k) where
   opened_dooms (Tail elements) t ts h =
       doomed_skip (behind_close_list ts) _ (λ us. dooms (cells (terms_of elements.items) t) us (tail_unwritable elements.items t h))
 
--- what goes on with a part behind what stands to its left
-pub part_dooms : (left : Left) (k : Going) → Dooms k → Dooms (after_operand Products left.product (after_operand Sums left.sum (after_sum left.relation k)))
-part_dooms left k dooms =
-    operand_dooms (after_operand Sums left.sum (after_sum left.relation k)) (operand_dooms (after_sum left.relation k) (sum_dooms k dooms left.relation) Sums left.sum) Products left.product
+-- nothing comes of a product or a part that no text can write
+pub product_dooms : (relation sum : Option (BuiltIn × Term)) (k : Going) → Dooms k → Dooms (after_product relation sum k)
+product_dooms relation sum k dooms = operand_dooms (after_sum relation k) (sum_dooms k dooms relation) Sums sum
+
+pub part_dooms : (relation sum product : Option (BuiltIn × Term)) (k : Going) → Dooms k → Dooms (after_part relation sum product k)
+part_dooms relation sum product k dooms = operand_dooms (after_product relation sum k) (product_dooms relation sum k dooms) Products product
 
 pub primary_dooms : (left : Left) (k : Going) → Dooms k → Dooms (after_primary left k)
 primary_dooms left k dooms =
-    colon_dooms (after_operand Products left.product (after_operand Sums left.sum (after_sum left.relation k))) (part_dooms left k dooms) left.colon
+    colon_dooms (after_part left.relation left.sum left.product k) (part_dooms left.relation left.sum left.product k dooms) left.colon
 
 unfit : (es : List Term) (us : List Numbered) → list_all is_writable es ≡ false → fit (Some (es, us)) ≡ None
 unfit es us h = ap (λ b. if◌then◌else◌ {A = Answer (List Term)} b (Some (es, us)) None) h

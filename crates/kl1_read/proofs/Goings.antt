@@ -12,7 +12,7 @@ use Rattle.kl1_model.proofs.ReadSteps.{expressions_go_on, series_go_on}
 use Rattle.kl1_read.specs.declared.infix.Level.TheVariants.{Sums, Products}
 use Rattle.kl1_read.specs.Infixes.{answer_map, relation_named, adding_named, multiplying_named}
 use Rattle.kl1_read.specs.Waits.{no_left}
-use Rattle.kl1_read.specs.Meanings.{reading, expression_read, sum_read, product_read, part_read, primary_read, series_read, operation, Going, after_relation, after_sum, after_operand, after_colon, primary_then}
+use Rattle.kl1_read.specs.Meanings.{reading, expression_read, sum_read, product_read, part_read, primary_read, series_read, operation, Going, after_relation, after_sum, after_operand, after_product, after_part, after_colon, primary_then}
 
 -- the arguments as a list are the arguments
 pub list_back : (ts : Terms) → terms_of (list_of ts) ≡ ts
@@ -111,8 +111,8 @@ pub expression_goes : (k : Going) (ts : List Numbered) → then_read (expression
 expression_goes k ts =
     expression_sums k ts
     ∙ sum_goes (after_sum None k) ts
-    ∙ product_goes (after_operand Sums None (after_sum None k)) ts
-    ∙ part_goes (after_operand Products None (after_operand Sums None (after_sum None k))) ts
+    ∙ product_goes (after_product None None k) ts
+    ∙ part_goes (after_part None None None k) ts
 
 -- expressions parted by commas are one, and then perhaps a comma and the others
 module _ {R : Type 0} (k : List Term → List Numbered → Option R) where

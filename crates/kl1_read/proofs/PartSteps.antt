@@ -12,59 +12,59 @@ use Rattle.kl1_read.specs.declared.opened.Opened.TheVariants.{Arguments, Element
 use Rattle.kl1_read.specs.declared.left.Left.{Left}
 use Rattle.kl1_read.specs.Infixes.{infix_in_front}
 use Rattle.kl1_read.specs.Pieces.{writable}
-use Rattle.kl1_read.specs.Meanings.{series_read, joined, Going, Dooms, fit, after_relation, after_sum, after_operand, after_colon, after_primary, after_arguments, after_elements, open_then, primary_then}
+use Rattle.kl1_read.specs.Meanings.{series_read, joined, Going, Dooms, fit, after_relation, after_sum, after_product, after_part, after_colon, after_primary, after_arguments, after_elements, open_then, primary_then}
 use Rattle.kl1_read.proofs.Goings.{sum_goes, product_goes, part_goes}
 use Rattle.kl1_read.proofs.Levels.{operator_follows, operator_gone}
 use Rattle.kl1_read.proofs.Primaries.{arguments_more, elements_more}
-use Rattle.kl1_read.proofs.Doomed.{sum_dooms, operand_dooms, operand_doomed, part_dooms}
+use Rattle.kl1_read.proofs.Doomed.{sum_dooms, product_dooms, part_dooms, operand_doomed}
 use Rattle.kl1_read.proofs.Arguments.{writable_is, unwritable_is}
 
 -- what follows a part with what stands to its left
 module _ (relation sum product : Option (BuiltIn × Term)) (p : Term) (ts : List Numbered) (k : Going) (dooms : Dooms k) where
-  pub part_follows : (whole : Term) (name : BuiltIn) (us : List Numbered) → Some whole ≡ writable (joined product p) → Some (name, us) ≡ infix_in_front Products ts → fit (primary_then (record { relation = relation; sum = sum; product = Some (name, whole); colon = None }) k us) ≡ fit (after_operand Products product (after_operand Sums sum (after_sum relation k)) p ts)
+  pub part_follows : (whole : Term) (name : BuiltIn) (us : List Numbered) → Some whole ≡ writable (joined product p) → Some (name, us) ≡ infix_in_front Products ts → fit (primary_then (record { relation = relation; sum = sum; product = Some (name, whole); colon = None }) k us) ≡ fit (after_part relation sum product k p ts)
   part_follows whole name us w h =
-      ap fit (sym (part_goes (after_operand Products (Some (name, whole)) (after_operand Sums sum (after_sum relation k))) us)
-      ∙ operator_follows Products product (after_operand Sums sum (after_sum relation k)) p whole ts (writable_is (joined product p) whole w) name us h)
+      ap fit (sym (part_goes (after_part relation sum (Some (name, whole)) k) us)
+      ∙ operator_follows Products product (after_product relation sum k) p whole ts (writable_is (joined product p) whole w) name us h)
 
-  pub part_ends : (whole : Term) → Some whole ≡ writable (joined product p) → None ≡ infix_in_front Products ts → fit (after_operand Sums sum (after_sum relation k) whole ts) ≡ fit (after_operand Products product (after_operand Sums sum (after_sum relation k)) p ts)
+  pub part_ends : (whole : Term) → Some whole ≡ writable (joined product p) → None ≡ infix_in_front Products ts → fit (after_product relation sum k whole ts) ≡ fit (after_part relation sum product k p ts)
   part_ends whole w h =
-      ap fit (operator_gone Products product (after_operand Sums sum (after_sum relation k)) p whole ts (writable_is (joined product p) whole w) h)
+      ap fit (operator_gone Products product (after_product relation sum k) p whole ts (writable_is (joined product p) whole w) h)
 
-  pub part_doomed : None ≡ writable (joined product p) → None ≡ fit (after_operand Products product (after_operand Sums sum (after_sum relation k)) p ts)
+  pub part_doomed : None ≡ writable (joined product p) → None ≡ fit (after_part relation sum product k p ts)
   part_doomed w =
-      operand_doomed (after_operand Sums sum (after_sum relation k)) (operand_dooms (after_sum relation k) (sum_dooms k dooms relation) Sums sum) Products product p ts w
+      operand_doomed (after_product relation sum k) (product_dooms relation sum k dooms) Products product p ts w
 
 -- what follows a primary with what stands to its left
 module _ (left : Left) (m p : Term) (ts : List Numbered) (e : left.colon ≡ Some m) (k : Going) (dooms : Dooms k) where
-  pub colon_ends : (whole : Term) → Some whole ≡ writable (pair (codes ":") m p) → fit (after_operand Products left.product (after_operand Sums left.sum (after_sum left.relation k)) whole ts) ≡ fit (after_primary left k p ts)
+  pub colon_ends : (whole : Term) → Some whole ≡ writable (pair (codes ":") m p) → fit (after_part left.relation left.sum left.product k whole ts) ≡ fit (after_primary left k p ts)
   colon_ends whole w =
-      ap (λ u. fit (after_operand Products left.product (after_operand Sums left.sum (after_sum left.relation k)) u ts)) (writable_is (pair (codes ":") m p) whole w)
-      ∙ ap (λ x. fit (after_colon x (after_operand Products left.product (after_operand Sums left.sum (after_sum left.relation k))) p ts)) (sym e)
+      ap (λ u. fit (after_part left.relation left.sum left.product k u ts)) (writable_is (pair (codes ":") m p) whole w)
+      ∙ ap (λ x. fit (after_colon x (after_part left.relation left.sum left.product k) p ts)) (sym e)
 
   pub colon_doomed : None ≡ writable (pair (codes ":") m p) → None ≡ fit (after_primary left k p ts)
   colon_doomed w =
-      sym (ap (λ x. fit (after_colon x (after_operand Products left.product (after_operand Sums left.sum (after_sum left.relation k))) p ts)) e
-      ∙ part_dooms left k dooms (pair (codes ":") m p) ts (unwritable_is (pair (codes ":") m p) w))
+      sym (ap (λ x. fit (after_colon x (after_part left.relation left.sum left.product k) p ts)) e
+      ∙ part_dooms left.relation left.sum left.product k dooms (pair (codes ":") m p) ts (unwritable_is (pair (codes ":") m p) w))
 
 -- what follows a product with what stands to its left
 module _ (relation sum : Option (BuiltIn × Term)) (p : Term) (ts : List Numbered) (k : Going) (dooms : Dooms k) where
-  pub product_follows : (whole : Term) (name : BuiltIn) (us : List Numbered) → Some whole ≡ writable (joined sum p) → Some (name, us) ≡ infix_in_front Sums ts → fit (primary_then (record { relation = relation; sum = Some (name, whole); product = None; colon = None }) k us) ≡ fit (after_operand Sums sum (after_sum relation k) p ts)
+  pub product_follows : (whole : Term) (name : BuiltIn) (us : List Numbered) → Some whole ≡ writable (joined sum p) → Some (name, us) ≡ infix_in_front Sums ts → fit (primary_then (record { relation = relation; sum = Some (name, whole); product = None; colon = None }) k us) ≡ fit (after_product relation sum k p ts)
   product_follows whole name us w h =
-      ap fit (sym (part_goes (after_operand Products None (after_operand Sums (Some (name, whole)) (after_sum relation k))) us)
-      ∙ sym (product_goes (after_operand Sums (Some (name, whole)) (after_sum relation k)) us)
+      ap fit (sym (part_goes (after_part relation (Some (name, whole)) None k) us)
+      ∙ sym (product_goes (after_product relation (Some (name, whole)) k) us)
       ∙ operator_follows Sums sum (after_sum relation k) p whole ts (writable_is (joined sum p) whole w) name us h)
 
-  pub product_ends : (whole : Term) → Some whole ≡ writable (joined sum p) → None ≡ infix_in_front Sums ts → fit (after_sum relation k whole ts) ≡ fit (after_operand Sums sum (after_sum relation k) p ts)
+  pub product_ends : (whole : Term) → Some whole ≡ writable (joined sum p) → None ≡ infix_in_front Sums ts → fit (after_sum relation k whole ts) ≡ fit (after_product relation sum k p ts)
   product_ends whole w h = ap fit (operator_gone Sums sum (after_sum relation k) p whole ts (writable_is (joined sum p) whole w) h)
 
-  pub product_doomed : None ≡ writable (joined sum p) → None ≡ fit (after_operand Sums sum (after_sum relation k) p ts)
+  pub product_doomed : None ≡ writable (joined sum p) → None ≡ fit (after_product relation sum k p ts)
   product_doomed w = operand_doomed (after_sum relation k) (sum_dooms k dooms relation) Sums sum p ts w
 
 -- a relation follows a sum
 pub relation_follows : (s : Term) (name : BuiltIn) (ts us : List Numbered) → Some (name, us) ≡ infix_in_front Relations ts → (k : Going) → Dooms k → fit (primary_then (record { relation = Some (name, s); sum = None; product = None; colon = None }) k us) ≡ fit (after_sum None k s ts)
 relation_follows s name ts us h k dooms =
-    ap fit (sym (part_goes (after_operand Products None (after_operand Sums None (after_sum (Some (name, s)) k))) us)
-    ∙ sym (product_goes (after_operand Sums None (after_sum (Some (name, s)) k)) us)
+    ap fit (sym (part_goes (after_part (Some (name, s)) None None k) us)
+    ∙ sym (product_goes (after_product (Some (name, s)) None k) us)
     ∙ sym (sum_goes (after_sum (Some (name, s)) k) us)
     ∙ ap (after_relation k s ts) h)
 

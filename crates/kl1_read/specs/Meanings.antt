@@ -82,6 +82,14 @@ after_sum (Some before) k s ts = k (operation before.1 before.0 s) ts
 abbrev pub after_operand : Level → Option (BuiltIn × Term) → Going → Going
 after_operand level left k t ts = then_read (grouped_read level (joined left t) ts) k
 
+-- goes on with a product behind what stands to its left
+abbrev pub after_product : Option (BuiltIn × Term) → Option (BuiltIn × Term) → Going → Going
+after_product relation sum k = after_operand Sums sum (after_sum relation k)
+
+-- goes on with a part behind what stands to its left
+abbrev pub after_part : Option (BuiltIn × Term) → Option (BuiltIn × Term) → Option (BuiltIn × Term) → Going → Going
+after_part relation sum product k = after_operand Products product (after_product relation sum k)
+
 -- goes on with a primary behind what stands to the left of a colon, or perhaps with a colon
 abbrev pub after_colon : Option Term → Going → Going
 after_colon None k p ts = if_there (behind_colon ts) (k p ts) (λ us. then_read (primary_read us) (λ q vs. k (pair (codes ":") p q) vs))
@@ -89,7 +97,7 @@ after_colon (Some m) k p ts = k (pair (codes ":") m p) ts
 
 -- goes on with a primary behind what stands to its left
 abbrev pub after_primary : Left → Going → Going
-after_primary left k = after_colon left.colon (after_operand Products left.product (after_operand Sums left.sum (after_sum left.relation k)))
+after_primary left k = after_colon left.colon (after_part left.relation left.sum left.product k)
 
 -- goes on behind the elements of a list
 abbrev pub after_elements : Going → List Term → List grammar.Numbered → Answer (List Term)

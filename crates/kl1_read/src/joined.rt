@@ -1,11 +1,10 @@
 // A primary with what stands to its left.
 
 ghost use Rattle.std.specs.Prelude.{◌≡◌, map, length, IfOk};
-ghost use Rattle.kl1_read.specs.declared.infix.Level.TheVariants.{Sums, Products};
 ghost use Rattle.kl1_read.specs.Views.{numbered_token};
 ghost use Rattle.kl1_read.specs.Pieces.{writable};
 ghost use Rattle.kl1_read.specs.Joins.{Joins, JoinedLess, joined_then};
-ghost use Rattle.kl1_read.specs.Meanings.{Going, Dooms, fit, joined, after_sum, after_operand};
+ghost use Rattle.kl1_read.specs.Meanings.{Going, Dooms, fit, joined, after_sum, after_product, after_part};
 
 use crate::infix::{Level, infix_in_front};
 use crate::left::Left;
@@ -70,7 +69,7 @@ fn join_part<'a>(
     part: Piece,
     tokens: &'a [Numbered],
 ) -> Result<Joined<'a>, AllocError>
-    ensures value { IfOk result (λ j. (k : Going) → Dooms k → fit (joined_then j k) ≡ fit (after_operand Products product (after_operand Sums sum (after_sum relation k)) part (map numbered_token tokens.now))) }
+    ensures value { IfOk result (λ j. (k : Going) → Dooms k → fit (joined_then j k) ≡ fit (after_part relation sum product k part (map numbered_token tokens.now))) }
     ensures less { IfOk result (JoinedLess (length tokens.now)) }
 {
     match join_operand(product, part)? {
@@ -97,7 +96,7 @@ fn join_product<'a>(
     product: Piece,
     tokens: &'a [Numbered],
 ) -> Result<Joined<'a>, AllocError>
-    ensures value { IfOk result (λ j. (k : Going) → Dooms k → fit (joined_then j k) ≡ fit (after_operand Sums sum (after_sum relation k) product (map numbered_token tokens.now))) }
+    ensures value { IfOk result (λ j. (k : Going) → Dooms k → fit (joined_then j k) ≡ fit (after_product relation sum k product (map numbered_token tokens.now))) }
     ensures less { IfOk result (JoinedLess (length tokens.now)) }
 {
     match join_operand(sum, product)? {
