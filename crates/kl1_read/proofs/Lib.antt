@@ -2,12 +2,12 @@ pub mod Arguments
 pub mod Doomed
 pub mod FitHeads
 pub mod Follows
-pub mod FuelFree
 pub mod Clauses
 pub mod GoalFronts
 pub mod Goings
 pub mod HeadFronts
 pub mod HeadNumbers
+pub mod Levels
 pub mod ItemSteps
 pub mod MarkSteps
 pub mod ModuleLines

@@ -18,5 +18,6 @@ pub mod Started
 pub mod Followings
 pub mod Spellings
 pub mod Held
+pub mod Infixes
 pub mod Waits
 pub mod SmallNodes

@@ -5,7 +5,6 @@ ghost use Rattle.kl1_read.specs.Waits.{opened_of, left_of};
 
 use crate::left::Left;
 use crate::opened::Opened;
-use crate::piece::Piece;
 use std::alloc::{AllocError, Global};
 
 /// What was opened, with what stands to its left. Most brackets have nothing there.
@@ -35,33 +34,15 @@ pub(crate) fn frame_of<'a>(
     ensures opened { IfOk result (λ frame. opened_of frame ≡ opened.entry) }
     ensures left { IfOk result (λ frame. left_of frame ≡ left) }
 {
-    let Left { relation, colon } = left;
-    match relation {
-        None => match colon {
-            None => match opened {
-                Opened::Group => Ok(Frame::Group),
-                other => {
-                    let boxed = Box::new(alloc, other)?;
-                    Ok(Frame::First(boxed))
-                }
-            },
-            Some(module) => behind_frame(alloc, opened, None, Some(module)),
-        },
-        Some(first) => behind_frame(alloc, opened, Some(first), colon),
+    if left.is_empty() {
+        return match opened {
+            Opened::Group => Ok(Frame::Group),
+            other => {
+                let boxed = Box::new(alloc, other)?;
+                Ok(Frame::First(boxed))
+            }
+        };
     }
-}
-
-/// What was opened behind something.
-fn behind_frame<'a>(
-    alloc: Global,
-    opened: Opened<'a>,
-    relation: Option<Piece>,
-    colon: Option<Piece>,
-) -> Result<Frame<'a>, AllocError>
-    ensures opened { IfOk result (λ frame. opened_of frame ≡ opened.entry) }
-    ensures left { IfOk result (λ frame. left_of frame ≡ record { relation = relation; colon = colon }) }
-{
-    let left = Left { relation, colon };
     let waiting = Box::new(alloc, Waiting { opened, left })?;
     Ok(Frame::Behind(waiting))
 }

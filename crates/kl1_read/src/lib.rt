@@ -16,6 +16,7 @@ mod goal_kinds;
 mod goals;
 mod head_kinds;
 mod head_terms;
+mod infix;
 mod item;
 mod joined;
 mod kept;
