@@ -6,10 +6,10 @@ use Rattle.std.proofs.lemmas.Bool.{and_from, and_parts}
 use Rattle.std.proofs.lemmas.List.{append_assoc, append-nil}
 use Rattle.std.proofs.lemmas.List.Folds.{list_all-append}
 use Rattle.std.proofs.lemmas.Option.{none-some, same_Some, cond_some, option_and_then_some}
-use Rattle.kl1_model.specs.declared.sign.Sign.TheVariants.{Neck, Bar, Close}
+use Rattle.kl1_model.specs.declared.sign.Sign.TheVariants.{Neck, Bar}
 use Rattle.kl1_model.specs.Term.{Term, atom, Terms, none, more, list_of}
 use Rattle.kl1_model.specs.Token.{Token, sign_token, tokens_of_text}
-use Rattle.kl1_model.specs.Grammar.{Numbered, Head, bare_head, head_with, GoalTree, plain_goal, urgent_goal, Body, last_goal, another_goal, ClauseTree, fact, rule, guarded, series_tokens, head_tokens, body_tokens, clause_tokens}
+use Rattle.kl1_model.specs.Grammar.{Head, GoalTree, plain_goal, urgent_goal, Body, last_goal, another_goal, ClauseTree, fact, rule, guarded, series_tokens, body_tokens, clause_tokens}
 use Rattle.kl1_model.specs.Reader.{clause_tree}
 use Rattle.kl1_model.specs.Numbering.{numbered_tokens}
 use Rattle.kl1_model.specs.Meaning.{pair, expression_term, series_terms, is_writable, variables_of, variables_in, numbered_after}

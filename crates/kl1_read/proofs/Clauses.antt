@@ -1,5 +1,5 @@
 -- Tests, goals and patterns, one after another.
-use Rattle.std.proofs.Common.{◌≡◌, ℕ, ◌≤◌, ◌<◌, max, if◌then◌else◌, Bool, true, false, List, [], ◌∷◌, ◌++◌, ◌+◌, length, map, reverse, drop, get_or, Result, Ok, Err, IfOk, Option, Some, None, option_map, option_and_then, codes, append_assoc, append-nil, refl, ap, sym, ◌∙◌, arith}
+use Rattle.std.proofs.Common.{◌≡◌, ℕ, ◌<◌, max, if◌then◌else◌, Bool, true, List, [], ◌∷◌, ◌++◌, ◌+◌, length, map, reverse, drop, get_or, Result, Ok, Err, IfOk, Option, Some, None, option_map, option_and_then, codes, append_assoc, append-nil, refl, ap, sym, ◌∙◌, arith}
 use Rattle.std.specs.declared.alloc.AllocError.{AllocError}
 use Rattle.std.proofs.lemmas.List.{reverse-append, map-append, at_drop_more}
 use Rattle.kl1_model.specs.Term.{Term, atom, terms_of}

@@ -4,15 +4,15 @@ use Rattle.std.specs.List.{list_all}
 use Rattle.std.proofs.lemmas.Bool.{true≢false, and_cases, and_parts}
 use Rattle.std.proofs.lemmas.List.Folds.{list_all-append}
 use Rattle.std.proofs.lemmas.Option.{none-some, same_Some}
-use Rattle.kl1_model.specs.declared.sign.Sign.TheVariants.{Neck, Bar, At}
+use Rattle.kl1_model.specs.declared.sign.Sign.TheVariants.{Neck, Bar}
 use Rattle.kl1_model.specs.Term.{Term, structure, Terms, none, more, terms_of, list_of}
 use Rattle.kl1_model.specs.Token.{Token, name_token, sign_token}
 use Rattle.kl1_model.specs.Grammar.{Numbered, Expression, Series, last, another, Head, bare_head, head_with, GoalTree, plain_goal, urgent_goal, Body, last_goal, another_goal, ClauseTree, fact, rule, guarded, series_tokens, body_tokens, clause_tokens}
 use Rattle.kl1_model.specs.Numbering.{numbered_tokens}
-use Rattle.kl1_model.specs.Reader.{Answer, then_read, then_skip, if_there, behind_open, behind_close, behind_neck, behind_bar, behind_comma, behind_at, digits_in_front, priority_in_front, series_by, series_at, priority_at, goal_at, body_by, body_at, tests_of, behind_neck_at, clause_at, all_read, clause_tree}
+use Rattle.kl1_model.specs.Reader.{Answer, then_read, then_skip, if_there, behind_open, behind_close, behind_neck, behind_bar, behind_comma, behind_at, digits_in_front, priority_in_front, series_by, series_at, priority_at, body_by, body_at, tests_of, behind_neck_at, clause_at, all_read, clause_tree}
 use Rattle.kl1_model.specs.Meaning.{expression_term, series_terms, head_term, is_writable, variables_in, highest, highest_in, numbered_after}
 use Rattle.kl1_model.specs.Goal.{is_head, is_test, body_goal}
-use Rattle.kl1_model.specs.Module.{BodyGoal, Clause, each_of, head_name, head_patterns, is_fit_head, fit_test, without_priority, fit_goal, trees_of, fit_body, clause_with, true_goal, clause_of_tree}
+use Rattle.kl1_model.specs.Module.{BodyGoal, Clause, each_of, head_name, head_patterns, is_fit_head, without_priority, fit_goal, fit_body, true_goal, clause_of_tree}
 use Rattle.kl1_model.proofs.ReadSound.{at_is, clause_trees_sound}
 use Rattle.kl1_model.proofs.ReadSteps.{clauses_go_on}
 use Rattle.kl1_model.proofs.ReadMeans.{numbers_of, series_variables, head_variables}

@@ -1,8 +1,8 @@
 -- The nodes of tests begin as the definitions of tests say.
-use Rattle.std.proofs.Common.{◌≡◌, ℕ, zero, suc, ◌==◌, ◌&&◌, ◌||◌, Bool, true, false, if◌then◌else◌, List, [], ◌∷◌, map, codes, bytes_eq, find, Option, Some, None, is_some, option_map, refl, ap, sym, ◌∙◌, arith}
+use Rattle.std.proofs.Common.{◌≡◌, ℕ, zero, suc, ◌==◌, ◌&&◌, ◌||◌, Bool, true, false, if◌then◌else◌, List, [], ◌∷◌, map, codes, bytes_eq, find, Option, Some, None, is_some, option_map, refl, ap, ◌∙◌, arith}
 use Rattle.std.specs.List.{list_any}
 use Rattle.std.proofs.lemmas.Bool.Decides.{nat_tests}
-use Rattle.kl1_model.specs.Term.{Term, Terms, structure, none, more}
+use Rattle.kl1_model.specs.Term.{Term, structure}
 use Rattle.kl1_model.specs.TermCode.{nodes_of, front_of, first_term, behind_first}
 use Rattle.kl1_model.specs.Guard.{Test, holds, is_same, is_other, inspection_name, inspections, comparison_name, comparisons, comparison_named, compares}
 use Rattle.kl1_model.specs.Goal.{is_test}

@@ -1,11 +1,9 @@
 -- Clauses of one predicate among those that were read, and their sections.
-use Rattle.std.specs.Prelude.{ℕ, suc, ◌==◌, ◌&&◌, ◌||◌, nat_lt, not, Bool, false, if◌then◌else◌, List, [], ◌∷◌, ◌++◌, length, map, bytes_eq, Option, Some, None, option_map, is_some}
+use Rattle.std.specs.Prelude.{ℕ, ◌==◌, ◌&&◌, Bool, if◌then◌else◌, List, [], ◌∷◌, length, bytes_eq, Option, Some, None, option_map, is_some}
 use Rattle.std.specs.List.{list_any}
 use Rattle.kl1_model.specs.Token.{Token}
-use Rattle.kl1_model.specs.Limits.{most_clauses}
 use Rattle.kl1_model.specs.Module.{Clause, may_follow, section_after, is_otherwise, otherwise_on, with_clause, clause_of}
 use Rattle.kl1_read.specs.declared.clause_parts.ClauseParts.{ClauseParts}
-use Rattle.kl1_read.specs.Sources.{clause_of_parts}
 
 -- whether a clause is one of a predicate
 abbrev pub is_one_of : List ℕ → ℕ → ClauseParts → Bool

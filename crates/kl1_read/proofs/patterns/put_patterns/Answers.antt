@@ -1,4 +1,4 @@
-use Rattle.std.proofs.Common.{◌≡◌, ap, ◌∙◌}
+use Rattle.std.proofs.Common.{ap, ◌∙◌}
 use Rattle.kl1_read.specs.Statements.{is_fit_name}
 use Rattle.kl1_read.proofs.Clauses.{patterns_fit}
 use Rattle.kl1_read.proofs.patterns.put_patterns.Goals as goal
