@@ -1,15 +1,11 @@
 -- Compiled clauses while names are added, and what they mean.
-use Rattle.std.proofs.Common.{◌≡◌, ℕ, ◌+◌, ◌<◌, max, List, [], ◌∷◌, ◌++◌, length, map, take, drop, get_or, Option, append_assoc, refl, sym, ap, subst, ◌∙◌, arith}
-use Rattle.std.proofs.lemmas.List.{take_more, at_drop_more}
-use Rattle.kl1_model.specs.Term.{Term, Terms, terms_of, list_of, count_of}
+use Rattle.std.proofs.Common.{◌≡◌, ℕ, List, [], ◌∷◌, ◌++◌, length, map, refl, sym, ap, subst, ◌∙◌}
+use Rattle.kl1_model.specs.Term.{Terms, terms_of, list_of, count_of}
 use Rattle.kl1_model.specs.TermCode.{NodeCode, nodes_of_all}
-use Rattle.kl1_model.specs.Meaning.{highest, highest_in}
 use Rattle.kl1_model.specs.Module.{BodyGoal, Clause, goals_of}
 use Rattle.kl1_model.specs.Instance.{head_variables, fresh_variables}
 use Rattle.kl1_model.specs.State.{names_in, names_of_clause}
 use Rattle.kl1_term.proofs.Lent.{row_is, list_of-terms_of, terms_of-list_of}
-use Rattle.kl1_read.specs.declared.clause_parts.GoalParts.{GoalParts}
-use Rattle.kl1_read.specs.Sources.{goal_of_parts}
 use Rattle.kl1_clause.specs.declared.compiled_clause.CompiledClause.{CompiledClause}
 use Rattle.kl1_clause.specs.declared.instruction.Instruction.{Instruction}
 use Rattle.kl1_clause.specs.declared.name.Name.{Name}
@@ -95,33 +91,6 @@ clauses_mean names [] (d ∷ ds) a = absurd a
 clauses_mean names (c ∷ cs) [] a = absurd a
 clauses_mean names (c ∷ cs) (d ∷ ds) a =
     ap (λ (x : Clause). x ∷ map (clause_in names) cs) (clause_means names c d a.0) ∙ ap (λ (x : List Clause). d ∷ x) (clauses_mean names cs ds a.1)
-
--- the greatest variable of terms with one more behind
-pub highest_push : (ts : List Term) (t : Term) → highest_in (terms_of (ts ++ t ∷ [])) ≡ max (highest_in (terms_of ts)) (highest t)
-highest_push [] t = omega arith
-highest_push (u ∷ us) t = omega (arith, highest_push us t)
-
-pub highest_next : (terms : List Term) (i : ℕ) (t : Term) → i < length terms → t ≡ get_or terms i t → highest_in (terms_of (take (i + 1) terms)) ≡ max (highest_in (terms_of (take i terms))) (highest t)
-highest_next terms i t within is =
-    ap (λ (x : List Term). highest_in (terms_of x)) (take_more terms i t within ∙ ap (λ (x : Term). take i terms ++ x ∷ []) (sym is)) ∙ highest_push (take i terms) t
-
--- the highest so far, with that of the next goal
-higher : (a b c : ℕ) → max (max a b) c ≡ max a (max b c)
-higher a b c = omega arith
-
-pub goal_higher : (goals : List GoalParts) (i : ℕ) (g : GoalParts) (most all : ℕ) → i < length goals → g ≡ get_or goals i g → max most (highest_in (terms_of (goals_of (map goal_of_parts (drop i goals))))) ≡ all → max (max most (highest g.goal)) (highest_in (terms_of (goals_of (map goal_of_parts (drop (i + 1) goals))))) ≡ all
-goal_higher goals i g most all within is h =
-    higher most (highest g.goal) (highest_in (terms_of (goals_of (map goal_of_parts (drop (i + 1) goals)))))
-    ∙ sym (at_drop_more (λ gs. max most (highest_in (terms_of (goals_of (map goal_of_parts gs))))) goals i g within ∙ ap (λ k. max most (highest_in (terms_of (goals_of (map goal_of_parts (k ∷ drop (i + 1) goals)))))) (sym is))
-    ∙ h
-
--- the priorities so far, with that of the next goal
-pub priority_more : (goals : List GoalParts) (i : ℕ) (g : GoalParts) (row now : List (Option ℕ)) (all : List (Option ℕ)) → i < length goals → g ≡ get_or goals i g → now ≡ row ++ g.priority ∷ [] → row ++ priorities_of (map goal_of_parts (drop i goals)) ≡ all → now ++ priorities_of (map goal_of_parts (drop (i + 1) goals)) ≡ all
-priority_more goals i g row now all within is n h =
-    ap (λ ps. ps ++ priorities_of (map goal_of_parts (drop (i + 1) goals))) n
-    ∙ append_assoc row (g.priority ∷ []) (priorities_of (map goal_of_parts (drop (i + 1) goals)))
-    ∙ sym (at_drop_more (λ gs. row ++ priorities_of (map goal_of_parts gs)) goals i g within ∙ ap (λ k. row ++ priorities_of (map goal_of_parts (k ∷ drop (i + 1) goals))) (sym is))
-    ∙ h
 
 -- the names of a clause, put one part after another
 pub record Parted (names a b c d : List (List ℕ)) (clause : Clause) : Type 0 where

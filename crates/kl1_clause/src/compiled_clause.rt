@@ -16,7 +16,7 @@ use crate::name::Name;
 use crate::names::Names;
 use crate::rows::{goal_row, row_of};
 use kl1_read::{ClauseParts, GoalParts};
-use kl1_term::Term;
+use kl1_term::highest_among;
 use std::alloc::{AllocError, Global};
 
 /// A clause as instructions: its predicate's name and number of arguments; the number of its section, from 0, between the
@@ -85,15 +85,4 @@ fn fresh_among(goals: &[GoalParts], head_variables: u64) -> u64
         most = most.max(goal.goal.highest());
     }
     most.saturating_sub(head_variables)
-}
-
-/// The greatest number of a variable among terms, 0 where there is none.
-fn highest_among(terms: &[Term]) -> u64
-    ensures { result ≡ highest_in (terms_of terms.now) }
-{
-    let mut most: u64 = 0;
-    for term in terms {
-        most = most.max(term.highest());
-    }
-    most
 }

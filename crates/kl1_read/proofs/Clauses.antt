@@ -1,13 +1,13 @@
 -- Tests, goals and patterns, one after another.
-use Rattle.std.proofs.Common.{◌≡◌, ℕ, ◌<◌, max, if◌then◌else◌, Bool, true, List, [], ◌∷◌, ◌++◌, ◌+◌, length, map, reverse, drop, get_or, Result, Ok, Err, IfOk, Option, Some, None, option_map, option_and_then, codes, append_assoc, append-nil, refl, ap, sym, ◌∙◌, arith}
+use Rattle.std.proofs.Common.{◌≡◌, ℕ, if◌then◌else◌, Bool, true, List, [], ◌∷◌, ◌++◌, length, map, reverse, Result, Ok, Err, IfOk, Option, Some, None, option_map, option_and_then, codes, append_assoc, append-nil, refl, ap, sym, ◌∙◌, arith}
 use Rattle.std.specs.declared.alloc.AllocError.{AllocError}
-use Rattle.std.proofs.lemmas.List.{reverse-append, map-append, at_drop_more}
-use Rattle.kl1_model.specs.Term.{Term, atom, terms_of}
+use Rattle.std.proofs.lemmas.List.{reverse-append, map-append}
+use Rattle.kl1_model.specs.Term.{Term, atom}
 use Rattle.kl1_model.specs.TermCode.{nodes_of}
 use Rattle.kl1_term.specs.Nodes.{code_of}
 use Rattle.kl1_term.specs.declared.node.Node.{Node}
 use Rattle.kl1_term.specs.declared.node.Node.TheVariants.{Atom, Structure}
-use Rattle.kl1_model.specs.Meaning.{pair, highest, highest_in}
+use Rattle.kl1_model.specs.Meaning.{pair}
 use Rattle.kl1_model.specs.Module.{BodyGoal, each_of, without_priority}
 use Rattle.kl1_read.specs.declared.clause_parts.GoalParts.{GoalParts}
 use Rattle.kl1_read.specs.declared.role.Role.TheVariants.{Pattern}
@@ -105,13 +105,3 @@ patterns_are (t ∷ ts) = ap (option_map (λ us. t ∷ us)) (patterns_are ts)
 pub patterns_fit : (p : List ℕ) (ts now : List Term) (put : Result Bool AllocError) → true ≡ is_fit_name p ts → IfOk put (λ r. given r now ≡ each_of (fit_as Pattern) ts) → IfOk put (λ r. given r now ≡ fit_patterns p ts)
 patterns_fit p ts now (Err refused) fit h = tt
 patterns_fit p ts now (Ok r) fit h = h ∙ patterns_are ts ∙ ap (λ b. if◌then◌else◌ {A = Option (List Term)} b (Some ts) None) fit
-
-higher : (a b c : ℕ) → max (max a b) c ≡ max a (max b c)
-higher a b c = omega arith
-
--- the highest so far, with the next term's
-pub highest_goes : (ts : List Term) (i : ℕ) (t : Term) (most all : ℕ) → i < length ts → t ≡ get_or ts i t → max most (highest_in (terms_of (drop i ts))) ≡ all → max (max most (highest t)) (highest_in (terms_of (drop (i + 1) ts))) ≡ all
-highest_goes ts i t most all within is h =
-    higher most (highest t) (highest_in (terms_of (drop (i + 1) ts)))
-    ∙ sym (at_drop_more (λ us. max most (highest_in (terms_of us))) ts i t within ∙ ap (λ u. max most (highest_in (terms_of (u ∷ drop (i + 1) ts)))) (sym is))
-    ∙ h

@@ -11,7 +11,7 @@ use crate::reserved::{may_name_atom, may_name_structure};
 use crate::role::Role;
 use crate::test_kinds::is_test;
 use kl1_model::limits::{MOST_ARGUMENTS, MOST_DEPTH};
-use kl1_term::Term;
+use kl1_term::{Term, highest_among};
 use kl1_text::AtomText;
 use std::alloc::{AllocError, Global};
 
@@ -44,18 +44,7 @@ pub(crate) fn put_tests(
     requires { tests.old.items ≡ [] }
     ensures { IfOk result (λ r. given r tests.new.items ≡ each_of (fit_test_upto (highest_in (terms_of patterns.now))) pieces.old.items) }
 {
-    put_terms(alloc, Role::Test(highest(patterns)), pieces, tests)
-}
-
-/// The greatest number of a variable in terms, 0 where they have none.
-fn highest(terms: &[Term]) -> u64
-    ensures { result ≡ highest_in (terms_of terms.now) }
-{
-    let mut most = 0;
-    for term in terms {
-        most = most.max(term.highest());
-    }
-    most
+    put_terms(alloc, Role::Test(highest_among(patterns)), pieces, tests)
 }
 
 /// Puts what terms are where they stand. Answers whether each may stand there. The terms that are read are taken one by one, and
