@@ -17,7 +17,7 @@ use Rattle.kl1_model.specs.ReadLaws.{tokens_at, is_printable}
 use Rattle.kl1_model.proofs.ReadComplete.{expression_trees_complete}
 use Rattle.kl1_laws.proofs.LexFronts.{spelled, on_first_line, lexes_nothing}
 use Rattle.kl1_laws.proofs.ReadPlanted.{plainly, planted}
-use Rattle.kl1_laws.proofs.ReadMeans.{numbers_of, part_variables}
+use Rattle.kl1_model.proofs.ReadMeans.{numbers_of, part_variables}
 use Rattle.kl1_laws.proofs.ReadTerms.{agrees}
 use Rattle.kl1_laws.proofs.ReadNumbers.{are_few, numbered_again, few_variables}
 

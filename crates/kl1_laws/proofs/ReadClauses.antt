@@ -6,10 +6,10 @@ use Rattle.std.proofs.lemmas.Bool.{and_from, and_parts}
 use Rattle.std.proofs.lemmas.List.{append_assoc, append-nil}
 use Rattle.std.proofs.lemmas.List.Folds.{list_all-append}
 use Rattle.std.proofs.lemmas.Option.{none-some, same_Some, cond_some, option_and_then_some}
-use Rattle.kl1_model.specs.declared.sign.Sign.TheVariants.{Neck, Bar, Close}
+use Rattle.kl1_model.specs.declared.sign.Sign.TheVariants.{Neck, Bar}
 use Rattle.kl1_model.specs.Term.{Term, atom, Terms, none, more, list_of}
 use Rattle.kl1_model.specs.Token.{Token, sign_token, tokens_of_text}
-use Rattle.kl1_model.specs.Grammar.{Numbered, Head, bare_head, head_with, GoalTree, plain_goal, urgent_goal, Body, last_goal, another_goal, ClauseTree, fact, rule, guarded, series_tokens, head_tokens, body_tokens, clause_tokens}
+use Rattle.kl1_model.specs.Grammar.{Head, GoalTree, plain_goal, urgent_goal, Body, last_goal, another_goal, ClauseTree, fact, rule, guarded, series_tokens, body_tokens, clause_tokens}
 use Rattle.kl1_model.specs.Reader.{clause_tree}
 use Rattle.kl1_model.specs.Numbering.{numbered_tokens}
 use Rattle.kl1_model.specs.Meaning.{pair, expression_term, series_terms, is_writable, variables_of, variables_in, numbered_after}
@@ -18,8 +18,8 @@ use Rattle.kl1_model.specs.Module.{BodyGoal, Clause, goals_of, Module, Reading, 
 use Rattle.kl1_model.specs.ReadLaws.{variables_of_each, clause_variables, is_numbered_clause}
 use Rattle.kl1_model.specs.WaitsLaws.{is_guarded}
 use Rattle.kl1_model.proofs.ReadSound.{clause_trees_sound}
-use Rattle.kl1_laws.proofs.ReadMeans.{numbers_of, series_variables, tree_term, body_terms, body_variables}
-use Rattle.kl1_laws.proofs.ReadCounts.{numbered_in_order}
+use Rattle.kl1_model.proofs.ReadMeans.{numbers_of, series_variables, tree_term, body_terms, body_variables, head_variables}
+use Rattle.kl1_model.proofs.ReadOrder.{numbered_in_order}
 
 option_map_some : {A B P : Type 0} (f : A → B) (x : Option A) (b : B) → option_map f x ≡ Some b → ((a : A) → x ≡ Some a → f a ≡ b → P) → P
 option_map_some f None b h k = absurd (none-some b h)
@@ -74,10 +74,6 @@ clause_with_variables h tests body c ns is kept =
     ap clause_variables (sym here)
     ∙ ap (λ x. variables_in (head_patterns h) ++ x ++ variables_of_each (goals_of gs)) (each_variables (fit_test (variables_in (head_patterns h))) (test_kept (variables_in (head_patterns h))) tests ts kept_tests)
     ∙ ap (λ x. variables_in (head_patterns h) ++ variables_of_each tests ++ x) (kept gs there)))
-
-head_variables : (h : Head) (ts : List Numbered) → numbers_of (head_tokens h ts) ≡ variables_in (head_patterns h) ++ numbers_of ts
-head_variables (bare_head p quotes) ts = refl
-head_variables (head_with p quotes s) ts = series_variables s (sign_token Close ∷ ts)
 
 listed_variables : (ts : Terms) → variables_of_each (list_of ts) ≡ variables_in ts
 listed_variables none = refl

@@ -9,6 +9,8 @@ pub mod ReadSound
 pub mod ReadComplete
 pub mod LexSteps
 pub mod ReadSteps
+pub mod ReadMeans
+pub mod ReadOrder
 pub mod Clashes
 pub mod SameEach
 pub mod LeastClause

@@ -15,7 +15,6 @@ pub mod Statements
 pub mod Heads
 pub mod GoalNodes
 pub mod Started
-pub mod Marked
 pub mod Followings
 pub mod Spellings
 pub mod Held

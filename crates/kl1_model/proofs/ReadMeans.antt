@@ -6,7 +6,8 @@ use Rattle.kl1_model.specs.declared.sign.Sign.TheVariants.{Colon, Comma, Open, C
 use Rattle.kl1_model.specs.declared.relation.Relation.{Relation}
 use Rattle.kl1_model.specs.Term.{Term, Terms, none, more}
 use Rattle.kl1_model.specs.Token.{sign_token, variable_token, name_token, digits_token}
-use Rattle.kl1_model.specs.Grammar.{Numbered, relation_token, Adding, by_plus, by_minus, adding_token, Multiplying, by_star, by_slash, by_mod, multiplying_token, Expression, alone, related, Sum, summand, added, Product, factor, multiplied, Part, single, qualified, Primary, numbered, positive, negative, constant, call, empty_list, list, group, Series, last, another, Rest, closed, tail, GoalTree, plain_goal, urgent_goal, Body, last_goal, another_goal, expression_tokens, sum_tokens, product_tokens, part_tokens, primary_tokens, series_tokens, rest_tokens, goal_tokens, body_tokens}
+use Rattle.kl1_model.specs.Grammar.{Numbered, relation_token, Adding, by_plus, by_minus, adding_token, Multiplying, by_star, by_slash, by_mod, multiplying_token, Expression, alone, related, Sum, summand, added, Product, factor, multiplied, Part, single, qualified, Primary, numbered, positive, negative, constant, call, empty_list, list, group, Series, last, another, Rest, closed, tail, GoalTree, plain_goal, urgent_goal, Body, last_goal, another_goal, Head, bare_head, head_with, expression_tokens, sum_tokens, product_tokens, part_tokens, primary_tokens, series_tokens, rest_tokens, goal_tokens, body_tokens, head_tokens}
+use Rattle.kl1_model.specs.Module.{head_patterns}
 use Rattle.kl1_model.specs.Meaning.{pair, cells, relation_name, adding_name, multiplying_name, expression_term, sum_term, product_term, part_term, primary_term, series_terms, rest_term, variables_of, variables_in}
 
 -- the numbers of the variables among tokens
@@ -113,3 +114,8 @@ body_variables (another_goal g b) ts =
     goal_variables g (sign_token Comma ∷ body_tokens b ts)
     ∙ ap (λ x. variables_of (tree_term g) ++ x) (body_variables b ts)
     ∙ sym (append_assoc (variables_of (tree_term g)) (variables_in (body_terms b)) (numbers_of ts))
+
+-- the variables of a head's tokens are those of its patterns
+pub head_variables : (h : Head) (ts : List Numbered) → numbers_of (head_tokens h ts) ≡ variables_in (head_patterns h) ++ numbers_of ts
+head_variables (bare_head p quotes) ts = refl
+head_variables (head_with p quotes s) ts = series_variables s (sign_token Close ∷ ts)

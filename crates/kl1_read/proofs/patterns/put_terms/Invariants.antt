@@ -2,7 +2,7 @@ use Rattle.std.proofs.Common.{◌≡◌, reverse, vec_len}
 use Rattle.kl1_model.specs.Module.{each_of}
 use Rattle.kl1_read.specs.Statements.{fit_as}
 use Rattle.kl1_read.proofs.Clauses.{given_before}
-use Rattle.kl1_read.proofs.body.put_terms.Given as goal
+use Rattle.kl1_read.proofs.patterns.put_terms.Given as goal
 
 -- what the terms that are left are, before those so far, is what all are
 abbrev pub invariant-loop-piece : goal.invariant-loop-piece
