@@ -68,9 +68,9 @@ begun_on b c left fs done ts e h =
     ap (λ x. fit (begun_then x (after_primary left (after_expression fs done)))) (sym e) ∙ h (after_primary left (after_expression fs done)) (primary_dooms left (after_expression fs done) (expression_dooms fs done))
 
 -- goes on behind a primary
-pub joined_on : (b c : Joined) (left : Left) (fs : List Frame) (done : List Term) (p : Term) (ts : List Numbered) → b ≡ c → Joins left p ts b → fit (joined_then c (after_expression fs done)) ≡ fit (after_primary left (after_expression fs done) p ts)
-joined_on b c left fs done p ts e h =
-    ap (λ x. fit (joined_then x (after_expression fs done))) (sym e) ∙ h (after_expression fs done) (expression_dooms fs done)
+pub joined_on : (b c : Joined) (left now : Left) (fs : List Frame) (done : List Term) (p : Term) (ts : List Numbered) → b ≡ c → Joins left p ts now b → fit (joined_then now c (after_expression fs done)) ≡ fit (after_primary left (after_expression fs done) p ts)
+joined_on b c left now fs done p ts e h =
+    ap (λ x. fit (joined_then now x (after_expression fs done))) (sym e) ∙ h (after_expression fs done) (expression_dooms fs done)
 
 -- goes on behind an expression in what was opened
 pub closed_on : (b c : Closed) (opened : Opened) (left : Left) (fs : List Frame) (done : List Term) (e : Term) (ts : List Numbered) → b ≡ c → Closes opened e ts b → fit (closed_then c (after_primary left (after_expression fs done))) ≡ fit (after_opened opened (after_primary left (after_expression fs done)) e ts)

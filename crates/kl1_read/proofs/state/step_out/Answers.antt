@@ -6,4 +6,4 @@ use Rattle.kl1_read.proofs.state.step_out.Goals as goal
 
 pub returns-in-Some-clause-value : goal.returns-in-Some-clause-value
 returns-in-Some-clause-value c =
-    ok_along _ _ c.step_closed.result c.step_closed.ensures.value (λ s h. h c.args.done.now.items ∙ ap fit (frame_closes c.pop.new.self.items c.args.frames.now.items c.in-Some.frame _ _ c.args.done.now.items c.args.piece (map numbered_token c.args.rest.now) c.in-Some.ensures.items c.parts_of-opened.ensures.opened c.parts_of-opened.ensures.left))
+    ok_along _ _ c.step_closed.result c.step_closed.ensures.value (λ s h. h c.args.done.now.items ∙ ap fit (frame_closes c.pop.new.self.items c.args.frames.now.items c.in-Some.frame _ _ c.args.done.now.items c.args.piece (map numbered_token c.args.rest.now) c.in-Some.ensures.items c.opened_of-opened.ensures.opened c.opened_of-opened.ensures.left))
