@@ -1,0 +1,2 @@
+mod Forms
+mod Pendings
