@@ -1,2 +1,4 @@
-mod Forms
+mod Parts
 mod Pendings
+mod Arguments
+mod Outcomes

@@ -1,28 +1,25 @@
 -- What a term is as a part of an expression.
-use Rattle.std.specs.Prelude.{◌≡◌, ℕ, zero, suc, List}
+use Rattle.std.specs.Prelude.{◌≡◌, ℕ, zero, suc}
 use Rattle.kl1_model.specs.Term.{Term}
 use Rattle.kl1_model.specs.Arithmetic.{Scan, found, waits_for, wrong_type, number, with_left, scan}
-use Rattle.kl1_store.specs.Held.{Held, IsIn}
-use Rattle.kl1_store.specs.Meaning.{term_of}
 use Rattle.kl1_guard.specs.declared.part.Part.{Part}
 use Rattle.kl1_guard.specs.declared.part.Part.TheVariants.{Variable, Integer, Operation, Other}
-use Rattle.kl1_guard.specs.Waiting.{IsUnbound}
 
--- what is found in a part, where there may be this many operators
-abbrev pub part_scan : {N : Type 0} → (N → List ℕ) → Held N → ℕ → Part N → Scan
-part_scan f h n (Variable v) = waits_for v
-part_scan f h n (Integer i) = found (number i) n
-part_scan f h zero (Operation o a b) = wrong_type
-part_scan f h (suc n) (Operation o a b) = with_left o (scan n (term_of f h a)) (λ left. scan left (term_of f h b))
-part_scan f h n Other = wrong_type
+-- what is found in a part, where there may be this many operators, variables have these numbers, and these terms stand there
+abbrev pub part_scan : {V A : Type 0} → (V → ℕ) → (A → Term) → ℕ → Part V A → Scan
+part_scan number_of term n (Variable v) = waits_for (number_of v)
+part_scan number_of term n (Integer i) = found (number i) n
+part_scan number_of term zero (Operation o a b) = wrong_type
+part_scan number_of term (suc n) (Operation o a b) = with_left o (scan n (term a)) (λ left. scan left (term b))
+part_scan number_of term n Other = wrong_type
 
 -- a term in which a scan finds what it finds in such a part
-abbrev pub ScansAs : {N : Type 0} → (N → List ℕ) → Held N → Term → Part N → Type 0
-ScansAs f h t part = (n : ℕ) → scan n t ≡ part_scan f h n part
+abbrev pub ScansAs : {V A : Type 0} → (V → ℕ) → (A → Term) → Term → Part V A → Type 0
+ScansAs number_of term t part = (n : ℕ) → scan n t ≡ part_scan number_of term n part
 
--- a part whose variable is unbound, and whose cells are of the store
-abbrev pub IsPartIn : {N : Type 0} → Held N → Part N → Type 0
-IsPartIn h (Variable v) = IsUnbound h v
-IsPartIn h (Integer i) = Unit {0}
-IsPartIn h (Operation o a b) = IsIn h a × IsIn h b
-IsPartIn h Other = Unit {0}
+-- a part whose variable is unbound, and at whose places terms stand
+abbrev pub IsPartIn : {V A : Type 0} → (V → Type 0) → (A → Type 0) → Part V A → Type 0
+IsPartIn IsFree IsAt (Variable v) = IsFree v
+IsPartIn IsFree IsAt (Integer i) = Unit {0}
+IsPartIn IsFree IsAt (Operation o a b) = IsAt a × IsAt b
+IsPartIn IsFree IsAt Other = Unit {0}

@@ -1,17 +1,16 @@
 // Tests that compare the values of two expressions.
 
-ghost use Rattle.std.specs.Prelude.{◌≡◌, IfOk, IsOk, OnOk};
+ghost use Rattle.std.specs.Prelude.{◌≡◌, ℕ, IfOk, IsOk, OnOk};
 ghost use Rattle.kl1_model.specs.Guard.{compared, compared_numbers};
-ghost use Rattle.kl1_store.specs.Held.{IsIn};
 ghost use Rattle.kl1_guard.specs.Evaluations.{HasRoom};
-ghost use Rattle.kl1_guard.specs.Outcomes.{outcome_of, ComparesAs, IsWaiting};
+ghost use Rattle.kl1_guard.specs.Outcomes.{outcome_of, ComparesAs, IsKnown, IsWaiting};
 
 use crate::evaluated::Evaluated;
 use crate::evaluating::evaluate;
 use crate::outcome::{Outcome, decide};
 use crate::scratch::Scratch;
+use crate::view::View;
 use kl1_model::{Comparison, Number};
-use kl1_store::{Cell, Store};
 use kl1_text::NameValue;
 use std::alloc::AllocError;
 
@@ -30,8 +29,9 @@ fn holds(comparison: Comparison, left: i64, right: i64) -> bool
 }
 
 /// A comparison of what two expressions come to; a fault of computing clashes.
-fn compare_numbers(comparison: Comparison, left: Number, right: Number) -> Outcome
-    ensures { outcome_of result ≡ compared_numbers comparison left right }
+fn compare_numbers<V>(comparison: Comparison, left: Number, right: Number) -> Outcome<V>
+    ensures value { (number : V → ℕ) → outcome_of number result ≡ compared_numbers comparison left right }
+    ensures known { IsKnown result }
 {
     match left {
         Number::Value(first) => match right {
@@ -44,29 +44,29 @@ fn compare_numbers(comparison: Comparison, left: Number, right: Number) -> Outco
     }
 }
 
-/// Compares the terms of two cells as expressions: the left one is scanned first, and the first that is no number, or waits,
-/// decides. Want of memory is the only error; where the scratch has served a call before, there is none.
-pub fn compare<N: NameValue>(
-    store: &Store<N>,
+/// Compares two terms as expressions: the left one is scanned first, and the first that is no number, or waits, decides. Want of
+/// memory is the only error; where the scratch has served a call before, there is none.
+pub fn compare<N: NameValue, T: View<N>>(
+    view: &T,
     comparison: Comparison,
-    left: Cell<N>,
-    right: Cell<N>,
-    scratch: &mut Scratch<N>,
-) -> Result<Outcome, AllocError>
-    requires left { IsIn store.now.held left }
-    requires right { IsIn store.now.held right }
-    ensures value { IfOk result (ComparesAs N.built store.now.held comparison left right) }
-    ensures waits { IfOk result (IsWaiting store.now.held) }
+    left: T::At,
+    right: T::At,
+    scratch: &mut Scratch<T::At>,
+) -> Result<Outcome<T::Variable>, AllocError>
+    requires left { T.IsAt view.now left }
+    requires right { T.IsAt view.now right }
+    ensures value { IfOk result (ComparesAs N.built (T.number view.now) comparison (λ f. T.term f view.now left) (λ f. T.term f view.now right)) }
+    ensures waits { IfOk result (IsWaiting (T.IsFree view.now)) }
     ensures room { HasRoom scratch.old → IsOk result }
     ensures kept { HasRoom scratch.old → HasRoom scratch.new }
     ensures made { OnOk result (HasRoom scratch.new) }
 {
-    let first = match evaluate(store, left, scratch)? {
+    let first = match evaluate(view, left, scratch)? {
         Evaluated::ComesTo(number) => number,
         Evaluated::Awaits(variable) => return Ok(Outcome::Waits(variable)),
         Evaluated::IsNoExpression => return Ok(Outcome::Clashes),
     };
-    match evaluate(store, right, scratch)? {
+    match evaluate(view, right, scratch)? {
         Evaluated::ComesTo(second) => Ok(compare_numbers(comparison, first, second)),
         Evaluated::Awaits(variable) => Ok(Outcome::Waits(variable)),
         Evaluated::IsNoExpression => Ok(Outcome::Clashes),

@@ -2,7 +2,6 @@
 
 ghost use Rattle.std.specs.Prelude.{◌≡◌, ◌≤◌, [], IfOk, IsOk, OnOk, vec_capacity};
 ghost use Rattle.kl1_model.specs.Limits.{most_operators};
-ghost use Rattle.kl1_store.specs.Held.{IsIn};
 ghost use Rattle.kl1_guard.specs.Evaluations.{EvaluatesAs, IsAwaited, HasRoom};
 
 use crate::carrying::{Carried, carry};
@@ -10,25 +9,29 @@ use crate::evaluated::Evaluated;
 use crate::part::{Part, part_of};
 use crate::pending::Pending;
 use crate::scratch::Scratch;
+use crate::view::View;
 use kl1_model::Number;
 use kl1_model::limits::MOST_OPERATORS;
-use kl1_store::{Cell, Store};
 use kl1_text::NameValue;
 use std::alloc::AllocError;
 
-/// What the term of a cell comes to, over an empty list with room for as many operations as an expression may have.
-fn scan<N: NameValue>(store: &Store<N>, cell: Cell<N>, stack: &mut Vec<Pending<N>>) -> Evaluated
-    requires cell { IsIn store.now.held cell }
+/// What a term comes to, over an empty list with room for as many operations as an expression may have.
+fn scan<N: NameValue, T: View<N>>(
+    view: &T,
+    whole: T::At,
+    stack: &mut Vec<Pending<T::At>>,
+) -> Evaluated<T::Variable>
+    requires whole { T.IsAt view.now whole }
     requires empty { stack.old.items ≡ [] }
     requires room { most_operators ≤ vec_capacity stack.old }
-    ensures value { EvaluatesAs N.built store.now.held cell result }
-    ensures awaits { IsAwaited store.now.held result }
+    ensures value { EvaluatesAs N.built (T.number view.now) (λ f. T.term f view.now whole) result }
+    ensures awaits { IsAwaited (T.IsFree view.now) result }
     ensures capacity { vec_capacity stack.new ≡ vec_capacity stack.old }
 {
-    let mut at = cell;
+    let mut at = whole;
     let mut left = MOST_OPERATORS;
     'parts: loop {
-        match part_of(store, at) {
+        match part_of(view, at) {
             Part::Variable(variable) => return Evaluated::Awaits(variable),
             Part::Integer(integer) => match carry(stack, Number::Value(integer)) {
                 Carried::To(next) => at = next,
@@ -47,16 +50,16 @@ fn scan<N: NameValue>(store: &Store<N>, cell: Cell<N>, stack: &mut Vec<Pending<N
     }
 }
 
-/// What the term of a cell comes to as an expression. Want of memory is the only error; where the scratch has served a call
-/// before, there is none.
-pub fn evaluate<N: NameValue>(
-    store: &Store<N>,
-    cell: Cell<N>,
-    scratch: &mut Scratch<N>,
-) -> Result<Evaluated, AllocError>
-    requires { IsIn store.now.held cell }
-    ensures value { IfOk result (EvaluatesAs N.built store.now.held cell) }
-    ensures awaits { IfOk result (IsAwaited store.now.held) }
+/// What a term comes to as an expression. Want of memory is the only error; where the scratch has served a call before, there is
+/// none.
+pub fn evaluate<N: NameValue, T: View<N>>(
+    view: &T,
+    at: T::At,
+    scratch: &mut Scratch<T::At>,
+) -> Result<Evaluated<T::Variable>, AllocError>
+    requires { T.IsAt view.now at }
+    ensures value { IfOk result (EvaluatesAs N.built (T.number view.now) (λ f. T.term f view.now at)) }
+    ensures awaits { IfOk result (IsAwaited (T.IsFree view.now)) }
     ensures room { HasRoom scratch.old → IsOk result }
     ensures kept { HasRoom scratch.old → HasRoom scratch.new }
     ensures made { OnOk result (HasRoom scratch.new) }
@@ -64,5 +67,5 @@ pub fn evaluate<N: NameValue>(
     let stack = &mut scratch.stack;
     stack.clear();
     stack.reserve(MOST_OPERATORS as usize)?;
-    Ok(scan(store, cell, stack))
+    Ok(scan(view, at, stack))
 }

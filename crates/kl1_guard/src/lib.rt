@@ -1,8 +1,9 @@
-//! Expressions of arithmetic and tests of guards, over cells: what an expression comes to, and what comes of comparisons and looks.
+//! Expressions of arithmetic and tests of guards, over terms that are looked at from the top, as those of cells.
 #![tactic(auto)]
 
 mod arithmetic;
 mod carrying;
+mod cells;
 mod comparing;
 mod evaluated;
 mod evaluating;
@@ -13,10 +14,15 @@ mod outcome;
 mod part;
 mod pending;
 mod scratch;
+mod store_view;
+mod view;
 
+pub use cells::evaluate_cell;
 pub use comparing::compare;
 pub use evaluated::Evaluated;
 pub use evaluating::evaluate;
+pub use form::Form;
 pub use looking::look_at;
 pub use outcome::Outcome;
 pub use scratch::Scratch;
+pub use view::View;

@@ -1,21 +1,22 @@
 // What tests come to.
 
-ghost use Rattle.std.specs.Prelude.{◌≡◌};
+ghost use Rattle.std.specs.Prelude.{◌≡◌, ℕ};
 ghost use Rattle.kl1_model.specs.Guard.{decided};
-ghost use Rattle.kl1_guard.specs.Outcomes.{outcome_of};
+ghost use Rattle.kl1_guard.specs.Outcomes.{outcome_of, IsKnown};
 
 /// What a test comes to: it holds; it doesn't, and never will; or it waits for this variable.
 #[derive(Clone, Copy)]
-pub enum Outcome {
+pub enum Outcome<V> {
     Agrees,
     Clashes,
-    Waits(u32),
+    Waits(V),
 }
 
 /// The outcome of a test that is known.
 #[inline]
-pub(crate) fn decide(holds: bool) -> Outcome
-    ensures { outcome_of result ≡ decided holds }
+pub(crate) fn decide<V>(holds: bool) -> Outcome<V>
+    ensures value { (number : V → ℕ) → outcome_of number result ≡ decided holds }
+    ensures known { IsKnown result }
 {
     if holds {
         return Outcome::Agrees;

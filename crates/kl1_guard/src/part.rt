@@ -1,44 +1,50 @@
-// What a cell is in an expression.
+// What a term is in an expression.
 
-ghost use Rattle.std.specs.Prelude.{◌≡◌, ℕ, List};
-ghost use Rattle.kl1_store.specs.Held.{IsIn};
-ghost use Rattle.kl1_store.specs.Meaning.{term_of};
+ghost use Rattle.std.specs.Prelude.{ℕ, List};
 ghost use Rattle.kl1_text.specs.Reading.{Reads};
 ghost use Rattle.kl1_guard.specs.Parts.{ScansAs, IsPartIn};
 
-use crate::form::{Form, form_of};
+use crate::form::Form;
 use crate::operators::operator_of;
+use crate::view::View;
 use kl1_model::Operator;
-use kl1_store::{Cell, Store};
 use kl1_text::NameValue;
 
 /// What a term is as a part of an expression.
 #[derive(Clone, Copy)]
-pub(crate) enum Part<N> {
+pub(crate) enum Part<V, A> {
     /// An unbound variable.
-    Variable(u32),
+    Variable(V),
     Integer(i64),
     /// An operator with its two operands.
-    Operation(Operator, Cell<N>, Cell<N>),
+    Operation(Operator, A, A),
     /// What belongs in no expression.
     Other,
 }
 
-/// What the term of a cell is as a part of an expression.
+/// What a term is as a part of an expression.
 #[inline]
-pub(crate) fn part_of<N: NameValue>(store: &Store<N>, cell: Cell<N>) -> Part<N>
-    requires { IsIn store.now.held cell }
-    ensures inside { IsPartIn store.now.held result }
-    ensures means { (f : N → List ℕ) → Reads N.built f → ScansAs f store.now.held (term_of f store.now.held cell) result }
+pub(crate) fn part_of<N: NameValue, T: View<N>>(view: &T, at: T::At) -> Part<T::Variable, T::At>
+    requires { T.IsAt view.now at }
+    ensures inside { IsPartIn (T.IsFree view.now) (T.IsAt view.now) result }
+    ensures means { (f : N → List ℕ) → Reads N.built f → ScansAs (T.number view.now) (T.term f view.now) (T.term f view.now at) result }
 {
-    match form_of(store, cell) {
+    match view.form_of(at) {
         Form::Variable(variable) => Part::Variable(variable),
         Form::Integer(integer) => Part::Integer(integer),
-        Form::Atom => Part::Other,
-        Form::Pair(name, left, right) => match operator_of(name) {
-            Some(operator) => Part::Operation(operator, left, right),
-            None => Part::Other,
-        },
-        Form::Other => Part::Other,
+        Form::Atom(_) => Part::Other,
+        Form::Structure(name, count, structure) => {
+            if count != 2 {
+                return Part::Other;
+            }
+            match operator_of(name) {
+                Some(operator) => Part::Operation(
+                    operator,
+                    view.argument(structure, 0),
+                    view.argument(structure, 1),
+                ),
+                None => Part::Other,
+            }
+        }
     }
 }
