@@ -2,3 +2,4 @@ mod Parts
 mod Pendings
 mod Arguments
 mod Outcomes
+mod Sides

@@ -26,5 +26,5 @@ IsAwaited IsFree (Awaits v) = IsFree v
 IsAwaited IsFree IsNoExpression = Unit {0}
 
 -- room for as many operations as an expression may have
-abbrev pub HasRoom : {A : Type 0} → Scratch A → Type 0
+abbrev pub HasRoom : {A S : Type 0} → Scratch A S → Type 0
 HasRoom scratch = most_operators ≤ vec_capacity scratch.stack

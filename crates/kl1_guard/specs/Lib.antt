@@ -4,3 +4,4 @@ pub mod Parts
 pub mod Pendings
 pub mod Evaluations
 pub mod Outcomes
+pub mod Alike

@@ -20,7 +20,7 @@ use std::alloc::AllocError;
 pub fn evaluate_cell<N: NameValue>(
     store: &Store<N>,
     cell: Cell<N>,
-    scratch: &mut Scratch<Cell<N>>,
+    scratch: &mut Scratch<Cell<N>, u32>,
 ) -> Result<Evaluated<u32>, AllocError>
     requires { IsIn store.now.held cell }
     ensures value { IfOk result (λ e. (f : N → List ℕ) → Reads N.built f → evaluated_of (λ v. v) e ≡ evaluated (term_of f store.now.held cell)) }

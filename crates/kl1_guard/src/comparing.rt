@@ -51,7 +51,7 @@ pub fn compare<N: NameValue, T: View<N>>(
     comparison: Comparison,
     left: T::At,
     right: T::At,
-    scratch: &mut Scratch<T::At>,
+    scratch: &mut Scratch<T::At, T::Structure>,
 ) -> Result<Outcome<T::Variable>, AllocError>
     requires left { T.IsAt view.now left }
     requires right { T.IsAt view.now right }

@@ -55,7 +55,7 @@ fn scan<N: NameValue, T: View<N>>(
 pub fn evaluate<N: NameValue, T: View<N>>(
     view: &T,
     at: T::At,
-    scratch: &mut Scratch<T::At>,
+    scratch: &mut Scratch<T::At, T::Structure>,
 ) -> Result<Evaluated<T::Variable>, AllocError>
     requires { T.IsAt view.now at }
     ensures value { IfOk result (EvaluatesAs N.built (T.number view.now) (λ f. T.term f view.now at)) }

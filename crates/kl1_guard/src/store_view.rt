@@ -23,6 +23,8 @@ impl<N: NameValue> View<N> for Store<N> {
 
     ghost IsThere = { λ s n. n < length s.held.structures };
 
+    ghost IsShared = { λ s x. IsIn s.held x };
+
     ghost number = { λ s v. v };
 
     ghost count = { λ s n. length (arguments_of s.held n) };
@@ -48,5 +50,13 @@ impl<N: NameValue> View<N> for Store<N> {
     fn argument(&self, structure: u32, index: u32) -> Cell<N> {
         let _ = self.mark();
         Store::argument(self, structure, index)
+    }
+
+    fn is_shared(&self, at: Cell<N>) -> bool {
+        self.holds(at)
+    }
+
+    fn same_variable(&self, left: u32, right: u32) -> bool {
+        left == right
     }
 }

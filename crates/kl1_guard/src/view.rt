@@ -1,6 +1,6 @@
 // Terms that are looked at from the top.
 
-ghost use Rattle.std.specs.Prelude.{◌≡◌, ◌<◌, ℕ, List, Some};
+ghost use Rattle.std.specs.Prelude.{◌≡◌, ◌==◌, ◌<◌, ℕ, List, Some, IsTrue};
 ghost use Rattle.kl1_model.specs.Term.{Term, Terms};
 ghost use Rattle.kl1_model.specs.Same.{argument_at};
 ghost use Rattle.kl1_guard.specs.Forms.{IsForm, IsFormIn};
@@ -28,6 +28,9 @@ pub trait View<N: NameValue> {
     /// There is this structure.
     ghost IsThere: { Self → Self.Structure → Type 0 };
 
+    /// What stands there is kept as a whole, and is compared with another such in another way.
+    ghost IsShared: { Self → Self.At → Type 0 };
+
     /// The number of a variable.
     ghost number: { Self → Self.Variable → ℕ };
 
@@ -52,4 +55,12 @@ pub trait View<N: NameValue> {
         requires index { index < count self.now structure }
         ensures inside { IsAt self.now result }
         ensures means { (f : N → List ℕ) → argument_at (arguments f self.now structure) index ≡ Some (term f self.now result) };
+
+    /// Whether what stands there is kept as a whole.
+    fn is_shared(&self, at: Self::At) -> bool
+        ensures { IsTrue result → IsShared self.now at };
+
+    /// Whether two variables are one.
+    fn same_variable(&self, left: Self::Variable, right: Self::Variable) -> bool
+        ensures { result ≡ (number self.now left == number self.now right) };
 }
