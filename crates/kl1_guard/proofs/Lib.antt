@@ -3,3 +3,4 @@ mod Pendings
 mod Arguments
 mod Outcomes
 mod Sides
+mod Tests

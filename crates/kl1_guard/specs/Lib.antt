@@ -5,3 +5,4 @@ pub mod Pendings
 pub mod Evaluations
 pub mod Outcomes
 pub mod Alike
+pub mod Tests

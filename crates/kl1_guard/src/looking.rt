@@ -8,7 +8,7 @@ ghost use Rattle.kl1_guard.specs.Forms.{IsForm};
 ghost use Rattle.kl1_guard.specs.Outcomes.{LooksAs, IsWaiting};
 
 use crate::form::Form;
-use crate::operators::is_built_in;
+use crate::names::is_built_in;
 use crate::outcome::{Outcome, decide};
 use crate::view::View;
 use kl1_model::{BuiltIn, Inspection};

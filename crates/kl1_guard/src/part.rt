@@ -5,7 +5,7 @@ ghost use Rattle.kl1_text.specs.Reading.{Reads};
 ghost use Rattle.kl1_guard.specs.Parts.{ScansAs, IsPartIn};
 
 use crate::form::Form;
-use crate::operators::operator_of;
+use crate::names::operator_of;
 use crate::view::View;
 use kl1_model::Operator;
 use kl1_text::NameValue;
