@@ -1,6 +1,5 @@
 mod Parts
 mod Pendings
-mod Arguments
 mod Outcomes
 mod Sides
-mod Tests
+mod OfTwo

@@ -1,4 +1,4 @@
-use Rattle.kl1_guard.proofs.Tests.{two_at}
+use Rattle.kl1_guard.proofs.OfTwo.{two_at}
 use Rattle.kl1_guard.proofs.test.test_at.Goals as goal
 
 pub returns-then-count-eq2-clause-inside : goal.returns-then-count-eq2-clause-inside
