@@ -1,7 +1,7 @@
 -- Goals that are added are looked at.
 use Rattle.std.proofs.Common.{◌≡◌, ℕ, zero, suc, ◌+◌, ◌<◌, List, [], ◌∷◌, ◌++◌, length, take, get_or, refl, sym, ap, ◌∙◌, arith, subst, length-take, length-append}
 use Rattle.std.specs.Prelude.{Option}
-use Rattle.std.proofs.lemmas.List.{take_more, take_all}
+use Rattle.std.proofs.lemmas.List.{take_more}
 use Rattle.kl1_text.specs.declared.cell_name.CellName.{CellName}
 use Rattle.kl1_store.specs.declared.cell.Cell.{Cell}
 use Rattle.kl1_store.specs.Held.{Held, IsIn, AreIn}
@@ -9,15 +9,15 @@ use Rattle.kl1_store.specs.Hooks.{Hook, Kept, HasGrown}
 use Rattle.kl1_goals.specs.declared.task.Task.TheVariants.{Reduces}
 use Rattle.kl1_goals.specs.declared.goal.Goal.{Goal}
 use Rattle.kl1_modules.specs.Numbered.{Numbered}
+use Rattle.kl1_moves.specs.Hanging.{AreAmong}
 use Rattle.kl1_account.specs.declared.draft.Change.{Change}
 use Rattle.kl1_account.specs.Fitting.{Reading}
 use Rattle.kl1_account.specs.Drafts.{goals_standing}
 use Rattle.kl1_account.specs.Settled.{IsSettled, AreSettled}
-use Rattle.kl1_account.specs.Waking.{AreAmong}
 use Rattle.kl1_account.specs.Looking.{StandsAt, WakesAdded}
 use Rattle.kl1_account.proofs.SettledStays.{settled_more}
 use Rattle.kl1_account.proofs.Waking.{found_out}
-use Rattle.kl1_account.proofs.Hanging.{HasGrown-same, HasGrown-trans, grown_among}
+use Rattle.kl1_moves.proofs.Hooked.{HasGrown-same, HasGrown-trans, grown_among}
 use Rattle.kl1_account.proofs.Restood.{each_is, each_append}
 
 -- a goal for a cell, with the clause by which it can step
@@ -81,12 +81,6 @@ next_added ms old mid new last n cells i d ss all s lt e a same grown stands mor
   where
     both_longer : (xs : List (Cell CellName)) (us : List (Option ℕ)) (y : Cell CellName) (u : Option ℕ) → length us ≡ length xs → length (us ++ u ∷ []) ≡ length (xs ++ y ∷ [])
     both_longer xs us y u k = grind (arith, length-append)
-
--- and all were looked at in the end
-pub all_added : (ms : List Numbered) (old new : Kept CellName) (last : ℕ) (cells : List (Cell CellName)) (i : ℕ) (ss : List (Option ℕ)) → length cells < i + 1 → StillAdds ms old new last (take i cells) ss → StillAdds ms old new last cells ss
-all_added ms old new last cells i ss le s =
-    let T : List (Cell CellName) → Type 0 = λ xs. StillAdds ms old new last xs ss in
-    subst T (take_all i cells (omega arith)) s
 
 -- a cell of these is of the store
 pub nth_in : (h : Held CellName) (xs : List (Cell CellName)) (i : ℕ) (d : Cell CellName) → AreIn h xs → i < length xs → IsIn h (get_or xs i d)

@@ -1,9 +1,9 @@
 -- What a store's cells mean has no variable beyond those of the store, nor has a goal with the next variables beyond these.
-use Rattle.std.proofs.Common.{◌≡◌, ℕ, zero, suc, ◌+◌, ◌<◌, ◌≤◌, max, false, ◌||◌, Bool, true, List, [], ◌∷◌, ◌++◌, length, get_or, refl, arith}
+use Rattle.std.proofs.Common.{◌≡◌, ℕ, zero, suc, ◌+◌, ◌<◌, ◌≤◌, false, List, [], ◌∷◌, ◌++◌, length, get_or, refl, arith}
 use Rattle.std.specs.List.{AllByRecursion}
 use Rattle.std.proofs.lemmas.Bool.{ne_eqb, or_from}
 use Rattle.std.proofs.Math.Nat.{le-max_left, le-max_right}
-use Rattle.kl1_model.specs.Term.{Term, variable, integer, atom, structure, Terms, none, more, occurs, occurs_in, Replacement, replaced, substituted, each_substituted}
+use Rattle.kl1_model.specs.Term.{Term, variable, integer, atom, structure, Terms, none, more, occurs, occurs_in, Replacement, replaced, each_substituted}
 use Rattle.kl1_model.specs.Meaning.{highest, highest_in}
 use Rattle.kl1_model.specs.Opening.{with_next_variables}
 use Rattle.kl1_store.specs.declared.cell.Cell.{Cell}

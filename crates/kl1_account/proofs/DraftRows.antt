@@ -1,5 +1,5 @@
 -- Rows of numbers for texts some of which are new: each new text has a spare number, and is known by it in a longer list.
-use Rattle.std.proofs.Common.{◌≡◌, ℕ, ◌+◌, ◌<◌, ◌≤◌, ◌==◌, ◌^◌, ◌⊎◌, ◌||◌, Bool, true, false, List, [], ◌∷◌, ◌++◌, length, take, get_or, Option, Some, None, IsTrue, bytes_eq, refl, sym, ap, ◌∙◌, subst, inl, inr, arith}
+use Rattle.std.proofs.Common.{◌≡◌, ℕ, ◌+◌, ◌<◌, ◌≤◌, ◌==◌, ◌^◌, ◌⊎◌, ◌||◌, true, false, List, [], ◌∷◌, ◌++◌, length, take, get_or, Option, Some, None, IsTrue, bytes_eq, refl, sym, ap, ◌∙◌, subst, inl, inr, arith}
 use Rattle.std.specs.Prelude.{option_map}
 use Rattle.std.specs.List.{AllByRecursion, list_any}
 use Rattle.std.proofs.lemmas.Bool.{cases_Bool, false≢true, eqb-true, eq-eqb}
@@ -16,7 +16,8 @@ use Rattle.kl1_atoms.specs.Names.{number_in, text_in, number_by, text_by, AreNam
 use Rattle.kl1_atoms.specs.Knowing.{option_cases, number_in-last, is_reading}
 use Rattle.kl1_clause.specs.NameList.{IsNameList}
 use Rattle.kl1_account.specs.Fitting.{Reading}
-use Rattle.kl1_account.specs.Naming.{AreSmall, ReadsDraft, Grows}
+use Rattle.kl1_account.specs.Naming.{ReadsDraft, Grows}
+use Rattle.kl1_account.proofs.ModuleNames.{last_among}
 use Rattle.kl1_account.proofs.KnownNames.{not_known}
 use Rattle.kl1_account.proofs.KnownTexts.{next_take, not_before}
 use Rattle.kl1_account.proofs.NumberRows.{AreNumbered, numbered_push, numbered_kept, numbered_read}
@@ -156,21 +157,8 @@ pub record Drafted (ks : List Known) (seen : List (List ℕ)) (row : List CellNa
   pub below : AreBelow (2 ^ 32 + spare) all
   pub numbered : AreNumbered all row seen
 
-pub drafted_none : (ks : List Known) → AreNames ks → AreSmall ks → Drafted ks [] [] 0
-drafted_none ks names small = record { all = ks; names = names; grows = λ t n e. e; only = λ t n e. inl e; below = small; numbered = tt }
-
 seen_more : (seen : List (List ℕ)) (u t : List ℕ) → list_any (bytes_eq u) seen ≡ true → list_any (bytes_eq u) (seen ++ t ∷ []) ≡ true
 seen_more seen u t e = list_any-append (bytes_eq u) seen (t ∷ []) ∙ ap (λ b. b || list_any (bytes_eq u) (t ∷ [])) e
-
-seen_last : (seen : List (List ℕ)) (t : List ℕ) → list_any (bytes_eq t) (seen ++ t ∷ []) ≡ true
-seen_last seen t =
-    list_any-append (bytes_eq t) seen (t ∷ [])
-    ∙ ap (λ b. list_any (bytes_eq t) seen || (b || false)) ((bytes_eq-Decides t t).1 refl)
-    ∙ or_true (list_any (bytes_eq t) seen)
-  where
-    or_true : (b : Bool) → (b || true) ≡ true
-    or_true true = refl
-    or_true false = refl
 
 -- one text more that is known
 pub drafted_known : (ks : List Known) (seen : List (List ℕ)) (row : List CellName) (spare : ℕ) (t : List ℕ) (c : CellName) → number_by ks t ≡ Some c.number → Drafted ks seen row spare → Drafted ks (seen ++ t ∷ []) (row ++ c ∷ []) spare
@@ -207,7 +195,7 @@ drafted_new ks seen row spare t c name new unseen number d =
       grows = λ u n h. one_grows d.all k u n (d.grows u n h);
       only = λ u n h. elim (by_text d.all k u n h) [
         | inl was ↦ elim (d.only u n was) [ inl first ↦ inl first | inr there ↦ inr (seen_more seen u t there) ]
-        | inr is ↦ inr (subst (λ v. list_any (bytes_eq v) (seen ++ t ∷ []) ≡ true) is.0 (seen_last seen t))
+        | inr is ↦ inr (subst (λ v. list_any (bytes_eq v) (seen ++ t ∷ []) ≡ true) is.0 (last_among seen t))
       ];
       below = more_below (2 ^ 32 + spare) (2 ^ 32 + (spare + 1)) d.all k d.below (omega arith) (omega arith);
       numbered = numbered_push (d.all ++ k ∷ []) row seen c t (numbered_kept d.all (d.all ++ k ∷ []) row seen (one_grows d.all k) d.numbered) (own_number d.all k name none place other);

@@ -2,6 +2,7 @@
 use Rattle.std.proofs.Common.{◌≡◌, true, false, if◌then◌else◌, ℕ, suc, ◌==◌, ◌+◌, not, ◌&&◌, ◌||◌, Bool, List, [], ◌∷◌, ◌++◌, length, codes, refl, sym, ap, ◌∙◌, arith, subst}
 use Rattle.std.specs.Prelude.{filter}
 use Rattle.std.specs.List.{list_any}
+use Rattle.std.proofs.Math.Bool.{or-true}
 use Rattle.std.proofs.lemmas.Bool.{eq-eqb}
 use Rattle.std.proofs.lemmas.List.{append-nil}
 use Rattle.kl1_model.specs.declared.built_in.BuiltIn.TheVariants.{Terminated as TerminatedName}
@@ -73,16 +74,12 @@ any_added : (last n priority : ℕ) (xs : List (Cell CellName)) → (length xs �
 any_added last n priority [] some = absurd (some refl)
 any_added last n priority (x ∷ xs) some = ap (λ b. b || list_any (is_goal_of n) (goals_for (suc last) n priority xs)) (both_true (n == n) (eq-eqb n n refl))
 
-or_true : (b : Bool) → (b || true) ≡ true
-or_true true = refl
-or_true false = refl
-
 -- a draft that adds goals keeps its shoen busy
 pub busy_by_cells : (goals : List (Goal CellName)) (d : Draft) → (length d.cells.items ≡ 0 → ⊥) → list_any (is_goal_of d.shoen.number) (made_of goals d).goals ≡ true
 busy_by_cells goals d some =
     any_append (is_goal_of d.shoen.number) (goals_left goals d) (goals_added d)
     ∙ ap (λ b. list_any (is_goal_of d.shoen.number) (goals_left goals d) || b) (any_added d.last_goal d.shoen.number d.priority d.cells.items some)
-    ∙ or_true (list_any (is_goal_of d.shoen.number) (goals_left goals d))
+    ∙ or-true (list_any (is_goal_of d.shoen.number) (goals_left goals d))
 
 -- and so does one that leaves another goal of it
 pub busy_by_goals : (goals : List (Goal CellName)) (d : Draft) → d.is_ending ≡ false → list_any (is_goal_of d.shoen.number) (filter (is_other d.removed) goals) ≡ true → list_any (is_goal_of d.shoen.number) (made_of goals d).goals ≡ true

@@ -19,7 +19,8 @@ IsNext from goal m t = (from ≤ m → goal.number ≤ m) × (m ≡ goal.number 
 abbrev pub IsNextOf : ℕ → Goal CellName → List (Goal CellName) → Type 0
 IsNextOf from goal goals = AllByRecursion (λ g. IsNext from goal g.number g.task) goals
 
-same_goal : (a b : Goal CellName) → Some a ≡ Some b → a ≡ b
+-- goals that are told alike are one
+pub same_goal : (a b : Goal CellName) → Some a ≡ Some b → a ≡ b
 same_goal a b e = cc
 
 all_above : (from : ℕ) (goals : List (Goal CellName)) → Ascend from (map number_of goals) → AllByRecursion (λ g. from ≤ g.number) goals

@@ -1,13 +1,12 @@
 -- Goals that are put after others.
-use Rattle.std.proofs.Common.{◌≡◌, ℕ, suc, ◌+◌, ◌<◌, ◌≤◌, List, [], ◌∷◌, ◌++◌, length, drop, get_or, sym, ap, ◌∙◌, arith, append_assoc}
+use Rattle.std.proofs.Common.{◌≡◌, ℕ, suc, ◌+◌, ◌<◌, List, [], ◌∷◌, ◌++◌, length, drop, get_or, sym, ap, ◌∙◌, arith, append_assoc}
 use Rattle.std.specs.Prelude.{Option}
 use Rattle.std.proofs.lemmas.List.{drop_more}
-use Rattle.kl1_model.specs.Limits.{monitor_priority}
 use Rattle.kl1_text.specs.declared.cell_name.CellName.{CellName}
 use Rattle.kl1_store.specs.declared.cell.Cell.{Cell}
 use Rattle.kl1_goals.specs.declared.task.Task.TheVariants.{Reduces}
 use Rattle.kl1_goals.specs.declared.goal.Goal.{Goal}
-use Rattle.kl1_goals.specs.Tables.{AreBefore, IsNext}
+use Rattle.kl1_goals.specs.Tables.{AreBefore}
 use Rattle.kl1_account.specs.Kept.{AreUpTo}
 use Rattle.kl1_account.specs.Drafts.{goals_standing}
 use Rattle.kl1_account.proofs.Goals.{up_to_append, up_to_more}
@@ -19,9 +18,6 @@ goal_for number shoen priority x standing = record { number = number; task = Red
 before_next : (last : ℕ) (gs : List (Goal CellName)) → AreUpTo last gs → AreBefore (last + 1) gs
 before_next last [] i = tt
 before_next last (g ∷ gs) i = let le = i.0 in (omega arith, before_next last gs i.1)
-
-pub next_goal : (last shoen priority count : ℕ) (x : Cell CellName) (s : Option ℕ) (gs : List (Goal CellName)) → AreUpTo last gs → 0 < shoen → shoen ≤ count → priority ≤ monitor_priority → IsNext (goal_for (last + 1) shoen priority x s) gs count
-next_goal last shoen priority count x s gs up low high level = record { number = before_next last gs up; low = low; high = high; priority = level; monitor = λ e. absurd (cc) }
 
 pub up_to_next : (last shoen priority : ℕ) (x : Cell CellName) (s : Option ℕ) (gs : List (Goal CellName)) → AreUpTo last gs → AreUpTo (last + 1) (gs ++ goal_for (last + 1) shoen priority x s ∷ [])
 up_to_next last shoen priority x s gs up = up_to_append (last + 1) gs (goal_for (last + 1) shoen priority x s ∷ []) (up_to_more last (last + 1) gs (omega arith) up) (omega arith, tt)

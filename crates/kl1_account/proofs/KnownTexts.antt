@@ -4,6 +4,7 @@ use Rattle.std.specs.List.{list_any}
 use Rattle.std.proofs.lemmas.Bool.{cases_Bool, false≢true, or_cases}
 use Rattle.std.proofs.lemmas.List.{take_more, get_or-take, get_or_default, map-append, length-map, take-append-drop}
 use Rattle.std.proofs.lemmas.List.Folds.{list_any-append}
+use Rattle.std.proofs.Math.Bool.{or-true}
 use Rattle.std.proofs.lemmas.Slice.Eq.{bytes_eq-Decides}
 use Rattle.kl1_text.specs.declared.atom_no.AtomNo.{AtomNo}
 use Rattle.kl1_text.specs.BuiltIns.{built_in_of}
@@ -15,29 +16,7 @@ use Rattle.kl1_clause.proofs.Growth.{all_grow, with_none, with_more, with_one, w
 use Rattle.kl1_clause.proofs.Language.{found_in_language, missed_in_language}
 use Rattle.kl1_account.specs.Account.{texts_of}
 use Rattle.kl1_account.proofs.KnownNames.{comm, not_known, added_new}
-
-or_true : (b : Bool) → (b || true) ≡ true
-or_true true = refl
-or_true false = refl
-
--- a text that is a name of the language changes nothing
-in_language : (names : List (List ℕ)) (t : List ℕ) → is_of_language t ≡ true → with_text names t ≡ names
-unfolding with_text is_of_language
-in_language names t e = ap (λ (v : Bool). cond (v || list_any (bytes_eq t) names) names (names ++ t ∷ [])) e
-
--- a text that is among names changes nothing
-among : (names : List (List ℕ)) (t : List ℕ) → list_any (bytes_eq t) names ≡ true → with_text names t ≡ names
-unfolding with_text is_of_language
-among names t e =
-    ap (λ (v : Bool). cond (is_of_language t || v) names (names ++ t ∷ [])) e
-    ∙ ap (λ (v : Bool). cond v names (names ++ t ∷ [])) (or_true (is_of_language t))
-
--- a text that is neither comes behind the others
-pub not_there : (names : List (List ℕ)) (t : List ℕ) → is_of_language t ≡ false → list_any (bytes_eq t) names ≡ false → with_text names t ≡ names ++ t ∷ []
-unfolding with_text is_of_language
-not_there names t p e =
-    ap (λ (v : Bool). cond (v || list_any (bytes_eq t) names) names (names ++ t ∷ [])) p
-    ∙ ap (λ (v : Bool). cond v names (names ++ t ∷ [])) e
+use Rattle.kl1_account.proofs.ModuleNames.{in_language, among, not_there, still_among}
 
 -- a text has a number among names where it is one of their texts
 pub known_text : (ks : List Known) (t : List ℕ) → is_some (number_in ks t) ≡ list_any (bytes_eq t) (texts_of ks)
@@ -59,11 +38,6 @@ text_there ks t n e = elim (option_cases (built_in_of t)) [
   | inl none ↦ let found : number_in ks t ≡ Some n = rw none at e in inr (sym (known_text ks t) ∙ ap (λ (o : Option ℕ). is_some o) found)
   | inr some ↦ inl (found_in_language t some.0 some.1).1
 ]
-
-still_among : (q : List ℕ → Bool) (names more : List (List ℕ)) → list_any q names ≡ true → list_any q (with_texts names more) ≡ true
-still_among q names more e =
-    let g = all_grow names more in
-    ap (list_any q) g.is ∙ (list_any-append q names g.added ∙ ap (λ b. b || list_any q g.added) e)
 
 -- a known text put to the names and others changes nothing
 pub put_known_text : (ks : List Known) (seen : List (List ℕ)) (t : List ℕ) (n : ℕ) → number_by ks t ≡ Some n → with_text (with_texts (texts_of ks) seen) t ≡ with_texts (texts_of ks) seen
@@ -134,7 +108,7 @@ one_of_two : (first seen : List (List ℕ)) (t : List ℕ) → list_any (bytes_e
 one_of_two first [] t e = inl (ap (list_any (bytes_eq t)) (sym (with_none first)) ∙ e)
 one_of_two first (y ∷ seen) t e = elim (one_of_two (with_text first y) seen t (ap (list_any (bytes_eq t)) (sym (with_more first y seen)) ∙ e)) [
   | inl one ↦ elim (or_one first t y one) [ inl was ↦ inl was | inr is ↦ inr (ap (λ b. b || list_any (bytes_eq t) seen) is) ]
-  | inr later ↦ inr (ap (λ b. bytes_eq t y || b) later ∙ or_true (bytes_eq t y))
+  | inr later ↦ inr (ap (λ b. bytes_eq t y || b) later ∙ or-true (bytes_eq t y))
 ]
 
 -- a text that isn't known, and isn't among those seen, comes behind both

@@ -18,7 +18,6 @@ pub mod KnownTexts
 pub mod NumberRows
 pub mod DraftRows
 pub mod Publishing
-pub mod Hanging
 pub mod Looks
 pub mod Restood
 pub mod Told

@@ -1,15 +1,14 @@
 -- Loads, by the definition of the step.
-use Rattle.std.proofs.Common.{◌≡◌, ℕ, ◌+◌, ◌<◌, ◌≤◌, suc, Bool, true, false, if◌then◌else◌, ◌==◌, List, [], ◌∷◌, ◌++◌, length, map, refl, sym, ap, ◌∙◌, subst, arith, nat_lt, length-append, take, get_or}
-use Rattle.std.specs.Prelude.{Option, Some, is_some}
-use Rattle.std.specs.List.{AllByRecursion}
+use Rattle.std.proofs.Common.{◌≡◌, ℕ, ◌+◌, ◌<◌, ◌≤◌, suc, Bool, true, false, if◌then◌else◌, ◌==◌, List, [], ◌∷◌, ◌++◌, length, map, refl, sym, ap, ◌∙◌, subst, arith, nat_lt, take, get_or}
+use Rattle.std.specs.Prelude.{Some, is_some}
 use Rattle.std.proofs.lemmas.Bool.{le-leb, lt-leb, lt-ltb, le-ltb, ltb-true, ltb-false}
-use Rattle.std.proofs.lemmas.List.{map-append, length-map, take_more}
+use Rattle.std.proofs.lemmas.List.{map-append, take_more}
 use Rattle.kl1_model.specs.Limits.{most_names, most_entries, most_source_bytes}
-use Rattle.kl1_model.specs.Module.{Module, read_module, good, bad}
+use Rattle.kl1_model.specs.Module.{Module, read_module, good}
 use Rattle.kl1_model.specs.Match.{module_of}
 use Rattle.kl1_model.specs.State as model
 use Rattle.kl1_model.specs.State.{State, names_of_module, with_names}
-use Rattle.kl1_model.specs.Event.{load, loaded, with_entry, Stepped}
+use Rattle.kl1_model.specs.Event.{load, loaded, refuse, with_entry, Stepped}
 use Rattle.kl1_model.specs.Step.{step, with_module, load_module}
 use Rattle.kl1_text.specs.Reading.{Reads}
 use Rattle.kl1_text.specs.declared.atom_no.AtomNo.{AtomNo}
@@ -27,21 +26,23 @@ use Rattle.kl1_modules.specs.Numbered.{Numbered, own_names, number_of, IsRead, A
 use Rattle.kl1_modules.specs.Finding.{contents, is_numbered, TellsModule}
 use Rattle.kl1_modules.proofs.Names.{number_reads}
 use Rattle.kl1_modules.proofs.Shelving.{tells}
+use Rattle.kl1_moves.specs.Hanging.{HangsOnEach}
 use Rattle.kl1_account.specs.declared.draft.Change.{Change}
 use Rattle.kl1_account.specs.declared.loading.Loading.{Loading}
-use Rattle.kl1_account.specs.declared.loading.Loading.TheVariants.{Drafted}
-use Rattle.kl1_account.specs.declared.refusal.Refusal.TheVariants.{Syntax, Source, Exists, Names, Journal}
+use Rattle.kl1_account.specs.declared.loading.Loading.TheVariants.{Refused, Drafted}
+use Rattle.kl1_account.specs.declared.refusal.Refusal.{Refusal}
+use Rattle.kl1_account.specs.Views.{refusal_of}
+use Rattle.kl1_account.specs.declared.refusal.Refusal.TheVariants.{Exists, Names, Journal}
 use Rattle.kl1_account.specs.Fitting.{Reading, Fits, built}
-use Rattle.kl1_account.specs.Account.{Account, Means, meaning, task_with, goal_with, texts_of, state_of}
+use Rattle.kl1_account.specs.Account.{Account, meaning, task_with, goal_with, texts_of, state_of}
 use Rattle.kl1_account.specs.Naming.{AreSmall, ReadsDraft, AreNumbersOf}
 use Rattle.kl1_account.specs.Works.{Knows}
 use Rattle.kl1_account.specs.Drafts.{restood_by, restood}
 use Rattle.kl1_account.specs.Kept.{IsTaskIn, IsOwned}
-use Rattle.kl1_account.specs.Settled.{task_clause, awaited_by_task, HangsOnEach, AreSettled}
+use Rattle.kl1_account.specs.Settled.{task_clause, awaited_by_task, AreSettled}
 use Rattle.kl1_account.specs.Looking.{AreMonitorsIdle}
 use Rattle.kl1_account.specs.Keeping.{IsKept}
-use Rattle.kl1_account.specs.Loadings.{RefusesLoad, IsDraft, DraftsAs, IsDraftOf, LoadsAs, Settles}
-use Rattle.kl1_clause.proofs.Growth.{all_grow}
+use Rattle.kl1_account.specs.Loadings.{IsDraft, DraftsAs, IsDraftOf, LoadsAs, Settles}
 use Rattle.kl1_account.proofs.ModuleNames.{of_module}
 use Rattle.kl1_account.proofs.Restood.{restood_holds, restood_read}
 
@@ -61,14 +62,6 @@ is_free ms d n b e is = sym (e ∙ ap (is_numbered ms) is)
 pub crowds_is : (names : List Known) (d : Numbered) (code : Module) (texts : List (List ℕ)) (b : Bool) → b ≡ nat_lt most_names (length (with_texts (texts_of names) texts)) → texts ≡ own_names code → code ≡ d.content →
     nat_lt most_names (length (with_texts (texts_of names) (own_names d.content))) ≡ b
 crowds_is names d code texts b e are is = sym (e ∙ ap (λ (xs : List (List ℕ)). nat_lt most_names (length (with_texts (texts_of names) xs))) (are ∙ ap own_names is))
-
--- names with others put to them are no fewer
-pub no_fewer : (names : List Known) (texts : List (List ℕ)) → length names ≤ length (with_texts (texts_of names) texts)
-no_fewer names texts =
-    let g = all_grow (texts_of names) texts in
-    let e = ap length g.is ∙ length-append (texts_of names) g.added in
-    let m : length (texts_of names) ≡ length names = length-map names (λ k. k.text) in
-    omega arith
 
 -- a module whose name is taken
 pub draft_exists : (ms : List Numbered) (names : List Known) (entries : ℕ) (d : Numbered) → is_some (module_of (contents ms) d.content.name) ≡ true → DraftsAs ms names entries d (Some Exists)
@@ -111,14 +104,6 @@ draft_loads ms names entries d reads new absent few room =
     }
 
 -- ---- sources
-
--- a source that is too long
-pub load_long : (ms : List Numbered) (names : List Known) (entries : ℕ) (text : List ℕ) → most_source_bytes < length text → RefusesLoad ms names entries text Syntax
-load_long ms names entries text h = λ s at. rw (lt-leb (length text) most_source_bytes h) refl
-
--- a source that is no module
-pub load_bad : (ms : List Numbered) (names : List Known) (entries line : ℕ) (text : List ℕ) → length text ≤ most_source_bytes → read_module text ≡ bad line → RefusesLoad ms names entries text (Source line)
-load_bad ms names entries line text h r = λ s at. rw (le-leb (length text) most_source_bytes h) (ap (load_module s) r)
 
 -- a source that is a module
 pub load_good : (text : List ℕ) (m : Module) → length text ≤ most_source_bytes → read_module text ≡ good m → (s : State) → step s (load text) ≡ load_module s (good m)
@@ -325,3 +310,10 @@ put_steps a self put source d hooks changes names row code name r same e code_is
     ap (λ (x : Account). step (state_of f x) (load source)) (sym same)
     ∙ (load_steps a source d hooks changes names row r f
     ∙ (ap (λ (x : Account). R x d.content.name) e ∙ ap (R put) (sym (name_is ∙ ap (λ (m : Module). m.name) code_is))))
+
+-- an account refuses a load as was found by its modules, its names and its entries
+pub refused_load : (a b : Account) (source : List ℕ) (l : Loading) (r : Refusal) → l ≡ Refused r → LoadsAs a.modules a.names a.entries source l → a ≡ b → (f : Reading) → step (state_of f b) (load source) ≡ refuse (state_of f b) (refusal_of r)
+refused_load a b source l r e loads view f =
+    let L : Loading → Type 0 = λ z. LoadsAs a.modules a.names a.entries source z in
+    let P : Account → Type 0 = λ z. step (state_of f z) (load source) ≡ refuse (state_of f z) (refusal_of r) in
+    subst P view (subst L e loads (state_of f a) (record { modules_are = refl; names_are = refl; entries_are = refl }))

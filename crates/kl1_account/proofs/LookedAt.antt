@@ -24,7 +24,7 @@ use Rattle.kl1_account.specs.Looking.{AreOthersOf, WakesTold, WakesAdded}
 use Rattle.kl1_account.specs.Reducing.{WakesAll}
 use Rattle.kl1_account.proofs.Added.{all_more}
 use Rattle.kl1_account.proofs.Goals.{filter_up_to}
-use Rattle.kl1_account.proofs.Hanging.{grown_among}
+use Rattle.kl1_moves.proofs.Hooked.{grown_among}
 use Rattle.kl1_account.proofs.Restood.{each_append}
 use Rattle.kl1_account.proofs.Waking.{AreTold, told_are_pending, filter_settled_or}
 

@@ -23,11 +23,11 @@ use Rattle.kl1_moves.specs.Moves.{HasPredicate}
 use Rattle.kl1_moves.specs.Standing.{StandsAs}
 use Rattle.kl1_modules.specs.Numbered.{Numbered}
 use Rattle.kl1_modules.specs.Finding.{contents, Finds}
+use Rattle.kl1_moves.specs.Hanging.{HangsOnEach}
 use Rattle.kl1_account.specs.declared.draft.Change.{Change}
 use Rattle.kl1_account.specs.Fitting.{Reading, built}
 use Rattle.kl1_account.specs.Account.{meaning}
 use Rattle.kl1_account.specs.Works.{Knows}
-use Rattle.kl1_account.specs.Settled.{HangsOnEach}
 use Rattle.kl1_account.specs.Looking.{Serves, calls_same, StandsBy, StandsAt, FindsOut}
 
 -- the predicate of a call is what was found of it, or none

@@ -2,6 +2,7 @@
 use Rattle.std.proofs.Common.{◌≡◌, ℕ, Bool, true, false, cond, ◌||◌, List, [], ◌∷◌, ◌++◌, bytes_eq, refl, sym, ap, ◌∙◌, inl, inr}
 use Rattle.std.specs.List.{list_any}
 use Rattle.std.proofs.lemmas.Bool.{false≢true, or_cases}
+use Rattle.std.proofs.Math.Bool.{or-true}
 use Rattle.std.proofs.lemmas.List.Folds.{list_any-append}
 use Rattle.std.proofs.lemmas.Slice.Eq.{bytes_eq-Decides}
 use Rattle.kl1_model.specs.Module.{Module}
@@ -9,36 +10,36 @@ use Rattle.kl1_model.specs.State.{names_of_module, with_names}
 use Rattle.kl1_clause.specs.NameList.{is_of_language, with_text, with_texts}
 use Rattle.kl1_clause.proofs.Growth.{all_grow, with_none, with_more, with_one, with_both}
 
-or_true : (b : Bool) → (b || true) ≡ true
-or_true true = refl
-or_true false = refl
-
-in_language : (names : List (List ℕ)) (text : List ℕ) → is_of_language text ≡ true → with_text names text ≡ names
+-- a text that is a name of the language changes nothing
+pub in_language : (names : List (List ℕ)) (text : List ℕ) → is_of_language text ≡ true → with_text names text ≡ names
 unfolding with_text is_of_language
 in_language names text e = ap (λ (v : Bool). cond (v || list_any (bytes_eq text) names) names (names ++ text ∷ [])) e
 
 -- a text that is among names changes nothing
-among : (names : List (List ℕ)) (text : List ℕ) → list_any (bytes_eq text) names ≡ true → with_text names text ≡ names
+pub among : (names : List (List ℕ)) (text : List ℕ) → list_any (bytes_eq text) names ≡ true → with_text names text ≡ names
 unfolding with_text is_of_language
 among names text e =
     ap (λ (v : Bool). cond (is_of_language text || v) names (names ++ text ∷ [])) e
-    ∙ ap (λ (v : Bool). cond v names (names ++ text ∷ [])) (or_true (is_of_language text))
+    ∙ ap (λ (v : Bool). cond v names (names ++ text ∷ [])) (or-true (is_of_language text))
 
-not_there : (names : List (List ℕ)) (text : List ℕ) → is_of_language text ≡ false → list_any (bytes_eq text) names ≡ false → with_text names text ≡ names ++ text ∷ []
+-- a text that is neither comes behind the others
+pub not_there : (names : List (List ℕ)) (text : List ℕ) → is_of_language text ≡ false → list_any (bytes_eq text) names ≡ false → with_text names text ≡ names ++ text ∷ []
 unfolding with_text is_of_language
 not_there names text p e =
     ap (λ (v : Bool). cond (v || list_any (bytes_eq text) names) names (names ++ text ∷ [])) p
     ∙ ap (λ (v : Bool). cond v names (names ++ text ∷ [])) e
 
-still_among : (q : List ℕ → Bool) (names more : List (List ℕ)) → list_any q names ≡ true → list_any q (with_texts names more) ≡ true
+-- what is among names stays among them where others are put
+pub still_among : (q : List ℕ → Bool) (names more : List (List ℕ)) → list_any q names ≡ true → list_any q (with_texts names more) ≡ true
 still_among q names more e =
     let g = all_grow names more in
     ap (list_any q) g.is ∙ (list_any-append q names g.added ∙ ap (λ b. b || list_any q g.added) e)
 
-last_among : (names : List (List ℕ)) (text : List ℕ) → list_any (bytes_eq text) (names ++ text ∷ []) ≡ true
+-- a text behind others is among them
+pub last_among : (names : List (List ℕ)) (text : List ℕ) → list_any (bytes_eq text) (names ++ text ∷ []) ≡ true
 last_among names text =
     list_any-append (bytes_eq text) names (text ∷ [])
-    ∙ (ap (λ b. list_any (bytes_eq text) names || (b || false)) ((bytes_eq-Decides text text).1 refl) ∙ or_true (list_any (bytes_eq text) names))
+    ∙ (ap (λ b. list_any (bytes_eq text) names || (b || false)) ((bytes_eq-Decides text text).1 refl) ∙ or-true (list_any (bytes_eq text) names))
 
 put_among : (names : List (List ℕ)) (text : List ℕ) (b : Bool) → is_of_language text ≡ false → list_any (bytes_eq text) names ≡ b → list_any (bytes_eq text) (with_text names text) ≡ true
 put_among names text true p e = ap (list_any (bytes_eq text)) (among names text e) ∙ e

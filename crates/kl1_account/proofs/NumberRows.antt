@@ -1,5 +1,5 @@
 -- Rows of numbers of texts that are known.
-use Rattle.std.proofs.Common.{◌≡◌, ℕ, suc, List, [], ◌∷◌, ◌++◌, map, length, Some, refl, ap, ◌∙◌}
+use Rattle.std.proofs.Common.{◌≡◌, ℕ, List, [], ◌∷◌, ◌++◌, map, Some, refl, ap, ◌∙◌}
 use Rattle.kl1_text.specs.declared.cell_name.CellName.{CellName}
 use Rattle.kl1_atoms.specs.declared.known.Known.{Known}
 use Rattle.kl1_atoms.specs.Names.{number_by}
@@ -26,13 +26,6 @@ numbered_kept old new [] [] g n = tt
 numbered_kept old new [] (u ∷ ts) g n = absurd n
 numbered_kept old new (d ∷ cs) [] g n = absurd n
 numbered_kept old new (d ∷ cs) (u ∷ ts) g n = (g u d.number n.0, numbered_kept old new cs ts g n.1)
-
--- there are as many numbers as texts
-pub numbered_length : (ks : List Known) (cs : List CellName) (ts : List (List ℕ)) → AreNumbered ks cs ts → length cs ≡ length ts
-numbered_length ks [] [] n = refl
-numbered_length ks [] (u ∷ ts) n = absurd n
-numbered_length ks (d ∷ cs) [] n = absurd n
-numbered_length ks (d ∷ cs) (u ∷ ts) n = ap suc (numbered_length ks cs ts n.1)
 
 -- numbers are read as their texts
 pub numbered_read : (ks : List Known) (f : Reading) (cs : List CellName) (ts : List (List ℕ)) → ((t : List ℕ) (n : ℕ) → number_by ks t ≡ Some n → f (record { number = n }) ≡ t) → AreNumbered ks cs ts → map f cs ≡ ts

@@ -1,22 +1,19 @@
 -- A shoen that opens, and its first report, on the states of the definitions.
-use Rattle.std.proofs.Common.{◌≡◌, ℕ, zero, suc, ◌+◌, ◌-◌, ◌<◌, ◌≤◌, ◌==◌, if◌then◌else◌, true, false, List, [], ◌∷◌, ◌++◌, length, map, codes, refl, sym, ap, ◌∙◌, arith}
-use Rattle.std.specs.Prelude.{Option, Some, None, option_map}
+use Rattle.std.proofs.Common.{◌≡◌, ℕ, suc, ◌+◌, ◌<◌, ◌==◌, if◌then◌else◌, false, List, [], ◌∷◌, ◌++◌, length, map, codes, refl, sym, ap, ◌∙◌, arith}
+use Rattle.std.specs.Prelude.{Option, Some, None}
 use Rattle.std.proofs.lemmas.Bool.{ne_eqb, eq-eqb}
 use Rattle.std.proofs.lemmas.List.{map-append}
 use Rattle.kl1_model.specs.Term.{Term, variable, atom, occurs, replace}
 use Rattle.kl1_model.specs.Meaning.{cell, highest}
-use Rattle.kl1_model.specs.Limits.{monitor_priority}
 use Rattle.kl1_model.specs.State as model
 use Rattle.kl1_model.specs.State.{State, shoen_at, replace_in_goal, replace_in_shoen, living, names_of, with_names}
-use Rattle.kl1_model.specs.Report.{report, report_of}
+use Rattle.kl1_model.specs.Report.{report_of}
 use Rattle.kl1_model.specs.Opening.{started_shoen, opening_goals, with_next_variables, start_goal}
 use Rattle.kl1_text.specs.declared.cell_name.CellName.{CellName}
 use Rattle.kl1_store.specs.declared.cell.Cell.{Cell}
 use Rattle.kl1_store.specs.Held.{Held, IsIn}
 use Rattle.kl1_store.proofs.Replacing.{replace_free}
-use Rattle.kl1_goals.specs.declared.task.Task.TheVariants.{Monitor, Reduces}
 use Rattle.kl1_goals.specs.declared.goal.Goal.{Goal}
-use Rattle.kl1_shoen.specs.declared.life.Life.TheVariants.{Living}
 use Rattle.kl1_shoen.specs.declared.shoen.Shoen.{Shoen}
 use Rattle.kl1_account.specs.Account.{Means, goal_with, shoen_with, state_with}
 use Rattle.kl1_account.specs.Kept.{AreGoalsIn, AreShoensIn, AreNumbered}

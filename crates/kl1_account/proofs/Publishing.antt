@@ -12,7 +12,8 @@ use Rattle.kl1_clause.proofs.Growth.{with_none}
 use Rattle.kl1_account.specs.Account.{texts_of}
 use Rattle.kl1_account.specs.Naming.{AreSmall, Grows, Keeps}
 use Rattle.kl1_account.proofs.KnownNames.{added_new}
-use Rattle.kl1_account.proofs.KnownTexts.{no_text, not_there, texts_added, next_take, next_text, put_more}
+use Rattle.kl1_account.proofs.KnownTexts.{no_text, texts_added, next_take, next_text, put_more}
+use Rattle.kl1_account.proofs.ModuleNames.{not_there}
 use Rattle.kl1_account.proofs.DraftRows.{push_below}
 use Rattle.kl1_account.proofs.NumberRows.{AreNumbered, numbered_push, numbered_kept}
 

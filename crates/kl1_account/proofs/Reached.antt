@@ -15,28 +15,22 @@ use Rattle.kl1_goals.specs.Lists.{has_number, is_after}
 use Rattle.kl1_goals.specs.Tables.{AreInOrder}
 use Rattle.kl1_modules.specs.Numbered.{Numbered}
 use Rattle.kl1_modules.specs.Finding.{contents}
+use Rattle.kl1_moves.specs.Hanging.{HangsOnEach, AreAmong}
 use Rattle.kl1_account.specs.declared.draft.Change.{Change}
 use Rattle.kl1_account.specs.Fitting.{Reading}
 use Rattle.kl1_account.specs.Account.{meaning, task_with}
 use Rattle.kl1_account.specs.Kept.{IsTaskIn, AreGoalsIn}
 use Rattle.kl1_account.specs.Drafts.{restood, restood_by}
-use Rattle.kl1_account.specs.Settled.{task_clause, awaited_by_task, HangsOnEach, IsSettled}
-use Rattle.kl1_account.specs.Waking.{AreAmong, IsFoundOut}
-use Rattle.kl1_account.specs.Looking.{FindsTask, AreMonitorsIdle, IsReached, LooksBelow, LooksAtAll}
+use Rattle.kl1_account.specs.Settled.{task_clause, awaited_by_task, IsSettled}
+use Rattle.kl1_account.specs.Waking.{IsFoundOut}
+use Rattle.kl1_account.specs.Looking.{FindsTask, IsReached, LooksBelow, LooksAtAll}
 use Rattle.kl1_account.proofs.SettledStays.{settled_more}
 use Rattle.kl1_account.proofs.Waking.{found_out, other_stands, same_stands}
-use Rattle.kl1_account.proofs.Hanging.{HasGrown-trans, grown_among}
+use Rattle.kl1_moves.proofs.Hooked.{HasGrown-trans, grown_among}
 use Rattle.kl1_account.proofs.Restood.{each_is, restood_keeps, restood_push}
 use Rattle.kl1_account.proofs.GoalOrder.{IsNext, IsNextOf, next_after, next_zero, none_after, none_zero}
 
 -- ---- one goal
-
--- monitors that are settled can't step by a clause
-pub settled_idle : (f : Reading) (hooks : List Hook) (h : Held CellName) (ms : List Numbered) (goals : List (Goal CellName)) → AllByRecursion (IsSettled f hooks h ms) goals → AreMonitorsIdle goals
-settled_idle f hooks h ms goals all =
-    each_is (IsSettled f hooks h ms) (λ g. g.task ≡ Monitor → g.standing ≡ None) goals
-    (λ g s m. s.standing ∙ ap (λ (k : Task CellName). task_clause (contents ms) (task_with (meaning f h) k)) m)
-    all
 
 -- a monitor that can't step by a clause is settled
 idle_settled : (f : Reading) (hooks : List Hook) (h : Held CellName) (ms : List Numbered) (g : Goal CellName) → g.task ≡ Monitor → g.standing ≡ None → IsSettled f hooks h ms g

@@ -20,7 +20,7 @@ use Rattle.kl1_account.specs.Works.{Knows}
 use Rattle.kl1_account.specs.Drafts.{goals_after}
 use Rattle.kl1_account.specs.Settled.{AreSettled}
 use Rattle.kl1_account.specs.Views.{refusal_of}
-use Rattle.kl1_account.specs.Reducing.{put_in, IsReduction, IsRefused, ReducesAs}
+use Rattle.kl1_account.specs.Reducing.{put_in, IsFitting, IsReduction, IsRefused, ReducesAs}
 use Rattle.kl1_account.proofs.PutIn.{exchanged_count}
 
 -- a reading that fits an account's names knows its modules
@@ -60,6 +60,13 @@ refused_step a b z old new hooks known n c r view kept same i f fits =
     ∙ ap (λ (w : Account). refuse (state_of f w) (refusal_of r)) (sym same)
 
 -- ---- where it is done
+
+-- a draft that can be put in place of goals can be put in place of the same ones
+pub fits_same : (goals gs : List (Goal CellName)) (shoens count room : ℕ) (d : Draft) → gs ≡ goals → count ≡ shoens → IsFitting goals shoens room d → IsFitting gs count room d
+fits_same goals gs shoens count room d p q i =
+    let G : List (Goal CellName) → Type 0 = λ xs. IsFitting xs shoens room d in
+    let N : ℕ → Type 0 = λ n. IsFitting gs n room d in
+    subst N (sym q) (subst G (sym p) i)
 
 -- a draft that is put in place
 pub placed_as : (a : Account) (h : Held CellName) (d : Draft) (mid gs : List (Goal CellName)) (ss : List (Shoen CellName)) (last entries : ℕ) → mid ≡ a.goals → gs ≡ goals_after mid d → ss ≡ exchanged d.shoen a.shoens →

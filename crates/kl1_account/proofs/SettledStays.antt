@@ -17,10 +17,11 @@ use Rattle.kl1_goals.specs.declared.task.Task.TheVariants.{Monitor, Reduces}
 use Rattle.kl1_goals.specs.declared.goal.Goal.{Goal}
 use Rattle.kl1_modules.specs.Numbered.{Numbered}
 use Rattle.kl1_modules.specs.Finding.{contents}
+use Rattle.kl1_moves.specs.Hanging.{HangsOnEach}
 use Rattle.kl1_account.specs.Fitting.{Reading}
 use Rattle.kl1_account.specs.Account.{meaning, task_with}
 use Rattle.kl1_account.specs.Kept.{IsTaskIn}
-use Rattle.kl1_account.specs.Settled.{task_clause, awaited_by_task, HangsOnEach, IsSettled}
+use Rattle.kl1_account.specs.Settled.{task_clause, awaited_by_task, IsSettled}
 
 -- a number hangs on no variable of these
 abbrev pub HangsOnNone : List Hook → ℕ → List ℕ → Type 0

@@ -1,9 +1,9 @@
 -- A start that is put in place.
-use Rattle.std.proofs.Common.{◌≡◌, ℕ, zero, suc, ◌+◌, ◌-◌, ◌<◌, ◌≤◌, Bool, false, true, if◌then◌else◌, List, [], ◌∷◌, ◌++◌, length, map, IsTrue, refl, sym, ap, ◌∙◌, arith, subst, length-append, append_assoc, codes}
+use Rattle.std.proofs.Common.{◌≡◌, ℕ, suc, ◌+◌, ◌-◌, ◌<◌, ◌≤◌, Bool, false, true, if◌then◌else◌, List, [], ◌∷◌, ◌++◌, length, map, IsTrue, refl, sym, ap, ◌∙◌, arith, subst, length-append, append_assoc, codes}
 use Rattle.std.proofs.lemmas.List.{take_all}
 use Rattle.std.proofs.lemmas.List.Elements.{Contains-append_left, Contains-append_right}
 use Rattle.std.proofs.lemmas.Bool.{ltb-true, ltb-false, lt-leb, le-leb, le-ltb, lt-ltb}
-use Rattle.std.specs.Prelude.{Option, None, Contains, nat_lt}
+use Rattle.std.specs.Prelude.{Contains, nat_lt}
 use Rattle.kl1_model.specs.Module.{Module}
 use Rattle.kl1_model.specs.Term.{Term, variable, atom}
 use Rattle.kl1_model.specs.TermCode.{nodes_of}
@@ -18,7 +18,6 @@ use Rattle.kl1_text.specs.declared.cell_name.CellName.{CellName}
 use Rattle.kl1_atoms.specs.declared.known.Known.{Known}
 use Rattle.kl1_atoms.specs.Names.{AreNames}
 use Rattle.kl1_store.specs.declared.cell.Cell.{Cell}
-use Rattle.kl1_store.specs.declared.cell.Cell.TheVariants.{Variable}
 use Rattle.kl1_store.specs.Held.{Held, IsIn}
 use Rattle.kl1_store.specs.Hooks.{Hook}
 use Rattle.kl1_store.specs.Sound.{IsFormed, Grown}
@@ -34,17 +33,23 @@ use Rattle.kl1_goals.specs.declared.goal.Goal.{Goal}
 use Rattle.kl1_modules.specs.Numbered.{Numbered, AreRead}
 use Rattle.kl1_shoen.specs.declared.shoen.Shoen.{Shoen}
 use Rattle.kl1_modules.specs.Finding.{contents}
+use Rattle.kl1_moves.specs.Hanging.{HangsOnEach}
 use Rattle.kl1_account.specs.declared.opening.Opening.{Opening}
-use Rattle.kl1_account.specs.Fitting.{Reading, Fits, built}
-use Rattle.kl1_account.specs.Account.{Account, meaning, task_with, goal_with, shoen_with, state_with, state_of, texts_of}
+use Rattle.kl1_account.specs.declared.refusal.Refusal.{Refusal}
+use Rattle.kl1_account.specs.declared.refusal.Refusal.TheVariants.{Names, Journal}
+use Rattle.kl1_account.specs.declared.startable.Starting.{Starting}
+use Rattle.kl1_account.specs.declared.startable.Starting.TheVariants.{Refused, Coded}
+use Rattle.kl1_account.specs.Views.{refusal_of}
+use Rattle.kl1_account.specs.Fitting.{Reading, Fits}
+use Rattle.kl1_account.specs.Account.{Account, meaning, task_with, goal_with, shoen_with, state_of, texts_of}
 use Rattle.kl1_account.specs.Keeping.{IsKept}
 use Rattle.kl1_account.specs.Naming.{AreNumbersOf, AreSmall}
 use Rattle.kl1_account.specs.Kept.{IsTaskIn, AreGoalsIn, AreOwned, AreUpTo, IsShoenIn, AreShoensIn, AreNumbered}
-use Rattle.kl1_account.specs.Settled.{task_clause, awaited_by_task, HangsOnEach, IsSettled, AreSettled}
+use Rattle.kl1_account.specs.Settled.{task_clause, awaited_by_task, IsSettled, AreSettled}
 use Rattle.kl1_account.proofs.Goals.{goals_in_append, owned_append, up_to_append, up_to_more}
 use Rattle.kl1_account.proofs.SettledStays.{hung_more}
 use Rattle.kl1_match.specs.GoalCells.{AreGoalVariables}
-use Rattle.kl1_account.specs.Starting.{two_goals, shoen_opened, IsDrafted, IsPlaced, hooks_on}
+use Rattle.kl1_account.specs.Starting.{HasNames, IsStartable, StartsAs, two_goals, shoen_opened, IsDrafted, IsPlaced, hooks_on}
 use Rattle.kl1_account.proofs.States.{Agree, in_grown, goals_grown, shoens_grown}
 use Rattle.kl1_account.proofs.Beyond.{absent_beyond}
 use Rattle.kl1_account.proofs.Opened.{ReadsOpened, start_opens}
@@ -261,9 +266,6 @@ step_by : (s : State) (allowance low high : ℕ) (goal : Term) (b : Bool) → ma
     step s (start allowance low high goal) ≡ (if b then named s (with_names s.names (names_of goal)) (recorded s (done_by s allowance low high goal)) else refuse s syntax)
 step_by s allowance low high goal b e = ap (λ z. if z then named s (with_names s.names (names_of goal)) (recorded s (done_by s allowance low high goal)) else refuse s syntax) e
 
-pub step_syntax : (s : State) (allowance low high : ℕ) (goal : Term) → may_start allowance low high goal ≡ false → step s (start allowance low high goal) ≡ refuse s syntax
-step_syntax s allowance low high goal e = step_by s allowance low high goal false e
-
 pub step_names : (s : State) (allowance low high : ℕ) (goal : Term) (texts : List (List ℕ)) → may_start allowance low high goal ≡ true → texts ≡ with_names [] (names_of goal) → nat_lt most_names (length (with_texts s.names texts)) ≡ true → step s (start allowance low high goal) ≡ refuse s too_many_names
 step_names s allowance low high goal texts may is many =
     let lt = ltb-true most_names (length (with_texts s.names texts)) many in
@@ -288,13 +290,49 @@ step_done s allowance low high goal texts may is few lt =
     fits_names s allowance low high goal texts may is few
     ∙ ap (λ b. if b then done_by s allowance low high goal else refuse s journal_full) (lt-ltb s.entries most_entries lt)
 
+-- ---- a goal that is to be started
+
+same_names : (s : State) (names : List Known) (entries : ℕ) (goal : Term) (texts : List (List ℕ)) (b : Bool) → HasNames s names entries → nat_lt most_names (length (with_texts (texts_of names) texts)) ≡ b → nat_lt most_names (length (with_texts s.names texts)) ≡ b
+same_names s names entries goal texts b at e = ap (λ (ns : List (List ℕ)). nat_lt most_names (length (with_texts ns texts))) at.names_are ∙ e
+
+-- where its names are too many
+pub refused_crowd : (names : List Known) (entries allowance low high : ℕ) (goal code : Term) (texts : List (List ℕ)) → may_start allowance low high goal ≡ true → code ≡ goal → texts ≡ with_names [] (names_of code) → nat_lt most_names (length (with_texts (texts_of names) texts)) ≡ true →
+    StartsAs names entries allowance low high goal (Refused Names)
+refused_crowd names entries allowance low high goal code texts may same is many =
+    λ s at. step_names s allowance low high goal texts may (is ∙ ap (λ (x : Term). with_names [] (names_of x)) same) (same_names s names entries goal texts true at many)
+
+-- where the journal is full
+pub refused_full : (names : List Known) (entries allowance low high : ℕ) (goal code : Term) (texts : List (List ℕ)) → may_start allowance low high goal ≡ true → code ≡ goal → texts ≡ with_names [] (names_of code) → nat_lt most_names (length (with_texts (texts_of names) texts)) ≡ false → most_entries ≤ entries →
+    StartsAs names entries allowance low high goal (Refused Journal)
+refused_full names entries allowance low high goal code texts may same is few full =
+    λ s at. step_full s allowance low high goal texts may (is ∙ ap (λ (x : Term). with_names [] (names_of x)) same) (same_names s names entries goal texts false at few) (let e = at.entries_are in omega arith)
+
+-- where it may be started
+pub startable : (names : List Known) (entries allowance low high : ℕ) (goal code : Term) (texts : List (List ℕ)) → may_start allowance low high goal ≡ true → code ≡ goal → texts ≡ with_names [] (names_of code) → nat_lt most_names (length (with_texts (texts_of names) texts)) ≡ false → entries < most_entries →
+    StartsAs names entries allowance low high goal (Coded code)
+startable names entries allowance low high goal code texts may same is few room =
+    let N : List (List ℕ) → Type 0 = λ ts. nat_lt most_names (length (with_texts (texts_of names) ts)) ≡ false in
+    record { code_is = same; may = may; few = subst N (is ∙ ap (λ (x : Term). with_names [] (names_of x)) same) few; room = room }
+
+-- an account refuses a start as was found by its names and its entries
+pub refused_start : (a b : Account) (allowance low high : ℕ) (goal : Term) (o : Starting) (r : Refusal) → o ≡ Refused r → StartsAs a.names a.entries allowance low high goal o → a ≡ b → (f : Reading) → step (state_of f b) (start allowance low high goal) ≡ refuse (state_of f b) (refusal_of r)
+refused_start a b allowance low high goal o r e s view f =
+    let S : Starting → Type 0 = λ z. StartsAs a.names a.entries allowance low high goal z in
+    let P : Account → Type 0 = λ z. step (state_of f z) (start allowance low high goal) ≡ refuse (state_of f z) (refusal_of r) in
+    subst P view (subst S e s (state_of f a) (record { names_are = refl; entries_are = refl }))
+
+-- what is known of the code of a goal that may be started
+pub startable_of : (names : List Known) (entries allowance low high : ℕ) (goal code : Term) (o : Starting) → o ≡ Coded code → StartsAs names entries allowance low high goal o → IsStartable names entries allowance low high goal code
+startable_of names entries allowance low high goal code o e s = let S : Starting → Type 0 = λ z. StartsAs names entries allowance low high goal z in subst S e s
+
 -- the step of a start that is in place
-pub started_step : (a b : Account) (mid : Held CellName) (texts : List (List ℕ)) (row : List Instruction) (numbers : List CellName) (count : ℕ) (cells : List (Cell CellName)) (awaited : List ℕ) (o : Opening) (allowance low high : ℕ) (goal : Term) (hooks : List Hook) (known n : ℕ) → IsKept a hooks known →
-    IsStart a b mid texts row numbers count cells awaited o allowance low high goal → may_start allowance low high goal ≡ true → nat_lt most_names (length (with_texts (texts_of a.names) texts)) ≡ false → a.entries < most_entries → n ≡ suc (length a.shoens) →
+pub started_step : (a b : Account) (mid : Held CellName) (texts : List (List ℕ)) (row : List Instruction) (numbers : List CellName) (count : ℕ) (cells : List (Cell CellName)) (awaited : List ℕ) (o : Opening) (allowance low high : ℕ) (goal code : Term) (hooks : List Hook) (known n : ℕ) → IsKept a hooks known →
+    IsStart a b mid texts row numbers count cells awaited o allowance low high goal → IsStartable a.names a.entries allowance low high goal code → n ≡ suc (length a.shoens) →
     (f : Reading) → Fits b.names f → step (state_of f a) (start allowance low high goal) ≡ record { state = state_of f b; reply = opened n }
-started_step a b mid texts row numbers count cells awaited o allowance low high goal hooks known n k s may few room number f fits =
+started_step a b mid texts row numbers count cells awaited o allowance low high goal code hooks known n k s may number f fits =
     let R : State → ℕ → Stepped = λ z m. record { state = z; reply = opened m } in
-    step_done (state_of f a) allowance low high goal texts may s.texts_are few room
+    let N : List (List ℕ) → Type 0 = λ ts. nat_lt most_names (length (with_texts (texts_of a.names) ts)) ≡ false in
+    step_done (state_of f a) allowance low high goal texts may.may s.texts_are (subst N (sym s.texts_are) may.few) may.room
     ∙ ap (λ z. R z (suc (length a.shoens))) (started_state a b mid texts row numbers count cells awaited o allowance low high goal hooks known k s f fits)
     ∙ ap (R (state_of f b)) (sym number)
 

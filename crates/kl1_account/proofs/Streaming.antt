@@ -1,16 +1,14 @@
 -- The streams of a shoen that opens.
-use Rattle.std.proofs.Common.{◌≡◌, ℕ, suc, ◌+◌, ◌≤◌, List, [], ◌∷◌, length, codes, length-append, refl, sym, ap, ◌∙◌, arith, subst}
+use Rattle.std.proofs.Common.{◌≡◌, ℕ, suc, ◌+◌, [], ◌∷◌, length, codes, length-append, refl, sym, ap, ◌∙◌, arith, subst}
 use Rattle.kl1_model.specs.declared.built_in.BuiltIn.TheVariants.{ListCell, Started}
 use Rattle.kl1_model.specs.Term.{variable, atom, structure, none, more}
-use Rattle.kl1_model.specs.Meaning.{cell}
-use Rattle.kl1_text.specs.Reading.{Reads}
 use Rattle.kl1_text.specs.declared.cell_name.CellName.{CellName}
 use Rattle.kl1_store.specs.declared.cell.Cell.{Cell}
 use Rattle.kl1_store.specs.declared.cell.Cell.TheVariants.{Variable, Atom, Structure}
-use Rattle.kl1_store.specs.Held.{Shape, Held, IsIn, with_variable}
+use Rattle.kl1_store.specs.Held.{Shape, Held, with_variable}
 use Rattle.kl1_store.specs.Sound.{IsFormed, Grown}
 use Rattle.kl1_store.proofs.Growing.{IsFormed-variable}
-use Rattle.kl1_store.proofs.Grows.{Grown-variable, Grown-structure, Grown-trans}
+use Rattle.kl1_store.proofs.Grows.{Grown-variable, Grown-trans}
 use Rattle.kl1_store.proofs.Terms.{term_of-variable, term_of-structure, term_of-unbound, term_of-Atom}
 use Rattle.kl1_match.proofs.Places.{beyond_unbound}
 use Rattle.kl1_stream.proofs.Pairs.{with_pair, pair_means}

@@ -1,5 +1,5 @@
 -- Goals that were told of bindings are looked at again.
-use Rattle.std.proofs.Common.{◌≡◌, ℕ, ◌+◌, ◌<◌, List, [], ◌∷◌, length, drop, get_or, refl, sym, ap, ◌∙◌, arith, subst, drop-cons, add-one, Bool, true, false, if◌then◌else◌}
+use Rattle.std.proofs.Common.{◌≡◌, ℕ, ◌+◌, ◌<◌, List, [], ◌∷◌, length, drop, get_or, sym, ap, ◌∙◌, arith, subst, drop-cons, add-one, Bool, true, false, if◌then◌else◌}
 use Rattle.std.specs.Prelude.{Option, Some, None}
 use Rattle.std.specs.List.{find}
 use Rattle.std.proofs.lemmas.List.{drop_all}
@@ -12,15 +12,17 @@ use Rattle.kl1_goals.specs.declared.task.Task.TheVariants.{Monitor, Reduces}
 use Rattle.kl1_goals.specs.declared.goal.Goal.{Goal}
 use Rattle.kl1_goals.specs.Lists.{has_number}
 use Rattle.kl1_modules.specs.Numbered.{Numbered}
+use Rattle.kl1_moves.specs.Hanging.{AreAmong}
 use Rattle.kl1_account.specs.declared.draft.Change.{Change}
 use Rattle.kl1_account.specs.Fitting.{Reading}
 use Rattle.kl1_account.specs.Kept.{IsTaskIn, AreGoalsIn}
 use Rattle.kl1_account.specs.Works.{Knows}
 use Rattle.kl1_account.specs.Drafts.{restood}
-use Rattle.kl1_account.specs.Waking.{AreSettledOr, AreFor, AreAmong}
+use Rattle.kl1_account.specs.Waking.{AreSettledOr, AreFor}
 use Rattle.kl1_account.specs.Looking.{FindsOut, AreOthersOf, Wakes, WakesTold}
+use Rattle.kl1_account.proofs.GoalOrder.{same_goal}
 use Rattle.kl1_account.proofs.Waking.{one_settled, none_settled, all_settled}
-use Rattle.kl1_account.proofs.Hanging.{HasGrown-same, HasGrown-trans}
+use Rattle.kl1_moves.proofs.Hooked.{HasGrown-trans}
 use Rattle.kl1_account.proofs.Restood.{each_is, restood_keeps, restood_push}
 
 -- ---- one number
@@ -46,9 +48,6 @@ finds_same goals n found g e is same = e ∙ ap (λ m. find (has_number m) goals
 pub absent_wakes : (ms : List Numbered) (h : Held CellName) (hooks : List Hook) (goals : List (Goal CellName)) (removed n : ℕ) (changes : List Change) → None ≡ find (has_number n) goals → Wakes ms h hooks hooks goals removed n changes changes
 absent_wakes ms h hooks goals removed n changes e =
     none_wakes ms h hooks goals removed n changes (λ g other x t same. let k = finds_same goals n None g e other.0 same in absurd (cc))
-
-same_goal : (a b : Goal CellName) → Some a ≡ Some b → a ≡ b
-same_goal a b e = cc
 
 monitor_not : (t : Task CellName) (x : Cell CellName) → t ≡ Monitor → t ≡ Reduces x → ⊥
 monitor_not t x a b = absurd (cc)
@@ -93,10 +92,6 @@ pub record StillWakes (ms : List Numbered) (old new : Kept CellName) (goals : Li
   pub grown : HasGrown old new
   pub wakes : (f : Reading) → Knows ms f → (gs : List (Goal CellName)) → AreOthersOf goals removed gs →
       AreSettledOr told f old.hooks old.held ms (restood before gs) → AreSettledOr left f new.hooks old.held ms (restood after gs)
-
--- nothing was looked at yet
-pub none_woken : (ms : List Numbered) (k : Kept CellName) (goals : List (Goal CellName)) (removed : ℕ) (told : List ℕ) (changes : List Change) → StillWakes ms k k goals removed told told changes changes
-none_woken ms k goals removed told changes = record { held = refl; grown = HasGrown-same k; wakes = λ f knows gs others settled. settled }
 
 -- one more was looked at
 pub next_woken : (ms : List Numbered) (old mid new : Kept CellName) (goals : List (Goal CellName)) (removed : ℕ) (told : List ℕ) (i d : ℕ) (before now after : List Change) → i < length told →

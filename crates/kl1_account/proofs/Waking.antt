@@ -1,5 +1,5 @@
 -- Goals that are looked at again, one after another.
-use Rattle.std.proofs.Common.{◌≡◌, ℕ, suc, ◌==◌, true, false, if◌then◌else◌, Bool, List, [], ◌∷◌, ◌++◌, inl, inr, ◌||◌, map, refl, sym, ap, ◌∙◌, subst, ⊎_elim}
+use Rattle.std.proofs.Common.{◌≡◌, ℕ, true, false, if◌then◌else◌, Bool, List, [], ◌∷◌, inl, inr, ◌||◌, map, refl, sym, ap, ◌∙◌, subst, ⊎_elim}
 use Rattle.std.specs.Prelude.{Contains, filter}
 use Rattle.std.specs.List.{AllByRecursion}
 use Rattle.std.proofs.lemmas.Bool.{ne_eqb, eq-eqb, cases_eq}
@@ -15,13 +15,14 @@ use Rattle.kl1_goals.specs.declared.task.Task.TheVariants.{Monitor, Reduces}
 use Rattle.kl1_goals.specs.declared.goal.Goal.{Goal}
 use Rattle.kl1_modules.specs.Numbered.{Numbered}
 use Rattle.kl1_modules.specs.Finding.{contents}
+use Rattle.kl1_moves.specs.Hanging.{HangsOnEach, AreAmong}
 use Rattle.kl1_account.specs.declared.draft.Change.{Change}
 use Rattle.kl1_account.specs.Fitting.{Reading}
 use Rattle.kl1_account.specs.Account.{meaning, task_with}
 use Rattle.kl1_account.specs.Kept.{IsTaskIn, AreGoalsIn}
-use Rattle.kl1_account.specs.Drafts.{restood_by, goals_for}
-use Rattle.kl1_account.specs.Settled.{task_clause, awaited_by_task, HangsOnEach, IsSettled, AreSettled}
-use Rattle.kl1_account.specs.Waking.{IsPending, IsSettledOr, AreSettledOr, AreFor, AreAmong, is_among, IsFoundOut}
+use Rattle.kl1_account.specs.Drafts.{restood_by}
+use Rattle.kl1_account.specs.Settled.{task_clause, awaited_by_task, IsSettled, AreSettled}
+use Rattle.kl1_account.specs.Waking.{IsPending, IsSettledOr, AreSettledOr, AreFor, is_among, IsFoundOut}
 use Rattle.kl1_account.proofs.SettledStays.{HangsOnNone, stays_settled, settled_more}
 
 -- ---- one goal is looked at again
@@ -112,53 +113,6 @@ pub told_are_pending : (f : Reading) (hooks : List Hook) (old new : Held CellNam
 told_are_pending f hooks old new modules told [] formed grown i all s = tt
 told_are_pending f hooks old new modules told (g ∷ goals) formed grown i all s =
     (told_goal f hooks old new modules told g (is_among g.number told) refl formed grown i.0 all s.0, told_are_pending f hooks old new modules told goals formed grown i.1 all s.1)
-
--- ---- goals that are added are pending
-
--- so many numbers after the last
-abbrev pub numbers_from : ℕ → List (Cell CellName) → List ℕ
-numbers_from last [] = []
-numbers_from last (x ∷ xs) = suc last ∷ numbers_from (suc last) xs
-
-among_left : (n : ℕ) (ms ns : List ℕ) → is_among n ms ≡ true → is_among n (ms ++ ns) ≡ true
-among_left n [] ns e = absurd (cc)
-among_left n (m ∷ ms) ns e = by_first (n == m) e (among_left n ms ns)
-  where
-    by_first : (b : Bool) → (b || is_among n ms) ≡ true → (is_among n ms ≡ true → is_among n (ms ++ ns) ≡ true) → (b || is_among n (ms ++ ns)) ≡ true
-    by_first true e next = refl
-    by_first false e next = next e
-
-among_right : (n : ℕ) (ms ns : List ℕ) → is_among n ns ≡ true → is_among n (ms ++ ns) ≡ true
-among_right n [] ns e = e
-among_right n (m ∷ ms) ns e = by_first (n == m) (among_right n ms ns e)
-  where
-    by_first : (b : Bool) → is_among n (ms ++ ns) ≡ true → (b || is_among n (ms ++ ns)) ≡ true
-    by_first true e = refl
-    by_first false e = e
-
--- more numbers pending
-pub pending_more : (f : Reading) (hooks : List Hook) (h : Held CellName) (modules : List Numbered) (ms ns : List ℕ) (goals : List (Goal CellName)) → ((n : ℕ) → is_among n ms ≡ true → is_among n ns ≡ true) → AreSettledOr ms f hooks h modules goals → AreSettledOr ns f hooks h modules goals
-pending_more f hooks h modules ms ns [] up all = tt
-pending_more f hooks h modules ms ns (g ∷ goals) up all = (
-  ⊎_elim (λ (s : IsSettled f hooks h modules g). inl s) (λ (p : IsPending ms g). inr (record { among = up g.number p.among; cell = p.cell; task = p.task })) all.0,
-  pending_more f hooks h modules ms ns goals up all.1,
-)
-
--- goals for cells wait to be looked at
-pub added_pending : (f : Reading) (hooks : List Hook) (h : Held CellName) (modules : List Numbered) (last shoen priority : ℕ) (xs : List (Cell CellName)) → AreSettledOr (numbers_from last xs) f hooks h modules (goals_for last shoen priority xs)
-added_pending f hooks h modules last shoen priority [] = tt
-added_pending f hooks h modules last shoen priority (x ∷ xs) = (
-  inr (record { among = ap (λ b. b || is_among (suc last) (numbers_from (suc last) xs)) (eq-eqb (suc last) (suc last) refl); cell = x; task = refl }),
-  pending_more f hooks h modules (numbers_from (suc last) xs) (suc last ∷ numbers_from (suc last) xs) (goals_for (suc last) shoen priority xs) (λ n e. among_right n (suc last ∷ []) (numbers_from (suc last) xs) e) (added_pending f hooks h modules (suc last) shoen priority xs),
-)
-
--- two lists of goals together
-pub settled_or_append : (f : Reading) (hooks : List Hook) (h : Held CellName) (modules : List Numbered) (ms ns : List ℕ) (gs ks : List (Goal CellName)) → AreSettledOr ms f hooks h modules gs → AreSettledOr ns f hooks h modules ks → AreSettledOr (ms ++ ns) f hooks h modules (gs ++ ks)
-settled_or_append f hooks h modules ms ns [] ks a b = pending_more f hooks h modules ns (ms ++ ns) ks (λ n e. among_right n ms ns e) b
-settled_or_append f hooks h modules ms ns (g ∷ gs) ks a b = (
-  ⊎_elim (λ (s : IsSettled f hooks h modules g). inl s) (λ (p : IsPending ms g). inr (record { among = among_left g.number ms ns p.among; cell = p.cell; task = p.task })) a.0,
-  settled_or_append f hooks h modules ms ns gs ks a.1 b,
-)
 
 -- goals that stay are settled as before
 pub filter_settled_or : (f : Reading) (hooks : List Hook) (h : Held CellName) (modules : List Numbered) (ns : List ℕ) (p : Goal CellName → Bool) (gs : List (Goal CellName)) → AreSettledOr ns f hooks h modules gs → AreSettledOr ns f hooks h modules (filter p gs)

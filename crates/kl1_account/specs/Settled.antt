@@ -1,5 +1,5 @@
 -- Goals that stand as the clauses have it, and that hang on each variable that they wait for.
-use Rattle.std.specs.Prelude.{◌≡◌, ℕ, List, [], Option, None, Contains}
+use Rattle.std.specs.Prelude.{◌≡◌, ℕ, List, [], Option, None}
 use Rattle.std.specs.List.{AllByRecursion}
 use Rattle.kl1_model.specs.Module.{Module}
 use Rattle.kl1_model.specs.State as model
@@ -11,6 +11,7 @@ use Rattle.kl1_store.specs.Held.{Held}
 use Rattle.kl1_goals.specs.declared.goal.Goal.{Goal}
 use Rattle.kl1_modules.specs.Numbered.{Numbered}
 use Rattle.kl1_modules.specs.Finding.{contents}
+use Rattle.kl1_moves.specs.Hanging.{HangsOnEach}
 use Rattle.kl1_account.specs.Fitting.{Reading}
 use Rattle.kl1_account.specs.Account.{meaning, task_with}
 
@@ -23,10 +24,6 @@ task_clause modules (reduces t) = term_clause modules t
 abbrev pub awaited_by_task : List Module → model.Task → List ℕ
 awaited_by_task modules monitor = []
 awaited_by_task modules (reduces t) = awaited_by_term modules t
-
--- a number hangs on each of these variables
-abbrev pub HangsOnEach : List Hook → ℕ → List ℕ → Type 0
-HangsOnEach hooks n vs = AllByRecursion (λ v. Contains hooks (record { variable = v; number = n })) vs
 
 -- a goal stands as the clauses of the modules have it, and hangs on each variable that it waits for, for a reading
 pub record IsSettled (f : Reading) (hooks : List Hook) (h : Held CellName) (modules : List Numbered) (g : Goal CellName) : Type 0 where

@@ -1,10 +1,13 @@
 -- What a start makes of an account.
-use Rattle.std.specs.Prelude.{◌≡◌, ℕ, suc, ◌+◌, ◌-◌, false, List, [], ◌∷◌, ◌++◌, length, map, codes, Option, Some, None, IsTrue}
+use Rattle.std.specs.Prelude.{◌≡◌, ℕ, suc, ◌-◌, ◌<◌, nat_lt, true, false, List, [], ◌∷◌, ◌++◌, length, map, codes, Option, Some, None, IsTrue}
 use Rattle.kl1_model.specs.Term.{Term, variable, atom}
 use Rattle.kl1_model.specs.TermCode.{nodes_of}
 use Rattle.kl1_model.specs.Meaning.{cell, highest, is_numbered}
 use Rattle.kl1_model.specs.Limits.{monitor_priority}
-use Rattle.kl1_model.specs.Opening.{with_next_variables}
+use Rattle.kl1_model.specs.Opening.{may_start, with_next_variables}
+use Rattle.kl1_model.specs.State.{State, names_of, with_names}
+use Rattle.kl1_model.specs.Event.{start, refuse, most_entries, most_names}
+use Rattle.kl1_model.specs.Step.{step}
 use Rattle.kl1_text.specs.Reading.{Reads}
 use Rattle.kl1_text.specs.declared.cell_name.CellName.{CellName}
 use Rattle.kl1_atoms.specs.declared.known.Known.{Known}
@@ -15,6 +18,7 @@ use Rattle.kl1_store.specs.Held.{Held, IsIn}
 use Rattle.kl1_store.specs.Hooks.{Hook}
 use Rattle.kl1_clause.specs.declared.instruction.Instruction.{Instruction}
 use Rattle.kl1_clause.specs.Instructions.{IsRowOf}
+use Rattle.kl1_clause.specs.NameList.{with_texts}
 use Rattle.kl1_match.specs.Variables.{with_variables}
 use Rattle.kl1_match.specs.GoalCells.{AreGoalVariables, BuildsGoal}
 use Rattle.kl1_match.specs.Waiting.{AreUnbound}
@@ -25,12 +29,32 @@ use Rattle.kl1_shoen.specs.declared.life.Life.TheVariants.{Living}
 use Rattle.kl1_shoen.specs.declared.shoen.Shoen.{Shoen}
 use Rattle.kl1_modules.specs.Numbered.{Numbered, AreRead}
 use Rattle.kl1_modules.specs.Finding.{contents}
+use Rattle.kl1_account.specs.declared.startable.Starting.{Starting}
+use Rattle.kl1_account.specs.declared.startable.Starting.TheVariants.{Refused, Coded}
 use Rattle.kl1_account.specs.declared.opening.Streams.{Streams}
 use Rattle.kl1_account.specs.declared.opening.Opening.{Opening}
 use Rattle.kl1_account.specs.Fitting.{Reading, Fits, built}
-use Rattle.kl1_account.specs.Account.{meaning}
+use Rattle.kl1_account.specs.Account.{meaning, texts_of}
+use Rattle.kl1_account.specs.Views.{refusal_of}
 use Rattle.kl1_account.specs.Naming.{AreSmall}
 use Rattle.kl1_account.specs.Works.{Knows}
+
+-- a state with these names, and so many entries
+pub record HasNames (s : State) (names : List Known) (entries : ℕ) : Type 0 where
+  pub names_are : s.names ≡ texts_of names
+  pub entries_are : s.entries ≡ entries
+
+-- a goal may be started, and this is its code
+pub record IsStartable (names : List Known) (entries allowance low high : ℕ) (goal code : Term) : Type 0 where
+  pub code_is : code ≡ goal
+  pub may : may_start allowance low high goal ≡ true
+  pub few : nat_lt most_names (length (with_texts (texts_of names) (with_names [] (names_of goal)))) ≡ false
+  pub room : entries < most_entries
+
+-- what comes of a goal that is to be started
+abbrev pub StartsAs : List Known → ℕ → ℕ → ℕ → ℕ → Term → Starting → Type 0
+StartsAs names entries allowance low high goal (Refused r) = (s : State) → HasNames s names entries → step s (start allowance low high goal) ≡ refuse s (refusal_of r)
+StartsAs names entries allowance low high goal (Coded code) = IsStartable names entries allowance low high goal code
 
 -- the monitor of a shoen that opens, and its goal, with the numbers after the last
 abbrev pub two_goals : ℕ → ℕ → ℕ → Cell CellName → Option ℕ → List (Goal CellName)

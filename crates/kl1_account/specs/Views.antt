@@ -1,4 +1,5 @@
 -- What events, replies and choices are in the definitions.
+use Rattle.std.specs.Prelude.{Option, Some, None}
 use Rattle.kl1_model.specs.Event.{Stepped}
 use Rattle.kl1_model.specs.Event as model
 use Rattle.kl1_model.specs.Choice as model_choice
@@ -42,6 +43,11 @@ reply_of reply.Reduced = model.reduced
 reply_of (reply.Ran n) = model.ran n
 reply_of (reply.Shown text) = model.shown text.items
 reply_of (reply.Refused r) = model.refused (refusal_of r)
+
+-- the reply to a reduction that is refused for this reason, or done where there is none
+abbrev pub reduced_or : Option Refusal → model.Reply
+reduced_or None = model.reduced
+reduced_or (Some r) = model.refused (refusal_of r)
 
 -- a goal with the clause by which it steps
 abbrev pub chosen_of : (GoalNo × ClauseNo) → model_choice.Chosen

@@ -1,5 +1,5 @@
 -- Goals that are settled, and those that are yet to be looked at again.
-use Rattle.std.specs.Prelude.{◌≡◌, ℕ, ◌==◌, ◌||◌, Bool, true, false, ◌⊎◌, List, [], ◌∷◌, Contains}
+use Rattle.std.specs.Prelude.{◌≡◌, ℕ, ◌==◌, ◌||◌, Bool, true, false, ◌⊎◌, List, [], ◌∷◌}
 use Rattle.std.specs.List.{AllByRecursion}
 use Rattle.kl1_text.specs.declared.cell_name.CellName.{CellName}
 use Rattle.kl1_store.specs.declared.cell.Cell.{Cell}
@@ -8,12 +8,13 @@ use Rattle.kl1_store.specs.Held.{Held}
 use Rattle.kl1_goals.specs.declared.task.Task.TheVariants.{Reduces}
 use Rattle.kl1_goals.specs.declared.goal.Goal.{Goal}
 use Rattle.kl1_modules.specs.Numbered.{Numbered}
+use Rattle.kl1_moves.specs.Hanging.{HangsOnEach}
 use Rattle.kl1_account.specs.Fitting.{Reading}
 use Rattle.kl1_model.specs.State as model
 use Rattle.kl1_modules.specs.Finding.{contents}
 use Rattle.kl1_account.specs.declared.draft.Change.{Change}
 use Rattle.kl1_account.specs.Account.{meaning}
-use Rattle.kl1_account.specs.Settled.{task_clause, awaited_by_task, HangsOnEach, IsSettled}
+use Rattle.kl1_account.specs.Settled.{task_clause, awaited_by_task, IsSettled}
 
 -- whether a number is among others
 abbrev pub is_among : ℕ → List ℕ → Bool
@@ -37,10 +38,6 @@ AreSettledOr numbers f hooks h modules goals = AllByRecursion (IsSettledOr numbe
 -- the goals of a number are for this cell
 abbrev pub AreFor : ℕ → Cell CellName → List (Goal CellName) → Type 0
 AreFor n x goals = AllByRecursion (λ g. g.number ≡ n → g.task ≡ Reduces x) goals
-
--- each hook is among more
-abbrev pub AreAmong : List Hook → List Hook → Type 0
-AreAmong hooks more = (k : Hook) → Contains hooks k → Contains more k
 
 -- what was found of a cell's goal
 pub record IsFoundOut (f : Reading) (hooks : List Hook) (h : Held CellName) (modules : List Numbered) (x : Cell CellName) (c : Change) : Type 0 where

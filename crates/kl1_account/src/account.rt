@@ -8,7 +8,7 @@ ghost use Rattle.kl1_model.specs.Event.{load as load_event, start as start_event
 ghost use Rattle.kl1_account.specs.Fitting.{Reading, Fits};
 ghost use Rattle.kl1_account.specs.Account.{state_of};
 ghost use Rattle.kl1_account.specs.Naming.{Keeps};
-ghost use Rattle.kl1_account.specs.Views.{reply_of, chosen_of};
+ghost use Rattle.kl1_account.specs.Views.{reply_of, reduced_or, chosen_of};
 
 use crate::account_name::AccountName;
 use crate::draft::Draft;
@@ -21,13 +21,12 @@ use crate::printing::print_cell;
 use crate::reducing::draft_reduction;
 use crate::refusal::Refusal;
 use crate::reply::Reply;
-use crate::startable::may_start;
-use crate::starting::{are_too_many, next_goals, next_number, place, prepare_start};
+use crate::startable::{Starting, code_of};
+use crate::starting::{next_goals, next_number, place, prepare_start};
 use kl1_atoms::AtomSource;
-use kl1_clause::GoalCode;
 use kl1_goals::GoalTable;
 use kl1_match::Scratch;
-use kl1_model::limits::{MOST_ENTRIES, MOST_PRINTED_BYTES};
+use kl1_model::limits::MOST_PRINTED_BYTES;
 use kl1_modules::Modules;
 use kl1_moves::Trial;
 use kl1_shoen::ShoenTree;
@@ -50,6 +49,8 @@ pub struct Account {
     entries: u64,
     trial: Trial<CellName>,
     draft: Draft,
+    numbers: Vec<CellName>,
+    scratch: Scratch<CellName>,
     alloc: Global,
 }
 
@@ -88,6 +89,8 @@ impl Account {
             entries: 0,
             trial: Trial::new(alloc),
             draft: Draft::new(alloc),
+            numbers: Vec::new(alloc),
+            scratch: Scratch::new(alloc),
             alloc,
         })
     }
@@ -109,9 +112,9 @@ impl Account {
         !self.goals.is_any_ready()
     }
 
-    /// Reduces the goal of a number by the clause of a number.
-    pub fn reduce(&mut self, number: u64, clause: u64) -> Result<Reply, AllocError>
-        ensures step { IfOk result (λ reply. (f : Reading) → Fits self.old.names f → step (state_of f self.old) (reduce number clause) ≡ record { state = state_of f self.new; reply = reply_of reply }) }
+    /// Reduces the goal of a number by the clause of a number, or says why it is refused.
+    pub fn reduce(&mut self, number: u64, clause: u64) -> Result<Option<Refusal>, AllocError>
+        ensures step { IfOk result (λ refused. (f : Reading) → Fits self.old.names f → step (state_of f self.old) (reduce number clause) ≡ record { state = state_of f self.new; reply = reduced_or refused }) }
         ensures names { self.new.names ≡ self.old.names }
         ensures err { OnErr result (self.new ≡ self.old) }
     {
@@ -135,12 +138,12 @@ impl Account {
             }
         };
         if let Some(refusal) = refused {
-            return Ok(Reply::Refused(refusal));
+            return Ok(Some(refusal));
         }
         install(&mut self.goals, &mut self.shoens, &self.draft);
         self.last_goal = self.draft.last_goal + self.draft.cells.len() as u64;
         self.entries += 1;
-        Ok(Reply::Reduced)
+        Ok(None)
     }
 
     /// Loads a module from its source.
@@ -207,22 +210,23 @@ impl Account {
         ensures keeps { Keeps A.is_of A.place A.knows names.old names.new seat.old seat.new }
         ensures knows { A.knows seat.new ≡ self.new.names }
     {
-        if !may_start(self.alloc, allowance, low, high, goal)? {
-            return Ok(Reply::Refused(Refusal::Syntax));
-        }
-        let code = GoalCode::compile(self.alloc, goal)?;
-        let texts = code.names();
-        let row = code.row();
-        if are_too_many(&self.names, texts) {
-            return Ok(Reply::Refused(Refusal::Names));
-        }
-        if MOST_ENTRIES <= self.entries {
-            return Ok(Reply::Refused(Refusal::Journal));
-        }
         let last = next_goals(self.last_goal)?;
         let shoen = next_number(self.shoens.len())?;
-        let mut numbers = Vec::new(self.alloc);
-        let mut scratch = Scratch::new(self.alloc);
+        let code = match code_of(
+            self.alloc,
+            &self.names,
+            self.entries,
+            allowance,
+            low,
+            high,
+            goal,
+        )? {
+            Starting::Refused(refusal) => return Ok(Reply::Refused(refusal)),
+            Starting::Coded(code) => code,
+        };
+        let texts = code.names();
+        let row = code.row();
+        self.numbers.clear();
         let opening = prepare_start(
             &mut self.store,
             &mut self.goals,
@@ -232,18 +236,18 @@ impl Account {
             texts,
             row,
             goal.highest(),
-            &mut numbers,
-            &mut scratch,
+            &mut self.numbers,
+            &mut self.scratch,
             &mut self.trial,
         )?;
-        publish(names, seat, &mut self.names, texts, &mut numbers);
+        publish(names, seat, &mut self.names, texts, &mut self.numbers);
         place(
             &mut self.store,
             &mut self.goals,
             &mut self.shoens,
-            numbers.as_slice(),
+            self.numbers.as_slice(),
             row,
-            &mut scratch,
+            &mut self.scratch,
             self.trial.awaited.as_slice(),
             opening,
             shoen,

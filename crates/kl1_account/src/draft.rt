@@ -9,7 +9,7 @@ use std::alloc::Global;
 
 /// The clause by which the goal of a number can step from now on, or none.
 #[derive(Clone, Copy)]
-pub struct Change {
+pub(crate) struct Change {
     pub number: u64,
     pub standing: Option<u64>,
 }
@@ -19,7 +19,7 @@ pub struct Change {
 /// these cells come after the others, of the shoen, with this priority and the numbers after the last, each with its own of the
 /// clauses by which they can step. The numbers that were told of bindings are kept here while their goals are looked at.
 #[derive(Drop)]
-pub struct Draft {
+pub(crate) struct Draft {
     pub removed: u64,
     pub cells: Vec<Cell<CellName>>,
     pub priority: u64,
@@ -33,7 +33,7 @@ pub struct Draft {
 
 impl Draft {
     /// A draft that leaves all as it is.
-    pub fn new(alloc: Global) -> Self
+    pub(crate) fn new(alloc: Global) -> Self
         ensures cells { result.cells.items ≡ [] }
     {
         Draft {

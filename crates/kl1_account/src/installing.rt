@@ -5,6 +5,7 @@ ghost use Rattle.kl1_model.specs.Limits.{monitor_priority};
 ghost use Rattle.kl1_shoen.specs.Shoens.{exchanged};
 ghost use Rattle.kl1_account.specs.Kept.{AreUpTo};
 ghost use Rattle.kl1_account.specs.Drafts.{goals_standing, goals_after, restood};
+ghost use Rattle.kl1_account.specs.Reducing.{IsFitting};
 
 use crate::draft::{Change, Draft};
 use kl1_goals::{Goal, GoalTable, Task};
@@ -12,19 +13,13 @@ use kl1_shoen::ShoenTree;
 use kl1_store::Cell;
 use kl1_text::CellName;
 
-/// Puts a draft in place of what it leaves of the goals and the shoens. There has to be room for its goals, and a clause for each.
+/// Puts a draft in place of what it leaves of the goals and the shoens. It has to fit them.
 pub(crate) fn install(
     goals: &mut GoalTable<CellName>,
     shoens: &mut ShoenTree<CellName>,
     draft: &Draft,
 )
-    requires room { length draft.now.cells.items ≤ goals.old.room }
-    requires fits { draft.now.last_goal + length draft.now.cells.items < 2 ^ 64 }
-    requires standings { length draft.now.standings.items ≡ length draft.now.cells.items }
-    requires last { AreUpTo draft.now.last_goal goals.old.goals }
-    requires low { 0 < draft.now.shoen.number }
-    requires high { draft.now.shoen.number ≤ goals.old.shoens }
-    requires priority { draft.now.priority ≤ monitor_priority }
+    requires { IsFitting goals.old.goals goals.old.shoens goals.old.room draft.now }
     ensures goals { goals.new.goals ≡ goals_after goals.old.goals draft.now }
     ensures count { goals.new.shoens ≡ goals.old.shoens }
     ensures shoens { shoens.new.shoens ≡ exchanged draft.now.shoen shoens.old.shoens }
@@ -42,7 +37,7 @@ pub(crate) fn install(
         &draft.cells,
         &draft.standings,
     );
-    shoens.set(draft.shoen);
+    shoens.set(&draft.shoen);
 }
 
 /// Puts goals for cells, each with its own of the clauses by which they can step, after all others: of a shoen, with a priority and

@@ -29,12 +29,7 @@ mod top;
 
 pub use account::Account;
 pub use account_name::AccountName;
-pub use draft::{Change, Draft};
 pub use event::{Event, Query};
-pub use names::{AccountNames, draft_row, publish};
 pub use numbers::{ClauseNo, GoalNo, ShoenNo};
-pub use printing::print_cell;
 pub use refusal::Refusal;
 pub use reply::Reply;
-pub use reporting::{raise, unify};
-pub use settling::settle;

@@ -1,14 +1,11 @@
 // Modules that are loaded.
 
-ghost use Rattle.std.specs.Prelude.{◌≡◌, ◌≤◌, ◌<◌, false, [], ◌∷◌, ◌++◌, length, IfOk, OnOk, OnErr, vec_capacity, nat_lt};
-ghost use Rattle.kl1_model.specs.Limits.{most_names};
+ghost use Rattle.std.specs.Prelude.{◌≡◌, ◌≤◌, ◌<◌, false, [], ◌∷◌, ◌++◌, length, IfOk, OnOk, OnErr, vec_capacity};
 ghost use Rattle.kl1_atoms.specs.Names.{AreNames};
 ghost use Rattle.kl1_store.specs.Hooks.{HasGrown};
-ghost use Rattle.kl1_clause.specs.NameList.{with_texts, IsNameList};
 ghost use Rattle.kl1_modules.specs.Numbered.{AreRead, own_names, number_of};
 ghost use Rattle.kl1_modules.specs.Finding.{is_numbered};
 ghost use Rattle.kl1_account.specs.Fitting.{Reading, Fits};
-ghost use Rattle.kl1_account.specs.Account.{texts_of};
 ghost use Rattle.kl1_account.specs.Kept.{AreGoalsIn};
 ghost use Rattle.kl1_account.specs.Naming.{AreSmall, ReadsDraft};
 ghost use Rattle.kl1_account.specs.Drafts.{restood};
@@ -20,11 +17,11 @@ use crate::names::{AccountNames, draft_row};
 use crate::refusal::Refusal;
 use kl1_clause::{Code, CodeFault};
 use kl1_goals::GoalTable;
-use kl1_model::limits::{MOST_ENTRIES, MOST_NAMES, MOST_SOURCE_BYTES};
+use kl1_model::limits::{MOST_ENTRIES, MOST_SOURCE_BYTES};
 use kl1_modules::{Loaded, Modules};
 use kl1_moves::Trial;
 use kl1_store::Store;
-use kl1_text::{AtomText, CellName};
+use kl1_text::CellName;
 use std::alloc::{AllocError, Global};
 
 /// What comes of a source that is to be loaded: a refusal, or a module that is drafted. Those of its names that are new have
@@ -47,14 +44,6 @@ fn number_module(alloc: Global, names: &AccountNames, code: Code) -> Result<Load
     Loaded::new(alloc, code, row)
 }
 
-/// Whether an account would use too many names with these.
-fn are_too_many(names: &AccountNames, texts: &[AtomText]) -> bool
-    requires { IsNameList texts.now }
-    ensures { result ≡ nat_lt most_names (length (with_texts (texts_of names.now.names) texts.now)) }
-{
-    MOST_NAMES < names.len() || MOST_NAMES - names.len() < names.count_new(texts)
-}
-
 /// Why an account with these modules and names, whose journal has so many entries, refuses a drafted module; nothing where it
 /// may be loaded.
 fn refusal_of(
@@ -70,7 +59,7 @@ fn refusal_of(
     if modules.has(draft.number()) {
         return Some(Refusal::Exists);
     }
-    if are_too_many(names, draft.code().names()) {
+    if names.are_too_many(draft.code().names()) {
         return Some(Refusal::Names);
     }
     if entries >= MOST_ENTRIES {

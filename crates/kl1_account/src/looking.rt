@@ -1,26 +1,24 @@
 // Goals that are looked at again.
 
-ghost use Rattle.std.specs.Prelude.{◌≡◌, ◌+◌, ◌<◌, ◌^◌, [], length, Contains, IfOk, OnOk};
+ghost use Rattle.std.specs.Prelude.{◌≡◌, ◌+◌, ◌<◌, ◌^◌, [], length, IfOk, OnOk};
 ghost use Rattle.kl1_model.specs.Term.{Term};
 ghost use Rattle.kl1_text.specs.declared.cell_name.CellName.{CellName};
 ghost use Rattle.kl1_store.specs.Held.{Held, IsIn, AreIn};
 ghost use Rattle.kl1_store.specs.Hooks.{HasGrown};
 ghost use Rattle.kl1_clause.specs.Predicates.{AreSome};
-ghost use Rattle.kl1_match.specs.Waiting.{AreUnbound};
 ghost use Rattle.kl1_moves.specs.Kinds.{IsKind, KindIn};
 ghost use Rattle.kl1_moves.specs.Moves.{HasPredicate};
 ghost use Rattle.kl1_modules.specs.Finding.{contents};
 ghost use Rattle.kl1_account.specs.Fitting.{Reading};
 ghost use Rattle.kl1_account.specs.Kept.{AreGoalsIn};
 ghost use Rattle.kl1_account.specs.Works.{Knows};
-ghost use Rattle.kl1_account.specs.Settled.{HangsOnEach};
 ghost use Rattle.kl1_account.specs.Looking.{Serves, calls_same, StandsBy, StandsAt, FindsOut, Wakes, WakesTold, WakesAdded};
 
 use crate::draft::Change;
 use kl1_clause::Predicate;
 use kl1_goals::{GoalTable, Task};
 use kl1_modules::Modules;
-use kl1_moves::{Call, Kind, Trial, kind_of, or_none, standing_of};
+use kl1_moves::{Call, Kind, Trial, hang_on, kind_of, or_none, standing_of};
 use kl1_store::{Cell, Store};
 use kl1_text::CellName;
 use std::alloc::AllocError;
@@ -84,34 +82,9 @@ fn predicate_near<'a>(
     }
 }
 
-/// Hangs a number on a variable, but where it was hung on it last. Where memory is refused, nothing more hangs.
-fn hang_once(store: &mut Store<CellName>, variable: u32, number: u64) -> Result<(), AllocError>
-    requires { variable < store.old.held.variables }
-    ensures hangs { OnOk result (Contains store.new.hooks (record { variable = variable; number = number })) }
-    ensures held { store.new.held ≡ store.old.held }
-    ensures grown { HasGrown store.old store.new }
-{
-    if store.newest(variable) == Some(number) {
-        return Ok(());
-    }
-    store.hang(variable, number)
-}
-
-/// Hangs a number on each of these variables. Where memory is refused, it may hang on some of them.
-fn hang_on(store: &mut Store<CellName>, awaited: &[u32], number: u64) -> Result<(), AllocError>
-    requires { AreUnbound store.old.held awaited.now }
-    ensures hangs { OnOk result (HangsOnEach store.new.hooks number awaited.now) }
-    ensures held { store.new.held ≡ store.old.held }
-    ensures grown { HasGrown store.old store.new }
-{
-    for variable in awaited {
-        hang_once(store, *variable, number)?;
-    }
-    Ok(())
-}
-
 /// The clause by which the goal of a number, which is of a kind, can step by the clauses of its predicate, or none. The number is
 /// hung on each variable that the goal waits for then; where memory is refused, it may hang on some of them.
+#[inline(always)]
 pub(crate) fn hung_standing(
     store: &mut Store<CellName>,
     kind: Kind<CellName>,
@@ -131,6 +104,7 @@ pub(crate) fn hung_standing(
 }
 
 /// The same of the goal of a number, which is for a cell, where the predicate of goals of one kind is known.
+#[inline(always)]
 fn standing_at(
     store: &mut Store<CellName>,
     modules: &Modules,

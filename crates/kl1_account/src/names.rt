@@ -1,6 +1,6 @@
 // The names that an account uses, with their numbers.
 
-ghost use Rattle.std.specs.Prelude.{◌≡◌, ℕ, ◌+◌, ◌≤◌, ◌<◌, List, [], map, length, option_map, OnOk, IfOk, vec_len, vec_capacity};
+ghost use Rattle.std.specs.Prelude.{◌≡◌, ℕ, ◌+◌, ◌≤◌, ◌<◌, List, [], map, length, nat_lt, option_map, OnOk, IfOk, vec_len, vec_capacity};
 ghost use Rattle.kl1_model.specs.Limits.{most_names};
 ghost use Rattle.kl1_text.specs.declared.cell_name.CellName.{CellName};
 ghost use Rattle.kl1_atoms.specs.Names.{number_by, added, AreNames};
@@ -11,13 +11,14 @@ ghost use Rattle.kl1_account.specs.Naming.{AreSmall, ReadsDraft, AreNumbersOf, K
 
 use indexmap::IndexMap;
 use kl1_atoms::AtomSource;
+use kl1_model::limits::MOST_NAMES;
 use kl1_text::{AtomNo, AtomText, CellName, NameValue};
 use std::alloc::{AllocError, Global};
 use std::marker::Model;
 
 /// The names that an account uses besides the built-in ones, in order of first use, each with its number in the table of names.
 #[derive(Drop)]
-pub struct AccountNames {
+pub(crate) struct AccountNames {
     numbers: IndexMap<AtomText, AtomNo>,
 }
 
@@ -37,7 +38,7 @@ impl Model for AccountNames {
 
 impl AccountNames {
     /// No names.
-    pub fn new(alloc: Global) -> Self
+    pub(crate) fn new(alloc: Global) -> Self
         ensures { result.names ≡ [] }
     {
         AccountNames {
@@ -46,14 +47,14 @@ impl AccountNames {
     }
 
     /// How many there are.
-    pub fn len(&self) -> usize
+    pub(crate) fn len(&self) -> usize
         ensures { result ≡ length self.now.names }
     {
         self.numbers.len()
     }
 
     /// The number of a name that is used or built in.
-    pub fn number_of(&self, text: &AtomText) -> Option<CellName>
+    pub(crate) fn number_of(&self, text: &AtomText) -> Option<CellName>
         ensures { option_map (λ c. c.number) result ≡ number_by self.now.names text.now }
     {
         match text.built_in() {
@@ -66,7 +67,7 @@ impl AccountNames {
     }
 
     /// Makes room for so many names more. Where memory is refused, the names are as before.
-    pub fn reserve(&mut self, more: usize) -> Result<(), AllocError>
+    pub(crate) fn reserve(&mut self, more: usize) -> Result<(), AllocError>
         ensures ok { OnOk result (more ≤ self.new.room) }
         ensures names { self.new.names ≡ self.old.names }
         ensures room { self.old.room ≤ self.new.room }
@@ -75,7 +76,7 @@ impl AccountNames {
     }
 
     /// Takes in a name with its number, where it is new and there is room.
-    pub fn learn(&mut self, text: AtomText, number: AtomNo)
+    pub(crate) fn learn(&mut self, text: AtomText, number: AtomNo)
         requires { 0 < self.old.room }
         ensures names { self.new.names ≡ added self.old.names text number }
         ensures room { self.old.room ≤ self.new.room + 1 }
@@ -89,8 +90,19 @@ impl AccountNames {
         }
     }
 
+    /// Whether there would be too many with these.
+    pub(crate) fn are_too_many(&self, texts: &[AtomText]) -> bool
+        requires { IsNameList texts.now }
+        ensures { result ≡ nat_lt most_names (length (with_texts (texts_of self.now.names) texts.now)) }
+    {
+        match self.len().checked_add(self.count_new(texts)) {
+            None => true,
+            Some(count) => MOST_NAMES < count,
+        }
+    }
+
     /// How many of these names are new.
-    pub fn count_new(&self, texts: &[AtomText]) -> usize
+    pub(crate) fn count_new(&self, texts: &[AtomText]) -> usize
         requires { IsNameList texts.now }
         ensures { length (with_texts (texts_of self.now.names) texts.now) ≡ length self.now.names + result }
     {
@@ -105,7 +117,7 @@ impl AccountNames {
 }
 
 /// Puts a number for each name into an empty row: that of a name that is used, and a spare one for each that is new.
-pub fn draft_row(
+pub(crate) fn draft_row(
     names: &AccountNames,
     texts: &[AtomText],
     row: &mut Vec<CellName>,
@@ -139,7 +151,7 @@ fn next_spare(spare: u32) -> Result<u32, AllocError>
 
 /// Looks up each name in the table of names, and puts its number into an empty row and into the names of the account. It takes
 /// no memory.
-pub fn publish<A: AtomSource>(
+pub(crate) fn publish<A: AtomSource>(
     names: &mut A,
     seat: &mut A::Seat,
     known: &mut AccountNames,

@@ -110,7 +110,7 @@ fn node_of<A: AtomSource>(names: &mut A, seat: &mut A::Seat, top: Top) -> Node
 }
 
 /// The text of a cell's term, cut after so many bytes, with three dots where it is longer.
-pub fn print_cell<A: AtomSource>(
+pub(crate) fn print_cell<A: AtomSource>(
     alloc: Global,
     names: &mut A,
     seat: &mut A::Seat,

@@ -29,14 +29,14 @@ use kl1_text::CellName;
 use std::alloc::AllocError;
 
 /// Begins a draft that removes a goal of a shoen.
-fn begin(draft: &mut Draft, goal: Goal<CellName>, shoen: Shoen<CellName>, last_goal: u64)
-    ensures { IsBegun goal shoen last_goal draft.new }
+fn begin(draft: &mut Draft, goal: Goal<CellName>, shoen: &Shoen<CellName>, last_goal: u64)
+    ensures { IsBegun goal shoen.now last_goal draft.new }
 {
     draft.removed = goal.number;
     draft.cells.clear();
     draft.priority = goal.priority;
     draft.is_ending = false;
-    draft.shoen = shoen;
+    draft.shoen = *shoen;
     draft.last_goal = last_goal;
 }
 
@@ -170,7 +170,7 @@ pub(crate) fn draft_reduction(
     if entries >= MOST_ENTRIES {
         return Ok(Some(Refusal::Journal));
     }
-    let Some(shoen) = shoens.get(goal.shoen) else {
+    let Some(shoen) = shoens.lend(goal.shoen) else {
         unreachable!()
     };
     begin(draft, goal, shoen, last_goal);

@@ -47,7 +47,7 @@ pub(crate) fn report(
 }
 
 /// Reports that a goal of the shoen at work failed. Where memory is refused, the store may have grown.
-pub fn raise(
+pub(crate) fn raise(
     store: &mut Store<CellName>,
     draft: &mut Draft,
     goal: Cell<CellName>,
@@ -66,7 +66,7 @@ pub fn raise(
 }
 
 /// Unifies two terms for a goal of the shoen at work, or reports that it failed. Where memory is refused, the store may have grown.
-pub fn unify(
+pub(crate) fn unify(
     store: &mut Store<CellName>,
     draft: &mut Draft,
     goal: Cell<CellName>,

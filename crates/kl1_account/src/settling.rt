@@ -34,7 +34,7 @@ fn terminate(store: &mut Store<CellName>, draft: &mut Draft) -> Result<(), Alloc
 }
 
 /// Ends the shoen at work, if it lives and has no goal left. Where memory is refused, the store may have grown.
-pub fn settle(
+pub(crate) fn settle(
     store: &mut Store<CellName>,
     goals: &GoalTable<CellName>,
     draft: &mut Draft,

@@ -3,13 +3,24 @@
 ghost use Rattle.std.specs.Prelude.{◌≡◌, ◌++◌, ◌∷◌, [], codes, nat_lt, nat_le, ◌&&◌, decimal, IfOk, OnOk};
 ghost use Rattle.kl1_model.specs.Event.{is_range};
 ghost use Rattle.kl1_model.specs.Opening.{start_line, may_start};
+ghost use Rattle.kl1_account.specs.Starting.{StartsAs};
 
 use crate::limits::is_number;
+use crate::names::AccountNames;
+use crate::refusal::Refusal;
 use itoa::Buffer;
-use kl1_model::limits::{MOST_LINE_BYTES, MOST_PRIORITY};
+use kl1_clause::GoalCode;
+use kl1_model::limits::{MOST_ENTRIES, MOST_LINE_BYTES, MOST_PRIORITY};
 use kl1_read::is_goal;
 use kl1_term::{Term, put_whole};
 use std::alloc::{AllocError, Global};
+
+/// What comes of a goal that is to be started: a refusal, or its code.
+#[derive(Drop)]
+pub(crate) enum Starting {
+    Refused(Refusal),
+    Coded(GoalCode),
+}
 
 /// Whether priorities from one to another are a range.
 fn is_range(low: u64, high: u64) -> bool
@@ -47,7 +58,7 @@ fn put_start(
 }
 
 /// Whether a start has numbers in range, and a goal that can be written in a line of a journal and read back.
-pub(crate) fn may_start(
+fn may_start(
     alloc: Global,
     allowance: u64,
     low: u64,
@@ -65,4 +76,29 @@ pub(crate) fn may_start(
     let mut line = Vec::from_slice(alloc, b"start ")?;
     put_start(alloc, &mut line, allowance, low, high, goal)?;
     Ok(line.len() <= MOST_LINE_BYTES)
+}
+
+/// The code of a goal that is to be started in an account with these names, whose journal has so many entries, or why it is refused.
+pub(crate) fn code_of(
+    alloc: Global,
+    names: &AccountNames,
+    entries: u64,
+    allowance: u64,
+    low: u64,
+    high: u64,
+    goal: &Term,
+) -> Result<Starting, AllocError>
+    ensures { IfOk result (StartsAs names.now.names entries allowance low high goal.now) }
+{
+    if !may_start(alloc, allowance, low, high, goal)? {
+        return Ok(Starting::Refused(Refusal::Syntax));
+    }
+    let code = GoalCode::compile(alloc, goal)?;
+    if names.are_too_many(code.names()) {
+        return Ok(Starting::Refused(Refusal::Names));
+    }
+    if MOST_ENTRIES <= entries {
+        return Ok(Starting::Refused(Refusal::Journal));
+    }
+    Ok(Starting::Coded(code))
 }

@@ -1,7 +1,7 @@
 // Starts of goals: what may be refused, and what is put in place.
 
-ghost use Rattle.std.specs.Prelude.{◌≡◌, ◌+◌, ◌-◌, ◌<◌, ◌≤◌, ◌^◌, ◌++◌, ◌∷◌, ℕ, [], suc, length, map, IfOk, OnOk, OnErr, IsTrue, nat_lt, vec_capacity};
-ghost use Rattle.kl1_model.specs.Limits.{monitor_priority, most_names};
+ghost use Rattle.std.specs.Prelude.{◌≡◌, ◌+◌, ◌-◌, ◌<◌, ◌≤◌, ◌^◌, ◌++◌, ◌∷◌, ℕ, [], suc, length, map, IfOk, OnOk, OnErr, IsTrue, vec_capacity};
+ghost use Rattle.kl1_model.specs.Limits.{monitor_priority};
 ghost use Rattle.kl1_model.specs.Term.{Term};
 ghost use Rattle.kl1_model.specs.TermCode.{nodes_of};
 ghost use Rattle.kl1_model.specs.Meaning.{is_numbered, highest};
@@ -11,12 +11,11 @@ ghost use Rattle.kl1_store.specs.declared.cell.Cell.{Cell};
 ghost use Rattle.kl1_store.specs.Held.{AreIn, IsIn};
 ghost use Rattle.kl1_store.specs.Hooks.{HasGrown};
 ghost use Rattle.kl1_store.specs.Sound.{Grown, IsFormed};
-ghost use Rattle.kl1_clause.specs.NameList.{IsNameList, with_texts};
+ghost use Rattle.kl1_clause.specs.NameList.{IsNameList};
 ghost use Rattle.kl1_clause.specs.Instructions.{AreNamed};
 ghost use Rattle.kl1_match.specs.Built.{AreBelow};
 ghost use Rattle.kl1_match.specs.Waiting.{AreUnbound};
 ghost use Rattle.kl1_match.specs.GoalCells.{goal_variables, HasRoomForGoal, BuildsGoal};
-ghost use Rattle.kl1_account.specs.Account.{texts_of};
 ghost use Rattle.kl1_account.specs.Kept.{AreUpTo, AreOwned};
 ghost use Rattle.kl1_account.specs.Starting.{IsDrafted, IsPlaced, hooks_on};
 
@@ -27,24 +26,12 @@ use crate::placing::{hang_all, put_two};
 use kl1_clause::Instruction;
 use kl1_goals::GoalTable;
 use kl1_match::{Scratch, put_goal, reserve_goal};
-use kl1_model::limits::MOST_NAMES;
 use kl1_modules::Modules;
 use kl1_moves::Trial;
 use kl1_shoen::{Life, Origin, Shoen, ShoenTree};
 use kl1_store::Store;
 use kl1_text::{AtomText, CellName};
 use std::alloc::AllocError;
-
-/// Whether an account would use too many names with these.
-pub(crate) fn are_too_many(names: &AccountNames, texts: &[AtomText]) -> bool
-    requires { IsNameList texts.now }
-    ensures { result ≡ nat_lt most_names (length (with_texts (texts_of names.now.names) texts.now)) }
-{
-    match names.len().checked_add(names.count_new(texts)) {
-        None => true,
-        Some(count) => MOST_NAMES < count,
-    }
-}
 
 /// The number after one. Numbers of 64 bits that run out are refused as for want of memory.
 pub(crate) fn next_number(last: u64) -> Result<u64, AllocError>

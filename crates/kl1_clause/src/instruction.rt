@@ -9,5 +9,5 @@ pub enum Instruction {
     Variable(u64),
     Integer(i64),
     Atom(Name),
-    Structure(Name, usize),
+    Structure(Name, u32),
 }

@@ -6,5 +6,5 @@ use kl1_model::BuiltIn;
 #[derive(Clone, Copy)]
 pub enum Name {
     Language(BuiltIn),
-    Place(usize),
+    Place(u32),
 }

@@ -10,6 +10,9 @@ use kl1_text::AtomText;
 use std::alloc::{AllocError, Global};
 use std::marker::Model;
 
+/// How many names a code has at most.
+const MOST: usize = 0xffff_ffff;
+
 /// The names of a code that are not built in, each once, in order of first use.
 #[derive(Drop)]
 pub(crate) struct Names {
@@ -46,7 +49,8 @@ impl Names {
         self.texts.as_slice()
     }
 
-    /// A text as a name: one of the language, or its place, at the end where it is new.
+    /// A text as a name: one of the language, or its place, at the end where it is new. So many names that places would no more
+    /// fit 32 bits are refused as for want of memory.
     pub(crate) fn placed(&mut self, text: &AtomText) -> Result<Name, AllocError>
         ensures names { OnOk result (self.new ≡ with_text self.old text.now) }
         ensures placed { IfOk result (IsPlaced (length self.new)) }
@@ -56,7 +60,10 @@ impl Names {
         if let Some(built_in) = text.built_in() {
             return Ok(Name::Language(built_in));
         }
+        if self.texts.len() >= MOST {
+            return Err(AllocError);
+        }
         let (place, _is_new) = self.texts.insert_full(*text)?;
-        Ok(Name::Place(place))
+        Ok(Name::Place(place as u32))
     }
 }

@@ -81,6 +81,6 @@ fn text_of(texts: &[AtomText], name: Name) -> AtomText
 {
     match name {
         Name::Language(built_in) => AtomText::of_built_in(built_in),
-        Name::Place(place) => texts[place],
+        Name::Place(place) => texts[place as usize],
     }
 }

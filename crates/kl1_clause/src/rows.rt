@@ -89,8 +89,11 @@ fn instruction_of(names: &mut Names, node: &Node) -> Result<Instruction, AllocEr
             Ok(Instruction::Atom(name))
         }
         Node::Structure(name, count) => {
+            let Ok(count) = u32::try_from(*count) else {
+                return Err(AllocError);
+            };
             let name = names.placed(name)?;
-            Ok(Instruction::Structure(name, *count))
+            Ok(Instruction::Structure(name, count))
         }
     }
 }

@@ -61,6 +61,7 @@ impl<N: NameValue> GoalTable<N> {
     }
 
     /// Makes room for so many more goals and shoens: to put and to open these can't be refused then.
+    #[inline(always)]
     pub fn reserve(&mut self, goals: usize, shoens: usize) -> Result<(), AllocError>
         ensures room { OnOk result (goals ≤ self.new.room) }
         ensures shoen_room { OnOk result (shoens ≤ self.new.shoen_room) }
@@ -121,6 +122,7 @@ impl<N: NameValue> GoalTable<N> {
     }
 
     /// Puts a goal after all others.
+    #[inline(always)]
     pub fn put(&mut self, goal: Goal<N>)
         requires room { 0 < self.old.room }
         requires next { IsNext goal self.old.goals self.old.shoens }
@@ -140,6 +142,7 @@ impl<N: NameValue> GoalTable<N> {
     }
 
     /// Removes the goal of a number, where there is one.
+    #[inline(always)]
     pub fn remove(&mut self, number: u64)
         ensures goals { self.new.goals ≡ filter (is_other number) self.old.goals }
         ensures shoens { self.new.shoens ≡ self.old.shoens }

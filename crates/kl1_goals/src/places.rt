@@ -240,6 +240,7 @@ fn ends_empty<N: NameValue>(slots: &Vec<Slot<N>>) -> bool
 }
 
 /// Drops the empty places at the end.
+#[inline(always)]
 fn trim<N: NameValue>(slots: &mut Vec<Slot<N>>, empty: &mut usize, queue: &mut ReadyQueue)
     requires { AreSlots slots.old.items empty.old queue.old.ranks }
     ensures slots { AreSlots slots.new.items empty.new queue.new.ranks }
@@ -256,6 +257,7 @@ fn trim<N: NameValue>(slots: &mut Vec<Slot<N>>, empty: &mut usize, queue: &mut R
 }
 
 /// Drops the empty places at the end, and all of them where they are more than half.
+#[inline(always)]
 pub(crate) fn tidy<N: NameValue>(
     slots: &mut Vec<Slot<N>>,
     empty: &mut usize,

@@ -14,6 +14,7 @@ use Rattle.kl1_store.specs.declared.cell.Cell.{Cell}
 use Rattle.kl1_store.specs.declared.cell.Cell.TheVariants.{Variable, Integer, Atom, Structure}
 use Rattle.kl1_store.specs.Held.{Shape, Held, IsIn, IsWalked, shape_arguments, arguments_of}
 use Rattle.kl1_store.specs.Meaning.{term_of, terms_of}
+use Rattle.kl1_store.specs.Places.{all_arguments}
 use Rattle.kl1_store.specs.Sound.{IsFormed}
 use Rattle.kl1_store.proofs.Terms.{term_of-Integer, term_of-Atom, term_of-Structure, term_of-unbound}
 use Rattle.kl1_store.proofs.Meetings.{named, count_of-terms_of}
@@ -116,21 +117,12 @@ at_next (y ∷ xs) next zero x lt e = absurd (omega (arith, lt))
 at_next (y ∷ xs) zero (suc end) x lt e = ap (λ z. z ∷ take end xs) (some_same e)
 at_next (y ∷ xs) (suc next) (suc end) x lt e = at_next xs next end x (omega (arith, lt)) e
 
--- a structure with an argument is there
-pub is_there : {N : Type 0} (h : Held N) (s i : ℕ) → i < length (arguments_of h s) → s < length h.structures
-is_there {N = N} h s i lt = among h.structures s lt
-  where
-    among : (ss : List (Shape N)) (n : ℕ) → i < length (shape_arguments (slice_get ss n)) → n < length ss
-    among [] n less = absurd (omega (arith, less))
-    among (k ∷ ss) zero less = omega arith
-    among (k ∷ ss) (suc n) less = omega (arith, among ss n less)
-
 -- the next cell of a row is taken
-pub taken_next : {N : Type 0} (h : Held N) (span after : Span) (x : Cell N) → span.next < span.end → slice_get (arguments_of h span.structure) span.next ≡ Some x → after ≡ record span { next = span.next + 1 } →
+pub taken_next : {N : Type 0} (h : Held N) (span after : Span) (x : Cell N) → span.next < span.end → slice_get (all_arguments h) span.next ≡ Some x → after ≡ record span { next = span.next + 1 } →
     span_cells h span ≡ x ∷ span_cells h after
 taken_next h span after x lt at e =
     let one : suc span.next ≡ span.next + 1 = omega arith in
-    at_next (arguments_of h span.structure) span.next span.end x lt at ∙ ap (λ n. x ∷ drop n (take span.end (arguments_of h span.structure))) one
+    at_next (all_arguments h) span.next span.end x lt at ∙ ap (λ n. x ∷ drop n (take span.end (all_arguments h))) one
     ∙ ap (λ s. x ∷ span_cells h s) (sym e)
 
 cells_behind-append : {N : Type 0} (h : Held N) (ss : List Span) (s : Span) → cells_behind h (ss ++ s ∷ []) ≡ span_cells h s ++ cells_behind h ss
@@ -138,7 +130,7 @@ cells_behind-append h [] s = sym (append-nil (span_cells h s))
 cells_behind-append h (t ∷ ss) s = ap (λ l. l ++ span_cells h t) (cells_behind-append h ss s) ∙ append_assoc (span_cells h s) (cells_behind h ss) (span_cells h t)
 
 pub no_cells : {N : Type 0} (h : Held N) (span : Span) → IsSpan h span → span.end ≤ span.next → span_cells h span ≡ []
-no_cells h span within le = drop_all span.next (take span.end (arguments_of h span.structure)) (omega (arith, le, length-take-le span.end (arguments_of h span.structure) within))
+no_cells h span within le = drop_all span.next (take span.end (all_arguments h)) (omega (arith, le, length-take-le span.end (all_arguments h) within))
 
 -- where a row has no cell, the last one behind it goes before the others
 pub no_next : {N : Type 0} (h : Held N) (span outer : Span) (behind rest : List Span) → IsSpan h span → span.end ≤ span.next → behind ≡ rest ++ outer ∷ [] → cells_left h span behind ≡ cells_left h outer rest
@@ -147,7 +139,7 @@ no_next h span outer behind rest within le e =
 
 pub cells_there : {N : Type 0} (h : Held N) (span : Span) (behind : List Span) → IsSpan h span → span.next < span.end → cells_left h span behind ≡ [] → ⊥
 cells_there h span behind within lt e =
-    omega (arith, lt, ap length e, length-append (span_cells h span) (cells_behind h behind), length-drop span.next (take span.end (arguments_of h span.structure)), length-take-le span.end (arguments_of h span.structure) within)
+    omega (arith, lt, ap length e, length-append (span_cells h span) (cells_behind h behind), length-drop span.next (take span.end (all_arguments h)), length-take-le span.end (all_arguments h) within)
 
 pub AreSpans-push : {N : Type 0} (h : Held N) (ss : List Span) (s : Span) → AreSpans h ss → IsSpan h s → AreSpans h (ss ++ s ∷ [])
 AreSpans-push h [] s p q = (q, tt)
@@ -161,11 +153,10 @@ AreSpans-pop {N = N} h all ss s e p = let P : List Span → Type 0 = λ l. AreSp
     parts (t ∷ ts) q = let r = parts ts q.1 in ((q.0, r.0), r.1)
 
 -- all the arguments of a structure, before the cells that were left
-pub put_before : {N : Type 0} (h : Held N) (span inner : Span) (behind now : List Span) (s : ℕ) → inner ≡ record { structure = s; next = 0; end = length (arguments_of h s) } → now ≡ behind ++ span ∷ [] →
+pub put_before : {N : Type 0} (h : Held N) (span inner : Span) (behind now : List Span) (s : ℕ) → span_cells h inner ≡ arguments_of h s → now ≡ behind ++ span ∷ [] →
     cells_left h inner now ≡ arguments_of h s ++ cells_left h span behind
 put_before h span inner behind now s e is =
-    ap (λ i. span_cells h i ++ cells_behind h now) e
-    ∙ ap (λ l. l ++ cells_behind h now) (take_all (length (arguments_of h s)) (arguments_of h s) (omega arith))
+    ap (λ l. l ++ cells_behind h now) e
     ∙ ap (λ l. arguments_of h s ++ l) (ap (cells_behind h) is ∙ cells_behind-append h behind span)
 
 -- what a goal means that a cell stands for
@@ -176,12 +167,12 @@ pub no_arguments : {N : Type 0} (f : N → List ℕ) (h : Held N) (cells : List 
 unfolding terms_of
 no_arguments f h cells e = ap (λ l. terms_of f h l) e
 
-pub all_arguments : {N : Type 0} (f : N → List ℕ) (h : Held N) (goal x : Cell N) (s count : ℕ) → IsFormed h → IsIn h x → x ≡ Structure s → term_of f h x ≡ term_of f h goal →
-    count ≡ length (arguments_of h s) → terms_of f h (take count (arguments_of h s)) ≡ arguments_of_goal (term_of f h goal)
-all_arguments {N = N} f h goal x s count p inside e means counted =
+pub goal_arguments : {N : Type 0} (f : N → List ℕ) (h : Held N) (goal x : Cell N) (s : ℕ) (cells : List (Cell N)) → IsFormed h → IsIn h x → x ≡ Structure s → term_of f h x ≡ term_of f h goal →
+    cells ≡ arguments_of h s → terms_of f h cells ≡ arguments_of_goal (term_of f h goal)
+goal_arguments {N = N} f h goal x s cells p inside e means are =
     let I : Cell N → Type 0 = λ c. IsIn h c in
     let r = named h s (subst I e inside) in
-    ap (terms_of f h) (take_all count (arguments_of h s) (omega (arith, counted)))
+    ap (terms_of f h) are
     ∙ ap arguments_of_goal (sym (ap (term_of f h) e ∙ term_of-Structure f h s r.0 p r.1) ∙ means)
 
 -- ---- the outcomes of a structure as a pattern

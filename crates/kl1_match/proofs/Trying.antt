@@ -1,5 +1,5 @@
 -- What is left of a clause's patterns and of the rows of cells, and the places where they are kept.
-use Rattle.std.proofs.Common.{◌≡◌, ℕ, ◌+◌, ◌<◌, ◌≤◌, Bool, true, List, [], ◌∷◌, ◌++◌, length, map, take, drop, get_or, refl, sym, ap, ◌∙◌, subst}
+use Rattle.std.proofs.Common.{◌≡◌, ℕ, ◌+◌, ◌<◌, ◌≤◌, Bool, true, nat_eq, not, List, [], ◌∷◌, ◌++◌, length, map, take, drop, get_or, refl, sym, ap, ◌∙◌, subst}
 use Rattle.std.proofs.lemmas.List.{append-nil}
 use Rattle.kl1_model.specs.declared.built_in.BuiltIn.{BuiltIn}
 use Rattle.kl1_model.specs.Term.{Term, Terms, more}
@@ -20,6 +20,10 @@ use Rattle.kl1_match.specs.Matching.{with_place, MeetsFirst, Keeps}
 use Rattle.kl1_match.specs.Verdicts.{arguments_of_goal, IsTried, IsVerdict}
 use Rattle.kl1_match.specs.Waiting.{IsUnbound}
 use Rattle.kl1_match.proofs.Whole.{GivesAll, starts, goes_on, waits_there, clash_there, terms_wanted, patterns_wanted, accepted, suspended, dropped, accepts_as, suspends_as}
+
+-- whether a function's parameter says that places are kept
+abbrev pub keeps_of : ℕ → Bool
+keeps_of k = not (nat_eq k 0)
 
 -- what is left gives the answer of all, with the places where they are kept
 abbrev pub GivesKept : {N : Type 0} → (BuiltIn → N) → List N → CompiledClause → Held N → Cell N → ℕ → Bool → List (Cell N) → List (Place N) → List ℕ → List ℕ → Type 0

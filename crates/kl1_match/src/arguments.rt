@@ -1,7 +1,7 @@
 // The cells that are still to be matched, in order: what is left of the arguments of structures within one another.
 
-ghost use Rattle.std.specs.Prelude.{◌≡◌, ◌<◌, ℕ, List, [], ◌∷◌, ◌≤◌, IsTrue, false, vec_len, vec_capacity};
-ghost use Rattle.kl1_store.specs.Held.{IsIn};
+ghost use Rattle.std.specs.Prelude.{◌≡◌, ◌<◌, ℕ, List, [], ◌∷◌, ◌≤◌, IsTrue, false, length, vec_len, vec_capacity};
+ghost use Rattle.kl1_store.specs.Held.{IsIn, arguments_of};
 ghost use Rattle.kl1_store.specs.Meaning.{term_of, terms_of};
 ghost use Rattle.kl1_match.specs.Verdicts.{arguments_of_goal};
 ghost use Rattle.kl1_match.specs.Spans.{span_cells, cells_left, IsSpan, AreSpans};
@@ -9,6 +9,20 @@ ghost use Rattle.kl1_match.specs.Spans.{span_cells, cells_left, IsSpan, AreSpans
 use crate::span::Span;
 use kl1_store::{Cell, Store};
 use kl1_text::NameValue;
+
+/// The arguments of a structure.
+#[inline]
+pub(crate) fn span_in<N: NameValue>(store: &Store<N>, structure: u32) -> Span
+    requires { structure < length store.now.held.structures }
+    ensures within { IsSpan store.now.held result }
+    ensures cells { span_cells store.now.held result ≡ arguments_of store.now.held structure }
+{
+    let next = store.first_argument(structure);
+    Span {
+        next,
+        end: next + store.look(structure).count,
+    }
+}
 
 /// The arguments of a goal; one that is no structure has none.
 #[inline]
@@ -19,26 +33,10 @@ pub(crate) fn span_of<N: NameValue>(store: &Store<N>, goal: Cell<N>) -> Span
 {
     let _ = store.mark();
     match store.walk(goal) {
-        Cell::Variable(_) => Span {
-            structure: 0,
-            next: 0,
-            end: 0,
-        },
-        Cell::Integer(_) => Span {
-            structure: 0,
-            next: 0,
-            end: 0,
-        },
-        Cell::Atom(_) => Span {
-            structure: 0,
-            next: 0,
-            end: 0,
-        },
-        Cell::Structure(structure) => Span {
-            structure,
-            next: 0,
-            end: store.look(structure).count,
-        },
+        Cell::Variable(_) => Span { next: 0, end: 0 },
+        Cell::Integer(_) => Span { next: 0, end: 0 },
+        Cell::Atom(_) => Span { next: 0, end: 0 },
+        Cell::Structure(structure) => span_in(store, structure),
     }
 }
 
@@ -77,8 +75,7 @@ pub(crate) fn take_cell<N: NameValue>(store: &Store<N>, span: &mut Span) -> Cell
     ensures cells { span_cells store.now.held span.old ≡ result ∷ span_cells store.now.held span.new }
     ensures inside { IsIn store.now.held result }
 {
-    let _ = store.mark();
-    let index = span.next;
-    span.next = index + 1;
-    store.argument(span.structure, index)
+    let place = span.next;
+    span.next = place + 1;
+    store.argument_at(place)
 }

@@ -23,6 +23,7 @@ fn nth(clauses: &[CompiledClause], place: usize) -> &CompiledClause
 /// The least number of a clause that accepts a goal, from 1, or 0 where each rejects it or there is none, or nothing where
 /// none accepts and some wait. `awaited` gets the variables that the clauses before the one that accepts wait for behind its
 /// own. Where memory is refused, nothing is said of what it got.
+#[inline(always)]
 pub fn choose<N: NameValue>(
     store: &Store<N>,
     names: &[N],
@@ -41,7 +42,7 @@ pub fn choose<N: NameValue>(
     let mut tried: usize = 0;
     while tried < clauses.len() {
         let clause = nth(clauses, tried);
-        match judge(store, names, clause, goal, false, behind, places, awaited)? {
+        match judge::<_, false>(store, names, clause, goal, behind, places, awaited)? {
             Verdict::Accepts => return Ok(Some(tried as u64 + 1)),
             Verdict::Rejects => tried += 1,
             Verdict::Suspends => {

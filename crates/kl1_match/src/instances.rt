@@ -39,7 +39,9 @@ fn step_in<N: NameValue>(names: &[N], instruction: Instruction) -> Step<N>
         Instruction::Variable(number) => Step::Variable(number),
         Instruction::Integer(number) => Step::Integer(number),
         Instruction::Atom(name) => Step::Atom(name_at(names, name)),
-        Instruction::Structure(name, count) => Step::Structure(name_at(names, name), count),
+        Instruction::Structure(name, count) => {
+            Step::Structure(name_at(names, name), count as usize)
+        }
     }
 }
 

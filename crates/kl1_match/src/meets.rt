@@ -6,7 +6,7 @@ ghost use Rattle.kl1_clause.specs.Instructions.{IsNamed};
 ghost use Rattle.kl1_match.specs.Spans.{cells_left, IsSpan, AreSpans};
 ghost use Rattle.kl1_match.specs.Matching.{WaitsAt, MetUnbound, IntegerMeets, AtomMeets, StructureMeets, MeetsFirst};
 
-use crate::arguments::take_cell;
+use crate::arguments::{span_in, take_cell};
 use crate::met::Met;
 use crate::name_in::name_at;
 use crate::place::Place;
@@ -61,7 +61,7 @@ fn meet_atom<N: NameValue>(store: &Store<N>, name: N, cell: Cell<N>) -> Met
 fn meet_structure<N: NameValue>(
     store: &Store<N>,
     name: N,
-    count: usize,
+    count: u32,
     cell: Cell<N>,
     span: &mut Span,
     behind: &mut Vec<Span>,
@@ -85,18 +85,14 @@ fn meet_structure<N: NameValue>(
         Cell::Atom(_) => Met::Clashes,
         Cell::Structure(structure) => {
             let head = store.look(structure);
-            if head.count as usize != count {
+            if head.count != count {
                 return Met::Clashes;
             }
             if !name.same(&head.name) {
                 return Met::Clashes;
             }
             behind.push_reserved(*span);
-            *span = Span {
-                structure,
-                next: 0,
-                end: head.count,
-            };
+            *span = span_in(store, structure);
             Met::Agrees
         }
     }
@@ -106,11 +102,10 @@ fn meet_structure<N: NameValue>(
 /// a structure's arguments are to be matched next, before what was left, and a variable of the pattern takes the cell as its
 /// place. There is room behind, and where places are kept in these.
 #[inline]
-pub(crate) fn meet<N: NameValue>(
+pub(crate) fn meet<N: NameValue, const KEEP: bool>(
     store: &Store<N>,
     names: &[N],
     instruction: Instruction,
-    keep: bool,
     span: &mut Span,
     behind: &mut Vec<Span>,
     places: &mut Vec<Place<N>>,
@@ -120,8 +115,8 @@ pub(crate) fn meet<N: NameValue>(
     requires some { span.old.next < span.old.end }
     requires behind { AreSpans store.now.held behind.old.items }
     requires behind_room { vec_len behind.old < vec_capacity behind.old }
-    requires room { IsTrue keep → vec_len places.old < vec_capacity places.old }
-    ensures meets { MeetsFirst N.built store.now.held names.now instruction keep (cells_left store.now.held span.old behind.old.items) (cells_left store.now.held span.new behind.new.items) places.old.items places.new.items result }
+    requires room { IsTrue KEEP → vec_len places.old < vec_capacity places.old }
+    ensures meets { MeetsFirst N.built store.now.held names.now instruction KEEP (cells_left store.now.held span.old behind.old.items) (cells_left store.now.held span.new behind.new.items) places.old.items places.new.items result }
     ensures span { IsSpan store.now.held span.new }
     ensures behind { AreSpans store.now.held behind.new.items }
     ensures unbound { MetUnbound store.now.held result }
@@ -133,7 +128,7 @@ pub(crate) fn meet<N: NameValue>(
     match instruction {
         Instruction::Variable(variable) => {
             let cell = take_cell(store, span);
-            if keep {
+            if KEEP {
                 places.push_reserved(Place { variable, cell });
                 return Met::Agrees;
             }

@@ -14,6 +14,6 @@ pub fn name_at<N: NameValue>(names: &[N], name: Name) -> N
 {
     match name {
         Name::Language(built_in) => N::of(built_in),
-        Name::Place(place) => names[place],
+        Name::Place(place) => names[place as usize],
     }
 }

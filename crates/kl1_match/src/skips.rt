@@ -16,7 +16,7 @@ pub(crate) fn arguments_of(instruction: Instruction) -> usize
         Instruction::Variable(_) => 0,
         Instruction::Integer(_) => 0,
         Instruction::Atom(_) => 0,
-        Instruction::Structure(_, count) => count,
+        Instruction::Structure(_, count) => count as usize,
     }
 }
 

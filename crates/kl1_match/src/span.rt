@@ -1,9 +1,8 @@
-// Arguments of a structure that stand in a row.
+// Arguments of structures that stand in a row.
 
-/// The arguments of a structure from `next` on and before `end`, both counted from 0.
+/// Arguments by their places among those of all structures of a store, from 0: those from `next` on and before `end`.
 #[derive(Clone, Copy)]
 pub(crate) struct Span {
-    pub structure: u32,
     pub next: u32,
     pub end: u32,
 }

@@ -36,35 +36,33 @@ pub fn verdict_on<N: NameValue>(
     requires goal { IsIn store.now.held goal }
     ensures { IfOk result (IsVerdict N.built names.now clause.now store.now.held goal places.new.items awaited.old.items awaited.new.items) }
 {
-    judge(
+    judge::<_, true>(
         store,
         names,
         clause,
         goal,
-        true,
         &mut scratch.spans,
         places,
         awaited,
     )
 }
 
-/// The same, over a list of spans in place of scratch; where `keep` is false, nothing is put in `places`.
-pub(crate) fn judge<N: NameValue>(
+/// The same, over a list of spans in place of scratch; where nothing is to be kept, nothing is put in `places`.
+pub(crate) fn judge<N: NameValue, const KEEP: bool>(
     store: &Store<N>,
     names: &[N],
     clause: &CompiledClause,
     goal: Cell<N>,
-    keep: bool,
     behind: &mut Vec<Span>,
     places: &mut Vec<Place<N>>,
     awaited: &mut Vec<u32>,
 ) -> Result<Verdict, AllocError>
     requires clause { IsClause names.now clause.now }
     requires goal { IsIn store.now.held goal }
-    ensures { IfOk result (λ v. Keeps keep places.new.items (λ ps. IsVerdict N.built names.now clause.now store.now.held goal ps awaited.old.items awaited.new.items v)) }
+    ensures { IfOk result (λ v. Keeps KEEP places.new.items (λ ps. IsVerdict N.built names.now clause.now store.now.held goal ps awaited.old.items awaited.new.items v)) }
 {
     let before = awaited.len();
-    match find_verdict(store, names, clause, goal, keep, behind, places, awaited)? {
+    match find_verdict::<_, KEEP>(store, names, clause, goal, behind, places, awaited)? {
         Verdict::Accepts => Ok(Verdict::Accepts),
         Verdict::Suspends => Ok(Verdict::Suspends),
         Verdict::Rejects => {
@@ -76,39 +74,37 @@ pub(crate) fn judge<N: NameValue>(
 
 /// Empties places, and makes room for so many where they are kept.
 #[inline]
-fn clear_places<N: NameValue>(
-    keep: bool,
+fn clear_places<N: NameValue, const KEEP: bool>(
     places: &mut Vec<Place<N>>,
     count: usize,
 ) -> Result<(), AllocError>
     ensures empty { places.new.items ≡ [] }
-    ensures room { OnOk result (IsTrue keep → count ≤ vec_capacity places.new) }
+    ensures room { OnOk result (IsTrue KEEP → count ≤ vec_capacity places.new) }
 {
     places.clear();
-    if keep {
+    if KEEP {
         return places.reserve(count);
     }
     Ok(())
 }
 
 /// The verdict of a clause on a goal. `awaited` gets the variables that its patterns wait for, also where a later one clashes.
-fn find_verdict<N: NameValue>(
+fn find_verdict<N: NameValue, const KEEP: bool>(
     store: &Store<N>,
     names: &[N],
     clause: &CompiledClause,
     goal: Cell<N>,
-    keep: bool,
     behind: &mut Vec<Span>,
     places: &mut Vec<Place<N>>,
     awaited: &mut Vec<u32>,
 ) -> Result<Verdict, AllocError>
     requires clause { IsClause names.now clause.now }
     requires goal { IsIn store.now.held goal }
-    ensures { IfOk result (λ v. Keeps keep places.new.items (λ ps. IsTried N.built names.now clause.now store.now.held goal ps awaited.old.items awaited.new.items v)) }
+    ensures { IfOk result (λ v. Keeps KEEP places.new.items (λ ps. IsTried N.built names.now clause.now store.now.held goal ps awaited.old.items awaited.new.items v)) }
 {
     let before = awaited.len();
     let row = clause.patterns.as_slice();
-    clear_places(keep, places, row.len())?;
+    clear_places::<_, KEEP>(places, row.len())?;
     behind.clear();
     behind.reserve(row.len())?;
     let mut span = span_of(store, goal);
@@ -117,7 +113,7 @@ fn find_verdict<N: NameValue>(
         if !is_left(store, &mut span, behind) {
             return Ok(Verdict::Rejects);
         }
-        match meet(store, names, row[at], keep, &mut span, behind, places) {
+        match meet::<_, KEEP>(store, names, row[at], &mut span, behind, places) {
             Met::Agrees => at += 1,
             Met::Waits(variable) => {
                 awaited.push(variable)?;

@@ -31,7 +31,7 @@ fn number_in(row: &[CellName], name: Name) -> CellName
 {
     match name {
         Name::Language(built_in) => CellName::of(built_in),
-        Name::Place(place) => row[place],
+        Name::Place(place) => row[place as usize],
     }
 }
 

@@ -73,6 +73,7 @@ impl Modules {
     }
 
     /// The clauses of the predicate of this name and so many arguments in a module, or nothing where there is none.
+    #[inline(always)]
     pub fn find(
         &self,
         module_name: CellName,
@@ -128,6 +129,7 @@ impl Modules {
 }
 
 /// The module under a number, or nothing where there is none.
+#[inline(always)]
 fn loaded_under(modules: &IndexMap<u64, Loaded>, number: u64) -> Option<&Loaded>
     ensures { option_copied result ≡ get nat_eq modules.now number }
 {

@@ -2,3 +2,4 @@ pub mod Tops
 pub mod Callees
 pub mod Candidates
 pub mod Taking
+pub mod Hooked

@@ -4,3 +4,4 @@ pub mod Kinds
 pub mod Moves
 pub mod Standing
 pub mod Bodies
+pub mod Hanging

@@ -18,6 +18,7 @@ pub(crate) enum Callee<N> {
 }
 
 /// The call of what a cell is, in the module of a name.
+#[inline(always)]
 fn called_in<N: NameValue>(store: &Store<N>, module_name: N, goal: Cell<N>) -> Callee<N>
     requires { IsIn store.now.held goal }
     ensures inside { CalledInside store.now.held result }
@@ -46,6 +47,7 @@ fn called_in<N: NameValue>(store: &Store<N>, module_name: N, goal: Cell<N>) -> C
 }
 
 /// The call of what a cell is, in the module of what another is.
+#[inline(always)]
 pub(crate) fn called<N: NameValue>(store: &Store<N>, left: Cell<N>, right: Cell<N>) -> Callee<N>
     requires left_in { IsIn store.now.held left }
     requires right_in { IsIn store.now.held right }

@@ -27,6 +27,7 @@ pub enum Kind<N> {
 }
 
 /// What kind of goal a cell is. The variable of one that waits is unbound.
+#[inline(always)]
 pub fn kind_of<N: NameValue>(store: &Store<N>, goal: Cell<N>) -> Kind<N>
     requires { IsIn store.now.held goal }
     ensures inside { KindIn store.now.held result }
@@ -46,6 +47,7 @@ pub fn kind_of<N: NameValue>(store: &Store<N>, goal: Cell<N>) -> Kind<N>
 }
 
 /// What kind of goal a structure of two arguments is.
+#[inline(always)]
 fn kind_of_two<N: NameValue>(store: &Store<N>, name: N, left: Cell<N>, right: Cell<N>) -> Kind<N>
     requires left_in { IsIn store.now.held left }
     requires right_in { IsIn store.now.held right }

@@ -4,6 +4,7 @@
 mod call;
 mod calling;
 mod committing;
+mod hanging;
 mod kind;
 mod moves;
 mod naming;
@@ -14,6 +15,7 @@ mod trial;
 
 pub use call::Call;
 pub use committing::commit;
+pub use hanging::hang_on;
 pub use kind::{Kind, kind_of};
 pub use moves::{Move, move_of};
 pub use predicates::or_none;

@@ -18,6 +18,7 @@ pub(crate) enum Shape<N> {
 }
 
 /// What stands at the top of the goal of a cell.
+#[inline(always)]
 pub(crate) fn shape_of<N: NameValue>(store: &Store<N>, goal: Cell<N>) -> Shape<N>
     requires { IsIn store.now.held goal }
     ensures inside { ShapeIn store.now.held result }

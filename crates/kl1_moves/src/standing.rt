@@ -20,6 +20,7 @@ use std::alloc::AllocError;
 
 /// The least clause by which a goal of a kind can step, or nothing where it has to wait or is no goal. The trial gets the
 /// variables that it waits for; they are unbound.
+#[inline(always)]
 pub fn standing_of<N: NameValue>(
     store: &Store<N>,
     kind: Kind<N>,

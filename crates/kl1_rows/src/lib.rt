@@ -1,13 +1,15 @@
-//! Rows of tests: lines of an act and the answer that is wanted, in groups, and the report of which groups are right.
+//! Rows of tests: lines of an act and the answer that is wanted, in groups, and the report of which groups are right; and times.
 #![tactic(auto)]
 
 mod decoding;
 mod groups;
 mod pieces;
 mod text;
+mod times;
 mod tried;
 
 pub use groups::put_report;
 pub use pieces::{cut, is_counted, is_joined, number_of, small_number_of};
 pub use text::Text;
+pub use times::{hundredths, moment, nanoseconds_since};
 pub use tried::Tried;

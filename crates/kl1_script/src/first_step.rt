@@ -3,12 +3,12 @@
 ghost use Rattle.kl1_account.specs.Fitting.{Reading, Fits};
 ghost use Rattle.kl1_account.specs.Account.{state_of};
 ghost use Rattle.kl1_account.specs.Naming.{Grows};
-ghost use Rattle.kl1_account.specs.Views.{reply_of};
+ghost use Rattle.kl1_account.specs.Views.{reduced_or};
 ghost use Rattle.kl1_script.specs.Performing.{IsFirstStep, IsStepUntouched, IsTold};
 
 use crate::served::Served;
 use kl1_atoms::AtomSource;
-use kl1_user::{Event, Refusal, Reply};
+use kl1_user::Refusal;
 
 /// What became of the first goal that can step.
 pub(crate) enum FirstStep {
@@ -31,23 +31,18 @@ pub(crate) fn reduce_first<A: AtomSource + Drop>(served: &mut Served<A>) -> Firs
     let Some((goal, clause)) = served.pick() else {
         return FirstStep::Quiet;
     };
-    let event = Event::Reduce { goal, clause };
-    match served.apply(&event) {
-        Ok(reply) => step_told(&reply),
+    match served.reduce(goal, clause) {
+        Ok(refused) => step_by(refused),
         Err(_) => FirstStep::Memory,
     }
 }
 
-/// What became of a goal whose reduction has this reply.
-fn step_told(reply: &Reply) -> FirstStep
-    ensures { IsTold (reply_of reply.now) result }
+/// What became of a goal whose reduction is refused for this reason, or done where there is none.
+fn step_by(refused: Option<Refusal>) -> FirstStep
+    ensures { IsTold (reduced_or refused) result }
 {
-    match reply {
-        Reply::Loaded(_name) => FirstStep::Done,
-        Reply::Opened(_shoen) => FirstStep::Done,
-        Reply::Reduced => FirstStep::Done,
-        Reply::Ran(_steps) => FirstStep::Done,
-        Reply::Shown(_text) => FirstStep::Done,
-        Reply::Refused(refusal) => FirstStep::Refused(*refusal),
+    match refused {
+        None => FirstStep::Done,
+        Some(refusal) => FirstStep::Refused(refusal),
     }
 }

@@ -2,16 +2,17 @@
 
 ghost use Rattle.std.specs.Prelude.{◌≡◌, [], IfOk, OnErr, option_map};
 ghost use Rattle.kl1_model.specs.State.{fresh};
+ghost use Rattle.kl1_model.specs.Event.{reduce as reduce_event};
 ghost use Rattle.kl1_model.specs.Step.{step};
 ghost use Rattle.kl1_model.specs.Choice.{first, quiet};
 ghost use Rattle.kl1_atoms.specs.Names.{AreNames};
 ghost use Rattle.kl1_account.specs.Fitting.{Reading, Fits};
 ghost use Rattle.kl1_account.specs.Account.{state_of};
 ghost use Rattle.kl1_account.specs.Naming.{Grows};
-ghost use Rattle.kl1_account.specs.Views.{event_of, reply_of, chosen_of};
+ghost use Rattle.kl1_account.specs.Views.{event_of, reply_of, reduced_or, chosen_of};
 
 use kl1_atoms::AtomSource;
-use kl1_user::{AccountName, ClauseNo, Event, GoalNo, Reply, UserState};
+use kl1_user::{AccountName, ClauseNo, Event, GoalNo, Refusal, Reply, UserState};
 use std::alloc::{AllocError, Global};
 use std::marker::Model;
 
@@ -62,6 +63,15 @@ impl<A: AtomSource + Drop> Served<A> {
         ensures grows { Grows self.old.names self.new.names }
     {
         self.user.apply(&mut self.names, &mut self.seat, event)
+    }
+
+    /// Reduces a goal by a clause, or says why it is refused.
+    pub fn reduce(&mut self, goal: GoalNo, clause: ClauseNo) -> Result<Option<Refusal>, AllocError>
+        ensures step { IfOk result (λ refused. (f : Reading) → Fits self.old.names f → step (state_of f self.old) (reduce_event goal.0 clause.0) ≡ record { state = state_of f self.new; reply = reduced_or refused }) }
+        ensures names { self.new.names ≡ self.old.names }
+        ensures err { OnErr result (self.new ≡ self.old) }
+    {
+        self.user.reduce(goal, clause)
     }
 
     /// The first goal that can step, with the clause by which it steps.

@@ -1,6 +1,7 @@
 -- Shoens in order of number, found and exchanged by place.
 use Rattle.std.proofs.Common.{◌≡◌, ℕ, zero, suc, ◌+◌, ◌-◌, ◌<◌, ◌≤◌, if◌then◌else◌, List, [], ◌∷◌, ◌++◌, length, refl, sym, ap, ◌∙◌, arith, subst}
-use Rattle.std.specs.Prelude.{Option, Some, None, find, slice_get, slice_set, IfSome}
+use Rattle.std.specs.Prelude.{Option, Some, None, find, option_copied, slice_get, slice_set, IfSome}
+use Rattle.std.specs.Borrow.{Bor}
 use Rattle.std.proofs.lemmas.Bool.{ne_eqb, eq-eqb}
 use Rattle.kl1_shoen.specs.declared.shoen.Shoen.{Shoen}
 use Rattle.kl1_shoen.specs.Shoens.{has_number, exchanged, AreNumbered}
@@ -42,9 +43,10 @@ number_from {N = N} last (suc i) (s ∷ ss) a =
     let P : ℕ → Type 0 = λ k. IfSome (slice_get ss i) (λ (x : Shoen N). x.number ≡ suc k) in
     subst P (omega arith) (number_from (suc last) i ss a.1)
 
--- the shoen at a place has the number of that place
-pub number_at : {N : Type 0} (n : ℕ) (ss : List (Shoen N)) (o : Option (Shoen N)) → AreNumbered 0 ss → 0 < n → o ≡ slice_get ss (n - 1) → IfSome o (λ s. s.number ≡ n)
-number_at {N = N} n ss o a lt e =
+-- the shoen that is lent from a place has the number of that place
+pub number_at : {N : Type 0} (n : ℕ) (ss : List (Shoen N)) (o : Option (Bor (Shoen N))) → AreNumbered 0 ss → 0 < n → option_copied o ≡ slice_get ss (n - 1) → IfSome o (λ s. s.now.number ≡ n)
+number_at n ss None a lt e = tt
+number_at {N = N} n ss (Some s) a lt e =
     let P : ℕ → Type 0 = λ k. IfSome (slice_get ss (n - 1)) (λ (x : Shoen N). x.number ≡ k) in
     let Q : Option (Shoen N) → Type 0 = λ z. IfSome z (λ (x : Shoen N). x.number ≡ n) in
     subst Q (sym e) (subst P (omega arith) (number_from 0 (n - 1) ss a))

@@ -1,6 +1,6 @@
 // The shoens of an account.
 
-ghost use Rattle.std.specs.Prelude.{◌≡◌, ◌<◌, ◌≤◌, ◌+◌, ◌-◌, [], ◌∷◌, ◌++◌, suc, length, find, option_and_then, slice_get, IfSome, OnOk};
+ghost use Rattle.std.specs.Prelude.{◌≡◌, ◌<◌, ◌≤◌, ◌+◌, ◌-◌, [], ◌∷◌, ◌++◌, suc, length, find, option_and_then, option_copied, slice_get, IfSome, OnOk};
 ghost use Rattle.kl1_shoen.specs.Shoens.{has_number, exchanged, AreNumbered};
 
 use crate::shoen::{Origin, Shoen};
@@ -9,10 +9,10 @@ use std::alloc::{AllocError, Global};
 use std::marker::Model;
 
 /// The shoen at a place of a list, from 0.
-fn at<N: NameValue>(shoens: &[Shoen<N>], place: usize) -> Option<Shoen<N>>
-    ensures { result ≡ slice_get shoens.now place }
+fn at<N: NameValue>(shoens: &[Shoen<N>], place: usize) -> Option<&Shoen<N>>
+    ensures { option_copied result ≡ slice_get shoens.now place }
 {
-    shoens.get(place).copied()
+    shoens.get(place)
 }
 
 /// The shoens of an account, each at the place of its number.
@@ -68,10 +68,10 @@ impl<N: NameValue> ShoenTree<N> {
         self.shoens.push_reserved(shoen);
     }
 
-    /// The shoen of a number.
-    pub fn get(&self, number: u64) -> Option<Shoen<N>>
-        ensures value { result ≡ find (has_number number) self.now.shoens }
-        ensures number { IfSome result (λ shoen. shoen.number ≡ number) }
+    /// The shoen of a number, lent.
+    pub fn lend(&self, number: u64) -> Option<&Shoen<N>>
+        ensures value { option_copied result ≡ find (has_number number) self.now.shoens }
+        ensures number { IfSome result (λ shoen. shoen.now.number ≡ number) }
     {
         let _numbered = self.len();
         if number == 0 {
@@ -81,8 +81,8 @@ impl<N: NameValue> ShoenTree<N> {
     }
 
     /// Puts a shoen in place of that of its number, if there is one.
-    pub fn set(&mut self, shoen: Shoen<N>)
-        ensures { self.new ≡ record self.old { shoens = exchanged shoen self.old.shoens } }
+    pub fn set(&mut self, shoen: &Shoen<N>)
+        ensures { self.new ≡ record self.old { shoens = exchanged shoen.now self.old.shoens } }
     {
         let number = shoen.number;
         let count = self.len();
@@ -92,13 +92,13 @@ impl<N: NameValue> ShoenTree<N> {
         if count < number {
             return;
         }
-        self.shoens[(number - 1) as usize] = shoen;
+        self.shoens[(number - 1) as usize] = *shoen;
     }
 
     /// What the console keeps of the shoen of a number.
     pub fn origin_at(&self, number: u64) -> Option<Origin<N>>
         ensures { result ≡ option_and_then (λ shoen. shoen.origin) (find (has_number number) self.now.shoens) }
     {
-        self.get(number)?.origin
+        self.lend(number)?.origin
     }
 }

@@ -1,9 +1,10 @@
 -- Comparing two cells, one turn after another.
-use Rattle.std.proofs.Common.{◌≡◌, ℕ, zero, suc, ◌<◌, ◌≤◌, ◌⊎◌, inl, inr, get_or, ◌==◌, ◌&&◌, ◌||◌, Bool, true, false, if◌then◌else◌, List, [], ◌∷◌, ◌++◌, length, drop, refl, sym, ap, ◌∙◌, arith, subst, append_assoc, length-append}
-use Rattle.std.specs.Prelude.{bytes_eq, Option, Some}
+use Rattle.std.proofs.Common.{◌≡◌, ℕ, zero, suc, ◌<◌, ◌≤◌, ◌⊎◌, inl, inr, cond, get_or, ◌==◌, ◌&&◌, ◌||◌, Bool, true, false, if◌then◌else◌, List, [], ◌∷◌, ◌++◌, length, drop, refl, sym, ap, ◌∙◌, arith, subst, append_assoc, length-append}
+use Rattle.std.specs.Prelude.{bytes_eq, nat_eq, Option, Some}
+use Rattle.std.specs.Cmp.Lexicographic.{pointwise, bytes_decides}
 use Rattle.std.specs.Ordering.{int_eq}
 use Rattle.std.proofs.lemmas.List.{append-nil}
-use Rattle.std.proofs.lemmas.Bool.{cond-true, cond-false, ne_eqb, eq-eqb, not_from_false, or_right, or_from, and_from}
+use Rattle.std.proofs.lemmas.Bool.{false≢true, cond-true, cond-false, ne_eqb, eq-eqb, not_from_false, or_right, or_from, and_from}
 use Rattle.std.proofs.lemmas.Slice.Eq.{bytes_eq-Decides}
 use Rattle.kl1_model.specs.declared.built_in.BuiltIn.{BuiltIn}
 use Rattle.kl1_model.specs.Term.{Term, variable, integer, atom, structure, Terms, none, more, count_of, size}
@@ -13,7 +14,6 @@ use Rattle.kl1_model.proofs.Clashes.{no_clash}
 use Rattle.kl1_text.specs.Reading.{Reads}
 use Rattle.kl1_store.specs.declared.cell.Cell.{Cell}
 use Rattle.kl1_store.specs.declared.cell.Cell.TheVariants.{Variable, Structure}
-use Rattle.kl1_store.specs.declared.pair.Pair.{Pair}
 use Rattle.kl1_store.specs.declared.frame.Frame.{Frame}
 use Rattle.kl1_store.specs.declared.meeting.Meeting.TheVariants.{Clash}
 use Rattle.kl1_store.specs.Held.{Held, IsIn, IsWalked, arguments_of}
@@ -25,7 +25,7 @@ use Rattle.kl1_store.specs.Onward.{onward}
 use Rattle.kl1_store.specs.Meets.{MeetsAs, Opens}
 use Rattle.kl1_store.specs.Compares.{clash_among, awaited_among, Compares, Compared, LooksDone, LooksOpen}
 use Rattle.kl1_store.specs.Nested.{Alike, Under, Expects, structure_term, argument_terms}
-use Rattle.kl1_store.specs.Done.{IsOf, IsDone, EachDone, AreDone, IsKnown}
+use Rattle.kl1_store.specs.Done.{IsOf, IsDone, is_among, EachDone, AreDone, IsKnown}
 use Rattle.kl1_store.proofs.Terms.{term_of-Structure, term_of-unbound}
 use Rattle.kl1_store.proofs.Meetings.{named, term_kind, kind_kept, no_variable, count_of-terms_of}
 use Rattle.kl1_store.proofs.Advancing.{work, waiting-push, ArePairs-push, turn_waiting, arguments_size, Reaches, closed_at, closed_waiting, pair_popped, onward_pushed}
@@ -229,7 +229,7 @@ pair_clashes built h before ps p x y e turn clashes = λ f reads.
     ∙ ap (λ b. b || clash_among (waiting f h [] (ps ++ onward p ∷ []))) (clashes f reads)
 
 -- what is left, with what was found, comes to the whole
-pub record IsLeft {N : Type 0} (built : BuiltIn → N) (h : Held N) (l r : Cell N) (start longer : List ℕ) (ds : List Pair) (now : List Frame) : Type 0 where
+pub record IsLeft {N : Type 0} (built : BuiltIn → N) (h : Held N) (l r : Cell N) (start longer : List ℕ) (ds : List (List ℕ)) (now : List Frame) : Type 0 where
   pub pairs : ArePairs h now
   pub clash : (f : N → List ℕ) → Reads built f → clash_among (waiting f h [] now) ≡ true → clash (term_of f h l) (term_of f h r) ≡ true
   pub found : (f : N → List ℕ) → Reads built f → (v : ℕ) → IsOf v longer → IsOf v start ⊎ IsOf v (awaited (term_of f h l) (term_of f h r))
@@ -259,18 +259,29 @@ of_second v (x ∷ xs) ys e = inr (of_second v xs ys e)
 done_more : (ws zs : List ℕ) → ((v : ℕ) → IsOf v ws → IsOf v zs) → (t u : Term) → IsDone ws t u → IsDone zs t u
 done_more ws zs more_of t u d = record { clash = d.clash; awaited = λ v a. more_of v (d.awaited v a) }
 
-each_more : (S : ℕ → Term) (ws zs : List ℕ) → ((v : ℕ) → IsOf v ws → IsOf v zs) → (ds : List Pair) → EachDone S ws ds → EachDone S zs ds
-each_more S ws zs k [] d = tt
-each_more S ws zs k (p ∷ ds) d = (done_more ws zs k (S p.left) (S p.right) d.0, each_more S ws zs k ds d.1)
+each_more : (S : ℕ → Term) (ws zs : List ℕ) → ((v : ℕ) → IsOf v ws → IsOf v zs) → (ds : List (List ℕ)) → EachDone S ws ds → EachDone S zs ds
+each_more S ws zs k ds d = λ l r among. done_more ws zs k (S l) (S r) (d l r among)
 
-each_push : (S : ℕ → Term) (ws : List ℕ) (ds : List Pair) (p : Pair) → EachDone S ws ds → IsDone ws (S p.left) (S p.right) → EachDone S ws (ds ++ p ∷ [])
-each_push S ws [] p d e = (e, tt)
-each_push S ws (q ∷ ds) p d e = (d.0, each_push S ws ds p d.1 e)
+-- one pair more, which may have been among them
+abbrev pub IsAdded : ℕ → ℕ → List (List ℕ) → List (List ℕ) → Type 0
+IsAdded p q ds es = (l r : ℕ) → is_among l r es ≡ cond (pointwise nat_eq (p ∷ q ∷ []) (l ∷ r ∷ [])) true (is_among l r ds)
 
-each_at : (S : ℕ → Term) (ws : List ℕ) (ds : List Pair) (p : Pair) (k : ℕ) → k < length ds → get_or ds k p ≡ p → EachDone S ws ds → IsDone ws (S p.left) (S p.right)
-each_at S ws [] p k lt e d = absurd (omega arith)
-each_at S ws (q ∷ ds) p zero lt e d = let P : Pair → Type 0 = λ r. IsDone ws (S r.left) (S r.right) in subst P e d.0
-each_at S ws (q ∷ ds) p (suc k) lt e d = each_at S ws ds p k (omega arith) e d.1
+each_added : (S : ℕ → Term) (ws : List ℕ) (ds es : List (List ℕ)) (p q : ℕ) → IsAdded p q ds es → EachDone S ws ds → IsDone ws (S p) (S q) → EachDone S ws es
+each_added S ws ds es p q added d e = λ l r among. by_case l r (pointwise nat_eq (p ∷ q ∷ []) (l ∷ r ∷ [])) refl (sym (added l r) ∙ among)
+  where
+    left_same : {a b c d : ℕ} → (let xs : List ℕ = a ∷ b ∷ [] in xs) ≡ c ∷ d ∷ [] → a ≡ c
+    left_same e = cc
+
+    right_same : {a b c d : ℕ} → (let xs : List ℕ = a ∷ b ∷ [] in xs) ≡ c ∷ d ∷ [] → b ≡ d
+    right_same e = cc
+
+    by_case : (l r : ℕ) (b : Bool) → pointwise nat_eq (p ∷ q ∷ []) (l ∷ r ∷ []) ≡ b → cond b true (is_among l r ds) ≡ true → IsDone ws (S l) (S r)
+    by_case l r true same among =
+        let is = (bytes_decides (p ∷ q ∷ []) (l ∷ r ∷ [])).0 same in
+        let L : ℕ → Type 0 = λ n. IsDone ws (S n) (S r) in
+        let R : ℕ → Type 0 = λ n. IsDone ws (S p) (S n) in
+        subst L (left_same is) (subst R (right_same is) e)
+    by_case l r false same among = d l r among
 
 unchanged : Changes (λ t. t) (λ ts. ts)
 unchanged = record { none_is = refl; more_is = λ t ts. refl }
@@ -328,7 +339,7 @@ looked_more built f h x y before now waits longer reads (inl d) v a = let L : Li
 looked_more built f h x y before now waits longer reads (inr o) v a = let L : List ℕ → Type 0 = λ k. IsOf v k in subst L (sym o.same) a
 
 -- the arguments in turn were looked at
-pub left_looks : {N : Type 0} (built : BuiltIn → N) (h : Held N) (l r : Cell N) (start waits longer : List ℕ) (ds : List Pair) (before ps between now : List Frame) (p q : Frame) (x y : Cell N) →
+pub left_looks : {N : Type 0} (built : BuiltIn → N) (h : Held N) (l r : Cell N) (start waits longer : List ℕ) (ds : List (List ℕ)) (before ps between now : List Frame) (p q : Frame) (x y : Cell N) →
     IsLeft built h l r start waits ds before → before ≡ ps ++ p ∷ [] → between ≡ ps ++ q ∷ [] → q ≡ onward p → IsTurn h p x y → Compares built h x y between now waits longer → IsLeft built h l r start longer ds now × (work h now < work h before)
 left_looks {N = N} built h l r start waits longer ds before ps between now p q x y i e are is turn c = (
   record {
@@ -357,7 +368,7 @@ left_looks {N = N} built h l r start waits longer ds before ps between now p q x
     by_part f reads v (inr a) = i.rest f reads v a
 
 -- the arguments in turn are known to be done
-pub left_skips : {N : Type 0} (built : BuiltIn → N) (h : Held N) (l r : Cell N) (start waits : List ℕ) (ds : List Pair) (before ps between : List Frame) (p q : Frame) (x y : Cell N) →
+pub left_skips : {N : Type 0} (built : BuiltIn → N) (h : Held N) (l r : Cell N) (start waits : List ℕ) (ds : List (List ℕ)) (before ps between : List Frame) (p q : Frame) (x y : Cell N) →
     IsLeft built h l r start waits ds before → before ≡ ps ++ p ∷ [] → between ≡ ps ++ q ∷ [] → q ≡ onward p → IsTurn h p x y → suc p.next ≤ p.count → IsKnown x y ds → IsLeft built h l r start waits ds between × (work h between < work h before)
 left_skips {N = N} built h l r start waits ds before ps between p q x y i e are is turn le known = (
   record {
@@ -382,11 +393,10 @@ left_skips {N = N} built h l r start waits ds before ps between p q x y i e are 
 
     is_done : (f : N → List ℕ) → Reads built f → IsDone waits (term_of f h x) (term_of f h y)
     is_done f reads =
-        let k = known.known in
         let D : Cell N → Cell N → Type 0 = λ a b. IsDone waits (term_of f h a) (term_of f h b) in
         let A : Cell N → Type 0 = λ a. D a y in
         let B : Cell N → Type 0 = λ b. D (Structure known.left) b in
-        subst A (sym known.left_is) (subst B (sym known.right_is) (each_at (structure_term f h) waits ds (record { left = known.left; right = known.right }) k.0 k.1 k.2 (i.done f reads)))
+        subst A (sym known.left_is) (subst B (sym known.right_is) (i.done f reads known.left known.right known.known))
 
 -- ---- a pair at its end
 
@@ -422,8 +432,8 @@ pair_done {N = N} f h ws p formed pair le alike =
       awaited = alike_awaited ws p.next ts us alike nt nu;
     }))
 
-pub left_closes : {N : Type 0} (built : BuiltIn → N) (h : Held N) (l r : Cell N) (start waits : List ℕ) (ds es : List Pair) (before ps : List Frame) (p : Frame) → IsFormed h →
-    IsLeft built h l r start waits ds before → before ≡ ps ++ p ∷ [] → p.count ≤ p.next → es ≡ ds ++ record { left = p.left; right = p.right } ∷ [] → IsLeft built h l r start waits es ps × (work h ps < work h before)
+pub left_closes : {N : Type 0} (built : BuiltIn → N) (h : Held N) (l r : Cell N) (start waits : List ℕ) (ds es : List (List ℕ)) (before ps : List Frame) (p : Frame) → IsFormed h →
+    IsLeft built h l r start waits ds before → before ≡ ps ++ p ∷ [] → p.count ≤ p.next → IsAdded p.left p.right ds es → IsLeft built h l r start waits es ps × (work h ps < work h before)
 left_closes {N = N} built h l r start waits ds es before ps p formed i e le is = (
   record {
     pairs = closed.pairs;
@@ -432,7 +442,7 @@ left_closes {N = N} built h l r start waits ds es before ps p formed i e le is =
     rest = λ f reads v a. let L : List Equation → Type 0 = λ k. IsOf v (awaited_among k) in i.rest f reads v (subst L (sym (same f)) a);
     kept = i.kept;
     under = λ f reads. under_pop (IsDone waits) (structure_term f h) (argument_terms f h) (term_of f h l) (term_of f h r) ps p (under f reads) (done f reads);
-    done = λ f reads. let D : List Pair → Type 0 = λ k. EachDone (structure_term f h) waits k in subst D (sym is) (each_push (structure_term f h) waits ds (record { left = p.left; right = p.right }) (i.done f reads) (done f reads));
+    done = λ f reads. each_added (structure_term f h) waits ds es p.left p.right is (i.done f reads) (done f reads);
   },
   closed.less,
 )
@@ -455,7 +465,7 @@ or-nothing : (a : Bool) → (a || false) ≡ a
 or-nothing true = refl
 or-nothing false = refl
 
-pub left_start : {N : Type 0} (built : BuiltIn → N) (h : Held N) (l r x y : Cell N) (before now : List Frame) (ds : List Pair) (waits longer : List ℕ) → before ≡ [] → ds ≡ [] →
+pub left_start : {N : Type 0} (built : BuiltIn → N) (h : Held N) (l r x y : Cell N) (before now : List Frame) (ds : List (List ℕ)) (waits longer : List ℕ) → before ≡ [] → ds ≡ [] →
     ((f : N → List ℕ) → term_of f h x ≡ term_of f h l) → ((f : N → List ℕ) → term_of f h y ≡ term_of f h r) → Compares built h x y before now waits longer → IsLeft built h l r waits longer ds now
 unfolding waiting
 left_start {N = N} built h l r x y before now ds waits longer e none_done p q c = record {
@@ -467,7 +477,9 @@ left_start {N = N} built h l r x y before now ds waits longer e none_done p q c 
   under = λ f reads.
       let E : List Frame → Type 0 = λ k. Expects (IsDone longer) (structure_term f h) (argument_terms f h) (term_of f h l) (term_of f h r) k (term_of f h x) (term_of f h y) in
       looked_under built f h x y before now waits longer (term_of f h l) (term_of f h r) reads c.either (subst E (sym e) (sym (p f), sym (q f)));
-  done = λ f reads. let D : List Pair → Type 0 = λ k. EachDone (structure_term f h) longer k in subst D (sym none_done) tt;
+  done = λ f reads. λ l r among.
+      let none : is_among l r ds ≡ false = ap (is_among l r) none_done in
+      absurd (false≢true (sym none ∙ among));
 }
   where
     whole_clash : (f : N → List ℕ) → Reads built f → clash_among (waiting f h [] now) ≡ clash (term_of f h l) (term_of f h r)
@@ -481,7 +493,7 @@ left_start {N = N} built h l r x y before now ds waits longer e none_done p q c 
         subst L (c.awaited f reads ∙ ap (λ ps. waits ++ (awaited (term_of f h x) (term_of f h y) ++ awaited_among (waiting f h [] ps))) e
         ∙ ap (λ ws. waits ++ ws) (append-nil (awaited (term_of f h x) (term_of f h y)) ∙ ap (λ t. awaited t (term_of f h y)) (p f) ∙ ap (awaited (term_of f h l)) (q f))) a
 
-pub left_end : {N : Type 0} (built : BuiltIn → N) (h : Held N) (l r : Cell N) (start longer : List ℕ) (ds : List Pair) (now : List Frame) → IsLeft built h l r start longer ds now → now ≡ [] →
+pub left_end : {N : Type 0} (built : BuiltIn → N) (h : Held N) (l r : Cell N) (start longer : List ℕ) (ds : List (List ℕ)) (now : List Frame) → IsLeft built h l r start longer ds now → now ≡ [] →
     (f : N → List ℕ) → Reads built f → Compared f h l r start longer
 left_end {N = N} built h l r start longer ds now i e f reads =
     let U : List Frame → Type 0 = λ k. Under (IsDone longer) (structure_term f h) (argument_terms f h) (term_of f h l) (term_of f h r) k in
@@ -492,7 +504,7 @@ left_end {N = N} built h l r start longer ds now i e f reads =
     back v done (inl a) = i.kept f reads v a
     back v done (inr a) = done.awaited v a
 
-pub left_clash : {N : Type 0} (built : BuiltIn → N) (h : Held N) (l r : Cell N) (start longer : List ℕ) (ds : List Pair) (now : List Frame) → IsLeft built h l r start longer ds now →
+pub left_clash : {N : Type 0} (built : BuiltIn → N) (h : Held N) (l r : Cell N) (start longer : List ℕ) (ds : List (List ℕ)) (now : List Frame) → IsLeft built h l r start longer ds now →
     ((f : N → List ℕ) → Reads built f → clash_among (waiting f h [] now) ≡ true) → (f : N → List ℕ) → Reads built f → clash (term_of f h l) (term_of f h r) ≡ true
 left_clash built h l r start longer ds now i c = λ f reads. i.clash f reads (c f reads)
 

@@ -18,7 +18,7 @@ length-shapes_in xs (n ∷ ns) = ap suc (length-shapes_in (drop n.count xs) ns)
 count_fits : {N : Type 0} (start : ℕ) (n : Node N) (ns : List (Node N)) (xs : List (Cell N)) → AreLaid start (n ∷ ns) (start + length xs) → n.count ≤ length xs
 count_fits start n ns xs h = let p = laid_up (start + n.count) ns (start + length xs) h.1 in omega arith
 
-rest_laid : {N : Type 0} (start : ℕ) (n : Node N) (ns : List (Node N)) (xs : List (Cell N)) → AreLaid start (n ∷ ns) (start + length xs) →
+pub rest_laid : {N : Type 0} (start : ℕ) (n : Node N) (ns : List (Node N)) (xs : List (Cell N)) → AreLaid start (n ∷ ns) (start + length xs) →
     AreLaid (start + n.count) ns (start + n.count + length (drop n.count xs))
 rest_laid start n ns xs h =
     let P : ℕ → Type 0 = λ m. AreLaid (start + n.count) ns m in

@@ -24,3 +24,4 @@ pub mod Telling
 pub mod Later
 pub mod Freeing
 pub mod Tops
+pub mod Placing

@@ -1,8 +1,9 @@
 -- What is moved from the top of a stack.
-use Rattle.std.proofs.Common.{◌≡◌, ℕ, zero, suc, ◌-◌, ◌<◌, List, [], ◌∷◌, ◌++◌, length, reverse, refl, ap, sym, ◌∙◌, subst, arith, append-nil, append_assoc}
+use Rattle.std.proofs.Common.{◌≡◌, ℕ, zero, suc, ◌+◌, ◌-◌, ◌<◌, List, [], ◌∷◌, ◌++◌, length, length-drop, take, drop, get_or, reverse, refl, ap, sym, ◌∙◌, subst, arith, append-nil, append_assoc}
 use Rattle.std.specs.Prelude.{Option, Some, None, IsSome, option_to_list, unwrap_or}
 use Rattle.std.proofs.lemmas.Bool.{false≢true}
-use Rattle.std.proofs.lemmas.List.{reverse-append, reverse-reverse}
+use Rattle.std.proofs.Math.Seq.{take-suc}
+use Rattle.std.proofs.lemmas.List.{length-reverse, reverse-append, reverse-reverse, take-append-drop}
 use Rattle.kl1_store.specs.declared.cell.Cell.{Cell}
 use Rattle.kl1_store.specs.Held.{Held, IsWithin, AreWithin, IsIn, AreIn}
 use Rattle.kl1_store.specs.Tops.{first_or, but_first, firsts, others}
@@ -76,3 +77,34 @@ length-firsts m (suc n) xs = ap suc (length-firsts m n (but_first xs))
 -- the first so many cells of a stack are of its store
 pub top_within : {N : Type 0} (h : Held N) (m : Cell N) (n : ℕ) (stack : List (Cell N)) → AreIn h stack → IsIn h m → AreIn h (firsts m n (reverse stack))
 top_within h m n stack inside there = firsts_within h.variables (length h.structures) m n (reverse stack) there (AreWithin-reverse h.variables (length h.structures) stack inside)
+
+firsts_all : {A : Type 0} (m : A) (n : ℕ) (xs ys : List A) → length xs ≡ n → firsts m n (xs ++ ys) ≡ xs
+firsts_all m zero [] ys e = refl
+firsts_all m zero (x ∷ xs) ys e = absurd (omega (arith, e))
+firsts_all m (suc n) [] ys e = absurd (omega (arith, e))
+firsts_all m (suc n) (x ∷ xs) ys e = ap (λ l. x ∷ l) (firsts_all m n xs ys (omega (arith, e)))
+
+others_all : {A : Type 0} (n : ℕ) (xs ys : List A) → length xs ≡ n → others n (xs ++ ys) ≡ ys
+others_all zero [] ys e = refl
+others_all zero (x ∷ xs) ys e = absurd (omega (arith, e))
+others_all (suc n) [] ys e = absurd (omega (arith, e))
+others_all (suc n) (x ∷ xs) ys e = others_all n xs ys (omega (arith, e))
+
+-- the top of a stack from its end, where it has so many
+pub top_reversed : {A : Type 0} (m : A) (n from : ℕ) (stack : List A) → from + n ≡ length stack → (reverse (drop from stack) ≡ firsts m n (reverse stack)) × (reverse (take from stack) ≡ others n (reverse stack))
+top_reversed m n from stack e =
+    let whole : reverse stack ≡ reverse (drop from stack) ++ reverse (take from stack) = ap reverse (sym (take-append-drop from stack)) ∙ reverse-append (take from stack) (drop from stack) in
+    let many : length (reverse (drop from stack)) ≡ n = omega (arith, e, length-reverse (drop from stack), length-drop from stack) in (
+      sym (ap (firsts m n) whole ∙ firsts_all m n (reverse (drop from stack)) (reverse (take from stack)) many),
+      sym (ap (others n) whole ∙ others_all n (reverse (drop from stack)) (reverse (take from stack)) many),
+    )
+
+-- one more from the end of a list
+pub one_reversed : {A : Type 0} (before : List A) (xs : List A) (k : ℕ) (x : A) → k < length xs → x ≡ get_or xs k x → (before ++ x ∷ []) ++ reverse (take k xs) ≡ before ++ reverse (take (suc k) xs)
+one_reversed before xs k x lt e =
+    append_assoc before (x ∷ []) (reverse (take k xs))
+    ∙ ap (λ l. before ++ l) (
+    ap (λ y. y ∷ reverse (take k xs)) e
+    ∙ sym (reverse-append (take k xs) (get_or xs k x ∷ []))
+    ∙ ap reverse (sym (take-suc xs k x lt))
+    )

@@ -24,3 +24,4 @@ pub mod Merged
 pub mod Done
 pub mod Later
 pub mod Tops
+pub mod Places

@@ -6,6 +6,7 @@ ghost use Rattle.kl1_store.specs.Held.{Held, nothing_held, with_variable, with_s
 ghost use Rattle.kl1_store.specs.Meaning.{term_of};
 ghost use Rattle.kl1_store.specs.Spending.{Spends, SpendsOnBindings, FreesRoom};
 ghost use Rattle.kl1_store.specs.Sound.{IsFormed, Grown, IsBoundTo};
+ghost use Rattle.kl1_store.specs.Places.{all_arguments, StandFrom};
 ghost use Rattle.kl1_store.specs.Slots.{AreSlotted, AreOnce};
 ghost use Rattle.kl1_store.specs.Tops.{firsts, others};
 
@@ -260,6 +261,25 @@ impl<N: NameValue> Cells<N> {
         self.arguments[node.start as usize + index as usize]
     }
 
+    /// The place of a structure's first argument among those of all structures, from 0.
+    #[inline]
+    pub fn first_argument(&self, structure: u32) -> u32
+        requires { structure < length self.now.held.structures }
+        ensures { StandFrom self.now.held structure result }
+    {
+        self.nodes[structure as usize].start
+    }
+
+    /// An argument by its place among those of all structures, from 0.
+    #[inline]
+    pub fn argument_at(&self, place: u32) -> Cell<N>
+        requires { place < length (all_arguments self.now.held) }
+        ensures is { slice_get (all_arguments self.now.held) place ≡ Some result }
+        ensures inside { IsIn self.now.held result }
+    {
+        self.arguments[place as usize]
+    }
+
     /// The cell that a cell stands for: what its variable was bound to, and so on.
     #[inline]
     pub fn walk(&self, cell: Cell<N>) -> Cell<N>
@@ -336,6 +356,42 @@ impl<N: NameValue> Cells<N> {
 /// Moves so many cells from the top of a stack behind those of a list with room for them; where none is left, `missing` stands
 /// for it.
 fn move_top<N: NameValue>(
+    stack: &mut Vec<Cell<N>>,
+    list: &mut Vec<Cell<N>>,
+    missing: Cell<N>,
+    count: usize,
+)
+    requires room { length list.old.items + count ≤ vec_capacity list.old }
+    ensures moved { list.new.items ≡ list.old.items ++ firsts missing count (reverse stack.old.items) }
+    ensures left { reverse stack.new.items ≡ others count (reverse stack.old.items) }
+    ensures more { length list.new.items ≡ length list.old.items + count }
+    ensures list_capacity { vec_capacity list.new ≡ vec_capacity list.old }
+    ensures height { length stack.new.items ≤ length stack.old.items }
+    ensures stack_capacity { vec_capacity stack.new ≡ vec_capacity stack.old }
+{
+    if count > stack.len() {
+        return move_or_fill(stack, list, missing, count);
+    }
+    let from = stack.len() - count;
+    put_reversed(list, &stack[from..]);
+    stack.truncate(from);
+}
+
+/// Puts cells behind those of a list with room for them, the last of them first.
+fn put_reversed<N: NameValue>(list: &mut Vec<Cell<N>>, cells: &[Cell<N>])
+    requires room { length list.old.items + length cells.now ≤ vec_capacity list.old }
+    ensures items { list.new.items ≡ list.old.items ++ reverse cells.now }
+    ensures capacity { vec_capacity list.new ≡ vec_capacity list.old }
+{
+    let mut left = cells.len();
+    while 0 < left {
+        left -= 1;
+        list.push_reserved(cells[left]);
+    }
+}
+
+/// The same, one cell after another.
+fn move_or_fill<N: NameValue>(
     stack: &mut Vec<Cell<N>>,
     list: &mut Vec<Cell<N>>,
     missing: Cell<N>,

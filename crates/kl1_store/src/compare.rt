@@ -13,10 +13,10 @@ use crate::cells::Cells;
 use crate::frame::Frame;
 use crate::meeting::Meeting;
 use crate::meets::meet;
-use crate::pairs::Pairs;
 use crate::sides::Sides;
 use kl1_text::NameValue;
 use std::alloc::AllocError;
+use std::collections::HashSet;
 
 /// Puts a variable on the list of those that are waited for, and says yes.
 fn wait_for(waits: &mut Vec<u32>, variable: u32) -> Result<bool, AllocError>
@@ -69,23 +69,23 @@ fn compare_sides<N: NameValue>(
 }
 
 /// Whether two cells are structures that were compared.
-fn is_known<N: Copy>(pairs: &Pairs, left: Cell<N>, right: Cell<N>) -> bool
-    ensures { IsTrue result → IsKnown left right pairs.now }
+fn is_known<N: Copy>(pairs: &HashSet<[u32; 2]>, left: Cell<N>, right: Cell<N>) -> bool
+    ensures { IsTrue result → IsKnown left right pairs.now.keys }
 {
     if let Cell::Structure(first) = left {
         if let Cell::Structure(second) = right {
-            return pairs.has(first, second);
+            return pairs.contains(&[first, second]);
         }
     }
     false
 }
 
-/// Compares two cells: false where they clash; `waits` gets the variables for which they wait, `frames` and `pairs` are
-/// scratch.
+/// Compares two cells: false where they clash; `waits` gets the variables for which they wait, `frames` and `pairs`, the
+/// structures by number that were compared, are scratch.
 pub fn compare<N: NameValue>(
     cells: &Cells<N>,
     frames: &mut Vec<Frame>,
-    pairs: &mut Pairs,
+    pairs: &mut HashSet<[u32; 2]>,
     waits: &mut Vec<u32>,
     left: Cell<N>,
     right: Cell<N>,
@@ -104,7 +104,7 @@ pub fn compare<N: NameValue>(
     }
     while let Some(frame) = frames.pop() {
         if frame.next >= frame.count {
-            pairs.add(frame.left, frame.right)?;
+            pairs.insert([frame.left, frame.right])?;
             continue;
         }
         let Sides { left, right } = turn(cells, frame);

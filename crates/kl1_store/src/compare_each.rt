@@ -8,15 +8,15 @@ use crate::cell::Cell;
 use crate::cells::Cells;
 use crate::compare::compare;
 use crate::frame::Frame;
-use crate::pairs::Pairs;
 use kl1_text::NameValue;
 use std::alloc::AllocError;
+use std::collections::HashSet;
 
 /// Compares a cell with each of others: false where it clashes with one.
 fn compare_with<N: NameValue>(
     cells: &Cells<N>,
     frames: &mut Vec<Frame>,
-    pairs: &mut Pairs,
+    pairs: &mut HashSet<[u32; 2]>,
     waits: &mut Vec<u32>,
     cell: Cell<N>,
     others: &[Cell<N>],
@@ -40,7 +40,7 @@ fn compare_with<N: NameValue>(
 pub fn compare_each<N: NameValue>(
     cells: &Cells<N>,
     frames: &mut Vec<Frame>,
-    pairs: &mut Pairs,
+    pairs: &mut HashSet<[u32; 2]>,
     waits: &mut Vec<u32>,
     terms: &[Cell<N>],
 ) -> Result<bool, AllocError>

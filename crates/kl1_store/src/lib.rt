@@ -22,8 +22,6 @@ mod merges;
 mod next;
 mod node;
 mod occurs;
-mod pair;
-mod pairs;
 mod point;
 mod room;
 mod same;

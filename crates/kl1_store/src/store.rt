@@ -5,6 +5,7 @@ ghost use Rattle.kl1_store.specs.Held.{Held, nothing_held, with_variable, with_s
 ghost use Rattle.kl1_store.specs.Meaning.{term_of};
 ghost use Rattle.kl1_store.specs.Spending.{Spends, SpendsOnBindings, FreesRoom};
 ghost use Rattle.kl1_store.specs.Sound.{IsFormed};
+ghost use Rattle.kl1_store.specs.Places.{all_arguments, StandFrom};
 ghost use Rattle.kl1_store.specs.Unification.{UnifiesAs};
 ghost use Rattle.kl1_store.specs.Sameness.{SameAs};
 ghost use Rattle.kl1_store.specs.Hooks.{Kept, hanging_on, told_by, point_of, HasGrown};
@@ -17,7 +18,6 @@ use crate::head::Head;
 use crate::hooks::Hooks;
 use crate::levels::Levels;
 use crate::merges::Merges;
-use crate::pairs::Pairs;
 use crate::point::Point;
 use crate::same::Same;
 use crate::scratch::Scratch;
@@ -27,6 +27,7 @@ use crate::unified::Unified;
 use crate::unify::unify_or_undo;
 use kl1_text::NameValue;
 use std::alloc::{AllocError, Global};
+use std::collections::HashSet;
 use std::marker::Model;
 
 /// Terms as cells that share parts: variables and structures by number, each variable bound at most once.
@@ -69,7 +70,7 @@ impl<N: NameValue> Store<N> {
             scratch: Scratch {
                 frames: Vec::new(alloc),
                 merges: Merges::new(alloc),
-                pairs: Pairs::new(alloc),
+                pairs: HashSet::new(alloc),
                 tasks: Vec::new(alloc),
             },
             hooks: Hooks::new(alloc),
@@ -176,6 +177,25 @@ impl<N: NameValue> Store<N> {
         ensures { slice_get (arguments_of self.now.held structure) index ≡ Some result }
     {
         self.cells.argument(structure, index)
+    }
+
+    /// The place of a structure's first argument among those of all structures, from 0.
+    #[inline]
+    pub fn first_argument(&self, structure: u32) -> u32
+        requires { structure < length self.now.held.structures }
+        ensures { StandFrom self.now.held structure result }
+    {
+        self.cells.first_argument(structure)
+    }
+
+    /// An argument by its place among those of all structures, from 0.
+    #[inline]
+    pub fn argument_at(&self, place: u32) -> Cell<N>
+        requires { place < length (all_arguments self.now.held) }
+        ensures is { slice_get (all_arguments self.now.held) place ≡ Some result }
+        ensures inside { IsIn self.now.held result }
+    {
+        self.cells.argument_at(place)
     }
 
     /// Makes two cells mean the same term, if that can be, by as few replacements as serve.

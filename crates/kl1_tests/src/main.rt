@@ -1,9 +1,10 @@
-//! Rows of acts on what clauses make of goals, on accounts and on scripts, and whether each comes to what is wanted.
+//! Rows of acts on what clauses make of goals, on accounts and on scripts, and whether each comes to what is wanted; and what a reduction costs.
 #![tactic(auto)]
 
 mod part;
 mod parts;
 mod read;
+mod reductions;
 mod rows;
 mod script;
 mod seats;
@@ -14,9 +15,13 @@ use crate::rows::{Text, put_report};
 use std::io;
 use std::io::{Error, ErrorKind, Read, Write};
 
+/// Tries the rows of its input; where that is the word `reductions` and a line feed, the program measures.
 fn main(rt: HostRuntime) -> io::Result<()> {
     let mut rows = Vec::new(rt.alloc());
     rt.stdin().read_to_end(&mut rows)?;
+    if rows.as_slice() == b"reductions\n".as_slice() {
+        return reductions::tell_times(&rt, rt.alloc());
+    }
     let mut out = Text::new(rt.alloc());
     put_report(&mut out, &mut Parts::new(rt.alloc()), rows.as_slice());
     if out.has_failed {

@@ -2,14 +2,15 @@
 
 ghost use Rattle.std.specs.Prelude.{◌≡◌, [], IfOk, OnErr, option_map};
 ghost use Rattle.kl1_model.specs.State.{fresh};
+ghost use Rattle.kl1_model.specs.Event.{reduce as reduce_event};
 ghost use Rattle.kl1_model.specs.Step.{step};
 ghost use Rattle.kl1_model.specs.Choice.{first, quiet};
 ghost use Rattle.kl1_account.specs.Fitting.{Reading, Fits};
 ghost use Rattle.kl1_account.specs.Account.{state_of};
 ghost use Rattle.kl1_account.specs.Naming.{Keeps};
-ghost use Rattle.kl1_account.specs.Views.{event_of, reply_of, chosen_of};
+ghost use Rattle.kl1_account.specs.Views.{event_of, reply_of, reduced_or, chosen_of};
 
-use kl1_account::{Account, AccountName, ClauseNo, Event, GoalNo, Query, Reply};
+use kl1_account::{Account, AccountName, ClauseNo, Event, GoalNo, Query, Refusal, Reply};
 use kl1_atoms::AtomSource;
 use std::alloc::{AllocError, Global};
 use std::marker::{Model, PhantomData};
@@ -63,7 +64,7 @@ impl<A: AtomSource> UserState<A> {
         ensures knows { A.knows seat.new ≡ self.new.names }
     {
         match event {
-            Event::Reduce { goal, clause } => self.account.reduce(goal.0, clause.0),
+            Event::Reduce { goal, clause } => Ok(reply_to(self.account.reduce(goal.0, clause.0)?)),
             Event::Read(query) => match *query {
                 Query::Value(number) => self.account.value(names, seat, number.0),
             },
@@ -79,6 +80,15 @@ impl<A: AtomSource> UserState<A> {
         }
     }
 
+    /// Reduces a goal by a clause, or says why it is refused: what `apply` does where the event is a reduction, and its reply.
+    pub fn reduce(&mut self, goal: GoalNo, clause: ClauseNo) -> Result<Option<Refusal>, AllocError>
+        ensures step { IfOk result (λ refused. (f : Reading) → Fits self.old.names f → step (state_of f self.old) (reduce_event goal.0 clause.0) ≡ record { state = state_of f self.new; reply = reduced_or refused }) }
+        ensures names { self.new.names ≡ self.old.names }
+        ensures err { OnErr result (self.new ≡ self.old) }
+    {
+        self.account.reduce(goal.0, clause.0)
+    }
+
     /// The first goal that can step, with the clause by which it steps.
     pub fn pick(&self) -> Option<(GoalNo, ClauseNo)>
         ensures { (f : Reading) → Fits self.now.names f → option_map chosen_of result ≡ first (state_of f self.now) }
@@ -91,5 +101,15 @@ impl<A: AtomSource> UserState<A> {
         ensures { (f : Reading) → Fits self.now.names f → result ≡ quiet (state_of f self.now) }
     {
         self.account.quiet()
+    }
+}
+
+/// The reply to a reduction that is refused for this reason, or done where there is none.
+fn reply_to(refused: Option<Refusal>) -> Reply
+    ensures { reply_of result ≡ reduced_or refused }
+{
+    match refused {
+        None => Reply::Reduced,
+        Some(refusal) => Reply::Refused(refusal),
     }
 }

@@ -67,7 +67,7 @@ fn put_compiled(answer: &mut Text, code: &Code, source: &[u8]) {
 /// the variables of its head and of its others, and its patterns, tests and goals, with `?` between them.
 fn put_clause(answer: &mut Text, clause: &CompiledClause) {
     answer.put(b" <");
-    put_instruction(answer, Instruction::Structure(clause.name, clause.count));
+    put_structure(answer, clause.name, clause.count as u64);
     if clause.section > 0 {
         answer.put(b"+");
         answer.put_number(clause.section);
@@ -101,12 +101,15 @@ fn put_instruction(answer: &mut Text, instruction: Instruction) {
         }
         Instruction::Integer(number) => put_integer(answer, number),
         Instruction::Atom(name) => put_name(answer, name),
-        Instruction::Structure(name, count) => {
-            put_name(answer, name);
-            answer.put(b"/");
-            answer.put_number(count as u64);
-        }
+        Instruction::Structure(name, count) => put_structure(answer, name, count as u64),
     }
+}
+
+/// Puts the name of structures, `/` and their number of arguments.
+fn put_structure(answer: &mut Text, name: Name, count: u64) {
+    put_name(answer, name);
+    answer.put(b"/");
+    answer.put_number(count);
 }
 
 /// Puts a name: as it is printed where it is one of the language, and else `$` and its place.

@@ -41,7 +41,7 @@ fn open_three(tree: &mut ShoenTree<AtomNo>)
 
 /// Whether there is a shoen of a number, which lives or has ended, with this allowance.
 fn has(tree: &ShoenTree<AtomNo>, number: u64, is_living: bool, allowance: u64) -> bool {
-    let Some(shoen) = tree.get(number) else {
+    let Some(shoen) = tree.lend(number) else {
         return false;
     };
     let lives = match shoen.life {
@@ -65,19 +65,19 @@ fn has_origin(tree: &ShoenTree<AtomNo>, number: u64, goal: i64) -> bool {
 /// Whether three shoens are found by their numbers with what the console keeps of them, and one is changed alone.
 pub fn shoens_are_found(alloc: Global) -> Result<bool, AllocError> {
     let mut tree = ShoenTree::new(alloc);
-    let is_empty = tree.len() == 0 && tree.get(1).is_none();
+    let is_empty = tree.len() == 0 && tree.lend(1).is_none();
     tree.reserve(3)?;
     open_three(&mut tree);
     let opened = has(&tree, 1, true, 10) & has(&tree, 2, true, 20) & has(&tree, 3, true, 30);
-    let no_others = tree.get(0).is_none() & tree.get(4).is_none() & (tree.len() == 3);
+    let no_others = tree.lend(0).is_none() & tree.lend(4).is_none() & (tree.len() == 3);
     let started = tree.origin_at(1).is_none()
         & has_origin(&tree, 2, 7)
         & tree.origin_at(4).is_none();
     let mut ended = living(3, 35, None);
     ended.life = Life::Terminated;
-    tree.set(ended);
-    tree.set(living(4, 40, None));
+    tree.set(&ended);
+    tree.set(&living(4, 40, None));
     let changed = has(&tree, 1, true, 10) & has(&tree, 2, true, 20) & has(&tree, 3, false, 35);
-    let same = has_origin(&tree, 2, 7) & tree.get(4).is_none() & (tree.len() == 3);
+    let same = has_origin(&tree, 2, 7) & tree.lend(4).is_none() & (tree.len() == 3);
     Ok(is_empty & opened & no_others & started & changed & same)
 }

@@ -11,9 +11,9 @@ use std::alloc::AllocError;
 
 /// The place that a text writes: from the front, or back from the end.
 fn place_of(text: &[u8], end: u32) -> u32 {
-    match text {
-        [b'-', digits @ ..] => end.saturating_sub(small_number_of(digits)),
-        _ => small_number_of(text),
+    match text.strip_prefix(b"-") {
+        Some(digits) => end.saturating_sub(small_number_of(digits)),
+        None => small_number_of(text),
     }
 }
 

@@ -30,19 +30,20 @@ enum Way {
     Stream,
 }
 
+/// The ways by the words that stand before an act; an act without one is done plainly.
+const WAYS: [(&[u8], Way); 4] = [
+    (b"back ", Way::Back),
+    (b"room ", Way::Room),
+    (b"see ", Way::See),
+    (b"stream ", Way::Stream),
+];
+
 /// In what way an act is done, by the word before it, and the act.
 fn way_of(act: &[u8]) -> (Way, &[u8]) {
-    if let Some(act) = act.strip_prefix(b"back ") {
-        return (Way::Back, act);
-    }
-    if let Some(act) = act.strip_prefix(b"room ") {
-        return (Way::Room, act);
-    }
-    if let Some(act) = act.strip_prefix(b"see ") {
-        return (Way::See, act);
-    }
-    if let Some(act) = act.strip_prefix(b"stream ") {
-        return (Way::Stream, act);
+    for (word, way) in WAYS {
+        if let Some(act) = act.strip_prefix(word) {
+            return (way, act);
+        }
     }
     (Way::Plain, act)
 }

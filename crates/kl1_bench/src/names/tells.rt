@@ -2,7 +2,7 @@
 
 use crate::names::texts::names;
 use crate::names::times::{Times, times_of_run};
-use crate::ratios::hundredths;
+use kl1_rows::hundredths;
 use std::alloc::Global;
 use std::io;
 use std::rt::Clock;

@@ -5,8 +5,8 @@ ghost use Rattle.kl1_atoms.specs.Seats.{IsNewSharedSeat, face_in};
 ghost use Rattle.kl1_atoms.specs.declared.atom_seat.AtomSeat.{AtomSeat};
 
 use crate::names::look_ups::{found, found_by_four, found_by_two, next_seat};
-use crate::ratios::{moment, nanoseconds_since};
 use kl1_atoms::{AtomSeat, AtomTable};
+use kl1_rows::{moment, nanoseconds_since};
 use kl1_text::AtomText;
 use std::alloc::{AllocError, Global};
 use std::collections::HashMap;

@@ -1,8 +1,8 @@
 // What is told of the store beside plain Rust.
 
-use crate::ratios::{hundredths, moment, nanoseconds_since};
 use crate::store::plain::Plain;
 use crate::store::work::{Work, is_done};
+use kl1_rows::{hundredths, moment, nanoseconds_since};
 use kl1_store::Store;
 use std::alloc::Global;
 use std::io;

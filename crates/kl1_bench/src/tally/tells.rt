@@ -1,7 +1,7 @@
 // What is told of counting.
 
-use crate::ratios::hundredths;
 use crate::tally::times::{Times, times_of_sum, times_of_tally};
+use kl1_rows::hundredths;
 use std::alloc::Global;
 use std::io;
 use std::rt::Clock;

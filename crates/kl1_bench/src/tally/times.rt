@@ -2,10 +2,10 @@
 
 ghost use Rattle.std.specs.Prelude.{◌≡◌, ◌<◌, ◌≤◌, All, vec_len};
 
-use crate::ratios::{moment, nanoseconds_since};
 use crate::tally::counting::{
     add, add_by_four, add_by_two, next_seats, raised, raised_by_four, raised_by_two,
 };
+use kl1_rows::{moment, nanoseconds_since};
 use kl1_tally::{BookSeat, ShareSeat, Tally};
 use std::alloc::{AllocError, Global};
 use std::rt::Clock;

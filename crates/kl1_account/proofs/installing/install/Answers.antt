@@ -3,7 +3,6 @@ use Rattle.kl1_text.specs.declared.cell_name.CellName.{CellName}
 use Rattle.kl1_goals.specs.declared.goal.Goal.{Goal}
 use Rattle.kl1_goals.specs.Lists.{is_other, is_monitor_of}
 use Rattle.kl1_account.specs.Kept.{AreUpTo}
-use Rattle.kl1_account.specs.Drafts.{restood}
 use Rattle.kl1_account.proofs.Goals.{filter_up_to}
 use Rattle.kl1_account.proofs.Restood.{restood_holds}
 use Rattle.kl1_account.proofs.installing.install.Goals as goal

@@ -1,6 +1,6 @@
 use Rattle.std.proofs.lemmas.Result.{on_ok_weaker}
 use Rattle.kl1_goals.specs.Lists.{has_number}
-use Rattle.kl1_account.proofs.Hanging.{grown_among}
+use Rattle.kl1_moves.proofs.Hooked.{grown_among}
 use Rattle.kl1_account.proofs.Told.{removed_wakes, absent_wakes, monitor_wakes, cell_wakes, found_in}
 use Rattle.kl1_account.proofs.looking.wake.Goals as goal
 

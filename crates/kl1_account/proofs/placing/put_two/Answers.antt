@@ -1,4 +1,4 @@
-use Rattle.std.proofs.Common.{refl, ◌∙◌, ap, ◌+◌}
+use Rattle.std.proofs.Common.{refl, ◌∙◌, ◌+◌}
 use Rattle.kl1_account.proofs.TwoGoals.{monitor_next, goal_next}
 use Rattle.kl1_account.proofs.placing.put_two.Goals as goal
 

@@ -11,8 +11,13 @@ use Rattle.kl1_account.specs.Kept.{IsShoenIn}
 use Rattle.kl1_account.specs.Reducing.{Allows}
 use Rattle.kl1_account.proofs.PutIn.{never_absent, found_shoen_in}
 use Rattle.kl1_account.proofs.Drafted.{has_begun, is_ready, is_drafted}
-use Rattle.kl1_account.proofs.Steps.{account_at, found_cell, found_owned, refused_nowhere, refused_monitor, refused_move, refused_full, is_reduction}
+use Rattle.kl1_account.proofs.Steps.{account_at, found_cell, found_owned, refused_syntax, refused_nowhere, refused_monitor, refused_move, refused_full, is_reduction}
 use Rattle.kl1_account.proofs.reducing.draft_reduction.Goals as goal
+
+pub returns-then-not-are_numbers-clause-ok : goal.returns-then-not-are_numbers-clause-ok
+returns-then-not-are_numbers-clause-ok c = λ own names.
+    let a = account_at own names c.args.store.now.held c.args.goals.now.goals c.args.shoens.now.shoens c.args.modules.now.loaded c.args.last_goal c.args.entries in
+    refused_syntax a c.args.store.now c.args.number c.args.clause (sym c.if-not-are_numbers.ensures)
 
 pub returns-in_default-clause-ok : goal.returns-in_default-clause-ok
 returns-in_default-clause-ok c = λ own names.
@@ -55,13 +60,13 @@ returns-then-entries-ge-MOST_ENTRIES-clause-ok c = λ own names.
 pub unreachable-requires : goal.unreachable-requires
 unreachable-requires c =
     let own = found_owned (length c.args.shoens.now.shoens) c.args.number c.args.goals.now.goals c.in-Some.goal c.requires.owned (sym c.in-Some.ensures.goal) in
-    never_absent c.in-Some.goal.shoen c.args.shoens.now.shoens c.requires.numbered own.low own.high (sym c.in_default-get.ensures.value)
+    never_absent c.in-Some.goal.shoen c.args.shoens.now.shoens c.requires.numbered own.low own.high (sym c.in_default-lend.ensures.value)
 
 pub do_move-requires-clause-shoen : goal.do_move-requires-clause-shoen
 do_move-requires-clause-shoen c =
     let h = c.args.store.now.held in
     let P : Shoen CellName → Type 0 = λ s. IsShoenIn h s in
-    subst P (sym c.begin.ensures.shoen_is) (found_shoen_in h c.in-Some.goal.shoen c.args.shoens.now.shoens c.in-Some-get.shoen c.requires.shoens (sym c.in-Some-get.ensures.value))
+    subst P (sym c.begin.ensures.shoen_is) (found_shoen_in h c.in-Some.goal.shoen c.args.shoens.now.shoens c.in-Some-lend.shoen.now c.requires.shoens (sym c.in-Some-lend.ensures.value))
 
 pub do_move-requires-clause-cell : goal.do_move-requires-clause-cell
 do_move-requires-clause-cell c = found_cell c.args.store.now.held c.args.number c.args.goals.now.goals c.in-Some.goal c.in-Reduces.cell c.requires.goals (sym c.in-Some.ensures.goal) c.in-Reduces.is
@@ -76,14 +81,14 @@ finish-requires c =
     let p = c.predicate_of-predicate.result in
     let places = c.move_of.new.trial.places.items in
     let made = c.in-Some-2.made in
-    let sh = c.in-Some-get.shoen in
+    let sh = c.in-Some-lend.shoen.now in
     let before = c.begin.new.draft in
     let allows : Allows ms h p places x made c.args.clause = λ f knows.
     (let P : Option (Move CellName) → Type 0 = λ o. MovesAs f h (contents ms) (meaning f h x) c.args.clause p places o in
     let k = c.kind_of-kind.ensures.kind f knows.reads in
     subst P c.in-Some-2.is (c.in_ok-made.ensures.moves f knows.reads (contents ms) (meaning f h x) k (c.predicate_of-predicate.ensures.has f knows h (meaning f h x) k))) in
     let begun = has_begun h gs g c.args.goals.now.shoens c.args.last_goal sh before c.requires.some c.requires.goals c.requires.last
-    (found_shoen_in h g.shoen c.args.shoens.now.shoens sh c.requires.shoens (sym c.in-Some-get.ensures.value)) c.in-Some-get.ensures.number c.in-Some.ensures.known c.begin.ensures in
+    (found_shoen_in h g.shoen c.args.shoens.now.shoens sh c.requires.shoens (sym c.in-Some-lend.ensures.value)) c.in-Some-lend.ensures.number c.in-Some.ensures.known c.begin.ensures in
     let ready = is_ready ms h c.do_move.new.store.held gs g x c.args.clause c.args.goals.now.shoens p made places before c.do_move.new.draft begun allows c.in_ok-do_move.ensures.ok c.in_ok-do_move.ensures.moved c.in_ok-do_move.ensures.grown in
     record {
       goals = ready.goals_in;
@@ -105,7 +110,7 @@ returns-clause-ok c = λ own names.
     let p = c.predicate_of-predicate.result in
     let places = c.move_of.new.trial.places.items in
     let made = c.in-Some-2.made in
-    let sh = c.in-Some-get.shoen in
+    let sh = c.in-Some-lend.shoen.now in
     let before = c.begin.new.draft in
     let a = account_at own names h gs c.args.shoens.now.shoens ms c.args.last_goal c.args.entries in
     let allows : Allows ms h p places x made c.args.clause = λ f knows.
@@ -113,10 +118,10 @@ returns-clause-ok c = λ own names.
     let k = c.kind_of-kind.ensures.kind f knows.reads in
     subst P c.in-Some-2.is (c.in_ok-made.ensures.moves f knows.reads (contents ms) (meaning f h x) k (c.predicate_of-predicate.ensures.has f knows h (meaning f h x) k))) in
     let begun = has_begun h gs g c.args.goals.now.shoens c.args.last_goal sh before c.requires.some c.requires.goals c.requires.last
-    (found_shoen_in h g.shoen c.args.shoens.now.shoens sh c.requires.shoens (sym c.in-Some-get.ensures.value)) c.in-Some-get.ensures.number c.in-Some.ensures.known c.begin.ensures in
+    (found_shoen_in h g.shoen c.args.shoens.now.shoens sh c.requires.shoens (sym c.in-Some-lend.ensures.value)) c.in-Some-lend.ensures.number c.in-Some.ensures.known c.begin.ensures in
     let drafted = is_drafted ms c.mark-mark.result c.args.store.now c.do_move.new.store c.finish.new.store gs g x c.args.clause c.args.goals.now.shoens c.finish.new.goals.room p made places before c.do_move.new.draft c.finish.new.draft
     begun allows c.in_ok-do_move.ensures.ok c.in_ok-do_move.ensures.moved c.in_ok-do_move.ensures.grown c.in_ok-do_move.ensures.hooks c.in_ok-finish.ensures.ok c.mark-mark.ensures.point c.mark-mark.ensures.formed in
     is_reduction a c.args.store.now c.finish.new.store c.args.number c.args.clause c.args.goals.now.shoens c.finish.new.goals.room g x sh p places made before c.finish.new.draft refl
     (sym c.if-not-are_numbers.ensures) (sym c.in-Some.ensures.goal) c.in-Reduces.is allows c.if-entries-ge-MOST_ENTRIES.false
-    (sym c.in-Some-get.ensures.value) c.in-Some-get.ensures.number c.requires.owned c.requires.shoens c.requires.numbered (Grown-trans h c.do_move.new.store.held c.finish.new.store.held c.in_ok-do_move.ensures.grown c.in_ok-finish.ensures.grown.held)
+    (sym c.in-Some-lend.ensures.value) c.in-Some-lend.ensures.number c.requires.owned c.requires.shoens c.requires.numbered (Grown-trans h c.do_move.new.store.held c.finish.new.store.held c.in_ok-do_move.ensures.grown c.in_ok-finish.ensures.grown.held)
     c.begin.ensures drafted

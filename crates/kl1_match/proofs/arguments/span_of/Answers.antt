@@ -1,6 +1,7 @@
 use Rattle.std.proofs.Common.{refl, ◌∙◌, []}
 use Rattle.kl1_model.specs.Term.{variable, integer, atom}
-use Rattle.kl1_match.proofs.Cells.{at_variable, at_integer, at_atom, no_arguments, goal_at, all_arguments}
+use Rattle.kl1_match.proofs.Cells.{at_variable, at_integer, at_atom, no_arguments, goal_at, goal_arguments}
+use Rattle.kl1_match.specs.Spans.{span_cells}
 use Rattle.kl1_match.proofs.arguments.span_of.Goals as goal
 
 pub returns-in-Variable-clause-means : goal.returns-in-Variable-clause-means
@@ -23,4 +24,5 @@ returns-in-Atom-clause-means g c = λ f.
 
 pub returns-in-Structure-clause-means : goal.returns-in-Structure-clause-means
 returns-in-Structure-clause-means g c = λ f.
-    all_arguments f c.args.store.now.held c.args.goal c.walk.result c.in-Structure.structure c.look.result.count c.mark.ensures.formed c.walk.ensures.inside c.in-Structure.is (c.walk.ensures.means f) c.look.ensures.count
+    let h = c.args.store.now.held in
+    goal_arguments f h c.args.goal c.walk.result c.in-Structure.structure (span_cells h c.span_in.result) c.mark.ensures.formed c.walk.ensures.inside c.in-Structure.is (c.walk.ensures.means f) c.span_in.ensures.cells

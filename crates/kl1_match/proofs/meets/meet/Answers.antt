@@ -11,20 +11,21 @@ use Rattle.kl1_clause.specs.declared.instruction.Instruction.{Instruction}
 use Rattle.kl1_match.specs.Matching.{IntegerMeets, MeetsFirst}
 use Rattle.kl1_match.specs.declared.met.Met.TheVariants.{Agrees}
 use Rattle.kl1_match.proofs.Beside.{met_unbound, variable_meets, integer_meets, atom_meets, structure_meets}
+use Rattle.kl1_match.proofs.Trying.{keeps_of}
 use Rattle.kl1_match.proofs.meets.meet.Goals as goal
 
 -- the first of the cells, and those behind it
 first_left : {N : Type 0} (h : Held N) (span after : Span) (behind : List Span) (x : Cell N) → span_cells h span ≡ x ∷ span_cells h after → cells_left h span behind ≡ x ∷ cells_left h after behind
 first_left h span after behind x e = ap (λ l. l ++ cells_behind h behind) e
 
-pub returns-then-keep-clause-meets : goal.returns-then-keep-clause-meets
-returns-then-keep-clause-meets g c =
+pub returns-then-this-ne0-clause-meets : goal.returns-then-this-ne0-clause-meets
+returns-then-this-ne0-clause-meets g c =
     let h = c.args.store.now.held in
     let behind = c.args.behind.now.items in
     let cells = cells_left h c.args.span.now behind in
     let rest = cells_left h c.take_cell-cell.new.span behind in
     let x = c.take_cell-cell.result in
-    let P : Instruction → Type 0 = λ i. MeetsFirst g.N.NameValue.built h c.args.names.now i c.args.keep cells rest c.args.places.now.items c.push_reserved.new.self.items Agrees in
+    let P : Instruction → Type 0 = λ i. MeetsFirst g.N.NameValue.built h c.args.names.now i (keeps_of g.row.KEEP) cells rest c.args.places.now.items c.push_reserved.new.self.items Agrees in
     subst P (sym c.in-Variable.is) (record {
       first = x;
       rest = rest;
@@ -33,20 +34,20 @@ returns-then-keep-clause-meets g c =
       meets = λ ps there. variable_meets g.N.NameValue.built h c.args.names.now c.in-Variable.variable x rest ps (ps ++ record { variable = c.in-Variable.variable; cell = x } ∷ []) c.take_cell-cell.ensures.inside there refl;
     })
 
-pub returns-else-keep-clause-meets : goal.returns-else-keep-clause-meets
-returns-else-keep-clause-meets g c =
+pub returns-else-this-ne0-clause-meets : goal.returns-else-this-ne0-clause-meets
+returns-else-this-ne0-clause-meets g c =
     let h = c.args.store.now.held in
     let behind = c.args.behind.now.items in
     let cells = cells_left h c.args.span.now behind in
     let rest = cells_left h c.take_cell-cell.new.span behind in
     let x = c.take_cell-cell.result in
     let places = c.args.places.now.items in
-    let P : Instruction → Type 0 = λ i. MeetsFirst g.N.NameValue.built h c.args.names.now i c.args.keep cells rest places places Agrees in
+    let P : Instruction → Type 0 = λ i. MeetsFirst g.N.NameValue.built h c.args.names.now i (keeps_of g.row.KEEP) cells rest places places Agrees in
     subst P (sym c.in-Variable.is) (record {
       first = x;
       rest = rest;
       cells_are = first_left h c.args.span.now c.take_cell-cell.new.span behind x c.take_cell-cell.ensures.cells;
-      kept = λ k. absurd (false≢true (sym c.if-keep.false ∙ k));
+      kept = λ k. absurd (false≢true (sym (ap keeps_of c.if-this-ne0.false) ∙ k));
       meets = λ ps there. variable_meets g.N.NameValue.built h c.args.names.now c.in-Variable.variable x rest ps (ps ++ record { variable = c.in-Variable.variable; cell = x } ∷ []) c.take_cell-cell.ensures.inside there refl;
     })
 
@@ -58,7 +59,7 @@ returns-in-Integer-clause-meets g c =
     let after = c.take_cell-cell-in-Integer.new.span in
     let rest = cells_left h after behind in
     let places = c.args.places.now.items in
-    let P : Instruction → Type 0 = λ i. MeetsFirst g.N.NameValue.built h c.args.names.now i c.args.keep (cells_left h c.args.span.now behind) rest places places c.meet_integer.result in
+    let P : Instruction → Type 0 = λ i. MeetsFirst g.N.NameValue.built h c.args.names.now i (keeps_of g.row.KEEP) (cells_left h c.args.span.now behind) rest places places c.meet_integer.result in
     let Q : ℤ → Type 0 = λ i. IntegerMeets g.N.NameValue.built h i c.walk.result c.meet_integer.result in
     let fits : SFits w64 c.in-Integer.integer = search rules in
     subst P (sym c.in-Integer.is) (record {
@@ -78,7 +79,7 @@ returns-in-Atom-clause-meets g c =
     let after = c.take_cell-cell-in-Atom.new.span in
     let rest = cells_left h after behind in
     let places = c.args.places.now.items in
-    let P : Instruction → Type 0 = λ i. MeetsFirst g.N.NameValue.built h c.args.names.now i c.args.keep (cells_left h c.args.span.now behind) rest places places c.meet_atom.result in
+    let P : Instruction → Type 0 = λ i. MeetsFirst g.N.NameValue.built h c.args.names.now i (keeps_of g.row.KEEP) (cells_left h c.args.span.now behind) rest places places c.meet_atom.result in
     subst P (sym c.in-Atom.is) (record {
       first = x;
       rest = rest;
@@ -96,7 +97,7 @@ returns-in-Structure-clause-meets g c =
     let rest = cells_left h after behind in
     let now = cells_left h c.meet_structure.new.span c.meet_structure.new.behind.items in
     let places = c.args.places.now.items in
-    let P : Instruction → Type 0 = λ i. MeetsFirst g.N.NameValue.built h c.args.names.now i c.args.keep (cells_left h c.args.span.now behind) now places places c.meet_structure.result in
+    let P : Instruction → Type 0 = λ i. MeetsFirst g.N.NameValue.built h c.args.names.now i (keeps_of g.row.KEEP) (cells_left h c.args.span.now behind) now places places c.meet_structure.result in
     subst P (sym c.in-Structure.is) (record {
       first = x;
       rest = rest;

@@ -7,10 +7,6 @@ use Rattle.kl1_match.specs.declared.span.Span.{Span}
 use Rattle.kl1_match.specs.Spans.{AreSpans, cells_left}
 use Rattle.kl1_match.proofs.meets.meet_structure.Goals as goal
 
--- the arguments of a structure before one
-abbrev span_to : ℕ → ℕ → Span
-span_to s n = record { structure = s; next = 0; end = n }
-
 pub returns-in-Variable-clause-meets : goal.returns-in-Variable-clause-meets
 returns-in-Variable-clause-meets g c = record {
   cells_are = refl;
@@ -48,12 +44,12 @@ returns-then-not-same-clause-meets g c = record {
 pub returns-else-not-same-clause-meets : goal.returns-else-not-same-clause-meets
 returns-else-not-same-clause-meets g c =
     let h = c.args.store.now.held in
-    let inner : Span = record { structure = c.in-Structure.structure; next = 0; end = c.look-head.result.count } in
+    let inner = c.span_in.result in
     record {
       opened = λ f reads.
           opened f h c.args.name c.look-head.result.name c.args.count c.in-Structure.structure c.args.cell (cells_left h c.args.span.now c.args.behind.now.items) (cells_left h inner c.push_reserved.new.self.items) c.mark.ensures.formed c.in-Structure.is c.look-head.ensures.name
           (sym c.look-head.ensures.count ∙ c.if-head-count.false) (c.same.ensures.0 c.if-not-same.false)
-          (put_before h c.args.span.now inner c.args.behind.now.items c.push_reserved.new.self.items c.in-Structure.structure (ap (span_to c.in-Structure.structure) c.look-head.ensures.count) c.push_reserved.ensures.items);
+          (put_before h c.args.span.now inner c.args.behind.now.items c.push_reserved.new.self.items c.in-Structure.structure c.span_in.ensures.cells c.push_reserved.ensures.items);
     }
 
 pub returns-else-not-same-clause-behind : goal.returns-else-not-same-clause-behind

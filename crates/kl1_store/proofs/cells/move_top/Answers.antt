@@ -1,20 +1,22 @@
-use Rattle.std.proofs.Common.{◌≡◌, ◌∙◌, ◌++◌, ◌-◌, ap, length, length-append, reverse, rules, arith, [], ◌∷◌}
-use Rattle.std.specs.Prelude.{option_to_list}
-use Rattle.kl1_store.specs.Tops.{first_or, firsts}
-use Rattle.kl1_store.proofs.Tops.{popped, moved_one, left_one}
+use Rattle.std.proofs.Common.{◌≡◌, ◌-◌, ◌+◌, ◌++◌, ◌∙◌, ap, arith, length, length-drop, reverse, take, drop}
+use Rattle.std.proofs.lemmas.List.{take_all}
+use Rattle.kl1_store.proofs.Tops.{top_reversed}
 use Rattle.kl1_store.proofs.cells.move_top.Goals as goal
 
-pub loop-left-preserved : goal.loop-left-preserved
-loop-left-preserved g c =
-    let i = c.loop-left.invariant in
-    let p = popped c.args.missing c.loop-left.stack.items c.pop.new.self.items c.pop.result c.pop.ensures.items (λ h. search rules) in
-    let first : first_or c.args.missing (reverse c.loop-left.stack.items) ≡ c.unwrap_or-cell.result = p.first ∙ search rules in
-    let one = moved_one c.loop-left.list.items c.args.missing c.loop-left.left (reverse c.loop-left.stack.items) (reverse c.pop.new.self.items) c.unwrap_or-cell.result (search rules) first p.rest in
-    let pushed : c.push_reserved.new.self.items ≡ c.loop-left.list.items ++ c.unwrap_or-cell.result ∷ [] = c.push_reserved.ensures.items in (
-      ap (λ xs. xs ++ firsts c.args.missing (c.loop-left.left - 1) (reverse c.pop.new.self.items)) pushed ∙ (one ∙ i.0),
-      left_one c.loop-left.left (reverse c.loop-left.stack.items) (reverse c.pop.new.self.items) (search rules) p.rest ∙ i.1,
-      omega (arith, i.2, ap length pushed, length-append c.loop-left.list.items (c.unwrap_or-cell.result ∷ []), c.push_reserved.ensures.capacity, c.loop-left-test.true),
-      c.push_reserved.ensures.capacity ∙ i.3,
-      c.pop.ensures.capacity ∙ i.4,
-      omega (arith, i.5, ap length c.pop.ensures.items, length-append c.pop.new.self.items (option_to_list c.pop.result)),
-    )
+pub returns-clause-moved : goal.returns-clause-moved
+returns-clause-moved g c =
+    let stack = c.args.stack.now.items in
+    let slice = c.deref.result.now in
+    let from = c.len-2.result - c.args.count in
+    let within : from + c.args.count ≡ length stack = omega (arith, c.len-2.ensures, c.args.stack.now.ok.0, c.if-count-len.false, c.len.ensures) in
+    let all : take (length slice - from) (drop from slice) ≡ drop from slice = take_all (length slice - from) (drop from slice) (omega (arith, length-drop from slice)) in
+    c.put_reversed.ensures.items
+    ∙ ap (λ l. c.args.list.now.items ++ reverse l) (all ∙ ap (drop from) c.deref.ensures.value)
+    ∙ ap (λ l. c.args.list.now.items ++ l) (top_reversed c.args.missing c.args.count from stack within).0
+
+pub returns-clause-left : goal.returns-clause-left
+returns-clause-left g c =
+    let stack = c.args.stack.now.items in
+    let from = c.len-2.result - c.args.count in
+    let within : from + c.args.count ≡ length stack = omega (arith, c.len-2.ensures, c.args.stack.now.ok.0, c.if-count-len.false, c.len.ensures) in
+    ap reverse c.truncate.ensures.items ∙ (top_reversed c.args.missing c.args.count from stack within).1

@@ -5,13 +5,16 @@ use Rattle.kl1_account.specs.Account.{Account}
 use Rattle.kl1_text.specs.declared.cell_name.CellName.{CellName}
 use Rattle.kl1_goals.specs.Tables.{Tabled}
 use Rattle.kl1_account.specs.Accounts.{kept_in}
-use Rattle.kl1_account.proofs.Loads.{ready, ready_new, put_is, put_kept, put_steps}
+use Rattle.kl1_account.proofs.Loads.{ready, ready_new, put_is, put_kept, put_steps, refused_load}
 use Rattle.kl1_account.proofs.account.Account.load.Goals as goal
 
 pub draft_module-requires-clause-names : goal.draft_module-requires-clause-names
 draft_module-requires-clause-names g c =
     let P : List Known → Type 0 = λ ks. AreNames ks in
     subst P (c.requires.knows ∙ sym (ap (λ (a : Account). a.names) c.self.view_is)) (g.met.A.AtomSource.one_to_one c.args.names.now c.args.seat.now c.requires.of)
+
+pub returns-in-Refused-clause-step : goal.returns-in-Refused-clause-step
+returns-in-Refused-clause-step g c = λ f fits. refused_load (kept_in c.self.inside) c.args.self.now c.args.source.now c.in_ok-refusal.field-0 c.in-Refused.refusal c.in-Refused.is c.in_ok-refusal.ensures c.self.view_is f
 
 pub install_module-requires-clause-new : goal.install_module-requires-clause-new
 install_module-requires-clause-new g c =

@@ -1,11 +1,8 @@
-use Rattle.std.proofs.Common.{◌≡◌, ◌+◌, List, length, arith, refl, sym, ◌∙◌, subst}
-use Rattle.kl1_text.specs.declared.cell_name.CellName.{CellName}
-use Rattle.kl1_goals.specs.declared.goal.Goal.{Goal}
+use Rattle.std.proofs.Common.{◌≡◌, ◌+◌, length, arith, refl, ◌∙◌}
 use Rattle.kl1_account.specs.Account.{Account}
 use Rattle.kl1_account.specs.Accounts.{kept_in}
-use Rattle.kl1_account.specs.Kept.{AreUpTo}
 use Rattle.kl1_account.specs.Reducing.{put_in}
-use Rattle.kl1_account.proofs.Reduced.{kept_same, done_of, refused_of, as_before, refused_step, placed_as, done_step, kept_done}
+use Rattle.kl1_account.proofs.Reduced.{kept_same, done_of, refused_of, as_before, refused_step, fits_same, placed_as, done_step, kept_done}
 use Rattle.kl1_account.proofs.account.Account.reduce.Goals as goal
 
 pub invariant_of-self-in-Some : goal.invariant_of-self-in-Some
@@ -28,71 +25,14 @@ returns-in-Some-clause-step c =
     let z : Account = record (kept_in u) { held = k.held; goals = gs.goals } in
     refused_step (kept_in u) c.args.self.now z u.store k u.store.hooks u.goals.shoens c.args.number c.args.clause c.in-Some.refusal c.self.view_is c.self.invariant same r
 
-pub install-requires-clause-room : goal.install-requires-clause-room
-install-requires-clause-room c =
+pub install-requires : goal.install-requires
+install-requires c =
     let u = c.self.inside in
     let d = c.draft_reduction.new.draft in
     let k = c.draft_reduction.new.store in
     let gs = c.draft_reduction.new.goals in
     let r = done_of (kept_in u) u.store k c.args.number c.args.clause u.goals.shoens gs.room d c.in-Ok.refused c.in_default.is (c.in-Ok.ensures.ok u.name u.names.names) in
-    r.fitting.enough
-
-pub install-requires-clause-fits : goal.install-requires-clause-fits
-install-requires-clause-fits c =
-    let u = c.self.inside in
-    let d = c.draft_reduction.new.draft in
-    let k = c.draft_reduction.new.store in
-    let gs = c.draft_reduction.new.goals in
-    let r = done_of (kept_in u) u.store k c.args.number c.args.clause u.goals.shoens gs.room d c.in-Ok.refused c.in_default.is (c.in-Ok.ensures.ok u.name u.names.names) in
-    r.fitting.numbers
-
-pub install-requires-clause-standings : goal.install-requires-clause-standings
-install-requires-clause-standings c =
-    let u = c.self.inside in
-    let d = c.draft_reduction.new.draft in
-    let k = c.draft_reduction.new.store in
-    let gs = c.draft_reduction.new.goals in
-    let r = done_of (kept_in u) u.store k c.args.number c.args.clause u.goals.shoens gs.room d c.in-Ok.refused c.in_default.is (c.in-Ok.ensures.ok u.name u.names.names) in
-    r.fitting.standings
-
-pub install-requires-clause-last : goal.install-requires-clause-last
-install-requires-clause-last c =
-    let u = c.self.inside in
-    let d = c.draft_reduction.new.draft in
-    let k = c.draft_reduction.new.store in
-    let gs = c.draft_reduction.new.goals in
-    let r = done_of (kept_in u) u.store k c.args.number c.args.clause u.goals.shoens gs.room d c.in-Ok.refused c.in_default.is (c.in-Ok.ensures.ok u.name u.names.names) in
-    let P : List (Goal CellName) → Type 0 = λ xs. AreUpTo d.last_goal xs in
-    subst P (sym c.in-Ok.ensures.goals) r.fitting.last
-
-pub install-requires-clause-low : goal.install-requires-clause-low
-install-requires-clause-low c =
-    let u = c.self.inside in
-    let d = c.draft_reduction.new.draft in
-    let k = c.draft_reduction.new.store in
-    let gs = c.draft_reduction.new.goals in
-    let r = done_of (kept_in u) u.store k c.args.number c.args.clause u.goals.shoens gs.room d c.in-Ok.refused c.in_default.is (c.in-Ok.ensures.ok u.name u.names.names) in
-    r.fitting.low
-
-pub install-requires-clause-high : goal.install-requires-clause-high
-install-requires-clause-high c =
-    let u = c.self.inside in
-    let d = c.draft_reduction.new.draft in
-    let k = c.draft_reduction.new.store in
-    let gs = c.draft_reduction.new.goals in
-    let r = done_of (kept_in u) u.store k c.args.number c.args.clause u.goals.shoens gs.room d c.in-Ok.refused c.in_default.is (c.in-Ok.ensures.ok u.name u.names.names) in
-    let high = r.fitting.high in
-    let count = c.in-Ok.ensures.count in
-    omega (arith, high, count)
-
-pub install-requires-clause-priority : goal.install-requires-clause-priority
-install-requires-clause-priority c =
-    let u = c.self.inside in
-    let d = c.draft_reduction.new.draft in
-    let k = c.draft_reduction.new.store in
-    let gs = c.draft_reduction.new.goals in
-    let r = done_of (kept_in u) u.store k c.args.number c.args.clause u.goals.shoens gs.room d c.in-Ok.refused c.in_default.is (c.in-Ok.ensures.ok u.name u.names.names) in
-    r.fitting.most
+    fits_same u.goals.goals gs.goals u.goals.shoens gs.shoens gs.room d c.in-Ok.ensures.goals c.in-Ok.ensures.count r.fitting
 
 pub overflow_add-self : goal.overflow_add-self
 overflow_add-self c =

@@ -1,8 +1,8 @@
-use Rattle.std.proofs.Common.{◌≡◌, ℕ, suc, ◌+◌, ◌++◌, true, List, [], length, refl, sym, ap, ◌∙◌, arith, subst}
+use Rattle.std.proofs.Common.{◌≡◌, ℕ, suc, ◌+◌, ◌++◌, List, [], refl, sym, ap, ◌∙◌, subst}
 use Rattle.kl1_model.specs.Term.{Term}
 use Rattle.kl1_model.specs.TermCode.{nodes_of}
-use Rattle.kl1_model.specs.State.{State, names_of, with_names}
-use Rattle.kl1_model.specs.Event.{start, refuse, opened, too_many_names, journal_full}
+use Rattle.kl1_model.specs.State.{names_of, with_names}
+use Rattle.kl1_model.specs.Event.{start, opened}
 use Rattle.kl1_model.specs.Step.{step}
 use Rattle.kl1_atoms.specs.declared.known.Known.{Known}
 use Rattle.kl1_atoms.specs.Names.{AreNames}
@@ -16,34 +16,30 @@ use Rattle.kl1_account.specs.Accounts.{kept_in}
 use Rattle.kl1_match.specs.GoalCells.{goal_variables}
 use Rattle.kl1_account.specs.Starting.{hooks_on}
 use Rattle.kl1_account.proofs.StartChecks.{goal_below, may_numbered, may_high}
-use Rattle.kl1_account.proofs.Started.{is_start, started_kept, started_step, step_names, step_full}
+use Rattle.kl1_account.proofs.Started.{is_start, started_kept, started_step, refused_start, startable_of}
 use Rattle.kl1_account.proofs.account.Account.start.Goals as goal
 
-pub returns-then-are_too_many-clause-step : goal.returns-then-are_too_many-clause-step
-returns-then-are_too_many-clause-step g c =
-    let P : Account → Type 0 = λ a. (f : Reading) → Fits a.names f → step (state_of f a) (start c.args.allowance c.args.low c.args.high c.args.goal.now) ≡ refuse (state_of f a) too_many_names in
-    subst P c.self.view_is (λ f fits. step_names (state_of f (kept_in c.self.inside)) c.args.allowance c.args.low c.args.high c.args.goal.now c.names-texts.result.now
-    (sym c.in_ok-may_start.ensures ∙ c.if-not-branch.false) (c.names-texts.ensures.value ∙ ap (λ (x : Term). with_names [] (names_of x)) c.in_ok-code.ensures) (sym c.are_too_many.ensures ∙ c.if-are_too_many.true))
-
-pub returns-then-self-ge-MOST_ENTRIES-clause-step : goal.returns-then-self-ge-MOST_ENTRIES-clause-step
-returns-then-self-ge-MOST_ENTRIES-clause-step g c =
-    let P : Account → Type 0 = λ a. (f : Reading) → Fits a.names f → step (state_of f a) (start c.args.allowance c.args.low c.args.high c.args.goal.now) ≡ refuse (state_of f a) journal_full in
-    subst P c.self.view_is (λ f fits. step_full (state_of f (kept_in c.self.inside)) c.args.allowance c.args.low c.args.high c.args.goal.now c.names-texts.result.now
-    (sym c.in_ok-may_start.ensures ∙ c.if-not-branch.false) (c.names-texts.ensures.value ∙ ap (λ (x : Term). with_names [] (names_of x)) c.in_ok-code.ensures) (sym c.are_too_many.ensures ∙ c.if-are_too_many.false) c.if-self-ge-MOST_ENTRIES.true)
+pub returns-in-Refused-clause-step : goal.returns-in-Refused-clause-step
+returns-in-Refused-clause-step g c = λ f fits.
+    refused_start (kept_in c.self.inside) c.args.self.now c.args.allowance c.args.low c.args.high c.args.goal.now c.in_ok-refusal.field-0 c.in-Refused.refusal c.in-Refused.is c.in_ok-refusal.ensures c.self.view_is f
 
 pub prepare_start-requires-clause-below : goal.prepare_start-requires-clause-below
 prepare_start-requires-clause-below g c =
+    let may = startable_of (kept_in c.self.inside).names c.self.inside.entries c.args.allowance c.args.low c.args.high c.args.goal.now c.in-Coded.code c.in_ok-refusal.field-0 c.in-Coded.is c.in_ok-refusal.ensures in
     let T : Term → Type 0 = λ x. IsRowOf (with_names [] (names_of x)) c.row-row.result.now (nodes_of x) in
-    goal_below c.args.goal.now (with_names [] (names_of c.args.goal.now)) c.row-row.result.now c.highest.result (subst T c.in_ok-code.ensures c.row-row.ensures) c.highest.ensures
+    goal_below c.args.goal.now (with_names [] (names_of c.args.goal.now)) c.row-row.result.now c.highest.result (subst T may.code_is c.row-row.ensures) c.highest.ensures
 
 pub place-requires-clause-high : goal.place-requires-clause-high
-place-requires-clause-high g c = may_high c.args.allowance c.args.low c.args.high c.args.goal.now (sym c.in_ok-may_start.ensures ∙ c.if-not-branch.false)
+place-requires-clause-high g c =
+    let may = startable_of (kept_in c.self.inside).names c.self.inside.entries c.args.allowance c.args.low c.args.high c.args.goal.now c.in-Coded.code c.in_ok-refusal.field-0 c.in-Coded.is c.in_ok-refusal.ensures in
+    may_high c.args.allowance c.args.low c.args.high c.args.goal.now may.may
 
 pub place-requires-clause-below : goal.place-requires-clause-below
 place-requires-clause-below g c =
+    let may = startable_of (kept_in c.self.inside).names c.self.inside.entries c.args.allowance c.args.low c.args.high c.args.goal.now c.in-Coded.code c.in_ok-refusal.field-0 c.in-Coded.is c.in_ok-refusal.ensures in
     let T : Term → Type 0 = λ x. IsRowOf (with_names [] (names_of x)) c.row-row.result.now (nodes_of x) in
     let N : ℕ → Type 0 = λ n. AreBelow n c.row-row.result.now in
-    subst N (sym c.in_ok-opening.ensures.ok.variables.next.length_is) (goal_below c.args.goal.now (with_names [] (names_of c.args.goal.now)) c.row-row.result.now c.highest.result (subst T c.in_ok-code.ensures c.row-row.ensures) c.highest.ensures)
+    subst N (sym c.in_ok-opening.ensures.ok.variables.next.length_is) (goal_below c.args.goal.now (with_names [] (names_of c.args.goal.now)) c.row-row.result.now c.highest.result (subst T may.code_is c.row-row.ensures) c.highest.ensures)
 
 pub invariant_of-self-2 : goal.invariant_of-self-2
 invariant_of-self-2 g c =
@@ -51,14 +47,14 @@ invariant_of-self-2 g c =
     let a = kept_in u in
     let b : Account = record { own_name = u.name; held = c.place.new.store.held; goals = c.place.new.goals.goals; shoens = c.place.new.shoens.shoens; modules = u.modules.loaded; names = c.publish.new.known.names; last_goal = c.in_ok-last.last; entries = u.entries + 1 } in
     let goal_term = c.args.goal.now in
-    let may = sym c.in_ok-may_start.ensures ∙ c.if-not-branch.false in
+    let may = startable_of (kept_in c.self.inside).names c.self.inside.entries c.args.allowance c.args.low c.args.high c.args.goal.now c.in-Coded.code c.in_ok-refusal.field-0 c.in-Coded.is c.in_ok-refusal.ensures in
     let texts = c.names-texts.result.now in
     let row = c.row-row.result.now in
     let cells = goal_variables c.prepare_start.new.scratch in
     let awaited = c.prepare_start.new.trial.awaited.items in
-    let s = is_start a b c.prepare_start.new.store.held texts row c.publish.new.row.items c.as_slice.result.now c.highest.result cells awaited c.in_ok-opening.opening c.args.allowance c.args.low c.args.high goal_term c.in_ok-code.code c.prepare_start.new.goals.goals c.prepare_start.new.shoens.shoens
+    let s = is_start a b c.prepare_start.new.store.held texts row c.publish.new.row.items c.as_slice.result.now c.highest.result cells awaited c.in_ok-opening.opening c.args.allowance c.args.low c.args.high goal_term c.in-Coded.code c.prepare_start.new.goals.goals c.prepare_start.new.shoens.shoens
     c.prepare_start.ensures.formed c.in_ok-opening.ensures.ok c.in_ok-opening.ensures.grown c.place.ensures.placed c.prepare_start.ensures.goals c.prepare_start.ensures.shoens c.as_slice.ensures.value c.place.ensures.grown
-    c.in_ok-code.ensures c.names-texts.ensures.value c.row-row.ensures (may_numbered c.args.allowance c.args.low c.args.high goal_term may) c.highest.ensures
+    may.code_is c.names-texts.ensures.value c.row-row.ensures (may_numbered c.args.allowance c.args.low c.args.high goal_term may.may) c.highest.ensures
     (c.publish.ensures.texts ∙ ap (λ (ks : List Known). with_texts (texts_of ks) texts) c.prepare_start.ensures.names) c.publish.ensures.row (λ f fits. let F : List Known → Type 0 = λ ks. Fits ks f in subst F c.prepare_start.ensures.names (c.publish.ensures.fits f fits))
     refl refl c.in_ok-last.ensures.value refl in
     let N : List Known → Type 0 = λ ks. AreNames ks in
@@ -72,15 +68,15 @@ returns-clause-step g c =
     let a = kept_in u in
     let b : Account = record { own_name = u.name; held = c.place.new.store.held; goals = c.place.new.goals.goals; shoens = c.place.new.shoens.shoens; modules = u.modules.loaded; names = c.publish.new.known.names; last_goal = c.in_ok-last.last; entries = u.entries + 1 } in
     let goal_term = c.args.goal.now in
-    let may = sym c.in_ok-may_start.ensures ∙ c.if-not-branch.false in
+    let may = startable_of (kept_in c.self.inside).names c.self.inside.entries c.args.allowance c.args.low c.args.high c.args.goal.now c.in-Coded.code c.in_ok-refusal.field-0 c.in-Coded.is c.in_ok-refusal.ensures in
     let texts = c.names-texts.result.now in
     let row = c.row-row.result.now in
     let cells = goal_variables c.prepare_start.new.scratch in
     let awaited = c.prepare_start.new.trial.awaited.items in
-    let s = is_start a b c.prepare_start.new.store.held texts row c.publish.new.row.items c.as_slice.result.now c.highest.result cells awaited c.in_ok-opening.opening c.args.allowance c.args.low c.args.high goal_term c.in_ok-code.code c.prepare_start.new.goals.goals c.prepare_start.new.shoens.shoens
+    let s = is_start a b c.prepare_start.new.store.held texts row c.publish.new.row.items c.as_slice.result.now c.highest.result cells awaited c.in_ok-opening.opening c.args.allowance c.args.low c.args.high goal_term c.in-Coded.code c.prepare_start.new.goals.goals c.prepare_start.new.shoens.shoens
     c.prepare_start.ensures.formed c.in_ok-opening.ensures.ok c.in_ok-opening.ensures.grown c.place.ensures.placed c.prepare_start.ensures.goals c.prepare_start.ensures.shoens c.as_slice.ensures.value c.place.ensures.grown
-    c.in_ok-code.ensures c.names-texts.ensures.value c.row-row.ensures (may_numbered c.args.allowance c.args.low c.args.high goal_term may) c.highest.ensures
+    may.code_is c.names-texts.ensures.value c.row-row.ensures (may_numbered c.args.allowance c.args.low c.args.high goal_term may.may) c.highest.ensures
     (c.publish.ensures.texts ∙ ap (λ (ks : List Known). with_texts (texts_of ks) texts) c.prepare_start.ensures.names) c.publish.ensures.row (λ f fits. let F : List Known → Type 0 = λ ks. Fits ks f in subst F c.prepare_start.ensures.names (c.publish.ensures.fits f fits))
     refl refl c.in_ok-last.ensures.value refl in
     let P : Account → Type 0 = λ z. (f : Reading) → Fits b.names f → step (state_of f z) (start c.args.allowance c.args.low c.args.high goal_term) ≡ record { state = state_of f b; reply = opened c.in_ok-shoen.shoen } in
-    subst P c.self.view_is (λ f fits. started_step a b c.prepare_start.new.store.held texts row c.publish.new.row.items c.highest.result cells awaited c.in_ok-opening.opening c.args.allowance c.args.low c.args.high goal_term u.store.hooks u.goals.shoens c.in_ok-shoen.shoen c.self.invariant s may (sym c.are_too_many.ensures ∙ c.if-are_too_many.false) c.if-self-ge-MOST_ENTRIES.false (c.in_ok-shoen.ensures ∙ ap suc c.len.ensures.value) f fits)
+    subst P c.self.view_is (λ f fits. started_step a b c.prepare_start.new.store.held texts row c.publish.new.row.items c.highest.result cells awaited c.in_ok-opening.opening c.args.allowance c.args.low c.args.high goal_term c.in-Coded.code u.store.hooks u.goals.shoens c.in_ok-shoen.shoen c.self.invariant s may (c.in_ok-shoen.ensures ∙ ap suc c.len.ensures.value) f fits)
