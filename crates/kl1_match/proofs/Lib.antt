@@ -7,6 +7,7 @@ pub mod Bodies
 pub mod Cells
 pub mod Skipping
 pub mod Answered
+pub mod Plain
 pub mod Whole
 pub mod Trying
 pub mod Beside

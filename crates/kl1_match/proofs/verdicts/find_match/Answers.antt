@@ -10,7 +10,7 @@ use Rattle.kl1_match.specs.Matching.{MeetsFirst}
 use Rattle.kl1_match.proofs.Cells.{cells_there}
 use Rattle.kl1_match.proofs.Whole.{named_at}
 use Rattle.kl1_match.proofs.Trying.{keeps_of, none_behind, starts_kept, agrees_kept, waits_kept, clashes_kept, terms_wanted_kept, patterns_wanted_kept, accepted_kept, suspended_kept}
-use Rattle.kl1_match.proofs.verdicts.find_verdict.Goals as goal
+use Rattle.kl1_match.proofs.verdicts.find_match.Goals as goal
 
 pub loop-at-init : goal.loop-at-init
 loop-at-init g c =

@@ -1,7 +1,7 @@
 use Rattle.std.proofs.Common.{◌≡◌, ◌≤◌, true, length, ◌-◌, vec_len, vec_capacity}
 use Rattle.kl1_match.specs.Spans.{cells_left, IsSpan, AreSpans}
 use Rattle.kl1_match.proofs.Trying.{keeps_of, GivesKept}
-use Rattle.kl1_match.proofs.verdicts.find_verdict.Given as goal
+use Rattle.kl1_match.proofs.verdicts.find_match.Given as goal
 
 -- what is left of the row and of the cells gives the verdict, and there is room for what the rest of the row can put
 abbrev pub invariant-loop-at : goal.invariant-loop-at
