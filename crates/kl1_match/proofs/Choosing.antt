@@ -22,7 +22,7 @@ use Rattle.kl1_match.specs.declared.verdict.Verdict.{Verdict}
 use Rattle.kl1_match.specs.declared.verdict.Verdict.TheVariants.{Accepts, Rejects, Suspends}
 use Rattle.kl1_match.specs.Instances.{IsClause}
 use Rattle.kl1_match.specs.Waiting.{AreUnbound, AreSame}
-use Rattle.kl1_match.specs.Verdicts.{arguments_of_goal, verdict_with_places, GivesVerdict, IsVerdict}
+use Rattle.kl1_match.specs.Verdicts.{arguments_of_goal, verdict_with_places, IsVerdict}
 use Rattle.kl1_match.specs.Plain.{IsPlain, ArePlain}
 use Rattle.kl1_match.specs.Choices.{AreClauses, IsChoice, is_past, without_clause}
 
@@ -59,7 +59,7 @@ as_many names (c ∷ cs) (d ∷ ds) a = ap suc (as_many names cs ds a.1)
 -- ---- variables that stand in both of two lists
 
 nothing_same : AreSame [] []
-nothing_same = record { each = λ v. (λ c. c, λ c. c) }
+nothing_same = record { each = λ v. ((λ c. c), (λ c. c)) }
 
 either : {A B C : Type 0} → A ⊎ B → (A → C) → (B → C) → C
 either (inl a) f g = f a
@@ -68,8 +68,8 @@ either (inr b) f g = g b
 more_same : (vs ws more others : List ℕ) → AreSame vs ws → AreSame more others → AreSame (vs ++ more) (ws ++ others)
 more_same vs ws more others s t = record {
   each = λ v. (
-    λ c. either (Contains-append_cases vs more v c) (λ k. Contains-append_left ws others v ((s.each v).0 k)) (λ k. Contains-append_right ws others v ((t.each v).0 k)),
-    λ c. either (Contains-append_cases ws others v c) (λ k. Contains-append_left vs more v ((s.each v).1 k)) (λ k. Contains-append_right vs more v ((t.each v).1 k)),
+    (λ c. either (Contains-append_cases vs more v c) (λ k. Contains-append_left ws others v ((s.each v).0 k)) (λ k. Contains-append_right ws others v ((t.each v).0 k))),
+    (λ c. either (Contains-append_cases ws others v c) (λ k. Contains-append_left vs more v ((s.each v).1 k)) (λ k. Contains-append_right vs more v ((t.each v).1 k))),
   );
 }
 

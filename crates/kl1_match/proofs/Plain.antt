@@ -3,10 +3,10 @@ use Rattle.std.proofs.Common.{◌≡◌, ℕ, ◌<◌, ◌≤◌, ◌==◌, ◌&
 use Rattle.std.specs.Prelude.{bytes_eq}
 use Rattle.std.proofs.lemmas.Bool.{ne_eqb}
 use Rattle.kl1_model.specs.Term.{Term, variable, integer, atom, structure, Terms, none, more, terms_of, count_of, Replacement}
-use Rattle.kl1_model.specs.TermCode.{NodeCode, nodes_of, nodes_of_all}
+use Rattle.kl1_model.specs.TermCode.{NodeCode, nodes_of_all}
 use Rattle.kl1_model.specs.Meaning.{variables_of, variables_in as variables_of_all}
 use Rattle.kl1_model.specs.Module.{Clause}
-use Rattle.kl1_model.specs.Match.{Outcome, agrees, clashes, waits, both, Matched, with_outcome, match_term, match_terms, places_alike, alike_with, each_alike, guard_outcome, verdict, verdict_of, verdict_with}
+use Rattle.kl1_model.specs.Match.{agrees, clashes, both, Matched, with_outcome, match_term, match_terms, alike_with, each_alike, guard_outcome, verdict, verdict_with}
 use Rattle.kl1_model.specs.Guard.{alike}
 use Rattle.kl1_term.specs.Variables.{variables_in}
 use Rattle.kl1_term.proofs.VariableFacts.{variables_all}

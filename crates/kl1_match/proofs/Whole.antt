@@ -6,7 +6,7 @@ use Rattle.kl1_model.specs.declared.built_in.BuiltIn.{BuiltIn}
 use Rattle.kl1_model.specs.Term.{Term, Terms, more}
 use Rattle.kl1_model.specs.TermCode.{nodes_of_all}
 use Rattle.kl1_model.specs.Module.{Clause}
-use Rattle.kl1_model.specs.Match.{agrees, clashes, waits, Matched, match_terms, awaited_in, accepts, rejects, verdict, verdict_with}
+use Rattle.kl1_model.specs.Match.{clashes, waits, Matched, match_terms, awaited_in, accepts, rejects, verdict_with}
 use Rattle.kl1_text.specs.Reading.{Reads}
 use Rattle.kl1_store.specs.declared.cell.Cell.{Cell}
 use Rattle.kl1_store.specs.Held.{Held}
@@ -20,7 +20,7 @@ use Rattle.kl1_match.specs.declared.verdict.Verdict.{Verdict}
 use Rattle.kl1_match.specs.declared.verdict.Verdict.TheVariants.{Accepts, Rejects, Suspends}
 use Rattle.kl1_match.specs.Instances.{AreThere, IsClause, replacements_of}
 use Rattle.kl1_match.specs.Matching.{Continues, Decides}
-use Rattle.kl1_match.specs.Verdicts.{arguments_of_goal, verdict_with_places, NamesAs, GivesMatch, GivesVerdict, IsTried, IsVerdict}
+use Rattle.kl1_match.specs.Verdicts.{arguments_of_goal, NamesAs, GivesMatch, IsTried, IsVerdict}
 use Rattle.kl1_match.specs.Waiting.{IsUnbound, AreUnbound, AreSame}
 use Rattle.kl1_match.specs.Plain.{IsPlain}
 use Rattle.kl1_match.proofs.Answered.{matched_with, so_far, IsLeft, IsNext, begun, next_of, agreed, waited, clashed, no_terms, no_patterns, all_matched}
@@ -218,7 +218,7 @@ suspended built names compiled h goal at cells places before after le empty ne a
 -- ---- verdicts of clauses of which the match alone decides
 
 same_as_itself : (vs : List ℕ) → AreSame vs vs
-same_as_itself vs = record { each = λ v. (λ c. c, λ c. c) }
+same_as_itself vs = record { each = λ v. ((λ c. c), (λ c. c)) }
 
 -- what a clause that clashes named is dropped
 pub dropped : {N : Type 0} (built : BuiltIn → N) (names : List N) (compiled : CompiledClause) (h : Held N) (goal : Cell N) (places : List (Place N)) (before after now : List ℕ) (n : ℕ) → IsPlain compiled → n ≡ length before → now ≡ take n after →

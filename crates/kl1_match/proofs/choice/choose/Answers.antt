@@ -6,7 +6,7 @@ use Rattle.kl1_match.specs.Instances.{IsClause}
 use Rattle.kl1_match.specs.Plain.{IsPlain}
 use Rattle.kl1_match.specs.Verdicts.{IsVerdict}
 use Rattle.kl1_match.specs.Choices.{IsChoice, is_past}
-use Rattle.kl1_match.proofs.Choosing.{ChoosesFrom, clause_in, plain_in, accepted_there, rejected_there, suspended_there, section_ended, all_tried}
+use Rattle.kl1_match.proofs.Choosing.{ChoosesFrom, clause_in, plain_in, none_tried, accepted_there, rejected_there, suspended_there, section_ended, all_tried}
 use Rattle.kl1_match.proofs.choice.choose.Goals as goal
 
 pub judge-requires-clause-clause : goal.judge-requires-clause-clause
@@ -54,3 +54,6 @@ pub returns : goal.returns
 returns g c =
     let P : Option ℕ → Type 0 = λ o. IsChoice g.N.NameValue.built c.args.names.now c.args.clauses.now c.args.store.now.held c.args.goal c.args.awaited.now.items c.loop-tried.awaited.items o in
     subst P (sym c.without_clause.ensures) (all_tried g.N.NameValue.built c.args.names.now c.args.clauses.now c.args.store.now.held c.args.goal c.args.awaited.now.items c.loop-tried.awaited.items c.loop-tried.tried c.loop-tried.waiting c.loop-tried-test.false c.loop-tried.invariant)
+
+pub loop-tried-init : goal.loop-tried-init
+loop-tried-init g c = none_tried g.N.NameValue.built c.args.names.now c.args.clauses.now c.args.store.now.held c.args.goal c.args.awaited.now.items
