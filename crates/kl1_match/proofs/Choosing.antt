@@ -4,7 +4,6 @@ use Rattle.std.proofs.Common.{◌==◌, if◌then◌else◌, not, ◌⊎◌, inl
 use Rattle.std.specs.Prelude.{Option, Some, None}
 use Rattle.std.proofs.lemmas.Bool.{eqb-true}
 use Rattle.std.proofs.lemmas.List.{drop_all}
-use Rattle.std.proofs.lemmas.List.Elements.{Contains-append_left, Contains-append_right, Contains-append_cases}
 use Rattle.kl1_model.specs.declared.built_in.BuiltIn.{BuiltIn}
 use Rattle.kl1_model.specs.Term.{Terms}
 use Rattle.kl1_model.specs.Module.{Clause}
@@ -25,6 +24,7 @@ use Rattle.kl1_match.specs.Waiting.{AreUnbound, AreSame}
 use Rattle.kl1_match.specs.Verdicts.{arguments_of_goal, verdict_with_places, IsVerdict}
 use Rattle.kl1_match.specs.Plain.{IsPlain, ArePlain}
 use Rattle.kl1_match.specs.Choices.{AreClauses, IsChoice, is_past, without_clause}
+use Rattle.kl1_match.proofs.Naming.{same_as_itself, more_same}
 
 -- ---- clauses at places
 
@@ -55,23 +55,6 @@ as_many names [] [] a = refl
 as_many names [] (d ∷ ds) a = absurd a
 as_many names (c ∷ cs) [] a = absurd a
 as_many names (c ∷ cs) (d ∷ ds) a = ap suc (as_many names cs ds a.1)
-
--- ---- variables that stand in both of two lists
-
-nothing_same : AreSame [] []
-nothing_same = record { each = λ v. ((λ c. c), (λ c. c)) }
-
-either : {A B C : Type 0} → A ⊎ B → (A → C) → (B → C) → C
-either (inl a) f g = f a
-either (inr b) f g = g b
-
-more_same : (vs ws more others : List ℕ) → AreSame vs ws → AreSame more others → AreSame (vs ++ more) (ws ++ others)
-more_same vs ws more others s t = record {
-  each = λ v. (
-    (λ c. either (Contains-append_cases vs more v c) (λ k. Contains-append_left ws others v ((s.each v).0 k)) (λ k. Contains-append_right ws others v ((t.each v).0 k))),
-    (λ c. either (Contains-append_cases ws others v c) (λ k. Contains-append_left vs more v ((s.each v).1 k)) (λ k. Contains-append_right vs more v ((t.each v).1 k))),
-  );
-}
 
 -- ---- the clauses that are left
 
@@ -106,7 +89,7 @@ none_tried built names clauses h goal before = record {
   named = [];
   unbound = tt;
   awaited = sym (append-nil before);
-  left = λ f reads cs a. record { answer = refl; defined = []; same = nothing_same; awaited = refl };
+  left = λ f reads cs a. record { answer = refl; defined = []; same = same_as_itself []; awaited = refl };
 }
 
 -- ---- a clause of the section
@@ -220,7 +203,7 @@ accepted_there built names clauses h goal before now next tried waiting x places
       let T : List ℕ → Type 0 = λ ws. AreSame ws [] in
       record {
         clause = ap (λ n. Some n) one ∙ t.leads.answer;
-        awaited = subst S (sym t.leads.awaited) (more_same all.named t.before v.named [] t.before_same (subst T (sym v.named_as) nothing_same));
+        awaited = subst S (sym t.leads.awaited) (more_same all.named t.before v.named [] t.before_same (subst T (sym v.named_as) (same_as_itself [])));
       };
 }
 

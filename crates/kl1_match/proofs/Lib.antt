@@ -8,6 +8,8 @@ pub mod Cells
 pub mod Skipping
 pub mod Answered
 pub mod Plain
+pub mod Naming
+pub mod Outcomes
 pub mod Whole
 pub mod Trying
 pub mod Beside

@@ -24,6 +24,7 @@ use Rattle.kl1_match.specs.Verdicts.{arguments_of_goal, NamesAs, GivesMatch, IsT
 use Rattle.kl1_match.specs.Waiting.{IsUnbound, AreUnbound, AreSame}
 use Rattle.kl1_match.specs.Plain.{IsPlain}
 use Rattle.kl1_match.proofs.Answered.{matched_with, so_far, IsLeft, IsNext, begun, next_of, agreed, waited, clashed, no_terms, no_patterns, all_matched}
+use Rattle.kl1_match.proofs.Naming.{same_as_itself}
 use Rattle.kl1_match.proofs.Plain.{plain_verdict}
 
 -- what is left from a place of the row on, and of cells, gives the answer of all, for each reading
@@ -216,9 +217,6 @@ suspended built names compiled h goal at cells places before after le empty ne a
     subst V (some_named all.named (λ e. ne (omega (arith, named_count before after all.named all.awaited, e)))) (ends built names compiled h goal at cells places before after le empty all)
 
 -- ---- verdicts of clauses of which the match alone decides
-
-same_as_itself : (vs : List ℕ) → AreSame vs vs
-same_as_itself vs = record { each = λ v. ((λ c. c), (λ c. c)) }
 
 -- what a clause that clashes named is dropped
 pub dropped : {N : Type 0} (built : BuiltIn → N) (names : List N) (compiled : CompiledClause) (h : Held N) (goal : Cell N) (places : List (Place N)) (before after now : List ℕ) (n : ℕ) → IsPlain compiled → n ≡ length before → now ≡ take n after →
