@@ -7,7 +7,7 @@ pub mod Bodies
 pub mod Cells
 pub mod Skipping
 pub mod Answered
-pub mod Plain
+pub mod Alone
 pub mod Naming
 pub mod Outcomes
 pub mod Whole

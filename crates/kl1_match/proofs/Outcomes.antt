@@ -1,7 +1,7 @@
 -- Outcomes of parts together, and of two places of a variable.
 use Rattle.std.proofs.Common.{◌≡◌, ℕ, ◌&&◌, ◌||◌, Bool, true, false, if◌then◌else◌, List, [], ◌∷◌, ◌++◌, refl, sym, ap, ◌∙◌, subst, append-nil}
 use Rattle.kl1_model.specs.Term.{Term, same_term}
-use Rattle.kl1_model.specs.Same.{Passive, same, differs, unknown, passive, clash, awaited, passive_each, awaited_by}
+use Rattle.kl1_model.specs.Same.{same, differs, unknown, passive, clash, awaited, passive_each, awaited_by}
 use Rattle.kl1_model.specs.Guard.{alike, same_outcome}
 use Rattle.kl1_model.specs.Match.{Outcome, agrees, clashes, waits, both}
 use Rattle.kl1_model.proofs.SameEach.{same_from}

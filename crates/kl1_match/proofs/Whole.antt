@@ -21,11 +21,11 @@ use Rattle.kl1_match.specs.declared.verdict.Verdict.TheVariants.{Accepts, Reject
 use Rattle.kl1_match.specs.Instances.{AreThere, IsClause, replacements_of}
 use Rattle.kl1_match.specs.Matching.{Continues, Decides}
 use Rattle.kl1_match.specs.Verdicts.{arguments_of_goal, NamesAs, GivesMatch, IsTried, IsVerdict}
-use Rattle.kl1_match.specs.Waiting.{IsUnbound, AreUnbound, AreSame}
+use Rattle.kl1_match.specs.Waiting.{IsUnbound, AreUnbound}
 use Rattle.kl1_match.specs.Plain.{IsPlain}
 use Rattle.kl1_match.proofs.Answered.{matched_with, so_far, IsLeft, IsNext, begun, next_of, agreed, waited, clashed, no_terms, no_patterns, all_matched}
 use Rattle.kl1_match.proofs.Naming.{same_as_itself}
-use Rattle.kl1_match.proofs.Plain.{plain_verdict}
+use Rattle.kl1_match.proofs.Alone.{plain_verdict}
 
 -- what is left from a place of the row on, and of cells, gives the answer of all, for each reading
 pub record GivesAll {N : Type 0} (built : BuiltIn → N) (names : List N) (compiled : CompiledClause) (h : Held N) (goal : Cell N) (at : ℕ) (cells : List (Cell N)) (places : List (Place N)) (before after : List ℕ) : Type 0 where

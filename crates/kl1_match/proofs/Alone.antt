@@ -1,7 +1,8 @@
 -- Of a clause without tests whose head repeats no variable the match alone decides.
-use Rattle.std.proofs.Common.{◌≡◌, ℕ, ◌<◌, ◌≤◌, ◌==◌, ◌&&◌, Bool, true, false, if◌then◌else◌, List, [], ◌∷◌, ◌++◌, map, refl, sym, ap, ap₂, ◌∙◌, subst, arith, append-nil}
+use Rattle.std.proofs.Common.{◌≡◌, ℕ, ◌<◌, ◌≤◌, ◌==◌, ◌&&◌, Bool, true, false, if◌then◌else◌, List, [], ◌∷◌, ◌++◌, map, length, refl, sym, ap, ap₂, ◌∙◌, subst, arith, append-nil}
 use Rattle.std.specs.Prelude.{bytes_eq}
-use Rattle.std.proofs.lemmas.Bool.{ne_eqb}
+use Rattle.std.specs.Prelude.{nat_lt}
+use Rattle.std.proofs.lemmas.Bool.{ne_eqb, and_parts, ltb-true}
 use Rattle.kl1_model.specs.Term.{Term, variable, integer, atom, structure, Terms, none, more, terms_of, count_of, Replacement}
 use Rattle.kl1_model.specs.TermCode.{NodeCode, nodes_of_all}
 use Rattle.kl1_model.specs.Meaning.{variables_of, variables_in as variables_of_all}
@@ -15,8 +16,22 @@ use Rattle.kl1_clause.specs.declared.instruction.Instruction.{Instruction}
 use Rattle.kl1_clause.specs.declared.instruction.Instruction.TheVariants.{Variable, Integer, Atom, Structure}
 use Rattle.kl1_clause.specs.Instructions.{code_in}
 use Rattle.kl1_clause.specs.Clauses.{IsCompiled}
-use Rattle.kl1_match.specs.Plain.{AreRising, IsPlain}
+use Rattle.kl1_match.specs.Plain.{AreRising, is_rising, IsPlain}
 use Rattle.kl1_match.proofs.Answered.{both-agrees}
+
+-- ---- rows that rise
+
+pub rising : (n : ℕ) (row : List Instruction) → is_rising n row ≡ true → AreRising n row
+rising n [] e = tt
+rising n (Variable v ∷ is) e = let k = and_parts (nat_lt n v) (is_rising v is) e in (ltb-true n v k.0, rising v is k.1)
+rising n (Integer i ∷ is) e = rising n is e
+rising n (Atom a ∷ is) e = rising n is e
+rising n (Structure a count ∷ is) e = rising n is e
+
+-- a list without length is empty
+pub nothing_in : (row : List Instruction) → length row ≡ 0 → row ≡ []
+nothing_in [] e = refl
+nothing_in (i ∷ is) e = absurd (omega arith)
 
 -- ---- numbers that rise
 
