@@ -1,6 +1,6 @@
 // What may stand between two terms.
 
-ghost use Rattle.std.specs.Prelude.{◌≡◌, ◌∷◌, List, map, option_map, length, IfSome, ◌<◌};
+ghost use Rattle.std.specs.Prelude.{◌≡◌, ◌∷◌, Bool, List, map, option_map, length, IfSome, ◌<◌};
 ghost use Rattle.kl1_model.specs.Token.{name_token, minus_token, sign_token};
 ghost use Rattle.kl1_model.specs.Grammar as grammar;
 ghost use Rattle.kl1_read.specs.declared.infix.Level.TheVariants as level;
@@ -42,18 +42,18 @@ fn infix_of(level: Level, token: &Numbered) -> Option<BuiltIn>
     ensures { (ts : List grammar.Numbered) → option_map (λ name. (name, ts)) result ≡ infix_in_front level (numbered_token token.now ∷ ts) }
 {
     match token {
-        Numbered::Name(quotes, applied, text) => infix_of_name(level, *quotes, *applied, text),
+        Numbered::Name(quotes, _applied, text) => infix_of_name(level, *quotes, text),
         Numbered::Variable(_number) => None,
         Numbered::Digits(_number) => None,
-        Numbered::Minus(digit) => infix_of_minus(level, *digit),
+        Numbered::Minus(_digit) => infix_of_minus(level),
         Numbered::Sign(sign) => infix_of_sign(level, *sign),
         Numbered::End => None,
     }
 }
 
 /// The name of a level that a name is: `mod` is one where it doesn't stand in quotes.
-fn infix_of_name(level: Level, quotes: bool, _applied: bool, text: &Spelling) -> Option<BuiltIn>
-    ensures { (ts : List grammar.Numbered) → option_map (λ name. (name, ts)) result ≡ infix_in_front level (name_token text.now quotes _applied ∷ ts) }
+fn infix_of_name(level: Level, quotes: bool, text: &Spelling) -> Option<BuiltIn>
+    ensures { (applied : Bool) (ts : List grammar.Numbered) → option_map (λ name. (name, ts)) result ≡ infix_in_front level (name_token text.now quotes applied ∷ ts) }
 {
     match level {
         Level::Relations => None,
@@ -69,8 +69,8 @@ fn infix_of_name(level: Level, quotes: bool, _applied: bool, text: &Spelling) ->
 }
 
 /// The name of a level that `-` is.
-fn infix_of_minus(level: Level, _digit: bool) -> Option<BuiltIn>
-    ensures { (ts : List grammar.Numbered) → option_map (λ name. (name, ts)) result ≡ infix_in_front level (minus_token _digit ∷ ts) }
+fn infix_of_minus(level: Level) -> Option<BuiltIn>
+    ensures { (digit : Bool) (ts : List grammar.Numbered) → option_map (λ name. (name, ts)) result ≡ infix_in_front level (minus_token digit ∷ ts) }
 {
     match level {
         Level::Relations => None,

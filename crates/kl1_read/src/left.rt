@@ -1,6 +1,6 @@
 // What stands to the left of a primary in its expression.
 
-ghost use Rattle.std.specs.Prelude.{◌≡◌, IsTrue};
+ghost use Rattle.std.specs.Prelude.{◌≡◌, ◌↔◌, IsTrue};
 ghost use Rattle.kl1_read.specs.Waits.{no_left};
 
 use crate::piece::Piece;
@@ -35,7 +35,7 @@ impl Left {
 
     /// Whether nothing stands there.
     pub(crate) fn is_empty(&self) -> bool
-        ensures { IsTrue result → self.now ≡ no_left }
+        ensures { IsTrue result ↔ (self.now ≡ no_left) }
     {
         self.relation.is_none()
             && self.sum.is_none()
