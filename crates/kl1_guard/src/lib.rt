@@ -20,6 +20,8 @@ mod pending;
 mod scratch;
 mod store_view;
 mod test;
+#[cfg(test)]
+mod tests;
 mod view;
 
 pub use cells::evaluate_cell;
