@@ -1,6 +1,7 @@
 //! What clauses make of goals: verdicts of heads, and instances of bodies, over cells.
 #![tactic(auto)]
 
+mod accepting;
 mod arguments;
 mod building;
 mod choice;
@@ -18,9 +19,10 @@ mod variables;
 mod verdict;
 mod verdicts;
 
+pub use accepting::accepts_in_order;
 pub use choice::choose;
 pub use goal_cells::{put_goal, put_goal_variables, reserve_goal, reserve_goal_beside};
-pub use instances::put_instance;
+pub use instances::{put_instance, put_kept_instance};
 pub use name_in::name_at;
 pub use place::Place;
 pub use scratch::Scratch;

@@ -13,7 +13,7 @@ ghost use Rattle.kl1_moves.specs.Bodies.{IsBody};
 use crate::moves::nth;
 use crate::trial::Trial;
 use kl1_clause::Predicate;
-use kl1_match::put_instance;
+use kl1_match::{put_instance, put_kept_instance};
 use kl1_store::{Cell, Store};
 use kl1_text::NameValue;
 use std::alloc::AllocError;
@@ -38,6 +38,9 @@ pub fn commit<N: NameValue>(
     ensures inside { OnOk result (AreIn store.new.held goals.new.items) }
     ensures goals { OnOk result ((f : N → List ℕ) → Reads N.built f → (k : Candidate) → IsCandidate f store.old.held predicate.entry place trial.old.places.items k → IsBody f k store.old.held store.new.held goals.new.items) }
 {
+    if trial.is_in_order {
+        return put_kept_instance(store, predicate.names, nth(predicate.clauses, place), &mut trial.scratch, goals);
+    }
     put_instance(
         store,
         predicate.names,

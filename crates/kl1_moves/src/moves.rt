@@ -15,7 +15,7 @@ use crate::call::Call;
 use crate::kind::Kind;
 use crate::trial::Trial;
 use kl1_clause::{CompiledClause, Predicate};
-use kl1_match::{Verdict, choose, verdict_on};
+use kl1_match::{Verdict, accepts_in_order, choose, verdict_on};
 use kl1_store::{Cell, Store};
 use kl1_text::NameValue;
 use std::alloc::AllocError;
@@ -125,6 +125,17 @@ fn committing<N: NameValue>(
     if place >= predicate.clauses.len() {
         return Ok(None);
     }
+    if accepts_in_order(
+        store,
+        predicate.names,
+        nth(predicate.clauses, place),
+        call.cell(),
+        &mut trial.scratch,
+    )? {
+        trial.is_in_order = true;
+        return Ok(Some(Move::Commits(place)));
+    }
+    trial.is_in_order = false;
     trial.awaited.clear();
     match verdict_on(
         store,

@@ -11,6 +11,7 @@ pub struct Trial<N: NameValue> {
     pub scratch: Scratch<N>,
     pub places: Vec<Place<N>>,
     pub awaited: Vec<u32>,
+    pub is_in_order: bool,
 }
 
 impl<N: NameValue> Trial<N> {
@@ -20,6 +21,7 @@ impl<N: NameValue> Trial<N> {
             scratch: Scratch::new(alloc),
             places: Vec::new(alloc),
             awaited: Vec::new(alloc),
+            is_in_order: false,
         }
     }
 }
