@@ -5,7 +5,8 @@ use kl1_text::NameValue;
 use std::alloc::Global;
 
 /// Lists that calls work with, and keep for the next: scratch, the cells at the places of the head's variables of the clause
-/// that was tried last, and the variables that a goal waits for. It takes no memory until a call needs some.
+/// that was tried last, which the scratch has where they are kept in order, and the variables that a goal waits for. It takes
+/// no memory until a call needs some.
 #[derive(Drop)]
 pub struct Trial<N: NameValue> {
     pub scratch: Scratch<N>,

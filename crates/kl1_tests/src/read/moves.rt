@@ -3,6 +3,7 @@
 ghost use Rattle.std.specs.Prelude.{◌<◌, length, IfSome};
 ghost use Rattle.kl1_clause.specs.Predicates.{AreSome};
 ghost use Rattle.kl1_match.specs.Instances.{AreThere};
+ghost use Rattle.kl1_moves.specs.Moves.{taken_places};
 ghost use Rattle.kl1_moves.specs.Kinds.{KindIn};
 
 use crate::read::heads::{behind_colon, cell_of, put_numbers};
@@ -160,7 +161,7 @@ fn put_body(
 ) -> Result<(), AllocError>
     requires place { place < length predicate.clauses.now }
     requires predicate { AreSome predicate.names.now predicate.clauses.now }
-    requires places { AreThere store.old.held trial.old.places.items }
+    requires places { AreThere store.old.held (taken_places trial.old) }
 {
     if !store.holds(Cell::Variable(0)) {
         return Err(AllocError);
