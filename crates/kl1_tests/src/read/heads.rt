@@ -215,7 +215,7 @@ fn bind_first(store: &mut Store<AtomText>) -> Result<(), AllocError> {
     if !store.holds(Cell::Variable(1)) {
         return Err(AllocError);
     }
-    let _bound = store.unify(Cell::Variable(1), Cell::Integer(7))?;
+    let _bound = kl1_unify::unify(store, Cell::Variable(1), Cell::Integer(7))?;
     Ok(())
 }
 
