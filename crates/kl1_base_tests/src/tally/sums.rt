@@ -1,6 +1,6 @@
 // That what shares counted adds up to the books, also when two threads count at once.
 
-ghost use Rattle.std.specs.Prelude.{◌≡◌, ◌<◌, ◌≤◌, All, OnOk, vec_len};
+ghost use Rattle.std.specs.Prelude.{◌≡◌, ◌+◌, ◌<◌, ◌≤◌, All, OnOk, vec_len};
 
 use crate::tally::counting::{count, give_book, give_share, next_book, next_share};
 use kl1_tally::{Amounts, BookSeat, MOST_ACCOUNTS, ShareSeat, Tally};
