@@ -21,9 +21,14 @@ use std::io;
 use std::io::{Error, ErrorKind, Read, Write};
 use std::thread::Threads;
 
+/// Puts the report on rows.
+fn put_rows(out: &mut Text, rows: &[u8]) {
+    put_report(out, &mut Parts::new(out.alloc), rows);
+}
+
 /// Puts the report on rows, and the line on each check behind it.
 fn put_all<R: Threads + Sync>(rt: &R, out: &mut Text, rows: &[u8]) {
-    put_report(out, &mut Parts::new(out.alloc), rows);
+    put_rows(out, rows);
     put_checks(rt, out);
     put_tally_checks(rt, out);
     put_ready_checks(out);

@@ -172,15 +172,20 @@ fn put_draft(seen: &mut Text, modules: &Modules, draft: &Loaded, spare: CellName
     put_found(seen, modules.find(spare, name(71), 2));
 }
 
+/// Puts what is found of modules and a draft with a spare number beside them.
+fn see_beside(seen: &mut Text, modules: &Modules) {
+    let spare = CellName::spare(0);
+    match loaded_of(seen.alloc, SECOND, &[spare, name(71)]) {
+        Ok(draft) => put_draft(seen, modules, &draft, spare),
+        Err(_refused) => seen.fail(),
+    }
+}
+
 /// A draft with a spare number is found beside the first module, and isn't one of the modules.
 pub fn see_draft(seen: &mut Text) {
     let mut modules = Modules::new(seen.alloc);
     load_first(seen, &mut modules);
-    let spare = CellName::spare(0);
-    match loaded_of(seen.alloc, SECOND, &[spare, name(71)]) {
-        Ok(draft) => put_draft(seen, &modules, &draft, spare),
-        Err(_refused) => seen.fail(),
-    }
+    see_beside(seen, &modules);
 }
 
 /// Puts other numbers in place of those of a module, where there are so many.
