@@ -12,6 +12,7 @@ use kl1_clause::{Code, CompiledClause, GoalCode};
 use kl1_match::{
     Place, Scratch, Verdict, put_goal, put_goal_variables, put_instance, reserve_goal, verdict_on,
 };
+use kl1_moves::Trial;
 use kl1_read::read_goal;
 use kl1_store::{Cell, Store};
 use kl1_term::Term;
@@ -135,26 +136,40 @@ fn put_told(
     requires clause { IsClause names.now clause.now }
     requires call { IsIn store.old.held call }
 {
-    let mut scratch = Scratch::new(answer.alloc);
-    let mut places = Vec::new(answer.alloc);
-    let mut awaited = Vec::new(answer.alloc);
+    let mut trial = Trial::new(answer.alloc);
+    put_tried(answer, kind, store, names, clause, call, &mut trial)
+}
+
+/// The same, with a trial for what is tried.
+fn put_tried(
+    answer: &mut Text,
+    kind: Kind,
+    store: &mut Store<AtomText>,
+    names: &[AtomText],
+    clause: &CompiledClause,
+    call: Cell<AtomText>,
+    trial: &mut Trial<AtomText>,
+) -> Result<(), AllocError>
+    requires clause { IsClause names.now clause.now }
+    requires call { IsIn store.old.held call }
+{
     match verdict_on(
         store,
         names,
         clause,
         call,
-        &mut scratch,
-        &mut places,
-        &mut awaited,
+        &mut trial.scratch,
+        &mut trial.places,
+        &mut trial.awaited,
     )? {
         Verdict::Rejects => answer.put(b"rejects"),
         Verdict::Suspends => {
             answer.put(b"suspends");
-            put_numbers(answer, awaited.as_slice());
+            put_numbers(answer, trial.awaited.as_slice());
         }
         Verdict::Accepts => {
             answer.put(b"accepts");
-            put_accepted(answer, kind, store, names, clause, places.as_slice())?;
+            put_accepted(answer, kind, store, names, clause, trial.places.as_slice())?;
         }
     }
     Ok(())

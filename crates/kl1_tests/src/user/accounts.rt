@@ -87,13 +87,14 @@ impl Accounts {
         }
     }
 
-    /// Begins anew, with an account in which nothing has happened, and a slow one beside it or none. Where memory is refused,
-    /// it is tried once more.
+    /// Begins anew, with an account in which nothing has happened, and a slow one beside it or none.
     pub fn begin(&mut self, alloc: Global, has_plain: bool) {
-        self.user = match Player::fresh(alloc) {
-            None => Player::fresh(alloc),
-            user => user,
-        };
+        self.user = Player::fresh_again(alloc);
+        self.put_plain(alloc, has_plain);
+    }
+
+    /// Puts a slow account in which nothing has happened in place of the one before, or none.
+    fn put_plain(&mut self, alloc: Global, has_plain: bool) {
         self.plain = if has_plain {
             Some(Plain::fresh(alloc))
         } else {

@@ -1,5 +1,7 @@
 // An account over a table of names of its own.
 
+ghost use Rattle.std.specs.Prelude.{◌≡◌, []};
+
 use crate::seats::names_of_one;
 use kl1_atoms::{PlainSeat, PlainTable};
 use kl1_user::{AccountName, ClauseNo, Event, GoalNo, Reply, UserState};
@@ -26,20 +28,31 @@ impl Model for Player {
 }
 
 impl Player {
+    /// An account in which nothing has happened; where memory is refused, it is tried once more.
+    pub fn fresh_again(alloc: Global) -> Option<Self> {
+        match Player::fresh(alloc) {
+            None => Player::fresh(alloc),
+            player => player,
+        }
+    }
+
     /// An account in which nothing has happened.
-    pub fn fresh(alloc: Global) -> Option<Self> {
+    fn fresh(alloc: Global) -> Option<Self> {
         let name = AccountName::read(b"alice")?;
-        match Player::named(alloc, name) {
-            Ok(player) => Some(player),
+        match UserState::fresh(alloc, name) {
+            Ok(user) => Player::seated(alloc, user),
             Err(_refused) => None,
         }
     }
 
-    /// An account of this name in which nothing has happened.
-    fn named(alloc: Global, name: AccountName) -> Result<Self, AllocError> {
-        let user = UserState::fresh(alloc, name)?;
-        let (names, seat) = names_of_one(alloc)?;
-        Ok(Player { user, names, seat })
+    /// An account that uses no name, with a table of names of its own.
+    fn seated(alloc: Global, user: UserState<PlainTable>) -> Option<Self>
+        requires { user.names ≡ [] }
+    {
+        match names_of_one(alloc) {
+            Ok((names, seat)) => Some(Player { user, names, seat }),
+            Err(_refused) => None,
+        }
     }
 
     /// Does an event to the account.
