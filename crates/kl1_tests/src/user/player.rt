@@ -1,6 +1,7 @@
 // An account over a table of names of its own.
 
 ghost use Rattle.std.specs.Prelude.{◌≡◌, []};
+ghost use Rattle.kl1_atoms.specs.Plain.{IsSeatOf};
 
 use crate::seats::names_of_one;
 use kl1_atoms::{PlainSeat, PlainTable};
@@ -28,29 +29,22 @@ impl Model for Player {
 }
 
 impl Player {
-    /// An account in which nothing has happened; where memory is refused, it is tried once more.
-    pub fn fresh_again(alloc: Global) -> Option<Self> {
-        match Player::fresh(alloc) {
-            None => Player::fresh(alloc),
-            player => player,
-        }
-    }
-
     /// An account in which nothing has happened.
-    fn fresh(alloc: Global) -> Option<Self> {
+    pub fn fresh(alloc: Global) -> Option<Self> {
         let name = AccountName::read(b"alice")?;
-        match UserState::fresh(alloc, name) {
-            Ok(user) => Player::seated(alloc, user),
+        match names_of_one(alloc) {
+            Ok((names, seat)) => Player::seated(alloc, name, names, seat),
             Err(_refused) => None,
         }
     }
 
-    /// An account that uses no name, with a table of names of its own.
-    fn seated(alloc: Global, user: UserState<PlainTable>) -> Option<Self>
-        requires { user.names ≡ [] }
+    /// An account of this name in which nothing has happened, over a table of names whose seat knows the built-in names alone.
+    fn seated(alloc: Global, name: AccountName, names: PlainTable, seat: PlainSeat) -> Option<Self>
+        requires of { IsSeatOf names.places.items seat.account seat.used seat.known.items }
+        requires nothing { seat.known.items ≡ [] }
     {
-        match names_of_one(alloc) {
-            Ok((names, seat)) => Some(Player { user, names, seat }),
+        match UserState::fresh(alloc, name) {
+            Ok(user) => Some(Player { user, names, seat }),
             Err(_refused) => None,
         }
     }
