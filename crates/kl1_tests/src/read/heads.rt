@@ -19,28 +19,27 @@ use kl1_term::Term;
 use kl1_text::{AtomText, NameValue};
 use std::alloc::AllocError;
 
-/// Puts the second of two goals in a store that has the first.
-pub fn put_built(answer: &mut Text, front: &[u8], behind: &[u8]) {
+/// Puts the second of two goals in a new store that is given both.
+pub fn put_built(answer: &mut Text, store: &mut Store<AtomText>, front: &[u8], behind: &[u8]) {
     match read_goal(answer.alloc, front) {
-        Ok(first) => match read_goal(answer.alloc, behind) {
-            Ok(second) => {
-                let done = put_second(answer, &first, &second);
-                answer.note(done);
-            }
-            Err(_fault) => answer.fail(),
-        },
+        Ok(first) => put_behind(answer, store, &first, behind),
         Err(_fault) => answer.fail(),
     }
 }
 
-/// Puts the second of two goals in a store that has the first.
-fn put_second(answer: &mut Text, first: &Term, second: &Term) -> Result<(), AllocError> {
-    let mut store = Store::new(answer.alloc);
-    put_second_in(answer, &mut store, first, second)
+/// Puts a goal in a new store that is given another before it.
+fn put_behind(answer: &mut Text, store: &mut Store<AtomText>, first: &Term, behind: &[u8]) {
+    match read_goal(answer.alloc, behind) {
+        Ok(second) => {
+            let done = put_second(answer, store, first, &second);
+            answer.note(done);
+        }
+        Err(_fault) => answer.fail(),
+    }
 }
 
 /// Puts the second of two goals in a new store that is given both.
-fn put_second_in(
+fn put_second(
     answer: &mut Text,
     store: &mut Store<AtomText>,
     first: &Term,
@@ -73,43 +72,41 @@ pub fn cell_of(
     Ok(put_goal(store, code.names(), row, &mut scratch))
 }
 
-/// Puts the verdict of the first clause of a code on the goal behind the colon of a goal, and what belongs to a clause that
-/// accepts.
-pub fn put_verdict(answer: &mut Text, kind: Kind, code: &Code, text: &[u8]) {
+/// Puts the verdict of the first clause of a code on the goal behind the colon of a goal in a new store, and what belongs to a
+/// clause that accepts.
+pub fn put_verdict(
+    answer: &mut Text,
+    store: &mut Store<AtomText>,
+    kind: Kind,
+    code: &Code,
+    text: &[u8],
+) {
     match read_goal(answer.alloc, text) {
         Ok(goal) => {
-            let done = judge_first(answer, kind, code, &goal);
+            let done = judge_first(answer, store, kind, code, &goal);
             answer.note(done);
         }
         Err(_fault) => answer.fail(),
     }
 }
 
-/// Puts the verdict of the first clause of a code.
-fn judge_first(answer: &mut Text, kind: Kind, code: &Code, goal: &Term) -> Result<(), AllocError> {
+/// Puts the verdict of the first clause of a code on a goal in a new store.
+fn judge_first(
+    answer: &mut Text,
+    store: &mut Store<AtomText>,
+    kind: Kind,
+    code: &Code,
+    goal: &Term,
+) -> Result<(), AllocError> {
     let names = code.names();
     let Some(clause) = first_of(code) else {
         return Err(AllocError);
     };
-    judge(answer, kind, names, clause, goal)
-}
-
-/// Puts the verdict of a clause.
-fn judge(
-    answer: &mut Text,
-    kind: Kind,
-    names: &[AtomText],
-    clause: &CompiledClause,
-    goal: &Term,
-) -> Result<(), AllocError>
-    requires { IsClause names.now clause.now }
-{
-    let mut store = Store::new(answer.alloc);
-    judge_in(answer, kind, &mut store, names, clause, goal)
+    judge(answer, kind, store, names, clause, goal)
 }
 
 /// Puts the verdict of a clause on a goal in a new store.
-fn judge_in(
+fn judge(
     answer: &mut Text,
     kind: Kind,
     store: &mut Store<AtomText>,

@@ -16,19 +16,15 @@ use kl1_term::Term;
 use kl1_text::{AtomText, NameValue};
 use std::alloc::AllocError;
 
-/// Puts what each argument of the goal behind the colon of a goal can do, as a goal.
-pub fn put_moves(answer: &mut Text, code: &Code, text: &[u8]) {
+/// Puts what each argument of the goal behind the colon of a goal can do, as a goal, in a new store.
+pub fn put_moves(answer: &mut Text, store: &mut Store<AtomText>, code: &Code, text: &[u8]) {
     match read_goal(answer.alloc, text) {
-        Ok(goal) => put_moves_of(answer, code, &goal),
+        Ok(goal) => {
+            let done = put_each(answer, store, code, &goal);
+            answer.note(done);
+        }
         Err(_fault) => answer.fail(),
     }
-}
-
-/// The same of a goal.
-fn put_moves_of(answer: &mut Text, code: &Code, goal: &Term) {
-    let mut store = Store::new(answer.alloc);
-    let done = put_each(answer, &mut store, code, goal);
-    answer.note(done);
 }
 
 /// Puts what each argument of the goal behind the colon of a goal can do, in a new store.
