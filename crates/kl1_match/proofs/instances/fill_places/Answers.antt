@@ -10,9 +10,9 @@ returns-clause-set g c =
     let now = c.if-len-count.cells.items in
     let none = c.args.none in
     elim c.if-len-count.branch [
-      then-len-count+in_ok-resize w ↦
-        filled_behind c.args.count (c.args.count - vec_len c.args.cells.now) old now none (omega (arith, c.args.cells.now.ok.0)) (ap (λ v. v.items) w.cells-is ∙ w.in_ok-resize.ensures.items)
-    | else-len-count w ↦
-        let as_wanted : length old ≡ c.args.count = omega (arith, w.if-len-count.false, c.len.ensures, c.args.cells.now.ok.0) in
-        filled_behind c.args.count 0 old now none (omega (arith, as_wanted)) (ap (λ v. v.items) w.cells-is ∙ as_many c.args.count old none as_wanted)
+      | then-len-count+in_ok-resize w ↦
+          filled_behind c.args.count (c.args.count - vec_len c.args.cells.now) old now none (omega (arith, c.args.cells.now.ok.0)) (ap (λ v. v.items) w.cells-is ∙ w.in_ok-resize.ensures.items)
+      | else-len-count w ↦
+          let as_wanted : length old ≡ c.args.count = omega (arith, w.if-len-count.false, c.len.ensures, c.args.cells.now.ok.0) in
+          filled_behind c.args.count 0 old now none (omega (arith, as_wanted)) (ap (λ v. v.items) w.cells-is ∙ as_many c.args.count old none as_wanted)
     ]
