@@ -7,6 +7,9 @@ pub mod Bodies
 pub mod Cells
 pub mod Skipping
 pub mod Answered
+pub mod Alone
+pub mod Naming
+pub mod Outcomes
 pub mod Whole
 pub mod Trying
 pub mod Beside

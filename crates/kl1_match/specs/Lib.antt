@@ -6,6 +6,8 @@ pub mod Variables
 pub mod Waiting
 pub mod Spans
 pub mod Matching
+pub mod Plain
+pub mod Outcomes
 pub mod Verdicts
 pub mod Choices
 pub mod Stays

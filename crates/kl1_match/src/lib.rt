@@ -10,6 +10,7 @@ mod meets;
 mod met;
 mod name_in;
 mod place;
+mod plain;
 mod scratch;
 mod skips;
 mod span;
@@ -23,6 +24,7 @@ pub use goal_cells::{put_goal, put_goal_variables, reserve_goal, reserve_goal_be
 pub use instances::put_instance;
 pub use name_in::name_at;
 pub use place::Place;
+pub use plain::is_plain;
 pub use scratch::Scratch;
 pub use verdict::Verdict;
 pub use verdicts::verdict_on;

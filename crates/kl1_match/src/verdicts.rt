@@ -4,6 +4,7 @@ ghost use Rattle.std.specs.Prelude.{◌≡◌, ◌≤◌, [], IfOk, OnOk, IsTrue
 ghost use Rattle.kl1_store.specs.Held.{IsIn};
 ghost use Rattle.kl1_match.specs.Instances.{IsClause};
 ghost use Rattle.kl1_match.specs.Matching.{Keeps};
+ghost use Rattle.kl1_match.specs.Plain.{IsPlain};
 ghost use Rattle.kl1_match.specs.Verdicts.{IsVerdict, IsTried};
 
 use crate::arguments::{is_left, span_of};
@@ -19,7 +20,7 @@ use kl1_store::{Cell, Store};
 use kl1_text::NameValue;
 use std::alloc::AllocError;
 
-/// The verdict of a clause on a goal, where the names of the clause's code are these. `places` gets the terms at the places
+/// The verdict of a clause without tests, whose head repeats no variable, on a goal, where the names of the clause's code are these. `places` gets the terms at the places
 /// of the head's variables, in order, where the clause accepts; otherwise nothing is said of it. Where the clause suspends,
 /// `awaited` gets the variables that it waits for behind its own, and otherwise nothing. Where memory is refused, nothing is
 /// said of what it got.
@@ -33,6 +34,7 @@ pub fn verdict_on<N: NameValue>(
     awaited: &mut Vec<u32>,
 ) -> Result<Verdict, AllocError>
     requires clause { IsClause names.now clause.now }
+    requires plain { IsPlain clause.now }
     requires goal { IsIn store.now.held goal }
     ensures { IfOk result (IsVerdict N.built names.now clause.now store.now.held goal places.new.items awaited.old.items awaited.new.items) }
 {
@@ -58,11 +60,12 @@ pub(crate) fn judge<N: NameValue, const KEEP: bool>(
     awaited: &mut Vec<u32>,
 ) -> Result<Verdict, AllocError>
     requires clause { IsClause names.now clause.now }
+    requires plain { IsPlain clause.now }
     requires goal { IsIn store.now.held goal }
     ensures { IfOk result (λ v. Keeps KEEP places.new.items (λ ps. IsVerdict N.built names.now clause.now store.now.held goal ps awaited.old.items awaited.new.items v)) }
 {
     let before = awaited.len();
-    match find_verdict::<_, KEEP>(store, names, clause, goal, behind, places, awaited)? {
+    match find_match::<_, KEEP>(store, names, clause, goal, behind, places, awaited)? {
         Verdict::Accepts => Ok(Verdict::Accepts),
         Verdict::Suspends => Ok(Verdict::Suspends),
         Verdict::Rejects => {
@@ -88,8 +91,9 @@ fn clear_places<N: NameValue, const KEEP: bool>(
     Ok(())
 }
 
-/// The verdict of a clause on a goal. `awaited` gets the variables that its patterns wait for, also where a later one clashes.
-fn find_verdict<N: NameValue, const KEEP: bool>(
+/// The verdict of the match of a clause with a goal alone, whatever its tests and the places of its variables say: that it
+/// agrees, clashes, or waits. `awaited` gets the variables that its patterns wait for, also where a later one clashes.
+fn find_match<N: NameValue, const KEEP: bool>(
     store: &Store<N>,
     names: &[N],
     clause: &CompiledClause,
