@@ -1,16 +1,19 @@
 -- Compiled clauses while names are added, and what they mean.
 use Rattle.std.proofs.Common.{◌≡◌, ℕ, List, [], ◌∷◌, ◌++◌, length, map, refl, sym, ap, subst, ◌∙◌}
+use Rattle.std.specs.Prelude.{IsTrue}
 use Rattle.kl1_model.specs.Term.{Terms, terms_of, list_of, count_of}
 use Rattle.kl1_model.specs.TermCode.{NodeCode, nodes_of_all}
 use Rattle.kl1_model.specs.Module.{BodyGoal, Clause, goals_of}
 use Rattle.kl1_model.specs.Instance.{head_variables, fresh_variables}
 use Rattle.kl1_model.specs.State.{names_in, names_of_clause}
+use Rattle.kl1_model.specs.WaitsLaws.{is_guarded}
 use Rattle.kl1_term.proofs.Lent.{row_is, list_of-terms_of, terms_of-list_of}
 use Rattle.kl1_clause.specs.declared.compiled_clause.CompiledClause.{CompiledClause}
 use Rattle.kl1_clause.specs.declared.instruction.Instruction.{Instruction}
 use Rattle.kl1_clause.specs.declared.name.Name.{Name}
 use Rattle.kl1_clause.specs.NameList.{with_text, with_texts}
 use Rattle.kl1_clause.specs.Instructions.{text_in, IsPlaced, IsRowOf, code_in}
+use Rattle.kl1_clause.specs.Plain.{IsPlain}
 use Rattle.kl1_clause.specs.Clauses.{priorities_of, goals_with, clause_in, terms_in, IsCompiled, AreCompiled}
 use Rattle.kl1_clause.proofs.Growth.{Grows, joined, one_grows, all_grow, with_more, with_both, name_stays, row_stays}
 
@@ -48,6 +51,8 @@ clause_stays names new c d g i =
       priorities = i.priorities;
       head_variables = i.head_variables;
       fresh_variables = i.fresh_variables;
+      plain = i.plain;
+      guarded = i.guarded;
     }
 
 pub clauses_stay : (names new : List (List ℕ)) (cs : List CompiledClause) (ds : List Clause) → Grows names new → AreCompiled names cs ds → AreCompiled new cs ds
@@ -121,6 +126,8 @@ pub record IsMade (names a b c d : List (List ℕ)) (compiled : CompiledClause) 
   pub count : compiled.count ≡ count_of clause.patterns
   pub head_variables : compiled.head_variables ≡ head_variables clause
   pub fresh_variables : compiled.fresh_variables ≡ fresh_variables clause
+  pub plain : IsTrue compiled.is_plain → IsPlain compiled.patterns.items compiled.tests.items
+  pub guarded : IsTrue (is_guarded clause)
 
 pub made : (names a b c d : List (List ℕ)) (compiled : CompiledClause) (clause : Clause) → IsMade names a b c d compiled clause → (d ≡ with_texts names (names_of_clause clause)) × IsCompiled d compiled clause
 made names a b c d compiled clause m =
@@ -142,5 +149,7 @@ made names a b c d compiled clause m =
         priorities = m.priorities;
         head_variables = m.head_variables;
         fresh_variables = m.fresh_variables;
+        plain = m.plain;
+        guarded = m.guarded;
       },
     )

@@ -1,12 +1,14 @@
 -- What compiled clauses mean.
-use Rattle.std.specs.Prelude.{◌≡◌, ℕ, List, [], ◌∷◌, length, map, Option}
+use Rattle.std.specs.Prelude.{◌≡◌, ℕ, List, [], ◌∷◌, length, map, Option, IsTrue}
 use Rattle.kl1_model.specs.Term.{Term, terms_of, count_of}
 use Rattle.kl1_model.specs.TermCode.{nodes_of_all, read_nodes}
 use Rattle.kl1_model.specs.Module.{BodyGoal, Clause, goals_of}
 use Rattle.kl1_model.specs.Instance.{head_variables, fresh_variables}
+use Rattle.kl1_model.specs.WaitsLaws.{is_guarded}
 use Rattle.kl1_clause.specs.declared.compiled_clause.CompiledClause.{CompiledClause}
 use Rattle.kl1_clause.specs.declared.instruction.Instruction.{Instruction}
 use Rattle.kl1_clause.specs.Instructions.{text_in, IsPlaced, IsRowOf, code_in}
+use Rattle.kl1_clause.specs.Plain.{IsPlain}
 
 -- the terms of a row, one behind another, where the names of the code are these
 abbrev pub terms_in : List (List ℕ) → List Instruction → List Term
@@ -26,7 +28,7 @@ goals_with (t ∷ ts) (p ∷ ps) = record { goal = t; priority = p } ∷ goals_w
 abbrev pub clause_in : List (List ℕ) → CompiledClause → Clause
 clause_in names c = record { name = text_in names c.name; patterns = terms_of (terms_in names c.patterns.items); tests = terms_in names c.tests.items; section = c.section; body = goals_with (terms_in names c.goals.items) c.priorities.items }
 
--- a compiled clause is this clause, where the names of the code are these
+-- a compiled clause is this clause, whose tests have variables of its head alone, where the names of the code are these
 pub record IsCompiled (names : List (List ℕ)) (compiled : CompiledClause) (clause : Clause) : Type 0 where
   pub placed : IsPlaced (length names) compiled.name
   pub name : text_in names compiled.name ≡ clause.name
@@ -38,6 +40,8 @@ pub record IsCompiled (names : List (List ℕ)) (compiled : CompiledClause) (cla
   pub priorities : compiled.priorities.items ≡ priorities_of clause.body
   pub head_variables : compiled.head_variables ≡ head_variables clause
   pub fresh_variables : compiled.fresh_variables ≡ fresh_variables clause
+  pub plain : IsTrue compiled.is_plain → IsPlain compiled.patterns.items compiled.tests.items
+  pub guarded : IsTrue (is_guarded clause)
 
 -- compiled clauses are these clauses, one for each
 abbrev pub AreCompiled : List (List ℕ) → List CompiledClause → List Clause → Type 0

@@ -1,6 +1,6 @@
 // A clause as instructions.
 
-ghost use Rattle.std.specs.Prelude.{◌≡◌, ◌-◌, map, IfOk, OnOk};
+ghost use Rattle.std.specs.Prelude.{◌≡◌, ◌-◌, map, IfOk, OnOk, IsTrue};
 ghost use Rattle.kl1_model.specs.Term.{terms_of};
 ghost use Rattle.kl1_model.specs.TermCode.{nodes_of_all};
 ghost use Rattle.kl1_model.specs.Meaning.{highest_in};
@@ -8,12 +8,14 @@ ghost use Rattle.kl1_clause.specs.Instructions.{IsRowOf};
 ghost use Rattle.kl1_model.specs.State.{names_in, names_of_clause};
 ghost use Rattle.kl1_clause.specs.NameList.{with_texts};
 ghost use Rattle.kl1_model.specs.Module.{goals_of};
+ghost use Rattle.kl1_model.specs.WaitsLaws.{is_guarded};
 ghost use Rattle.kl1_read.specs.Sources.{clause_of_parts, goal_of_parts};
 ghost use Rattle.kl1_clause.specs.Clauses.{IsCompiled, priorities_of};
 
 use crate::instruction::Instruction;
 use crate::name::Name;
 use crate::names::Names;
+use crate::plain::is_plain;
 use crate::rows::{goal_row, row_of};
 use kl1_read::{ClauseParts, GoalParts};
 use kl1_term::highest_among;
@@ -21,7 +23,8 @@ use std::alloc::{AllocError, Global};
 
 /// A clause as instructions: its predicate's name and number of arguments; the number of its section, from 0, between the
 /// `otherwise`s of its predicate; its patterns, its tests and the goals of its body, each a row of terms one behind another;
-/// for each goal the priority that it names, if any; how many variables its head has, and how many others its body has.
+/// for each goal the priority that it names, if any; how many variables its head has, and how many others its body has; and
+/// whether it is plain: where it is, it has no tests, and its head repeats no variable.
 #[derive(Drop)]
 pub struct CompiledClause {
     pub name: Name,
@@ -33,14 +36,16 @@ pub struct CompiledClause {
     pub priorities: Vec<Option<u64>>,
     pub head_variables: u64,
     pub fresh_variables: u64,
+    pub is_plain: bool,
 }
 
-/// A clause compiled, with its names put to the others.
+/// A clause compiled, with its names put to the others. The variables of its tests are the head's.
 pub(crate) fn compiled_of(
     alloc: Global,
     names: &mut Names,
     parts: &ClauseParts,
 ) -> Result<CompiledClause, AllocError>
+    requires { IsTrue (is_guarded (clause_of_parts parts.now)) }
     ensures names { OnOk result (names.new ≡ with_texts names.old (names_of_clause (clause_of_parts parts.now))) }
     ensures clause { IfOk result (λ clause. IsCompiled names.new clause (clause_of_parts parts.now)) }
 {
@@ -52,6 +57,7 @@ pub(crate) fn compiled_of(
     let head_variables = highest_among(&parts.patterns);
     let fresh_variables = fresh_among(&parts.body, head_variables);
     let count = parts.patterns.len();
+    let is_plain = is_plain(patterns.as_slice(), tests.as_slice());
     Ok(CompiledClause {
         name,
         count,
@@ -62,6 +68,7 @@ pub(crate) fn compiled_of(
         priorities,
         head_variables,
         fresh_variables,
+        is_plain,
     })
 }
 

@@ -14,6 +14,5 @@ pub mod ReadNumbers
 pub mod ReadBack
 pub mod ReadCounts
 pub mod ReadStrict
-pub mod ReadClauses
 pub mod ReadPlain
 pub mod GuardRowProofs

@@ -1,8 +1,7 @@
 -- Of a clause without tests whose head repeats no variable the match alone decides.
-use Rattle.std.proofs.Common.{◌≡◌, ℕ, ◌<◌, ◌≤◌, ◌==◌, ◌&&◌, Bool, true, false, if◌then◌else◌, List, [], ◌∷◌, ◌++◌, map, length, refl, sym, ap, ap₂, ◌∙◌, subst, arith, append-nil}
+use Rattle.std.proofs.Common.{◌≡◌, ℕ, ◌<◌, ◌≤◌, ◌==◌, ◌&&◌, Bool, true, false, if◌then◌else◌, List, [], ◌∷◌, ◌++◌, map, refl, sym, ap, ap₂, ◌∙◌, subst, arith, append-nil}
 use Rattle.std.specs.Prelude.{bytes_eq}
-use Rattle.std.specs.Prelude.{nat_lt}
-use Rattle.std.proofs.lemmas.Bool.{ne_eqb, and_parts, ltb-true}
+use Rattle.std.proofs.lemmas.Bool.{ne_eqb}
 use Rattle.kl1_model.specs.Term.{Term, variable, integer, atom, structure, Terms, none, more, terms_of, count_of, Replacement}
 use Rattle.kl1_model.specs.TermCode.{NodeCode, nodes_of_all}
 use Rattle.kl1_model.specs.Meaning.{variables_of, variables_in as variables_of_all}
@@ -16,22 +15,8 @@ use Rattle.kl1_clause.specs.declared.instruction.Instruction.{Instruction}
 use Rattle.kl1_clause.specs.declared.instruction.Instruction.TheVariants.{Variable, Integer, Atom, Structure}
 use Rattle.kl1_clause.specs.Instructions.{code_in}
 use Rattle.kl1_clause.specs.Clauses.{IsCompiled}
-use Rattle.kl1_match.specs.Plain.{AreRising, is_rising, IsPlain}
+use Rattle.kl1_clause.specs.Plain.{AreRising, IsPlain}
 use Rattle.kl1_match.proofs.Answered.{both-agrees}
-
--- ---- rows that rise
-
-pub rising : (n : ℕ) (row : List Instruction) → is_rising n row ≡ true → AreRising n row
-rising n [] e = tt
-rising n (Variable v ∷ is) e = let k = and_parts (nat_lt n v) (is_rising v is) e in (ltb-true n v k.0, rising v is k.1)
-rising n (Integer i ∷ is) e = rising n is e
-rising n (Atom a ∷ is) e = rising n is e
-rising n (Structure a count ∷ is) e = rising n is e
-
--- a list without length is empty
-pub nothing_in : (row : List Instruction) → length row ≡ 0 → row ≡ []
-nothing_in [] e = refl
-nothing_in (i ∷ is) e = absurd (omega arith)
 
 -- ---- numbers that rise
 
@@ -137,21 +122,23 @@ no_tests (structure f us ∷ ts) e = absurd (cc)
 -- ---- verdicts
 
 -- the places of such a clause agree, whatever the goal
-places_agree : (names : List (List ℕ)) (compiled : CompiledClause) (clause : Clause) (ts : Terms) → IsPlain compiled → IsCompiled names compiled clause → each_alike (match_terms clause.patterns ts).places ≡ agrees
+places_agree : (names : List (List ℕ)) (compiled : CompiledClause) (clause : Clause) (ts : Terms) → IsPlain compiled.patterns.items compiled.tests.items → IsCompiled names compiled clause → each_alike (match_terms clause.patterns ts).places ≡ agrees
 places_agree names compiled clause ts plain is =
     let k = row_rises names 0 compiled.patterns.items plain.rising in
     let R : List ℕ → Type 0 = λ ns. Rises 0 k.high ns in
     let own = subst R (row_variables (map (code_in names) compiled.patterns.items) clause.patterns is.patterns.nodes_are) k.rises in
     all_alone 0 k.high (match_terms clause.patterns ts).places (matches_rise 0 k.high clause.patterns ts own)
 
+-- a clause whose row of tests is empty has none
+pub untested : (names : List (List ℕ)) (compiled : CompiledClause) (clause : Clause) → compiled.tests.items ≡ [] → IsCompiled names compiled clause → clause.tests ≡ []
+untested names compiled clause e is = no_tests clause.tests (sym (ap (map (code_in names)) e) ∙ is.tests.nodes_are)
+
 -- and its guard, which has no test
-guard_agrees : (names : List (List ℕ)) (compiled : CompiledClause) (clause : Clause) (places : List Replacement) → IsPlain compiled → IsCompiled names compiled clause → guard_outcome places clause.tests ≡ agrees
-guard_agrees names compiled clause places plain is =
-    let none_there : [] ≡ nodes_of_all (terms_of clause.tests) = sym (ap (map (code_in names)) plain.tests) ∙ is.tests.nodes_are in
-    ap (guard_outcome places) (no_tests clause.tests none_there)
+guard_agrees : (names : List (List ℕ)) (compiled : CompiledClause) (clause : Clause) (places : List Replacement) → IsPlain compiled.patterns.items compiled.tests.items → IsCompiled names compiled clause → guard_outcome places clause.tests ≡ agrees
+guard_agrees names compiled clause places plain is = ap (guard_outcome places) (untested names compiled clause plain.none is)
 
 -- the verdict of such a clause is that of its match
-pub plain_verdict : (names : List (List ℕ)) (compiled : CompiledClause) (clause : Clause) (ts : Terms) → IsPlain compiled → IsCompiled names compiled clause →
+pub plain_verdict : (names : List (List ℕ)) (compiled : CompiledClause) (clause : Clause) (ts : Terms) → IsPlain compiled.patterns.items compiled.tests.items → IsCompiled names compiled clause →
     verdict clause ts ≡ verdict_with (match_terms clause.patterns ts) (match_terms clause.patterns ts).outcome
 plain_verdict names compiled clause ts plain is =
     let m = match_terms clause.patterns ts in

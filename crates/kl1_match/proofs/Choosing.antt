@@ -22,9 +22,10 @@ use Rattle.kl1_match.specs.declared.verdict.Verdict.TheVariants.{Accepts, Reject
 use Rattle.kl1_match.specs.Instances.{IsClause}
 use Rattle.kl1_match.specs.Waiting.{AreUnbound, AreSame}
 use Rattle.kl1_match.specs.Verdicts.{arguments_of_goal, verdict_with_places, IsVerdict}
-use Rattle.kl1_match.specs.Plain.{IsPlain, ArePlain}
+use Rattle.kl1_match.specs.Untested.{IsUntested, AreUntested}
 use Rattle.kl1_match.specs.Choices.{AreClauses, IsChoice, is_past, without_clause}
 use Rattle.kl1_match.proofs.Naming.{same_as_itself, more_same}
+use Rattle.kl1_match.proofs.Coming.{AreUnbound-append, more_named}
 
 -- ---- clauses at places
 
@@ -33,10 +34,10 @@ clause_in names [] place x a lt = absurd (omega arith)
 clause_in names (c ∷ cs) zero x a lt = a.0
 clause_in names (c ∷ cs) (suc place) x a lt = clause_in names cs place x a.1 (omega arith)
 
-pub plain_in : (cs : List CompiledClause) (place : ℕ) (x : CompiledClause) → ArePlain cs → place < length cs → IsPlain (get_or cs place x)
-plain_in [] place x a lt = absurd (omega arith)
-plain_in (c ∷ cs) zero x a lt = a.0
-plain_in (c ∷ cs) (suc place) x a lt = plain_in cs place x a.1 (omega arith)
+pub untested_in : (cs : List CompiledClause) (place : ℕ) (x : CompiledClause) → AreUntested cs → place < length cs → IsUntested (get_or cs place x)
+untested_in [] place x a lt = absurd (omega arith)
+untested_in (c ∷ cs) zero x a lt = a.0
+untested_in (c ∷ cs) (suc place) x a lt = untested_in cs place x a.1 (omega arith)
 
 -- the clause that a compiled one at a place is, and those behind it
 record IsThere (names : List (List ℕ)) (compiled : CompiledClause) (ds : List Clause) (place : ℕ) : Type 0 where
@@ -180,13 +181,6 @@ judged built names clauses h goal before now next tried waiting x places given l
       added_same = g.same;
       leads = subst L (sym t.is.section) (leads_to cs ts all.named tried waiting t.clause w t.left (sym (ap (is_past waiting) t.is.section) ∙ near) g.verdict_is l);
     }
-
-AreUnbound-append : {N : Type 0} (h : Held N) (vs ws : List ℕ) → AreUnbound h vs → AreUnbound h ws → AreUnbound h (vs ++ ws)
-AreUnbound-append h [] ws a b = b
-AreUnbound-append h (v ∷ vs) ws a b = (a.0, AreUnbound-append h vs ws a.1 b)
-
-more_named : (before now next named more : List ℕ) → now ≡ before ++ named → next ≡ now ++ more → next ≡ before ++ (named ++ more)
-more_named before now next named more e k = k ∙ ap (λ l. l ++ more) e ∙ append_assoc before named more
 
 pub accepted_there : {N : Type 0} (built : BuiltIn → N) (names : List N) (clauses : List CompiledClause) (h : Held N) (goal : Cell N) (before now next : List ℕ) (tried : ℕ) (waiting : Option ℕ) (x : CompiledClause) (places : List (Place N)) →
     tried < length clauses → is_past waiting (get_or clauses tried x).section ≡ false → ChoosesFrom built names clauses h goal before now tried waiting → IsVerdict built names (get_or clauses tried x) h goal places now next Accepts →

@@ -13,6 +13,8 @@ pub mod Outcomes
 pub mod Whole
 pub mod Trying
 pub mod Beside
+pub mod Coming
+pub mod Judging
 pub mod Choosing
 pub mod Stays
 pub mod GoalCells

@@ -6,7 +6,7 @@ use Rattle.kl1_model.specs.declared.built_in.BuiltIn.{BuiltIn}
 use Rattle.kl1_model.specs.Term.{Term, Terms, more}
 use Rattle.kl1_model.specs.TermCode.{nodes_of_all}
 use Rattle.kl1_model.specs.Module.{Clause}
-use Rattle.kl1_model.specs.Match.{clashes, waits, Matched, match_terms, awaited_in, accepts, rejects, verdict_with}
+use Rattle.kl1_model.specs.Match.{clashes, waits, both, Matched, match_terms, each_alike, guard_outcome, awaited_in, accepts, rejects, verdict, verdict_with}
 use Rattle.kl1_text.specs.Reading.{Reads}
 use Rattle.kl1_store.specs.declared.cell.Cell.{Cell}
 use Rattle.kl1_store.specs.Held.{Held}
@@ -15,6 +15,7 @@ use Rattle.kl1_clause.specs.declared.compiled_clause.CompiledClause.{CompiledCla
 use Rattle.kl1_clause.specs.declared.instruction.Instruction.{Instruction}
 use Rattle.kl1_clause.specs.Instructions.{IsNamed, AreNamed, code_in}
 use Rattle.kl1_clause.specs.Clauses.{IsCompiled}
+use Rattle.kl1_clause.specs.Plain.{IsPlain}
 use Rattle.kl1_match.specs.declared.place.Place.{Place}
 use Rattle.kl1_match.specs.declared.verdict.Verdict.{Verdict}
 use Rattle.kl1_match.specs.declared.verdict.Verdict.TheVariants.{Accepts, Rejects, Suspends}
@@ -22,7 +23,6 @@ use Rattle.kl1_match.specs.Instances.{AreThere, IsClause, replacements_of}
 use Rattle.kl1_match.specs.Matching.{Continues, Decides}
 use Rattle.kl1_match.specs.Verdicts.{arguments_of_goal, NamesAs, GivesMatch, IsTried, IsVerdict}
 use Rattle.kl1_match.specs.Waiting.{IsUnbound, AreUnbound}
-use Rattle.kl1_match.specs.Plain.{IsPlain}
 use Rattle.kl1_match.proofs.Answered.{matched_with, so_far, IsLeft, IsNext, begun, next_of, agreed, waited, clashed, no_terms, no_patterns, all_matched}
 use Rattle.kl1_match.proofs.Naming.{same_as_itself}
 use Rattle.kl1_match.proofs.Alone.{plain_verdict}
@@ -201,7 +201,7 @@ some_named [] ne = absurd (ne refl)
 some_named (v ∷ vs) ne = refl
 
 -- how many variables were named
-named_count : (before after named : List ℕ) → after ≡ before ++ named → length after ≡ length before + length named
+pub named_count : (before after named : List ℕ) → after ≡ before ++ named → length after ≡ length before + length named
 named_count before after named e = ap length e ∙ length-append before named
 
 pub accepted : {N : Type 0} (built : BuiltIn → N) (names : List N) (compiled : CompiledClause) (h : Held N) (goal : Cell N) (at : ℕ) (cells : List (Cell N)) (places : List (Place N)) (before after : List ℕ) →
@@ -218,27 +218,29 @@ suspended built names compiled h goal at cells places before after le empty ne a
 
 -- ---- verdicts of clauses of which the match alone decides
 
+-- a match that clashes decides, whatever the places and the tests say
+pub clash_verdict : (c : Clause) (ts : Terms) → (match_terms c.patterns ts).outcome ≡ clashes → verdict c ts ≡ rejects []
+clash_verdict c ts clash =
+    let m = match_terms c.patterns ts in
+    ap (λ o. verdict_with m (both (both o (each_alike m.places)) (guard_outcome m.places c.tests))) clash ∙ ap (λ o. rejects (awaited_in o)) clash
+
 -- what a clause that clashes named is dropped
-pub dropped : {N : Type 0} (built : BuiltIn → N) (names : List N) (compiled : CompiledClause) (h : Held N) (goal : Cell N) (places : List (Place N)) (before after now : List ℕ) (n : ℕ) → IsPlain compiled → n ≡ length before → now ≡ take n after →
+pub dropped : {N : Type 0} (built : BuiltIn → N) (names : List N) (compiled : CompiledClause) (h : Held N) (goal : Cell N) (places : List (Place N)) (before after now : List ℕ) (n : ℕ) → n ≡ length before → now ≡ take n after →
     IsTried built names compiled h goal places before after Rejects → IsVerdict built names compiled h goal places before now Rejects
-dropped built names compiled h goal places before after now n plain count e t = record {
+dropped built names compiled h goal places before after now n count e t = record {
   inside = t.inside;
   named = [];
   named_as = tt;
   unbound = tt;
   awaited = e ∙ ap (λ l. take n l) t.awaited ∙ ap (λ m. take m (before ++ t.named)) count ∙ take-append_seam before t.named ∙ sym (append-nil before);
-  gives = λ f reads clause is.
-      let ts = arguments_of_goal (term_of f h goal) in
-      let m = match_terms clause.patterns ts in
-      let clash = t.gives f reads clause is in
-      record {
-        defined = [];
-        same = same_as_itself [];
-        verdict_is = plain_verdict (map f names) compiled clause ts plain is ∙ (ap (verdict_with m) clash ∙ ap (λ o. rejects (awaited_in o)) clash);
-      };
+  gives = λ f reads clause is. record {
+    defined = [];
+    same = same_as_itself [];
+    verdict_is = clash_verdict clause (arguments_of_goal (term_of f h goal)) (t.gives f reads clause is);
+  };
 }
 
-pub accepts_as : {N : Type 0} (built : BuiltIn → N) (names : List N) (compiled : CompiledClause) (h : Held N) (goal : Cell N) (places : List (Place N)) (before after : List ℕ) → IsPlain compiled →
+pub accepts_as : {N : Type 0} (built : BuiltIn → N) (names : List N) (compiled : CompiledClause) (h : Held N) (goal : Cell N) (places : List (Place N)) (before after : List ℕ) → IsPlain compiled.patterns.items compiled.tests.items →
     IsTried built names compiled h goal places before after Accepts → IsVerdict built names compiled h goal places before after Accepts
 accepts_as built names compiled h goal places before after plain t = record {
   inside = t.inside;
@@ -257,7 +259,7 @@ accepts_as built names compiled h goal places before after plain t = record {
       };
 }
 
-pub suspends_as : {N : Type 0} (built : BuiltIn → N) (names : List N) (compiled : CompiledClause) (h : Held N) (goal : Cell N) (places : List (Place N)) (before after : List ℕ) → IsPlain compiled →
+pub suspends_as : {N : Type 0} (built : BuiltIn → N) (names : List N) (compiled : CompiledClause) (h : Held N) (goal : Cell N) (places : List (Place N)) (before after : List ℕ) → IsPlain compiled.patterns.items compiled.tests.items →
     IsTried built names compiled h goal places before after Suspends → IsVerdict built names compiled h goal places before after Suspends
 suspends_as built names compiled h goal places before after plain t = record {
   inside = t.inside;

@@ -6,10 +6,10 @@ pub mod Variables
 pub mod Waiting
 pub mod Spans
 pub mod Matching
-pub mod Plain
 pub mod Outcomes
 pub mod Verdicts
 pub mod Choices
 pub mod Stays
 pub mod Rooms
 pub mod GoalCells
+pub mod Untested

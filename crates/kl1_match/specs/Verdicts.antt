@@ -1,5 +1,5 @@
 -- What the verdict of a compiled clause on the goal of a cell is.
-use Rattle.std.specs.Prelude.{◌≡◌, ℕ, List, [], ◌++◌, map}
+use Rattle.std.specs.Prelude.{◌≡◌, ℕ, Bool, true, false, List, [], ◌++◌, map}
 use Rattle.kl1_model.specs.declared.built_in.BuiltIn.{BuiltIn}
 use Rattle.kl1_model.specs.Term.{Term, variable, integer, atom, structure, Terms, none}
 use Rattle.kl1_model.specs.Module.{Clause}
@@ -23,6 +23,12 @@ arguments_of_goal (variable n) = none
 arguments_of_goal (integer i) = none
 arguments_of_goal (atom a) = none
 arguments_of_goal (structure p ts) = ts
+
+-- whether a verdict rejects
+abbrev pub is_rejection : Verdict → Bool
+is_rejection Accepts = false
+is_rejection Rejects = true
+is_rejection Suspends = false
 
 -- a verdict as in the definitions: it accepts with the terms at these places, or rejects or suspends and names these variables
 abbrev pub verdict_with_places : {N : Type 0} → (N → List ℕ) → Held N → List (Place N) → List ℕ → Verdict → model.Verdict

@@ -1,6 +1,7 @@
 //! What clauses make of goals: verdicts of heads, and instances of bodies, over cells.
 #![tactic(auto)]
 
+mod alike;
 mod arguments;
 mod building;
 mod choice;
@@ -10,7 +11,6 @@ mod meets;
 mod met;
 mod name_in;
 mod place;
-mod plain;
 mod scratch;
 mod skips;
 mod span;
@@ -24,7 +24,6 @@ pub use goal_cells::{put_goal, put_goal_variables, reserve_goal, reserve_goal_be
 pub use instances::put_instance;
 pub use name_in::name_at;
 pub use place::Place;
-pub use plain::is_plain;
 pub use scratch::Scratch;
 pub use verdict::Verdict;
 pub use verdicts::verdict_on;

@@ -2,7 +2,7 @@
 
 use crate::place::Place;
 use crate::span::Span;
-use kl1_store::Cell;
+use kl1_store::{Cell, SameScratch};
 use kl1_text::NameValue;
 use std::alloc::Global;
 
@@ -14,6 +14,7 @@ pub struct Scratch<N: NameValue> {
     pub(crate) spans: Vec<Span>,
     pub(crate) places: Vec<Place<N>>,
     pub(crate) variables: Vec<Cell<N>>,
+    pub(crate) same: SameScratch,
 }
 
 impl<N: NameValue> Scratch<N> {
@@ -24,6 +25,7 @@ impl<N: NameValue> Scratch<N> {
             spans: Vec::new(alloc),
             places: Vec::new(alloc),
             variables: Vec::new(alloc),
+            same: SameScratch::new(alloc),
         }
     }
 }

@@ -2,11 +2,13 @@
 
 ghost use Rattle.std.specs.Prelude.{◌≡◌, ◌≤◌, [], IfOk, OnOk, IsTrue, vec_capacity};
 ghost use Rattle.kl1_store.specs.Held.{IsIn};
+ghost use Rattle.kl1_clause.specs.Plain.{IsPlain};
 ghost use Rattle.kl1_match.specs.Instances.{IsClause};
 ghost use Rattle.kl1_match.specs.Matching.{Keeps};
-ghost use Rattle.kl1_match.specs.Plain.{IsPlain};
+ghost use Rattle.kl1_match.specs.Untested.{IsUntested};
 ghost use Rattle.kl1_match.specs.Verdicts.{IsVerdict, IsTried};
 
+use crate::alike::compare_each;
 use crate::arguments::{is_left, span_of};
 use crate::meets::meet;
 use crate::met::Met;
@@ -14,16 +16,15 @@ use crate::place::Place;
 use crate::scratch::Scratch;
 use crate::skips::behind_term;
 use crate::span::Span;
-use crate::verdict::Verdict;
+use crate::verdict::{Verdict, is_rejection};
 use kl1_clause::CompiledClause;
-use kl1_store::{Cell, Store};
+use kl1_store::{Cell, SameScratch, Store};
 use kl1_text::NameValue;
 use std::alloc::AllocError;
 
-/// The verdict of a clause without tests, whose head repeats no variable, on a goal, where the names of the clause's code are these. `places` gets the terms at the places
-/// of the head's variables, in order, where the clause accepts; otherwise nothing is said of it. Where the clause suspends,
-/// `awaited` gets the variables that it waits for behind its own, and otherwise nothing. Where memory is refused, nothing is
-/// said of what it got.
+/// The verdict of a clause without tests on a goal, where the names of the clause's code are these. `places` gets the terms at
+/// the places of the head's variables, in order, where the clause accepts; otherwise nothing is said of it. `awaited` gets the
+/// variables that the verdict waits for behind its own. Where memory is refused, nothing is said of what it got.
 pub fn verdict_on<N: NameValue>(
     store: &Store<N>,
     names: &[N],
@@ -34,7 +35,7 @@ pub fn verdict_on<N: NameValue>(
     awaited: &mut Vec<u32>,
 ) -> Result<Verdict, AllocError>
     requires clause { IsClause names.now clause.now }
-    requires plain { IsPlain clause.now }
+    requires untested { IsUntested clause.now }
     requires goal { IsIn store.now.held goal }
     ensures { IfOk result (IsVerdict N.built names.now clause.now store.now.held goal places.new.items awaited.old.items awaited.new.items) }
 {
@@ -44,13 +45,37 @@ pub fn verdict_on<N: NameValue>(
         clause,
         goal,
         &mut scratch.spans,
+        &mut scratch.same,
         places,
         awaited,
     )
 }
 
-/// The same, over a list of spans in place of scratch; where nothing is to be kept, nothing is put in `places`.
+/// The same, over parts of scratch; where nothing is to be kept, nothing is said of `places`.
+#[inline]
 pub(crate) fn judge<N: NameValue, const KEEP: bool>(
+    store: &Store<N>,
+    names: &[N],
+    clause: &CompiledClause,
+    goal: Cell<N>,
+    behind: &mut Vec<Span>,
+    same: &mut SameScratch,
+    places: &mut Vec<Place<N>>,
+    awaited: &mut Vec<u32>,
+) -> Result<Verdict, AllocError>
+    requires clause { IsClause names.now clause.now }
+    requires untested { IsUntested clause.now }
+    requires goal { IsIn store.now.held goal }
+    ensures { IfOk result (λ v. Keeps KEEP places.new.items (λ ps. IsVerdict N.built names.now clause.now store.now.held goal ps awaited.old.items awaited.new.items v)) }
+{
+    if clause.is_plain {
+        return judge_plain::<_, KEEP>(store, names, clause, goal, behind, places, awaited);
+    }
+    judge_places(store, names, clause, goal, behind, same, places, awaited)
+}
+
+/// The verdict of a plain clause.
+fn judge_plain<N: NameValue, const KEEP: bool>(
     store: &Store<N>,
     names: &[N],
     clause: &CompiledClause,
@@ -60,7 +85,7 @@ pub(crate) fn judge<N: NameValue, const KEEP: bool>(
     awaited: &mut Vec<u32>,
 ) -> Result<Verdict, AllocError>
     requires clause { IsClause names.now clause.now }
-    requires plain { IsPlain clause.now }
+    requires plain { IsPlain clause.now.patterns.items clause.now.tests.items }
     requires goal { IsIn store.now.held goal }
     ensures { IfOk result (λ v. Keeps KEEP places.new.items (λ ps. IsVerdict N.built names.now clause.now store.now.held goal ps awaited.old.items awaited.new.items v)) }
 {
@@ -73,6 +98,40 @@ pub(crate) fn judge<N: NameValue, const KEEP: bool>(
             Ok(Verdict::Rejects)
         }
     }
+}
+
+/// The verdict of any clause: what its match says, and then passive equality of each two places of a variable that were reached.
+/// A clash outweighs what is waited for, but the match may still reach other places, so what it waits for is named then too.
+fn judge_places<N: NameValue>(
+    store: &Store<N>,
+    names: &[N],
+    clause: &CompiledClause,
+    goal: Cell<N>,
+    behind: &mut Vec<Span>,
+    same: &mut SameScratch,
+    places: &mut Vec<Place<N>>,
+    awaited: &mut Vec<u32>,
+) -> Result<Verdict, AllocError>
+    requires clause { IsClause names.now clause.now }
+    requires untested { IsUntested clause.now }
+    requires goal { IsIn store.now.held goal }
+    ensures { IfOk result (IsVerdict N.built names.now clause.now store.now.held goal places.new.items awaited.old.items awaited.new.items) }
+{
+    let before = awaited.len();
+    let tried = find_match::<_, true>(store, names, clause, goal, behind, places, awaited)?;
+    if is_rejection(tried) {
+        awaited.truncate(before);
+        return Ok(Verdict::Rejects);
+    }
+    let matched = awaited.len();
+    if !compare_each(store, places.as_slice(), same, awaited)? {
+        awaited.truncate(matched);
+        return Ok(Verdict::Rejects);
+    }
+    if awaited.len() == before {
+        return Ok(Verdict::Accepts);
+    }
+    Ok(Verdict::Suspends)
 }
 
 /// Empties places, and makes room for so many where they are kept.

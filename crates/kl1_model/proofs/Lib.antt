@@ -24,3 +24,4 @@ pub mod RejectsNever
 pub mod VerdictWaits
 pub mod OpenSections
 pub mod TermStays
+pub mod ReadClauses

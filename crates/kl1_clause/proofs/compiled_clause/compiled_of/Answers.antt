@@ -13,7 +13,7 @@ returns c =
     let head : c.highest_among-head_variables.result ≡ highest_in (terms_of p.patterns.items) = c.highest_among-head_variables.ensures ∙ ap (λ x. highest_in (terms_of x)) c.deref-5.ensures.value in
     let fresh : c.fresh_among-fresh_variables.result ≡ highest_in (terms_of (goals_of (map goal_of_parts p.body.items))) - highest_in (terms_of p.patterns.items) = c.fresh_among-fresh_variables.ensures ∙ (ap (λ x. highest_in (terms_of (goals_of (map goal_of_parts x))) - c.highest_among-head_variables.result) c.deref-6.ensures.value ∙ ap (λ n. highest_in (terms_of (goals_of (map goal_of_parts p.body.items))) - n) head) in
     let all = made c.args.names.now c.placed.new.self c.row_of.new.names c.row_of-2.new.names c.goal_row.new.names
-    (record { name = c.in_ok-name.name; count = c.len-count.result; section = p.section; patterns = c.in_ok-patterns.patterns; tests = c.in_ok-tests.tests; goals = c.in_ok-goals.goals; priorities = c.in_ok-priorities.priorities; head_variables = c.highest_among-head_variables.result; fresh_variables = c.fresh_among-fresh_variables.result })
+    (record { name = c.in_ok-name.name; count = c.len-count.result; section = p.section; patterns = c.in_ok-patterns.patterns; tests = c.in_ok-tests.tests; goals = c.in_ok-goals.goals; priorities = c.in_ok-priorities.priorities; head_variables = c.highest_among-head_variables.result; fresh_variables = c.fresh_among-fresh_variables.result; is_plain = c.is_plain-is_plain.result })
     (clause_of_parts p)
     (record {
       parted = record {
@@ -32,5 +32,7 @@ returns c =
       count = c.len-count.ensures ∙ (p.patterns.ok.0 ∙ sym (count_of-terms_of p.patterns.items));
       head_variables = head;
       fresh_variables = fresh;
+      plain = rw c.as_slice.ensures.value at (rw c.as_slice-2.ensures.value at c.is_plain-is_plain.ensures);
+      guarded = c.requires;
     }) in
     record { names = all.0; clause = all.1 }

@@ -1,9 +1,9 @@
 // Clauses of which the match alone decides.
 
 ghost use Rattle.std.specs.Prelude.{◌≡◌, IsTrue};
-ghost use Rattle.kl1_match.specs.Plain.{is_rising, IsPlain};
+ghost use Rattle.kl1_clause.specs.Plain.{is_rising, IsPlain};
 
-use kl1_clause::{CompiledClause, Instruction};
+use crate::instruction::Instruction;
 
 /// Whether each variable of a row is greater than those before it, so that none stands there twice.
 fn is_rising(row: &[Instruction]) -> bool
@@ -23,12 +23,12 @@ fn is_rising(row: &[Instruction]) -> bool
     true
 }
 
-/// Whether a clause has no tests, and each variable of its head stands there once.
-pub fn is_plain(clause: &CompiledClause) -> bool
-    ensures { IsTrue result → IsPlain clause.now }
+/// Whether a clause of these patterns and tests has no tests, and each variable of its head stands there once.
+pub(crate) fn is_plain(patterns: &[Instruction], tests: &[Instruction]) -> bool
+    ensures { IsTrue result → IsPlain patterns.now tests.now }
 {
-    if !clause.tests.is_empty() {
+    if !tests.is_empty() {
         return false;
     }
-    is_rising(clause.patterns.as_slice())
+    is_rising(patterns)
 }

@@ -1,6 +1,5 @@
 -- Clauses of which the match alone decides.
 use Rattle.std.specs.Prelude.{◌≡◌, ℕ, ◌<◌, nat_lt, ◌&&◌, Bool, true, List, [], ◌∷◌}
-use Rattle.kl1_clause.specs.declared.compiled_clause.CompiledClause.{CompiledClause}
 use Rattle.kl1_clause.specs.declared.instruction.Instruction.{Instruction}
 use Rattle.kl1_clause.specs.declared.instruction.Instruction.TheVariants.{Variable, Integer, Atom, Structure}
 
@@ -20,12 +19,7 @@ is_rising n (Integer i ∷ is) = is_rising n is
 is_rising n (Atom a ∷ is) = is_rising n is
 is_rising n (Structure a count ∷ is) = is_rising n is
 
--- a clause without tests whose head repeats no variable
-pub record IsPlain (compiled : CompiledClause) : Type 0 where
-  pub tests : compiled.tests.items ≡ []
-  pub rising : AreRising 0 compiled.patterns.items
-
--- such clauses
-abbrev pub ArePlain : List CompiledClause → Type 0
-ArePlain [] = Unit {0}
-ArePlain (c ∷ cs) = IsPlain c × ArePlain cs
+-- a clause of these rows has no tests, and its head repeats no variable
+pub record IsPlain (patterns tests : List Instruction) : Type 0 where
+  pub none : tests ≡ []
+  pub rising : AreRising 0 patterns

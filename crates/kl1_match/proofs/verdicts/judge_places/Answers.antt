@@ -1,0 +1,73 @@
+use Rattle.std.proofs.Common.{◌≡◌, ℕ, Bool, true, false, List, length, ap, sym, ◌∙◌, arith, subst}
+use Rattle.kl1_match.specs.declared.place.Place.{Place}
+use Rattle.kl1_match.specs.declared.verdict.Verdict.{Verdict}
+use Rattle.kl1_match.specs.Verdicts.{is_rejection, IsTried}
+use Rattle.kl1_match.specs.Instances.{AreThere}
+use Rattle.kl1_match.specs.Outcomes.{EachComes}
+use Rattle.kl1_match.proofs.Trying.{of_places}
+use Rattle.kl1_match.proofs.Whole.{dropped}
+use Rattle.kl1_match.proofs.Judging.{rejected_there, places_accept, places_suspend, places_reject}
+use Rattle.kl1_match.proofs.verdicts.judge_places.Goals as goal
+
+pub returns-then-is_rejection : goal.returns-then-is_rejection
+returns-then-is_rejection g c =
+    let h = c.args.store.now.held in
+    let built = g.N.NameValue.built in
+    let places = c.find_match.new.places.items in
+    let before = c.args.awaited.now.items in
+    let mid = c.find_match.new.awaited.items in
+    let t = of_places places (λ ps. IsTried built c.args.names.now c.args.clause.now h c.args.goal ps before mid c.in_ok-tried.tried) c.in_ok-tried.ensures in
+    dropped built c.args.names.now c.args.clause.now h c.args.goal places before mid c.truncate.new.self.items c.len-before.result (omega (arith, c.len-before.ensures, c.args.awaited.now.ok.0)) c.truncate.ensures.items
+    (rejected_there built c.args.names.now c.args.clause.now h c.args.goal places before mid c.in_ok-tried.tried (sym c.is_rejection.ensures ∙ c.if-is_rejection.true) t)
+
+pub compare_each-requires : goal.compare_each-requires
+compare_each-requires g c =
+    let h = c.args.store.now.held in
+    let places = c.find_match.new.places.items in
+    let t = of_places places (λ ps. IsTried g.N.NameValue.built c.args.names.now c.args.clause.now h c.args.goal ps c.args.awaited.now.items c.find_match.new.awaited.items c.in_ok-tried.tried) c.in_ok-tried.ensures in
+    let P : List (Place _) → Type 0 = λ ps. AreThere h ps in
+    subst P (sym c.as_slice.ensures.value) t.inside
+
+pub returns-then-not-branch : goal.returns-then-not-branch
+returns-then-not-branch g c =
+    let h = c.args.store.now.held in
+    let built = g.N.NameValue.built in
+    let places = c.find_match.new.places.items in
+    let before = c.args.awaited.now.items in
+    let mid = c.find_match.new.awaited.items in
+    let after = c.compare_each.new.awaited.items in
+    let t = of_places places (λ ps. IsTried built c.args.names.now c.args.clause.now h c.args.goal ps before mid c.in_ok-tried.tried) c.in_ok-tried.ensures in
+    let P : Bool → Type 0 = λ b. EachComes built h c.as_slice.result.now mid after b in
+    let Q : List (Place _) → Type 0 = λ ps. EachComes built h ps mid after false in
+    places_reject built c.args.names.now c.args.clause.now h c.args.goal places before mid after c.truncate-then-not-branch.new.self.items c.len-matched.result c.in_ok-tried.tried c.requires.untested (sym c.is_rejection.ensures ∙ c.if-is_rejection.false) t
+    (subst Q c.as_slice.ensures.value (subst P c.if-not-branch.true c.in_ok-compare_each.ensures)) (omega (arith, c.len-matched.ensures, c.find_match.new.awaited.ok.0)) c.truncate-then-not-branch.ensures.items
+
+pub returns-then-len-before : goal.returns-then-len-before
+returns-then-len-before g c =
+    let h = c.args.store.now.held in
+    let built = g.N.NameValue.built in
+    let places = c.find_match.new.places.items in
+    let before = c.args.awaited.now.items in
+    let mid = c.find_match.new.awaited.items in
+    let after = c.compare_each.new.awaited.items in
+    let t = of_places places (λ ps. IsTried built c.args.names.now c.args.clause.now h c.args.goal ps before mid c.in_ok-tried.tried) c.in_ok-tried.ensures in
+    let P : Bool → Type 0 = λ b. EachComes built h c.as_slice.result.now mid after b in
+    let Q : List (Place _) → Type 0 = λ ps. EachComes built h ps mid after true in
+    let same : length after ≡ length before = omega (arith, c.compare_each.new.awaited.ok.0, c.args.awaited.now.ok.0, c.len-before.ensures, c.len.ensures, c.if-len-before.true) in
+    places_accept built c.args.names.now c.args.clause.now h c.args.goal places before mid after c.in_ok-tried.tried c.requires.untested (sym c.is_rejection.ensures ∙ c.if-is_rejection.false) t
+    (subst Q c.as_slice.ensures.value (subst P c.if-not-branch.false c.in_ok-compare_each.ensures)) same
+
+pub returns : goal.returns
+returns g c =
+    let h = c.args.store.now.held in
+    let built = g.N.NameValue.built in
+    let places = c.find_match.new.places.items in
+    let before = c.args.awaited.now.items in
+    let mid = c.find_match.new.awaited.items in
+    let after = c.compare_each.new.awaited.items in
+    let t = of_places places (λ ps. IsTried built c.args.names.now c.args.clause.now h c.args.goal ps before mid c.in_ok-tried.tried) c.in_ok-tried.ensures in
+    let P : Bool → Type 0 = λ b. EachComes built h c.as_slice.result.now mid after b in
+    let Q : List (Place _) → Type 0 = λ ps. EachComes built h ps mid after true in
+    let more : length after ≡ length before → ⊥ = λ e. c.if-len-before.false (omega (arith, c.compare_each.new.awaited.ok.0, c.args.awaited.now.ok.0, c.len-before.ensures, c.len.ensures, e)) in
+    places_suspend built c.args.names.now c.args.clause.now h c.args.goal places before mid after c.in_ok-tried.tried c.requires.untested (sym c.is_rejection.ensures ∙ c.if-is_rejection.false) t
+    (subst Q c.as_slice.ensures.value (subst P c.if-not-branch.false c.in_ok-compare_each.ensures)) more
