@@ -60,7 +60,9 @@ pub trait View<N: NameValue> {
     fn is_shared(&self, at: Self::At) -> bool
         ensures { IsTrue result → IsShared self.now at };
 
-    /// Whether two variables are one.
+    /// Whether two unbound variables are one.
     fn same_variable(&self, left: Self::Variable, right: Self::Variable) -> bool
+        requires left { IsFree self.now left }
+        requires right { IsFree self.now right }
         ensures { result ≡ (number self.now left == number self.now right) };
 }

@@ -6,6 +6,8 @@ pub mod Places
 pub mod Bodies
 pub mod Cells
 pub mod Skipping
+pub mod Reading
+pub mod TestForms
 pub mod Answered
 pub mod Alone
 pub mod Naming

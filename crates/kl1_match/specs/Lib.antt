@@ -13,3 +13,4 @@ pub mod Stays
 pub mod Rooms
 pub mod GoalCells
 pub mod Untested
+pub mod TestTerms

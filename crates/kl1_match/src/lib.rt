@@ -15,6 +15,7 @@ mod scratch;
 mod skips;
 mod span;
 mod step;
+mod test_view;
 mod variables;
 mod verdict;
 mod verdicts;
