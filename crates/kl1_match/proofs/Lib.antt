@@ -16,7 +16,9 @@ pub mod Whole
 pub mod Trying
 pub mod Beside
 pub mod Coming
+pub mod Among
 pub mod Judging
+pub mod TermPairs
 pub mod Choosing
 pub mod Stays
 pub mod GoalCells

@@ -14,3 +14,4 @@ pub mod Rooms
 pub mod GoalCells
 pub mod Untested
 pub mod TestTerms
+pub mod Passing

@@ -115,6 +115,11 @@ abbrev pub test_number : {N : Type 0} → Tests N → TestVariable → ℕ
 test_number t (Own v) = v
 test_number t (Goal w) = suc (last_of t + w)
 
+-- the variable, if it is the goal's
+abbrev pub goal_of : TestVariable → List ℕ
+goal_of (Own v) = []
+goal_of (Goal w) = w ∷ []
+
 -- an unbound variable: one of the tests, or of the store
 abbrev pub IsFreeIn : {N : Type 0} → Tests N → TestVariable → Type 0
 IsFreeIn t (Own v) = v ≤ last_of t

@@ -2,6 +2,7 @@
 
 use crate::place::Place;
 use crate::span::Span;
+use crate::test_scratch::TestScratch;
 use kl1_store::{Cell, SameScratch};
 use kl1_text::NameValue;
 use std::alloc::Global;
@@ -15,6 +16,7 @@ pub struct Scratch<N: NameValue> {
     pub(crate) places: Vec<Place<N>>,
     pub(crate) variables: Vec<Cell<N>>,
     pub(crate) same: SameScratch,
+    pub(crate) tests: TestScratch<N>,
 }
 
 impl<N: NameValue> Scratch<N> {
@@ -26,6 +28,7 @@ impl<N: NameValue> Scratch<N> {
             places: Vec::new(alloc),
             variables: Vec::new(alloc),
             same: SameScratch::new(alloc),
+            tests: TestScratch::new(alloc),
         }
     }
 }
