@@ -19,6 +19,7 @@ pub mod Coming
 pub mod Among
 pub mod Judging
 pub mod TermPairs
+pub mod TestSteps
 pub mod Choosing
 pub mod Stays
 pub mod GoalCells

@@ -90,6 +90,28 @@ pub none_left : (ts : List Term) (left : ℕ) → left ≤ 0 → ts ≡ behind l
 none_left ts zero le = refl
 none_left ts (suc left) le = absurd (omega arith)
 
+-- the terms behind the first, where these are behind its arguments
+pub behind_one : (named : Name → List ℕ) (row : List Instruction) (at : ℕ) (i : Instruction) (ts : List Term) → at < length row → ts ≡ behind (arguments_after (get_or row at i)) (terms_from named (drop (at + 1) row)) → ts ≡ behind_first (terms_from named (drop at row))
+behind_one named row at i ts lt e =
+    let one : suc at ≡ at + 1 = omega arith in
+    let ins = get_or row at i in
+    let rest = terms_from named (drop (at + 1) row) in
+    let here : terms_from named (drop at row) ≡ read_node (coded named ins) rest = ap (terms_from named) (drop-cons row at i lt) ∙ ap (λ n. read_node (coded named ins) (terms_from named (drop n row))) one in
+    let none : arguments_after ins ≡ arguments_after ins + 0 = omega arith in
+    e ∙ ap (λ n. behind n rest) none ∙ sym (behind_node named ins 0 rest) ∙ ap behind_first (sym here)
+
+-- a row that isn't empty has a first term
+node_first : (named : Name → List ℕ) (i : Instruction) (ts : List Term) → read_node (coded named i) ts ≡ first_term (read_node (coded named i) ts) ∷ behind_first (read_node (coded named i) ts)
+node_first named (Variable n) ts = refl
+node_first named (Integer i) ts = refl
+node_first named (Atom a) ts = refl
+node_first named (Structure a n) ts = refl
+
+pub some_first : (named : Name → List ℕ) (row : List Instruction) (at : ℕ) → at < length row → terms_from named (drop at row) ≡ first_term (terms_from named (drop at row)) ∷ behind_first (terms_from named (drop at row))
+some_first named [] at lt = absurd (omega arith)
+some_first named (i ∷ is) zero lt = node_first named i (terms_from named is)
+some_first named (i ∷ is) (suc at) lt = some_first named is at (omega arith)
+
 -- what the first term of a row is
 abbrev pub top_of : (Name → List ℕ) → Instruction → List Term → Term
 top_of named (Variable n) ts = variable n

@@ -18,6 +18,7 @@ mod span;
 mod step;
 mod test_scratch;
 mod test_view;
+mod testing;
 mod variables;
 mod verdict;
 mod verdicts;

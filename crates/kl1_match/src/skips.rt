@@ -2,7 +2,7 @@
 
 ghost use Rattle.std.specs.Prelude.{◌≡◌, ℕ, ◌<◌, ◌≤◌, List, length, map, drop};
 ghost use Rattle.kl1_model.specs.Term.{Term, Terms, more, count_of};
-ghost use Rattle.kl1_model.specs.TermCode.{nodes_of_all, behind};
+ghost use Rattle.kl1_model.specs.TermCode.{nodes_of_all, behind, behind_first};
 ghost use Rattle.kl1_clause.specs.declared.name.Name.{Name};
 ghost use Rattle.kl1_clause.specs.Instructions.{code_in};
 ghost use Rattle.kl1_match.specs.Matching.{arguments_after, joined};
@@ -49,6 +49,7 @@ pub(crate) fn behind_term(row: &[Instruction], from: usize) -> usize
     ensures above { from < result }
     ensures below { result ≤ length row.now }
     ensures behind { (names : List (List ℕ)) (p : Term) (ps : Terms) → map (code_in names) (drop from row.now) ≡ nodes_of_all (more p ps) → map (code_in names) (drop result row.now) ≡ nodes_of_all ps }
+    ensures read { (named : Name → List ℕ) → terms_from named (drop result row.now) ≡ behind_first (terms_from named (drop from row.now)) }
 {
     behind_terms(row, from + 1, arguments_of(row[from]))
 }

@@ -43,7 +43,7 @@ pub(crate) struct TestView<'a, N: NameValue> {
 
 /// The instruction at a place, or a variable where there is none.
 #[inline]
-fn instruction_at(row: &[Instruction], place: usize) -> Instruction
+pub(crate) fn instruction_at(row: &[Instruction], place: usize) -> Instruction
     ensures { result ≡ instruction_in row.now place }
 {
     if place >= row.len() {
