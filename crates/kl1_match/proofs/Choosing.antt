@@ -22,7 +22,6 @@ use Rattle.kl1_match.specs.declared.verdict.Verdict.TheVariants.{Accepts, Reject
 use Rattle.kl1_match.specs.Instances.{IsClause}
 use Rattle.kl1_match.specs.Waiting.{AreUnbound, AreSame}
 use Rattle.kl1_match.specs.Verdicts.{arguments_of_goal, verdict_with_places, IsVerdict}
-use Rattle.kl1_match.specs.Untested.{IsUntested, AreUntested}
 use Rattle.kl1_match.specs.Choices.{AreClauses, IsChoice, is_past, without_clause}
 use Rattle.kl1_match.proofs.Naming.{same_as_itself, more_same}
 use Rattle.kl1_match.proofs.Coming.{AreUnbound-append, more_named}
@@ -33,11 +32,6 @@ pub clause_in : {N : Type 0} (names : List N) (cs : List CompiledClause) (place 
 clause_in names [] place x a lt = absurd (omega arith)
 clause_in names (c ∷ cs) zero x a lt = a.0
 clause_in names (c ∷ cs) (suc place) x a lt = clause_in names cs place x a.1 (omega arith)
-
-pub untested_in : (cs : List CompiledClause) (place : ℕ) (x : CompiledClause) → AreUntested cs → place < length cs → IsUntested (get_or cs place x)
-untested_in [] place x a lt = absurd (omega arith)
-untested_in (c ∷ cs) zero x a lt = a.0
-untested_in (c ∷ cs) (suc place) x a lt = untested_in cs place x a.1 (omega arith)
 
 -- the clause that a compiled one at a place is, and those behind it
 record IsThere (names : List (List ℕ)) (compiled : CompiledClause) (ds : List Clause) (place : ℕ) : Type 0 where

@@ -17,9 +17,10 @@ pub mod Trying
 pub mod Beside
 pub mod Coming
 pub mod Among
-pub mod Judging
+pub mod TestRows
 pub mod TermPairs
 pub mod TestSteps
+pub mod Judging
 pub mod Choosing
 pub mod Stays
 pub mod GoalCells

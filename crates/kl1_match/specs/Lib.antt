@@ -12,7 +12,6 @@ pub mod Choices
 pub mod Stays
 pub mod Rooms
 pub mod GoalCells
-pub mod Untested
 pub mod TestTerms
 pub mod Passing
 pub mod Testing

@@ -78,6 +78,9 @@ pub record Tests (N : Type 0) : Type 0 where
 abbrev pub tests_of : {N : Type 0} → TestView N → Tests N
 tests_of view = record { held = view.store.now.held; names = view.names.now; row = view.row.now; places = view.places.now }
 
+abbrev pub tests_with : {N : Type 0} → Held N → List N → List Instruction → List (Place N) → Tests N
+tests_with h names row places = record { held = h; names = names; row = row; places = places }
+
 -- the places are of the store, and the names of the code
 pub record AreSound {N : Type 0} (t : Tests N) : Type 0 where
   pub there : AreThere t.held t.places

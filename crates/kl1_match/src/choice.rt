@@ -2,7 +2,6 @@
 
 ghost use Rattle.std.specs.Prelude.{◌≡◌, ◌<◌, length, IfOk, slice_index_or};
 ghost use Rattle.kl1_store.specs.Held.{IsIn};
-ghost use Rattle.kl1_match.specs.Untested.{AreUntested};
 ghost use Rattle.kl1_match.specs.Choices.{AreClauses, IsChoice, is_past, without_clause};
 
 use crate::scratch::Scratch;
@@ -45,7 +44,7 @@ fn without_clause(waiting: Option<u64>) -> Option<u64>
 
 /// The least number of a clause that accepts a goal, from 1, or 0 where each rejects it or there is none, or nothing where
 /// none accepts and some wait: a clause that waits ends the search with its section. `awaited` gets the variables that the
-/// clauses before the one that accepts wait for behind its own. The clauses have no tests.
+/// clauses before the one that accepts wait for behind its own.
 /// Where memory is refused, nothing is said of what it got.
 #[inline(always)]
 pub fn choose<N: NameValue>(
@@ -57,12 +56,12 @@ pub fn choose<N: NameValue>(
     awaited: &mut Vec<u32>,
 ) -> Result<Option<u64>, AllocError>
     requires clauses { AreClauses names.now clauses.now }
-    requires untested { AreUntested clauses.now }
     requires goal { IsIn store.now.held goal }
     ensures { IfOk result (IsChoice N.built names.now clauses.now store.now.held goal awaited.old.items awaited.new.items) }
 {
     let behind = &mut scratch.spans;
     let same = &mut scratch.same;
+    let tests = &mut scratch.tests;
     let places = &mut scratch.places;
     let mut waiting: Option<u64> = None;
     let mut tried: usize = 0;
@@ -71,7 +70,9 @@ pub fn choose<N: NameValue>(
         if is_past(waiting, clause.section) {
             return Ok(None);
         }
-        match judge::<_, false>(store, names, clause, goal, behind, same, places, awaited)? {
+        match judge::<_, false>(
+            store, names, clause, goal, behind, same, tests, places, awaited,
+        )? {
             Verdict::Accepts => return Ok(Some(tried as u64 + 1)),
             Verdict::Rejects => tried += 1,
             Verdict::Suspends => {

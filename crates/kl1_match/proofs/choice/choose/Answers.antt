@@ -3,21 +3,15 @@ use Rattle.std.specs.Prelude.{Option, Some}
 use Rattle.kl1_clause.specs.declared.compiled_clause.CompiledClause.{CompiledClause}
 use Rattle.kl1_match.specs.declared.verdict.Verdict.{Verdict}
 use Rattle.kl1_match.specs.Instances.{IsClause}
-use Rattle.kl1_match.specs.Untested.{IsUntested}
 use Rattle.kl1_match.specs.Verdicts.{IsVerdict}
 use Rattle.kl1_match.specs.Choices.{IsChoice, is_past}
-use Rattle.kl1_match.proofs.Choosing.{ChoosesFrom, clause_in, untested_in, none_tried, accepted_there, rejected_there, suspended_there, section_ended, all_tried}
+use Rattle.kl1_match.proofs.Choosing.{ChoosesFrom, clause_in, none_tried, accepted_there, rejected_there, suspended_there, section_ended, all_tried}
 use Rattle.kl1_match.proofs.choice.choose.Goals as goal
 
 pub judge-requires-clause-clause : goal.judge-requires-clause-clause
 judge-requires-clause-clause g c =
     let P : CompiledClause → Type 0 = λ k. IsClause c.args.names.now k in
     subst P (sym c.nth-clause.ensures) (clause_in c.args.names.now c.args.clauses.now c.loop-tried.tried c.nth-clause.result.now c.requires.clauses c.loop-tried-test.true)
-
-pub judge-requires-clause-untested : goal.judge-requires-clause-untested
-judge-requires-clause-untested g c =
-    let P : CompiledClause → Type 0 = λ k. IsUntested k in
-    subst P (sym c.nth-clause.ensures) (untested_in c.args.clauses.now c.loop-tried.tried c.nth-clause.result.now c.requires.untested c.loop-tried-test.true)
 
 pub returns-then-is_past : goal.returns-then-is_past
 returns-then-is_past g c =

@@ -55,4 +55,3 @@ compare-requires-clause-left g c = (test_there g.N.NameValue.built (tests_of c.a
 
 pub compare-requires-clause-right : goal.compare-requires-clause-right
 compare-requires-clause-right g c = (test_there g.N.NameValue.built (tests_of c.args.view.now) c.args.test (Compares c.in-Compares.comparison c.in-Compares.left c.in-Compares.right) c.in-Compares.is c.requires).1
-

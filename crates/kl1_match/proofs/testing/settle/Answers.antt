@@ -17,4 +17,3 @@ returns-in-Own g c =
     let t = tests_of c.args.view.now in
     let P : Outcome TestVariable → Type 0 = λ o. IsWaiting (IsFreeIn t) o in
     settled_own g.N.NameValue.built t c.args.outcome c.in-Waits.variable c.in-Own.field-0 c.args.awaited.now.items c.in-Waits.is c.in-Own.is (subst P c.in-Waits.is c.requires)
-
