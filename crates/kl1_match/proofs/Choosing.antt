@@ -34,18 +34,18 @@ clause_in names (c ∷ cs) zero x a lt = a.0
 clause_in names (c ∷ cs) (suc place) x a lt = clause_in names cs place x a.1 (omega arith)
 
 -- the clause that a compiled one at a place is, and those behind it
-record IsThere (names : List (List ℕ)) (compiled : CompiledClause) (ds : List Clause) (place : ℕ) : Type 0 where
+pub record IsThere (names : List (List ℕ)) (compiled : CompiledClause) (ds : List Clause) (place : ℕ) : Type 0 where
   pub clause : Clause
   pub left : drop place ds ≡ clause ∷ drop (suc place) ds
   pub is : IsCompiled names compiled clause
 
-there : (names : List (List ℕ)) (cs : List CompiledClause) (ds : List Clause) (place : ℕ) (x : CompiledClause) → AreCompiled names cs ds → place < length cs → IsThere names (get_or cs place x) ds place
+pub there : (names : List (List ℕ)) (cs : List CompiledClause) (ds : List Clause) (place : ℕ) (x : CompiledClause) → AreCompiled names cs ds → place < length cs → IsThere names (get_or cs place x) ds place
 there names [] ds place x a lt = absurd (omega arith)
 there names (c ∷ cs) [] place x a lt = absurd a
 there names (c ∷ cs) (d ∷ ds) zero x a lt = record { clause = d; left = refl; is = a.0 }
 there names (c ∷ cs) (d ∷ ds) (suc place) x a lt = let r = there names cs ds place x a.1 (omega arith) in record { clause = r.clause; left = r.left; is = r.is }
 
-as_many : (names : List (List ℕ)) (cs : List CompiledClause) (ds : List Clause) → AreCompiled names cs ds → length ds ≡ length cs
+pub as_many : (names : List (List ℕ)) (cs : List CompiledClause) (ds : List Clause) → AreCompiled names cs ds → length ds ≡ length cs
 as_many names [] [] a = refl
 as_many names [] (d ∷ ds) a = absurd a
 as_many names (c ∷ cs) [] a = absurd a

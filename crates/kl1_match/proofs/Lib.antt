@@ -22,5 +22,6 @@ pub mod TermPairs
 pub mod TestSteps
 pub mod Judging
 pub mod Choosing
+pub mod Candidates
 pub mod Stays
 pub mod GoalCells

@@ -15,3 +15,4 @@ pub mod GoalCells
 pub mod TestTerms
 pub mod Passing
 pub mod Testing
+pub mod Candidates

@@ -13,7 +13,7 @@ use kl1_text::NameValue;
 use std::alloc::AllocError;
 
 /// The clause at a place, from 0.
-fn nth(clauses: &[CompiledClause], place: usize) -> &CompiledClause
+pub(crate) fn nth(clauses: &[CompiledClause], place: usize) -> &CompiledClause
     requires { place < length clauses.now }
     ensures { result.now ≡ slice_index_or clauses.now place result.now }
 {
