@@ -1,5 +1,5 @@
 -- Candidates by their sections.
-use Rattle.std.proofs.Common.{◌≡◌, ℕ, zero, suc, ◌+◌, ◌-◌, ◌<◌, ◌≤◌, ◌==◌, Bool, true, false, if◌then◌else◌, List, [], ◌∷◌, ◌++◌, length, map, drop, get_or, find, refl, sym, ap, ◌∙◌, subst, arith, length-drop, drop-drop, get_or-drop}
+use Rattle.std.proofs.Common.{◌≡◌, ℕ, zero, suc, ◌+◌, ◌-◌, ◌<◌, ◌≤◌, ◌==◌, Bool, true, false, if◌then◌else◌, List, [], ◌∷◌, ◌++◌, length, map, drop, get_or, refl, sym, ap, ◌∙◌, arith, length-drop, drop-drop, get_or-drop}
 use Rattle.std.specs.Prelude.{Option, Some, None}
 use Rattle.std.proofs.lemmas.Bool.{cond-true, cond-false, eq-eqb, ne_eqb, eqb-true, eqb-false}
 use Rattle.kl1_model.specs.declared.built_in.BuiltIn.{BuiltIn}
@@ -17,9 +17,8 @@ use Rattle.kl1_clause.specs.Clauses.{AreCompiled}
 use Rattle.kl1_match.specs.declared.place.Place.{Place}
 use Rattle.kl1_match.specs.declared.verdict.Verdict.{Verdict}
 use Rattle.kl1_match.specs.declared.verdict.Verdict.TheVariants.{Accepts, Rejects, Suspends}
-use Rattle.kl1_match.specs.Instances.{replacements_of}
 use Rattle.kl1_match.specs.Verdicts.{arguments_of_goal, is_rejection, verdict_with_places, IsVerdict}
-use Rattle.kl1_match.specs.Candidates.{section_at, IsRun, numbered, IsTaken, TakenAs, Takes, AllReject, OneDoesNot, RejectAs}
+use Rattle.kl1_match.specs.Candidates.{section_at, IsRun, numbered, Takes, AllReject, OneDoesNot}
 use Rattle.kl1_match.proofs.Choosing.{there, as_many}
 
 -- ---- numbers

@@ -1,5 +1,5 @@
 -- Verdicts by the match, the places of each variable and the tests.
-use Rattle.std.proofs.Common.{◌≡◌, ℕ, ◌+◌, Bool, true, false, List, [], ◌∷◌, ◌++◌, length, map, take, refl, sym, ap, ◌∙◌, subst, arith}
+use Rattle.std.proofs.Common.{◌≡◌, ℕ, Bool, true, false, List, [], ◌++◌, length, map, take, refl, sym, ap, ◌∙◌, subst, arith}
 use Rattle.std.proofs.Math.Seq.{take-append_seam}
 use Rattle.std.proofs.lemmas.List.{nil_from_length}
 use Rattle.std.specs.Prelude.{IsTrue}
@@ -24,7 +24,7 @@ use Rattle.kl1_match.specs.declared.verdict.Verdict.{Verdict}
 use Rattle.kl1_match.specs.declared.verdict.Verdict.TheVariants.{Accepts, Rejects, Suspends}
 use Rattle.kl1_match.specs.Instances.{AreThere, IsClause, replacements_of}
 use Rattle.kl1_match.specs.Verdicts.{arguments_of_goal, is_rejection, NamesAs, GivesMatch, IsTried, IsVerdict}
-use Rattle.kl1_match.specs.Waiting.{AreUnbound, AreSame}
+use Rattle.kl1_match.specs.Waiting.{AreSame}
 use Rattle.kl1_match.specs.Outcomes.{WaitsFor, EachComes}
 use Rattle.kl1_match.specs.TestTerms.{Tests, AreSound, tests_with, name_of, terms_from, highest_among, last_of}
 use Rattle.kl1_match.specs.Testing.{tests_from, TestsCome, RestComes}

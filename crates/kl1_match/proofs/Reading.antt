@@ -1,10 +1,10 @@
 -- Rows that are read, from any place on.
 use Rattle.std.specs.Prelude.{◌^◌, min, nat_le}
-use Rattle.std.proofs.Common.{◌≡◌, ℕ, zero, suc, Bool, true, false, ◌+◌, ◌-◌, ◌<◌, ◌≤◌, List, [], ◌∷◌, length, map, refl, sym, ap, ◌∙◌, arith, inl, inr, get_or, drop, length-drop, drop-cons, subst}
+use Rattle.std.proofs.Common.{◌≡◌, ℕ, zero, suc, Bool, true, false, ◌+◌, ◌-◌, ◌<◌, ◌≤◌, List, [], ◌∷◌, length, refl, sym, ap, ◌∙◌, arith, get_or, drop, length-drop, drop-cons}
 use Rattle.std.proofs.lemmas.List.{drop_all}
 use Rattle.std.proofs.lemmas.Bool.{leb-true, leb-false}
-use Rattle.kl1_model.specs.Term.{Term, variable, integer, atom, structure, Terms}
-use Rattle.kl1_model.specs.TermCode.{NodeCode, first_term, behind_first, front_of, behind, read_node, read_nodes}
+use Rattle.kl1_model.specs.Term.{Term, variable, integer, atom, structure}
+use Rattle.kl1_model.specs.TermCode.{first_term, behind_first, front_of, behind, read_node}
 use Rattle.kl1_clause.specs.declared.name.Name.{Name}
 use Rattle.kl1_clause.specs.declared.instruction.Instruction.{Instruction}
 use Rattle.kl1_clause.specs.declared.instruction.Instruction.TheVariants.{Variable, Integer, Atom, Structure}

@@ -1,5 +1,5 @@
 -- Passive equality of two terms of tests, from their parts.
-use Rattle.std.proofs.Common.{◌≡◌, ℕ, zero, suc, ◌+◌, ◌-◌, ◌<◌, ◌≤◌, ◌==◌, Bool, true, false, ◌||◌, if◌then◌else◌, List, [], ◌∷◌, ◌++◌, length, get_or, take, drop, map, refl, sym, ap, ap₂, ◌∙◌, subst, arith, append_assoc, append-nil, drop-cons}
+use Rattle.std.proofs.Common.{◌≡◌, ℕ, suc, ◌+◌, ◌-◌, ◌<◌, ◌≤◌, ◌==◌, Bool, true, false, ◌||◌, if◌then◌else◌, List, [], ◌∷◌, ◌++◌, length, get_or, take, drop, map, refl, sym, ap, ap₂, ◌∙◌, subst, arith, append_assoc, append-nil, drop-cons}
 use Rattle.std.specs.List.{All}
 use Rattle.std.proofs.lemmas.List.{take_all, drop_all, nil_from_length}
 use Rattle.std.proofs.lemmas.List.Elements.{All-head, All-tail}
@@ -8,14 +8,13 @@ use Rattle.std.proofs.lemmas.Bool.{or_parts, or_from, or_left, false≢true, fal
 use Rattle.kl1_model.specs.declared.built_in.BuiltIn.{BuiltIn}
 use Rattle.kl1_model.specs.Term.{Term, same_term}
 use Rattle.kl1_model.specs.Same.{same, differs, unknown, passive, clash, awaited}
-use Rattle.kl1_model.specs.Match.{beside, own_variables}
+use Rattle.kl1_model.specs.Match.{own_variables}
 use Rattle.kl1_model.proofs.TermFacts.{same_term_decides}
 use Rattle.kl1_model.proofs.Clashes.{no_clash}
 use Rattle.kl1_model.proofs.SameEach.{awaited_self, same_from}
 use Rattle.kl1_model.proofs.Beside.{moved, clash_beside, awaited_beside, own_moved}
 use Rattle.kl1_text.specs.Reading.{Reads}
 use Rattle.kl1_store.specs.declared.cell.Cell.{Cell}
-use Rattle.kl1_store.specs.Held.{Held}
 use Rattle.kl1_store.specs.Meaning.{term_of}
 use Rattle.kl1_store.specs.Sameness.{AlikeAs}
 use Rattle.kl1_guard.specs.declared.pair.Pair.{Pair}
@@ -26,7 +25,7 @@ use Rattle.kl1_match.specs.declared.test_view.TestVariable.{TestVariable}
 use Rattle.kl1_match.specs.declared.test_view.TestVariable.TheVariants.{Own, Goal}
 use Rattle.kl1_match.specs.declared.passing.Passed.TheVariants.{Same, Differs, Unknown}
 use Rattle.kl1_match.specs.TestTerms.{Tests, last_of, goal_of, test_number, test_term, IsFreeIn, IsTermAt, IsCellAt}
-use Rattle.kl1_match.specs.Passing.{goal_number, PairsWait, PairsWaitAs, PairsCome, Passes}
+use Rattle.kl1_match.specs.Passing.{goal_number, PairsCome, Passes}
 use Rattle.kl1_match.specs.Waiting.{AreUnbound, AreSame}
 use Rattle.kl1_match.proofs.Naming.{none_same}
 use Rattle.kl1_match.proofs.Among.{among_same, same_among, none_among, own_among, own_dropped, own_taken}

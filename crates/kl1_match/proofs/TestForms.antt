@@ -1,7 +1,6 @@
 -- The forms of the terms of tests.
 use Rattle.std.proofs.Common.{◌≡◌, ℕ, zero, suc, ◌+◌, ◌<◌, ◌≤◌, ◌==◌, Bool, true, false, if◌then◌else◌, List, [], ◌∷◌, length, drop, refl, sym, ap, ◌∙◌, subst, arith}
-use Rattle.std.specs.Prelude.{max, Option, Some, None, option_map}
-use Rattle.std.proofs.lemmas.Bool.{ne_eqb, eqb-true}
+use Rattle.std.specs.Prelude.{Option, Some, None, option_map}
 use Rattle.kl1_model.specs.declared.built_in.BuiltIn.{BuiltIn}
 use Rattle.kl1_model.specs.Term.{Term, variable, structure, substituted, Terms, none, more, each_substituted, count_of}
 use Rattle.kl1_model.specs.TermCode.{first_term, behind_first, front_of, behind}

@@ -1,5 +1,5 @@
 -- Tests one after another.
-use Rattle.std.proofs.Common.{◌≡◌, ℕ, zero, suc, ◌+◌, ◌<◌, ◌≤◌, Bool, true, false, if◌then◌else◌, List, [], ◌∷◌, ◌++◌, length, take, drop, refl, sym, ap, ◌∙◌, subst, arith, append-nil}
+use Rattle.std.proofs.Common.{◌≡◌, ℕ, suc, ◌<◌, ◌≤◌, Bool, true, false, if◌then◌else◌, List, [], ◌∷◌, ◌++◌, length, take, drop, refl, sym, ap, ◌∙◌, subst, append-nil}
 use Rattle.std.specs.Prelude.{bytes_eq, codes, Option, Some, None, option_map}
 use Rattle.std.proofs.Math.Seq.{take-append_seam}
 use Rattle.std.proofs.lemmas.List.{drop_all}
@@ -8,10 +8,10 @@ use Rattle.kl1_model.specs.declared.comparison.Comparison.{Comparison}
 use Rattle.kl1_model.specs.declared.inspection.Inspection.{Inspection}
 use Rattle.kl1_model.specs.Term.{Term, variable, integer, atom, structure, none, more, substituted}
 use Rattle.kl1_model.specs.TermCode.{first_term, behind_first}
-use Rattle.kl1_model.specs.Same.{passive, awaited}
+use Rattle.kl1_model.specs.Same.{awaited}
 use Rattle.kl1_model.specs.Guard as guard
 use Rattle.kl1_model.specs.Guard.{Outcome, agrees, clashes, waits, both, inspection_named, comparison_named, holds, looks, is_same, is_other, compares, test_of, test_substituted, same_outcome, other_outcome, outcome_by}
-use Rattle.kl1_model.specs.Match.{own_variables, own_outcome, test_outcome, tests_outcome}
+use Rattle.kl1_model.specs.Match.{own_outcome, test_outcome, tests_outcome}
 use Rattle.kl1_text.specs.Reading.{Reads}
 use Rattle.kl1_store.specs.Held.{Held}
 use Rattle.kl1_clause.specs.declared.name.Name.{Name}

@@ -1,11 +1,10 @@
-use Rattle.std.proofs.Common.{◌≡◌, ℕ, Bool, true, false, List, [], ◌++◌, length, map, sym, ap, ◌∙◌, subst, arith}
+use Rattle.std.proofs.Common.{◌≡◌, Bool, true, false, List, ◌++◌, map, sym, ap, ◌∙◌, subst, arith}
 use Rattle.std.specs.List.{All}
 use Rattle.kl1_model.specs.Match.{own_variables}
 use Rattle.kl1_guard.specs.declared.pair.Pair.{Pair}
 use Rattle.kl1_guard.specs.Alike.{IsPairOf, PartsAs}
 use Rattle.kl1_match.specs.declared.test_view.TestAt.{TestAt}
-use Rattle.kl1_match.specs.declared.test_view.TestVariable.{TestVariable}
-use Rattle.kl1_match.specs.TestTerms.{tests_of, last_of, test_number, test_term, IsFreeIn, IsTermAt, IsCellAt}
+use Rattle.kl1_match.specs.TestTerms.{tests_of, last_of, test_number, test_term, IsTermAt, IsCellAt}
 use Rattle.kl1_match.specs.Passing.{PairsCome}
 use Rattle.kl1_match.proofs.TermPairs.{differ_at_once, differ_in_pairs, same_terms_there, terms_wait}
 use Rattle.kl1_match.proofs.passing.compare_terms.Goals as goal

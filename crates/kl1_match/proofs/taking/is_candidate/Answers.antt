@@ -1,7 +1,6 @@
-use Rattle.std.proofs.Common.{◌≡◌, Bool, true, false, get_or, sym, ◌∙◌, arith, subst}
+use Rattle.std.proofs.Common.{Bool, get_or, sym, ◌∙◌, subst}
 use Rattle.kl1_clause.specs.declared.compiled_clause.CompiledClause.{CompiledClause}
 use Rattle.kl1_match.specs.declared.verdict.Verdict.{Verdict}
-use Rattle.kl1_match.specs.declared.verdict.Verdict.TheVariants.{Accepts}
 use Rattle.kl1_match.specs.Instances.{IsClause}
 use Rattle.kl1_match.specs.Verdicts.{IsVerdict}
 use Rattle.kl1_match.specs.Candidates.{AllReject, RejectAs}

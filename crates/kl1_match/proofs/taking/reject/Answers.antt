@@ -1,4 +1,4 @@
-use Rattle.std.proofs.Common.{◌<◌, true, false, get_or, length, sym, ◌∙◌, arith, subst}
+use Rattle.std.proofs.Common.{◌<◌, length, sym, ◌∙◌, arith, subst}
 use Rattle.kl1_clause.specs.declared.compiled_clause.CompiledClause.{CompiledClause}
 use Rattle.kl1_match.specs.Instances.{IsClause}
 use Rattle.kl1_match.specs.Verdicts.{IsVerdict}

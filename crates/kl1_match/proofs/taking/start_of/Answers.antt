@@ -1,5 +1,5 @@
-use Rattle.std.proofs.Common.{sym, ◌∙◌, arith}
-use Rattle.kl1_match.proofs.Candidates.{run_begins, run_longer}
+use Rattle.std.proofs.Common.{arith}
+use Rattle.kl1_match.proofs.Candidates.{run_begins}
 use Rattle.kl1_match.proofs.taking.start_of.Goals as goal
 
 pub loop-start-init : goal.loop-start-init

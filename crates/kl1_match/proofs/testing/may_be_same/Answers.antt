@@ -1,4 +1,4 @@
-use Rattle.std.proofs.Common.{arith, subst}
+use Rattle.std.proofs.Common.{subst}
 use Rattle.kl1_match.specs.declared.passing.Passed.{Passed}
 use Rattle.kl1_match.specs.TestTerms.{tests_of}
 use Rattle.kl1_match.specs.Passing.{Passes}

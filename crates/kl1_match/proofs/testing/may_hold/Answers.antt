@@ -2,7 +2,7 @@ use Rattle.std.proofs.lemmas.Result.{IfOk-weaker}
 use Rattle.kl1_guard.specs.declared.test.Test.TheVariants.{Looks, IsSame, IsOther, Compares}
 use Rattle.kl1_match.specs.TestTerms.{tests_of}
 use Rattle.kl1_match.specs.Testing.{SettledAs, SameAs, OtherAs, FoundAs}
-use Rattle.kl1_match.proofs.TestSteps.{found_holds, found_looks, found_same, found_other, found_compares, test_there}
+use Rattle.kl1_match.proofs.TestSteps.{found_holds, found_looks, found_same, found_other, test_there}
 use Rattle.kl1_match.proofs.testing.may_hold.Goals as goal
 
 pub returns-in-Holds : goal.returns-in-Holds

@@ -1,12 +1,6 @@
-use Rattle.std.proofs.Common.{ℕ, suc, ◌+◌, drop, ap, ◌∙◌, arith, ◌≡◌}
-use Rattle.kl1_model.specs.Term.{variable}
-use Rattle.kl1_store.specs.Held.{arguments_of}
-use Rattle.kl1_store.specs.Meaning.{term_of, terms_of}
+use Rattle.std.proofs.Common.{suc, ◌+◌, drop, ap, ◌∙◌, arith, ◌≡◌}
 use Rattle.kl1_model.specs.TermCode.{behind}
-use Rattle.kl1_match.specs.Matching.{arguments_after}
-use Rattle.kl1_match.specs.TestTerms.{tests_of, last_of, named_in, value_in, terms_from, instruction_in, test_count, test_arguments, test_term, IsStructureAt}
-use Rattle.kl1_match.specs.declared.test_view.TestStructure.{TestStructure}
-use Rattle.kl1_match.specs.declared.test_view.TestStructure.TheVariants as structure
+use Rattle.kl1_match.specs.TestTerms.{tests_of, named_in, terms_from}
 use Rattle.kl1_match.proofs.TestForms.{argument_is, argument_is_row}
 use Rattle.kl1_match.proofs.test_view.TestViewView.argument.Goals as goal
 

@@ -1,14 +1,7 @@
-use Rattle.std.proofs.Common.{◌≡◌, ℕ, List, ap, sym, ◌∙◌, subst}
-use Rattle.kl1_store.specs.Meaning.{term_of}
-use Rattle.kl1_clause.specs.declared.instruction.Instruction.{Instruction}
-use Rattle.kl1_clause.specs.declared.instruction.Instruction.TheVariants.{Variable, Integer, Atom, Structure}
-use Rattle.kl1_guard.specs.declared.form.Form.{Form}
-use Rattle.kl1_guard.specs.Forms.{IsForm}
-use Rattle.kl1_match.specs.declared.test_view.TestAt.{TestAt}
-use Rattle.kl1_match.specs.declared.test_view.TestVariable.{TestVariable}
-use Rattle.kl1_match.specs.declared.test_view.TestStructure.{TestStructure}
-use Rattle.kl1_match.specs.TestTerms.{tests_of, test_term, test_number, test_arguments, IsTermAt}
-use Rattle.kl1_match.proofs.TestForms.{form_moved, sound_at, cell_form, placed_form, placed_cell, own_form, own_free, row_name, structure_form}
+use Rattle.std.proofs.Common.{sym, ◌∙◌}
+use Rattle.kl1_clause.specs.declared.instruction.Instruction.TheVariants.{Atom, Structure}
+use Rattle.kl1_match.specs.TestTerms.{tests_of}
+use Rattle.kl1_match.proofs.TestForms.{cell_form, placed_form, placed_cell, own_form, own_free, row_name, structure_form}
 use Rattle.kl1_match.proofs.test_view.TestViewView.form_of.Goals as goal
 
 pub returns-in-Cell-clause-means : goal.returns-in-Cell-clause-means
