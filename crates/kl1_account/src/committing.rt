@@ -4,6 +4,7 @@ ghost use Rattle.std.specs.Prelude.{◌≡◌, ◌<◌, [], length, OnOk};
 ghost use Rattle.kl1_store.specs.Sound.{Grown};
 ghost use Rattle.kl1_clause.specs.Predicates.{AreSome};
 ghost use Rattle.kl1_match.specs.Instances.{AreThere};
+ghost use Rattle.kl1_moves.specs.Moves.{taken_places};
 ghost use Rattle.kl1_account.specs.Moving.{Commits, IsMoved};
 
 use crate::draft::Draft;
@@ -24,10 +25,10 @@ pub(crate) fn commit(
 ) -> Result<(), AllocError>
     requires place { place < length predicate.clauses.now }
     requires predicate { AreSome predicate.names.now predicate.clauses.now }
-    requires places { AreThere store.old.held trial.old.places.items }
+    requires places { AreThere store.old.held (taken_places trial.old) }
     requires some { 0 < store.old.held.variables }
     requires empty { draft.old.cells.items ≡ [] }
-    ensures ok { OnOk result (Commits predicate.entry place trial.old.places.items store.old.held store.new.held draft.old draft.new) }
+    ensures ok { OnOk result (Commits predicate.entry place (taken_places trial.old) store.old.held store.new.held draft.old draft.new) }
     ensures moved { IsMoved draft.old draft.new }
     ensures shoen { draft.new.shoen ≡ draft.old.shoen }
     ensures grown { Grown store.old.held store.new.held }

@@ -99,7 +99,9 @@ pub(crate) fn hung_standing(
     ensures grown { HasGrown store.old store.new }
 {
     let standing = standing_of(store, kind, predicate, trial)?;
-    hang_on(store, trial.awaited.as_slice(), number)?;
+    if !trial.awaited.is_empty() {
+        hang_on(store, trial.awaited.as_slice(), number)?;
+    }
     Ok(standing)
 }
 

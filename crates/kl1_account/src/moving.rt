@@ -4,7 +4,7 @@ ghost use Rattle.std.specs.Prelude.{◌≡◌, ◌<◌, [], Some, OnOk};
 ghost use Rattle.kl1_store.specs.Held.{IsIn};
 ghost use Rattle.kl1_store.specs.Sound.{Grown};
 ghost use Rattle.kl1_clause.specs.Predicates.{AreSome};
-ghost use Rattle.kl1_moves.specs.Moves.{MoveIn};
+ghost use Rattle.kl1_moves.specs.Moves.{taken_places, MoveIn};
 ghost use Rattle.kl1_account.specs.Kept.{IsShoenIn};
 ghost use Rattle.kl1_account.specs.Moving.{Moves, IsMoved};
 
@@ -27,12 +27,12 @@ pub(crate) fn do_move(
     draft: &mut Draft,
 ) -> Result<(), AllocError>
     requires cell { IsIn store.old.held cell }
-    requires inside { MoveIn store.old.held predicate trial.old.places.items (Some made) }
+    requires inside { MoveIn store.old.held predicate (taken_places trial.old) (Some made) }
     requires predicate { AreSome predicate.names.now predicate.clauses.now }
     requires some { 0 < store.old.held.variables }
     requires empty { draft.old.cells.items ≡ [] }
     requires shoen { IsShoenIn store.old.held draft.old.shoen }
-    ensures ok { OnOk result (Moves predicate.entry made trial.old.places.items cell store.old.held store.new.held draft.old draft.new) }
+    ensures ok { OnOk result (Moves predicate.entry made (taken_places trial.old) cell store.old.held store.new.held draft.old draft.new) }
     ensures shoen { OnOk result (IsShoenIn store.new.held draft.new.shoen) }
     ensures moved { IsMoved draft.old draft.new }
     ensures grown { Grown store.old.held store.new.held }

@@ -84,7 +84,7 @@ pub(crate) fn unify(
     ensures grown { Grown store.old.held store.new.held }
     ensures hooks { store.new.hooks ≡ store.old.hooks }
 {
-    match store.unify(left, right)? {
+    match kl1_unify::unify(store, left, right)? {
         Unified::Bound => Ok(()),
         Unified::Clash => raise(store, draft, goal),
     }

@@ -19,16 +19,27 @@ use crate::tally::put_tally_checks;
 use kl1_rows::{Text, put_report};
 use std::io;
 use std::io::{Error, ErrorKind, Read, Write};
+use std::thread::Threads;
+
+/// Puts the report on rows.
+fn put_rows(out: &mut Text, rows: &[u8]) {
+    put_report(out, &mut Parts::new(out.alloc), rows);
+}
+
+/// Puts the report on rows, and the line on each check behind it.
+fn put_all<R: Threads + Sync>(rt: &R, out: &mut Text, rows: &[u8]) {
+    put_rows(out, rows);
+    put_checks(rt, out);
+    put_tally_checks(rt, out);
+    put_ready_checks(out);
+    put_checks_beside(out);
+}
 
 fn main(rt: HostRuntime) -> io::Result<()> {
     let mut rows = Vec::new(rt.alloc());
     rt.stdin().read_to_end(&mut rows)?;
     let mut out = Text::new(rt.alloc());
-    put_report(&mut out, &mut Parts::new(rt.alloc()), rows.as_slice());
-    put_checks(&rt, &mut out);
-    put_tally_checks(&rt, &mut out);
-    put_ready_checks(&mut out);
-    put_checks_beside(&mut out);
+    put_all(&rt, &mut out, rows.as_slice());
     if out.has_failed {
         return Err(Error::from(ErrorKind::OutOfMemory));
     }

@@ -5,4 +5,4 @@ mod tells;
 mod texts;
 mod times;
 
-pub use tells::{tell_answer, tell_times};
+pub use tells::{put_answer, put_times};

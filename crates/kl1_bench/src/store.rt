@@ -6,4 +6,4 @@ mod tells;
 mod terms;
 mod work;
 
-pub use tells::{tell_answers, tell_times};
+pub use tells::{put_answers, put_times};

@@ -4,4 +4,4 @@ mod counting;
 mod tells;
 mod times;
 
-pub use tells::{tell_answer, tell_times};
+pub use tells::{put_answer, put_times};

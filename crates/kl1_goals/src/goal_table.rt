@@ -18,7 +18,7 @@ use std::marker::Model;
 /// The goals of an account in order of number, each with the clause by which it can step, and its shoens, counted from 1.
 ///
 /// A goal that is removed leaves its place empty; empty places are dropped where no goal is after them, and where they come to
-/// more than half.
+/// more than three quarters.
 #[derive(Drop)]
 pub struct GoalTable<N: NameValue> {
     slots: Vec<Slot<N>>,
@@ -72,6 +72,9 @@ impl<N: NameValue> GoalTable<N> {
     {
         self.slots.reserve(goals)?;
         self.queue.reserve(goals)?;
+        if shoens == 0 {
+            return Ok(());
+        }
         self.tallies.reserve(shoens)
     }
 

@@ -256,7 +256,8 @@ fn trim<N: NameValue>(slots: &mut Vec<Slot<N>>, empty: &mut usize, queue: &mut R
     }
 }
 
-/// Drops the empty places at the end, and all of them where they are more than half.
+/// Drops the empty places at the end, and all of them where they are more than three quarters: then each that is dropped costs a
+/// third of a place that is moved.
 #[inline(always)]
 pub(crate) fn tidy<N: NameValue>(
     slots: &mut Vec<Slot<N>>,
@@ -275,7 +276,7 @@ pub(crate) fn tidy<N: NameValue>(
     if count <= FEW {
         return;
     }
-    if *empty > count / 2 {
+    if *empty > count - count / 4 {
         compact(slots, empty, queue);
     }
 }

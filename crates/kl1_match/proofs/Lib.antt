@@ -3,6 +3,7 @@ pub mod Steps
 pub mod Built
 pub mod Rooms
 pub mod Places
+pub mod Kept
 pub mod Bodies
 pub mod Cells
 pub mod Skipping

@@ -116,7 +116,7 @@ pub length-fresh : (N : Type 0) (n k : ℕ) → length (fresh_cells {N = N} n k)
 length-fresh N n zero = refl
 length-fresh N n (suc k) = ap suc (length-fresh N (suc n) k)
 
-at_same : {A : Type 0} (n i : ℕ) (x d : A) → i < n → slice_index_or (replicate n x) i d ≡ x
+pub at_same : {A : Type 0} (n i : ℕ) (x d : A) → i < n → slice_index_or (replicate n x) i d ≡ x
 at_same zero i x d h = absurd (omega (arith, h))
 at_same (suc n) zero x d h = refl
 at_same (suc n) (suc i) x d h = at_same n i x d (omega (arith, h))
@@ -149,11 +149,11 @@ all_set count none places empty first is set v d h =
     let same : length empty ≡ count = ap length is ∙ length-replicate count none in
     set v d (omega (arith, h, same)) ∙ ap (cell_at places v) (ap (λ xs. slice_index_or xs v d) is ∙ at_same count v none d h)
 
-choice_true : {A : Type 0} (b : Bool) (x y : A) → b ≡ true → (if b then x else y) ≡ x
+pub choice_true : {A : Type 0} (b : Bool) (x y : A) → b ≡ true → (if b then x else y) ≡ x
 choice_true true x y e = refl
 choice_true false x y e = absurd (false≢true e)
 
-choice_false : {A : Type 0} (b : Bool) (x y : A) → b ≡ false → (if b then x else y) ≡ y
+pub choice_false : {A : Type 0} (b : Bool) (x y : A) → b ≡ false → (if b then x else y) ≡ y
 choice_false false x y e = refl
 choice_false true x y e = absurd (false≢true (sym e))
 

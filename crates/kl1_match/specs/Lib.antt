@@ -3,6 +3,7 @@ pub mod Rows
 pub mod Steps
 pub mod Built
 pub mod Variables
+pub mod Kept
 pub mod Waiting
 pub mod Spans
 pub mod Matching

@@ -12,6 +12,7 @@ ghost use Rattle.kl1_match.specs.Matching.{arguments_after};
 ghost use Rattle.kl1_match.specs.Rooms.{structures_at, structures_in, arguments_in, step_structures, step_arguments, HasRoomForRow};
 ghost use Rattle.kl1_match.specs.Steps.{step_code, IsBelow};
 ghost use Rattle.kl1_match.specs.Variables.{cell_at, AreVariables};
+ghost use Rattle.kl1_match.specs.Kept.{places_behind, kept_places};
 ghost use Rattle.kl1_match.specs.Built.{IsWithinRow, AreBelow, BuildsRow};
 
 use crate::building::put_step;
@@ -154,6 +155,77 @@ pub fn put_instance<N: NameValue>(
     variables.clear();
     goals.clear();
     put_variables(store, clause, places, variables)?;
+    put_row(
+        store,
+        names,
+        variables.as_slice(),
+        clause.goals.as_slice(),
+        goals,
+    )?;
+    goals.reverse();
+    Ok(())
+}
+
+/// Makes so many cells of those that are kept in order: the first stands for 0, and what is wanted behind them too.
+fn fill_places<N: NameValue>(
+    cells: &mut Vec<Cell<N>>,
+    none: Cell<N>,
+    count: usize,
+) -> Result<(), AllocError>
+    requires some { 0 < count }
+    ensures length { OnOk result (length cells.new.items ≡ count) }
+    ensures set { OnOk result ((v : ℕ) (d : Cell N) → v < count → slice_index_or cells.new.items v d ≡ cell_at (places_behind cells.old.items) v none) }
+{
+    if cells.len() != count {
+        cells.resize(count, none)?;
+    }
+    cells[0] = none;
+    Ok(())
+}
+
+/// Makes of the cells that are kept in order a cell for each variable of a clause, by its number from 0: behind those of the head
+/// new variables of the store. Where memory is refused, the store may have grown.
+fn fill_variables<N: NameValue>(
+    store: &mut Store<N>,
+    clause: &CompiledClause,
+    cells: &mut Vec<Cell<N>>,
+) -> Result<(), AllocError>
+    requires places { AreThere store.old.held (places_behind cells.old.items) }
+    requires some { 0 < store.old.held.variables }
+    ensures grown { Grown store.old.held store.new.held }
+    ensures hooks { store.new.hooks ≡ store.old.hooks }
+    ensures bindings { store.new.held.bindings ≡ store.old.held.bindings }
+    ensures variables { OnOk result (AreVariables N.built clause.now.head_variables clause.now.fresh_variables (places_behind cells.old.items) store.old.held store.new.held cells.new.items) }
+{
+    let _ = store.mark();
+    let none = Cell::Atom(N::of(BuiltIn::EmptyList));
+    let count = (clause.head_variables as usize)
+        .checked_add(1)
+        .ok_or(AllocError)?;
+    fill_places(cells, none, count)?;
+    cells.reserve(clause.fresh_variables as usize)?;
+    put_fresh(store, cells, clause.fresh_variables)
+}
+
+/// The same as `put_instance`, where the scratch keeps the cells at the places of the head's variables.
+pub fn put_kept_instance<N: NameValue>(
+    store: &mut Store<N>,
+    names: &[N],
+    clause: &CompiledClause,
+    scratch: &mut Scratch<N>,
+    goals: &mut Vec<Cell<N>>,
+) -> Result<(), AllocError>
+    requires clause { IsClause names.now clause.now }
+    requires places { AreThere store.old.held (kept_places scratch.old) }
+    requires some { 0 < store.old.held.variables }
+    ensures grown { Grown store.old.held store.new.held }
+    ensures hooks { store.new.hooks ≡ store.old.hooks }
+    ensures bindings { store.new.held.bindings ≡ store.old.held.bindings }
+    ensures goals { OnOk result (IsInstance N.built names.now clause.now (kept_places scratch.old) store.old.held store.new.held goals.new.items) }
+{
+    let variables = &mut scratch.variables;
+    goals.clear();
+    fill_variables(store, clause, variables)?;
     put_row(
         store,
         names,

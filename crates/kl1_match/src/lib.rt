@@ -1,6 +1,7 @@
 //! What clauses make of goals: verdicts of heads, and instances of bodies, over cells.
 #![tactic(auto)]
 
+mod accepting;
 mod alike;
 mod arguments;
 mod building;
@@ -24,9 +25,10 @@ mod variables;
 mod verdict;
 mod verdicts;
 
+pub use accepting::accepts_in_order;
 pub use choice::choose;
 pub use goal_cells::{put_goal, put_goal_variables, reserve_goal, reserve_goal_beside};
-pub use instances::put_instance;
+pub use instances::{put_instance, put_kept_instance};
 pub use name_in::name_at;
 pub use place::Place;
 pub use scratch::Scratch;

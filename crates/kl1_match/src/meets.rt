@@ -101,7 +101,7 @@ fn meet_structure<N: NameValue>(
 /// What comes of a pattern that begins with an instruction beside the next cell of `span`, which is taken. Where they may agree,
 /// a structure's arguments are to be matched next, before what was left, and a variable of the pattern takes the cell as its
 /// place. There is room behind, and where places are kept in these.
-#[inline]
+#[inline(always)]
 pub(crate) fn meet<N: NameValue, const KEEP: bool>(
     store: &Store<N>,
     names: &[N],

@@ -1,5 +1,5 @@
 -- What a goal can do, by the definitions, told of cells and compiled clauses.
-use Rattle.std.specs.Prelude.{◌≡◌, ℕ, ◌-◌, ◌<◌, List, [], ◌∷◌, length, map, Option, Some, None, slice_get}
+use Rattle.std.specs.Prelude.{◌≡◌, ℕ, ◌-◌, ◌<◌, List, [], ◌∷◌, length, map, Option, Some, None, slice_get, if◌then◌else◌}
 use Rattle.kl1_model.specs.Term.{Term, Terms}
 use Rattle.kl1_model.specs.Module.{Clause, Module}
 use Rattle.kl1_model.specs.Match.{clauses_of, Candidate, candidate_by, verdict}
@@ -17,7 +17,13 @@ use Rattle.kl1_moves.specs.declared.kind.Kind.{Kind}
 use Rattle.kl1_moves.specs.declared.kind.Kind.TheVariants as kind
 use Rattle.kl1_moves.specs.declared.moves.Move.{Move}
 use Rattle.kl1_moves.specs.declared.moves.Move.TheVariants as move
+use Rattle.kl1_match.specs.Kept.{kept_places}
+use Rattle.kl1_moves.specs.declared.trial.Trial.{Trial}
 use Rattle.kl1_moves.specs.Calls.{arguments_at, call_at}
+
+-- the cells at the places of the head's variables of the clause that was tried last
+abbrev pub taken_places : {N : Type 0} → Trial N → List (Place N)
+taken_places t = if t.is_in_order then kept_places t.scratch else t.places.items
 
 -- where a goal is a call, these are the clauses of its predicate compiled
 abbrev pub HasPredicate : {N : Type 0} → (N → List ℕ) → Held N → List Module → Kind N → Predicate N → Type 0

@@ -7,13 +7,13 @@ ghost use Rattle.kl1_store.specs.Held.{AreIn};
 ghost use Rattle.kl1_store.specs.Sound.{Grown};
 ghost use Rattle.kl1_clause.specs.Predicates.{AreSome};
 ghost use Rattle.kl1_match.specs.Instances.{AreThere};
-ghost use Rattle.kl1_moves.specs.Moves.{IsCandidate};
+ghost use Rattle.kl1_moves.specs.Moves.{taken_places, IsCandidate};
 ghost use Rattle.kl1_moves.specs.Bodies.{IsBody};
 
 use crate::moves::nth;
 use crate::trial::Trial;
 use kl1_clause::Predicate;
-use kl1_match::put_instance;
+use kl1_match::{put_instance, put_kept_instance};
 use kl1_store::{Cell, Store};
 use kl1_text::NameValue;
 use std::alloc::AllocError;
@@ -30,14 +30,23 @@ pub fn commit<N: NameValue>(
 ) -> Result<(), AllocError>
     requires place { place < length predicate.clauses.now }
     requires predicate { AreSome predicate.names.now predicate.clauses.now }
-    requires places { AreThere store.old.held trial.old.places.items }
+    requires places { AreThere store.old.held (taken_places trial.old) }
     requires some { 0 < store.old.held.variables }
     ensures grown { Grown store.old.held store.new.held }
     ensures hooks { store.new.hooks ≡ store.old.hooks }
     ensures bindings { store.new.held.bindings ≡ store.old.held.bindings }
     ensures inside { OnOk result (AreIn store.new.held goals.new.items) }
-    ensures goals { OnOk result ((f : N → List ℕ) → Reads N.built f → (k : Candidate) → IsCandidate f store.old.held predicate.entry place trial.old.places.items k → IsBody f k store.old.held store.new.held goals.new.items) }
+    ensures goals { OnOk result ((f : N → List ℕ) → Reads N.built f → (k : Candidate) → IsCandidate f store.old.held predicate.entry place (taken_places trial.old) k → IsBody f k store.old.held store.new.held goals.new.items) }
 {
+    if trial.is_in_order {
+        return put_kept_instance(
+            store,
+            predicate.names,
+            nth(predicate.clauses, place),
+            &mut trial.scratch,
+            goals,
+        );
+    }
     put_instance(
         store,
         predicate.names,

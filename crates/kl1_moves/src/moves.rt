@@ -1,6 +1,6 @@
 // What goals can do.
 
-ghost use Rattle.std.specs.Prelude.{◌≡◌, ℕ, ◌<◌, List, map, length, IfOk, slice_index_or};
+ghost use Rattle.std.specs.Prelude.{◌≡◌, ℕ, ◌-◌, ◌<◌, List, map, length, IfOk, slice_index_or};
 ghost use Rattle.kl1_model.specs.Module.{Clause, Module};
 ghost use Rattle.kl1_model.specs.Term.{Term};
 ghost use Rattle.kl1_text.specs.Reading.{Reads};
@@ -9,13 +9,13 @@ ghost use Rattle.kl1_clause.specs.Clauses.{AreCompiled};
 ghost use Rattle.kl1_clause.specs.Predicates.{AreSome};
 ghost use Rattle.kl1_moves.specs.Calls.{cell_of};
 ghost use Rattle.kl1_moves.specs.Kinds.{IsKind, KindIn};
-ghost use Rattle.kl1_moves.specs.Moves.{HasPredicate, MoveIn, FailsAs, CommitsAs, MovesAs};
+ghost use Rattle.kl1_moves.specs.Moves.{taken_places, HasPredicate, MoveIn, FailsAs, CommitsAs, MovesAs};
 
 use crate::call::Call;
 use crate::kind::Kind;
 use crate::trial::Trial;
 use kl1_clause::{CompiledClause, Predicate};
-use kl1_match::{Verdict, choose, verdict_on};
+use kl1_match::{Verdict, accepts_in_order, choose, verdict_on};
 use kl1_store::{Cell, Store};
 use kl1_text::NameValue;
 use std::alloc::AllocError;
@@ -41,8 +41,8 @@ pub fn move_of<N: NameValue>(
 ) -> Result<Option<Move<N>>, AllocError>
     requires kind { KindIn store.now.held kind }
     requires predicate { AreSome predicate.names.now predicate.clauses.now }
-    ensures inside { IfOk result (MoveIn store.now.held predicate.entry trial.new.places.items) }
-    ensures moves { IfOk result (λ found. (f : N → List ℕ) → Reads N.built f → (modules : List Module) (t : Term) → IsKind f store.now.held t kind → HasPredicate f store.now.held modules kind predicate.entry → MovesAs f store.now.held modules t clause predicate.entry trial.new.places.items found) }
+    ensures inside { IfOk result (MoveIn store.now.held predicate.entry (taken_places trial.new)) }
+    ensures moves { IfOk result (λ found. (f : N → List ℕ) → Reads N.built f → (modules : List Module) (t : Term) → IsKind f store.now.held t kind → HasPredicate f store.now.held modules kind predicate.entry → MovesAs f store.now.held modules t clause predicate.entry (taken_places trial.new) found) }
 {
     match kind {
         Kind::Calls(call) => {
@@ -77,7 +77,7 @@ fn failing<N: NameValue>(
 ) -> Result<Option<Move<N>>, AllocError>
     requires call { IsIn store.now.held (cell_of call) }
     requires predicate { AreSome predicate.names.now predicate.clauses.now }
-    ensures inside { IfOk result (MoveIn store.now.held predicate.entry trial.new.places.items) }
+    ensures inside { IfOk result (MoveIn store.now.held predicate.entry (taken_places trial.new)) }
     ensures fails { IfOk result (λ found. (f : N → List ℕ) → Reads N.built f → (cs : List Clause) → AreCompiled (map f predicate.entry.names.now) predicate.entry.clauses.now cs → FailsAs f store.now.held call cs found) }
 {
     trial.awaited.clear();
@@ -107,8 +107,8 @@ pub(crate) fn nth(clauses: &[CompiledClause], place: usize) -> &CompiledClause
     &clauses[place]
 }
 
-/// The move of a call by the clause of a number, from 1, or nothing.
-fn committing<N: NameValue>(
+/// The move of a call by the clause of a number, from 1, whose cells are kept by their places, or nothing.
+fn committing_by_places<N: NameValue>(
     store: &Store<N>,
     call: Call<N>,
     predicate: Predicate<'_, N>,
@@ -117,15 +117,14 @@ fn committing<N: NameValue>(
 ) -> Result<Option<Move<N>>, AllocError>
     requires call { IsIn store.now.held (cell_of call) }
     requires number { 0 < number }
+    requires place { number - 1 < length predicate.clauses.now }
     requires predicate { AreSome predicate.names.now predicate.clauses.now }
-    ensures inside { IfOk result (MoveIn store.now.held predicate.entry trial.new.places.items) }
-    ensures commits { IfOk result (λ found. (f : N → List ℕ) → Reads N.built f → (cs : List Clause) → AreCompiled (map f predicate.entry.names.now) predicate.entry.clauses.now cs → CommitsAs f store.now.held call predicate.entry cs number trial.new.places.items found) }
+    ensures inside { IfOk result (MoveIn store.now.held predicate.entry (taken_places trial.new)) }
+    ensures commits { IfOk result (λ found. (f : N → List ℕ) → Reads N.built f → (cs : List Clause) → AreCompiled (map f predicate.entry.names.now) predicate.entry.clauses.now cs → CommitsAs f store.now.held call predicate.entry cs number (taken_places trial.new) found) }
 {
     let place = (number - 1) as usize;
-    if place >= predicate.clauses.len() {
-        return Ok(None);
-    }
     trial.awaited.clear();
+    trial.is_in_order = false;
     match verdict_on(
         store,
         predicate.names,
@@ -139,4 +138,35 @@ fn committing<N: NameValue>(
         Verdict::Rejects => Ok(None),
         Verdict::Suspends => Ok(None),
     }
+}
+
+/// The move of a call by the clause of a number, from 1, or nothing.
+fn committing<N: NameValue>(
+    store: &Store<N>,
+    call: Call<N>,
+    predicate: Predicate<'_, N>,
+    number: u64,
+    trial: &mut Trial<N>,
+) -> Result<Option<Move<N>>, AllocError>
+    requires call { IsIn store.now.held (cell_of call) }
+    requires number { 0 < number }
+    requires predicate { AreSome predicate.names.now predicate.clauses.now }
+    ensures inside { IfOk result (MoveIn store.now.held predicate.entry (taken_places trial.new)) }
+    ensures commits { IfOk result (λ found. (f : N → List ℕ) → Reads N.built f → (cs : List Clause) → AreCompiled (map f predicate.entry.names.now) predicate.entry.clauses.now cs → CommitsAs f store.now.held call predicate.entry cs number (taken_places trial.new) found) }
+{
+    let place = (number - 1) as usize;
+    if place >= predicate.clauses.len() {
+        return Ok(None);
+    }
+    if !accepts_in_order(
+        store,
+        predicate.names,
+        nth(predicate.clauses, place),
+        call.cell(),
+        &mut trial.scratch,
+    )? {
+        return committing_by_places(store, call, predicate, number, trial);
+    }
+    trial.is_in_order = true;
+    Ok(Some(Move::Commits(place)))
 }

@@ -5,12 +5,14 @@ use kl1_text::NameValue;
 use std::alloc::Global;
 
 /// Lists that calls work with, and keep for the next: scratch, the cells at the places of the head's variables of the clause
-/// that was tried last, and the variables that a goal waits for. It takes no memory until a call needs some.
+/// that was tried last, which the scratch has where they are kept in order, and the variables that a goal waits for. It takes
+/// no memory until a call needs some.
 #[derive(Drop)]
 pub struct Trial<N: NameValue> {
     pub scratch: Scratch<N>,
     pub places: Vec<Place<N>>,
     pub awaited: Vec<u32>,
+    pub is_in_order: bool,
 }
 
 impl<N: NameValue> Trial<N> {
@@ -20,6 +22,7 @@ impl<N: NameValue> Trial<N> {
             scratch: Scratch::new(alloc),
             places: Vec::new(alloc),
             awaited: Vec::new(alloc),
+            is_in_order: false,
         }
     }
 }

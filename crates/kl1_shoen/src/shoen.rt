@@ -12,18 +12,18 @@ pub struct Origin<N> {
     pub control: Cell<N>,
 }
 
-/// A shoen: its number in the account, from 1, whether it lives, the reductions that it may be charged, its priorities from
-/// low to high, what is left of its control stream, the tail of its report stream, whether that stream is broken, and its
-/// origin at the console.
+/// A shoen: its number in the account, from 1, the reductions that it may be charged, its priorities from low to high, what is
+/// left of its control stream, the tail of its report stream, whether it lives, whether that stream is broken, and its origin
+/// at the console. The small ones stand side by side, so that it has 128 bytes, which are copied without a call.
 #[derive(Clone, Copy)]
 pub struct Shoen<N> {
     pub number: u64,
-    pub life: Life,
     pub allowance: u64,
     pub low: u64,
     pub high: u64,
     pub control: Cell<N>,
     pub tail: Cell<N>,
+    pub life: Life,
     pub is_broken: bool,
     pub origin: Option<Origin<N>>,
 }

@@ -142,7 +142,7 @@ impl Hooks {
         ensures hooks { self.new.hooks ≡ take count self.old.hooks }
         ensures covered { self.new.covered ≡ self.old.covered }
         ensures memory { self.new.memory ≡ self.old.memory }
-        ensures room { length self.old.hooks + self.old.room ≤ length self.new.hooks + self.new.room }
+        ensures room { length self.old.hooks + self.old.room ≡ length self.new.hooks + self.new.room }
     {
         unlink(&mut self.heads, &mut self.links, count);
     }

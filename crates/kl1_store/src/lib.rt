@@ -1,4 +1,4 @@
-//! Terms as cells that share parts, variables bound once: unification, passive equality, and taking back.
+//! Terms as cells that share parts, variables bound once: unification as far as it can be, passive equality, and taking back.
 #![tactic(auto)]
 
 mod advance;
@@ -34,7 +34,6 @@ mod take_back;
 mod task;
 mod tell;
 mod unified;
-mod unify;
 
 pub use cell::Cell;
 pub use head::Head;

@@ -6,7 +6,8 @@ ghost use Rattle.kl1_store.specs.Meaning.{term_of};
 ghost use Rattle.kl1_store.specs.Spending.{Spends, SpendsOnBindings, FreesRoom};
 ghost use Rattle.kl1_store.specs.Sound.{IsFormed};
 ghost use Rattle.kl1_store.specs.Places.{all_arguments, StandFrom};
-ghost use Rattle.kl1_store.specs.Unification.{UnifiesAs};
+ghost use Rattle.kl1_store.specs.Unifies.{OnlyBound};
+ghost use Rattle.kl1_store.specs.Unification.{SettlesTo};
 ghost use Rattle.kl1_store.specs.Sameness.{SameAs, NamesUnbound, AlikeAs};
 ghost use Rattle.kl1_store.specs.Hooks.{Kept, hanging_on, told_by, point_of, HasGrown};
 ghost use Rattle.kl1_store.specs.Tops.{firsts, others};
@@ -23,10 +24,10 @@ use crate::point::Point;
 use crate::same::Same;
 use crate::same_scratch::SameScratch;
 use crate::scratch::Scratch;
+use crate::settle::unify_cells;
 use crate::take_back::take_back;
 use crate::tell::tell_all;
 use crate::unified::Unified;
-use crate::unify::unify_or_undo;
 use kl1_text::NameValue;
 use std::alloc::{AllocError, Global};
 use std::marker::Model;
@@ -198,23 +199,30 @@ impl<N: NameValue> Store<N> {
         self.cells.argument_at(place)
     }
 
-    /// Makes two cells mean the same term, if that can be, by as few replacements as serve.
-    pub fn unify(&mut self, left: Cell<N>, right: Cell<N>) -> Result<Unified, AllocError>
+    /// Makes two cells mean the same term, as far as that can be, by as few replacements as serve. After a clash or an error
+    /// what was bound so far is still bound.
+    pub fn unify_cells(&mut self, left: Cell<N>, right: Cell<N>) -> Result<Unified, AllocError>
         requires left_in { IsIn self.old.held left }
         requires right_in { IsIn self.old.held right }
-        ensures ok { IfOk result (UnifiesAs N.built self.old.held self.new.held left right) }
-        ensures err { OnErr result (self.new.held ≡ self.old.held) }
+        ensures ok { IfOk result (SettlesTo N.built self.old.held self.new.held left right) }
+        ensures bound { OnlyBound self.old.held self.new.held }
         ensures spends { SpendsOnBindings self.old.held self.old.room self.new.held self.new.room }
         ensures hooks { self.new.hooks ≡ self.old.hooks }
         ensures hook_room { self.new.hook_room ≡ self.old.hook_room }
     {
-        unify_or_undo(
+        let _ = self.cells.mark();
+        if unify_cells(
             &mut self.cells,
-            &mut self.scratch,
+            &mut self.scratch.frames,
+            &mut self.scratch.merges,
             &mut self.levels,
+            &mut self.scratch.tasks,
             left,
             right,
-        )
+        )? {
+            return Ok(Unified::Bound);
+        }
+        Ok(Unified::Clash)
     }
 
     /// Whether cells mean the same terms, each two of them, as far as their variables let it be seen; nothing is bound.
@@ -370,7 +378,7 @@ impl<N: NameValue> Store<N> {
         ensures held { (k : Kept N) → mark ≡ point_of k → HasGrown k self.old → self.new.held ≡ k.held }
         ensures hooks { (k : Kept N) → mark ≡ point_of k → HasGrown k self.old → self.new.hooks ≡ k.hooks }
         ensures room { FreesRoom self.old.held self.old.room self.new.held self.new.room }
-        ensures hook_room { length self.old.hooks + self.old.hook_room ≤ length self.new.hooks + self.new.hook_room }
+        ensures hook_room { length self.old.hooks + self.old.hook_room ≡ length self.new.hooks + self.new.hook_room }
     {
         take_back(&mut self.cells, &mut self.levels, mark.sizes);
         self.hooks.keep(mark.hooks);

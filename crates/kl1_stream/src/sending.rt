@@ -10,6 +10,7 @@ ghost use Rattle.kl1_stream.specs.Spending.{SpendsOnMessage};
 use kl1_model::BuiltIn;
 use kl1_store::{Cell, Store, Unified};
 use kl1_text::NameValue;
+use kl1_unify::unify;
 use std::alloc::AllocError;
 
 /// Puts a list cell of a message and a new variable where an unbound variable stands, and gives the new variable's number;
@@ -32,7 +33,7 @@ pub(crate) fn send<N: NameValue>(
     let next = store.fresh()?;
     let name = N::of(BuiltIn::ListCell);
     let cell = store.build_pair(name, message, Cell::Variable(next))?;
-    match store.unify(Cell::Variable(variable), Cell::Structure(cell))? {
+    match unify(store, Cell::Variable(variable), Cell::Structure(cell))? {
         Unified::Bound => Ok(Some(next)),
         Unified::Clash => {
             store.back(mark);
@@ -53,6 +54,6 @@ pub(crate) fn end<N: NameValue>(store: &mut Store<N>, variable: u32) -> Result<(
     ensures hook_room { store.new.hook_room ≡ store.old.hook_room }
 {
     let nil = Cell::Atom(N::of(BuiltIn::EmptyList));
-    store.unify(Cell::Variable(variable), nil)?;
+    unify(store, Cell::Variable(variable), nil)?;
     Ok(())
 }

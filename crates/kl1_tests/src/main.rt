@@ -14,16 +14,23 @@ use crate::parts::Parts;
 use crate::rows::{Text, put_report};
 use std::io;
 use std::io::{Error, ErrorKind, Read, Write};
+use std::rt::Clock;
+
+/// Puts the report on rows; where they are the word `reductions` and a line feed, what is measured.
+fn put_all<R: Clock>(rt: &R, out: &mut Text, rows: &[u8]) {
+    if rows == b"reductions\n".as_slice() {
+        reductions::put_times(rt, out);
+    } else {
+        put_report(out, &mut Parts::new(out.alloc), rows);
+    }
+}
 
 /// Tries the rows of its input; where that is the word `reductions` and a line feed, the program measures.
 fn main(rt: HostRuntime) -> io::Result<()> {
     let mut rows = Vec::new(rt.alloc());
     rt.stdin().read_to_end(&mut rows)?;
-    if rows.as_slice() == b"reductions\n".as_slice() {
-        return reductions::tell_times(&rt, rt.alloc());
-    }
     let mut out = Text::new(rt.alloc());
-    put_report(&mut out, &mut Parts::new(rt.alloc()), rows.as_slice());
+    put_all(&rt, &mut out, rows.as_slice());
     if out.has_failed {
         return Err(Error::from(ErrorKind::OutOfMemory));
     }

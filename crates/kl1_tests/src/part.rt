@@ -51,9 +51,9 @@ const PARTS: [(&[u8], Part); 26] = [
 
 /// The part that the heading of a group names.
 pub fn part_of(heading: &[u8]) -> Part {
-    for (front, part) in PARTS {
+    for (front, part) in &PARTS {
         if heading.starts_with(front) {
-            return part;
+            return *part;
         }
     }
     Part::Unknown

@@ -20,7 +20,7 @@ impl Parts {
         Parts {
             alloc,
             part: Part::Unknown,
-            accounts: Accounts::none(),
+            accounts: Accounts::none(alloc),
         }
     }
 }

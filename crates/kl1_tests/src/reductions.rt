@@ -1,10 +1,9 @@
 // How long a reduction takes while few and many goals wait, as ratios of one run.
 
 use crate::parts::Parts;
-use crate::rows::Tried;
+use crate::rows::{Text, Tried};
 use kl1_rows::{hundredths, moment, nanoseconds_since};
 use std::alloc::Global;
-use std::io;
 use std::rt::Clock;
 
 /// How many rounds are made to measure, of which the least times are told.
@@ -46,21 +45,39 @@ fn least_time<R: Clock>(rt: &R, alloc: Global, start: &[u8], made: &[u8]) -> u12
     least
 }
 
-/// Tells the time of a reduction while so many goals wait, and its ratio to another.
-fn tell<R: Print>(rt: &R, count: &str, time: u128, ten: u128) -> io::Result<()> {
-    let percent = hundredths(time, ten);
-    println!(rt; "while {count} goals wait: {time} ns, {percent}%")
+/// Starts of goals that wait, by how many they are, each with the answer to the run in which they are made.
+const STARTS: [(&[u8], &[u8], &[u8]); 4] = [
+    (b"10", b"start 1000000 0 10 m:ten", b"+ 1"),
+    (b"100", b"start 1000000 0 10 m:hundred", b"+ 11"),
+    (b"1,000", b"start 1000000 0 10 m:thousand", b"+ 111"),
+    (b"8,000", b"start 1000000 0 10 m:crowd", b"+ 889"),
+];
+
+/// Puts a number, or the greatest of 64 bits, where that is less.
+fn put_number(out: &mut Text, number: u128) {
+    out.put_number(number.min(0xffff_ffff_ffff_ffff) as u64);
 }
 
-/// Measures reductions while few and many goals wait, and tells their times with the ratios to the first.
-pub fn tell_times<R: Print + Clock>(rt: &R, alloc: Global) -> io::Result<()> {
-    let ten = least_time(rt, alloc, b"start 1000000 0 10 m:ten", b"+ 1");
-    let hundred = least_time(rt, alloc, b"start 1000000 0 10 m:hundred", b"+ 11");
-    let thousand = least_time(rt, alloc, b"start 1000000 0 10 m:thousand", b"+ 111");
-    let crowd = least_time(rt, alloc, b"start 1000000 0 10 m:crowd", b"+ 889");
-    println!(rt; "the time of a pick and its reduction, where 100% is that while 10 goals wait:")?;
-    tell(rt, "10", ten, ten)?;
-    tell(rt, "100", hundred, ten)?;
-    tell(rt, "1,000", thousand, ten)?;
-    tell(rt, "8,000", crowd, ten)
+/// Puts the time of a reduction while so many goals wait, and its ratio to another.
+fn put_time(out: &mut Text, count: &[u8], time: u128, first: u128) {
+    out.put(b"while ");
+    out.put(count);
+    out.put(b" goals wait: ");
+    put_number(out, time);
+    out.put(b" ns, ");
+    put_number(out, hundredths(time, first));
+    out.put(b"%\n");
+}
+
+/// Measures reductions while few and many goals wait, and puts their times with the ratios to the first.
+pub fn put_times<R: Clock>(rt: &R, out: &mut Text) {
+    out.put(b"the time of a pick and its reduction, where 100% is that while 10 goals wait:\n");
+    let mut first = 0;
+    for (count, start, made) in STARTS {
+        let time = least_time(rt, out.alloc, start, made);
+        if first == 0 {
+            first = time;
+        }
+        put_time(out, count, time, first);
+    }
 }

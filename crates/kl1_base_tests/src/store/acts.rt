@@ -33,7 +33,7 @@ pub fn unify<N: NameValue>(
     if !store.holds(right) {
         return Ok(Answer::Nothing);
     }
-    match store.unify(left, right)? {
+    match kl1_unify::unify(store, left, right)? {
         Unified::Bound => Ok(Answer::Bound),
         Unified::Clash => Ok(Answer::Clash),
     }

@@ -40,9 +40,9 @@ const WAYS: [(&[u8], Way); 4] = [
 
 /// In what way an act is done, by the word before it, and the act.
 fn way_of(act: &[u8]) -> (Way, &[u8]) {
-    for (word, way) in WAYS {
-        if let Some(act) = act.strip_prefix(word) {
-            return (way, act);
+    for (word, way) in &WAYS {
+        if let Some(act) = act.strip_prefix(*word) {
+            return (*way, act);
         }
     }
     (Way::Plain, act)

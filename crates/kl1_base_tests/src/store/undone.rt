@@ -42,7 +42,7 @@ fn unify<N: NameValue>(
         return Ok(Answer::Nothing);
     }
     let before = store.mark();
-    match store.unify(Cell::Variable(variable), value)? {
+    match kl1_unify::unify(store, Cell::Variable(variable), value)? {
         Unified::Bound => {
             let seen = store.walk(Cell::Variable(variable));
             store.back(before);

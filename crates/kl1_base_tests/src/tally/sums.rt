@@ -1,6 +1,6 @@
 // That what shares counted adds up to the books, also when two threads count at once.
 
-ghost use Rattle.std.specs.Prelude.{◌≡◌, ◌<◌, ◌≤◌, All, OnOk, vec_len};
+ghost use Rattle.std.specs.Prelude.{◌≡◌, ◌+◌, ◌<◌, ◌≤◌, All, OnOk, vec_len};
 
 use crate::tally::counting::{count, give_book, give_share, next_book, next_share};
 use kl1_tally::{Amounts, BookSeat, MOST_ACCOUNTS, ShareSeat, Tally};
@@ -10,37 +10,71 @@ use std::thread::{Threads, join};
 /// A thread's part where it has two books: it counts in each.
 fn count_two(
     tally: &Tally,
-    mut first: BookSeat,
-    mut second: BookSeat,
-    mut share: ShareSeat,
+    seats: (BookSeat, BookSeat, ShareSeat),
     events: (u32, u32),
 ) -> (BookSeat, BookSeat, ShareSeat)
-    requires first { first.tally ≡ tally.now.id }
-    requires second { second.tally ≡ tally.now.id }
-    requires share { share.tally ≡ tally.now.id }
-    ensures first { result.0.tally ≡ tally.now.id }
-    ensures second { result.1.tally ≡ tally.now.id }
-    ensures share { result.2.tally ≡ tally.now.id }
+    requires of { (seats.0.tally ≡ tally.now.id) × (seats.1.tally ≡ tally.now.id) × (seats.2.tally ≡ tally.now.id) }
+    ensures of { (result.0.tally ≡ tally.now.id) × (result.1.tally ≡ tally.now.id) × (result.2.tally ≡ tally.now.id) }
 {
+    let (mut first, mut second, mut share) = seats;
     count(tally, &mut first, &mut share, events.0);
     count(tally, &mut second, &mut share, events.1);
     (first, second, share)
 }
 
 /// A thread's part where it has one book.
-fn count_one(
-    tally: &Tally,
-    mut book: BookSeat,
-    mut share: ShareSeat,
-    events: u32,
-) -> (BookSeat, ShareSeat)
-    requires book { book.tally ≡ tally.now.id }
-    requires share { share.tally ≡ tally.now.id }
-    ensures book { result.0.tally ≡ tally.now.id }
-    ensures share { result.1.tally ≡ tally.now.id }
+fn count_one(tally: &Tally, seats: (BookSeat, ShareSeat), events: u32) -> (BookSeat, ShareSeat)
+    requires of { (seats.0.tally ≡ tally.now.id) × (seats.1.tally ≡ tally.now.id) }
+    ensures of { (result.0.tally ≡ tally.now.id) × (result.1.tally ≡ tally.now.id) }
 {
+    let (mut book, mut share) = seats;
     count(tally, &mut book, &mut share, events);
     (book, share)
+}
+
+/// Two threads count 5,000 events each at once, one in two books and the other in one.
+fn count_by_two<R: Threads + Sync>(
+    rt: &R,
+    tally: &Tally,
+    two: (BookSeat, BookSeat, ShareSeat),
+    events: (u32, u32),
+    one: (BookSeat, ShareSeat),
+) -> ((BookSeat, BookSeat, ShareSeat), (BookSeat, ShareSeat))
+    requires two { (two.0.tally ≡ tally.now.id) × (two.1.tally ≡ tally.now.id) × (two.2.tally ≡ tally.now.id) }
+    requires one { (one.0.tally ≡ tally.now.id) × (one.1.tally ≡ tally.now.id) }
+    ensures two { (result.0.0.tally ≡ tally.now.id) × (result.0.1.tally ≡ tally.now.id) × (result.0.2.tally ≡ tally.now.id) }
+    ensures one { (result.1.0.tally ≡ tally.now.id) × (result.1.1.tally ≡ tally.now.id) }
+{
+    join(
+        rt,
+        || count_two(tally, two, events),
+        || count_one(tally, one, 5_000),
+    )
+}
+
+/// Puts three books and two shares behind others.
+fn give_all(
+    tally: &Tally,
+    books: &mut Vec<BookSeat>,
+    shares: &mut Vec<ShareSeat>,
+    two: (BookSeat, BookSeat, ShareSeat),
+    one: (BookSeat, ShareSeat),
+) -> Result<(), AllocError>
+    requires books_of { All (λ book. book.tally ≡ tally.now.id) books.old.items }
+    requires shares_of { All (λ share. share.tally ≡ tally.now.id) shares.old.items }
+    requires two { (two.0.tally ≡ tally.now.id) × (two.1.tally ≡ tally.now.id) × (two.2.tally ≡ tally.now.id) }
+    requires one { (one.0.tally ≡ tally.now.id) × (one.1.tally ≡ tally.now.id) }
+    ensures books_of { OnOk result (All (λ book. book.tally ≡ tally.now.id) books.new.items) }
+    ensures shares_of { OnOk result (All (λ share. share.tally ≡ tally.now.id) shares.new.items) }
+    ensures counts { OnOk result ((vec_len books.new ≡ vec_len books.old + 3) × (vec_len shares.new ≡ vec_len shares.old + 2)) }
+{
+    let (first, second, other) = two;
+    let (third, one) = one;
+    give_book(tally, books, third)?;
+    give_book(tally, books, first)?;
+    give_book(tally, books, second)?;
+    give_share(tally, shares, other)?;
+    give_share(tally, shares, one)
 }
 
 /// Two threads count 10,000 events each in the books of three accounts: at first one has two books and the other the third, and
@@ -64,21 +98,23 @@ fn count_at_once<R: Threads + Sync>(
     let first = next_book(tally, books);
     let one = next_share(tally, shares);
     let other = next_share(tally, shares);
-    let ((first, second, one), (third, other)) = join(
+    let (two, last) = count_by_two(
         rt,
-        || count_two(tally, first, second, one, (3_000, 2_000)),
-        || count_one(tally, third, other, 5_000),
+        tally,
+        (first, second, one),
+        (3_000, 2_000),
+        (third, other),
     );
-    let ((third, one), (first, second, other)) = join(
+    let (first, second, one) = two;
+    let (third, other) = last;
+    let (two, last) = count_by_two(
         rt,
-        || count_one(tally, third, one, 5_000),
-        || count_two(tally, first, second, other, (2_000, 3_000)),
+        tally,
+        (first, second, other),
+        (2_000, 3_000),
+        (third, one),
     );
-    give_book(tally, books, third)?;
-    give_book(tally, books, first)?;
-    give_book(tally, books, second)?;
-    give_share(tally, shares, other)?;
-    give_share(tally, shares, one)
+    give_all(tally, books, shares, two, last)
 }
 
 /// Whether amounts are these of the first three accounts, and nothing of all others.

@@ -1,14 +1,18 @@
-// Look-ups of names that a seat knows, from one thread and from several at once.
+// Look-ups of names that seats know, from one thread and from several at once.
 
-ghost use Rattle.std.specs.Prelude.{◌≡◌, ℕ, ◌+◌, ◌<◌, ◌≤◌, Some, length, slice_get, vec_len};
+ghost use Rattle.std.specs.Prelude.{◌≡◌, ℕ, ◌+◌, ◌<◌, ◌≤◌, All, IfOk, OnOk, Some, length, slice_get, vec_len};
 ghost use Rattle.kl1_model.specs.Limits.{most_names};
 ghost use Rattle.kl1_atoms.specs.Seats.{IsSharedSeat, IsNewSharedSeat, face_in};
 ghost use Rattle.kl1_atoms.specs.declared.atom_seat.AtomSeat.{AtomSeat};
 ghost use Rattle.kl1_atoms.specs.Knowing.{KnowsFirst};
 
+use crate::ratios::are_all;
 use kl1_atoms::{AtomSeat, AtomTable, Turns};
+use kl1_rows::{moment, nanoseconds_since};
 use kl1_text::AtomText;
-use std::thread::{Threads, join};
+use std::alloc::AllocError;
+use std::rt::Clock;
+use std::thread::{Threads, map_vec};
 
 /// A seat that has looked each name up once.
 #[tactic(auto, using(kl1_atoms::specs::Knowing::few_more))]
@@ -25,7 +29,7 @@ fn learn(table: &AtomTable, mut seat: AtomSeat, texts: &[AtomText]) -> AtomSeat
 }
 
 /// The last of some seats, which has looked each name up once.
-pub fn next_seat(table: &AtomTable, seats: &mut Vec<AtomSeat>, texts: &[AtomText]) -> AtomSeat
+fn next_seat(table: &AtomTable, seats: &mut Vec<AtomSeat>, texts: &[AtomText]) -> AtomSeat
     requires seats { (k : ℕ) (seat : AtomSeat) → slice_get seats.old.items k ≡ Some seat → IsNewSharedSeat table.now.table.shared.table_id seat.badge.table_id table.now.accounts (face_in seat.badge.views) seat.account k }
     requires some { 0 < vec_len seats.old }
     requires few { length texts.now ≤ 1000 }
@@ -40,8 +44,29 @@ pub fn next_seat(table: &AtomTable, seats: &mut Vec<AtomSeat>, texts: &[AtomText
     learn(table, seat, texts)
 }
 
+/// The last of some seats, so many, each of which has looked each name up once.
+fn next_seats(
+    table: &AtomTable,
+    seats: &mut Vec<AtomSeat>,
+    texts: &[AtomText],
+    count: usize,
+) -> Result<Vec<AtomSeat>, AllocError>
+    requires seats { (k : ℕ) (seat : AtomSeat) → slice_get seats.old.items k ≡ Some seat → IsNewSharedSeat table.now.table.shared.table_id seat.badge.table_id table.now.accounts (face_in seat.badge.views) seat.account k }
+    requires some { count ≤ vec_len seats.old }
+    requires few { length texts.now ≤ 1000 }
+    ensures seats { OnOk result ((k : ℕ) (seat : AtomSeat) → slice_get seats.new.items k ≡ Some seat → IsNewSharedSeat table.now.table.shared.table_id seat.badge.table_id table.now.accounts (face_in seat.badge.views) seat.account k) }
+    ensures fewer { OnOk result (vec_len seats.new + count ≡ vec_len seats.old) }
+    ensures known { IfOk result (λ next. All (λ seat. IsSharedSeat table.now.table.shared.table_id seat.badge.table_id table.now.accounts (face_in seat.badge.views) seat.account × KnowsFirst (face_in seat.badge.views).knows texts.now (length texts.now)) next.items) }
+{
+    let mut next = Vec::new(*seats.allocator());
+    for _seat in 0..count {
+        next.push(next_seat(table, seats, texts))?;
+    }
+    Ok(next)
+}
+
 /// Looks names that a seat knows up, each so many times, and sums their numbers.
-pub fn found(table: &AtomTable, mut seat: AtomSeat, texts: &[AtomText], rounds: usize) -> u64
+fn found(table: &AtomTable, mut seat: AtomSeat, texts: &[AtomText], rounds: usize) -> u64
     requires of { IsSharedSeat table.now.table.shared.table_id seat.badge.table_id table.now.accounts (face_in seat.badge.views) seat.account }
     requires known { KnowsFirst (face_in seat.badge.views).knows texts.now (length texts.now) }
 {
@@ -55,62 +80,33 @@ pub fn found(table: &AtomTable, mut seat: AtomSeat, texts: &[AtomText], rounds: 
     sum
 }
 
-/// The same from two threads at once, each with its own seat: the sum of what both found.
-pub fn found_by_two<R: Threads + Sync>(
-    rt: &R,
-    table: &AtomTable,
-    a: AtomSeat,
-    b: AtomSeat,
-    texts: &[AtomText],
-    rounds: usize,
-) -> u64
-    requires a { IsSharedSeat table.now.table.shared.table_id a.badge.table_id table.now.accounts (face_in a.badge.views) a.account }
-    requires b { IsSharedSeat table.now.table.shared.table_id b.badge.table_id table.now.accounts (face_in b.badge.views) b.account }
-    requires a_knows { KnowsFirst (face_in a.badge.views).knows texts.now (length texts.now) }
-    requires b_knows { KnowsFirst (face_in b.badge.views).knows texts.now (length texts.now) }
-{
-    let (one, other) = join(
-        rt,
-        || found(table, a, texts, rounds),
-        || found(table, b, texts, rounds),
-    );
-    one.wrapping_add(other)
+/// What numbers are that are all the same, or 0 where they differ.
+fn common(numbers: &[u64]) -> u64 {
+    match numbers {
+        [first, ..] if are_all(numbers, *first) => *first,
+        _ => 0,
+    }
 }
 
-/// The same from four threads at once.
-pub fn found_by_four<R: Threads + Sync>(
+/// The sum of the numbers that each of so many threads finds, all at once, or 0 where they differ; and the nanoseconds that they
+/// take.
+pub fn found_by<R: Threads + Clock + Sync>(
     rt: &R,
     table: &AtomTable,
-    a: AtomSeat,
-    b: AtomSeat,
-    c: AtomSeat,
-    d: AtomSeat,
+    seats: &mut Vec<AtomSeat>,
     texts: &[AtomText],
     rounds: usize,
-) -> u64
-    requires a { IsSharedSeat table.now.table.shared.table_id a.badge.table_id table.now.accounts (face_in a.badge.views) a.account }
-    requires b { IsSharedSeat table.now.table.shared.table_id b.badge.table_id table.now.accounts (face_in b.badge.views) b.account }
-    requires c { IsSharedSeat table.now.table.shared.table_id c.badge.table_id table.now.accounts (face_in c.badge.views) c.account }
-    requires d { IsSharedSeat table.now.table.shared.table_id d.badge.table_id table.now.accounts (face_in d.badge.views) d.account }
-    requires a_knows { KnowsFirst (face_in a.badge.views).knows texts.now (length texts.now) }
-    requires b_knows { KnowsFirst (face_in b.badge.views).knows texts.now (length texts.now) }
-    requires c_knows { KnowsFirst (face_in c.badge.views).knows texts.now (length texts.now) }
-    requires d_knows { KnowsFirst (face_in d.badge.views).knows texts.now (length texts.now) }
+    count: usize,
+) -> Result<(u64, u128), AllocError>
+    requires seats { (k : ℕ) (seat : AtomSeat) → slice_get seats.old.items k ≡ Some seat → IsNewSharedSeat table.now.table.shared.table_id seat.badge.table_id table.now.accounts (face_in seat.badge.views) seat.account k }
+    requires some { count ≤ vec_len seats.old }
+    requires few { length texts.now ≤ 1000 }
+    ensures seats { OnOk result ((k : ℕ) (seat : AtomSeat) → slice_get seats.new.items k ≡ Some seat → IsNewSharedSeat table.now.table.shared.table_id seat.badge.table_id table.now.accounts (face_in seat.badge.views) seat.account k) }
+    ensures fewer { OnOk result (vec_len seats.new + count ≡ vec_len seats.old) }
 {
-    let (two, others) = join(
-        rt,
-        || -> u64
-            requires a { IsSharedSeat table.now.table.shared.table_id a.badge.table_id table.now.accounts (face_in a.badge.views) a.account }
-            requires b { IsSharedSeat table.now.table.shared.table_id b.badge.table_id table.now.accounts (face_in b.badge.views) b.account }
-            requires a_knows { KnowsFirst (face_in a.badge.views).knows texts.now (length texts.now) }
-            requires b_knows { KnowsFirst (face_in b.badge.views).knows texts.now (length texts.now) }
-        { found_by_two(rt, table, a, b, texts, rounds) },
-        || -> u64
-            requires c { IsSharedSeat table.now.table.shared.table_id c.badge.table_id table.now.accounts (face_in c.badge.views) c.account }
-            requires d { IsSharedSeat table.now.table.shared.table_id d.badge.table_id table.now.accounts (face_in d.badge.views) d.account }
-            requires c_knows { KnowsFirst (face_in c.badge.views).knows texts.now (length texts.now) }
-            requires d_knows { KnowsFirst (face_in d.badge.views).knows texts.now (length texts.now) }
-        { found_by_two(rt, table, c, d, texts, rounds) },
-    );
-    two.wrapping_add(others)
+    let next = next_seats(table, seats, texts, count)?;
+    let start = moment(rt);
+    let sums = map_vec(rt, next, &|seat| found(table, seat, texts, rounds))?;
+    let time = nanoseconds_since(rt, start);
+    Ok((common(sums.as_slice()), time))
 }

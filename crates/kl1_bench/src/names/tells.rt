@@ -1,10 +1,10 @@
 // What is told of look-ups.
 
 use crate::names::texts::names;
-use crate::names::times::{Times, times_of_run};
-use kl1_rows::hundredths;
-use std::alloc::Global;
-use std::io;
+use crate::names::times::{Looks, times_of_run};
+use crate::ratios::{put_ratio, put_whether};
+use kl1_rows::Text;
+use std::alloc::{AllocError, Global};
 use std::rt::Clock;
 use std::thread::Threads;
 
@@ -14,38 +14,59 @@ const RUNS: usize = 40;
 /// How many times each name is looked up in a run by each thread.
 const ROUNDS: usize = 100;
 
-/// Makes one short run, and tells whether all threads found the same numbers.
-pub fn tell_answer<R: Print + Threads + Clock + Sync>(rt: &R, alloc: Global) -> io::Result<()> {
+/// The least times of so many runs and one more.
+fn least<R: Threads + Clock + Sync>(
+    rt: &R,
+    alloc: Global,
+    runs: usize,
+    rounds: usize,
+) -> Result<Looks, AllocError> {
     let texts = names(alloc)?;
-    let times = times_of_run(rt, alloc, texts.as_slice(), 1)?;
-    println!(rt;
-        "1, 2 and 4 threads find each of {} names by one number: {}",
-        texts.len(),
-        times.agree
-    )
-}
-
-/// Tells a time as a ratio to that of the map, in hundredths.
-fn tell<R: Print>(rt: &R, what: &str, time: u128, map: u128) -> io::Result<()> {
-    let hundredths = hundredths(time, map);
-    println!(rt; "{what} {}.{:02}", hundredths / 100, hundredths % 100)
-}
-
-/// Makes many runs, and tells the ratios of the least times.
-pub fn tell_times<R: Print + Threads + Clock + Sync>(rt: &R, alloc: Global) -> io::Result<()> {
-    let texts = names(alloc)?;
-    let mut least = times_of_run(rt, alloc, texts.as_slice(), ROUNDS)?;
-    for _run in 1..RUNS {
-        least = least.least(times_of_run(rt, alloc, texts.as_slice(), ROUNDS)?);
+    let mut least = times_of_run(rt, alloc, texts.as_slice(), rounds)?;
+    for _run in 0..runs {
+        least = least.least(times_of_run(rt, alloc, texts.as_slice(), rounds)?);
     }
-    tell_least(rt, least)
+    Ok(least)
 }
 
-/// Tells the ratios of times.
-fn tell_least<R: Print>(rt: &R, least: Times) -> io::Result<()> {
-    println!(rt; "all find the same numbers: {}", least.agree)?;
-    println!(rt; "the time of a look-up, where 1.00 is that of a map on one thread:")?;
-    tell(rt, "by one thread", least.one, least.map)?;
-    tell(rt, "by each of two threads at once", least.two, least.map)?;
-    tell(rt, "by each of four threads at once", least.four, least.map)
+/// Makes one short run, and puts whether all threads found the same numbers.
+pub fn put_answer<R: Threads + Clock + Sync>(rt: &R, out: &mut Text) {
+    match least(rt, out.alloc, 0, 1) {
+        Ok(looks) => put_whether(
+            out,
+            b"1, 2 and 4 threads find each of 500 names by one number: ",
+            looks.times.is_right,
+            b"\n",
+        ),
+        Err(_refused) => out.fail(),
+    }
+}
+
+/// Makes many runs, and puts the ratios of the least times.
+pub fn put_times<R: Threads + Clock + Sync>(rt: &R, out: &mut Text) {
+    match least(rt, out.alloc, RUNS - 1, ROUNDS) {
+        Ok(looks) => put_least(out, looks),
+        Err(_refused) => out.fail(),
+    }
+}
+
+/// Puts the ratios of times.
+fn put_least(out: &mut Text, looks: Looks) {
+    let times = looks.times;
+    put_whether(out, b"all find the same numbers: ", times.is_right, b"\n");
+    out.put(b"the time of a look-up, where 1.00 is that of a map on one thread:");
+    put_ratio(out, b"\nby one thread ", times.one, looks.map);
+    put_ratio(
+        out,
+        b"\nby each of two threads at once ",
+        times.two,
+        looks.map,
+    );
+    put_ratio(
+        out,
+        b"\nby each of four threads at once ",
+        times.four,
+        looks.map,
+    );
+    out.put(b"\n");
 }

@@ -1,10 +1,11 @@
 // How long look-ups take: in a map on one thread, and in the shared table from one, two and four threads at once.
 
-ghost use Rattle.std.specs.Prelude.{◌≡◌, ℕ, ◌<◌, ◌≤◌, Some, length, slice_get, vec_len};
+ghost use Rattle.std.specs.Prelude.{◌≡◌, ℕ, ◌≤◌, Some, length, slice_get, vec_len};
 ghost use Rattle.kl1_atoms.specs.Seats.{IsNewSharedSeat, face_in};
 ghost use Rattle.kl1_atoms.specs.declared.atom_seat.AtomSeat.{AtomSeat};
 
-use crate::names::look_ups::{found, found_by_four, found_by_two, next_seat};
+use crate::names::look_ups::found_by;
+use crate::ratios::Times;
 use kl1_atoms::{AtomSeat, AtomTable};
 use kl1_rows::{moment, nanoseconds_since};
 use kl1_text::AtomText;
@@ -13,26 +14,19 @@ use std::collections::HashMap;
 use std::rt::Clock;
 use std::thread::Threads;
 
-/// Nanoseconds for the same look-ups: in a map on one thread, and in the table by each of one, two and four threads at once;
-/// and whether all found the same numbers.
+/// Nanoseconds for the same look-ups: in a map on one thread, and in the table; all found the same numbers, or it is not right.
 #[derive(Clone, Copy)]
-pub struct Times {
+pub struct Looks {
     pub map: u128,
-    pub one: u128,
-    pub two: u128,
-    pub four: u128,
-    pub agree: bool,
+    pub times: Times,
 }
 
-impl Times {
+impl Looks {
     /// The less of each.
-    pub fn least(self, other: Times) -> Times {
-        Times {
+    pub fn least(self, other: Looks) -> Looks {
+        Looks {
             map: self.map.min(other.map),
-            one: self.one.min(other.one),
-            two: self.two.min(other.two),
-            four: self.four.min(other.four),
-            agree: self.agree & other.agree,
+            times: self.times.least(other.times),
         }
     }
 }
@@ -43,56 +37,50 @@ pub fn times_of_run<R: Threads + Clock + Sync>(
     alloc: Global,
     texts: &[AtomText],
     rounds: usize,
-) -> Result<Times, AllocError>
+) -> Result<Looks, AllocError>
     requires { length texts.now ≤ 1000 }
 {
     let map = map_of(alloc, texts)?;
     let (map, has_all) = map_time(rt, &map, texts, rounds);
-    let (table, mut seats) = AtomTable::new(alloc, 7)?;
-    let times = times_in(rt, &table, &mut seats, texts, rounds, map);
-    Ok(Times {
-        agree: times.agree & has_all,
-        ..times
-    })
+    let mut times = times_of_table(rt, alloc, texts, rounds)?;
+    times.is_right &= has_all;
+    Ok(Looks { map, times })
 }
 
-/// The times of look-ups in a table, beside that of a map.
+/// The times of look-ups in a new table of seven accounts.
+fn times_of_table<R: Threads + Clock + Sync>(
+    rt: &R,
+    alloc: Global,
+    texts: &[AtomText],
+    rounds: usize,
+) -> Result<Times, AllocError>
+    requires { length texts.now ≤ 1000 }
+{
+    let (table, mut seats) = AtomTable::new(alloc, 7)?;
+    times_in(rt, &table, &mut seats, texts, rounds)
+}
+
+/// The times of look-ups in a table by one, two and four threads, each with its own seat.
 fn times_in<R: Threads + Clock + Sync>(
     rt: &R,
     table: &AtomTable,
     seats: &mut Vec<AtomSeat>,
     texts: &[AtomText],
     rounds: usize,
-    map: u128,
-) -> Times
+) -> Result<Times, AllocError>
     requires seats { (k : ℕ) (seat : AtomSeat) → slice_get seats.old.items k ≡ Some seat → IsNewSharedSeat table.now.table.shared.table_id seat.badge.table_id table.now.accounts (face_in seat.badge.views) seat.account k }
-    requires seven { 6 < vec_len seats.old }
+    requires seven { 7 ≤ vec_len seats.old }
     requires few { length texts.now ≤ 1000 }
 {
-    let a = next_seat(table, seats, texts);
-    let start = moment(rt);
-    let sum = found(table, a, texts, rounds);
-    let one = nanoseconds_since(rt, start);
-    let b = next_seat(table, seats, texts);
-    let c = next_seat(table, seats, texts);
-    let start = moment(rt);
-    let sum_of_two = found_by_two(rt, table, b, c, texts, rounds);
-    let two = nanoseconds_since(rt, start);
-    let d = next_seat(table, seats, texts);
-    let e = next_seat(table, seats, texts);
-    let f = next_seat(table, seats, texts);
-    let g = next_seat(table, seats, texts);
-    let start = moment(rt);
-    let sum_of_four = found_by_four(rt, table, d, e, f, g, texts, rounds);
-    let four = nanoseconds_since(rt, start);
-    let agree = (sum_of_two == sum.wrapping_mul(2)) & (sum_of_four == sum.wrapping_mul(4));
-    Times {
-        map,
+    let (first, one) = found_by(rt, table, seats, texts, rounds, 1)?;
+    let (second, two) = found_by(rt, table, seats, texts, rounds, 2)?;
+    let (third, four) = found_by(rt, table, seats, texts, rounds, 4)?;
+    Ok(Times {
         one,
         two,
         four,
-        agree,
-    }
+        is_right: (first != 0) & (second == first) & (third == first),
+    })
 }
 
 /// A map of the names' words.

@@ -69,7 +69,7 @@ impl Terms for Store<AtomNo> {
         if !self.holds(right) {
             return Ok(false);
         }
-        match Store::unify(self, left, right)? {
+        match kl1_unify::unify(self, left, right)? {
             Unified::Bound => Ok(true),
             Unified::Clash => Ok(false),
         }

@@ -1,11 +1,11 @@
 // What is told of the store beside plain Rust.
 
+use crate::ratios::{put_percent, put_whether};
 use crate::store::plain::Plain;
 use crate::store::work::{Work, is_done};
-use kl1_rows::{hundredths, moment, nanoseconds_since};
+use kl1_rows::{Text, moment, nanoseconds_since};
 use kl1_store::Store;
 use std::alloc::Global;
-use std::io;
 use std::rt::Clock;
 
 /// Who does the work.
@@ -14,6 +14,22 @@ enum By {
     Store,
     Plain,
 }
+
+/// Small work, by its names.
+const SMALL: [(&[u8], Work); 3] = [
+    (b"lists", Work::Lists(100)),
+    (b"tree", Work::Tree(100)),
+    (b"towers", Work::Towers(60)),
+];
+
+/// Work that is measured, by its names, each with the number of its rounds.
+const LARGE: [(&[u8], Work, u32); 5] = [
+    (b"lists of 100,000 elements", Work::Lists(100_000), 20),
+    (b"tree of 1,000 keys", Work::Tree(1_000), 100),
+    (b"tree of 2,000 keys", Work::Tree(2_000), 100),
+    (b"tree of 4,000 keys", Work::Tree(4_000), 100),
+    (b"towers of 60 levels", Work::Towers(60), 1_000),
+];
 
 /// Whether all could be unified in some work on new terms.
 fn is_right(alloc: Global, by: By, work: Work) -> bool {
@@ -35,57 +51,38 @@ fn least_time<R: Clock>(rt: &R, alloc: Global, by: By, work: Work, rounds: u32) 
     least
 }
 
-/// Does some small work both ways, and tells whether all could be unified.
-fn tell_answer<R: Print>(rt: &R, alloc: Global, name: &str, work: Work) -> io::Result<()> {
-    let by_store = is_right(alloc, By::Store, work);
-    let by_plain = is_right(alloc, By::Plain, work);
-    println!(rt; "{name}: store {by_store}, plain {by_plain}")
+/// Does small work both ways, and puts whether all could be unified.
+pub fn put_answers(out: &mut Text) {
+    for (name, work) in SMALL {
+        out.put(name);
+        put_whether(
+            out,
+            b": store ",
+            is_right(out.alloc, By::Store, work),
+            b", ",
+        );
+        put_whether(out, b"plain ", is_right(out.alloc, By::Plain, work), b"\n");
+    }
 }
 
-/// Does small work both ways, and tells whether all could be unified.
-pub fn tell_answers<R: Print>(rt: &R, alloc: Global) -> io::Result<()> {
-    tell_answer(rt, alloc, "lists", Work::Lists(100))?;
-    tell_answer(rt, alloc, "tree", Work::Tree(100))?;
-    tell_answer(rt, alloc, "towers", Work::Towers(60))
-}
-
-/// Measures some work both ways, and tells the ratio.
-fn tell_time<R: Print + Clock>(
-    rt: &R,
-    alloc: Global,
-    name: &str,
-    work: Work,
-    rounds: u32,
-) -> io::Result<()> {
-    let store = least_time(rt, alloc, By::Store, work, rounds);
-    let plain = least_time(rt, alloc, By::Plain, work, rounds);
-    println!(rt; "{name}: store {}% of plain", hundredths(store, plain))
+/// Measures work both ways, and puts the ratios; and how the time of a tree grows with its keys.
+pub fn put_times<R: Clock>(rt: &R, out: &mut Text) {
+    for (name, work, rounds) in LARGE {
+        let store = least_time(rt, out.alloc, By::Store, work, rounds);
+        let plain = least_time(rt, out.alloc, By::Plain, work, rounds);
+        out.put(name);
+        put_percent(out, b": store ", store, plain);
+        out.put(b" of plain\n");
+    }
+    put_growth(rt, out);
 }
 
 /// Measures how the time of a tree grows with its keys.
-fn tell_growth<R: Print + Clock>(rt: &R, alloc: Global) -> io::Result<()> {
-    let one = least_time(rt, alloc, By::Store, Work::Tree(1_000), 100);
-    let two = least_time(rt, alloc, By::Store, Work::Tree(2_000), 100);
-    let four = least_time(rt, alloc, By::Store, Work::Tree(4_000), 100);
-    println!(rt;
-        "twice the keys: {}%, then {}% of the time",
-        hundredths(two, one),
-        hundredths(four, two)
-    )
-}
-
-/// Measures work both ways, and tells the ratios.
-pub fn tell_times<R: Print + Clock>(rt: &R, alloc: Global) -> io::Result<()> {
-    tell_time(
-        rt,
-        alloc,
-        "lists of 100,000 elements",
-        Work::Lists(100_000),
-        20,
-    )?;
-    tell_time(rt, alloc, "tree of 1,000 keys", Work::Tree(1_000), 100)?;
-    tell_time(rt, alloc, "tree of 2,000 keys", Work::Tree(2_000), 100)?;
-    tell_time(rt, alloc, "tree of 4,000 keys", Work::Tree(4_000), 100)?;
-    tell_time(rt, alloc, "towers of 60 levels", Work::Towers(60), 1_000)?;
-    tell_growth(rt, alloc)
+fn put_growth<R: Clock>(rt: &R, out: &mut Text) {
+    let one = least_time(rt, out.alloc, By::Store, Work::Tree(1_000), 100);
+    let two = least_time(rt, out.alloc, By::Store, Work::Tree(2_000), 100);
+    let four = least_time(rt, out.alloc, By::Store, Work::Tree(4_000), 100);
+    put_percent(out, b"twice the keys: ", two, one);
+    put_percent(out, b", then ", four, two);
+    out.put(b" of the time\n");
 }

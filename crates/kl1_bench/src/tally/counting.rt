@@ -1,13 +1,17 @@
 // Counting, from one thread and from several at once: in the tally, and in one atomic number.
 
-ghost use Rattle.std.specs.Prelude.{◌≡◌, ◌+◌, ◌<◌, All, vec_len};
+ghost use Rattle.std.specs.Prelude.{◌≡◌, ◌+◌, ◌<◌, ◌≤◌, All, IfOk, OnOk, vec_len};
 
+use crate::ratios::are_all;
+use kl1_rows::{moment, nanoseconds_since};
 use kl1_tally::{BookSeat, ShareSeat, Tally};
+use std::alloc::{AllocError, Global};
+use std::rt::Clock;
 use std::sync::atomic::{AtomicU64, Ordering};
-use std::thread::{Threads, join};
+use std::thread::{Threads, map_indices, map_vec};
 
 /// The last of some books of a tally, and the last of some shares.
-pub fn next_seats(
+fn next_pair(
     tally: &Tally,
     books: &mut Vec<BookSeat>,
     shares: &mut Vec<ShareSeat>,
@@ -18,8 +22,7 @@ pub fn next_seats(
     ensures books_of { All (λ book. book.tally ≡ tally.now.id) books.new.items }
     ensures shares_of { All (λ share. share.tally ≡ tally.now.id) shares.new.items }
     ensures fewer { (vec_len books.new + 1 ≡ vec_len books.old) × (vec_len shares.new + 1 ≡ vec_len shares.old) }
-    ensures book { result.0.tally ≡ tally.now.id }
-    ensures share { result.1.tally ≡ tally.now.id }
+    ensures of { (result.0.tally ≡ tally.now.id) × (result.1.tally ≡ tally.now.id) }
 {
     let _ = tally;
     let Some(book) = books.pop() else {
@@ -31,8 +34,30 @@ pub fn next_seats(
     (book, share)
 }
 
+/// So many pairs of the last books and shares of a tally.
+fn next_pairs(
+    tally: &Tally,
+    books: &mut Vec<BookSeat>,
+    shares: &mut Vec<ShareSeat>,
+    count: usize,
+) -> Result<Vec<(BookSeat, ShareSeat)>, AllocError>
+    requires books_of { All (λ book. book.tally ≡ tally.now.id) books.old.items }
+    requires shares_of { All (λ share. share.tally ≡ tally.now.id) shares.old.items }
+    requires more { (count ≤ vec_len books.old) × (count ≤ vec_len shares.old) }
+    ensures books_of { OnOk result (All (λ book. book.tally ≡ tally.now.id) books.new.items) }
+    ensures shares_of { OnOk result (All (λ share. share.tally ≡ tally.now.id) shares.new.items) }
+    ensures fewer { OnOk result ((vec_len books.new + count ≡ vec_len books.old) × (vec_len shares.new + count ≡ vec_len shares.old)) }
+    ensures of { IfOk result (λ pairs. All (λ pair. (pair.0.tally ≡ tally.now.id) × (pair.1.tally ≡ tally.now.id)) pairs.items) }
+{
+    let mut pairs = Vec::new(*books.allocator());
+    for _pair in 0..count {
+        pairs.push(next_pair(tally, books, shares))?;
+    }
+    Ok(pairs)
+}
+
 /// Counts so many events in a book and a share, and answers what the book then tells.
-pub fn raised(tally: &Tally, seats: (BookSeat, ShareSeat), events: usize) -> u64
+fn raised(tally: &Tally, seats: (BookSeat, ShareSeat), events: usize) -> u64
     requires book { seats.0.tally ≡ tally.now.id }
     requires share { seats.1.tally ≡ tally.now.id }
 {
@@ -45,77 +70,45 @@ pub fn raised(tally: &Tally, seats: (BookSeat, ShareSeat), events: usize) -> u64
     book.events()
 }
 
-/// The same from two threads at once, each with its own seats: the sum of both.
-pub fn raised_by_two<R: Threads + Sync>(
+/// Whether each of so many threads counts so many events, all at once, and the nanoseconds that they take.
+pub fn raised_by<R: Threads + Clock + Sync>(
     rt: &R,
     tally: &Tally,
-    a: (BookSeat, ShareSeat),
-    b: (BookSeat, ShareSeat),
+    books: &mut Vec<BookSeat>,
+    shares: &mut Vec<ShareSeat>,
     events: usize,
-) -> u64
-    requires book_a { a.0.tally ≡ tally.now.id }
-    requires share_a { a.1.tally ≡ tally.now.id }
-    requires book_b { b.0.tally ≡ tally.now.id }
-    requires share_b { b.1.tally ≡ tally.now.id }
+    count: usize,
+) -> Result<(bool, u128), AllocError>
+    requires books_of { All (λ book. book.tally ≡ tally.now.id) books.old.items }
+    requires shares_of { All (λ share. share.tally ≡ tally.now.id) shares.old.items }
+    requires more { (count ≤ vec_len books.old) × (count ≤ vec_len shares.old) }
+    ensures books_of { OnOk result (All (λ book. book.tally ≡ tally.now.id) books.new.items) }
+    ensures shares_of { OnOk result (All (λ share. share.tally ≡ tally.now.id) shares.new.items) }
+    ensures fewer { OnOk result ((vec_len books.new + count ≡ vec_len books.old) × (vec_len shares.new + count ≡ vec_len shares.old)) }
 {
-    let (one, other) = join(rt, || raised(tally, a, events), || raised(tally, b, events));
-    one.wrapping_add(other)
-}
-
-/// The same from four threads at once.
-pub fn raised_by_four<R: Threads + Sync>(
-    rt: &R,
-    tally: &Tally,
-    a: (BookSeat, ShareSeat),
-    b: (BookSeat, ShareSeat),
-    c: (BookSeat, ShareSeat),
-    d: (BookSeat, ShareSeat),
-    events: usize,
-) -> u64
-    requires book_a { a.0.tally ≡ tally.now.id }
-    requires share_a { a.1.tally ≡ tally.now.id }
-    requires book_b { b.0.tally ≡ tally.now.id }
-    requires share_b { b.1.tally ≡ tally.now.id }
-    requires book_c { c.0.tally ≡ tally.now.id }
-    requires share_c { c.1.tally ≡ tally.now.id }
-    requires book_d { d.0.tally ≡ tally.now.id }
-    requires share_d { d.1.tally ≡ tally.now.id }
-{
-    let (two, others) = join(
-        rt,
-        || -> u64
-            requires book_a { a.0.tally ≡ tally.now.id }
-            requires share_a { a.1.tally ≡ tally.now.id }
-            requires book_b { b.0.tally ≡ tally.now.id }
-            requires share_b { b.1.tally ≡ tally.now.id }
-        { raised_by_two(rt, tally, a, b, events) },
-        || -> u64
-            requires book_c { c.0.tally ≡ tally.now.id }
-            requires share_c { c.1.tally ≡ tally.now.id }
-            requires book_d { d.0.tally ≡ tally.now.id }
-            requires share_d { d.1.tally ≡ tally.now.id }
-        { raised_by_two(rt, tally, c, d, events) },
-    );
-    two.wrapping_add(others)
+    let pairs = next_pairs(tally, books, shares, count)?;
+    let start = moment(rt);
+    let told = map_vec(rt, pairs, &|pair| raised(tally, pair, events))?;
+    let time = nanoseconds_since(rt, start);
+    Ok((are_all(told.as_slice(), events as u64), time))
 }
 
 /// Adds 1 to a number so many times.
-pub fn add(sum: &AtomicU64, times: usize) {
+fn add(sum: &AtomicU64, times: usize) {
     for _time in 0..times {
         sum.fetch_add(1, Ordering::SeqCst);
     }
 }
 
-/// The same from two threads at once.
-pub fn add_by_two<R: Threads + Sync>(rt: &R, sum: &AtomicU64, times: usize) {
-    join(rt, || add(sum, times), || add(sum, times));
-}
-
-/// The same from four threads at once.
-pub fn add_by_four<R: Threads + Sync>(rt: &R, sum: &AtomicU64, times: usize) {
-    join(
-        rt,
-        || add_by_two(rt, sum, times),
-        || add_by_two(rt, sum, times),
-    );
+/// The nanoseconds that so many threads take which all add 1 to a number so many times at once.
+pub fn added_by<R: Threads + Clock + Sync>(
+    rt: &R,
+    alloc: Global,
+    sum: &AtomicU64,
+    times: usize,
+    count: usize,
+) -> Result<u128, AllocError> {
+    let start = moment(rt);
+    map_indices(rt, alloc, count, &|_thread| add(sum, times))?;
+    Ok(nanoseconds_since(rt, start))
 }

@@ -1,9 +1,9 @@
 // What is told of counting.
 
-use crate::tally::times::{Times, times_of_sum, times_of_tally};
-use kl1_rows::hundredths;
-use std::alloc::Global;
-use std::io;
+use crate::ratios::{Times, put_ratio, put_whether};
+use crate::tally::times::{times_of_sum, times_of_tally};
+use kl1_rows::Text;
+use std::alloc::{AllocError, Global};
 use std::rt::Clock;
 use std::thread::Threads;
 
@@ -13,62 +13,69 @@ const RUNS: usize = 20;
 /// How many events each thread counts in a run.
 const EVENTS: usize = 1_000_000;
 
-/// Makes one short run, and tells whether all that was counted is there.
-pub fn tell_answer<R: Print + Threads + Clock + Sync>(rt: &R, alloc: Global) -> io::Result<()> {
-    let sum = times_of_sum(rt, 1000);
-    let tally = times_of_tally(rt, alloc, 1000)?;
-    println!(rt;
-        "1, 2 and 4 threads count 1,000 events each: tally {}, sum {}",
-        tally.is_right, sum.is_right
-    )
-}
-
-/// Makes many runs, and tells the ratios of the least times.
-pub fn tell_times<R: Print + Threads + Clock + Sync>(rt: &R, alloc: Global) -> io::Result<()> {
-    let mut sum = times_of_sum(rt, EVENTS);
-    let mut tally = times_of_tally(rt, alloc, EVENTS)?;
-    for _run in 1..RUNS {
-        sum = sum.least(times_of_sum(rt, EVENTS));
-        tally = tally.least(times_of_tally(rt, alloc, EVENTS)?);
+/// The least times of so many runs and one more, of the tally and of the sum.
+fn least<R: Threads + Clock + Sync>(
+    rt: &R,
+    alloc: Global,
+    runs: usize,
+    events: usize,
+) -> Result<(Times, Times), AllocError> {
+    let mut sum = times_of_sum(rt, alloc, events)?;
+    let mut tally = times_of_tally(rt, alloc, events)?;
+    for _run in 0..runs {
+        sum = sum.least(times_of_sum(rt, alloc, events)?);
+        tally = tally.least(times_of_tally(rt, alloc, events)?);
     }
-    tell_least(rt, tally, sum)
+    Ok((tally, sum))
 }
 
-/// Tells the ratios of times.
-fn tell_least<R: Print>(rt: &R, tally: Times, sum: Times) -> io::Result<()> {
-    println!(rt;
-        "all is counted: tally {}, sum {}",
-        tally.is_right, sum.is_right
-    )?;
-    println!(rt;
-        "the time of one event, where 1.00 is that of an addition to one number by one thread:"
-    )?;
-    tell(rt, "by one thread", tally.one, sum.one, sum.one)?;
-    tell(
-        rt,
-        "by each of two threads at once",
-        tally.two,
-        sum.two,
-        sum.one,
-    )?;
-    tell(
-        rt,
-        "by each of four threads at once",
-        tally.four,
-        sum.four,
-        sum.one,
-    )
+/// Puts whether all that was counted is there, behind a text.
+fn put_counted(out: &mut Text, before: &[u8], tally: Times, sum: Times) {
+    out.put(before);
+    put_whether(out, b": tally ", tally.is_right, b", ");
+    put_whether(out, b"sum ", sum.is_right, b"\n");
 }
 
-/// Tells two times as ratios to a third, in hundredths.
-fn tell<R: Print>(rt: &R, what: &str, tally: u128, sum: u128, one: u128) -> io::Result<()> {
-    let tally = hundredths(tally, one);
-    let sum = hundredths(sum, one);
-    println!(rt;
-        "{what}: tally {}.{:02}, sum {}.{:02}",
-        tally / 100,
-        tally % 100,
-        sum / 100,
-        sum % 100
-    )
+/// Makes one short run, and puts whether all that was counted is there.
+pub fn put_answer<R: Threads + Clock + Sync>(rt: &R, out: &mut Text) {
+    match least(rt, out.alloc, 0, 1000) {
+        Ok((tally, sum)) => {
+            put_counted(
+                out,
+                b"1, 2 and 4 threads count 1,000 events each",
+                tally,
+                sum,
+            );
+        }
+        Err(_refused) => out.fail(),
+    }
+}
+
+/// Makes many runs, and puts the ratios of the least times.
+pub fn put_times<R: Threads + Clock + Sync>(rt: &R, out: &mut Text) {
+    match least(rt, out.alloc, RUNS - 1, EVENTS) {
+        Ok((tally, sum)) => put_least(out, tally, sum),
+        Err(_refused) => out.fail(),
+    }
+}
+
+/// Puts the ratios of times.
+fn put_least(out: &mut Text, tally: Times, sum: Times) {
+    put_counted(out, b"all is counted", tally, sum);
+    out.put(
+        b"the time of one event, where 1.00 is that of an addition to one number by one thread:",
+    );
+    out.put(b"\nby one thread");
+    put_ratios(out, tally.one, sum.one, sum.one);
+    out.put(b"\nby each of two threads at once");
+    put_ratios(out, tally.two, sum.two, sum.one);
+    out.put(b"\nby each of four threads at once");
+    put_ratios(out, tally.four, sum.four, sum.one);
+    out.put(b"\n");
+}
+
+/// Puts two times as ratios to a third.
+fn put_ratios(out: &mut Text, tally: u128, sum: u128, one: u128) {
+    put_ratio(out, b": tally ", tally, one);
+    put_ratio(out, b", sum ", sum, one);
 }

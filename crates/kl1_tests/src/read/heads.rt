@@ -12,34 +12,34 @@ use kl1_clause::{Code, CompiledClause, GoalCode};
 use kl1_match::{
     Place, Scratch, Verdict, put_goal, put_goal_variables, put_instance, reserve_goal, verdict_on,
 };
+use kl1_moves::Trial;
 use kl1_read::read_goal;
 use kl1_store::{Cell, Store};
 use kl1_term::Term;
 use kl1_text::{AtomText, NameValue};
 use std::alloc::AllocError;
 
-/// Puts the second of two goals in a store that has the first.
-pub fn put_built(answer: &mut Text, front: &[u8], behind: &[u8]) {
+/// Puts the second of two goals in a new store that is given both.
+pub fn put_built(answer: &mut Text, store: &mut Store<AtomText>, front: &[u8], behind: &[u8]) {
     match read_goal(answer.alloc, front) {
-        Ok(first) => match read_goal(answer.alloc, behind) {
-            Ok(second) => {
-                let done = put_second(answer, &first, &second);
-                answer.note(done);
-            }
-            Err(_fault) => answer.fail(),
-        },
+        Ok(first) => put_behind(answer, store, &first, behind),
         Err(_fault) => answer.fail(),
     }
 }
 
-/// Puts the second of two goals in a store that has the first.
-fn put_second(answer: &mut Text, first: &Term, second: &Term) -> Result<(), AllocError> {
-    let mut store = Store::new(answer.alloc);
-    put_second_in(answer, &mut store, first, second)
+/// Puts a goal in a new store that is given another before it.
+fn put_behind(answer: &mut Text, store: &mut Store<AtomText>, first: &Term, behind: &[u8]) {
+    match read_goal(answer.alloc, behind) {
+        Ok(second) => {
+            let done = put_second(answer, store, first, &second);
+            answer.note(done);
+        }
+        Err(_fault) => answer.fail(),
+    }
 }
 
 /// Puts the second of two goals in a new store that is given both.
-fn put_second_in(
+fn put_second(
     answer: &mut Text,
     store: &mut Store<AtomText>,
     first: &Term,
@@ -72,43 +72,41 @@ pub fn cell_of(
     Ok(put_goal(store, code.names(), row, &mut scratch))
 }
 
-/// Puts the verdict of the first clause of a code on the goal behind the colon of a goal, and what belongs to a clause that
-/// accepts.
-pub fn put_verdict(answer: &mut Text, kind: Kind, code: &Code, text: &[u8]) {
+/// Puts the verdict of the first clause of a code on the goal behind the colon of a goal in a new store, and what belongs to a
+/// clause that accepts.
+pub fn put_verdict(
+    answer: &mut Text,
+    store: &mut Store<AtomText>,
+    kind: Kind,
+    code: &Code,
+    text: &[u8],
+) {
     match read_goal(answer.alloc, text) {
         Ok(goal) => {
-            let done = judge_first(answer, kind, code, &goal);
+            let done = judge_first(answer, store, kind, code, &goal);
             answer.note(done);
         }
         Err(_fault) => answer.fail(),
     }
 }
 
-/// Puts the verdict of the first clause of a code.
-fn judge_first(answer: &mut Text, kind: Kind, code: &Code, goal: &Term) -> Result<(), AllocError> {
+/// Puts the verdict of the first clause of a code on a goal in a new store.
+fn judge_first(
+    answer: &mut Text,
+    store: &mut Store<AtomText>,
+    kind: Kind,
+    code: &Code,
+    goal: &Term,
+) -> Result<(), AllocError> {
     let names = code.names();
     let Some(clause) = first_of(code) else {
         return Err(AllocError);
     };
-    judge(answer, kind, names, clause, goal)
-}
-
-/// Puts the verdict of a clause.
-fn judge(
-    answer: &mut Text,
-    kind: Kind,
-    names: &[AtomText],
-    clause: &CompiledClause,
-    goal: &Term,
-) -> Result<(), AllocError>
-    requires { IsClause names.now clause.now }
-{
-    let mut store = Store::new(answer.alloc);
-    judge_in(answer, kind, &mut store, names, clause, goal)
+    judge(answer, kind, store, names, clause, goal)
 }
 
 /// Puts the verdict of a clause on a goal in a new store.
-fn judge_in(
+fn judge(
     answer: &mut Text,
     kind: Kind,
     store: &mut Store<AtomText>,
@@ -135,26 +133,40 @@ fn put_told(
     requires clause { IsClause names.now clause.now }
     requires call { IsIn store.old.held call }
 {
-    let mut scratch = Scratch::new(answer.alloc);
-    let mut places = Vec::new(answer.alloc);
-    let mut awaited = Vec::new(answer.alloc);
+    let mut trial = Trial::new(answer.alloc);
+    put_tried(answer, kind, store, names, clause, call, &mut trial)
+}
+
+/// The same, with a trial for what is tried.
+fn put_tried(
+    answer: &mut Text,
+    kind: Kind,
+    store: &mut Store<AtomText>,
+    names: &[AtomText],
+    clause: &CompiledClause,
+    call: Cell<AtomText>,
+    trial: &mut Trial<AtomText>,
+) -> Result<(), AllocError>
+    requires clause { IsClause names.now clause.now }
+    requires call { IsIn store.old.held call }
+{
     match verdict_on(
         store,
         names,
         clause,
         call,
-        &mut scratch,
-        &mut places,
-        &mut awaited,
+        &mut trial.scratch,
+        &mut trial.places,
+        &mut trial.awaited,
     )? {
         Verdict::Rejects => answer.put(b"rejects"),
         Verdict::Suspends => {
             answer.put(b"suspends");
-            put_numbers(answer, awaited.as_slice());
+            put_numbers(answer, trial.awaited.as_slice());
         }
         Verdict::Accepts => {
             answer.put(b"accepts");
-            put_accepted(answer, kind, store, names, clause, places.as_slice())?;
+            put_accepted(answer, kind, store, names, clause, trial.places.as_slice())?;
         }
     }
     Ok(())
@@ -215,7 +227,7 @@ fn bind_first(store: &mut Store<AtomText>) -> Result<(), AllocError> {
     if !store.holds(Cell::Variable(1)) {
         return Err(AllocError);
     }
-    let _bound = store.unify(Cell::Variable(1), Cell::Integer(7))?;
+    let _bound = kl1_unify::unify(store, Cell::Variable(1), Cell::Integer(7))?;
     Ok(())
 }
 

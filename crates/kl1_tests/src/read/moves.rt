@@ -3,6 +3,7 @@
 ghost use Rattle.std.specs.Prelude.{◌<◌, length, IfSome};
 ghost use Rattle.kl1_clause.specs.Predicates.{AreSome};
 ghost use Rattle.kl1_match.specs.Instances.{AreThere};
+ghost use Rattle.kl1_moves.specs.Moves.{taken_places};
 ghost use Rattle.kl1_moves.specs.Kinds.{KindIn};
 
 use crate::read::heads::{behind_colon, cell_of, put_numbers};
@@ -16,12 +17,11 @@ use kl1_term::Term;
 use kl1_text::{AtomText, NameValue};
 use std::alloc::AllocError;
 
-/// Puts what each argument of the goal behind the colon of a goal can do, as a goal.
-pub fn put_moves(answer: &mut Text, code: &Code, text: &[u8]) {
+/// Puts what each argument of the goal behind the colon of a goal can do, as a goal, in a new store.
+pub fn put_moves(answer: &mut Text, store: &mut Store<AtomText>, code: &Code, text: &[u8]) {
     match read_goal(answer.alloc, text) {
         Ok(goal) => {
-            let mut store = Store::new(answer.alloc);
-            let done = put_each(answer, &mut store, code, &goal);
+            let done = put_each(answer, store, code, &goal);
             answer.note(done);
         }
         Err(_fault) => answer.fail(),
@@ -43,7 +43,17 @@ fn put_each(
     let mut goals = Vec::new(answer.alloc);
     push_arguments(store, structure, &mut goals)?;
     goals.reverse();
-    for goal in &goals {
+    put_all(answer, store, code, goals.as_slice())
+}
+
+/// Puts what each of some cells can do, as a goal.
+fn put_all(
+    answer: &mut Text,
+    store: &mut Store<AtomText>,
+    code: &Code,
+    goals: &[Cell<AtomText>],
+) -> Result<(), AllocError> {
+    for goal in goals {
         put_move(answer, store, code, *goal)?;
     }
     Ok(())
@@ -160,7 +170,7 @@ fn put_body(
 ) -> Result<(), AllocError>
     requires place { place < length predicate.clauses.now }
     requires predicate { AreSome predicate.names.now predicate.clauses.now }
-    requires places { AreThere store.old.held trial.old.places.items }
+    requires places { AreThere store.old.held (taken_places trial.old) }
 {
     if !store.holds(Cell::Variable(0)) {
         return Err(AllocError);

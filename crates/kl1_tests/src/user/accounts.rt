@@ -9,11 +9,11 @@ use crate::user::player::Player;
 use kl1_user::Event;
 use std::alloc::Global;
 
-/// An account, and a slow one over whole terms beside it.
+/// An account, and a slow one over whole terms beside it: at most one of each, in lists, which are dropped by calls.
 #[derive(Drop)]
 pub struct Accounts {
-    user: Option<Player>,
-    plain: Option<Plain>,
+    user: Vec<Player>,
+    plain: Vec<Plain>,
 }
 
 /// Whether an account shows the goal of each shoen as a slow one does.
@@ -41,18 +41,13 @@ fn are_alike(user: &mut Player, plain: &mut Plain, event: &Event, wanted: &[u8])
 }
 
 /// Whether an event is answered so by an account, and by a slow one where there is one.
-fn is_event_right(
-    user: &mut Player,
-    plain: &mut Option<Plain>,
-    event: &Event,
-    wanted: &[u8],
-) -> bool {
+fn is_event_right(user: &mut Player, plain: &mut [Plain], event: &Event, wanted: &[u8]) -> bool {
     if !is_answered(user, event, wanted) {
         return false;
     }
     match plain {
-        None => true,
-        Some(plain) => match are_alike(user, plain, event, wanted) {
+        [] => true,
+        [plain, ..] => match are_alike(user, plain, event, wanted) {
             Some(are_alike) => are_alike,
             None => false,
         },
@@ -63,7 +58,7 @@ fn is_event_right(
 fn is_act_right(
     alloc: Global,
     user: &mut Player,
-    plain: &mut Option<Plain>,
+    plain: &mut [Plain],
     act: &[u8],
     wanted: &[u8],
 ) -> bool {
@@ -80,40 +75,47 @@ fn is_act_right(
 
 impl Accounts {
     /// No account, before the first group.
-    pub fn none() -> Self {
+    pub fn none(alloc: Global) -> Self {
         Accounts {
-            user: None,
-            plain: None,
+            user: Vec::new(alloc),
+            plain: Vec::new(alloc),
+        }
+    }
+
+    /// Puts an account in which nothing has happened, and says whether memory sufficed.
+    fn put_user(&mut self, alloc: Global) -> bool {
+        match Player::fresh(alloc) {
+            Some(player) => self.user.push(player).is_ok(),
+            None => false,
         }
     }
 
     /// Begins anew, with an account in which nothing has happened, and a slow one beside it or none. Where memory is refused,
     /// it is tried once more.
     pub fn begin(&mut self, alloc: Global, has_plain: bool) {
-        self.user = match Player::fresh(alloc) {
-            None => Player::fresh(alloc),
-            user => user,
-        };
-        self.plain = if has_plain {
-            Some(Plain::fresh(alloc))
-        } else {
-            None
-        };
+        self.user.clear();
+        if !self.put_user(alloc) {
+            self.put_user(alloc);
+        }
+        self.plain.clear();
+        if has_plain && self.plain.push(Plain::fresh(alloc)).is_err() {
+            self.user.clear();
+        }
     }
 
     /// Whether an act comes to the answer that is wanted.
     pub fn is_right(&mut self, alloc: Global, act: &[u8], wanted: &[u8]) -> bool {
-        match &mut self.user {
-            None => false,
-            Some(user) => is_act_right(alloc, user, &mut self.plain, act, wanted),
+        match self.user.as_mut_slice() {
+            [] => false,
+            [user, ..] => is_act_right(alloc, user, self.plain.as_mut_slice(), act, wanted),
         }
     }
 
     /// Whether an act comes to the answer that is wanted, also where memory is refused once.
     pub fn is_right_again(&mut self, alloc: Global, act: &[u8], wanted: &[u8]) -> bool {
-        match &mut self.user {
-            None => false,
-            Some(user) => is_right_again(alloc, user, act, wanted),
+        match self.user.as_mut_slice() {
+            [] => false,
+            [user, ..] => is_right_again(alloc, user, act, wanted),
         }
     }
 }

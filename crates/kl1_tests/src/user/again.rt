@@ -88,17 +88,42 @@ fn event_again(alloc: Global, user: &Player, act: &[u8]) -> Option<Event> {
     }
 }
 
+/// Whether an account that answered all else like this answers an event so, once more where memory was refused and it answers as
+/// before then.
+fn is_answered_again(
+    alloc: Global,
+    user: &mut Player,
+    before: &Seen,
+    event: &Event,
+    wanted: &[u8],
+) -> bool {
+    match user.apply(event) {
+        Ok(reply) => is_reply(&reply, wanted),
+        Err(_refused) => is_as_before(alloc, user, before) && is_answered(user, event, wanted),
+    }
+}
+
+/// Whether an account answers an event so, once more where memory was refused and it answers all else as before then.
+fn is_event_done(alloc: Global, user: &mut Player, event: &Event, wanted: &[u8]) -> bool {
+    match seen_again(alloc, user) {
+        Some(before) => is_answered_again(alloc, user, &before, event, wanted),
+        None => false,
+    }
+}
+
 /// Whether an account answers an act so, once more where memory was refused and it answers all else as before then.
 fn is_done(alloc: Global, user: &mut Player, act: &[u8], wanted: &[u8]) -> bool {
-    let Some(before) = seen_again(alloc, user) else {
-        return false;
-    };
-    let Some(event) = event_again(alloc, user, act) else {
-        return false;
-    };
-    match user.apply(&event) {
-        Ok(reply) => is_reply(&reply, wanted),
-        Err(_refused) => { is_as_before(alloc, user, &before) && is_answered(user, &event, wanted) }
+    match event_again(alloc, user, act) {
+        Some(event) => is_event_done(alloc, user, &event, wanted),
+        None => false,
+    }
+}
+
+/// Whether an account answers an event so; nothing where it was refused memory.
+fn is_answered_at_once(user: &mut Player, event: &Event, wanted: &[u8]) -> Option<bool> {
+    match user.apply(event) {
+        Ok(reply) => Some(is_reply(&reply, wanted)),
+        Err(_refused) => None,
     }
 }
 
@@ -106,12 +131,13 @@ fn is_done(alloc: Global, user: &mut Player, act: &[u8], wanted: &[u8]) -> bool 
 fn is_done_instead(alloc: Global, user: &mut Player, acts: &[u8], wanted: &[u8]) -> bool {
     let (act, other) = cut(acts, b'~');
     let (wanted, other_wanted) = cut(wanted, b'~');
-    let Some(event) = event_again(alloc, user, act) else {
-        return false;
+    let answered = match event_again(alloc, user, act) {
+        Some(event) => is_answered_at_once(user, &event, wanted),
+        None => Some(false),
     };
-    match user.apply(&event) {
-        Ok(reply) => is_reply(&reply, wanted),
-        Err(_refused) => is_done(alloc, user, other, other_wanted),
+    match answered {
+        Some(is_right) => is_right,
+        None => is_done(alloc, user, other, other_wanted),
     }
 }
 

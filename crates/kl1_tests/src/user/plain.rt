@@ -7,8 +7,8 @@ use crate::user::matching::{
 };
 use crate::user::nodes::{Row, highest_in, replace_in, split_term};
 use crate::user::solving::solve;
-use kl1_read::{ClauseParts, Source, read_module};
-use kl1_term::{Node, Printer};
+use kl1_read::{Source, read_module};
+use kl1_term::{Node, Printer, Term};
 use kl1_user::Event;
 use std::alloc::{AllocError, Global};
 
@@ -87,26 +87,13 @@ fn can_step(
     }
 }
 
-/// Puts the instances of the goals in a clause's body behind others, and gives how many of their variables are new.
-fn put_body(
-    alloc: Global,
-    parts: &ClauseParts,
-    places: &[Node],
-    last: u64,
-    body: &mut Vec<Row>,
-) -> Result<u64, AllocError> {
-    let mut heads = 0;
-    for pattern in &parts.patterns {
-        heads = highest_in(pattern.nodes()).max(heads);
+/// The greatest number of a variable in terms.
+fn highest_of(terms: &[Term]) -> u64 {
+    let mut most = 0;
+    for term in terms {
+        most = highest_in(term.nodes()).max(most);
     }
-    let mut most = heads;
-    for goal in &parts.body {
-        most = highest_in(goal.nodes()).max(most);
-        let mut term = Vec::new(alloc);
-        put_instance(&mut term, goal.nodes(), heads, places, last)?;
-        body.push(term)?;
-    }
-    Ok(most.saturating_sub(heads))
+    most
 }
 
 /// The text of a term, cut as an account cuts it.
@@ -164,15 +151,21 @@ impl Plain {
         }
     }
 
+    /// A term, with the terms at the places of its first variables, of which there are so many, and with the next variables in
+    /// place of the others.
+    fn instance(&self, nodes: &[Node], heads: u64, places: &[Node]) -> Result<Row, AllocError> {
+        let mut row = Vec::new(self.alloc);
+        put_instance(&mut row, nodes, heads, places, self.last_variable)?;
+        Ok(row)
+    }
+
     /// Starts a goal that may be started, and gives its shoen's number. The shoen's monitor, its control stream and its report
     /// stream take numbers, and so does its first report.
     fn start(&mut self, priority: u64, goal: &[Node]) -> Result<u64, AllocError> {
-        let mut term = Vec::new(self.alloc);
-        put_instance(&mut term, goal, 0, &[], self.last_variable)?;
-        let mut copy = Vec::new(self.alloc);
-        copy.extend_from_slice(term.as_slice())?;
-        self.take_variables(highest_in(goal).saturating_add(3));
+        let copy = self.instance(goal, 0, &[])?;
         self.shoens.push(copy)?;
+        let term = self.instance(goal, 0, &[])?;
+        self.take_variables(highest_in(goal).saturating_add(3));
         self.last_goal = self.last_goal.saturating_add(1);
         let shoen = self.count();
         self.put_goal(term, shoen, priority)?;
@@ -245,17 +238,32 @@ impl Plain {
         }
     }
 
+    /// The instances of the goals in the body of the clause of a number, and how many of their variables are new.
+    fn body_of(&self, goal: &PlainGoal, clause: u64, places: &[Node]) -> Option<(Vec<Row>, u64)> {
+        let parts = clause_of(self.modules.as_slice(), goal.term.as_slice(), clause)?;
+        let heads = highest_of(parts.patterns.as_slice());
+        let most = highest_of(parts.body.as_slice());
+        let mut body = Vec::new(self.alloc);
+        for term in &parts.body {
+            body.push(self.instance(term.nodes(), heads, places).ok()?)
+                .ok()?;
+        }
+        Some((body, most.saturating_sub(heads)))
+    }
+
+    /// Puts terms behind the goals, as goals of a shoen with a priority.
+    fn put_goals(&mut self, terms: Vec<Row>, shoen: u64, priority: u64) -> Result<(), AllocError> {
+        for term in terms {
+            self.put_goal(term, shoen, priority)?;
+        }
+        Ok(())
+    }
+
     /// Puts the goals of a clause's body behind the others, in place of a goal that was removed.
     fn commit(&mut self, goal: &PlainGoal, clause: u64, places: &[Node]) -> Option<()> {
-        let mut body = Vec::new(self.alloc);
-        let parts = clause_of(self.modules.as_slice(), goal.term.as_slice(), clause)?;
-        let last = self.last_variable;
-        let count = put_body(self.alloc, parts, places, last, &mut body).ok()?;
+        let (body, count) = self.body_of(goal, clause, places)?;
         self.take_variables(count);
-        for term in body {
-            self.put_goal(term, goal.shoen, goal.priority).ok()?;
-        }
-        Some(())
+        self.put_goals(body, goal.shoen, goal.priority).ok()
     }
 
     /// Whether a shoen has a goal.
@@ -282,23 +290,46 @@ impl Plain {
         Some(())
     }
 
+    /// The place of the goal of a number; behind all goals, where there is none.
+    fn place_of(&self, number: u64) -> usize {
+        for place in 0..self.goals.len() {
+            if self.goals[place].number == number {
+                return place;
+            }
+        }
+        self.goals.len()
+    }
+
+    /// Whether the goal at a place can step by the clause of a number; the term at the place of each of its variables is put
+    /// down.
+    fn can_step_at(&self, place: usize, clause: u64, places: &mut Row) -> Option<bool> {
+        match self.goals.get(place) {
+            None => Some(false),
+            Some(goal) => {
+                let modules = self.modules.as_slice();
+                can_step(self.alloc, modules, goal.term.as_slice(), clause, places)
+            }
+        }
+    }
+
+    /// Reduces the goal at a place by the clause of a number, by which it can step.
+    fn step_at(&mut self, place: usize, clause: u64, places: &[Node]) -> Option<()> {
+        if place >= self.goals.len() {
+            return None;
+        }
+        let goal = self.goals.remove(place);
+        self.step(&goal, clause, places)
+    }
+
     /// Reduces the goal of a number, where it can step by the clause of a number, and says whether it can.
     fn reduce(&mut self, number: u64, clause: u64) -> Option<bool> {
+        let place = self.place_of(number);
         let mut places = Vec::new(self.alloc);
-        for place in 0..self.goals.len() {
-            if place >= self.goals.len() || self.goals[place].number != number {
-                continue;
-            }
-            let modules = self.modules.as_slice();
-            let term = self.goals[place].term.as_slice();
-            if !can_step(self.alloc, modules, term, clause, &mut places)? {
-                return Some(false);
-            }
-            let goal = self.goals.remove(place);
-            self.step(&goal, clause, places.as_slice())?;
-            return Some(true);
+        if !self.can_step_at(place, clause, &mut places)? {
+            return Some(false);
         }
-        Some(false)
+        self.step_at(place, clause, places.as_slice())?;
+        Some(true)
     }
 
     /// Whether an event does what is wanted. A load is done, a start opens the shoen of the number that is wanted, and a goal

@@ -1,5 +1,8 @@
 // An account over a table of names of its own.
 
+ghost use Rattle.std.specs.Prelude.{◌≡◌, []};
+ghost use Rattle.kl1_atoms.specs.Plain.{IsSeatOf};
+
 use crate::seats::names_of_one;
 use kl1_atoms::{PlainSeat, PlainTable};
 use kl1_user::{AccountName, ClauseNo, Event, GoalNo, Reply, UserState};
@@ -29,17 +32,21 @@ impl Player {
     /// An account in which nothing has happened.
     pub fn fresh(alloc: Global) -> Option<Self> {
         let name = AccountName::read(b"alice")?;
-        match Player::named(alloc, name) {
-            Ok(player) => Some(player),
+        match names_of_one(alloc) {
+            Ok((names, seat)) => Player::seated(alloc, name, names, seat),
             Err(_refused) => None,
         }
     }
 
-    /// An account of this name in which nothing has happened.
-    fn named(alloc: Global, name: AccountName) -> Result<Self, AllocError> {
-        let user = UserState::fresh(alloc, name)?;
-        let (names, seat) = names_of_one(alloc)?;
-        Ok(Player { user, names, seat })
+    /// An account of this name in which nothing has happened, over a table of names whose seat knows the built-in names alone.
+    fn seated(alloc: Global, name: AccountName, names: PlainTable, seat: PlainSeat) -> Option<Self>
+        requires of { IsSeatOf names.places.items seat.account seat.used seat.known.items }
+        requires nothing { seat.known.items ≡ [] }
+    {
+        match UserState::fresh(alloc, name) {
+            Ok(user) => Some(Player { user, names, seat }),
+            Err(_refused) => None,
+        }
     }
 
     /// Does an event to the account.

@@ -7,12 +7,13 @@ use Rattle.kl1_account.specs.Kept.{IsShoenIn}
 use Rattle.kl1_account.specs.Moving.{Moves}
 use Rattle.kl1_account.proofs.States.{shoen_grown}
 use Rattle.kl1_account.proofs.Commits.{moves_by_commit, moves_by_failure, moves_by_unification, always_ok}
+use Rattle.kl1_moves.specs.Moves.{taken_places}
 use Rattle.kl1_account.proofs.moving.do_move.Goals as goal
 
 pub returns-in-Commits-clause-ok : goal.returns-in-Commits-clause-ok
 returns-in-Commits-clause-ok c =
     let p = c.args.predicate in
-    let ts = c.args.trial.now.places.items in
+    let ts = taken_places c.args.trial.now in
     let h = c.args.store.now.held in
     let P : Move CellName → Type 0 = λ m. Moves p m ts c.args.cell h c.commit.new.store.held c.args.draft.now c.commit.new.draft in
     on_ok_weaker c.commit.result (λ ok. subst P (sym c.in-Commits.is) (moves_by_commit p c.in-Commits.place ts c.args.cell h c.commit.new.store.held c.args.draft.now c.commit.new.draft ok)) c.commit.ensures.ok
@@ -25,7 +26,7 @@ returns-in-Commits-clause-shoen c =
 pub returns-in-Fails-clause-ok : goal.returns-in-Fails-clause-ok
 returns-in-Fails-clause-ok c =
     let p = c.args.predicate in
-    let ts = c.args.trial.now.places.items in
+    let ts = taken_places c.args.trial.now in
     let h = c.args.store.now.held in
     let P : Move CellName → Type 0 = λ m. Moves p m ts c.args.cell h c.raise.new.store.held c.args.draft.now c.raise.new.draft in
     on_ok_weaker c.raise.result (λ ok. subst P (sym c.in-Fails.is) (moves_by_failure p ts c.args.cell h c.raise.new.store.held c.args.draft.now c.raise.new.draft ok)) c.raise.ensures.ok
@@ -33,7 +34,7 @@ returns-in-Fails-clause-ok c =
 pub returns-in-Unifies-clause-ok : goal.returns-in-Unifies-clause-ok
 returns-in-Unifies-clause-ok c =
     let p = c.args.predicate in
-    let ts = c.args.trial.now.places.items in
+    let ts = taken_places c.args.trial.now in
     let h = c.args.store.now.held in
     let P : Move CellName → Type 0 = λ m. Moves p m ts c.args.cell h c.unify.new.store.held c.args.draft.now c.unify.new.draft in
     on_ok_weaker c.unify.result (λ ok. subst P (sym c.in-Unifies.is) (moves_by_unification p ts c.args.cell c.in-Unifies.left c.in-Unifies.right h c.unify.new.store.held c.args.draft.now c.unify.new.draft ok)) c.unify.ensures.ok

@@ -4,7 +4,7 @@ use Rattle.kl1_text.specs.declared.cell_name.CellName.{CellName}
 use Rattle.kl1_store.proofs.Grows.{Grown-trans}
 use Rattle.kl1_shoen.specs.declared.shoen.Shoen.{Shoen}
 use Rattle.kl1_moves.specs.declared.moves.Move.{Move}
-use Rattle.kl1_moves.specs.Moves.{MovesAs}
+use Rattle.kl1_moves.specs.Moves.{taken_places, MovesAs}
 use Rattle.kl1_modules.specs.Finding.{contents}
 use Rattle.kl1_account.specs.Account.{meaning}
 use Rattle.kl1_account.specs.Kept.{IsShoenIn}
@@ -40,7 +40,7 @@ returns-in_default-2-clause-ok c = λ own names.
     let a = account_at own names h c.args.goals.now.goals c.args.shoens.now.shoens ms c.args.last_goal c.args.entries in
     refused_move a c.args.store.now c.args.number c.args.clause c.in-Some.goal x (sym c.if-not-are_numbers.ensures) (sym c.in-Some.ensures.goal) c.in-Reduces.is
     (λ f knows.
-    let P : Option (Move CellName) → Type 0 = λ o. MovesAs f h (contents ms) (meaning f h x) c.args.clause c.predicate_of-predicate.result c.move_of.new.trial.places.items o in
+    let P : Option (Move CellName) → Type 0 = λ o. MovesAs f h (contents ms) (meaning f h x) c.args.clause c.predicate_of-predicate.result (taken_places c.move_of.new.trial) o in
     let k = c.kind_of-kind.ensures.kind f knows.reads in
     subst P c.in_default-2.is (c.in_ok-made.ensures.moves f knows.reads (contents ms) (meaning f h x) k (c.predicate_of-predicate.ensures.has f knows h (meaning f h x) k)))
 
@@ -50,9 +50,9 @@ returns-then-entries-ge-MOST_ENTRIES-clause-ok c = λ own names.
     let x = c.in-Reduces.cell in
     let ms = c.args.modules.now.loaded in
     let a = account_at own names h c.args.goals.now.goals c.args.shoens.now.shoens ms c.args.last_goal c.args.entries in
-    refused_full a c.args.store.now c.args.number c.args.clause c.in-Some.goal x c.predicate_of-predicate.result c.move_of.new.trial.places.items c.in-Some-2.made (sym c.if-not-are_numbers.ensures) (sym c.in-Some.ensures.goal) c.in-Reduces.is
+    refused_full a c.args.store.now c.args.number c.args.clause c.in-Some.goal x c.predicate_of-predicate.result (taken_places c.move_of.new.trial) c.in-Some-2.made (sym c.if-not-are_numbers.ensures) (sym c.in-Some.ensures.goal) c.in-Reduces.is
     (λ f knows.
-    let P : Option (Move CellName) → Type 0 = λ o. MovesAs f h (contents ms) (meaning f h x) c.args.clause c.predicate_of-predicate.result c.move_of.new.trial.places.items o in
+    let P : Option (Move CellName) → Type 0 = λ o. MovesAs f h (contents ms) (meaning f h x) c.args.clause c.predicate_of-predicate.result (taken_places c.move_of.new.trial) o in
     let k = c.kind_of-kind.ensures.kind f knows.reads in
     subst P c.in-Some-2.is (c.in_ok-made.ensures.moves f knows.reads (contents ms) (meaning f h x) k (c.predicate_of-predicate.ensures.has f knows h (meaning f h x) k)))
     c.if-entries-ge-MOST_ENTRIES.true
@@ -79,7 +79,7 @@ finish-requires c =
     let gs = c.args.goals.now.goals in
     let g = c.in-Some.goal in
     let p = c.predicate_of-predicate.result in
-    let places = c.move_of.new.trial.places.items in
+    let places = taken_places c.move_of.new.trial in
     let made = c.in-Some-2.made in
     let sh = c.in-Some-lend.shoen.now in
     let before = c.begin.new.draft in
@@ -108,7 +108,7 @@ returns-clause-ok c = λ own names.
     let gs = c.args.goals.now.goals in
     let g = c.in-Some.goal in
     let p = c.predicate_of-predicate.result in
-    let places = c.move_of.new.trial.places.items in
+    let places = taken_places c.move_of.new.trial in
     let made = c.in-Some-2.made in
     let sh = c.in-Some-lend.shoen.now in
     let before = c.begin.new.draft in

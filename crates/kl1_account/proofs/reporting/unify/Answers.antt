@@ -9,12 +9,12 @@ use Rattle.kl1_account.proofs.reporting.unify.Goals as goal
 
 pub returns-in-Bound-clause-ok : goal.returns-in-Bound-clause-ok
 returns-in-Bound-clause-ok c =
-    λ ms goals i. solved_turns ms c.args.store.now.held c.unify.new.self.held (made_of goals c.args.draft.now) c.args.goal c.args.left c.args.right i (rw c.in-Bound.is at c.in_ok-unify.ensures.ok)
+    λ ms goals i. solved_turns ms c.args.store.now.held c.unify.new.store.held (made_of goals c.args.draft.now) c.args.goal c.args.left c.args.right i (rw c.in-Bound.is at c.in_ok-unify.ensures.ok)
 
 pub returns-in-Clash-clause-ok : goal.returns-in-Clash-clause-ok
 returns-in-Clash-clause-ok c =
     let h = c.args.store.now.held in
-    let mid = c.unify.new.self.held in
+    let mid = c.unify.new.store.held in
     let u = rw c.in-Clash.is at c.in_ok-unify.ensures.ok in
     on_ok_weaker c.raise.result
     (λ ok ms goals i.

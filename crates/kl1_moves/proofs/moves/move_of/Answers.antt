@@ -1,13 +1,14 @@
 use Rattle.std.proofs.lemmas.Result.{IfOk-weaker}
 use Rattle.kl1_moves.proofs.Taking.{call_fails_as, call_commits_as}
+use Rattle.kl1_moves.specs.Moves.{taken_places}
 use Rattle.kl1_moves.proofs.moves.move_of.Goals as goal
 
 pub returns-then-clause-eq0-clause-moves : goal.returns-then-clause-eq0-clause-moves
 returns-then-clause-eq0-clause-moves g c =
     IfOk-weaker c.failing.result _ _ (λ found e. λ f r modules t k p.
-    call_fails_as f c.args.store.now.held modules t c.args.kind c.in-Calls.call c.args.clause c.args.predicate c.failing.new.trial.places.items found c.in-Calls.is c.if-clause-eq0.true (e f r) k p) c.failing.ensures.fails
+    call_fails_as f c.args.store.now.held modules t c.args.kind c.in-Calls.call c.args.clause c.args.predicate (taken_places c.failing.new.trial) found c.in-Calls.is c.if-clause-eq0.true (e f r) k p) c.failing.ensures.fails
 
 pub returns-else-clause-eq0-clause-moves : goal.returns-else-clause-eq0-clause-moves
 returns-else-clause-eq0-clause-moves g c =
     IfOk-weaker c.committing.result _ _ (λ found e. λ f r modules t k p.
-    call_commits_as f c.args.store.now.held modules t c.args.kind c.in-Calls.call c.args.clause c.args.predicate c.committing.new.trial.places.items found c.in-Calls.is c.if-clause-eq0.false (e f r) k p) c.committing.ensures.commits
+    call_commits_as f c.args.store.now.held modules t c.args.kind c.in-Calls.call c.args.clause c.args.predicate (taken_places c.committing.new.trial) found c.in-Calls.is c.if-clause-eq0.false (e f r) k p) c.committing.ensures.commits

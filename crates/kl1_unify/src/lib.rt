@@ -1,0 +1,6 @@
+//! Unification on a store, all or nothing.
+#![tactic(auto)]
+
+mod unification;
+
+pub use unification::unify;
