@@ -32,6 +32,6 @@ pub use instances::{put_instance, put_kept_instance};
 pub use name_in::name_at;
 pub use place::Place;
 pub use scratch::Scratch;
-pub use taking::is_candidate;
+pub use taking::{is_candidate, takes_in_order};
 pub use verdict::Verdict;
 pub use verdicts::verdict_on;

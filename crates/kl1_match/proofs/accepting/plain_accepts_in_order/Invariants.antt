@@ -1,4 +1,4 @@
-use Rattle.std.proofs.Common.{◌≡◌, ◌≤◌, ◌+◌, ◌<◌, [], true, length, ◌-◌, vec_len, vec_capacity}
+use Rattle.std.proofs.Common.{◌≤◌, ◌+◌, ◌<◌, [], true, length, ◌-◌, vec_len, vec_capacity}
 use Rattle.kl1_match.specs.Spans.{cells_left, IsSpan, AreSpans}
 use Rattle.kl1_match.specs.Kept.{places_behind}
 use Rattle.kl1_match.proofs.Trying.{GivesKept}
