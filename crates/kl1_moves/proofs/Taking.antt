@@ -230,13 +230,6 @@ goal_assigns_as {N = N} f h modules t k a b x n p places found e z own value is 
     let Q : Option (Move N) → Type 0 = λ o. MovesAs f h modules t n p places o in
     subst Q (sym own) (assigned_as f h modules t n p places a b x (subst P e is) z value)
 
--- an expression in a goal that makes a term what it comes to
-pub expression_stands : {N : Type 0} (f : N → List ℕ) (h : Held N) (modules : List Module) (t : Term) (k : Kind N) (a b : Cell N) (given x : Evaluated ℕ) (awaited : List ℕ) → k ≡ kind.Assigns a b → given ≡ x → evaluated_of (λ v. v) given ≡ evaluated (term_of f h b) → awaited ≡ waits_by x →
-    IsKind f h t k → StandsAs modules t awaited (clause_by x)
-expression_stands {N = N} f h modules t k a b given x awaited e own value w is =
-    let P : Kind N → Type 0 = λ y. IsKind f h t y in
-    assignment_stands f h modules t a b x awaited (subst P e is) (ap (evaluated_of (λ (v : ℕ). v)) (sym own) ∙ value) w
-
 pub kind_stands : {N : Type 0} (built : BuiltIn → N) (f : N → List ℕ) (h : Held N) (modules : List Module) (t : Term) (k : Kind N) (c : Call N) (goal : Cell N) (p : Predicate N) (before after : List ℕ) (choice : Option ℕ) → Reads built f → k ≡ kind.Calls c → goal ≡ cell_of c → before ≡ [] →
     IsChoice built p.names.now p.clauses.now h goal before after choice → IsKind f h t k → HasPredicate f h modules k p → StandsAs modules t after choice
 kind_stands {N = N} built f h modules t k c goal p before after choice r e own empty chosen is has =

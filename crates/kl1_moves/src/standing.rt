@@ -47,8 +47,8 @@ pub fn standing_of<N: NameValue>(
         Kind::Assigns(_, right) => {
             match evaluate_cell(store, right, &mut trial.guard)? {
                 Evaluated::ComesTo(_) => Ok(Some(0)),
-                Evaluated::Awaits(variable) => {
-                    trial.awaited.push(variable)?;
+                Evaluated::Awaits(first) => {
+                    trial.awaited.push(first)?;
                     Ok(None)
                 }
                 Evaluated::IsNoExpression => Ok(Some(0)),

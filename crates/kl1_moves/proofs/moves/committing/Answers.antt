@@ -1,4 +1,4 @@
-use Rattle.std.proofs.Common.{◌-◌, ◌<◌, length, true, arith, rules, IsTrue}
+use Rattle.std.proofs.Common.{true, arith, rules, IsTrue}
 use Rattle.kl1_match.specs.Kept.{kept_places}
 use Rattle.kl1_moves.proofs.Taking.{are_clauses, none_left, judged}
 use Rattle.kl1_moves.proofs.moves.committing.Goals as goal
