@@ -57,6 +57,7 @@ fn calls_same(call: Call<CellName>, kind: Kind<CellName>) -> bool
 
 /// The clauses of the predicate of a goal of a kind, where those of goals of another kind are known: of the same predicate they
 /// aren't looked up again.
+#[inline(always)]
 fn predicate_near<'a>(
     modules: &'a Modules,
     known: Kind<CellName>,

@@ -150,7 +150,7 @@ impl<N: NameValue> Store<N> {
     }
 
     /// The cell that a cell stands for: what its variable was bound to, and so on.
-    #[inline]
+    #[inline(always)]
     pub fn walk(&self, cell: Cell<N>) -> Cell<N>
         requires { IsIn self.now.held cell }
         ensures inside { IsIn self.now.held result }
