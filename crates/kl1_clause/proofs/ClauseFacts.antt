@@ -1,19 +1,20 @@
 -- Compiled clauses while names are added, and what they mean.
-use Rattle.std.proofs.Common.{◌≡◌, ℕ, ◌+◌, ◌<◌, max, List, [], ◌∷◌, ◌++◌, length, map, take, get_or, refl, sym, ap, subst, ◌∙◌, arith}
-use Rattle.std.proofs.lemmas.List.{take_more}
-use Rattle.kl1_model.specs.Term.{Term, Terms, terms_of, list_of, count_of}
+use Rattle.std.proofs.Common.{◌≡◌, ℕ, List, [], ◌∷◌, ◌++◌, length, map, refl, sym, ap, subst, ◌∙◌}
+use Rattle.std.specs.Prelude.{IsTrue}
+use Rattle.kl1_model.specs.Term.{Terms, terms_of, list_of, count_of}
 use Rattle.kl1_model.specs.TermCode.{NodeCode, nodes_of_all}
-use Rattle.kl1_model.specs.Meaning.{highest, highest_in}
-use Rattle.kl1_model.specs.Module.{Clause}
+use Rattle.kl1_model.specs.Module.{BodyGoal, Clause, goals_of}
 use Rattle.kl1_model.specs.Instance.{head_variables, fresh_variables}
 use Rattle.kl1_model.specs.State.{names_in, names_of_clause}
+use Rattle.kl1_model.specs.WaitsLaws.{is_guarded}
 use Rattle.kl1_term.proofs.Lent.{row_is, list_of-terms_of, terms_of-list_of}
 use Rattle.kl1_clause.specs.declared.compiled_clause.CompiledClause.{CompiledClause}
 use Rattle.kl1_clause.specs.declared.instruction.Instruction.{Instruction}
 use Rattle.kl1_clause.specs.declared.name.Name.{Name}
 use Rattle.kl1_clause.specs.NameList.{with_text, with_texts}
 use Rattle.kl1_clause.specs.Instructions.{text_in, IsPlaced, IsRowOf, code_in}
-use Rattle.kl1_clause.specs.Clauses.{clause_in, terms_in, IsCompiled, AreCompiled}
+use Rattle.kl1_clause.specs.Plain.{IsPlain}
+use Rattle.kl1_clause.specs.Clauses.{priorities_of, goals_with, clause_in, terms_in, IsCompiled, AreCompiled}
 use Rattle.kl1_clause.proofs.Growth.{Grows, joined, one_grows, all_grow, with_more, with_both, name_stays, row_stays}
 
 -- names with others behind them, where it is known which
@@ -45,9 +46,13 @@ clause_stays names new c d g i =
       count = i.count;
       patterns = row_of_stays names new c.patterns.items (nodes_of_all d.patterns) g i.patterns;
       tests = row_of_stays names new c.tests.items (nodes_of_all (terms_of d.tests)) g i.tests;
-      goals = row_of_stays names new c.goals.items (nodes_of_all (terms_of d.body)) g i.goals;
+      section = i.section;
+      goals = row_of_stays names new c.goals.items (nodes_of_all (terms_of (goals_of d.body))) g i.goals;
+      priorities = i.priorities;
       head_variables = i.head_variables;
       fresh_variables = i.fresh_variables;
+      plain = i.plain;
+      guarded = i.guarded;
     }
 
 pub clauses_stay : (names new : List (List ℕ)) (cs : List CompiledClause) (ds : List Clause) → Grows names new → AreCompiled names cs ds → AreCompiled new cs ds
@@ -67,16 +72,22 @@ clauses_push names (b ∷ cs) (e ∷ ds) c d a i = (a.0, clauses_push names cs d
 pub read_row : (names : List (List ℕ)) (row : List Instruction) (ts : Terms) → IsRowOf names row (nodes_of_all ts) → terms_in names row ≡ list_of ts
 read_row names row ts r = row_is (map (code_in names) row) ts r.nodes_are
 
+-- goals with their priorities are the goals again
+goals_again : (goals : List BodyGoal) → goals_with (goals_of goals) (priorities_of goals) ≡ goals
+goals_again [] = refl
+goals_again (g ∷ goals) = ap (λ gs. g ∷ gs) (goals_again goals)
+
 -- a compiled clause means the clause that it is
 pub clause_means : (names : List (List ℕ)) (c : CompiledClause) (d : Clause) → IsCompiled names c d → clause_in names c ≡ d
 clause_means names c d i =
     let patterns : terms_of (terms_in names c.patterns.items) ≡ d.patterns = ap terms_of (read_row names c.patterns.items d.patterns i.patterns) ∙ terms_of-list_of d.patterns in
     let tests : terms_in names c.tests.items ≡ d.tests = read_row names c.tests.items (terms_of d.tests) i.tests ∙ list_of-terms_of d.tests in
-    let body : terms_in names c.goals.items ≡ d.body = read_row names c.goals.items (terms_of d.body) i.goals ∙ list_of-terms_of d.body in
-    clause_eq (clause_in names c) d i.name patterns tests body
+    let goals : terms_in names c.goals.items ≡ goals_of d.body = read_row names c.goals.items (terms_of (goals_of d.body)) i.goals ∙ list_of-terms_of (goals_of d.body) in
+    let body : goals_with (terms_in names c.goals.items) c.priorities.items ≡ d.body = ap (λ ts. goals_with ts c.priorities.items) goals ∙ ap (goals_with (goals_of d.body)) i.priorities ∙ goals_again d.body in
+    clause_eq (clause_in names c) d i.name patterns tests i.section body
   where
-    clause_eq : (a b : Clause) → a.name ≡ b.name → a.patterns ≡ b.patterns → a.tests ≡ b.tests → a.body ≡ b.body → a ≡ b
-    clause_eq a b p q r s = λ x. record { name = p x; patterns = q x; tests = r x; body = s x }
+    clause_eq : (a b : Clause) → a.name ≡ b.name → a.patterns ≡ b.patterns → a.tests ≡ b.tests → a.section ≡ b.section → a.body ≡ b.body → a ≡ b
+    clause_eq a b p q r k s = λ x. record { name = p x; patterns = q x; tests = r x; section = k x; body = s x }
 
 -- compiled clauses mean the clauses that they are
 pub clauses_mean : (names : List (List ℕ)) (cs : List CompiledClause) (ds : List Clause) → AreCompiled names cs ds → map (clause_in names) cs ≡ ds
@@ -86,30 +97,21 @@ clauses_mean names (c ∷ cs) [] a = absurd a
 clauses_mean names (c ∷ cs) (d ∷ ds) a =
     ap (λ (x : Clause). x ∷ map (clause_in names) cs) (clause_means names c d a.0) ∙ ap (λ (x : List Clause). d ∷ x) (clauses_mean names cs ds a.1)
 
--- the greatest variable of terms with one more behind
-pub highest_push : (ts : List Term) (t : Term) → highest_in (terms_of (ts ++ t ∷ [])) ≡ max (highest_in (terms_of ts)) (highest t)
-highest_push [] t = omega arith
-highest_push (u ∷ us) t = omega (arith, highest_push us t)
-
-pub highest_next : (terms : List Term) (i : ℕ) (t : Term) → i < length terms → t ≡ get_or terms i t → highest_in (terms_of (take (i + 1) terms)) ≡ max (highest_in (terms_of (take i terms))) (highest t)
-highest_next terms i t within is =
-    ap (λ (x : List Term). highest_in (terms_of x)) (take_more terms i t within ∙ ap (λ (x : Term). take i terms ++ x ∷ []) (sym is)) ∙ highest_push (take i terms) t
-
 -- the names of a clause, put one part after another
 pub record Parted (names a b c d : List (List ℕ)) (clause : Clause) : Type 0 where
   pub name : a ≡ with_text names clause.name
   pub patterns : b ≡ with_texts a (names_in clause.patterns)
   pub tests : c ≡ with_texts b (names_in (terms_of clause.tests))
-  pub body : d ≡ with_texts c (names_in (terms_of clause.body))
+  pub body : d ≡ with_texts c (names_in (terms_of (goals_of clause.body)))
 
 pub parts_put : (names a b c d : List (List ℕ)) (clause : Clause) → Parted names a b c d clause → d ≡ with_texts names (names_of_clause clause)
 parts_put names a b c d clause p =
     p.body
-    ∙ (ap (λ (x : List (List ℕ)). with_texts x (names_in (terms_of clause.body)))
+    ∙ (ap (λ (x : List (List ℕ)). with_texts x (names_in (terms_of (goals_of clause.body))))
     (p.tests ∙ (ap (λ (x : List (List ℕ)). with_texts x (names_in (terms_of clause.tests)))
     (p.patterns ∙ (ap (λ (x : List (List ℕ)). with_texts x (names_in clause.patterns)) p.name ∙ sym (with_more names clause.name (names_in clause.patterns))))
     ∙ sym (with_both names (clause.name ∷ names_in clause.patterns) (names_in (terms_of clause.tests)))))
-    ∙ sym (with_both names (clause.name ∷ names_in clause.patterns ++ names_in (terms_of clause.tests)) (names_in (terms_of clause.body))))
+    ∙ sym (with_both names (clause.name ∷ names_in clause.patterns ++ names_in (terms_of clause.tests)) (names_in (terms_of (goals_of clause.body)))))
 
 -- the parts of a clause compiled one after another
 pub record IsMade (names a b c d : List (List ℕ)) (compiled : CompiledClause) (clause : Clause) : Type 0 where
@@ -118,15 +120,19 @@ pub record IsMade (names a b c d : List (List ℕ)) (compiled : CompiledClause) 
   pub name : text_in a compiled.name ≡ clause.name
   pub patterns : IsRowOf b compiled.patterns.items (nodes_of_all clause.patterns)
   pub tests : IsRowOf c compiled.tests.items (nodes_of_all (terms_of clause.tests))
-  pub goals : IsRowOf d compiled.goals.items (nodes_of_all (terms_of clause.body))
+  pub section : compiled.section ≡ clause.section
+  pub goals : IsRowOf d compiled.goals.items (nodes_of_all (terms_of (goals_of clause.body)))
+  pub priorities : compiled.priorities.items ≡ priorities_of clause.body
   pub count : compiled.count ≡ count_of clause.patterns
   pub head_variables : compiled.head_variables ≡ head_variables clause
   pub fresh_variables : compiled.fresh_variables ≡ fresh_variables clause
+  pub plain : IsTrue compiled.is_plain → IsPlain compiled.patterns.items compiled.tests.items
+  pub guarded : IsTrue (is_guarded clause)
 
 pub made : (names a b c d : List (List ℕ)) (compiled : CompiledClause) (clause : Clause) → IsMade names a b c d compiled clause → (d ≡ with_texts names (names_of_clause clause)) × IsCompiled d compiled clause
 made names a b c d compiled clause m =
     let to_c = grown_by b c (names_in (terms_of clause.tests)) m.parted.tests in
-    let to_d = grown_by c d (names_in (terms_of clause.body)) m.parted.body in
+    let to_d = grown_by c d (names_in (terms_of (goals_of clause.body))) m.parted.body in
     let to_b = grown_by a b (names_in clause.patterns) m.parted.patterns in
     let from_a = joined to_b (joined to_c to_d) in
     let from_b = joined to_c to_d in
@@ -138,8 +144,12 @@ made names a b c d compiled clause m =
         count = m.count;
         patterns = row_of_stays b d compiled.patterns.items (nodes_of_all clause.patterns) from_b m.patterns;
         tests = row_of_stays c d compiled.tests.items (nodes_of_all (terms_of clause.tests)) to_d m.tests;
+        section = m.section;
         goals = m.goals;
+        priorities = m.priorities;
         head_variables = m.head_variables;
         fresh_variables = m.fresh_variables;
+        plain = m.plain;
+        guarded = m.guarded;
       },
     )

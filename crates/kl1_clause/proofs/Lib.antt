@@ -8,3 +8,5 @@ pub mod GoalCodes
 pub mod Predicates
 pub mod Soundness
 pub mod Together
+pub mod Rising
+pub mod Guards

@@ -5,5 +5,6 @@ pub mod Instructions
 pub mod ModuleCode
 pub mod Modules
 pub mod NameList
+pub mod Plain
 pub mod Predicates
 pub mod Putting

@@ -1,11 +1,13 @@
 // Modules that are compiled.
 
-ghost use Rattle.std.specs.Prelude.{◌≡◌, ℕ, List, [], length, filter, map, IfOk, IfErr, OnOk};
+ghost use Rattle.std.specs.Prelude.{◌≡◌, ℕ, List, [], length, filter, map, IfOk, IfErr, OnOk, IsTrue};
+ghost use Rattle.std.specs.List.{list_all};
 ghost use Rattle.kl1_model.specs.State.{names_of_module, names_of_clauses, with_names};
 ghost use Rattle.kl1_clause.specs.NameList.{with_text, with_texts, IsNameList};
 ghost use Rattle.kl1_clause.specs.Clauses.{AreCompiled};
 ghost use Rattle.kl1_read.specs.Sources.{clause_of_parts, module_of_parts};
 ghost use Rattle.kl1_model.specs.Module.{good, is_of, read_module};
+ghost use Rattle.kl1_model.specs.WaitsLaws.{is_guarded};
 ghost use Rattle.kl1_clause.specs.Modules.{IsMeant, IsFaultOf};
 
 use crate::code_fault::CodeFault;
@@ -136,12 +138,13 @@ fn first_names(alloc: Global, name: &AtomText) -> Result<Names, AllocError>
     Ok(names)
 }
 
-/// Clauses compiled one after another, with their names put to the others.
+/// Clauses compiled one after another, with their names put to the others. The variables of their tests are their heads'.
 pub(crate) fn clauses_of(
     alloc: Global,
     names: &mut Names,
     parts: &[ClauseParts],
 ) -> Result<Vec<CompiledClause>, AllocError>
+    requires { IsTrue (list_all is_guarded (map clause_of_parts parts.now)) }
     ensures names { OnOk result (names.new ≡ with_texts names.old (names_of_clauses (map clause_of_parts parts.now))) }
     ensures clauses { IfOk result (λ clauses. AreCompiled names.new clauses.items (map clause_of_parts parts.now)) }
 {

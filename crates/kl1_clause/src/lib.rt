@@ -8,6 +8,7 @@ mod goal_code;
 mod instruction;
 mod name;
 mod names;
+mod plain;
 mod predicate;
 mod rows;
 

@@ -13,8 +13,6 @@ pub mod ReadTerms
 pub mod ReadNumbers
 pub mod ReadBack
 pub mod ReadCounts
-pub mod ReadMeans
 pub mod ReadStrict
-pub mod ReadClauses
 pub mod ReadPlain
-pub mod SameStays
+pub mod GuardRowProofs

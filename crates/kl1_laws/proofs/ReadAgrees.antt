@@ -11,12 +11,12 @@ use Rattle.kl1_model.specs.Text.{is_text}
 use Rattle.kl1_model.specs.Name.{is_bare, name_text, atom_text}
 use Rattle.kl1_model.specs.Term.{Term, variable, integer, atom, structure, Terms, none, more}
 use Rattle.kl1_model.specs.Token.{sign_token}
-use Rattle.kl1_model.specs.Grammar.{Numbered, alone, Part, single, numbered, positive, negative, constant, call, Series, part_tokens, primary_tokens, series_tokens, rest_tokens}
+use Rattle.kl1_model.specs.Grammar.{Numbered, Part, single, numbered, positive, negative, constant, call, Series, part_tokens, primary_tokens, series_tokens, rest_tokens}
 use Rattle.kl1_model.specs.Meaning.{cell, is_word}
 use Rattle.kl1_model.specs.Print.{Printed, plain, printed_atom, commas, call_text, printed_cell, printed, printed_each}
 use Rattle.kl1_laws.proofs.LexWords.{no_word_no_digit}
 use Rattle.kl1_laws.proofs.LexFronts.{Lexes, lexes_token, Calm, lexes_called, lexes_name, lexes_digits, lexes_negative, lexes_variable}
-use Rattle.kl1_laws.proofs.ReadPlanted.{Planted, series_of, planted_plain, planted_atom, planted_integer, planted_cell, planted_series, planted_call, planted, planted_each, rest_row, series_row, Bears, BearsBehind, BearsEach, plain_behind, last_bears, another_bears, call_bears, cell_bears, cell_behind}
+use Rattle.kl1_laws.proofs.ReadPlanted.{Planted, plainly, series_of, planted_plain, planted_atom, planted_integer, planted_cell, planted_series, planted_call, planted, planted_each, rest_row, series_row, Bears, BearsBehind, BearsEach, plain_behind, last_bears, another_bears, call_bears, cell_bears, cell_behind}
 
 -- a text has the tokens of a part, whatever calm text follows
 abbrev pub IsText : List ℕ → Part → Type 0
@@ -90,11 +90,11 @@ atom_agrees false a is fine = rw (is, printed_atom, planted_atom, atom_text) (co
 -- a list cell, from its element and what is behind it
 pub cell_agrees : (a b : Term) (pa pb : Printed) (qa qb : Planted) → Agrees a pa qa → Agrees b pb qb → Agrees (cell a b) (printed_cell pa pb) (planted_cell qa qb)
 cell_agrees a b pa pb qa qb h j =
-    let s = series_of (alone qa.whole) qb.following in
+    let s = series_of (plainly qa.whole) qb.following in
     let row : (bs : List ℕ) (ts : List Numbered) → Lexes bs ts → Lexes ((pa.whole ++ pb.rest) ++ bs) (series_tokens s (rest_tokens qb.ending (sign_token CloseList ∷ ts))) =
     λ bs ts behind.
     subst (λ x. Lexes x (series_tokens s (rest_tokens qb.ending (sign_token CloseList ∷ ts)))) (sym (append_assoc pa.whole pb.rest bs))
-    (subst (λ y. Lexes (pa.whole ++ (pb.rest ++ bs)) y) (sym (series_row (alone qa.whole) qb.following (rest_tokens qb.ending (sign_token CloseList ∷ ts))))
+    (subst (λ y. Lexes (pa.whole ++ (pb.rest ++ bs)) y) (sym (series_row (plainly qa.whole) qb.following (rest_tokens qb.ending (sign_token CloseList ∷ ts))))
     (h.whole (pb.rest ++ bs) (rest_row qb ts) (j.calm bs) (j.rest bs ts behind)))
     in
     record {

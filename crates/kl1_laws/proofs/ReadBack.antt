@@ -7,7 +7,7 @@ use Rattle.std.proofs.lemmas.Option.{same_Some}
 use Rattle.kl1_model.specs.Limits.{number_limit}
 use Rattle.kl1_model.specs.Term.{Term}
 use Rattle.kl1_model.specs.Token.{Token, Placed, Tokens, tokens_of_text}
-use Rattle.kl1_model.specs.Grammar.{Numbered, alone, part_tokens}
+use Rattle.kl1_model.specs.Grammar.{Numbered, part_tokens}
 use Rattle.kl1_model.specs.Reader.{expression_tree}
 use Rattle.kl1_model.specs.Meaning.{expression_term, part_term, depth, is_narrow, is_writable, variables_of, is_numbered, highest, numbered_after}
 use Rattle.kl1_model.specs.Goal.{is_goal}
@@ -16,8 +16,8 @@ use Rattle.kl1_model.specs.Module.{Reading, good, bad, startable, bare_tokens, f
 use Rattle.kl1_model.specs.ReadLaws.{tokens_at, is_printable}
 use Rattle.kl1_model.proofs.ReadComplete.{expression_trees_complete}
 use Rattle.kl1_laws.proofs.LexFronts.{spelled, on_first_line, lexes_nothing}
-use Rattle.kl1_laws.proofs.ReadPlanted.{planted}
-use Rattle.kl1_laws.proofs.ReadMeans.{numbers_of, part_variables}
+use Rattle.kl1_laws.proofs.ReadPlanted.{plainly, planted}
+use Rattle.kl1_model.proofs.ReadMeans.{numbers_of, part_variables}
 use Rattle.kl1_laws.proofs.ReadTerms.{agrees}
 use Rattle.kl1_laws.proofs.ReadNumbers.{are_few, numbered_again, few_variables}
 
@@ -65,7 +65,7 @@ term_is t h =
     ap term_of_tokens (bare_again (spelled (tree_tokens t)))
     ∙ ap (λ ts. option_map expression_term (expression_tree ts))
     (numbered_again (tree_tokens t) 0 (ap (numbered_after 0) variables ∙ p.numbered) (ap are_few variables ∙ few_variables t p.few) (omega arith))
-    ∙ ap (option_map expression_term) (expression_trees_complete (alone (planted t).whole) a.bears.sound)
+    ∙ ap (option_map expression_term) (expression_trees_complete (plainly (planted t).whole) a.bears.sound)
     ∙ ap Some a.bears.means
 
 -- the print of a printable term holds no byte that is no token

@@ -14,7 +14,7 @@ use Rattle.kl1_model.specs.Numbering.{place_of, variable_number, seen_after, num
 use Rattle.kl1_model.specs.Meaning.{variables_of, variables_in, highest, highest_in, numbered_after}
 use Rattle.kl1_laws.proofs.LexWords.{decimal_writes}
 use Rattle.kl1_laws.proofs.LexFronts.{spelling, spelled}
-use Rattle.kl1_laws.proofs.ReadMeans.{numbers_of}
+use Rattle.kl1_model.proofs.ReadMeans.{numbers_of}
 
 -- the spellings of so many variables, from this number on
 abbrev pub spellings : ℕ → ℕ → List (List ℕ)

@@ -8,7 +8,7 @@ use Rattle.kl1_model.specs.declared.sign.Sign.TheVariants.{Comma, CloseList}
 use Rattle.kl1_model.specs.Name.{is_bare}
 use Rattle.kl1_model.specs.Term.{Term, variable, integer, atom, structure, Terms, none, more}
 use Rattle.kl1_model.specs.Token.{sign_token}
-use Rattle.kl1_model.specs.Grammar.{Numbered, Expression, alone, Part, single, qualified, Primary, numbered, positive, negative, constant, call, empty_list, list, group, Series, last, another, Rest, closed, tail, expression_tokens, series_tokens, rest_tokens}
+use Rattle.kl1_model.specs.Grammar.{Numbered, Expression, alone, summand, factor, Part, single, qualified, Primary, numbered, positive, negative, constant, call, empty_list, list, group, Series, last, another, Rest, closed, tail, expression_tokens, series_tokens, rest_tokens}
 use Rattle.kl1_model.specs.Meaning.{pair, cell, cells, expression_term, part_term, primary_term, series_terms, rest_term}
 use Rattle.kl1_model.specs.Print.{form_of}
 use Rattle.kl1_model.specs.ReadLaws.{is_sound_expression, is_sound_part, is_sound_series, is_sound_rest}
@@ -19,6 +19,10 @@ pub record Planted : Type 0 where
   pub following : Option Series
   pub ending : Rest
 
+-- a part as an expression
+abbrev pub plainly : Part → Expression
+plainly p = alone (summand (factor p))
+
 -- one element, with those that follow
 abbrev pub series_of : Expression → Option Series → Series
 series_of e None = last e
@@ -26,7 +30,7 @@ series_of e (Some s) = another e s
 
 -- a term that is no list
 abbrev pub planted_plain : Part → Planted
-planted_plain p = record { whole = p; following = None; ending = tail (alone p) }
+planted_plain p = record { whole = p; following = None; ending = tail (plainly p) }
 
 -- an atom: the empty list ends a list
 abbrev pub planted_atom : List ℕ → Planted
@@ -39,17 +43,17 @@ planted_integer (negsuc n) = negative (suc n)
 
 -- a list cell, one list with the elements behind it
 abbrev pub planted_cell : Planted → Planted → Planted
-planted_cell h t = let s = series_of (alone h.whole) t.following in record { whole = single (list s t.ending); following = Some s; ending = t.ending }
+planted_cell h t = let s = series_of (plainly h.whole) t.following in record { whole = single (list s t.ending); following = Some s; ending = t.ending }
 
 -- a part beside a colon
 abbrev pub primary_of : Part → Primary
 primary_of (single p) = p
-primary_of (qualified p q) = group (alone (qualified p q))
+primary_of (qualified p q) = group (plainly (qualified p q))
 
 -- arguments, of which there is one at least
 abbrev pub planted_series : Planted → List Planted → Series
-planted_series p [] = last (alone p.whole)
-planted_series p (q ∷ qs) = another (alone p.whole) (planted_series q qs)
+planted_series p [] = last (plainly p.whole)
+planted_series p (q ∷ qs) = another (plainly p.whole) (planted_series q qs)
 
 -- a name with arguments
 abbrev pub planted_call : List ℕ → List Planted → Planted
@@ -124,7 +128,7 @@ plain_behind t p h =
     }
 
 -- one argument
-pub last_bears : (t : Term) (p : Part) → Bears t p → BearsEach (more t none) (last (alone p))
+pub last_bears : (t : Term) (p : Part) → Bears t p → BearsEach (more t none) (last (plainly p))
 last_bears t p h =
     record {
       means = ap (λ x. more x none) h.means;
@@ -132,7 +136,7 @@ last_bears t p h =
     }
 
 -- one more argument
-pub another_bears : (t : Term) (p : Part) (ts : Terms) (s : Series) → Bears t p → BearsEach ts s → BearsEach (more t ts) (another (alone p) s)
+pub another_bears : (t : Term) (p : Part) (ts : Terms) (s : Series) → Bears t p → BearsEach ts s → BearsEach (more t ts) (another (plainly p) s)
 another_bears t p ts s h j =
     record {
       means = ap (λ x. more x (series_terms s)) h.means ∙ ap (more t) j.means;
@@ -152,11 +156,11 @@ qualified_bears a b p q h j =
     }
 
 module _ (a b : Term) (p q : Planted) (h : Bears a p.whole) (j : BearsBehind b q) where
-  cell_means : cells (series_terms (series_of (alone p.whole) q.following)) (rest_term q.ending) ≡ cell a b
-  cell_means = j.means (alone p.whole) ∙ ap (λ x. cell x b) h.means
+  cell_means : cells (series_terms (series_of (plainly p.whole) q.following)) (rest_term q.ending) ≡ cell a b
+  cell_means = j.means (plainly p.whole) ∙ ap (λ x. cell x b) h.means
 
-  cell_sound : (is_sound_series (series_of (alone p.whole) q.following) && is_sound_rest q.ending) ≡ true
-  cell_sound = series_of_sound (alone p.whole) q.following q.ending h.sound j.sound
+  cell_sound : (is_sound_series (series_of (plainly p.whole) q.following) && is_sound_rest q.ending) ≡ true
+  cell_sound = series_of_sound (plainly p.whole) q.following q.ending h.sound j.sound
 
   -- a list cell
   pub cell_bears : Bears (cell a b) (planted_cell p q).whole

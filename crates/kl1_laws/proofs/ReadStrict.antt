@@ -17,8 +17,9 @@ use Rattle.kl1_model.specs.Print.{print}
 use Rattle.kl1_model.specs.Module.{Reading, good, bad, startable, bare_tokens, first_line, term_of_tokens, goal_of_tokens, read_goal}
 use Rattle.kl1_model.specs.ReadLaws.{is_printable, strict_by, strict_goal}
 use Rattle.kl1_model.proofs.ReadSound.{expression_trees_sound}
-use Rattle.kl1_laws.proofs.ReadMeans.{numbers_of, expression_variables}
-use Rattle.kl1_laws.proofs.ReadCounts.{numbered_in_order, length_numbered, few_numbers, numbered_upto, highest_upto, few_tokens}
+use Rattle.kl1_model.proofs.ReadMeans.{numbers_of, expression_variables}
+use Rattle.kl1_model.proofs.ReadOrder.{numbered_in_order}
+use Rattle.kl1_laws.proofs.ReadCounts.{length_numbered, few_numbers, numbered_upto, highest_upto, few_tokens}
 use Rattle.kl1_laws.proofs.ReadBack.{printed_goals_read_back}
 
 -- a term that was read has its variables numbered by first occurrence, and no more of them than tokens

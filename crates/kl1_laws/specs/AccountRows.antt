@@ -3,7 +3,7 @@ use Rattle.std.specs.Prelude.{◌≡◌, ◌^◌, codes, List, [], ◌∷◌, �
 use Rattle.kl1_model.specs.Term.{Term, variable, integer, atom, structure, none, more}
 use Rattle.kl1_model.specs.Print.{print}
 use Rattle.kl1_model.specs.State.{State, fresh, shoen_at, terminated, Origin}
-use Rattle.kl1_model.specs.Event.{Event, load, start, reduce, ran, refused, syntax, exists, step_refused, journal_full}
+use Rattle.kl1_model.specs.Event.{Event, load, start, reduce, reduced, ran, quiet_is, refused, syntax, exists, step_refused, journal_full}
 use Rattle.kl1_model.specs.Step.{step, origin_at}
 use Rattle.kl1_model.specs.Choice.{first, quiet}
 use Rattle.kl1_model.specs.Command.{run, parse, act}
@@ -151,3 +151,51 @@ pub record AccountRowsHold : Type 0 where
   pub names_by_first_use : (after_lines (having app_text) (codes "start 1 0 1 f(X,a) = g(f,b)" ∷ [])).names ≡ codes "app" ∷ codes "f" ∷ codes "a" ∷ codes "g" ∷ codes "b" ∷ []
   -- a refused start takes no names
   pub refused_start_takes_no_names : (after_lines (having app_text) (codes "start 1 2 1 f(X,a) = g(f,b)" ∷ [])).names ≡ codes "app" ∷ []
+  -- a result outside 64 bits is an exception
+  pub sum_that_overflows : stream 1 (after_lines (fresh (codes "alice")) (codes "start 10 0 10 X := 9223372036854775807 + 1" ∷ codes "run 10" ∷ [])) ≡ codes "[started,exception(overflow,':='(_1,'+'(9223372036854775807,1))),terminated]"
+  -- so is an expression of a wrong type
+  pub expression_of_a_wrong_type : stream 1 (after_lines (fresh (codes "alice")) (codes "start 10 0 10 X := a + Y" ∷ codes "run 10" ∷ [])) ≡ codes "[started,exception(illegal_input,':='(_1,'+'(a,_2))),terminated]"
+  -- and a zero divisor
+  pub division_by_zero : stream 1 (after_lines (fresh (codes "alice")) (codes "start 10 0 10 X := 1 / 0" ∷ codes "run 10" ∷ [])) ≡ codes "[started,exception(illegal_input,':='(_1,'/'(1,0))),terminated]"
+  -- a result is unified, which may fail
+  pub result_that_clashes : stream 1 (after_lines (fresh (codes "alice")) (codes "start 10 0 10 3 := 1 + 1" ∷ codes "run 10" ∷ [])) ≡ codes "[started,exception(failure,':='(3,'+'(1,1))),terminated]"
+  -- or agree
+  pub result_that_agrees : stream 1 (after_lines (fresh (codes "alice")) (codes "start 10 0 10 2 := 1 + 1" ∷ codes "run 10" ∷ [])) ≡ codes "[started,terminated]"
+  -- a variable becomes its result
+  pub result_in_the_goal : option_map (λ o. print o.goal) (origin_at 1 (after_lines (fresh (codes "alice")) (codes "start 10 0 10 X := 2 * 3" ∷ codes "run 10" ∷ [])).shoens) ≡ Some (codes "':='(6,'*'(2,3))")
+  -- a goal waits while its expression does
+  pub expression_that_waits : (done_by (after_lines (fresh (codes "alice")) (codes "start 10 0 10 X := 1 + Y" ∷ [])) (parse (codes "quiet"))).reply ≡ quiet_is true
+  -- and is refused
+  pub expression_by_clause_0 : (done_by (after_lines (fresh (codes "alice")) (codes "start 10 0 10 X := 1 + Y" ∷ [])) (parse (codes "reduce 2 0"))).reply ≡ refused step_refused
+  -- a built-in goal steps by clause 0 alone
+  pub built_in_goal_by_clause_1 : (done_by (after_lines (fresh (codes "alice")) (codes "start 10 0 10 X := 1 + 1" ∷ [])) (parse (codes "reduce 2 1"))).reply ≡ refused step_refused
+  -- by which it steps
+  pub built_in_goal_by_clause_0 : (done_by (after_lines (fresh (codes "alice")) (codes "start 10 0 10 X := 1 + 1" ∷ [])) (parse (codes "reduce 2 0"))).reply ≡ reduced
+  -- a clause below `otherwise` is open while the one above rejects by the first place that was reached
+  pub clause_below_opens : first (after_lines (having (lines (codes ":- module m." ∷ codes "p(f(X),X) :- X > 5 | true." ∷ codes "otherwise." ∷ codes "p(X,Y)." ∷ codes "g :- p(V,1), V = f(W)." ∷ []))) (codes "start 9 0 9 m:g" ∷ codes "run 1" ∷ [])) ≡ Some (record { goal = 3; clause = 2 })
+  -- and closed when another goal binds a variable, so that an earlier place is reached, of which nothing is known
+  pub clause_below_closes : first (after_lines (having (lines (codes ":- module m." ∷ codes "p(f(X),X) :- X > 5 | true." ∷ codes "otherwise." ∷ codes "p(X,Y)." ∷ codes "g :- p(V,1), V = f(W)." ∷ []))) (codes "start 9 0 9 m:g" ∷ codes "run 1" ∷ codes "reduce 4 0" ∷ [])) ≡ None
+  -- a head with one variable eight times
+  pub one_variable_eight_times : stream 1 (after_lines (having (lines (codes ":- module m." ∷ codes "p(X,X,X,X,X,X,X,X)." ∷ []))) (codes "start 9 0 9 m:p(A,A,1,A,A,A,A,1)" ∷ codes "run 1" ∷ [])) ≡ codes "[started|_4]"
+  -- of which one place clashes with another
+  pub one_variable_seven_and_one : stream 1 (after_lines (having (lines (codes ":- module m." ∷ codes "p(X,X,X,X,X,X,X,X)." ∷ []))) (codes "start 9 0 9 m:p(A,A,1,A,A,A,A,2)" ∷ codes "run 1" ∷ [])) ≡ codes "[started,exception(failure,m:p(_1,_1,1,_1,_1,_1,_1,2)),terminated]"
+  -- a goal that each clause rejects fails
+  pub failure_is_open : (done_by (after_lines (having (lines (codes ":- module m." ∷ codes "p(f(X),X) :- X > 5 | true." ∷ codes "g :- p(V,1), V = f(W)." ∷ []))) (codes "start 9 0 9 m:g" ∷ codes "run 1" ∷ [])) (parse (codes "reduce 3 0"))).reply ≡ reduced
+  -- and no longer when another goal binds a variable, so that an earlier place is reached
+  pub failure_closes : (done_by (after_lines (having (lines (codes ":- module m." ∷ codes "p(f(X),X) :- X > 5 | true." ∷ codes "g :- p(V,1), V = f(W)." ∷ []))) (codes "start 9 0 9 m:g" ∷ codes "run 1" ∷ codes "reduce 4 0" ∷ [])) (parse (codes "reduce 3 0"))).reply ≡ refused step_refused
+  -- the clause below `otherwise` can be named while it is open
+  pub clause_below_opens_by_number : (done_by (after_lines (having (lines (codes ":- module m." ∷ codes "p(f(X),X) :- X > 5 | true." ∷ codes "otherwise." ∷ codes "p(X,Y)." ∷ codes "g :- p(V,1), V = f(W)." ∷ []))) (codes "start 9 0 9 m:g" ∷ codes "run 1" ∷ [])) (parse (codes "reduce 3 2"))).reply ≡ reduced
+  -- and not when it is closed
+  pub clause_below_closes_by_number : (done_by (after_lines (having (lines (codes ":- module m." ∷ codes "p(f(X),X) :- X > 5 | true." ∷ codes "otherwise." ∷ codes "p(X,Y)." ∷ codes "g :- p(V,1), V = f(W)." ∷ []))) (codes "start 9 0 9 m:g" ∷ codes "run 1" ∷ codes "reduce 4 0" ∷ [])) (parse (codes "reduce 3 2"))).reply ≡ refused step_refused
+  -- a clause that waits closes each section below its own
+  pub second_section_waits : (done_by (after_lines (having (lines (codes ":- module m." ∷ codes "p(a,X)." ∷ codes "otherwise." ∷ codes "p(X,b)." ∷ codes "otherwise." ∷ codes "p(X,Y)." ∷ []))) (codes "start 9 0 9 m:p(c,V)" ∷ [])) (parse (codes "quiet"))).reply ≡ quiet_is true
+  -- so that no clause there is a candidate
+  pub third_section_is_closed : (done_by (after_lines (having (lines (codes ":- module m." ∷ codes "p(a,X)." ∷ codes "otherwise." ∷ codes "p(X,b)." ∷ codes "otherwise." ∷ codes "p(X,Y)." ∷ []))) (codes "start 9 0 9 m:p(c,V)" ∷ [])) (parse (codes "reduce 2 3"))).reply ≡ refused step_refused
+  -- which is one where all above reject
+  pub third_section_is_open : (done_by (after_lines (having (lines (codes ":- module m." ∷ codes "p(a,X)." ∷ codes "otherwise." ∷ codes "p(X,b)." ∷ codes "otherwise." ∷ codes "p(X,Y)." ∷ []))) (codes "start 9 0 9 m:p(c,d)" ∷ [])) (parse (codes "reduce 2 3"))).reply ≡ reduced
+  -- clause 0 of a call that waits is refused
+  pub clause_0_of_a_goal_that_waits : (done_by (after_lines (having one_fact) (codes "start 10 0 10 t:q(X,b)" ∷ [])) (parse (codes "reduce 2 0"))).reply ≡ refused step_refused
+  -- a left side that stands in the expression is waited for
+  pub variable_in_its_own_expression : (done_by (after_lines (fresh (codes "alice")) (codes "start 10 0 10 X := X + 1" ∷ [])) (parse (codes "quiet"))).reply ≡ quiet_is true
+  -- parentheses make a relation an operand
+  pub equation_of_an_equation : stream 1 (after_lines (fresh (codes "alice")) (codes "start 10 0 10 (a = b) = c" ∷ codes "run 10" ∷ [])) ≡ codes "[started,exception(failure,'='('='(a,b),c)),terminated]"

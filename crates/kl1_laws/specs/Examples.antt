@@ -50,6 +50,14 @@ append_two_lists_script = codes "accounts alice bob" ++ 10 ∷ [] ++ codes "alic
 abbrev pub append_two_lists_output : List ℕ
 append_two_lists_output = codes "alice + loaded app" ++ 10 ∷ [] ++ codes "alice + shoen 1" ++ 10 ∷ [] ++ codes "alice + 4" ++ 10 ∷ [] ++ codes "alice + app:app([1],[2],[1,2])" ++ 10 ∷ []
 
+-- the bytes of arithmetic.script
+abbrev pub arithmetic_script : List ℕ
+arithmetic_script = codes "accounts alice" ++ 10 ∷ [] ++ codes "alice start 10 0 10 X := 9223372036854775807 + 1" ++ 10 ∷ [] ++ codes "alice run 10" ++ 10 ∷ [] ++ codes "alice value 1" ++ 10 ∷ [] ++ codes "alice start 10 0 10 X := -9223372036854775808 mod -1" ++ 10 ∷ [] ++ codes "alice run 10" ++ 10 ∷ [] ++ codes "alice value 2" ++ 10 ∷ [] ++ codes "alice start 10 0 10 X := -7 mod 2" ++ 10 ∷ [] ++ codes "alice run 10" ++ 10 ∷ [] ++ codes "alice value 3" ++ 10 ∷ [] ++ codes "alice start 10 0 10 X := 1 - 2 - 3" ++ 10 ∷ [] ++ codes "alice run 1" ++ 10 ∷ [] ++ codes "alice value 4" ++ 10 ∷ [] ++ codes "alice start 10 0 10 X := 2 + 3 * 4 / 5" ++ 10 ∷ [] ++ codes "alice run 1" ++ 10 ∷ [] ++ codes "alice value 5" ++ 10 ∷ [] ++ codes "alice start 10 0 10 X := Y + 1" ++ 10 ∷ [] ++ codes "alice run 1" ++ 10 ∷ [] ++ codes "alice start 10 0 10 X := (a)" ++ 10 ∷ [] ++ codes "alice run 1" ++ 10 ∷ []
+
+-- the bytes of arithmetic.expected
+abbrev pub arithmetic_output : List ℕ
+arithmetic_output = codes "alice + shoen 1" ++ 10 ∷ [] ++ codes "alice + 1" ++ 10 ∷ [] ++ codes "alice + ':='(_1,'+'(9223372036854775807,1))" ++ 10 ∷ [] ++ codes "alice + shoen 2" ++ 10 ∷ [] ++ codes "alice + 1" ++ 10 ∷ [] ++ codes "alice + ':='(0,mod(-9223372036854775808,-1))" ++ 10 ∷ [] ++ codes "alice + shoen 3" ++ 10 ∷ [] ++ codes "alice + 1" ++ 10 ∷ [] ++ codes "alice + ':='(-1,mod(-7,2))" ++ 10 ∷ [] ++ codes "alice + shoen 4" ++ 10 ∷ [] ++ codes "alice + 1" ++ 10 ∷ [] ++ codes "alice + ':='(-4,'-'('-'(1,2),3))" ++ 10 ∷ [] ++ codes "alice + shoen 5" ++ 10 ∷ [] ++ codes "alice + 1" ++ 10 ∷ [] ++ codes "alice + ':='(4,'+'(2,'/'('*'(3,4),5)))" ++ 10 ∷ [] ++ codes "alice + shoen 6" ++ 10 ∷ [] ++ codes "alice + 0" ++ 10 ∷ [] ++ codes "alice + shoen 7" ++ 10 ∷ [] ++ codes "alice + 1" ++ 10 ∷ []
+
 -- the bytes of bad_load_lines.script
 abbrev pub bad_load_lines_script : List ℕ
 bad_load_lines_script = codes "accounts alice bob" ++ 10 ∷ [] ++ codes "alice load 65537" ++ 10 ∷ [] ++ codes "alice load" ++ 10 ∷ [] ++ codes "alice load 1 2" ++ 10 ∷ [] ++ codes "alice load 00000000000000000012" ++ 10 ∷ [] ++ codes "alice load 12                                                                                                                                                                                                                                                                                                                                                                                                                                                                                                                                                                                                                                                                                                                                                                                                                                                                                                                                                                                                                                                                                                                                                                                                                                                                                                                                                                                                                                                                                                                                                                                                                                                                                                                                                                                                                                                                                                                                                                                                                                                                                                                                                                                                                                                                                                                                                                                                                                                                                                                                                                                                                                                                                                                                                                                                                                                                                                                                                                                                                                                                                                                                                                                                                                                                                                                                                                                                                                                                                                                                                                                                                                                                                                                                                                                                                                                                                                                                                                                                                                                                                                                                                                                                                                                          " ++ 10 ∷ [] ++ codes "alice run 0" ++ 10 ∷ []
@@ -106,13 +114,29 @@ clash_outweighs_waiting_script = codes "accounts alice" ++ 10 ∷ [] ++ codes "a
 abbrev pub clash_outweighs_waiting_output : List ℕ
 clash_outweighs_waiting_output = codes "alice + loaded t" ++ 10 ∷ [] ++ codes "alice + shoen 1" ++ 10 ∷ [] ++ codes "alice + 1" ++ 10 ∷ [] ++ codes "alice + t:q(_1,c)" ++ 10 ∷ []
 
+-- the bytes of clause_below_otherwise_closes.script
+abbrev pub clause_below_otherwise_closes_script : List ℕ
+clause_below_otherwise_closes_script = codes "accounts alice" ++ 10 ∷ [] ++ codes "alice load 81" ++ 10 ∷ [] ++ codes ":- module m." ++ 10 ∷ [] ++ codes "p(f(X),X) :- X > 5 | true." ++ 10 ∷ [] ++ codes "otherwise." ++ 10 ∷ [] ++ codes "p(X,Y)." ++ 10 ∷ [] ++ codes "g :- p(V,1), V = f(W)." ++ 10 ∷ [] ++ codes "alice start 9 0 9 m:g" ++ 10 ∷ [] ++ codes "alice run 1" ++ 10 ∷ [] ++ codes "alice reduce 4 0" ++ 10 ∷ [] ++ codes "alice quiet" ++ 10 ∷ [] ++ codes "alice reduce 3 2" ++ 10 ∷ [] ++ codes "alice start 9 0 9 m:g" ++ 10 ∷ [] ++ codes "alice run 1" ++ 10 ∷ [] ++ codes "alice reduce 7 2" ++ 10 ∷ []
+
+-- the bytes of clause_below_otherwise_closes.expected
+abbrev pub clause_below_otherwise_closes_output : List ℕ
+clause_below_otherwise_closes_output = codes "alice + loaded m" ++ 10 ∷ [] ++ codes "alice + shoen 1" ++ 10 ∷ [] ++ codes "alice + 1" ++ 10 ∷ [] ++ codes "alice + reduced" ++ 10 ∷ [] ++ codes "alice + yes" ++ 10 ∷ [] ++ codes "alice - 6 step" ++ 10 ∷ [] ++ codes "alice + shoen 2" ++ 10 ∷ [] ++ codes "alice + 1" ++ 10 ∷ [] ++ codes "alice + reduced" ++ 10 ∷ []
+
 -- the bytes of commands_that_are_none.script
 abbrev pub commands_that_are_none_script : List ℕ
-commands_that_are_none_script = codes "accounts alice bob" ++ 10 ∷ [] ++ codes "alice quiet" ++ 10 ∷ [] ++ codes "alice modules" ++ 10 ∷ [] ++ codes "alice status 1" ++ 10 ∷ [] ++ codes "alice reduce 2 0" ++ 10 ∷ [] ++ codes "alice login" ++ 10 ∷ [] ++ codes "alice journal 1 1" ++ 10 ∷ [] ++ codes "alice RUN 1" ++ 10 ∷ []
+commands_that_are_none_script = codes "accounts alice bob" ++ 10 ∷ [] ++ codes "alice quiet now" ++ 10 ∷ [] ++ codes "alice modules" ++ 10 ∷ [] ++ codes "alice status 1" ++ 10 ∷ [] ++ codes "alice reduce 2" ++ 10 ∷ [] ++ codes "alice login" ++ 10 ∷ [] ++ codes "alice journal 1 1" ++ 10 ∷ [] ++ codes "alice RUN 1" ++ 10 ∷ []
 
 -- the bytes of commands_that_are_none.expected
 abbrev pub commands_that_are_none_output : List ℕ
 commands_that_are_none_output = codes "alice - 1 syntax" ++ 10 ∷ [] ++ codes "alice - 1 syntax" ++ 10 ∷ [] ++ codes "alice - 1 syntax" ++ 10 ∷ [] ++ codes "alice - 1 syntax" ++ 10 ∷ [] ++ codes "alice - 1 syntax" ++ 10 ∷ [] ++ codes "alice - 1 syntax" ++ 10 ∷ [] ++ codes "alice - 1 syntax" ++ 10 ∷ []
+
+-- the bytes of countdown.script
+abbrev pub countdown_script : List ℕ
+countdown_script = codes "accounts alice" ++ 10 ∷ [] ++ codes "alice load 73" ++ 10 ∷ [] ++ codes ":- module n." ++ 10 ∷ [] ++ codes "w(0) :- true | true, true." ++ 10 ∷ [] ++ codes "w(N) :- N > 0 | M := N - 1, w(M)." ++ 10 ∷ [] ++ codes "alice start 100 0 10 n:w(2)" ++ 10 ∷ [] ++ codes "alice run 100" ++ 10 ∷ [] ++ codes "alice quiet" ++ 10 ∷ [] ++ codes "alice start 100 0 10 n:w(-1)" ++ 10 ∷ [] ++ codes "alice reduce 10 1" ++ 10 ∷ [] ++ codes "alice reduce 10 2" ++ 10 ∷ [] ++ codes "alice run 9" ++ 10 ∷ []
+
+-- the bytes of countdown.expected
+abbrev pub countdown_output : List ℕ
+countdown_output = codes "alice + loaded n" ++ 10 ∷ [] ++ codes "alice + shoen 1" ++ 10 ∷ [] ++ codes "alice + 7" ++ 10 ∷ [] ++ codes "alice + yes" ++ 10 ∷ [] ++ codes "alice + shoen 2" ++ 10 ∷ [] ++ codes "alice - 6 step" ++ 10 ∷ [] ++ codes "alice - 6 step" ++ 10 ∷ [] ++ codes "alice + 1" ++ 10 ∷ []
 
 -- the bytes of doubled_account.script
 abbrev pub doubled_account_script : List ℕ
@@ -132,11 +156,11 @@ first_of_two_clauses_output = codes "alice + loaded m" ++ 10 ∷ [] ++ codes "al
 
 -- the bytes of forms_that_are_faults.script
 abbrev pub forms_that_are_faults_script : List ℕ
-forms_that_are_faults_script = codes "accounts alice bob" ++ 10 ∷ [] ++ codes "alice load 71" ++ 10 ∷ [] ++ codes ":- module o." ++ 10 ∷ [] ++ codes "p(a,R) :- true | R = 1." ++ 10 ∷ [] ++ codes "otherwise." ++ 10 ∷ [] ++ codes "p(X,R) :- true | R = 2." ++ 10 ∷ [] ++ codes "alice load 42" ++ 10 ∷ [] ++ codes ":- module k." ++ 10 ∷ [] ++ codes "g :- true | h(a)@priority(1)." ++ 10 ∷ [] ++ codes "alice load 20" ++ 10 ∷ [] ++ codes ":- module h." ++ 10 ∷ [] ++ codes "p(X,X)." ++ 10 ∷ [] ++ codes "alice load 34" ++ 10 ∷ [] ++ codes ":- module j." ++ 10 ∷ [] ++ codes "p(X) :- X = 1 | true." ++ 10 ∷ [] ++ codes "alice load 48" ++ 10 ∷ [] ++ codes ":- module j." ++ 10 ∷ [] ++ codes "p :- shoen:execute(true,0,1,1,C,R)." ++ 10 ∷ [] ++ codes "alice load 33" ++ 10 ∷ [] ++ codes ":- module j." ++ 10 ∷ [] ++ codes "p :- atom_from(X,Y)." ++ 10 ∷ [] ++ codes "alice load 41" ++ 10 ∷ [] ++ codes ":- module h." ++ 10 ∷ [] ++ codes "p(_,_) :- true, true | true." ++ 10 ∷ []
+forms_that_are_faults_script = codes "accounts alice" ++ 10 ∷ [] ++ codes "alice load 42" ++ 10 ∷ [] ++ codes ":- module k." ++ 10 ∷ [] ++ codes "g :- true | h(a)@priority(1)." ++ 10 ∷ [] ++ codes "alice load 48" ++ 10 ∷ [] ++ codes ":- module j." ++ 10 ∷ [] ++ codes "p :- shoen:execute(true,0,1,1,C,R)." ++ 10 ∷ [] ++ codes "alice load 33" ++ 10 ∷ [] ++ codes ":- module j." ++ 10 ∷ [] ++ codes "p :- atom_from(X,Y)." ++ 10 ∷ [] ++ codes "alice load 34" ++ 10 ∷ [] ++ codes ":- module z." ++ 10 ∷ [] ++ codes "p(X) :- Y > 0 | true." ++ 10 ∷ [] ++ codes "alice load 41" ++ 10 ∷ [] ++ codes ":- module h." ++ 10 ∷ [] ++ codes "p(_,_) :- true, true | true." ++ 10 ∷ []
 
 -- the bytes of forms_that_are_faults.expected
 abbrev pub forms_that_are_faults_output : List ℕ
-forms_that_are_faults_output = codes "alice - 2 source 3" ++ 10 ∷ [] ++ codes "alice - 2 source 2" ++ 10 ∷ [] ++ codes "alice - 2 source 2" ++ 10 ∷ [] ++ codes "alice - 2 source 2" ++ 10 ∷ [] ++ codes "alice - 2 source 2" ++ 10 ∷ [] ++ codes "alice - 2 source 2" ++ 10 ∷ [] ++ codes "alice + loaded h" ++ 10 ∷ []
+forms_that_are_faults_output = codes "alice - 2 source 2" ++ 10 ∷ [] ++ codes "alice - 2 source 2" ++ 10 ∷ [] ++ codes "alice - 2 source 2" ++ 10 ∷ [] ++ codes "alice - 2 source 2" ++ 10 ∷ [] ++ codes "alice + loaded h" ++ 10 ∷ []
 
 -- the bytes of fresh_variables.script
 abbrev pub fresh_variables_script : List ℕ
@@ -156,11 +180,11 @@ goal_waits_for_ever_output = codes "alice + loaded app" ++ 10 ∷ [] ++ codes "a
 
 -- the bytes of goals_of_a_start.script
 abbrev pub goals_of_a_start_script : List ℕ
-goals_of_a_start_script = codes "accounts alice bob" ++ 10 ∷ [] ++ codes "alice start 9223372036854775807 0 4095 true" ++ 10 ∷ [] ++ codes "alice start 9223372036854775808 0 1 true" ++ 10 ∷ [] ++ codes "alice start 1 0 4096 true" ++ 10 ∷ [] ++ codes "alice start 1 2 1 true" ++ 10 ∷ [] ++ codes "alice start 1 0 1" ++ 10 ∷ [] ++ codes "alice start 1 0 1 p(X)" ++ 10 ∷ [] ++ codes "alice start 1 0 1 X" ++ 10 ∷ [] ++ codes "alice start 1 0 1 true." ++ 10 ∷ [] ++ codes "alice start 1 0 1 X = -1 % a comment" ++ 10 ∷ [] ++ codes "alice start 1 0 1 X := 1" ++ 10 ∷ [] ++ codes "alice start 1 0 1 atom_from(X,Y)" ++ 10 ∷ [] ++ codes "alice start 1 0 1 shoen:execute(true,0,1,2,C,R)" ++ 10 ∷ [] ++ codes "alice start 1 0 1 shoen:execute(true)" ++ 10 ∷ [] ++ codes "alice start 1 0 1 m:[]" ++ 10 ∷ [] ++ codes "alice start 1 0 1 '='(X,1)" ++ 10 ∷ [] ++ codes "alice start 1 0 1 m:p:q" ++ 10 ∷ [] ++ codes "alice start 1 0 1 m:p@priority(1)" ++ 10 ∷ []
+goals_of_a_start_script = codes "accounts alice bob" ++ 10 ∷ [] ++ codes "alice start 9223372036854775807 0 4095 true" ++ 10 ∷ [] ++ codes "alice start 9223372036854775808 0 1 true" ++ 10 ∷ [] ++ codes "alice start 1 0 4096 true" ++ 10 ∷ [] ++ codes "alice start 1 2 1 true" ++ 10 ∷ [] ++ codes "alice start 1 0 1" ++ 10 ∷ [] ++ codes "alice start 1 0 1 p(X)" ++ 10 ∷ [] ++ codes "alice start 1 0 1 X" ++ 10 ∷ [] ++ codes "alice start 1 0 1 true." ++ 10 ∷ [] ++ codes "alice start 1 0 1 X = -1 % a comment" ++ 10 ∷ [] ++ codes "alice start 1 0 1 X := 1" ++ 10 ∷ [] ++ codes "alice start 1 0 1 atom_from(X,Y)" ++ 10 ∷ [] ++ codes "alice start 1 0 1 shoen:execute(true,0,1,2,C,R)" ++ 10 ∷ [] ++ codes "alice start 1 0 1 shoen:execute(true)" ++ 10 ∷ [] ++ codes "alice start 1 0 1 m:[]" ++ 10 ∷ [] ++ codes "alice start 1 0 1 '='(X,1)" ++ 10 ∷ [] ++ codes "alice start 1 0 1 m:p:q" ++ 10 ∷ [] ++ codes "alice start 1 0 1 m:p@priority(1)" ++ 10 ∷ [] ++ codes "alice start 1 0 1 X < 1" ++ 10 ∷ [] ++ codes "alice start 1 0 1 a + b" ++ 10 ∷ []
 
 -- the bytes of goals_of_a_start.expected
 abbrev pub goals_of_a_start_output : List ℕ
-goals_of_a_start_output = codes "alice + shoen 1" ++ 10 ∷ [] ++ codes "alice - 1 syntax" ++ 10 ∷ [] ++ codes "alice - 1 syntax" ++ 10 ∷ [] ++ codes "alice - 1 syntax" ++ 10 ∷ [] ++ codes "alice - 1 syntax" ++ 10 ∷ [] ++ codes "alice - 1 syntax" ++ 10 ∷ [] ++ codes "alice - 1 syntax" ++ 10 ∷ [] ++ codes "alice - 1 syntax" ++ 10 ∷ [] ++ codes "alice + shoen 2" ++ 10 ∷ [] ++ codes "alice - 1 syntax" ++ 10 ∷ [] ++ codes "alice - 1 syntax" ++ 10 ∷ [] ++ codes "alice - 1 syntax" ++ 10 ∷ [] ++ codes "alice + shoen 3" ++ 10 ∷ [] ++ codes "alice + shoen 4" ++ 10 ∷ [] ++ codes "alice + shoen 5" ++ 10 ∷ [] ++ codes "alice - 1 syntax" ++ 10 ∷ [] ++ codes "alice - 1 syntax" ++ 10 ∷ []
+goals_of_a_start_output = codes "alice + shoen 1" ++ 10 ∷ [] ++ codes "alice - 1 syntax" ++ 10 ∷ [] ++ codes "alice - 1 syntax" ++ 10 ∷ [] ++ codes "alice - 1 syntax" ++ 10 ∷ [] ++ codes "alice - 1 syntax" ++ 10 ∷ [] ++ codes "alice - 1 syntax" ++ 10 ∷ [] ++ codes "alice - 1 syntax" ++ 10 ∷ [] ++ codes "alice - 1 syntax" ++ 10 ∷ [] ++ codes "alice + shoen 2" ++ 10 ∷ [] ++ codes "alice + shoen 3" ++ 10 ∷ [] ++ codes "alice - 1 syntax" ++ 10 ∷ [] ++ codes "alice - 1 syntax" ++ 10 ∷ [] ++ codes "alice + shoen 4" ++ 10 ∷ [] ++ codes "alice + shoen 5" ++ 10 ∷ [] ++ codes "alice + shoen 6" ++ 10 ∷ [] ++ codes "alice - 1 syntax" ++ 10 ∷ [] ++ codes "alice - 1 syntax" ++ 10 ∷ [] ++ codes "alice - 1 syntax" ++ 10 ∷ [] ++ codes "alice - 1 syntax" ++ 10 ∷ []
 
 -- the bytes of greater_priority_then_least_number.script
 abbrev pub greater_priority_then_least_number_script : List ℕ
@@ -314,6 +338,22 @@ numbers_of_19_digits_script = codes "accounts alice bob" ++ 10 ∷ [] ++ codes "
 abbrev pub numbers_of_19_digits_output : List ℕ
 numbers_of_19_digits_output = codes "alice + 0" ++ 10 ∷ [] ++ codes "alice - 1 syntax" ++ 10 ∷ [] ++ codes "alice - 4 noshoen" ++ 10 ∷ [] ++ codes "alice - 1 syntax" ++ 10 ∷ [] ++ codes "alice + 0" ++ 10 ∷ [] ++ codes "alice - 1 syntax" ++ 10 ∷ [] ++ codes "alice - 1 syntax" ++ 10 ∷ [] ++ codes "alice - 1 syntax" ++ 10 ∷ [] ++ codes "alice - 1 syntax" ++ 10 ∷ [] ++ codes "alice + shoen 1" ++ 10 ∷ []
 
+-- the bytes of otherwise_waits.script
+abbrev pub otherwise_waits_script : List ℕ
+otherwise_waits_script = codes "accounts alice" ++ 10 ∷ [] ++ codes "alice load 71" ++ 10 ∷ [] ++ codes ":- module o." ++ 10 ∷ [] ++ codes "p(a,R) :- true | R = 1." ++ 10 ∷ [] ++ codes "otherwise." ++ 10 ∷ [] ++ codes "p(X,R) :- true | R = 2." ++ 10 ∷ [] ++ codes "alice start 10 0 10 o:p(b,R)" ++ 10 ∷ [] ++ codes "alice run 10" ++ 10 ∷ [] ++ codes "alice value 1" ++ 10 ∷ [] ++ codes "alice start 10 0 10 o:p(X,R)" ++ 10 ∷ [] ++ codes "alice run 10" ++ 10 ∷ [] ++ codes "alice reduce 5 2" ++ 10 ∷ [] ++ codes "alice reduce 5 1" ++ 10 ∷ [] ++ codes "alice reduce 5 0" ++ 10 ∷ [] ++ codes "alice quiet" ++ 10 ∷ []
+
+-- the bytes of otherwise_waits.expected
+abbrev pub otherwise_waits_output : List ℕ
+otherwise_waits_output = codes "alice + loaded o" ++ 10 ∷ [] ++ codes "alice + shoen 1" ++ 10 ∷ [] ++ codes "alice + 2" ++ 10 ∷ [] ++ codes "alice + o:p(b,2)" ++ 10 ∷ [] ++ codes "alice + shoen 2" ++ 10 ∷ [] ++ codes "alice + 0" ++ 10 ∷ [] ++ codes "alice - 6 step" ++ 10 ∷ [] ++ codes "alice - 6 step" ++ 10 ∷ [] ++ codes "alice - 6 step" ++ 10 ∷ [] ++ codes "alice + yes" ++ 10 ∷ []
+
+-- the bytes of places_of_one_variable.script
+abbrev pub places_of_one_variable_script : List ℕ
+places_of_one_variable_script = codes "accounts alice" ++ 10 ∷ [] ++ codes "alice load 22" ++ 10 ∷ [] ++ codes ":- module v." ++ 10 ∷ [] ++ codes "q(X,X,X)." ++ 10 ∷ [] ++ codes "alice start 10 0 10 v:q(V,a,b)" ++ 10 ∷ [] ++ codes "alice run 10" ++ 10 ∷ [] ++ codes "alice quiet" ++ 10 ∷ []
+
+-- the bytes of places_of_one_variable.expected
+abbrev pub places_of_one_variable_output : List ℕ
+places_of_one_variable_output = codes "alice + loaded v" ++ 10 ∷ [] ++ codes "alice + shoen 1" ++ 10 ∷ [] ++ codes "alice + 1" ++ 10 ∷ [] ++ codes "alice + yes" ++ 10 ∷ []
+
 -- the bytes of producer_and_consumer.script
 abbrev pub producer_and_consumer_script : List ℕ
 producer_and_consumer_script = codes "accounts alice" ++ 10 ∷ [] ++ codes "alice load 277" ++ 10 ∷ [] ++ codes ":- module stream." ++ 10 ∷ [] ++ codes "make([],Out) :- true | Out = []." ++ 10 ∷ [] ++ codes "make([N|Ns],Out) :- true | Out = [item(N)|Rest], make(Ns,Rest)." ++ 10 ∷ [] ++ codes "take([],Sum) :- true | Sum = none." ++ 10 ∷ [] ++ codes "take([item(N)|Rest],Sum) :- true | Sum = some(N,More), take(Rest,More)." ++ 10 ∷ [] ++ codes "both(Ns,Sum) :- true | take(Items,Sum), make(Ns,Items)." ++ 10 ∷ [] ++ codes "alice start 100 0 10 stream:both([1,2],Sum)" ++ 10 ∷ [] ++ codes "alice run 100" ++ 10 ∷ [] ++ codes "alice value 1" ++ 10 ∷ []
@@ -434,6 +474,7 @@ pub record ExamplesHold : Type 0 where
   pub account_with_a_capital : output account_with_a_capital_script ≡ account_with_a_capital_output
   pub accounts_alone : output accounts_alone_script ≡ accounts_alone_output
   pub append_two_lists : output append_two_lists_script ≡ append_two_lists_output
+  pub arithmetic : output arithmetic_script ≡ arithmetic_output
   pub bad_load_lines : output bad_load_lines_script ≡ bad_load_lines_output
   pub bad_source : output bad_source_script ≡ bad_source_output
   pub blank_first_line : output blank_first_line_script ≡ blank_first_line_output
@@ -441,7 +482,9 @@ pub record ExamplesHold : Type 0 where
   pub blanks_between_accounts : output blanks_between_accounts_script ≡ blanks_between_accounts_output
   pub bytes_behind_a_load : output bytes_behind_a_load_script ≡ bytes_behind_a_load_output
   pub clash_outweighs_waiting : output clash_outweighs_waiting_script ≡ clash_outweighs_waiting_output
+  pub clause_below_otherwise_closes : output clause_below_otherwise_closes_script ≡ clause_below_otherwise_closes_output
   pub commands_that_are_none : output commands_that_are_none_script ≡ commands_that_are_none_output
+  pub countdown : output countdown_script ≡ countdown_output
   pub doubled_account : output doubled_account_script ≡ doubled_account_output
   pub first_of_two_clauses : output first_of_two_clauses_script ≡ first_of_two_clauses_output
   pub forms_that_are_faults : output forms_that_are_faults_script ≡ forms_that_are_faults_output
@@ -467,6 +510,8 @@ pub record ExamplesHold : Type 0 where
   pub no_accounts : output no_accounts_script ≡ no_accounts_output
   pub no_cyclic_terms : output no_cyclic_terms_script ≡ no_cyclic_terms_output
   pub numbers_of_19_digits : output numbers_of_19_digits_script ≡ numbers_of_19_digits_output
+  pub otherwise_waits : output otherwise_waits_script ≡ otherwise_waits_output
+  pub places_of_one_variable : output places_of_one_variable_script ≡ places_of_one_variable_output
   pub producer_and_consumer : output producer_and_consumer_script ≡ producer_and_consumer_output
   pub reversed_list : output reversed_list_script ≡ reversed_list_output
   pub second_variable_wakes : output second_variable_wakes_script ≡ second_variable_wakes_output

@@ -2,4 +2,5 @@ pub mod Examples
 pub mod AccountRows
 pub mod ReadRows
 pub mod ReadFaults
-pub mod SameLaws
+pub mod GuardRows
+pub mod ArithmeticLaws

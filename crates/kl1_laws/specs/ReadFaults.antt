@@ -2,7 +2,7 @@
 use Rattle.std.specs.Prelude.{◌≡◌, ℕ, zero, suc, ◌++◌, List, [], ◌∷◌, codes, replicate}
 use Rattle.kl1_model.specs.Term.{Term, variable, atom, structure, none, more}
 use Rattle.kl1_model.specs.Meaning.{pair, nil, cell}
-use Rattle.kl1_model.specs.Module.{Clause, good, bad, true_goal, read_module, read_goal}
+use Rattle.kl1_model.specs.Module.{Clause, good, bad, true_goal, without_priority, read_module, read_goal}
 
 -- a module's line, and then these
 abbrev pub below_module : List ℕ → List ℕ
@@ -28,9 +28,9 @@ CommentIsBroken = read_module (below_module (codes "p.\n% " ++ 127 ∷ [])) ≡ 
 abbrev pub QuoteIsOpen : Type 0
 QuoteIsOpen = read_module (below_module (codes "p('a\n').")) ≡ bad 2
 
--- no variable stands twice in a head
+-- a variable may stand twice in a head
 abbrev pub HeadRepeats : Type 0
-HeadRepeats = read_module (below_module (codes "p(X,X).")) ≡ bad 2
+HeadRepeats = read_module (below_module (codes "p(X,X).")) ≡ good (record { name = codes "z"; source = below_module (codes "p(X,X)."); clauses = record { name = codes "p"; patterns = more (variable 1) (more (variable 1) none); tests = []; section = 0; body = without_priority true_goal ∷ [] } ∷ [] })
 
 -- no head has an operator's name
 abbrev pub HeadIsOperator : Type 0
@@ -97,7 +97,7 @@ clauses_text (suc n) = codes "p.\n" ++ clauses_text n
 
 -- the clause `p.`
 abbrev pub short_clause : Clause
-short_clause = record { name = codes "p"; patterns = none; tests = []; body = true_goal ∷ [] }
+short_clause = record { name = codes "p"; patterns = none; tests = []; section = 0; body = without_priority true_goal ∷ [] }
 
 -- the most clauses of a module
 abbrev pub ClausesAreRead : Type 0

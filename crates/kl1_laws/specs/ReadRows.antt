@@ -2,7 +2,7 @@
 use Rattle.std.specs.Prelude.{◌≡◌, ℕ, ◌++◌, List, [], ◌∷◌, length, pos, negsuc, codes, replicate}
 use Rattle.kl1_model.specs.Term.{variable, integer, atom, structure, none, more}
 use Rattle.kl1_model.specs.Meaning.{pair, nil, cell}
-use Rattle.kl1_model.specs.Module.{Clause, good, bad, true_goal, read_module, read_goal}
+use Rattle.kl1_model.specs.Module.{Clause, good, bad, true_goal, without_priority, read_module, read_goal}
 
 -- the clauses that join two lists, with no last line feed
 abbrev pub app_text : List ℕ
@@ -14,17 +14,17 @@ AppHasBytes = length app_text ≡ 91
 
 -- the empty list in front
 abbrev pub app_of_none : Clause
-app_of_none = record { name = codes "app"; patterns = more nil (more (variable 1) (more (variable 2) none)); tests = true_goal ∷ []; body = pair (codes "=") (variable 2) (variable 1) ∷ [] }
+app_of_none = record { name = codes "app"; patterns = more nil (more (variable 1) (more (variable 2) none)); tests = true_goal ∷ []; section = 0; body = without_priority (pair (codes "=") (variable 2) (variable 1)) ∷ [] }
 
 -- an element in front
 abbrev pub app_of_more : Clause
-app_of_more = record { name = codes "app"; patterns = more (cell (variable 1) (variable 2)) (more (variable 3) (more (variable 4) none)); tests = true_goal ∷ []; body = pair (codes "=") (variable 4) (cell (variable 1) (variable 5)) ∷ pair (codes ":") (atom (codes "app")) (structure (codes "app") (more (variable 2) (more (variable 3) (more (variable 5) none)))) ∷ [] }
+app_of_more = record { name = codes "app"; patterns = more (cell (variable 1) (variable 2)) (more (variable 3) (more (variable 4) none)); tests = true_goal ∷ []; section = 0; body = without_priority (pair (codes "=") (variable 4) (cell (variable 1) (variable 5))) ∷ without_priority (pair (codes ":") (atom (codes "app")) (structure (codes "app") (more (variable 2) (more (variable 3) (more (variable 5) none))))) ∷ [] }
 
 -- the text is a module of two clauses
 abbrev pub AppIsRead : Type 0
 AppIsRead = read_module app_text ≡ good (record { name = codes "app"; source = app_text; clauses = app_of_none ∷ app_of_more ∷ [] })
 
--- a test that isn't `true` makes its line bad
+-- a test of a variable that isn't the head's makes its line bad
 abbrev pub TestIsBad : Type 0
 TestIsBad = read_module (codes ":- module z.\np(X) :- Y > 0 | true.") ≡ bad 2
 
@@ -38,7 +38,7 @@ long_text n = codes ":- module z.\n" ++ long_name n ++ codes "."
 
 -- a name of 63 bytes is one
 abbrev pub LongNameIsRead : Type 0
-LongNameIsRead = read_module (long_text 63) ≡ good (record { name = codes "z"; source = long_text 63; clauses = record { name = long_name 63; patterns = none; tests = []; body = true_goal ∷ [] } ∷ [] })
+LongNameIsRead = read_module (long_text 63) ≡ good (record { name = codes "z"; source = long_text 63; clauses = record { name = long_name 63; patterns = none; tests = []; section = 0; body = without_priority true_goal ∷ [] } ∷ [] })
 
 -- a name of 64 bytes makes its line bad
 abbrev pub LongerNameIsBad : Type 0

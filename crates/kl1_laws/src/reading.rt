@@ -1,6 +1,6 @@
 // What reading and printing keep.
 
-ghost use Rattle.kl1_model.specs.ReadLaws.{ExpressionsAreSound, ExpressionsAreComplete, ExpressionsAreUnambiguous, ClausesAreSound, ClausesAreComplete, ClausesAreUnambiguous, FrontsLeaveLess, StepsAreEnough, TokensGoOn, ReaderStepsAreEnough, ExpressionsLeaveLess, ExpressionsGoOn, SeriesGoOn, ClausesGoOn, PrintsArePlain, PrintsAreTokens, PrintsAreTerms, PrintedGoalsReadBack, PrintingIsOneToOne, GoalsReadArePrintable, StrictTextsArePrints, ClausesAreNumbered};
+ghost use Rattle.kl1_model.specs.ReadLaws.{ExpressionsAreSound, ExpressionsAreComplete, ExpressionsAreUnambiguous, ClausesAreSound, ClausesAreComplete, ClausesAreUnambiguous, FrontsLeaveLess, StepsAreEnough, TokensGoOn, ReaderStepsAreEnough, ExpressionsLeaveLess, ExpressionsGoOn, SumsGoOn, ProductsGoOn, SeriesGoOn, BodiesGoOn, ClausesGoOn, PrintsArePlain, PrintsAreTokens, PrintsAreTerms, PrintedGoalsReadBack, PrintingIsOneToOne, GoalsReadArePrintable, StrictTextsArePrints, ClausesAreNumbered, ClausesAreGuarded};
 ghost use Rattle.kl1_laws.specs.ReadRows.{AppHasBytes, AppIsRead, TestIsBad, LongNameIsRead, LongerNameIsBad, DotInsideIsBad, CommentsAreBad, GoalIsRead, LeastIsRead, TooLargeIsBad, LooseMinusIsBad};
 ghost use Rattle.kl1_laws.specs.ReadFaults.{FirstLineOfItem, EndIsMissing, ByteIsBroken, CommentIsBroken, QuoteIsOpen, HeadRepeats, HeadIsOperator, HeadIsTrue, ClausesStandApart, ModuleIsShoen, ModuleIsEmpty, GoalIsUnqualified, GoalIsQualified, UnderscoresDiffer, SpellingsAreOne, ArgumentsAreTooMany, DepthIsRead, DepthIsTooLarge, ClausesAreRead, ClausesAreTooMany};
 
@@ -24,12 +24,15 @@ pub fn tokens_go_on()
 {}
 
 /// The reader needs no count of steps: an expression leaves fewer tokens, more steps than tokens read the same, and so
-/// expressions, series and clauses are read from whole expressions inside them.
+/// expressions, sums, products, series, bodies and clauses are read from whole expressions inside them.
 pub fn expressions_go_on()
     ensures enough { ReaderStepsAreEnough }
     ensures less { ExpressionsLeaveLess }
     ensures expression { ExpressionsGoOn }
+    ensures sum { SumsGoOn }
+    ensures product { ProductsGoOn }
     ensures series { SeriesGoOn }
+    ensures body { BodiesGoOn }
     ensures clause { ClausesGoOn }
 {}
 
@@ -53,6 +56,11 @@ pub fn strict_texts_are_prints()
 /// The variables of each clause of a module that was read are numbered from 1 by first occurrence, those of the head first.
 pub fn clauses_are_numbered()
     ensures { ClausesAreNumbered }
+{}
+
+/// The guard of each clause of a module that was read has variables of its head alone.
+pub fn clauses_are_guarded()
+    ensures { ClausesAreGuarded }
 {}
 
 /// Some texts with what they are, computed from the definitions.

@@ -1,6 +1,6 @@
 //! Laws of passive equality.
 ghost use Rattle.kl1_model.specs.Same.{ClashesAreOnPaths, SameIsEqual, DiffersIsOnPath};
-ghost use Rattle.kl1_laws.specs.SameLaws.{SameStays, DiffersStays, UnknownWaits, UnknownStays, AllSameStays, SomeDifferStays, AllUnknownWaits, AllUnknownStays};
+ghost use Rattle.kl1_model.specs.SameLaws.{SameStays, DiffersStays, UnknownWaits, UnknownStays, AllSameStays, SomeDifferStays, AllUnknownWaits, AllUnknownStays};
 
 /// Two terms clash where some path of argument numbers leads in both to a constant or structure and these differ.
 pub fn clashes_are_on_paths()

@@ -1,13 +1,21 @@
 //! Laws of verdicts and of what goals wait for.
-ghost use Rattle.kl1_model.specs.WaitsLaws.{RejectsStays, AcceptsStays, SuspendsStays, SuspendsWaits, ClausesStay, HeadStays, TermStays};
+ghost use Rattle.kl1_model.specs.WaitsLaws.{RejectsStays, RejectsNeverAccepts, AcceptsStays, SuspendsStays, SuspendsWaits, CandidatesAreOpen, ClausesStay, HeadStays, TermStays};
 
-/// What a clause says of a goal holds whatever takes the place of the goal's variables, where it rejects or accepts; where it
-/// suspends, it names a variable, and it suspends until a variable that it names is replaced.
+/// What a clause says of a goal stays until a variable that it names is replaced. It accepts a goal for good, and rejects it for
+/// good where it names none: while the match waits, a test may reject the goal by a place that isn't the first of its variable,
+/// and then the match's variables are named, since the clause may come to suspend. One that rejects never comes to accept. A
+/// clause that suspends names a variable, where its guard has variables of the head alone.
 pub fn verdicts_wait_for_named_variables()
     ensures rejects { RejectsStays }
+    ensures never { RejectsNeverAccepts }
     ensures accepts { AcceptsStays }
     ensures suspends { SuspendsStays }
     ensures waits { SuspendsWaits }
+{}
+
+/// The candidates of a goal are the clauses that accept it and above whose nearest `otherwise` each clause rejects it.
+pub fn candidates_stand_in_an_open_section()
+    ensures { CandidatesAreOpen }
 {}
 
 /// The clause by which a goal can step, and the variables that it waits for, stay until one of these is replaced; and so does

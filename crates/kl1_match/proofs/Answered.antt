@@ -24,7 +24,7 @@ both-clashes agrees = refl
 both-clashes clashes = refl
 both-clashes (waits vs) = refl
 
-both-group : (a b c : Outcome) → both (both a b) c ≡ both a (both b c)
+pub both-group : (a b c : Outcome) → both (both a b) c ≡ both a (both b c)
 both-group agrees b c = refl
 both-group clashes b c = refl
 both-group (waits us) agrees c = refl

@@ -4,6 +4,7 @@ use Rattle.kl1_model.specs.declared.built_in.BuiltIn.{BuiltIn}
 use Rattle.kl1_model.specs.Term.{Term, Terms, terms_of, list_of, substituted}
 use Rattle.kl1_model.specs.TermCode.{NodeCode, nodes_of_all, read_nodes, all-read-back}
 use Rattle.kl1_model.specs.Meaning.{highest_in as highest_of_all}
+use Rattle.kl1_model.specs.Module.{goals_of}
 use Rattle.kl1_model.specs.Instance.{body_variable}
 use Rattle.kl1_term.specs.Variables.{highest_in}
 use Rattle.kl1_term.proofs.VariableFacts.{highest_all}
@@ -35,7 +36,7 @@ rows_below names (Structure f n ∷ is) count h = (omega (arith, h), rows_below 
 -- the variables of a clause's body are below the number of its variables and one
 pub all_below : {N : Type 0} (names : List N) (compiled : CompiledClause) (count : ℕ) → IsClause names compiled → count ≡ compiled.head_variables + 1 + compiled.fresh_variables → AreBelow count compiled.goals.items
 all_below names compiled count c e =
-    let body : Terms = terms_of c.clause.body in
+    let body : Terms = terms_of (goals_of c.clause.body) in
     let most : highest_in (map (code_in c.texts) compiled.goals.items) ≡ highest_of_all body =
     ap highest_in (c.is.goals.nodes_are ∙ sym (append-nil (nodes_of_all body))) ∙ (highest_all body [] ∙ omega arith) in
     rows_below c.texts compiled.goals.items count (omega (arith, e, most, c.is.head_variables, c.is.fresh_variables))
@@ -63,8 +64,8 @@ instance_is {N = N} built names compiled places old mid new cells stack goals vs
           let last = old.variables - 1 in
           let env : ℕ → Term = body_variable clause rs last in
           let agrees : Agrees f mid cells env = λ v h. vs.mean f reads v h ∙ ap (λ head. stands_for head rs last v) is.head_variables in
-          let body_is : read_nodes (map (code_in (map f names)) compiled.goals.items) [] ≡ clause.body =
-          ap (λ (cs : List NodeCode). read_nodes cs []) is.goals.nodes_are ∙ (all-read-back (terms_of clause.body) [] ∙ (append-nil (list_of (terms_of clause.body)) ∙ list_is clause.body)) in
+          let body_is : read_nodes (map (code_in (map f names)) compiled.goals.items) [] ≡ goals_of clause.body =
+          ap (λ (cs : List NodeCode). read_nodes cs []) is.goals.nodes_are ∙ (all-read-back (terms_of (goals_of clause.body)) [] ∙ (append-nil (list_of (terms_of (goals_of clause.body))) ∙ list_is (goals_of clause.body))) in
           record {
             terms = ap (term_list f new) e ∙ (s.terms env agrees ∙ ap (λ (ts : List Term). map (substituted env) ts) body_is);
             kept = λ x h.

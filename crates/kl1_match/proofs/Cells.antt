@@ -2,7 +2,7 @@
 use Rattle.std.proofs.Common.{◌≡◌, ℕ, zero, suc, ◌+◌, ◌<◌, ◌≤◌, arith, inl, inr, take, drop, append_assoc, ◌==◌, ◌&&◌, Bool, true, false, List, [], ◌∷◌, ◌++◌, length, length-append, length-drop, refl, sym, ap, ◌∙◌, subst, ℤ}
 use Rattle.std.specs.Prelude.{Some, slice_get, bytes_eq}
 use Rattle.std.specs.Ordering.{int_eq}
-use Rattle.std.proofs.lemmas.List.{append-nil, map-append, drop_all, take_all, length-take-le}
+use Rattle.std.proofs.lemmas.List.{append-nil, map-append, drop_all, length-take-le}
 use Rattle.std.proofs.lemmas.Slice.Eq.{bytes_eq-Decides}
 use Rattle.std.proofs.lemmas.Bool.{ne_eqb, eq-eqb, cond-true, cond-false, false_from_ne_true, and_left, and_right, and_from}
 use Rattle.std.proofs.lemmas.Bool.Decides.{Decides-int_eq}
@@ -12,7 +12,7 @@ use Rattle.kl1_model.specs.Match.{Outcome, agrees, clashes, decided, with_outcom
 use Rattle.kl1_text.specs.Reading.{Reads}
 use Rattle.kl1_store.specs.declared.cell.Cell.{Cell}
 use Rattle.kl1_store.specs.declared.cell.Cell.TheVariants.{Variable, Integer, Atom, Structure}
-use Rattle.kl1_store.specs.Held.{Shape, Held, IsIn, IsWalked, shape_arguments, arguments_of}
+use Rattle.kl1_store.specs.Held.{Held, IsIn, IsWalked, arguments_of}
 use Rattle.kl1_store.specs.Meaning.{term_of, terms_of}
 use Rattle.kl1_store.specs.Places.{all_arguments}
 use Rattle.kl1_store.specs.Sound.{IsFormed}

@@ -1,8 +1,7 @@
 -- Places that are kept as cells.
-use Rattle.std.proofs.Common.{◌≡◌, ℕ, zero, suc, ◌+◌, ◌-◌, ◌<◌, ◌≤◌, ◌==◌, true, false, if◌then◌else◌, List, [], ◌∷◌, ◌++◌, length, take, replicate, refl, ap, sym, ◌∙◌, subst, slice_index_or, slice_set, arith, ne_eqb, eq-eqb, append-nil}
+use Rattle.std.proofs.Common.{◌≡◌, ℕ, zero, suc, ◌+◌, ◌-◌, ◌<◌, ◌==◌, List, [], ◌∷◌, ◌++◌, length, take, replicate, refl, ap, sym, ◌∙◌, slice_index_or, slice_set, arith, ne_eqb, eq-eqb, append-nil}
 use Rattle.std.proofs.lemmas.List.{take_all}
 use Rattle.kl1_store.specs.declared.cell.Cell.{Cell}
-use Rattle.kl1_match.specs.declared.place.Place.{Place}
 use Rattle.kl1_match.specs.Variables.{cell_at}
 use Rattle.kl1_match.specs.Kept.{places_from, places_behind}
 use Rattle.kl1_match.proofs.Places.{at_same, choice_true, choice_false}

@@ -6,7 +6,7 @@ use Rattle.kl1_model.specs.declared.built_in.BuiltIn.{BuiltIn}
 use Rattle.kl1_model.specs.Term.{Term, Terms, more}
 use Rattle.kl1_model.specs.TermCode.{nodes_of_all}
 use Rattle.kl1_model.specs.Module.{Clause}
-use Rattle.kl1_model.specs.Match.{agrees, clashes, waits, both, Matched, match_terms, tests_outcome, verdict, verdict_of, verdict_with, rejects}
+use Rattle.kl1_model.specs.Match.{clashes, waits, both, Matched, match_terms, each_alike, guard_outcome, awaited_in, accepts, rejects, verdict, verdict_with}
 use Rattle.kl1_text.specs.Reading.{Reads}
 use Rattle.kl1_store.specs.declared.cell.Cell.{Cell}
 use Rattle.kl1_store.specs.Held.{Held}
@@ -15,14 +15,17 @@ use Rattle.kl1_clause.specs.declared.compiled_clause.CompiledClause.{CompiledCla
 use Rattle.kl1_clause.specs.declared.instruction.Instruction.{Instruction}
 use Rattle.kl1_clause.specs.Instructions.{IsNamed, AreNamed, code_in}
 use Rattle.kl1_clause.specs.Clauses.{IsCompiled}
+use Rattle.kl1_clause.specs.Plain.{IsPlain}
 use Rattle.kl1_match.specs.declared.place.Place.{Place}
 use Rattle.kl1_match.specs.declared.verdict.Verdict.{Verdict}
 use Rattle.kl1_match.specs.declared.verdict.Verdict.TheVariants.{Accepts, Rejects, Suspends}
 use Rattle.kl1_match.specs.Instances.{AreThere, IsClause, replacements_of}
 use Rattle.kl1_match.specs.Matching.{Continues, Decides}
-use Rattle.kl1_match.specs.Verdicts.{arguments_of_goal, verdict_with_places, MayName, IsTried, IsVerdict}
+use Rattle.kl1_match.specs.Verdicts.{arguments_of_goal, NamesAs, GivesMatch, IsTried, IsVerdict}
 use Rattle.kl1_match.specs.Waiting.{IsUnbound, AreUnbound}
-use Rattle.kl1_match.proofs.Answered.{matched_with, so_far, both-agrees, IsLeft, IsNext, begun, next_of, agreed, waited, clashed, no_terms, no_patterns, all_matched}
+use Rattle.kl1_match.proofs.Answered.{matched_with, so_far, IsLeft, IsNext, begun, next_of, agreed, waited, clashed, no_terms, no_patterns, all_matched}
+use Rattle.kl1_match.proofs.Naming.{same_as_itself}
+use Rattle.kl1_match.proofs.Alone.{plain_verdict}
 
 -- what is left from a place of the row on, and of cells, gives the answer of all, for each reading
 pub record GivesAll {N : Type 0} (built : BuiltIn → N) (names : List N) (compiled : CompiledClause) (h : Held N) (goal : Cell N) (at : ℕ) (cells : List (Cell N)) (places : List (Place N)) (before after : List ℕ) : Type 0 where
@@ -117,17 +120,6 @@ waits_there {N = N} built names compiled h goal x at next i cells rest now place
 
 -- ---- ends
 
-both-tests : (places : _) (tests : List Term) → tests_outcome places tests ≡ agrees
-both-tests places [] = refl
-both-tests places (t ∷ tests) = both-tests places tests
-
-verdict-matched : (clause : Clause) (ts : Terms) (m : Matched) → match_terms clause.patterns ts ≡ m → verdict clause ts ≡ verdict_with m.places m.outcome
-verdict-matched clause ts m e =
-    ap (verdict_of clause.tests) e ∙ ap (λ o. verdict_with m.places (both m.outcome o)) (both-tests m.places clause.tests) ∙ ap (verdict_with m.places) (both-agrees m.outcome)
-
-verdict-clash : (clause : Clause) (ts : Terms) → (match_terms clause.patterns ts).outcome ≡ clashes → verdict clause ts ≡ rejects
-verdict-clash clause ts e = verdict-matched clause ts (match_terms clause.patterns ts) refl ∙ ap (verdict_with (match_terms clause.patterns ts).places) e
-
 rejected : {N : Type 0} (built : BuiltIn → N) (names : List N) (compiled : CompiledClause) (h : Held N) (goal : Cell N) (places : List (Place N)) (before after named : List ℕ) → AreThere h places → AreUnbound h named → after ≡ before ++ named →
     ((f : N → List ℕ) → Reads built f → (clause : Clause) → IsCompiled (map f names) compiled clause → (match_terms clause.patterns (arguments_of_goal (term_of f h goal))).outcome ≡ clashes) →
     IsTried built names compiled h goal places before after Rejects
@@ -137,7 +129,7 @@ rejected built names compiled h goal places before after named inside unbound aw
   named_as = tt;
   unbound = unbound;
   awaited = awaited;
-  verdict_is = λ f reads clause is. verdict-clash clause (arguments_of_goal (term_of f h goal)) (clash f reads clause is);
+  gives = clash;
 }
 
 pub clash_there : {N : Type 0} (built : BuiltIn → N) (names : List N) (compiled : CompiledClause) (h : Held N) (goal x : Cell N) (at : ℕ) (i : Instruction) (cells rest now : List (Cell N)) (places longer : List (Place N)) (before after : List ℕ) →
@@ -178,27 +170,26 @@ abbrev pub verdict_so_far : List ℕ → Verdict
 verdict_so_far [] = Accepts
 verdict_so_far (v ∷ vs) = Suspends
 
-with_so_far : {N : Type 0} (f : N → List ℕ) (h : Held N) (places : List (Place N)) (named : List ℕ) → verdict_with (replacements_of f h places) (so_far named) ≡ verdict_with_places f h places named (verdict_so_far named)
-with_so_far f h places [] = refl
-with_so_far f h places (v ∷ vs) = refl
+gives_so_far : {N : Type 0} (f : N → List ℕ) (h : Held N) (places : List (Place N)) (named : List ℕ) (m : Matched) → m ≡ matched_with (so_far named) (replacements_of f h places) → GivesMatch f h places named (verdict_so_far named) m
+gives_so_far f h places [] m e = (ap (λ (n : Matched). n.outcome) e, ap (λ (n : Matched). n.places) e)
+gives_so_far f h places (v ∷ vs) m e = (ap (λ (n : Matched). n.outcome) e, ap (λ (n : Matched). n.places) e)
 
-may_name : (named : List ℕ) → MayName (verdict_so_far named) named
-may_name [] = refl
-may_name (v ∷ vs) = λ e. absurd (cc)
+names_so_far : (named : List ℕ) → NamesAs (verdict_so_far named) named
+names_so_far [] = refl
+names_so_far (v ∷ vs) = λ e. absurd (cc)
 
 ends : {N : Type 0} (built : BuiltIn → N) (names : List N) (compiled : CompiledClause) (h : Held N) (goal : Cell N) (at : ℕ) (cells : List (Cell N)) (places : List (Place N)) (before after : List ℕ) →
     length compiled.patterns.items ≤ at → cells ≡ [] → (all : GivesAll built names compiled h goal at cells places before after) → IsTried built names compiled h goal places before after (verdict_so_far all.named)
 ends built names compiled h goal at cells places before after le empty all = record {
   inside = all.places_in;
   named = all.named;
-  named_as = may_name all.named;
+  named_as = names_so_far all.named;
   unbound = all.unbound;
   awaited = all.awaited;
-  verdict_is = λ f reads clause is.
+  gives = λ f reads clause is.
       let ts = arguments_of_goal (term_of f h goal) in
-      let m = matched_with (so_far all.named) (replacements_of f h places) in
-      verdict-matched clause ts m (all_matched f h clause.patterns ts (map (code_in (map f names)) (drop at compiled.patterns.items)) cells places all.named (nothing_more (map f names) compiled.patterns.items at le) empty (all.left f reads clause is))
-      ∙ with_so_far f h places all.named;
+      gives_so_far f h places all.named (match_terms clause.patterns ts)
+      (all_matched f h clause.patterns ts (map (code_in (map f names)) (drop at compiled.patterns.items)) cells places all.named (nothing_more (map f names) compiled.patterns.items at le) empty (all.left f reads clause is));
 }
 
 none_named : (named : List ℕ) → length named ≡ 0 → verdict_so_far named ≡ Accepts
@@ -210,7 +201,7 @@ some_named [] ne = absurd (ne refl)
 some_named (v ∷ vs) ne = refl
 
 -- how many variables were named
-named_count : (before after named : List ℕ) → after ≡ before ++ named → length after ≡ length before + length named
+pub named_count : (before after named : List ℕ) → after ≡ before ++ named → length after ≡ length before + length named
 named_count before after named e = ap length e ∙ length-append before named
 
 pub accepted : {N : Type 0} (built : BuiltIn → N) (names : List N) (compiled : CompiledClause) (h : Held N) (goal : Cell N) (at : ℕ) (cells : List (Cell N)) (places : List (Place N)) (before after : List ℕ) →
@@ -225,23 +216,64 @@ suspended built names compiled h goal at cells places before after le empty ne a
     let V : Verdict → Type 0 = λ v. IsTried built names compiled h goal places before after v in
     subst V (some_named all.named (λ e. ne (omega (arith, named_count before after all.named all.awaited, e)))) (ends built names compiled h goal at cells places before after le empty all)
 
--- ---- what a clause that rejects named is dropped
+-- ---- verdicts of clauses of which the match alone decides
 
+-- a match that clashes decides, whatever the places and the tests say
+pub clash_verdict : (c : Clause) (ts : Terms) → (match_terms c.patterns ts).outcome ≡ clashes → verdict c ts ≡ rejects []
+clash_verdict c ts clash =
+    let m = match_terms c.patterns ts in
+    ap (λ o. verdict_with m (both (both o (each_alike m.places)) (guard_outcome m.places c.tests))) clash ∙ ap (λ o. rejects (awaited_in o)) clash
+
+-- what a clause that clashes named is dropped
 pub dropped : {N : Type 0} (built : BuiltIn → N) (names : List N) (compiled : CompiledClause) (h : Held N) (goal : Cell N) (places : List (Place N)) (before after now : List ℕ) (n : ℕ) → n ≡ length before → now ≡ take n after →
     IsTried built names compiled h goal places before after Rejects → IsVerdict built names compiled h goal places before now Rejects
 dropped built names compiled h goal places before after now n count e t = record {
   inside = t.inside;
   named = [];
-  named_as = refl;
+  named_as = tt;
   unbound = tt;
   awaited = e ∙ ap (λ l. take n l) t.awaited ∙ ap (λ m. take m (before ++ t.named)) count ∙ take-append_seam before t.named ∙ sym (append-nil before);
-  verdict_is = t.verdict_is;
+  gives = λ f reads clause is. record {
+    defined = [];
+    same = same_as_itself [];
+    verdict_is = clash_verdict clause (arguments_of_goal (term_of f h goal)) (t.gives f reads clause is);
+  };
 }
 
-pub accepts_as : {N : Type 0} (built : BuiltIn → N) (names : List N) (compiled : CompiledClause) (h : Held N) (goal : Cell N) (places : List (Place N)) (before after : List ℕ) →
+pub accepts_as : {N : Type 0} (built : BuiltIn → N) (names : List N) (compiled : CompiledClause) (h : Held N) (goal : Cell N) (places : List (Place N)) (before after : List ℕ) → IsPlain compiled.patterns.items compiled.tests.items →
     IsTried built names compiled h goal places before after Accepts → IsVerdict built names compiled h goal places before after Accepts
-accepts_as built names compiled h goal places before after t = record { inside = t.inside; named = t.named; named_as = t.named_as; unbound = t.unbound; awaited = t.awaited; verdict_is = t.verdict_is }
+accepts_as built names compiled h goal places before after plain t = record {
+  inside = t.inside;
+  named = t.named;
+  named_as = t.named_as;
+  unbound = t.unbound;
+  awaited = t.awaited;
+  gives = λ f reads clause is.
+      let ts = arguments_of_goal (term_of f h goal) in
+      let m = match_terms clause.patterns ts in
+      let g = t.gives f reads clause is in
+      record {
+        defined = t.named;
+        same = same_as_itself t.named;
+        verdict_is = plain_verdict (map f names) compiled clause ts plain is ∙ (ap (verdict_with m) g.0 ∙ ap accepts g.1);
+      };
+}
 
-pub suspends_as : {N : Type 0} (built : BuiltIn → N) (names : List N) (compiled : CompiledClause) (h : Held N) (goal : Cell N) (places : List (Place N)) (before after : List ℕ) →
+pub suspends_as : {N : Type 0} (built : BuiltIn → N) (names : List N) (compiled : CompiledClause) (h : Held N) (goal : Cell N) (places : List (Place N)) (before after : List ℕ) → IsPlain compiled.patterns.items compiled.tests.items →
     IsTried built names compiled h goal places before after Suspends → IsVerdict built names compiled h goal places before after Suspends
-suspends_as built names compiled h goal places before after t = record { inside = t.inside; named = t.named; named_as = t.named_as; unbound = t.unbound; awaited = t.awaited; verdict_is = t.verdict_is }
+suspends_as built names compiled h goal places before after plain t = record {
+  inside = t.inside;
+  named = t.named;
+  named_as = t.named_as;
+  unbound = t.unbound;
+  awaited = t.awaited;
+  gives = λ f reads clause is.
+      let ts = arguments_of_goal (term_of f h goal) in
+      let m = match_terms clause.patterns ts in
+      let g = t.gives f reads clause is in
+      record {
+        defined = t.named;
+        same = same_as_itself t.named;
+        verdict_is = plain_verdict (map f names) compiled clause ts plain is ∙ ap (verdict_with m) g.0;
+      };
+}

@@ -7,8 +7,13 @@ pub mod Kept
 pub mod Waiting
 pub mod Spans
 pub mod Matching
+pub mod Outcomes
 pub mod Verdicts
 pub mod Choices
 pub mod Stays
 pub mod Rooms
 pub mod GoalCells
+pub mod TestTerms
+pub mod Passing
+pub mod Testing
+pub mod Candidates

@@ -1,13 +1,7 @@
 -- Variables of a store that goals wait for.
-use Rattle.std.specs.Prelude.{◌≡◌, ℕ, ◌<◌, false, List, [], ◌∷◌}
-use Rattle.kl1_store.specs.Held.{Held, is_bound}
+use Rattle.std.specs.Prelude.{ℕ, ◌↔◌, List, Contains}
+pub use Rattle.kl1_store.specs.Unbound.{IsUnbound, AreUnbound}
 
--- a variable of the store that nothing was bound to
-pub record IsUnbound {N : Type 0} (h : Held N) (v : ℕ) : Type 0 where
-  pub within : v < h.variables
-  pub unbound : is_bound v h.bindings ≡ false
-
--- variables of the store that nothing was bound to
-abbrev pub AreUnbound : {N : Type 0} → Held N → List ℕ → Type 0
-AreUnbound h [] = Unit {0}
-AreUnbound h (v ∷ vs) = IsUnbound h v × AreUnbound h vs
+-- the same variables stand in both lists, in whatever order and however often
+pub record AreSame (vs ws : List ℕ) : Type 0 where
+  pub each : (v : ℕ) → Contains vs v ↔ Contains ws v

@@ -2,6 +2,7 @@
 #![tactic(auto)]
 
 mod accepting;
+mod alike;
 mod arguments;
 mod building;
 mod choice;
@@ -10,11 +11,16 @@ mod instances;
 mod meets;
 mod met;
 mod name_in;
+mod passing;
 mod place;
 mod scratch;
 mod skips;
 mod span;
 mod step;
+mod taking;
+mod test_scratch;
+mod test_view;
+mod testing;
 mod variables;
 mod verdict;
 mod verdicts;
@@ -26,5 +32,6 @@ pub use instances::{put_instance, put_kept_instance};
 pub use name_in::name_at;
 pub use place::Place;
 pub use scratch::Scratch;
+pub use taking::{is_candidate, takes_in_order};
 pub use verdict::Verdict;
 pub use verdicts::verdict_on;

@@ -2,7 +2,8 @@
 
 use crate::place::Place;
 use crate::span::Span;
-use kl1_store::Cell;
+use crate::test_scratch::TestScratch;
+use kl1_store::{Cell, SameScratch};
 use kl1_text::NameValue;
 use std::alloc::Global;
 
@@ -14,6 +15,8 @@ pub struct Scratch<N: NameValue> {
     pub(crate) spans: Vec<Span>,
     pub(crate) places: Vec<Place<N>>,
     pub(crate) variables: Vec<Cell<N>>,
+    pub(crate) same: SameScratch,
+    pub(crate) tests: TestScratch<N>,
 }
 
 impl<N: NameValue> Scratch<N> {
@@ -24,6 +27,8 @@ impl<N: NameValue> Scratch<N> {
             spans: Vec::new(alloc),
             places: Vec::new(alloc),
             variables: Vec::new(alloc),
+            same: SameScratch::new(alloc),
+            tests: TestScratch::new(alloc),
         }
     }
 }

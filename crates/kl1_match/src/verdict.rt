@@ -1,5 +1,8 @@
 // What a clause says to a goal.
 
+ghost use Rattle.std.specs.Prelude.{◌≡◌};
+ghost use Rattle.kl1_match.specs.Verdicts.{is_rejection};
+
 /// What a clause says to a goal.
 #[derive(Clone, Copy)]
 pub enum Verdict {
@@ -9,4 +12,16 @@ pub enum Verdict {
     Rejects,
     /// The goal waits for some of its variables.
     Suspends,
+}
+
+/// Whether a verdict rejects.
+#[inline]
+pub(crate) fn is_rejection(verdict: Verdict) -> bool
+    ensures { result ≡ is_rejection verdict }
+{
+    match verdict {
+        Verdict::Accepts => false,
+        Verdict::Rejects => true,
+        Verdict::Suspends => false,
+    }
 }

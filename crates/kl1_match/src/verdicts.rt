@@ -2,10 +2,14 @@
 
 ghost use Rattle.std.specs.Prelude.{◌≡◌, ◌≤◌, [], IfOk, OnOk, IsTrue, vec_capacity};
 ghost use Rattle.kl1_store.specs.Held.{IsIn};
+ghost use Rattle.kl1_clause.specs.Plain.{IsPlain};
 ghost use Rattle.kl1_match.specs.Instances.{IsClause};
 ghost use Rattle.kl1_match.specs.Matching.{Keeps};
+ghost use Rattle.kl1_match.specs.TestTerms.{AreSound, tests_with};
+ghost use Rattle.kl1_match.specs.Testing.{RestComes};
 ghost use Rattle.kl1_match.specs.Verdicts.{IsVerdict, IsTried};
 
+use crate::alike::compare_each;
 use crate::arguments::{is_left, span_of};
 use crate::meets::meet;
 use crate::met::Met;
@@ -13,16 +17,18 @@ use crate::place::Place;
 use crate::scratch::Scratch;
 use crate::skips::behind_term;
 use crate::span::Span;
-use crate::verdict::Verdict;
-use kl1_clause::CompiledClause;
-use kl1_store::{Cell, Store};
+use crate::test_scratch::TestScratch;
+use crate::test_view::TestView;
+use crate::testing::run_tests;
+use crate::verdict::{Verdict, is_rejection};
+use kl1_clause::{CompiledClause, Instruction};
+use kl1_store::{Cell, SameScratch, Store};
 use kl1_text::NameValue;
 use std::alloc::AllocError;
 
-/// The verdict of a clause on a goal, where the names of the clause's code are these. `places` gets the terms at the places
-/// of the head's variables, in order, where the clause accepts; otherwise nothing is said of it. Where the clause suspends,
-/// `awaited` gets the variables that it waits for behind its own, and otherwise nothing. Where memory is refused, nothing is
-/// said of what it got.
+/// The verdict of a clause on a goal, where the names of the clause's code are these. `places` gets the terms at
+/// the places of the head's variables, in order, where the clause accepts; otherwise nothing is said of it. `awaited` gets the
+/// variables that the verdict waits for behind its own. Where memory is refused, nothing is said of what it got.
 pub fn verdict_on<N: NameValue>(
     store: &Store<N>,
     names: &[N],
@@ -42,13 +48,40 @@ pub fn verdict_on<N: NameValue>(
         clause,
         goal,
         &mut scratch.spans,
+        &mut scratch.same,
+        &mut scratch.tests,
         places,
         awaited,
     )
 }
 
-/// The same, over a list of spans in place of scratch; where nothing is to be kept, nothing is put in `places`.
+/// The same, over parts of scratch; where nothing is to be kept, nothing is said of `places`.
+#[inline]
 pub(crate) fn judge<N: NameValue, const KEEP: bool>(
+    store: &Store<N>,
+    names: &[N],
+    clause: &CompiledClause,
+    goal: Cell<N>,
+    behind: &mut Vec<Span>,
+    same: &mut SameScratch,
+    tests: &mut TestScratch<N>,
+    places: &mut Vec<Place<N>>,
+    awaited: &mut Vec<u32>,
+) -> Result<Verdict, AllocError>
+    requires clause { IsClause names.now clause.now }
+    requires goal { IsIn store.now.held goal }
+    ensures { IfOk result (λ v. Keeps KEEP places.new.items (λ ps. IsVerdict N.built names.now clause.now store.now.held goal ps awaited.old.items awaited.new.items v)) }
+{
+    if clause.is_plain {
+        return judge_plain::<_, KEEP>(store, names, clause, goal, behind, places, awaited);
+    }
+    judge_whole(
+        store, names, clause, goal, behind, same, tests, places, awaited,
+    )
+}
+
+/// The verdict of a plain clause.
+fn judge_plain<N: NameValue, const KEEP: bool>(
     store: &Store<N>,
     names: &[N],
     clause: &CompiledClause,
@@ -58,11 +91,12 @@ pub(crate) fn judge<N: NameValue, const KEEP: bool>(
     awaited: &mut Vec<u32>,
 ) -> Result<Verdict, AllocError>
     requires clause { IsClause names.now clause.now }
+    requires plain { IsPlain clause.now.patterns.items clause.now.tests.items }
     requires goal { IsIn store.now.held goal }
     ensures { IfOk result (λ v. Keeps KEEP places.new.items (λ ps. IsVerdict N.built names.now clause.now store.now.held goal ps awaited.old.items awaited.new.items v)) }
 {
     let before = awaited.len();
-    match find_verdict::<_, KEEP>(store, names, clause, goal, behind, places, awaited)? {
+    match find_match::<_, KEEP>(store, names, clause, goal, behind, places, awaited)? {
         Verdict::Accepts => Ok(Verdict::Accepts),
         Verdict::Suspends => Ok(Verdict::Suspends),
         Verdict::Rejects => {
@@ -70,6 +104,67 @@ pub(crate) fn judge<N: NameValue, const KEEP: bool>(
             Ok(Verdict::Rejects)
         }
     }
+}
+
+/// What comes of a clause beside its match: passive equality of each two places of a variable that were reached, and its tests.
+/// False where something clashes; else `awaited` gets the variables that it waits for behind its own.
+fn may_go_on<N: NameValue>(
+    store: &Store<N>,
+    names: &[N],
+    row: &[Instruction],
+    places: &[Place<N>],
+    tests: &mut TestScratch<N>,
+    same: &mut SameScratch,
+    awaited: &mut Vec<u32>,
+) -> Result<bool, AllocError>
+    requires { AreSound (tests_with store.now.held names.now row.now places.now) }
+    ensures { IfOk result (RestComes N.built (tests_with store.now.held names.now row.now places.now) awaited.old.items awaited.new.items) }
+{
+    if !compare_each(store, places, same, awaited)? {
+        return Ok(false);
+    }
+    let view = TestView {
+        store,
+        names,
+        row,
+        places,
+    };
+    run_tests(&view, tests, same, awaited)
+}
+
+/// The verdict of any clause: what its match says, and then its places and tests. A clash outweighs what is waited for, but the
+/// match may still reach other places, so what it waits for is named then too.
+fn judge_whole<N: NameValue>(
+    store: &Store<N>,
+    names: &[N],
+    clause: &CompiledClause,
+    goal: Cell<N>,
+    behind: &mut Vec<Span>,
+    same: &mut SameScratch,
+    tests: &mut TestScratch<N>,
+    places: &mut Vec<Place<N>>,
+    awaited: &mut Vec<u32>,
+) -> Result<Verdict, AllocError>
+    requires clause { IsClause names.now clause.now }
+    requires goal { IsIn store.now.held goal }
+    ensures { IfOk result (IsVerdict N.built names.now clause.now store.now.held goal places.new.items awaited.old.items awaited.new.items) }
+{
+    let before = awaited.len();
+    let tried = find_match::<_, true>(store, names, clause, goal, behind, places, awaited)?;
+    if is_rejection(tried) {
+        awaited.truncate(before);
+        return Ok(Verdict::Rejects);
+    }
+    let matched = awaited.len();
+    let row = clause.tests.as_slice();
+    if !may_go_on(store, names, row, places.as_slice(), tests, same, awaited)? {
+        awaited.truncate(matched);
+        return Ok(Verdict::Rejects);
+    }
+    if awaited.len() == before {
+        return Ok(Verdict::Accepts);
+    }
+    Ok(Verdict::Suspends)
 }
 
 /// Empties places, and makes room for so many where they are kept.
@@ -88,8 +183,9 @@ fn clear_places<N: NameValue, const KEEP: bool>(
     Ok(())
 }
 
-/// The verdict of a clause on a goal. `awaited` gets the variables that its patterns wait for, also where a later one clashes.
-fn find_verdict<N: NameValue, const KEEP: bool>(
+/// The verdict of the match of a clause with a goal alone, whatever its tests and the places of its variables say: that it
+/// agrees, clashes, or waits. `awaited` gets the variables that its patterns wait for, also where a later one clashes.
+fn find_match<N: NameValue, const KEEP: bool>(
     store: &Store<N>,
     names: &[N],
     clause: &CompiledClause,

@@ -1,15 +1,15 @@
 -- Which clause a call takes, by its candidates.
-use Rattle.std.proofs.Common.{◌≡◌, ℕ, suc, ◌≤◌, ◌==◌, not, ◌&&◌, Bool, true, false, if◌then◌else◌, List, [], ◌∷◌, ◌++◌, map, refl, sym, ap, ◌∙◌, arith}
+use Rattle.std.proofs.Common.{◌≡◌, ℕ, suc, ◌≤◌, ◌==◌, ◌&&◌, Bool, true, false, if◌then◌else◌, List, [], ◌∷◌, ◌++◌, map, refl, sym, ap, ◌∙◌, arith}
 use Rattle.std.specs.Prelude.{Option, Some, None, is_some, find, option_map}
 use Rattle.std.specs.List.{list_all}
 use Rattle.std.proofs.lemmas.Bool.{cond-true, cond-false, eq-eqb, ne_eqb}
 use Rattle.kl1_model.specs.Term.{Term, Terms}
 use Rattle.kl1_model.specs.Module.{Clause, Module}
 use Rattle.kl1_model.specs.Match as model
-use Rattle.kl1_model.specs.Match.{Call, call_of, clauses_of, Candidate, candidate_by, candidates_from, candidates_of, fails, is_rejected, verdict, accepts, rejects, suspends}
+use Rattle.kl1_model.specs.Match.{Call, call_of, clauses_of, Candidate, candidate_by, candidates_within, candidates_from, candidates_of, fails, is_rejected, verdict, accepts, rejects, suspends}
 use Rattle.kl1_model.specs.Reduction.{Move, commits, raises, failure, term_move, built_in_move}
 use Rattle.kl1_model.specs.Choice.{call_clauses}
-use Rattle.kl1_model.specs.Waits.{term_clause, least_by, least_from, least_clause}
+use Rattle.kl1_model.specs.Waits.{term_clause, least_by, least_within, least_from, least_clause}
 
 -- the number of the first candidate
 abbrev pub first_number : List Candidate → Option ℕ
@@ -20,22 +20,40 @@ first_number (k ∷ ks) = Some k.number
 abbrev pub all_reject : List Clause → Terms → Bool
 all_reject cs ts = list_all (λ c. is_rejected (verdict c ts)) cs
 
-abbrev chosen_from : Bool → Bool → List Candidate → Option ℕ
-chosen_from waiting rejected ks = if not waiting && rejected then Some 0 else first_number ks
+abbrev chosen_from : Bool → List Candidate → Option ℕ
+chosen_from rejected ks = if rejected then Some 0 else first_number ks
 
-by_verdict : (waiting rest : Bool) (n : ℕ) (c : Clause) (ks : List Candidate) (r s : Option ℕ) (v : model.Verdict) → r ≡ chosen_from waiting rest ks → s ≡ chosen_from true rest ks →
-    least_by (Some n) r s v ≡ chosen_from waiting (is_rejected v && rest) (candidate_by n c v ++ ks)
-by_verdict true rest n c ks r s (accepts places) er es = refl
-by_verdict false rest n c ks r s (accepts places) er es = refl
-by_verdict waiting rest n c ks r s rejects er es = er
-by_verdict true rest n c ks r s (suspends vs) er es = es
-by_verdict false rest n c ks r s (suspends vs) er es = es
+by_verdict_within : (n : ℕ) (c : Clause) (ks : List Candidate) (r : Option ℕ) (v : model.Verdict) → r ≡ first_number ks → least_by (Some n) r r v ≡ first_number (candidate_by n c v ++ ks)
+by_verdict_within n c ks r (accepts places) e = refl
+by_verdict_within n c ks r (rejects vs) e = e
+by_verdict_within n c ks r (suspends vs) e = e
 
-pub least-chosen : (waiting : Bool) (n : ℕ) (cs : List Clause) (ts : Terms) → least_from waiting n cs ts ≡ chosen_from waiting (all_reject cs ts) (candidates_from n cs ts)
-least-chosen true n [] ts = refl
-least-chosen false n [] ts = refl
-least-chosen waiting n (c ∷ cs) ts =
-    by_verdict waiting (all_reject cs ts) n c (candidates_from (suc n) cs ts) (least_from waiting (suc n) cs ts) (least_from true (suc n) cs ts) (verdict c ts) (least-chosen waiting (suc n) cs ts) (least-chosen true (suc n) cs ts)
+within_if : (b : Bool) (m : Option ℕ) (ks : List Candidate) → m ≡ first_number ks → (if b then m else None) ≡ first_number (if b then ks else [])
+within_if true m ks e = e
+within_if false m ks e = refl
+
+pub least-within : (section n : ℕ) (cs : List Clause) (ts : Terms) → least_within section n cs ts ≡ first_number (candidates_within section n cs ts)
+least-within section n [] ts = refl
+least-within section n (c ∷ cs) ts =
+    let later = least_within section (suc n) cs ts in
+    let ks = candidates_within section (suc n) cs ts in
+    within_if (c.section == section) (least_by (Some n) later later (verdict c ts)) (candidate_by n c (verdict c ts) ++ ks) (by_verdict_within n c ks later (verdict c ts) (least-within section (suc n) cs ts))
+
+-- the first clause that doesn't reject is of its own section
+within_first : (n : ℕ) (c : Clause) (cs : List Clause) (ts : Terms) → candidates_within c.section n (c ∷ cs) ts ≡ candidate_by n c (verdict c ts) ++ candidates_within c.section (suc n) cs ts
+within_first n c cs ts = cond-true (c.section == c.section) (candidate_by n c (verdict c ts) ++ candidates_within c.section (suc n) cs ts) [] (eq-eqb c.section c.section refl)
+
+by_verdict : (rest : Bool) (n : ℕ) (c : Clause) (ks js : List Candidate) (r w : Option ℕ) (v : model.Verdict) → r ≡ chosen_from rest ks → w ≡ first_number js →
+    least_by (Some n) r w v ≡ chosen_from (is_rejected v && rest) (if is_rejected v then ks else candidate_by n c v ++ js)
+by_verdict rest n c ks js r w (accepts places) e f = refl
+by_verdict rest n c ks js r w (rejects vs) e f = e
+by_verdict rest n c ks js r w (suspends vs) e f = f
+
+pub least-chosen : (n : ℕ) (cs : List Clause) (ts : Terms) → least_from n cs ts ≡ chosen_from (all_reject cs ts) (candidates_from n cs ts)
+least-chosen n [] ts = refl
+least-chosen n (c ∷ cs) ts =
+    by_verdict (all_reject cs ts) n c (candidates_from (suc n) cs ts) (candidates_within c.section (suc n) cs ts) (least_from (suc n) cs ts) (least_within c.section (suc n) cs ts) (verdict c ts) (least-chosen (suc n) cs ts) (least-within c.section (suc n) cs ts)
+    ∙ ap (λ ks. chosen_from (is_rejected (verdict c ts) && all_reject cs ts) (if is_rejected (verdict c ts) then candidates_from (suc n) cs ts else ks)) (sym (within_first n c cs ts))
 
 -- the numbers of candidates are not below that of the first clause
 abbrev pub AreFrom : ℕ → List Candidate → Type 0
@@ -48,12 +66,28 @@ from_lower m n (k ∷ ks) le a = (let p = a.0 in omega arith, from_lower m n ks 
 
 from_by : (n : ℕ) (c : Clause) (ks : List Candidate) (v : model.Verdict) → AreFrom (suc n) ks → AreFrom n (candidate_by n c v ++ ks)
 from_by n c ks (accepts places) a = (omega arith, from_lower n (suc n) ks (omega arith) a)
-from_by n c ks rejects a = from_lower n (suc n) ks (omega arith) a
+from_by n c ks (rejects vs) a = from_lower n (suc n) ks (omega arith) a
 from_by n c ks (suspends vs) a = from_lower n (suc n) ks (omega arith) a
+
+from_if : (b : Bool) (n : ℕ) (ks : List Candidate) → AreFrom n ks → AreFrom n (if b then ks else [])
+from_if true n ks a = a
+from_if false n ks a = tt
+
+pub are_from_within : (section n : ℕ) (cs : List Clause) (ts : Terms) → AreFrom n (candidates_within section n cs ts)
+are_from_within section n [] ts = tt
+are_from_within section n (c ∷ cs) ts =
+    from_if (c.section == section) n (candidate_by n c (verdict c ts) ++ candidates_within section (suc n) cs ts) (from_by n c (candidates_within section (suc n) cs ts) (verdict c ts) (are_from_within section (suc n) cs ts))
+
+from_either : (b : Bool) (n : ℕ) (ks js : List Candidate) → AreFrom n ks → AreFrom n js → AreFrom n (if b then ks else js)
+from_either true n ks js a l = a
+from_either false n ks js a l = l
 
 pub are_from : (n : ℕ) (cs : List Clause) (ts : Terms) → AreFrom n (candidates_from n cs ts)
 are_from n [] ts = tt
-are_from n (c ∷ cs) ts = from_by n c (candidates_from (suc n) cs ts) (verdict c ts) (are_from (suc n) cs ts)
+are_from n (c ∷ cs) ts =
+    from_either (is_rejected (verdict c ts)) n (candidates_from (suc n) cs ts) (candidates_within c.section n (c ∷ cs) ts)
+    (from_lower n (suc n) (candidates_from (suc n) cs ts) (omega arith) (are_from (suc n) cs ts))
+    (are_from_within c.section n (c ∷ cs) ts)
 
 -- ---- the least clause
 
@@ -84,7 +118,7 @@ pub term_clause-call : (modules : List Module) (t : Term) (k : Call) → call_of
 term_clause-call modules t k e =
     ap (λ o. find (λ clause. is_some (term_move modules t clause o)) (0 ∷ call_clauses modules o)) e
     ∙ clause_found (fails modules k) (candidates_of modules k) (are_from 1 (clauses_of modules k) k.arguments)
-    ∙ sym (least-chosen false 1 (clauses_of modules k) k.arguments)
+    ∙ sym (least-chosen 1 (clauses_of modules k) k.arguments)
 
 pub term_clause-built_in : (modules : List Module) (t : Term) (m : Move) → call_of t ≡ None → built_in_move t ≡ Some m → term_clause modules t ≡ Some 0
 term_clause-built_in modules t m e b =

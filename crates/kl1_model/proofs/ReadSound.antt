@@ -1,12 +1,16 @@
 -- What the reader reads are the tokens of the tree that it gives.
-use Rattle.std.specs.Prelude.{◌≡◌, ℕ, zero, suc, nat_lt, Bool, true, false, if◌then◌else◌, List, [], ◌∷◌, length, Option, Some, None}
-use Rattle.std.proofs.Common.{refl, ap, sym, ◌∙◌}
-use Rattle.std.proofs.lemmas.Option.{none-some, some_pair_parts}
+use Rattle.std.specs.Prelude.{◌≡◌, ℕ, zero, suc, nat_lt, not, ◌&&◌, Bool, true, false, if◌then◌else◌, List, [], ◌∷◌, length, codes, bytes_eq, Option, Some, None, option_map}
+use Rattle.std.proofs.Common.{refl, ap, ap₂, sym, ◌∙◌}
+use Rattle.std.proofs.lemmas.Bool.{and_parts, not-true}
+use Rattle.std.proofs.lemmas.Option.{none-some, same_Some, some_pair_parts, option_and_then_some}
+use Rattle.std.proofs.lemmas.Slice.Eq.{bytes_eq-Decides}
 use Rattle.kl1_model.specs.Limits.{number_limit}
-use Rattle.kl1_model.specs.declared.sign.Sign.TheVariants.{Neck, Colon, Equals, Bar, Comma, Open, Close, OpenList, CloseList}
+use Rattle.kl1_model.specs.declared.sign.Sign.TheVariants.{Neck, Becomes, SameValue, OtherValue, NotOver, Differs, NotUnder, Colon, Equals, Under, Over, Plus, Star, Slash, At, Bar, Comma, Open, Close, OpenList, CloseList}
+use Rattle.kl1_model.specs.declared.relation.Relation.{Relation}
+use Rattle.kl1_model.specs.declared.relation.Relation.TheVariants.{Equal, NotEqual, Assign, Less, Greater, AtMost, AtLeast, SameNumber, OtherNumber}
 use Rattle.kl1_model.specs.Token.{name_token, variable_token, digits_token, minus_token, sign_token}
-use Rattle.kl1_model.specs.Grammar.{Numbered, Relation, equality, relation_token, Expression, alone, related, Part, single, qualified, Primary, numbered, positive, negative, constant, call, empty_list, list, group, Series, last, another, Rest, closed, tail, Head, bare_head, head_with, ClauseTree, fact, rule, guarded, expression_tokens, part_tokens, primary_tokens, series_tokens, rest_tokens, head_tokens, clause_tokens}
-use Rattle.kl1_model.specs.Reader.{Answer, Inner, then_read, then_skip, if_there, behind_comma, behind_close, behind_open, behind_close_list, behind_bar, behind_colon, behind_neck, relation_in_front, series_by, series_at, rest_at, list_at, arguments_at, negative_at, primary_at, part_at, related_at, expression_at, inner_of, all_read, expression_tree, head_at, behind_neck_at, clause_at, clause_tree}
+use Rattle.kl1_model.specs.Grammar.{Numbered, relation_token, Adding, by_plus, by_minus, adding_token, Multiplying, by_star, by_slash, by_mod, multiplying_token, Expression, alone, related, Sum, summand, added, Product, factor, multiplied, Part, single, qualified, Primary, numbered, positive, negative, constant, call, empty_list, list, group, Series, last, another, Rest, closed, tail, Head, bare_head, head_with, GoalTree, plain_goal, urgent_goal, Body, last_goal, another_goal, ClauseTree, fact, rule, guarded, expression_tokens, sum_tokens, product_tokens, part_tokens, primary_tokens, series_tokens, rest_tokens, head_tokens, goal_tokens, body_tokens, clause_tokens}
+use Rattle.kl1_model.specs.Reader.{Answer, Inner, then_read, then_skip, if_there, behind_comma, behind_close, behind_open, behind_close_list, behind_bar, behind_colon, behind_neck, behind_at, digits_in_front, priority_in_front, relation_in_front, adding_in_front, multiplying_in_front, series_by, series_at, rest_at, list_at, arguments_at, negative_at, primary_at, part_at, grouped_on, grouped_by, product_at, sum_at, related_at, expression_at, inner_of, all_read, expression_tree, head_at, priority_at, goal_at, body_by, body_at, tests_of, behind_neck_at, clause_at, clause_tree}
 
 -- an answer that came from going on behind another
 pub then_read_some : {A B P : Type 0} (x : Answer A) (go : A → List Numbered → Option B) (b : B) → then_read x go ≡ Some b → ((a : A) (us : List Numbered) → x ≡ Some (a, us) → go a us ≡ Some b → P) → P
@@ -56,9 +60,71 @@ pub neck_is : (ts us : List Numbered) → behind_neck ts ≡ Some us → sign_to
 neck_is (sign_token Neck ∷ ts) us h = cc
 neck_is _ us h = absurd (none-some us h)
 
+pub at_is : (ts us : List Numbered) → behind_at ts ≡ Some us → sign_token At ∷ us ≡ ts
+at_is (sign_token At ∷ ts) us h = cc
+at_is _ us h = absurd (none-some us h)
+
+pub digits_is : (ts us : List Numbered) (n : ℕ) → digits_in_front ts ≡ Some (n, us) → digits_token n ∷ us ≡ ts
+digits_is (digits_token k ∷ ts) us n h = answered (λ n us. digits_token n ∷ us) k n ts us h
+digits_is _ us n h = absurd (none-some (n, us) h)
+
+priority_by : (word : List ℕ) (q : Bool) (ts : List Numbered) (b : Bool) → bytes_eq word (codes "priority") ≡ b → (us : List Numbered) (quotes : Bool) → if◌then◌else◌ {A = Answer Bool} b (Some (q, ts)) None ≡ Some (quotes, us) → name_token (codes "priority") quotes true ∷ us ≡ name_token word q true ∷ ts
+priority_by word q ts true e us quotes h =
+    answered (λ q us. name_token (codes "priority") q true ∷ us) q quotes ts us h ∙ ap (λ w. name_token w q true ∷ ts) (sym ((bytes_eq-Decides word (codes "priority")).0 e))
+priority_by word q ts false e us quotes h = absurd (none-some (quotes, us) h)
+
+pub priority_is : (ts us : List Numbered) (quotes : Bool) → priority_in_front ts ≡ Some (quotes, us) → name_token (codes "priority") quotes true ∷ us ≡ ts
+priority_is (name_token word q true ∷ ts) us quotes h = priority_by word q ts (bytes_eq word (codes "priority")) refl us quotes h
+priority_is _ us quotes h = absurd (none-some (quotes, us) h)
+
 pub relation_is : (ts us : List Numbered) (r : Relation) → relation_in_front ts ≡ Some (r, us) → relation_token r ∷ us ≡ ts
-relation_is (sign_token Equals ∷ ts) us r h = answered (λ r us. relation_token r ∷ us) equality r ts us h
+relation_is (sign_token Equals ∷ ts) us r h = answered (λ r us. relation_token r ∷ us) Equal r ts us h
+relation_is (sign_token Differs ∷ ts) us r h = answered (λ r us. relation_token r ∷ us) NotEqual r ts us h
+relation_is (sign_token Becomes ∷ ts) us r h = answered (λ r us. relation_token r ∷ us) Assign r ts us h
+relation_is (sign_token Under ∷ ts) us r h = answered (λ r us. relation_token r ∷ us) Less r ts us h
+relation_is (sign_token Over ∷ ts) us r h = answered (λ r us. relation_token r ∷ us) Greater r ts us h
+relation_is (sign_token NotOver ∷ ts) us r h = answered (λ r us. relation_token r ∷ us) AtMost r ts us h
+relation_is (sign_token NotUnder ∷ ts) us r h = answered (λ r us. relation_token r ∷ us) AtLeast r ts us h
+relation_is (sign_token SameValue ∷ ts) us r h = answered (λ r us. relation_token r ∷ us) SameNumber r ts us h
+relation_is (sign_token OtherValue ∷ ts) us r h = answered (λ r us. relation_token r ∷ us) OtherNumber r ts us h
 relation_is _ us r h = absurd (none-some (r, us) h)
+
+pub adding_is : (ts us : List Numbered) (o : Adding) → adding_in_front ts ≡ Some (o, us) → adding_token o ∷ us ≡ ts
+adding_is (sign_token Plus ∷ ts) us o h = answered (λ o us. adding_token o ∷ us) by_plus o ts us h
+adding_is (minus_token digit ∷ ts) us o h = answered (λ o us. adding_token o ∷ us) (by_minus digit) o ts us h
+adding_is _ us o h = absurd (none-some (o, us) h)
+
+modulo_is : (f : List ℕ) (quotes applied : Bool) (ts : List Numbered) (b : Bool) → not quotes && bytes_eq f (codes "mod") ≡ b → (us : List Numbered) (o : Multiplying) → if◌then◌else◌ {A = Answer Multiplying} b (Some (by_mod applied, ts)) None ≡ Some (o, us) → multiplying_token o ∷ us ≡ name_token f quotes applied ∷ ts
+modulo_is f quotes applied ts true e us o h =
+    let both = and_parts (not quotes) (bytes_eq f (codes "mod")) e in
+    answered (λ o us. multiplying_token o ∷ us) (by_mod applied) o ts us h
+    ∙ ap₂ (λ g q. name_token g q applied ∷ ts) (sym ((bytes_eq-Decides f (codes "mod")).0 both.1)) (sym (not-true quotes both.0))
+modulo_is f quotes applied ts false e us o h = absurd (none-some (o, us) h)
+
+pub multiplying_is : (ts us : List Numbered) (o : Multiplying) → multiplying_in_front ts ≡ Some (o, us) → multiplying_token o ∷ us ≡ ts
+multiplying_is (sign_token Star ∷ ts) us o h = answered (λ o us. multiplying_token o ∷ us) by_star o ts us h
+multiplying_is (sign_token Slash ∷ ts) us o h = answered (λ o us. multiplying_token o ∷ us) by_slash o ts us h
+multiplying_is (name_token f quotes applied ∷ ts) us o h = modulo_is f quotes applied ts (not quotes && bytes_eq f (codes "mod")) refl us o h
+multiplying_is _ us o h = absurd (none-some (o, us) h)
+
+-- what was read with the operands behind it has the tokens of what was read, and then these
+module _ {S O A : Type 0} (operator : List Numbered → Answer O) (operand : List Numbered → Answer A) (join : S → O → A → S) (rows : S → List Numbered → List Numbered) (mark : O → Numbered) (row : A → List Numbered → List Numbered)
+    (joins : (s : S) (o : O) (a : A) (ts : List Numbered) → rows (join s o a) ts ≡ rows s (mark o ∷ row a ts))
+    (operator_sound : (ts us : List Numbered) (o : O) → operator ts ≡ Some (o, us) → mark o ∷ us ≡ ts)
+    (operand_sound : (ts : List Numbered) (a : A) (us : List Numbered) → operand ts ≡ Some (a, us) → row a us ≡ ts) where
+  grouped_on_sound : (next : S → List Numbered → Answer S) → ((s : S) (ts : List Numbered) (r : S) (us : List Numbered) → next s ts ≡ Some (r, us) → rows r us ≡ rows s ts) → (s : S) (ts : List Numbered) (x : Answer O) → operator ts ≡ x → (r : S) (us : List Numbered) → grouped_on operand join next s ts x ≡ Some (r, us) → rows r us ≡ rows s ts
+  grouped_on_sound next sound s ts None found r us h = answered rows s r ts us h
+  grouped_on_sound next sound s ts (Some o) found r us h =
+      then_read_some (operand o.1) _ (r, us) h (λ a vs read after.
+      sound (join s o.0 a) vs r us after
+      ∙ joins s o.0 a vs
+      ∙ ap (λ w. rows s (mark o.0 ∷ w)) (operand_sound o.1 a vs read)
+      ∙ ap (rows s) (operator_sound ts o.1 o.0 found))
+
+  pub grouped_sound : (m : ℕ) (s : S) (ts : List Numbered) (r : S) (us : List Numbered) → grouped_by operator operand join m s ts ≡ Some (r, us) → rows r us ≡ rows s ts
+  unfolding grouped_by
+  grouped_sound zero s ts r us h = absurd (none-some (r, us) h)
+  grouped_sound (suc m) s ts r us h = grouped_on_sound (grouped_by operator operand join m) (grouped_sound m) s ts (operator ts) refl r us h
 
 -- what inner expressions are read from are their tokens
 abbrev pub IsSound : Inner → Type 0
@@ -154,13 +220,59 @@ module _ (inner : Inner) (sound : IsSound inner) where
       ∙ ap (primary_tokens a) (colon_is vs ws colon)
       ∙ primary_sound ts a vs read)))
 
-  related_sound : (p : Part) (ts : List Numbered) (x : Answer Relation) → x ≡ relation_in_front ts → (e : Expression) (us : List Numbered) → related_at inner p ts x ≡ Some (e, us) → expression_tokens e us ≡ part_tokens p ts
-  related_sound p ts None found e us h = answered expression_tokens (alone p) e ts us h
-  related_sound p ts (Some r) found e us h =
-      then_read_some (part_at inner r.1) _ (e, us) h (λ q vs read is.
-      answered expression_tokens (related p r.0 q) e vs us is
-      ∙ ap (λ w. part_tokens p (relation_token r.0 ∷ w)) (part_sound r.1 q vs read)
-      ∙ ap (part_tokens p) (relation_is ts r.1 r.0 (sym found)))
+  pub product_sound : (ts : List Numbered) (p : Product) (us : List Numbered) → product_at inner ts ≡ Some (p, us) → product_tokens p us ≡ ts
+  product_sound ts p us h =
+      then_read_some (part_at inner ts) _ (p, us) h (λ a vs read after.
+      grouped_sound multiplying_in_front (part_at inner) multiplied product_tokens multiplying_token part_tokens (λ p o q ts. refl) multiplying_is part_sound (suc (length vs)) (factor a) vs p us after
+      ∙ part_sound ts a vs read)
+
+  pub sum_sound : (ts : List Numbered) (s : Sum) (us : List Numbered) → sum_at inner ts ≡ Some (s, us) → sum_tokens s us ≡ ts
+  sum_sound ts s us h =
+      then_read_some (product_at inner ts) _ (s, us) h (λ p vs read after.
+      grouped_sound adding_in_front (product_at inner) added sum_tokens adding_token product_tokens (λ s o p ts. refl) adding_is product_sound (suc (length vs)) (summand p) vs s us after
+      ∙ product_sound ts p vs read)
+
+  related_sound : (s : Sum) (ts : List Numbered) (x : Answer Relation) → x ≡ relation_in_front ts → (e : Expression) (us : List Numbered) → related_at inner s ts x ≡ Some (e, us) → expression_tokens e us ≡ sum_tokens s ts
+  related_sound s ts None found e us h = answered expression_tokens (alone s) e ts us h
+  related_sound s ts (Some r) found e us h =
+      then_read_some (sum_at inner r.1) _ (e, us) h (λ q vs read is.
+      answered expression_tokens (related s r.0 q) e vs us is
+      ∙ ap (λ w. sum_tokens s (relation_token r.0 ∷ w)) (sum_sound r.1 q vs read)
+      ∙ ap (sum_tokens s) (relation_is ts r.1 r.0 (sym found)))
+
+  priority_sound : (e : Expression) (ts : List Numbered) (g : GoalTree) (us : List Numbered) → priority_at e ts ≡ Some (g, us) → goal_tokens g us ≡ expression_tokens e (sign_token At ∷ ts)
+  priority_sound e ts g us h =
+      then_read_some (priority_in_front ts) _ (g, us) h (λ quotes vs word after.
+      then_skip_some (behind_open vs) _ (g, us) after (λ ws open_there inside.
+      then_read_some (digits_in_front ws) _ (g, us) inside (λ n xs digits behind.
+      then_skip_some (behind_close xs) _ (g, us) behind (λ ys end is.
+      answered goal_tokens (urgent_goal e quotes n) g ys us is
+      ∙ ap (λ w. expression_tokens e (sign_token At ∷ name_token (codes "priority") quotes true ∷ sign_token Open ∷ digits_token n ∷ w)) (close_is xs ys end)
+      ∙ ap (λ w. expression_tokens e (sign_token At ∷ name_token (codes "priority") quotes true ∷ sign_token Open ∷ w)) (digits_is ws xs n digits)
+      ∙ ap (λ w. expression_tokens e (sign_token At ∷ name_token (codes "priority") quotes true ∷ w)) (open_is vs ws open_there)
+      ∙ ap (λ w. expression_tokens e (sign_token At ∷ w)) (priority_is ts vs quotes word)))))
+
+  pub goal_sound : (ts : List Numbered) (g : GoalTree) (us : List Numbered) → goal_at inner ts ≡ Some (g, us) → goal_tokens g us ≡ ts
+  goal_sound ts g us h =
+      then_read_some (inner ts) _ (g, us) h (λ e vs read after.
+      if_there_some (behind_at vs) _ _ (g, us) after
+      (λ is. answered goal_tokens (plain_goal e) g vs us is ∙ sound ts e vs read)
+      (λ ws at rest. priority_sound e ws g us rest ∙ ap (expression_tokens e) (at_is vs ws at) ∙ sound ts e vs read))
+
+  -- goals that are read from tokens have them
+  pub body_sound : (m : ℕ) (ts : List Numbered) (b : Body) (us : List Numbered) → body_by inner m ts ≡ Some (b, us) → body_tokens b us ≡ ts
+  unfolding body_by
+  body_sound zero ts b us h = absurd (none-some (b, us) h)
+  body_sound (suc m) ts b us h =
+      then_read_some (goal_at inner ts) _ (b, us) h (λ g vs read after.
+      if_there_some (behind_comma vs) _ _ (b, us) after
+      (λ alone_is. answered body_tokens (last_goal g) b vs us alone_is ∙ goal_sound ts g vs read)
+      (λ ws comma rest.
+      then_read_some (body_by inner m ws) _ (b, us) rest (λ c xs more_read is.
+      answered body_tokens (another_goal g c) b xs us is
+      ∙ ap (λ w. goal_tokens g (sign_token Comma ∷ w)) (body_sound m ws c xs more_read)
+      ∙ ap (goal_tokens g) (comma_is vs ws comma)
+      ∙ goal_sound ts g vs read)))
 
   pub head_sound : (ts : List Numbered) (h : Head) (us : List Numbered) → head_at inner ts ≡ Some (h, us) → head_tokens h us ≡ ts
   head_sound (name_token p quotes false ∷ ts) h us is = answered head_tokens (bare_head p quotes) h ts us is
@@ -174,8 +286,8 @@ pub expressions_sound : (n : ℕ) → IsSound (expression_at n)
 unfolding expression_at
 expressions_sound zero ts e us h = absurd (none-some (e, us) h)
 expressions_sound (suc n) ts e us h =
-    then_read_some (part_at (expression_at n) ts) _ (e, us) h (λ p vs read after.
-    related_sound (expression_at n) (expressions_sound n) p vs (relation_in_front vs) refl e us after ∙ part_sound (expression_at n) (expressions_sound n) ts p vs read)
+    then_read_some (sum_at (expression_at n) ts) _ (e, us) h (λ s vs read after.
+    related_sound (expression_at n) (expressions_sound n) s vs (relation_in_front vs) refl e us after ∙ sum_sound (expression_at n) (expressions_sound n) ts s vs read)
 
 -- what was read with nothing behind it
 pub all_read_some : {A : Type 0} (x : Answer A) (a : A) → all_read x ≡ Some a → x ≡ Some (a, [])
@@ -190,8 +302,8 @@ expression_trees_sound ts e h = expressions_sound (suc (length ts)) ts e [] (all
 -- the tokens of a clause, and then these
 abbrev pub clause_row : ClauseTree → List Numbered → List Numbered
 clause_row (fact h) ts = head_tokens h ts
-clause_row (rule h body) ts = head_tokens h (sign_token Neck ∷ series_tokens body ts)
-clause_row (guarded h tests body) ts = head_tokens h (sign_token Neck ∷ series_tokens tests (sign_token Bar ∷ series_tokens body ts))
+clause_row (rule h body) ts = head_tokens h (sign_token Neck ∷ body_tokens body ts)
+clause_row (guarded h tests body) ts = head_tokens h (sign_token Neck ∷ series_tokens tests (sign_token Bar ∷ body_tokens body ts))
 
 -- the tokens of a clause with none behind them
 pub clause_row_alone : (c : ClauseTree) → clause_row c [] ≡ clause_tokens c
@@ -199,19 +311,31 @@ clause_row_alone (fact h) = refl
 clause_row_alone (rule h body) = refl
 clause_row_alone (guarded h tests body) = refl
 
+another_test : (e : Expression) (x : Option Series) (s : Series) (ts us : List Numbered) → option_map (λ t. another e t) x ≡ Some s → ((t : Series) → x ≡ Some t → series_tokens t ts ≡ us) → series_tokens s ts ≡ expression_tokens e (sign_token Comma ∷ us)
+another_test e None s ts us h k = absurd (none-some s h)
+another_test e (Some t) s ts us h k = ap (λ x. series_tokens x ts) (sym (same_Some (another e t) s h)) ∙ ap (λ w. expression_tokens e (sign_token Comma ∷ w)) (k t refl)
+
+-- goals that are tests have the tokens of these
+tests_row : (b : Body) (s : Series) (ts : List Numbered) → tests_of b ≡ Some s → series_tokens s ts ≡ body_tokens b ts
+tests_row (last_goal (plain_goal e)) s ts h = ap (λ x. series_tokens x ts) (sym (same_Some (last e) s h))
+tests_row (last_goal (urgent_goal e quotes n)) s ts h = absurd (none-some s h)
+tests_row (another_goal (plain_goal e) b) s ts h = another_test e (tests_of b) s ts (body_tokens b ts) h (λ t is. tests_row b t ts is)
+tests_row (another_goal (urgent_goal e quotes n) b) s ts h = absurd (none-some s h)
+
 module _ (inner : Inner) (sound : IsSound inner) where
   behind_neck_sound : (h : Head) (ts : List Numbered) (c : ClauseTree) (us : List Numbered) → behind_neck_at inner h ts ≡ Some (c, us) → clause_row c us ≡ head_tokens h (sign_token Neck ∷ ts)
   behind_neck_sound h ts c us is =
-      then_read_some (series_at inner ts) _ (c, us) is (λ s vs read after.
+      then_read_some (body_at inner ts) _ (c, us) is (λ b vs read after.
       if_there_some (behind_bar vs) _ _ (c, us) after
       (λ here.
-      answered clause_row (rule h s) c vs us here
-      ∙ ap (λ w. head_tokens h (sign_token Neck ∷ w)) (series_sound inner sound _ ts s vs read))
-      (λ ws bar rest. then_read_some (series_at inner ws) _ (c, us) rest (λ body xs more_read here.
+      answered clause_row (rule h b) c vs us here
+      ∙ ap (λ w. head_tokens h (sign_token Neck ∷ w)) (body_sound inner sound _ ts b vs read))
+      (λ ws bar rest. option_and_then_some _ (tests_of b) (c, us) rest (λ s tests behind.
+      then_read_some (body_at inner ws) _ (c, us) behind (λ body xs more_read here.
       answered clause_row (guarded h s body) c xs us here
-      ∙ ap (λ w. head_tokens h (sign_token Neck ∷ series_tokens s (sign_token Bar ∷ w))) (series_sound inner sound _ ws body xs more_read)
+      ∙ ap (λ w. head_tokens h (sign_token Neck ∷ series_tokens s (sign_token Bar ∷ w))) (body_sound inner sound _ ws body xs more_read)
       ∙ ap (λ w. head_tokens h (sign_token Neck ∷ series_tokens s w)) (bar_is vs ws bar)
-      ∙ ap (λ w. head_tokens h (sign_token Neck ∷ w)) (series_sound inner sound _ ts s vs read))))
+      ∙ ap (λ w. head_tokens h (sign_token Neck ∷ w)) (tests_row b s vs tests ∙ body_sound inner sound _ ts b vs read)))))
 
   clause_sound : (ts : List Numbered) (c : ClauseTree) (us : List Numbered) → clause_at inner ts ≡ Some (c, us) → clause_row c us ≡ ts
   clause_sound ts c us is =

@@ -5,13 +5,16 @@ use Rattle.std.proofs.lemmas.Bool.{cond-false}
 use Rattle.kl1_model.specs.Term.{Term, variable, integer, atom, structure, Terms, none, more, substituted, each_substituted, Replacement, replaced}
 use Rattle.kl1_model.specs.Module.{Module, is_of}
 use Rattle.kl1_model.specs.Match.{Call, call_of, module_of, clauses_in, clauses_of}
-use Rattle.kl1_model.specs.Reduction.{Move, unifies, built_in_move, term_move}
+use Rattle.kl1_model.specs.Arithmetic.{Evaluated, comes_to, awaits, is_no_expression, evaluated}
+use Rattle.kl1_model.specs.Reduction.{Move, unifies, assigned, built_in_move, term_move}
 use Rattle.kl1_model.specs.Choice.{call_clauses}
-use Rattle.kl1_model.specs.Waits.{LeavesEach, least_clause, term_clause, awaited_by_clauses, awaited_by_call, awaited_in_call, awaited_at_head}
+use Rattle.kl1_model.specs.Waits.{LeavesEach, least_clause, term_clause, awaited_by_clauses, awaited_by_evaluated, awaited_by_built_in, awaited_by_call, awaited_in_call, awaited_at_head}
 use Rattle.kl1_model.specs.WaitsLaws.{call_substituted, HeadStays, TermStays}
 use Rattle.kl1_model.proofs.Substitutions.{count-each_substituted}
 use Rattle.kl1_model.proofs.LeastClause.{term_clause-call}
-use Rattle.kl1_model.proofs.VerdictStays.{leaves_front, leaves_back, clauses_stay}
+use Rattle.kl1_model.proofs.SameStays.{left_front, left_back}
+use Rattle.kl1_model.proofs.ScanStays.{evaluated_stays}
+use Rattle.kl1_model.proofs.VerdictStays.{clauses_stay}
 
 -- ---- calls
 
@@ -98,14 +101,39 @@ some-if : (c : Bool) (m n : Move) → is_some (if c then Some m else None) ≡ i
 some-if true m n = refl
 some-if false m n = refl
 
-built_in_stays : (s : ℕ → Term) (t : Term) → LeavesEach s (awaited_at_head t) → is_some (built_in_move (substituted s t)) ≡ is_some (built_in_move t)
-built_in_stays s (variable v) l = ap (λ t. is_some (built_in_move t)) l.0
-built_in_stays s (integer i) l = refl
-built_in_stays s (atom a) l = refl
-built_in_stays s (structure f none) l = refl
-built_in_stays s (structure f (more a none)) l = refl
-built_in_stays s (structure f (more a (more b none))) l = some-if (bytes_eq f (codes "=")) (unifies (substituted s a) (substituted s b)) (unifies a b)
-built_in_stays s (structure f (more a (more b (more c us)))) l = refl
+assigned_is : (a b : Term) (x y : Evaluated) → x ≡ y → is_some (assigned a x) ≡ is_some (assigned b y)
+assigned_is a b x (comes_to n) e = ap (λ z. is_some (assigned a z)) e
+assigned_is a b x (awaits v) e = ap (λ z. is_some (assigned a z)) e
+assigned_is a b x is_no_expression e = ap (λ z. is_some (assigned a z)) e
+
+pair_stays_by : (s : ℕ → Term) (c d : Bool) (a b : Term) → LeavesEach s (if d then awaited_by_evaluated (evaluated b) else []) →
+    is_some (if c then Some (unifies (substituted s a) (substituted s b)) else if d then assigned (substituted s a) (evaluated (substituted s b)) else None)
+    ≡ is_some (if c then Some (unifies a b) else if d then assigned a (evaluated b) else None)
+pair_stays_by s true d a b l = refl
+pair_stays_by s false true a b l = assigned_is (substituted s a) a (evaluated (substituted s b)) (evaluated b) (evaluated_stays s b l)
+pair_stays_by s false false a b l = refl
+
+built_in_stays : (s : ℕ → Term) (t : Term) → LeavesEach s (awaited_at_head t) → LeavesEach s (awaited_by_built_in t) → is_some (built_in_move (substituted s t)) ≡ is_some (built_in_move t)
+built_in_stays s (variable v) l k = ap (λ t. is_some (built_in_move t)) l.0
+built_in_stays s (integer i) l k = refl
+built_in_stays s (atom a) l k = refl
+built_in_stays s (structure f none) l k = refl
+built_in_stays s (structure f (more a none)) l k = refl
+built_in_stays s (structure f (more a (more b none))) l k = pair_stays_by s (bytes_eq f (codes "=")) (bytes_eq f (codes ":=")) a b k
+built_in_stays s (structure f (more a (more b (more c us)))) l k = refl
+
+awaited_if_stays : (s : ℕ → Term) (d : Bool) (b : Term) → LeavesEach s (if d then awaited_by_evaluated (evaluated b) else []) → (if d then awaited_by_evaluated (evaluated (substituted s b)) else []) ≡ (if d then awaited_by_evaluated (evaluated b) else [])
+awaited_if_stays s true b l = ap awaited_by_evaluated (evaluated_stays s b l)
+awaited_if_stays s false b l = refl
+
+built_in_awaited_stays : (s : ℕ → Term) (t : Term) → LeavesEach s (awaited_at_head t) → LeavesEach s (awaited_by_built_in t) → awaited_by_built_in (substituted s t) ≡ awaited_by_built_in t
+built_in_awaited_stays s (variable v) l k = ap awaited_by_built_in l.0
+built_in_awaited_stays s (integer i) l k = refl
+built_in_awaited_stays s (atom a) l k = refl
+built_in_awaited_stays s (structure f none) l k = refl
+built_in_awaited_stays s (structure f (more a none)) l k = refl
+built_in_awaited_stays s (structure f (more a (more b none))) l k = awaited_if_stays s (bytes_eq f (codes ":=")) b k
+built_in_awaited_stays s (structure f (more a (more b (more c us)))) l k = refl
 
 -- a term that is no call takes 0, or nothing
 no_call : (modules : List Module) (t : Term) → call_of t ≡ None → term_clause modules t ≡ (if is_some (built_in_move t) then Some 0 else None)
@@ -135,10 +163,13 @@ by_call modules s t (Some k) e h b l =
 
 pub term_stays : TermStays
 term_stays modules s t l =
-    let a = leaves_front s (awaited_at_head t) (awaited_by_call modules (call_of t)) l in
-    let b = leaves_back s (awaited_at_head t) (awaited_by_call modules (call_of t)) l in
-    let r = by_call modules s t (call_of t) refl (head_stays s t a) (built_in_stays s t a) b in
-    (r.0, ap₂ (λ (vs ws : List ℕ). vs ++ ws) (head_awaited_stays s t a) r.1)
+    let calls = awaited_by_call modules (call_of t) in
+    let built = awaited_by_built_in t in
+    let front = left_front s (awaited_at_head t ++ calls) built l in
+    let a = left_front s (awaited_at_head t) calls front in
+    let k = left_back s (awaited_at_head t ++ calls) built l in
+    let r = by_call modules s t (call_of t) refl (head_stays s t a) (built_in_stays s t a k) (left_back s (awaited_at_head t) calls front) in
+    (r.0, ap₂ (λ (vs ws : List ℕ). vs ++ ws) (ap₂ (λ (vs ws : List ℕ). vs ++ ws) (head_awaited_stays s t a) r.1) (built_in_awaited_stays s t a k))
 
 -- ---- what replacements leave
 

@@ -1,24 +1,16 @@
 -- Verdicts when variables are replaced.
 use Rattle.std.proofs.Common.{◌≡◌, ℕ, suc, ◌==◌, ◌&&◌, Bool, true, false, if◌then◌else◌, List, [], ◌∷◌, ◌++◌, refl, sym, ap, ap₂, ◌∙◌, subst, ◌⊎◌, inl, inr}
-use Rattle.std.specs.Prelude.{bytes_eq, Some}
-use Rattle.std.specs.Ordering.{int_eq}
+use Rattle.std.specs.Prelude.{bytes_eq, Option, Some, None}
 use Rattle.std.proofs.lemmas.List.{map-append}
 use Rattle.kl1_model.specs.Term.{Term, variable, integer, atom, structure, Terms, none, more, count_of, substituted, each_substituted, Replacement}
 use Rattle.kl1_model.specs.Module.{Clause}
-use Rattle.kl1_model.specs.Match.{Outcome, agrees, clashes, waits, both, Matched, with_outcome, match_both, match_term, match_terms, tests_outcome, Verdict, accepts, rejects, suspends, verdict_with, verdict_of, verdict}
-use Rattle.kl1_model.specs.Waits.{LeavesEach, least_by, least_from, awaited_after, awaited_by_clauses}
-use Rattle.kl1_model.specs.WaitsLaws.{place_substituted, places_substituted, RejectsStays, AcceptsStays, SuspendsStays, SuspendsWaits, ClausesStay}
+use Rattle.kl1_model.specs.Guard.{Outcome, agrees, clashes, waits, both}
+use Rattle.kl1_model.specs.Match.{Matched, with_outcome, match_both, match_term, match_terms, each_alike, guard_outcome, awaited_in, Verdict, accepts, rejects, suspends, verdict_with, verdict_of, verdict}
+use Rattle.kl1_model.specs.Waits.{LeavesEach, least_by, least_within, least_from, awaited_after, awaited_within, awaited_by_clauses}
+use Rattle.kl1_model.specs.WaitsLaws.{place_substituted, places_substituted, RejectsStays, AcceptsStays, SuspendsStays, ClausesStay}
 use Rattle.kl1_model.proofs.Substitutions.{count-each_substituted}
-
--- ---- lists of variables that are left
-
-pub leaves_front : (s : ℕ → Term) (vs ws : List ℕ) → LeavesEach s (vs ++ ws) → LeavesEach s vs
-leaves_front s [] ws a = tt
-leaves_front s (v ∷ vs) ws a = (a.0, leaves_front s vs ws a.1)
-
-pub leaves_back : (s : ℕ → Term) (vs ws : List ℕ) → LeavesEach s (vs ++ ws) → LeavesEach s ws
-leaves_back s [] ws a = a
-leaves_back s (v ∷ vs) ws a = leaves_back s vs ws a.1
+use Rattle.kl1_model.proofs.SameStays.{left_front, left_back}
+use Rattle.kl1_model.proofs.GuardStays.{Stays, both_stay, guard_stays, each_alike_stays}
 
 -- ---- outcomes that stay
 
@@ -33,7 +25,7 @@ left_both s agrees b l = (tt, l)
 left_both s clashes b l = absurd l
 left_both s (waits vs) agrees l = (l, tt)
 left_both s (waits vs) clashes l = absurd l
-left_both s (waits vs) (waits ws) l = (leaves_front s vs ws l, leaves_back s vs ws l)
+left_both s (waits vs) (waits ws) l = (left_front s vs ws l, left_back s vs ws l)
 
 -- a match after a substitution
 abbrev after : (ℕ → Term) → Matched → Matched
@@ -74,17 +66,17 @@ mutual
 
 -- ---- clashes stay
 
-both_clash : (a b : Outcome) → both a b ≡ clashes → (a ≡ clashes) ⊎ (b ≡ clashes)
+pub both_clash : (a b : Outcome) → both a b ≡ clashes → (a ≡ clashes) ⊎ (b ≡ clashes)
 both_clash agrees b e = inr e
 both_clash clashes b e = inl refl
 both_clash (waits vs) agrees e = absurd (cc)
 both_clash (waits vs) clashes e = inr refl
 both_clash (waits vs) (waits ws) e = absurd (cc)
 
-clash_left : (a b : Outcome) → a ≡ clashes → both a b ≡ clashes
+pub clash_left : (a b : Outcome) → a ≡ clashes → both a b ≡ clashes
 clash_left a b e = ap (λ o. both o b) e
 
-clash_right : (a b : Outcome) → b ≡ clashes → both a b ≡ clashes
+pub clash_right : (a b : Outcome) → b ≡ clashes → both a b ≡ clashes
 clash_right agrees b e = e
 clash_right clashes b e = refl
 clash_right (waits vs) b e = ap (both (waits vs)) e
@@ -111,7 +103,7 @@ mutual
       ap (λ n. (if bytes_eq f g && count_of ps == n then match_terms ps (each_substituted s ts) else with_outcome clashes).outcome) (count-each_substituted s ts)
       ∙ clash_inside (bytes_eq f g && count_of ps == count_of ts) (match_terms ps ts) (match_terms ps (each_substituted s ts)) e (clashes_stay s ps ts)
 
-  clashes_stay : (s : ℕ → Term) (ps ts : Terms) → (match_terms ps ts).outcome ≡ clashes → (match_terms ps (each_substituted s ts)).outcome ≡ clashes
+  pub clashes_stay : (s : ℕ → Term) (ps ts : Terms) → (match_terms ps ts).outcome ≡ clashes → (match_terms ps (each_substituted s ts)).outcome ≡ clashes
   clashes_stay s none none e = absurd (cc)
   clashes_stay s none (more t ts) e = e
   clashes_stay s (more p ps) none e = e
@@ -121,147 +113,138 @@ mutual
         | inr b ↦ clash_right (match_term p (substituted s t)).outcome (match_terms ps (each_substituted s ts)).outcome (clashes_stay s ps ts b)
       ]
 
--- ---- who waits names a variable
-
--- an outcome that waits does so for some variable
-abbrev Names : Outcome → Type 0
-Names agrees = Unit {0}
-Names clashes = Unit {0}
-Names (waits []) = ⊥
-Names (waits (v ∷ vs)) = Unit {0}
-
-names_both : (a b : Outcome) → Names a → Names b → Names (both a b)
-names_both agrees b n k = k
-names_both clashes b n k = tt
-names_both (waits vs) agrees n k = n
-names_both (waits vs) clashes n k = tt
-names_both (waits []) (waits ws) n k = absurd n
-names_both (waits (v ∷ vs)) (waits ws) n k = tt
-
-names_decided : (b : Bool) (m : Matched) → Names m.outcome → Names (if b then m else with_outcome clashes).outcome
-names_decided true m n = n
-names_decided false m n = tt
-
-decided_names : (b : Bool) → Names (if b then agrees else clashes)
-decided_names true = tt
-decided_names false = tt
-
-mutual
-  match_names : (p t : Term) → Names (match_term p t).outcome
-  match_names (variable v) t = tt
-  match_names (integer i) (variable w) = tt
-  match_names (integer i) (integer j) = decided_names (int_eq i j)
-  match_names (integer i) (atom b) = tt
-  match_names (integer i) (structure g us) = tt
-  match_names (atom a) (variable w) = tt
-  match_names (atom a) (integer j) = tt
-  match_names (atom a) (atom b) = decided_names (bytes_eq a b)
-  match_names (atom a) (structure g us) = tt
-  match_names (structure f ps) (variable w) = tt
-  match_names (structure f ps) (integer j) = tt
-  match_names (structure f ps) (atom b) = tt
-  match_names (structure f ps) (structure g ts) = names_decided (bytes_eq f g && count_of ps == count_of ts) (match_terms ps ts) (match_all_names ps ts)
-
-  match_all_names : (ps ts : Terms) → Names (match_terms ps ts).outcome
-  match_all_names none none = tt
-  match_all_names none (more t ts) = tt
-  match_all_names (more p ps) none = tt
-  match_all_names (more p ps) (more t ts) = names_both (match_term p t).outcome (match_terms ps ts).outcome (match_names p t) (match_all_names ps ts)
-
 -- ---- verdicts
 
-both-agrees : (o : Outcome) → both o agrees ≡ o
-both-agrees agrees = refl
-both-agrees clashes = refl
-both-agrees (waits vs) = refl
+-- the whole outcome of a match and a guard
+abbrev pub whole : List Term → Matched → Outcome
+whole tests m = both (both m.outcome (each_alike m.places)) (guard_outcome m.places tests)
 
-tests-agree : (places : List Replacement) (tests : List Term) → tests_outcome places tests ≡ agrees
-tests-agree places [] = refl
-tests-agree places (t ∷ tests) = tests-agree places tests
+-- it stays where the match does, until a variable for which it waits is replaced
+whole_stays : (s : ℕ → Term) (tests : List Term) (m : Matched) → Stays s (whole tests m) (whole tests (after s m))
+whole_stays s tests m =
+    both_stay s (both m.outcome (each_alike m.places)) (guard_outcome m.places tests) (both m.outcome (each_alike (places_substituted s m.places))) (guard_outcome (places_substituted s m.places) tests)
+    (both_stay s m.outcome (each_alike m.places) m.outcome (each_alike (places_substituted s m.places)) (λ l. refl) (each_alike_stays s m.places))
+    (guard_stays s m.places tests)
 
--- the verdict is that of the match
-verdict_is : (c : Clause) (ts : Terms) (m : Matched) → match_terms c.patterns ts ≡ m → verdict c ts ≡ verdict_with m.places m.outcome
-verdict_is c ts m e = ap (verdict_of c.tests) e ∙ ap (λ o. verdict_with m.places (both m.outcome o)) (tests-agree m.places c.tests) ∙ ap (verdict_with m.places) (both-agrees m.outcome)
+-- the verdict where the match stays and the whole outcome is this
+stays_with : (s : ℕ → Term) (c : Clause) (ts : Terms) (o : Outcome) → whole c.tests (match_terms c.patterns ts) ≡ o → Left s (match_terms c.patterns ts).outcome → LeavesEach s (awaited_in o) →
+    verdict c (each_substituted s ts) ≡ verdict_with (after s (match_terms c.patterns ts)) o
+stays_with s c ts o e left l =
+    let m = match_terms c.patterns ts in
+    ap (verdict_of c.tests) (match_all_stays s c.patterns ts left)
+    ∙ ap (verdict_with (after s m)) (whole_stays s c.tests m (subst (λ p. LeavesEach s (awaited_in p)) (sym e) l) ∙ e)
 
-was_clash : (ps : List Replacement) (o : Outcome) → verdict_with ps o ≡ rejects → o ≡ clashes
-was_clash ps agrees e = absurd (cc)
-was_clash ps clashes e = refl
-was_clash ps (waits vs) e = absurd (cc)
+pub was_clash : (m : Matched) (o : Outcome) (vs : List ℕ) → verdict_with m o ≡ rejects vs → (o ≡ clashes) × (awaited_in m.outcome ≡ vs)
+was_clash m agrees vs e = absurd (cc)
+was_clash m clashes vs e = (refl, cc)
+was_clash m (waits ws) vs e = absurd (cc)
 
-was_agreed : (ps qs : List Replacement) (o : Outcome) → verdict_with ps o ≡ accepts qs → (o ≡ agrees) × (ps ≡ qs)
-was_agreed ps qs agrees e = (refl, cc)
-was_agreed ps qs clashes e = absurd (cc)
-was_agreed ps qs (waits vs) e = absurd (cc)
+pub was_agreed : (m : Matched) (o : Outcome) (ps : List Replacement) → verdict_with m o ≡ accepts ps → (o ≡ agrees) × (m.places ≡ ps)
+was_agreed m agrees ps e = (refl, cc)
+was_agreed m clashes ps e = absurd (cc)
+was_agreed m (waits vs) ps e = absurd (cc)
 
-was_waiting : (ps : List Replacement) (o : Outcome) (vs : List ℕ) → verdict_with ps o ≡ suspends vs → o ≡ waits vs
-was_waiting ps agrees vs e = absurd (cc)
-was_waiting ps clashes vs e = absurd (cc)
-was_waiting ps (waits ws) vs e = cc
+was_waiting : (m : Matched) (o : Outcome) (vs : List ℕ) → verdict_with m o ≡ suspends vs → o ≡ waits vs
+was_waiting m agrees vs e = absurd (cc)
+was_waiting m clashes vs e = absurd (cc)
+was_waiting m (waits ws) vs e = cc
+
+-- a match that doesn't clash stays where the variables for which it waits are left, and so does what it names
+open_stays : (s : ℕ → Term) (c : Clause) (ts : Terms) (o : Outcome) → (match_terms c.patterns ts).outcome ≡ o → whole c.tests (match_terms c.patterns ts) ≡ clashes → LeavesEach s (awaited_in o) → verdict c (each_substituted s ts) ≡ rejects (awaited_in o)
+open_stays s c ts agrees e w l = stays_with s c ts clashes w (subst (λ o. Left s o) (sym e) tt) tt ∙ ap (λ o. rejects (awaited_in o)) e
+open_stays s c ts clashes e w l =
+    let k : (match_terms c.patterns (each_substituted s ts)).outcome ≡ clashes = clashes_stay s c.patterns ts e in
+    let n = match_terms c.patterns (each_substituted s ts) in
+    ap (verdict_with n) (ap (λ o. both (both o (each_alike n.places)) (guard_outcome n.places c.tests)) k) ∙ ap (λ o. rejects (awaited_in o)) k
+open_stays s c ts (waits vs) e w l = stays_with s c ts clashes w (subst (λ o. Left s o) (sym e) l) tt ∙ ap (λ o. rejects (awaited_in o)) e
 
 pub rejects_stays : RejectsStays
-rejects_stays s c ts e =
+rejects_stays s c ts vs e l =
     let m = match_terms c.patterns ts in
-    let n = match_terms c.patterns (each_substituted s ts) in
-    verdict_is c (each_substituted s ts) n refl ∙ ap (verdict_with n.places) (clashes_stay s c.patterns ts (was_clash m.places m.outcome (sym (verdict_is c ts m refl) ∙ e)))
+    let w = was_clash m (whole c.tests m) vs e in
+    open_stays s c ts m.outcome refl w.0 (subst (λ (x : List ℕ). LeavesEach s x) (sym w.1) l) ∙ ap (λ x. rejects x) w.1
+
+-- what a whole outcome that is no clash leaves, its match leaves
+match_left : (s : ℕ → Term) (tests : List Term) (m : Matched) → Left s (whole tests m) → Left s m.outcome
+match_left s tests m l = (left_both s m.outcome (each_alike m.places) (left_both s (both m.outcome (each_alike m.places)) (guard_outcome m.places tests) l).0).0
 
 pub accepts_stays : AcceptsStays
 accepts_stays s c ts places e =
     let m = match_terms c.patterns ts in
-    let w = was_agreed m.places places m.outcome (sym (verdict_is c ts m refl) ∙ e) in
-    let L : Outcome → Type 0 = λ o. Left s o in
-    verdict_is c (each_substituted s ts) (after s m) (match_all_stays s c.patterns ts (subst L (sym w.0) tt))
-    ∙ ap (verdict_with (places_substituted s m.places)) w.0
+    let w = was_agreed m (whole c.tests m) places e in
+    stays_with s c ts agrees w.0 (match_left s c.tests m (subst (λ o. Left s o) (sym w.0) tt)) tt
     ∙ ap (λ (ps : List Replacement). accepts (places_substituted s ps)) w.1
 
 pub suspends_stays : SuspendsStays
 suspends_stays s c ts vs e l =
     let m = match_terms c.patterns ts in
-    let w : m.outcome ≡ waits vs = was_waiting m.places m.outcome vs (sym (verdict_is c ts m refl) ∙ e) in
-    let L : Outcome → Type 0 = λ o. Left s o in
-    verdict_is c (each_substituted s ts) (after s m) (match_all_stays s c.patterns ts (subst L (sym w) l))
-    ∙ ap (verdict_with (places_substituted s m.places)) w
-
-pub suspends_waits : SuspendsWaits
-suspends_waits c ts e =
-    let m = match_terms c.patterns ts in
-    let w : m.outcome ≡ waits [] = was_waiting m.places m.outcome [] (sym (verdict_is c ts m refl) ∙ e) in
-    let P : Outcome → Type 0 = λ o. Names o in
-    subst P w (match_all_names c.patterns ts)
+    let w : whole c.tests m ≡ waits vs = was_waiting m (whole c.tests m) vs e in
+    stays_with s c ts (waits vs) w (match_left s c.tests m (subst (λ o. Left s o) (sym w) l)) l
 
 -- ---- the clauses of a predicate
 
--- the answers of clauses before and after, and the variables that they wait for
-abbrev Same : (ℕ → Term) → List Clause → Terms → Type 0
-Same s cs ts =
-    ((waiting : Bool) (n : ℕ) → least_from waiting n cs (each_substituted s ts) ≡ least_from waiting n cs ts) × (awaited_by_clauses cs (each_substituted s ts) ≡ awaited_by_clauses cs ts)
+-- the answers of clauses before and after, and the variables that they wait for, within a section
+abbrev SameWithin : (ℕ → Term) → ℕ → List Clause → Terms → Type 0
+SameWithin s section cs ts =
+    ((n : ℕ) → least_within section n cs (each_substituted s ts) ≡ least_within section n cs ts) × (awaited_within section cs (each_substituted s ts) ≡ awaited_within section cs ts)
 
-one_stays : (s : ℕ → Term) (c : Clause) (cs : List Clause) (ts : Terms) (v : Verdict) → verdict c ts ≡ v → LeavesEach s (awaited_after v (awaited_by_clauses cs ts)) → (LeavesEach s (awaited_by_clauses cs ts) → Same s cs ts) → Same s (c ∷ cs) ts
-one_stays s c cs ts (accepts ps) e l f =
-    let k = accepts_stays s c ts ps e in
-    let us = each_substituted s ts in (
-      λ waiting n. ap (least_by (Some n) (least_from waiting (suc n) cs us) (least_from true (suc n) cs us)) k ∙ sym (ap (least_by (Some n) (least_from waiting (suc n) cs ts) (least_from true (suc n) cs ts)) e),
-      ap (λ v. awaited_after v (awaited_by_clauses cs us)) k ∙ sym (ap (λ v. awaited_after v (awaited_by_clauses cs ts)) e),
-    )
-one_stays s c cs ts rejects e l f =
-    let k = rejects_stays s c ts e in
+-- the same of all
+abbrev Same : (ℕ → Term) → List Clause → Terms → Type 0
+Same s cs ts = ((n : ℕ) → least_from n cs (each_substituted s ts) ≡ least_from n cs ts) × (awaited_by_clauses cs (each_substituted s ts) ≡ awaited_by_clauses cs ts)
+
+-- a verdict after a substitution, but for the terms at places
+abbrev SameVerdict : (ℕ → Term) → Verdict → Verdict → Type 0
+SameVerdict s (accepts ps) w = w ≡ accepts (places_substituted s ps)
+SameVerdict s (rejects vs) w = w ≡ rejects vs
+SameVerdict s (suspends vs) w = w ≡ suspends vs
+
+-- a verdict, and what later clauses lead to where it rejects and where it suspends
+verdict_stays : (s : ℕ → Term) (c : Clause) (ts : Terms) (v : Verdict) (rs ws : List ℕ) → verdict c ts ≡ v → LeavesEach s (awaited_after v rs ws) → SameVerdict s v (verdict c (each_substituted s ts))
+verdict_stays s c ts (accepts ps) rs ws e l = accepts_stays s c ts ps e
+verdict_stays s c ts (rejects vs) rs ws e l = rejects_stays s c ts vs e (left_front s vs rs l)
+verdict_stays s c ts (suspends vs) rs ws e l = suspends_stays s c ts vs e (left_front s vs ws l)
+
+least_same : (s : ℕ → Term) (v w : Verdict) (a r x q y : Option ℕ) (rs ws : List ℕ) → SameVerdict s v w → LeavesEach s (awaited_after v rs ws) → (LeavesEach s rs → q ≡ r) → (LeavesEach s ws → y ≡ x) → least_by a q y w ≡ least_by a r x v
+least_same s (accepts ps) w a r x q y rs ws e l f g = ap (least_by a q y) e
+least_same s (rejects vs) w a r x q y rs ws e l f g = ap (least_by a q y) e ∙ f (left_back s vs rs l)
+least_same s (suspends vs) w a r x q y rs ws e l f g = ap (least_by a q y) e ∙ g (left_back s vs ws l)
+
+awaited_same : (s : ℕ → Term) (v w : Verdict) (rs ws qs ys : List ℕ) → SameVerdict s v w → LeavesEach s (awaited_after v rs ws) → (LeavesEach s rs → qs ≡ rs) → (LeavesEach s ws → ys ≡ ws) → awaited_after w qs ys ≡ awaited_after v rs ws
+awaited_same s (accepts ps) w rs ws qs ys e l f g = ap (λ u. awaited_after u qs ys) e
+awaited_same s (rejects vs) w rs ws qs ys e l f g = ap (λ u. awaited_after u qs ys) e ∙ ap (λ x. vs ++ x) (f (left_back s vs rs l))
+awaited_same s (suspends vs) w rs ws qs ys e l f g = ap (λ u. awaited_after u qs ys) e ∙ ap (λ x. vs ++ x) (g (left_back s vs ws l))
+
+within_if : (s : ℕ → Term) (section : ℕ) (c : Clause) (cs : List Clause) (ts : Terms) (b : Bool) → LeavesEach s (if b then awaited_after (verdict c ts) (awaited_within section cs ts) (awaited_within section cs ts) else []) → (LeavesEach s (awaited_within section cs ts) → SameWithin s section cs ts) →
+    ((n : ℕ) →
+    (if b then least_by (Some n) (least_within section (suc n) cs (each_substituted s ts)) (least_within section (suc n) cs (each_substituted s ts)) (verdict c (each_substituted s ts)) else None)
+    ≡ (if b then least_by (Some n) (least_within section (suc n) cs ts) (least_within section (suc n) cs ts) (verdict c ts) else None))
+    × ((if b then awaited_after (verdict c (each_substituted s ts)) (awaited_within section cs (each_substituted s ts)) (awaited_within section cs (each_substituted s ts)) else [])
+    ≡ (if b then awaited_after (verdict c ts) (awaited_within section cs ts) (awaited_within section cs ts) else []))
+within_if s section c cs ts true l f =
     let us = each_substituted s ts in
-    let r = f l in (
-      λ waiting n.
-          ap (least_by (Some n) (least_from waiting (suc n) cs us) (least_from true (suc n) cs us)) k ∙ r.0 waiting (suc n) ∙ sym (ap (least_by (Some n) (least_from waiting (suc n) cs ts) (least_from true (suc n) cs ts)) e),
-      ap (λ v. awaited_after v (awaited_by_clauses cs us)) k ∙ r.1 ∙ sym (ap (λ v. awaited_after v (awaited_by_clauses cs ts)) e),
+    let ws = awaited_within section cs ts in
+    let v = verdict_stays s c ts (verdict c ts) ws ws refl l in (
+      λ n.
+          least_same s (verdict c ts) (verdict c us) (Some n) (least_within section (suc n) cs ts) (least_within section (suc n) cs ts) (least_within section (suc n) cs us) (least_within section (suc n) cs us) ws ws v l (λ k. (f k).0 (suc n)) (λ k. (f k).0 (suc n)),
+      awaited_same s (verdict c ts) (verdict c us) ws ws (awaited_within section cs us) (awaited_within section cs us) v l (λ k. (f k).1) (λ k. (f k).1),
     )
-one_stays s c cs ts (suspends vs) e l f =
-    let k = suspends_stays s c ts vs e (leaves_front s vs (awaited_by_clauses cs ts) l) in
-    let us = each_substituted s ts in
-    let r = f (leaves_back s vs (awaited_by_clauses cs ts) l) in (
-      λ waiting n.
-          ap (least_by (Some n) (least_from waiting (suc n) cs us) (least_from true (suc n) cs us)) k ∙ r.0 true (suc n) ∙ sym (ap (least_by (Some n) (least_from waiting (suc n) cs ts) (least_from true (suc n) cs ts)) e),
-      ap (λ v. awaited_after v (awaited_by_clauses cs us)) k ∙ ap (λ l. vs ++ l) r.1 ∙ sym (ap (λ v. awaited_after v (awaited_by_clauses cs ts)) e),
-    )
+within_if s section c cs ts false l f = (λ n. refl, refl)
+
+within_same : (s : ℕ → Term) (section : ℕ) (cs : List Clause) (ts : Terms) → LeavesEach s (awaited_within section cs ts) → SameWithin s section cs ts
+within_same s section [] ts l = (λ n. refl, refl)
+within_same s section (c ∷ cs) ts l = within_if s section c cs ts (c.section == section) l (within_same s section cs ts)
 
 clauses_same : (s : ℕ → Term) (cs : List Clause) (ts : Terms) → LeavesEach s (awaited_by_clauses cs ts) → Same s cs ts
-clauses_same s [] ts l = (λ waiting n. refl, refl)
-clauses_same s (c ∷ cs) ts l = one_stays s c cs ts (verdict c ts) refl l (clauses_same s cs ts)
+clauses_same s [] ts l = (λ n. refl, refl)
+clauses_same s (c ∷ cs) ts l =
+    let us = each_substituted s ts in
+    let rs = awaited_by_clauses cs ts in
+    let ws = awaited_within c.section cs ts in
+    let v = verdict_stays s c ts (verdict c ts) rs ws refl l in (
+      λ n.
+          least_same s (verdict c ts) (verdict c us) (Some n) (least_from (suc n) cs ts) (least_within c.section (suc n) cs ts) (least_from (suc n) cs us) (least_within c.section (suc n) cs us) rs ws v l (λ k. (clauses_same s cs ts k).0 (suc n)) (λ k. (within_same s c.section cs ts k).0 (suc n)),
+      awaited_same s (verdict c ts) (verdict c us) rs ws (awaited_by_clauses cs us) (awaited_within c.section cs us) v l (λ k. (clauses_same s cs ts k).1) (λ k. (within_same s c.section cs ts k).1),
+    )
 
 pub clauses_stay : ClausesStay
-clauses_stay s cs ts l = let k = clauses_same s cs ts l in (k.0 false 1, k.1)
+clauses_stay s cs ts l = let k = clauses_same s cs ts l in (k.0 1, k.1)

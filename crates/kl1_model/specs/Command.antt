@@ -1,12 +1,12 @@
 -- Commands and replies as texts, and what a command does.
-use Rattle.std.specs.Prelude.{ℕ, zero, suc, nat_le, if◌then◌else◌, List, [], ◌∷◌, ◌++◌, length, codes, bytes_eq, decimal, Option, Some, None, option_map, option_and_then}
+use Rattle.std.specs.Prelude.{ℕ, zero, suc, nat_le, true, false, if◌then◌else◌, List, [], ◌∷◌, ◌++◌, length, codes, bytes_eq, decimal, Option, Some, None, option_map, option_and_then}
 use Rattle.kl1_model.specs.Term.{Term}
 use Rattle.kl1_model.specs.Name.{atom_text}
 use Rattle.kl1_model.specs.Limits.{most_command_bytes, most_steps}
-use Rattle.kl1_model.specs.Line.{word_in, behind_word_in, number_in, up_to, only_number}
+use Rattle.kl1_model.specs.Line.{word_in, behind_word_in, number_in, up_to, only_number, is_blank_line}
 use Rattle.kl1_model.specs.Module.{Reading, good, bad, read_goal}
 use Rattle.kl1_model.specs.State.{State}
-use Rattle.kl1_model.specs.Event.{Refusal, syntax, source, exists, no_shoen, step_refused, too_many_names, journal_full, value, Event, load, start, reduce, read, Reply, loaded, opened, reduced, ran, shown, refused, Stepped, refuse, is_range}
+use Rattle.kl1_model.specs.Event.{Refusal, syntax, source, exists, no_shoen, step_refused, too_many_names, journal_full, value, is_quiet, Event, load, start, reduce, read, Reply, loaded, opened, reduced, ran, shown, quiet_is, refused, Stepped, refuse, is_range}
 use Rattle.kl1_model.specs.Step.{step}
 use Rattle.kl1_model.specs.Choice.{Chosen, first}
 use Rattle.kl1_model.specs.Record.{Request, load_of, spoiled_load, other_line}
@@ -28,11 +28,17 @@ start_command line =
     let c = behind_word_in b in
     option_and_then (λ allowance. option_and_then (λ low. option_and_then (λ high. start_with allowance low high (read_goal (behind_word_in c))) (number_in (word_in c))) (number_in (word_in b))) (number_in (word_in line))
 
+-- a goal's number and a clause's, and nothing else
+abbrev pub reduce_command : List ℕ → Option Command
+reduce_command line = option_and_then (λ goal. option_map (λ clause. does (reduce goal clause)) (only_number (behind_word_in line))) (number_in (word_in line))
+
 -- the first word of a command, but for a load
 pub data Verb : Type 0 where
   starts : Verb
   runs : Verb
   asks_value : Verb
+  asks_quiet : Verb
+  reduces_goal : Verb
   unknown : Verb
 
 -- the verb that a word is
@@ -41,6 +47,8 @@ verb_of w =
     if bytes_eq w (codes "start") then starts
     else if bytes_eq w (codes "run") then runs
     else if bytes_eq w (codes "value") then asks_value
+    else if bytes_eq w (codes "quiet") then asks_quiet
+    else if bytes_eq w (codes "reduce") then reduces_goal
     else unknown
 
 -- the command of a line by its first word and what is after it
@@ -48,6 +56,8 @@ abbrev pub command_by : Verb → List ℕ → Option Command
 command_by starts rest = start_command rest
 command_by runs rest = option_map run (up_to most_steps (only_number rest))
 command_by asks_value rest = option_map (λ n. does (read (value n))) (only_number rest)
+command_by asks_quiet rest = if is_blank_line rest then Some (does (read is_quiet)) else None
+command_by reduces_goal rest = reduce_command rest
 command_by unknown rest = None
 
 -- the command that a line is, without its end, if it is one; one of too many bytes is none, and neither is a load alone
@@ -106,6 +116,8 @@ reply_lines (opened n) = (codes "+ shoen " ++ decimal n) ∷ []
 reply_lines reduced = codes "+ reduced" ∷ []
 reply_lines (ran n) = (codes "+ " ++ decimal n) ∷ []
 reply_lines (shown text) = (codes "+ " ++ text) ∷ []
+reply_lines (quiet_is true) = codes "+ yes" ∷ []
+reply_lines (quiet_is false) = codes "+ no" ∷ []
 reply_lines (refused r) = (codes "- " ++ refusal_text r) ∷ []
 
 -- a line as it is written

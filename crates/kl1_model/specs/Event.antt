@@ -15,9 +15,11 @@ pub data Refusal : Type 0 where
   too_many_names : Refusal
   journal_full : Refusal
 
--- what is asked of an account without a change: the goal of a shoen as started, with what is bound now
+-- what is asked of an account without a change: the goal of a shoen as started, with what is bound now, and whether no goal
+-- can step
 pub data Query : Type 0 where
   value : ℕ → Query
+  is_quiet : Query
 
 -- what may be done to an account: a module loaded from its source; a goal started with an allowance and priorities from low to high;
 -- a goal reduced by the clause of a number, or 0; and a query
@@ -28,13 +30,14 @@ pub data Event : Type 0 where
   read : Query → Event
 
 -- an answer: the name of the module loaded, the number of the shoen opened, a reduction done, so many steps done by a run,
--- the printed goal, or a refusal
+-- the printed goal, whether no goal can step, or a refusal
 pub data Reply : Type 0 where
   loaded : List ℕ → Reply
   opened : ℕ → Reply
   reduced : Reply
   ran : ℕ → Reply
   shown : List ℕ → Reply
+  quiet_is : Bool → Reply
   refused : Refusal → Reply
 
 -- the account after an event, and the reply

@@ -1,11 +1,12 @@
 -- Which terms are goals, heads and tests.
-use Rattle.std.specs.Prelude.{ℕ, ◌==◌, not, ◌&&◌, ◌||◌, Bool, true, false, if◌then◌else◌, List, [], ◌∷◌, codes, bytes_eq, Option, Some, None}
+use Rattle.std.specs.Prelude.{ℕ, ◌==◌, not, ◌&&◌, ◌||◌, Bool, true, false, if◌then◌else◌, List, [], ◌∷◌, codes, bytes_eq, Option, Some, None, is_some}
 use Rattle.std.specs.List.{list_any}
 use Rattle.kl1_model.specs.declared.built_in.BuiltIn.{BuiltIn}
 use Rattle.kl1_model.specs.declared.built_in.BuiltIn.TheVariants.{EmptyList, ListCell, Colon, Equal, NotEqual, Assign, Less, Greater, AtMost, AtLeast, SameNumber, OtherNumber, Plus, Minus, Times, Divide, Modulo}
 use Rattle.kl1_model.specs.Text.{text_of}
 use Rattle.kl1_model.specs.Term.{Term, atom, structure, none, more, count_of}
 use Rattle.kl1_model.specs.Meaning.{pair}
+use Rattle.kl1_model.specs.Guard.{test_of}
 
 -- the texts that no head and no goal of a user's predicate has for a name: the operators, `:`, `.` and `[]`
 abbrev pub reserved_names : List BuiltIn
@@ -29,10 +30,10 @@ is_head (atom p) = not (is_reserved p) && not (bytes_eq p (codes "true")) && not
 is_head (structure p ts) = not (is_reserved p) && not (is_atom_from p (count_of ts))
 is_head _ = false
 
--- a built-in goal: `true`, or a unification of two terms
+-- a built-in goal: `true`, a unification of two terms, or a variable that becomes what an expression comes to
 abbrev pub is_built_in_goal : Term → Bool
 is_built_in_goal (atom a) = bytes_eq a (codes "true")
-is_built_in_goal (structure f ts) = is_called (codes "=") 2 f (count_of ts)
+is_built_in_goal (structure f ts) = is_called (codes "=") 2 f (count_of ts) || is_called (codes ":=") 2 f (count_of ts)
 is_built_in_goal _ = false
 
 -- what a module's name may stand before: an atom or a structure
@@ -59,10 +60,9 @@ is_unqualified_goal t = is_head t
 abbrev pub is_goal : Term → Bool
 is_goal t = is_built_in_goal t || is_qualified_goal t
 
--- a test: `true` is the only one
+-- a test of a guard
 abbrev pub is_test : Term → Bool
-is_test (atom a) = bytes_eq a (codes "true")
-is_test _ = false
+is_test t = is_some (test_of t)
 
 -- a goal as it stands in the body of a clause of this module, with the module's name where it names none
 abbrev pub body_goal : List ℕ → Term → Option Term

@@ -2,7 +2,7 @@
 use Rattle.std.specs.Prelude.{ℕ, ◌+◌, ◌-◌, ◌==◌, nat_le, if◌then◌else◌, List, [], ◌∷◌, map}
 use Rattle.kl1_model.specs.Term.{Term, variable, terms_of, Replacement, substituted}
 use Rattle.kl1_model.specs.Meaning.{highest_in, nil}
-use Rattle.kl1_model.specs.Module.{Clause}
+use Rattle.kl1_model.specs.Module.{Clause, goals_of}
 
 -- how many variables the head of a clause has
 abbrev pub head_variables : Clause → ℕ
@@ -10,7 +10,7 @@ head_variables c = highest_in c.patterns
 
 -- how many variables of a clause's body stand nowhere in its head
 abbrev pub fresh_variables : Clause → ℕ
-fresh_variables c = highest_in (terms_of c.body) - head_variables c
+fresh_variables c = highest_in (terms_of (goals_of c.body)) - head_variables c
 
 -- the term at the first place of a variable, or a given one where it has no place
 abbrev pub term_at : List Replacement → ℕ → Term → Term
@@ -22,6 +22,6 @@ term_at (p ∷ places) v t = if p.number == v then p.by else term_at places v t
 abbrev pub body_variable : Clause → List Replacement → ℕ → ℕ → Term
 body_variable c places last v = if nat_le v (head_variables c) then term_at places v nil else variable (last + (v - head_variables c))
 
--- the goals of a clause's body, with these terms for its variables
+-- the goals of a clause's body, with these terms for its variables; none names a priority yet
 abbrev pub body_instance : Clause → List Replacement → ℕ → List Term
-body_instance c places last = map (substituted (body_variable c places last)) c.body
+body_instance c places last = map (substituted (body_variable c places last)) (goals_of c.body)

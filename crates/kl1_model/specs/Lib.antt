@@ -5,6 +5,9 @@ pub mod Term
 pub mod TermCode
 pub mod Unify
 pub mod Print
+pub mod Same
+pub mod Arithmetic
+pub mod Guard
 pub mod Token
 pub mod Grammar
 pub mod Reader
@@ -24,9 +27,10 @@ pub mod Choice
 pub mod Waits
 pub mod Line
 pub mod Record
+pub mod SameLaws
 pub mod WaitsLaws
+pub mod ScanLaws
 pub mod Command
 pub mod Script
 pub mod UnifyLaws
 pub mod ReadLaws
-pub mod Same

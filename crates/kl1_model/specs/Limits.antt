@@ -1,6 +1,6 @@
 -- Each number of the language and of the server, once, with its unit: the constants of src/limits.rt.
 use Rattle.std.specs.Prelude.{ℕ}
-use Rattle.kl1_model.specs.declared.limits.TheConstants.{MOST_NAME_BYTES, MOST_ARGUMENTS, MOST_DEPTH, MOST_CLAUSES, MOST_SOURCE_BYTES, NUMBER_LIMIT, MOST_DIGITS, MOST_PRIORITY, MONITOR_PRIORITY, MOST_ENTRIES, MOST_LINE_BYTES, MOST_STEPS, MOST_COMMAND_BYTES, MOST_PRINTED_BYTES, MOST_ACCOUNT_NAME_BYTES, MOST_ACCOUNTS, MOST_SCRIPT_BYTES, MOST_WAITING_BYTES, FIRST_NUMBER, MOST_NAMES, BUCKETS_EACH}
+use Rattle.kl1_model.specs.declared.limits.TheConstants.{MOST_NAME_BYTES, MOST_ARGUMENTS, MOST_DEPTH, MOST_OPERATORS, MOST_CLAUSES, MOST_SOURCE_BYTES, NUMBER_LIMIT, MOST_DIGITS, MOST_PRIORITY, MONITOR_PRIORITY, MOST_ENTRIES, MOST_LINE_BYTES, MOST_STEPS, MOST_COMMAND_BYTES, MOST_PRINTED_BYTES, MOST_ACCOUNT_NAME_BYTES, MOST_ACCOUNTS, MOST_SCRIPT_BYTES, MOST_WAITING_BYTES, FIRST_NUMBER, MOST_NAMES, BUCKETS_EACH}
 
 -- the most bytes of a name
 abbrev pub most_name_bytes : ℕ
@@ -13,6 +13,10 @@ most_arguments = MOST_ARGUMENTS
 -- the greatest depth of a term that a text can write, in levels
 abbrev pub most_depth : ℕ
 most_depth = MOST_DEPTH
+
+-- the most operators of an expression
+abbrev pub most_operators : ℕ
+most_operators = MOST_OPERATORS
 
 -- the most clauses of a module
 abbrev pub most_clauses : ℕ

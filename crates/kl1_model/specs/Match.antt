@@ -1,27 +1,12 @@
 -- Match and verdict: whether a goal may commit to a clause, may not, or has to wait.
-use Rattle.std.specs.Prelude.{ℕ, suc, ◌==◌, ◌&&◌, Bool, true, false, if◌then◌else◌, List, [], ◌∷◌, ◌++◌, bytes_eq, Option, Some, None, filter, find, codes}
+use Rattle.std.specs.Prelude.{ℕ, suc, ◌+◌, ◌-◌, ◌==◌, nat_le, ◌&&◌, Bool, true, false, if◌then◌else◌, List, [], ◌∷◌, ◌++◌, bytes_eq, Option, Some, None, filter, find, codes}
 use Rattle.std.specs.List.{list_all}
 use Rattle.std.specs.Ordering.{int_eq}
-use Rattle.kl1_model.specs.Term.{Term, variable, integer, atom, structure, Terms, none, more, count_of, Replacement}
+use Rattle.kl1_model.specs.Term.{Term, variable, integer, atom, structure, Terms, none, more, terms_of, count_of, substituted, Replacement}
+use Rattle.kl1_model.specs.Meaning.{highest_in}
+pub use Rattle.kl1_model.specs.Guard.{Outcome, agrees, clashes, waits, both, decided}
+use Rattle.kl1_model.specs.Guard.{alike, test_of, outcome_by}
 use Rattle.kl1_model.specs.Module.{Clause, Module, is_of}
-
--- what comes of a comparison: it agrees, it clashes, or it waits for variables
-pub data Outcome : Type 0 where
-  agrees : Outcome
-  clashes : Outcome
-  waits : List ℕ → Outcome
-
--- the outcome of two parts: a clash anywhere outweighs a wait, and two that wait do so for the variables of both
-abbrev pub both : Outcome → Outcome → Outcome
-both agrees o = o
-both clashes o = clashes
-both (waits vs) agrees = waits vs
-both (waits vs) clashes = clashes
-both (waits vs) (waits ws) = waits (vs ++ ws)
-
--- whether two constants agree or clash
-abbrev pub decided : Bool → Outcome
-decided b = if b then agrees else clashes
 
 -- what a match gives: its outcome, and the term at each place of a head's variable, in order
 pub record Matched : Type 0 where
@@ -56,31 +41,77 @@ abbrev mutual
   match_terms (more p ps) (more t ts) = match_both (match_term p t) (match_terms ps ts)
   match_terms ps ts = with_outcome clashes
 
--- the outcome of a test: `true`, the only one, always agrees
-abbrev pub test_outcome : List Replacement → Term → Outcome
-test_outcome places test = agrees
+-- the terms at two places, where they are places of one variable
+abbrev pub places_alike : Replacement → Replacement → Outcome
+places_alike p q = if p.number == q.number then alike p.by q.by else agrees
+
+-- a place beside each of these
+abbrev pub alike_with : Replacement → List Replacement → Outcome
+alike_with p [] = agrees
+alike_with p (q ∷ qs) = both (places_alike p q) (alike_with p qs)
+
+-- passive equality of each two of the terms at the places of a variable, for each variable of the head
+abbrev pub each_alike : List Replacement → Outcome
+each_alike [] = agrees
+each_alike (p ∷ ps) = both (alike_with p ps) (each_alike ps)
+
+-- a term of the goal in a test whose own variables are numbered up to the last: the goal's go behind them
+abbrev pub beside : ℕ → Term → Term
+beside last t = substituted (λ v. variable (suc (last + v))) t
+
+-- what stands in a test for a variable of the clause: the term at the first of its places that were reached; where none was, it
+-- stands for itself, an unbound variable that differs from all others
+abbrev pub test_variable : ℕ → List Replacement → ℕ → Term
+test_variable last [] v = variable v
+test_variable last (p ∷ places) v = if p.number == v then beside last p.by else test_variable last places v
+
+-- of variables of a test those that are the goal's, with their numbers there
+abbrev pub own_variables : ℕ → List ℕ → List ℕ
+own_variables last [] = []
+own_variables last (v ∷ vs) = if nat_le v last then own_variables last vs else (v - suc last) ∷ own_variables last vs
+
+-- an outcome that waits for variables of the goal alone: a place that wasn't reached is waited for by the match
+abbrev pub own_outcome : ℕ → Outcome → Outcome
+own_outcome last agrees = agrees
+own_outcome last clashes = clashes
+own_outcome last (waits vs) = waits (own_variables last vs)
+
+-- the outcome of a test whose variables are numbered up to the last
+abbrev pub test_outcome : ℕ → List Replacement → Term → Outcome
+test_outcome last places test = own_outcome last (outcome_by (test_variable last places) (test_of test))
 
 -- the outcome of all tests
-abbrev pub tests_outcome : List Replacement → List Term → Outcome
-tests_outcome places [] = agrees
-tests_outcome places (t ∷ ts) = both (test_outcome places t) (tests_outcome places ts)
+abbrev pub tests_outcome : ℕ → List Replacement → List Term → Outcome
+tests_outcome last places [] = agrees
+tests_outcome last places (t ∷ ts) = both (test_outcome last places t) (tests_outcome last places ts)
 
--- the verdict on a clause: it accepts the goal, with the terms of its head's variables, or rejects it, or suspends until
--- one of these variables is bound
+-- the outcome of a guard
+abbrev pub guard_outcome : List Replacement → List Term → Outcome
+guard_outcome places tests = tests_outcome (highest_in (terms_of tests)) places tests
+
+-- the verdict on a clause: it accepts the goal, with the terms of its head's variables, or rejects it, or suspends; a verdict that
+-- may change, as more places are reached or a variable is bound, names the variables of which that depends
 pub data Verdict : Type 0 where
   accepts : List Replacement → Verdict
-  rejects : Verdict
+  rejects : List ℕ → Verdict
   suspends : List ℕ → Verdict
 
--- the verdict that an outcome leads to
-abbrev pub verdict_with : List Replacement → Outcome → Verdict
-verdict_with places agrees = accepts places
-verdict_with places clashes = rejects
-verdict_with places (waits vs) = suspends vs
+-- the variables for which an outcome waits
+abbrev pub awaited_in : Outcome → List ℕ
+awaited_in agrees = []
+awaited_in clashes = []
+awaited_in (waits vs) = vs
 
--- the verdict by match and tests together
+-- the verdict that an outcome leads to, beside that of the match alone: while the match waits, an earlier place of a variable may
+-- yet be reached, and then the tests speak of the term there
+abbrev pub verdict_with : Matched → Outcome → Verdict
+verdict_with m agrees = accepts m.places
+verdict_with m clashes = rejects (awaited_in m.outcome)
+verdict_with m (waits vs) = suspends vs
+
+-- the verdict by match, places and tests together
 abbrev pub verdict_of : List Term → Matched → Verdict
-verdict_of tests m = verdict_with m.places (both m.outcome (tests_outcome m.places tests))
+verdict_of tests m = verdict_with m (both (both m.outcome (each_alike m.places)) (guard_outcome m.places tests))
 
 -- the verdict of a clause on a goal's arguments
 abbrev pub verdict : Clause → Terms → Verdict
@@ -113,7 +144,7 @@ clauses_of modules call = clauses_in (module_of modules call.module_name) call
 
 -- whether a verdict rejects
 abbrev pub is_rejected : Verdict → Bool
-is_rejected rejects = true
+is_rejected (rejects vs) = true
 is_rejected v = false
 
 -- a clause that accepts a goal: its number in its predicate, from 1, and the terms of its head's variables
@@ -127,10 +158,16 @@ abbrev pub candidate_by : ℕ → Clause → Verdict → List Candidate
 candidate_by n c (accepts places) = record { number = n; clause = c; places = places } ∷ []
 candidate_by n c v = []
 
--- the candidates among clauses of which the first has this number, in order
+-- the candidates among clauses as far as they are of this section, the first clause having this number
+abbrev pub candidates_within : ℕ → ℕ → List Clause → Terms → List Candidate
+candidates_within section n [] ts = []
+candidates_within section n (c ∷ cs) ts = if c.section == section then candidate_by n c (verdict c ts) ++ candidates_within section (suc n) cs ts else []
+
+-- the candidates among clauses of which the first has this number, in order: those that accept and stand in the section of the
+-- first clause that doesn't reject, since above each `otherwise` below it there is that one
 abbrev pub candidates_from : ℕ → List Clause → Terms → List Candidate
 candidates_from n [] ts = []
-candidates_from n (c ∷ cs) ts = candidate_by n c (verdict c ts) ++ candidates_from (suc n) cs ts
+candidates_from n (c ∷ cs) ts = if is_rejected (verdict c ts) then candidates_from (suc n) cs ts else candidates_within c.section n (c ∷ cs) ts
 
 -- the candidates of a call, in order
 abbrev pub candidates_of : List Module → Call → List Candidate

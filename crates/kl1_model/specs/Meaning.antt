@@ -4,7 +4,9 @@ pub use Rattle.kl1_model.specs.Limits.{most_depth, most_arguments}
 use Rattle.kl1_model.specs.Limits.{number_limit}
 use Rattle.kl1_model.specs.Text.{is_text}
 use Rattle.kl1_model.specs.Term.{Term, variable, integer, atom, structure, Terms, none, more, count_of}
-use Rattle.kl1_model.specs.Grammar.{Relation, equality, Expression, alone, related, Part, single, qualified, Primary, numbered, positive, negative, constant, call, empty_list, list, group, Series, last, another, Rest, closed, tail, Head, bare_head, head_with}
+use Rattle.kl1_model.specs.declared.relation.Relation.{Relation}
+use Rattle.kl1_model.specs.Token.{spelling_of}
+use Rattle.kl1_model.specs.Grammar.{relation_sign, Adding, by_plus, by_minus, Multiplying, by_star, by_slash, by_mod, Expression, alone, related, Sum, summand, added, Product, factor, multiplied, Part, single, qualified, Primary, numbered, positive, negative, constant, call, empty_list, list, group, Series, last, another, Rest, closed, tail, Head, bare_head, head_with}
 
 -- a structure of two arguments
 abbrev pub pair : List ℕ → Term → Term → Term
@@ -20,7 +22,18 @@ cell h t = pair (codes ".") h t
 
 -- the name of a relation
 abbrev pub relation_name : Relation → List ℕ
-relation_name equality = codes "="
+relation_name r = spelling_of (relation_sign r)
+
+-- the name of an operator of sums
+abbrev pub adding_name : Adding → List ℕ
+adding_name by_plus = codes "+"
+adding_name (by_minus digit) = codes "-"
+
+-- the name of an operator of products
+abbrev pub multiplying_name : Multiplying → List ℕ
+multiplying_name by_star = codes "*"
+multiplying_name by_slash = codes "/"
+multiplying_name (by_mod applied) = codes "mod"
 
 -- cells for the elements, the last with this behind it
 abbrev pub cells : Terms → Term → Term
@@ -30,8 +43,16 @@ cells (more e es) t = cell e (cells es t)
 -- the term that a tree means: parentheses mean nothing, and a list is its cells
 abbrev mutual
   pub expression_term : Expression → Term
-  expression_term (alone p) = part_term p
-  expression_term (related p r q) = pair (relation_name r) (part_term p) (part_term q)
+  expression_term (alone s) = sum_term s
+  expression_term (related s r q) = pair (relation_name r) (sum_term s) (sum_term q)
+
+  pub sum_term : Sum → Term
+  sum_term (summand p) = product_term p
+  sum_term (added s o p) = pair (adding_name o) (sum_term s) (product_term p)
+
+  pub product_term : Product → Term
+  product_term (factor p) = part_term p
+  product_term (multiplied p o q) = pair (multiplying_name o) (product_term p) (part_term q)
 
   pub part_term : Part → Term
   part_term (single p) = primary_term p

@@ -1,23 +1,34 @@
 -- Modules and goals as texts mean them, and the line of the first bad item.
-use Rattle.std.specs.Prelude.{ℕ, ◌==◌, nat_lt, not, ◌&&◌, ◌||◌, Bool, true, false, if◌then◌else◌, List, [], ◌∷◌, ◌++◌, length, codes, bytes_eq, Option, Some, None, option_map, option_and_then, unwrap_or, map}
-use Rattle.std.specs.List.{list_any}
+use Rattle.std.specs.Prelude.{ℕ, suc, ◌==◌, nat_lt, not, ◌&&◌, ◌||◌, Bool, true, false, if◌then◌else◌, List, [], ◌∷◌, ◌++◌, length, codes, bytes_eq, Option, Some, None, is_some, is_none, option_map, option_and_then, unwrap_or, map}
+use Rattle.std.specs.List.{list_any, list_all}
 pub use Rattle.kl1_model.specs.Limits.{most_clauses}
 use Rattle.kl1_model.specs.declared.sign.Sign.TheVariants.{Neck}
 use Rattle.kl1_model.specs.Term.{Term, atom, Terms, none, list_of, count_of}
 use Rattle.kl1_model.specs.Token.{Token, name_token, sign_token, end_token, Placed, Tokens, tokens_of_text}
-use Rattle.kl1_model.specs.Grammar.{Head, bare_head, head_with, ClauseTree, fact, rule, guarded}
+use Rattle.kl1_model.specs.Grammar.{Head, bare_head, head_with, GoalTree, plain_goal, urgent_goal, Body, last_goal, another_goal, ClauseTree, fact, rule, guarded}
 use Rattle.kl1_model.specs.Numbering.{numbered_tokens}
 use Rattle.kl1_model.specs.Reader.{expression_tree, clause_tree}
-use Rattle.kl1_model.specs.Meaning.{expression_term, series_terms, head_term, is_writable, variables_in}
+use Rattle.kl1_model.specs.Meaning.{expression_term, series_terms, head_term, is_writable, variables_of, variables_in}
 use Rattle.kl1_model.specs.Goal.{is_head, is_test, is_goal, body_goal}
 
--- a clause: its predicate's name, a pattern for each argument, its tests, and the goals of its body,
--- each with the name of its module; its variables are numbered from 1 by first occurrence, those of the head first
+-- a goal of a body, with the name of its module, and the priority that it names, if any
+pub record BodyGoal : Type 0 where
+  pub goal : Term
+  pub priority : Option ℕ
+
+-- a clause: its predicate's name, a pattern for each argument, its tests, the number of its section, from 0, between the
+-- `otherwise`s of its predicate, and the goals of its body; its variables are numbered from 1 by first occurrence, those of
+-- the head first
 pub record Clause : Type 0 where
   pub name : List ℕ
   pub patterns : Terms
   pub tests : List Term
-  pub body : List Term
+  pub section : ℕ
+  pub body : List BodyGoal
+
+-- the terms of a body's goals
+abbrev pub goals_of : List BodyGoal → List Term
+goals_of body = map (λ g. g.goal) body
 
 -- a module: its name, its source, and the clauses that the source means, in order
 pub record Module : Type 0 where
@@ -71,11 +82,6 @@ each_of f (x ∷ xs) = option_and_then (λ y. option_map (λ ys. y ∷ ys) (each
 abbrev pub is_among : ℕ → List ℕ → Bool
 is_among n ns = list_any (λ m. n == m) ns
 
--- whether some number stands twice in a list
-abbrev pub has_repeats : List ℕ → Bool
-has_repeats [] = false
-has_repeats (n ∷ ns) = is_among n ns || has_repeats ns
-
 -- the name of a head
 abbrev pub head_name : Head → List ℕ
 head_name (bare_head p q) = p
@@ -86,23 +92,41 @@ abbrev pub head_patterns : Head → Terms
 head_patterns (bare_head p q) = none
 head_patterns (head_with p q s) = series_terms s
 
--- whether a head may stand there: it is writable, its name may be a head's, and no variable stands twice in it
+-- whether a head may stand there: it is writable, and its name may be a head's
 abbrev pub is_fit_head : Head → Bool
-is_fit_head h = is_writable (head_term h) && is_head (head_term h) && not (has_repeats (variables_in (head_patterns h)))
+is_fit_head h = is_writable (head_term h) && is_head (head_term h)
 
--- a test of the guard
-abbrev pub fit_test : Term → Option Term
-fit_test t = if is_writable t && is_test t then Some t else None
+-- whether each variable of a term is one of these
+abbrev pub has_only : List ℕ → Term → Bool
+has_only vs t = list_all (λ v. is_among v vs) (variables_of t)
 
--- a goal of the body, in a module of this name
-abbrev pub fit_goal : List ℕ → Term → Option Term
-fit_goal m t = if is_writable t then body_goal m t else None
+-- a test of the guard, whose variables are among these of the head
+abbrev pub fit_test : List ℕ → Term → Option Term
+fit_test vs t = if is_writable t && is_test t && has_only vs t then Some t else None
 
--- the clause of a head, tests and a body, in a module of this name
-abbrev pub clause_with : List ℕ → Head → List Term → List Term → Option Clause
-clause_with m h tests body =
+-- a goal without a priority
+abbrev pub without_priority : Term → BodyGoal
+without_priority t = record { goal = t; priority = None }
+
+-- a goal of the body, in a module of this name; none may name a priority yet
+abbrev pub fit_goal : List ℕ → GoalTree → Option BodyGoal
+fit_goal m (plain_goal e) = if is_writable (expression_term e) then option_map without_priority (body_goal m (expression_term e)) else None
+fit_goal m (urgent_goal e quotes n) = None
+
+-- the goals of a body, as trees
+abbrev pub trees_of : Body → List GoalTree
+trees_of (last_goal g) = g ∷ []
+trees_of (another_goal g b) = g ∷ trees_of b
+
+-- the goals of a body, in a module of this name
+abbrev pub fit_body : List ℕ → Body → Option (List BodyGoal)
+fit_body m b = each_of (fit_goal m) (trees_of b)
+
+-- the clause of a head, tests and a body, as the first of its predicate
+abbrev pub clause_with : Head → List Term → Option (List BodyGoal) → Option Clause
+clause_with h tests body =
     if is_fit_head h
-    then option_and_then (λ ts. option_map (λ gs. record { name = head_name h; patterns = head_patterns h; tests = ts; body = gs }) (each_of (fit_goal m) body)) (each_of fit_test tests)
+    then option_and_then (λ ts. option_map (λ gs. record { name = head_name h; patterns = head_patterns h; tests = ts; section = 0; body = gs }) body) (each_of (fit_test (variables_in (head_patterns h))) tests)
     else None
 
 -- the goal `true`, which is the body of a head alone
@@ -111,9 +135,9 @@ true_goal = atom (codes "true")
 
 -- the clause that a tree means
 abbrev pub clause_of_tree : List ℕ → ClauseTree → Option Clause
-clause_of_tree m (fact h) = clause_with m h [] (true_goal ∷ [])
-clause_of_tree m (rule h body) = clause_with m h [] (list_of (series_terms body))
-clause_of_tree m (guarded h tests body) = clause_with m h (list_of (series_terms tests)) (list_of (series_terms body))
+clause_of_tree m (fact h) = clause_with h [] (Some (without_priority true_goal ∷ []))
+clause_of_tree m (rule h body) = clause_with h [] (fit_body m body)
+clause_of_tree m (guarded h tests body) = clause_with h (list_of (series_terms tests)) (fit_body m body)
 
 -- the clause that an item means
 abbrev pub clause_of : List ℕ → List (Token (List ℕ)) → Option Clause
@@ -129,26 +153,55 @@ last_of [] = None
 last_of (c ∷ []) = Some c
 last_of (c ∷ d ∷ cs) = last_of (d ∷ cs)
 
--- whether a clause may follow these: there is room, and clauses of one name and number of arguments stand together
-abbrev pub may_follow : List Clause → Clause → Bool
-may_follow before c =
-    nat_lt (length before) most_clauses
-    && (unwrap_or (option_map (is_of c.name (count_of c.patterns)) (last_of before)) false || not (list_any (is_of c.name (count_of c.patterns)) before))
+-- whether a clause is of the same predicate as the last of these
+abbrev pub continues : List Clause → Clause → Bool
+continues before c = unwrap_or (option_map (is_of c.name (count_of c.patterns)) (last_of before)) false
+
+-- whether a clause may follow these, directly behind an `otherwise` or not: there is room, clauses of one name and number of
+-- arguments stand together, and the one behind an `otherwise` is of the same predicate as the one before it
+abbrev pub may_follow : List Clause → Bool → Clause → Bool
+may_follow before behind c =
+    nat_lt (length before) most_clauses && (continues before c || not behind && not (list_any (is_of c.name (count_of c.patterns)) before))
+
+-- the section of a clause that follows these: the last one's or, behind an `otherwise`, the next; a predicate's first is 0
+abbrev pub section_after : List Clause → Bool → Clause → ℕ
+section_after before behind c =
+    let last = unwrap_or (option_map (λ d. d.section) (last_of before)) 0 in
+    if continues before c then (if behind then suc last else last) else 0
 
 -- the clauses before and this one, if it may follow
-abbrev pub with_clause : List Clause → Option Clause → Option (List Clause)
-with_clause before None = None
-with_clause before (Some c) = if may_follow before c then Some (before ++ c ∷ []) else None
+abbrev pub with_clause : List Clause → Bool → Option Clause → Option (List Clause)
+with_clause before behind None = None
+with_clause before behind (Some c) = if may_follow before behind c then Some (before ++ record c { section = section_after before behind c } ∷ []) else None
+
+-- whether an item is `otherwise`
+abbrev pub is_otherwise : Option (List (Token (List ℕ))) → Bool
+is_otherwise (Some (name_token word quotes applied ∷ [])) = bytes_eq word (codes "otherwise")
+is_otherwise _ = false
 
 -- goes on where an item is good
 abbrev pub if_good : {A : Type 0} → ℕ → Option A → (A → Reading (List Clause)) → Reading (List Clause)
 if_good line None go = bad line
 if_good line (Some a) go = go a
 
--- the clauses before and then those of the items, or the line of the first bad item
-abbrev pub clauses_from : List ℕ → List Clause → List Item → Reading (List Clause)
-clauses_from m before [] = good before
-clauses_from m before (item ∷ items) = if_good item.line (with_clause before (option_and_then (clause_of m) item.tokens)) (λ now. clauses_from m now items)
+-- the clauses before; an `otherwise` on this line with no clause behind it is bad
+abbrev pub clauses_ended : List Clause → Option ℕ → Reading (List Clause)
+clauses_ended before None = good before
+clauses_ended before (Some line) = bad line
+
+-- the line of an `otherwise` that stands directly behind a clause, and not behind another `otherwise`
+abbrev pub otherwise_on : ℕ → List Clause → Option ℕ → Option ℕ
+otherwise_on line before behind = if is_some (last_of before) && is_none behind then Some line else None
+
+-- the clauses before and then those of the items, or the line of the first bad item; told is the line of an `otherwise`
+-- directly before the items, if one stands there
+abbrev pub clauses_from : List ℕ → List Clause → Option ℕ → List Item → Reading (List Clause)
+clauses_from m before behind [] = clauses_ended before behind
+clauses_from m before behind (item ∷ items) =
+    elim (is_otherwise item.tokens) [
+      | true ↦ if_good item.line (otherwise_on item.line before behind) (λ line. clauses_from m before (Some line) items)
+      | false ↦ if_good item.line (with_clause before (is_some behind) (option_and_then (clause_of m) item.tokens)) (λ now. clauses_from m now None items)
+    ]
 
 -- a module with its clauses, or the line of the bad item among them
 abbrev pub module_with : List ℕ → List ℕ → Reading (List Clause) → Reading Module
@@ -158,7 +211,7 @@ module_with name source (good clauses) = good (record { name = name; source = so
 -- a module whose first item gives it this name, with the items behind
 abbrev pub module_named : List ℕ → Item → List Item → Option (List ℕ) → Reading Module
 module_named source item items None = bad item.line
-module_named source item items (Some name) = module_with name source (clauses_from name [] items)
+module_named source item items (Some name) = module_with name source (clauses_from name [] None items)
 
 -- the module of a text's items; a text without items is bad on its first line
 abbrev pub module_of_items : List ℕ → List Item → Reading Module

@@ -5,18 +5,27 @@ use Rattle.kl1_model.specs.Limits.{number_limit}
 use Rattle.kl1_model.specs.Text.{is_name_byte}
 use Rattle.kl1_model.specs.Term.{Term}
 use Rattle.kl1_model.specs.Token.{Front, finished, broken, line_end, blank, token, front_of, Tokens, tokens_by, tokens_within, tokens_of_text}
-use Rattle.kl1_model.specs.Grammar.{Numbered, Expression, alone, related, Part, single, qualified, Primary, numbered, positive, negative, constant, call, empty_list, list, group, Series, last, another, Rest, closed, tail, Head, bare_head, head_with, ClauseTree, fact, rule, guarded, expression_tokens, clause_tokens}
-use Rattle.kl1_model.specs.Reader.{Inner, then_read, if_there, behind_comma, relation_in_front, series_at, part_at, related_at, expression_at, all_read, expression_tree, clause_at, clause_tree}
+use Rattle.kl1_model.specs.Grammar.{Numbered, Expression, alone, related, Sum, summand, added, Product, factor, multiplied, Part, single, qualified, Primary, numbered, positive, negative, constant, call, empty_list, list, group, Series, last, another, Rest, closed, tail, Head, bare_head, head_with, GoalTree, plain_goal, urgent_goal, Body, last_goal, another_goal, ClauseTree, fact, rule, guarded, expression_tokens, clause_tokens}
+use Rattle.kl1_model.specs.Reader.{Inner, then_read, if_there, behind_comma, relation_in_front, adding_in_front, multiplying_in_front, series_at, part_at, grouped_on, grouped_at, product_at, sum_at, related_at, goal_at, body_at, expression_at, all_read, expression_tree, clause_at, clause_tree}
 use Rattle.kl1_model.specs.Meaning.{is_narrow, is_writable, variables_of, variables_in, numbered_after, is_numbered, highest}
 use Rattle.kl1_model.specs.Goal.{is_goal}
 use Rattle.kl1_model.specs.Print.{print}
-use Rattle.kl1_model.specs.Module.{Clause, Module, Reading, good, bad, bare_tokens, term_of_tokens, read_module, read_goal}
+use Rattle.kl1_model.specs.Module.{Clause, goals_of, Module, Reading, good, bad, bare_tokens, term_of_tokens, read_module, read_goal}
+use Rattle.kl1_model.specs.WaitsLaws.{is_guarded}
 
 -- whether each integer of a tree that stands without `-` is below 2 ^ 63
 abbrev mutual
   pub is_sound_expression : Expression → Bool
-  is_sound_expression (alone p) = is_sound_part p
-  is_sound_expression (related p r q) = is_sound_part p && is_sound_part q
+  is_sound_expression (alone s) = is_sound_sum s
+  is_sound_expression (related s r q) = is_sound_sum s && is_sound_sum q
+
+  pub is_sound_sum : Sum → Bool
+  is_sound_sum (summand p) = is_sound_product p
+  is_sound_sum (added s o p) = is_sound_sum s && is_sound_product p
+
+  pub is_sound_product : Product → Bool
+  is_sound_product (factor p) = is_sound_part p
+  is_sound_product (multiplied p o q) = is_sound_product p && is_sound_part q
 
   pub is_sound_part : Part → Bool
   is_sound_part (single p) = is_sound_primary p
@@ -45,11 +54,21 @@ abbrev pub is_sound_head : Head → Bool
 is_sound_head (bare_head p quotes) = true
 is_sound_head (head_with p quotes s) = is_sound_series s
 
+-- the same of a goal
+abbrev pub is_sound_goal : GoalTree → Bool
+is_sound_goal (plain_goal e) = is_sound_expression e
+is_sound_goal (urgent_goal e quotes n) = is_sound_expression e
+
+-- the same of a body
+abbrev pub is_sound_body : Body → Bool
+is_sound_body (last_goal g) = is_sound_goal g
+is_sound_body (another_goal g b) = is_sound_goal g && is_sound_body b
+
 -- the same of a clause
 abbrev pub is_sound_clause : ClauseTree → Bool
 is_sound_clause (fact h) = is_sound_head h
-is_sound_clause (rule h body) = is_sound_head h && is_sound_series body
-is_sound_clause (guarded h tests body) = is_sound_head h && is_sound_series tests && is_sound_series body
+is_sound_clause (rule h body) = is_sound_head h && is_sound_body body
+is_sound_clause (guarded h tests body) = is_sound_head h && is_sound_series tests && is_sound_body body
 
 -- tokens that are read as an expression are the tokens of that tree
 abbrev pub ExpressionsAreSound : Type 0
@@ -111,13 +130,29 @@ ReaderStepsAreEnough = (m n : ℕ) (ts : List Numbered) → length ts < m → le
 abbrev pub ExpressionsLeaveLess : Type 0
 ExpressionsLeaveLess = (ts : List Numbered) (e : Expression) (us : List Numbered) → whole_expression ts ≡ Some (e, us) → length us < length ts
 
--- an expression is its first part, and what is behind it
+-- an expression is its first sum, and what is behind it
 abbrev pub ExpressionsGoOn : Type 0
-ExpressionsGoOn = (ts : List Numbered) → whole_expression ts ≡ then_read (part_at whole_expression ts) (λ p us. related_at whole_expression p us (relation_in_front us))
+ExpressionsGoOn = (ts : List Numbered) → whole_expression ts ≡ then_read (sum_at whole_expression ts) (λ s us. related_at whole_expression s us (relation_in_front us))
+
+-- a sum is what was read of it and, behind an operator, the next product
+abbrev pub SumsGoOn : Type 0
+SumsGoOn =
+    (s : Sum) (ts : List Numbered) →
+    grouped_at adding_in_front (product_at whole_expression) added s ts ≡ grouped_on (product_at whole_expression) added (grouped_at adding_in_front (product_at whole_expression) added) s ts (adding_in_front ts)
+
+-- a product is what was read of it and, behind an operator, the next part
+abbrev pub ProductsGoOn : Type 0
+ProductsGoOn =
+    (p : Product) (ts : List Numbered) →
+    grouped_at multiplying_in_front (part_at whole_expression) multiplied p ts ≡ grouped_on (part_at whole_expression) multiplied (grouped_at multiplying_in_front (part_at whole_expression) multiplied) p ts (multiplying_in_front ts)
 
 -- expressions parted by commas are the first and, behind a comma, the others
 abbrev pub SeriesGoOn : Type 0
 SeriesGoOn = (ts : List Numbered) → series_at whole_expression ts ≡ then_read (whole_expression ts) (λ e us. if_there (behind_comma us) (Some (last e, us)) (λ vs. then_read (series_at whole_expression vs) (λ s ws. Some (another e s, ws))))
+
+-- goals parted by commas are the first and, behind a comma, the others
+abbrev pub BodiesGoOn : Type 0
+BodiesGoOn = (ts : List Numbered) → body_at whole_expression ts ≡ then_read (goal_at whole_expression ts) (λ g us. if_there (behind_comma us) (Some (last_goal g, us)) (λ vs. then_read (body_at whole_expression vs) (λ b ws. Some (another_goal g b, ws))))
 
 -- a clause is read with whole expressions inside it
 abbrev pub ClausesGoOn : Type 0
@@ -172,7 +207,7 @@ variables_of_each (t ∷ ts) = variables_of t ++ variables_of_each ts
 
 -- the variables of a clause as they stand in its text
 abbrev pub clause_variables : Clause → List ℕ
-clause_variables c = variables_in c.patterns ++ variables_of_each c.tests ++ variables_of_each c.body
+clause_variables c = variables_in c.patterns ++ variables_of_each c.tests ++ variables_of_each (goals_of c.body)
 
 -- whether a clause's variables are numbered from 1 by first occurrence
 abbrev pub is_numbered_clause : Clause → Bool
@@ -181,3 +216,7 @@ is_numbered_clause c = numbered_after 0 (clause_variables c)
 -- the variables of each clause that is read are numbered from 1 by first occurrence, those of the head first
 abbrev pub ClausesAreNumbered : Type 0
 ClausesAreNumbered = (source : List ℕ) (m : Module) → read_module source ≡ good m → IsTrue (list_all is_numbered_clause m.clauses)
+
+-- the guard of each clause that is read has variables of its head alone
+abbrev pub ClausesAreGuarded : Type 0
+ClausesAreGuarded = (source : List ℕ) (m : Module) → read_module source ≡ good m → IsTrue (list_all is_guarded m.clauses)

@@ -1,9 +1,11 @@
 -- The reader: from the tokens of an item to its tree.
-use Rattle.std.specs.Prelude.{ℕ, zero, suc, nat_lt, true, false, if◌then◌else◌, List, [], ◌∷◌, length, Option, Some, None}
+use Rattle.std.specs.Prelude.{ℕ, zero, suc, nat_lt, not, ◌&&◌, Bool, true, false, if◌then◌else◌, List, [], ◌∷◌, length, codes, bytes_eq, Option, Some, None, option_map, option_and_then}
 use Rattle.kl1_model.specs.Limits.{number_limit}
-use Rattle.kl1_model.specs.declared.sign.Sign.TheVariants.{Neck, Colon, Equals, Bar, Comma, Open, Close, OpenList, CloseList}
+use Rattle.kl1_model.specs.declared.sign.Sign.TheVariants.{Neck, Becomes, SameValue, OtherValue, NotOver, Differs, NotUnder, Colon, Equals, Under, Over, Plus, Star, Slash, At, Bar, Comma, Open, Close, OpenList, CloseList}
+use Rattle.kl1_model.specs.declared.relation.Relation.{Relation}
+use Rattle.kl1_model.specs.declared.relation.Relation.TheVariants.{Equal, NotEqual, Assign, Less, Greater, AtMost, AtLeast, SameNumber, OtherNumber}
 use Rattle.kl1_model.specs.Token.{name_token, variable_token, digits_token, minus_token, sign_token}
-use Rattle.kl1_model.specs.Grammar.{Numbered, Relation, equality, Expression, alone, related, Part, single, qualified, Primary, numbered, positive, negative, constant, call, empty_list, list, group, Series, last, another, Rest, closed, tail, Head, bare_head, head_with, ClauseTree, fact, rule, guarded}
+use Rattle.kl1_model.specs.Grammar.{Numbered, Adding, by_plus, by_minus, Multiplying, by_star, by_slash, by_mod, Expression, alone, related, Sum, summand, added, Product, factor, multiplied, Part, single, qualified, Primary, numbered, positive, negative, constant, call, empty_list, list, group, Series, last, another, Rest, closed, tail, Head, bare_head, head_with, GoalTree, plain_goal, urgent_goal, Body, last_goal, another_goal, ClauseTree, fact, rule, guarded}
 
 -- something read from the front of tokens, with the tokens behind it
 abbrev pub Answer : Type 0 → Type 0
@@ -59,10 +61,50 @@ abbrev pub behind_neck : List Numbered → Option (List Numbered)
 behind_neck (sign_token Neck ∷ ts) = Some ts
 behind_neck _ = None
 
+-- what is behind `@` in front
+abbrev pub behind_at : List Numbered → Option (List Numbered)
+behind_at (sign_token At ∷ ts) = Some ts
+behind_at _ = None
+
+-- the digits in front, with what is behind them
+abbrev pub digits_in_front : List Numbered → Answer ℕ
+digits_in_front (digits_token n ∷ ts) = Some (n, ts)
+digits_in_front _ = None
+
+-- the word `priority` in front of a `(`, with whether it stands in quotes and what is behind it
+abbrev pub priority_in_front : List Numbered → Answer Bool
+priority_in_front (name_token word quotes true ∷ ts) = if bytes_eq word (codes "priority") then Some (quotes, ts) else None
+priority_in_front _ = None
+
 -- a relation in front, with what is behind it
 abbrev pub relation_in_front : List Numbered → Answer Relation
-relation_in_front (sign_token Equals ∷ ts) = Some (equality, ts)
+relation_in_front (sign_token Equals ∷ ts) = Some (Equal, ts)
+relation_in_front (sign_token Differs ∷ ts) = Some (NotEqual, ts)
+relation_in_front (sign_token Becomes ∷ ts) = Some (Assign, ts)
+relation_in_front (sign_token Under ∷ ts) = Some (Less, ts)
+relation_in_front (sign_token Over ∷ ts) = Some (Greater, ts)
+relation_in_front (sign_token NotOver ∷ ts) = Some (AtMost, ts)
+relation_in_front (sign_token NotUnder ∷ ts) = Some (AtLeast, ts)
+relation_in_front (sign_token SameValue ∷ ts) = Some (SameNumber, ts)
+relation_in_front (sign_token OtherValue ∷ ts) = Some (OtherNumber, ts)
 relation_in_front _ = None
+
+-- an operator of sums in front, with what is behind it
+abbrev pub adding_in_front : List Numbered → Answer Adding
+adding_in_front (sign_token Plus ∷ ts) = Some (by_plus, ts)
+adding_in_front (minus_token digit ∷ ts) = Some (by_minus digit, ts)
+adding_in_front _ = None
+
+-- the operator of products that a name is, where it is `mod` and not in quotes
+abbrev pub modulo_of : List ℕ → Bool → Bool → List Numbered → Answer Multiplying
+modulo_of f quotes applied ts = if not quotes && bytes_eq f (codes "mod") then Some (by_mod applied, ts) else None
+
+-- an operator of products in front, with what is behind it
+abbrev pub multiplying_in_front : List Numbered → Answer Multiplying
+multiplying_in_front (sign_token Star ∷ ts) = Some (by_star, ts)
+multiplying_in_front (sign_token Slash ∷ ts) = Some (by_slash, ts)
+multiplying_in_front (name_token f quotes applied ∷ ts) = modulo_of f quotes applied ts
+multiplying_in_front _ = None
 
 -- how an expression that stands deeper is read
 abbrev pub Inner : Type 0
@@ -109,15 +151,37 @@ primary_at inner _ = None
 abbrev pub part_at : Inner → List Numbered → Answer Part
 part_at inner ts = then_read (primary_at inner ts) (λ p us. if_there (behind_colon us) (Some (single p, us)) (λ vs. then_read (primary_at inner vs) (λ q ws. Some (qualified p q, ws))))
 
+-- goes on with an operator, where one is in front
+abbrev pub grouped_on : {S O A : Type 0} → (List Numbered → Answer A) → (S → O → A → S) → (S → List Numbered → Answer S) → S → List Numbered → Answer O → Answer S
+grouped_on operand join next s ts None = Some (s, ts)
+grouped_on operand join next s ts (Some o) = then_read (operand o.1) (λ a us. next (join s o.0 a) us)
+
+-- what was read and the operands behind it, each behind an operator, grouped to the left; fewer operators than so many
+unfoldable pub grouped_by : {S O A : Type 0} → (List Numbered → Answer O) → (List Numbered → Answer A) → (S → O → A → S) → ℕ → S → List Numbered → Answer S
+grouped_by operator operand join zero s ts = None
+grouped_by operator operand join (suc m) s ts = grouped_on operand join (grouped_by operator operand join m) s ts (operator ts)
+
+-- what was read and the operands behind it; no tokens hold more operators than there are tokens
+abbrev pub grouped_at : {S O A : Type 0} → (List Numbered → Answer O) → (List Numbered → Answer A) → (S → O → A → S) → S → List Numbered → Answer S
+grouped_at operator operand join s ts = grouped_by operator operand join (suc (length ts)) s ts
+
+-- a product, where one is in front: parts, each behind an operator of products
+abbrev pub product_at : Inner → List Numbered → Answer Product
+product_at inner ts = then_read (part_at inner ts) (λ p us. grouped_at multiplying_in_front (part_at inner) multiplied (factor p) us)
+
+-- a sum, where one is in front: products, each behind an operator of sums
+abbrev pub sum_at : Inner → List Numbered → Answer Sum
+sum_at inner ts = then_read (product_at inner ts) (λ p us. grouped_at adding_in_front (product_at inner) added (summand p) us)
+
 -- goes on with a relation, where one is in front
-abbrev pub related_at : Inner → Part → List Numbered → Answer Relation → Answer Expression
-related_at inner p ts None = Some (alone p, ts)
-related_at inner p ts (Some r) = then_read (part_at inner r.1) (λ q us. Some (related p r.0 q, us))
+abbrev pub related_at : Inner → Sum → List Numbered → Answer Relation → Answer Expression
+related_at inner s ts None = Some (alone s, ts)
+related_at inner s ts (Some r) = then_read (sum_at inner r.1) (λ q us. Some (related s r.0 q, us))
 
 -- an expression, where those inside it nest at most so deep
 unfoldable pub expression_at : ℕ → List Numbered → Answer Expression
 expression_at zero ts = None
-expression_at (suc n) ts = then_read (part_at (expression_at n) ts) (λ p us. related_at (expression_at n) p us (relation_in_front us))
+expression_at (suc n) ts = then_read (sum_at (expression_at n) ts) (λ s us. related_at (expression_at n) s us (relation_in_front us))
 
 -- expressions inside others; none nests deeper than there are tokens
 abbrev pub inner_of : List Numbered → Inner
@@ -139,9 +203,34 @@ head_at inner (name_token p quotes false ∷ ts) = Some (bare_head p quotes, ts)
 head_at inner (name_token p quotes true ∷ ts) = then_read (arguments_at inner ts) (λ s us. Some (head_with p quotes s, us))
 head_at inner _ = None
 
+-- the priority of a goal, behind `@`
+abbrev pub priority_at : Expression → List Numbered → Answer GoalTree
+priority_at e ts =
+    then_read (priority_in_front ts) (λ quotes us. then_skip (behind_open us) (λ vs. then_read (digits_in_front vs) (λ n ws. then_skip (behind_close ws) (λ xs. Some (urgent_goal e quotes n, xs)))))
+
+-- a goal of a body, where one is in front
+abbrev pub goal_at : Inner → List Numbered → Answer GoalTree
+goal_at inner ts = then_read (inner ts) (λ e us. if_there (behind_at us) (Some (plain_goal e, us)) (λ vs. priority_at e vs))
+
+-- goals parted by commas, at most so many
+unfoldable pub body_by : Inner → ℕ → List Numbered → Answer Body
+body_by inner zero ts = None
+body_by inner (suc m) ts = then_read (goal_at inner ts) (λ g us. if_there (behind_comma us) (Some (last_goal g, us)) (λ vs. then_read (body_by inner m vs) (λ b ws. Some (another_goal g b, ws))))
+
+-- goals parted by commas; no tokens hold more of them than there are tokens
+abbrev pub body_at : Inner → List Numbered → Answer Body
+body_at inner ts = body_by inner (suc (length ts)) ts
+
+-- goals as expressions, where none has a priority: what stands before a bar are tests
+abbrev pub tests_of : Body → Option Series
+tests_of (last_goal (plain_goal e)) = Some (last e)
+tests_of (last_goal (urgent_goal e quotes n)) = None
+tests_of (another_goal (plain_goal e) b) = option_map (λ s. another e s) (tests_of b)
+tests_of (another_goal (urgent_goal e quotes n) b) = None
+
 -- what stands behind the neck of a clause: a body, or tests, a bar and a body
 abbrev pub behind_neck_at : Inner → Head → List Numbered → Answer ClauseTree
-behind_neck_at inner h ts = then_read (series_at inner ts) (λ s us. if_there (behind_bar us) (Some (rule h s, us)) (λ vs. then_read (series_at inner vs) (λ body ws. Some (guarded h s body, ws))))
+behind_neck_at inner h ts = then_read (body_at inner ts) (λ b us. if_there (behind_bar us) (Some (rule h b, us)) (λ vs. option_and_then (λ s. then_read (body_at inner vs) (λ body ws. Some (guarded h s body, ws))) (tests_of b)))
 
 -- a clause, where one is in front
 abbrev pub clause_at : Inner → List Numbered → Answer ClauseTree

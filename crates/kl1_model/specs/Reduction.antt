@@ -1,6 +1,9 @@
 -- Reductions: what a goal can do, and what comes of it.
 use Rattle.std.specs.Prelude.{ℕ, suc, ◌+◌, ◌==◌, if◌then◌else◌, List, [], ◌∷◌, ◌++◌, length, find, codes, bytes_eq, Option, Some, None, option_map}
-use Rattle.kl1_model.specs.Term.{Term, atom, structure, none, more, Replacement}
+use Rattle.kl1_model.specs.Term.{Term, integer, atom, structure, none, more, Replacement}
+use Rattle.kl1_model.specs.declared.number.Number.{Number}
+use Rattle.kl1_model.specs.declared.number.Number.TheVariants.{Value, Overflow, ZeroDivisor}
+use Rattle.kl1_model.specs.Arithmetic.{Evaluated, comes_to, awaits, is_no_expression, evaluated}
 use Rattle.kl1_model.specs.Unify.{Equation, solve}
 use Rattle.kl1_model.specs.Module.{Module}
 use Rattle.kl1_model.specs.Match.{Call, call_of, Candidate, candidates_of, fails}
@@ -26,10 +29,34 @@ call_move modules call clause =
     if clause == 0 then (if fails modules call then Some (raises failure) else None)
     else option_map (λ k. commits k) (find (λ k. k.number == clause) (candidates_of modules call))
 
+-- the kind of exception of a result outside 64 bits
+abbrev pub overflow : List ℕ
+overflow = codes "overflow"
+
+-- the kind of exception of a wrong type and of a zero divisor
+abbrev pub illegal_input : List ℕ
+illegal_input = codes "illegal_input"
+
+-- what comes of a term that becomes a number
+abbrev pub becomes : Term → Number → Move
+becomes a (Value z) = unifies a (integer z)
+becomes a Overflow = raises overflow
+becomes a ZeroDivisor = raises illegal_input
+
+-- what comes of a term that becomes what an expression comes to; it waits while the expression does
+abbrev pub assigned : Term → Evaluated → Option Move
+assigned a (comes_to n) = Some (becomes a n)
+assigned a (awaits v) = None
+assigned a is_no_expression = Some (raises illegal_input)
+
+-- what a built-in goal of two terms does
+abbrev pub pair_move : List ℕ → Term → Term → Option Move
+pair_move f a b = if bytes_eq f (codes "=") then Some (unifies a b) else if bytes_eq f (codes ":=") then assigned a (evaluated b) else None
+
 -- what a built-in goal does
 abbrev pub built_in_move : Term → Option Move
 built_in_move (atom a) = if bytes_eq a (codes "true") then Some goes else None
-built_in_move (structure f (more a (more b none))) = if bytes_eq f (codes "=") then Some (unifies a b) else None
+built_in_move (structure f (more a (more b none))) = pair_move f a b
 built_in_move t = None
 
 -- what a term can do by the clause of a number; a built-in goal takes 0 alone

@@ -3,7 +3,7 @@ use Rattle.std.specs.Prelude.{ℕ, ◌==◌, not, ◌||◌, Bool, true, false, i
 use Rattle.std.specs.List.{list_any}
 use Rattle.kl1_model.specs.Text.{is_built_in}
 use Rattle.kl1_model.specs.Term.{Term, variable, integer, atom, structure, Terms, none, more, terms_of, replace, Replacement}
-use Rattle.kl1_model.specs.Module.{Clause, Module}
+use Rattle.kl1_model.specs.Module.{Clause, goals_of, Module}
 
 -- what a goal does: it reads its shoen's control stream, or it is a term to be reduced
 pub data Task : Type 0 where
@@ -115,7 +115,7 @@ abbrev mutual
 
 -- the names of a clause as they stand in its text
 abbrev pub names_of_clause : Clause → List (List ℕ)
-names_of_clause c = c.name ∷ names_in c.patterns ++ names_in (terms_of c.tests) ++ names_in (terms_of c.body)
+names_of_clause c = c.name ∷ names_in c.patterns ++ names_in (terms_of c.tests) ++ names_in (terms_of (goals_of c.body))
 
 -- the names of clauses, one after another
 abbrev pub names_of_clauses : List Clause → List (List ℕ)

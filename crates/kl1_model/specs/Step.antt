@@ -4,9 +4,10 @@ use Rattle.kl1_model.specs.Print.{cut_print}
 use Rattle.kl1_model.specs.Module.{Module, Reading, good, bad, read_module}
 use Rattle.kl1_model.specs.Match.{module_of}
 use Rattle.kl1_model.specs.State.{Origin, Shoen, State, goal_at, shoen_at, names_of, names_of_module, with_names}
-use Rattle.kl1_model.specs.Event.{syntax, source, exists, no_shoen, value, Event, load, start, reduce, read, loaded, opened, shown, Stepped, refuse, is_number, most_source_bytes, with_entry, recorded, named}
+use Rattle.kl1_model.specs.Event.{syntax, source, exists, no_shoen, value, is_quiet, Event, load, start, reduce, read, loaded, opened, shown, quiet_is, Stepped, refuse, is_number, most_source_bytes, with_entry, recorded, named}
 use Rattle.kl1_model.specs.Reduction.{reduce_goal}
 use Rattle.kl1_model.specs.Opening.{may_start, start_goal}
+use Rattle.kl1_model.specs.Choice.{quiet}
 
 -- an account with one more module, whose names are used
 abbrev pub with_module : State → Module → State
@@ -37,3 +38,4 @@ step s (start allowance low high t) =
     else refuse s syntax
 step s (reduce goal clause) = if is_number goal && is_number clause then reduce_goal s clause (goal_at goal s.goals) else refuse s syntax
 step s (read (value n)) = if is_number n then value_of s (origin_at n s.shoens) else refuse s syntax
+step s (read is_quiet) = record { state = s; reply = quiet_is (quiet s) }

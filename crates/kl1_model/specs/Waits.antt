@@ -1,9 +1,10 @@
 -- What a goal waits for: the variables of which a change may change what it can do.
-use Rattle.std.specs.Prelude.{◌≡◌, ℕ, suc, Bool, true, false, if◌then◌else◌, List, [], ◌∷◌, ◌++◌, codes, bytes_eq, find, Option, Some, None, is_some}
+use Rattle.std.specs.Prelude.{◌≡◌, ℕ, suc, ◌==◌, if◌then◌else◌, List, [], ◌∷◌, ◌++◌, codes, bytes_eq, find, Option, Some, None, is_some}
 use Rattle.std.specs.List.{AllByRecursion}
 use Rattle.kl1_model.specs.Term.{Term, variable, atom, structure, Terms, none, more}
 use Rattle.kl1_model.specs.Module.{Clause, Module}
 use Rattle.kl1_model.specs.Match.{Verdict, accepts, rejects, suspends, verdict, Call, call_of, clauses_of}
+use Rattle.kl1_model.specs.Arithmetic.{Evaluated, comes_to, awaits, is_no_expression, evaluated}
 use Rattle.kl1_model.specs.Reduction.{Move, term_move}
 use Rattle.kl1_model.specs.Choice.{call_clauses}
 
@@ -18,35 +19,45 @@ term_clause modules t = find (λ clause. is_some (move_by modules t clause)) (0 
 -- what a verdict leads to, of what follows where it accepts, rejects and suspends
 abbrev pub least_by : Option ℕ → Option ℕ → Option ℕ → Verdict → Option ℕ
 least_by accepted rejected suspended (accepts places) = accepted
-least_by accepted rejected suspended rejects = rejected
+least_by accepted rejected suspended (rejects vs) = rejected
 least_by accepted rejected suspended (suspends vs) = suspended
 
--- 0 where nothing waits
-abbrev pub least_without : Bool → Option ℕ
-least_without true = None
-least_without false = Some 0
+-- the least number of a clause that accepts, among clauses as far as they are of this section, in which one before them waits;
+-- the first has this number
+abbrev pub least_within : ℕ → ℕ → List Clause → Terms → Option ℕ
+least_within section n [] ts = None
+least_within section n (c ∷ cs) ts =
+    let later = least_within section (suc n) cs ts in
+    if c.section == section then least_by (Some n) later later (verdict c ts) else None
 
--- the least number of a clause that accepts, the first having this number, or 0 where each rejects, or nothing; whether a
--- clause before them waits is told
-abbrev pub least_from : Bool → ℕ → List Clause → Terms → Option ℕ
-least_from waiting n [] ts = least_without waiting
-least_from waiting n (c ∷ cs) ts = least_by (Some n) (least_from waiting (suc n) cs ts) (least_from true (suc n) cs ts) (verdict c ts)
+-- the least number of a clause that accepts, the first having this number, or 0 where each rejects; a clause that waits ends
+-- the search with its section
+abbrev pub least_from : ℕ → List Clause → Terms → Option ℕ
+least_from n [] ts = Some 0
+least_from n (c ∷ cs) ts = least_by (Some n) (least_from (suc n) cs ts) (least_within c.section (suc n) cs ts) (verdict c ts)
 
 -- the least number of a clause that accepts, from 1, or 0 where each rejects or there is none, or nothing
 abbrev pub least_clause : List Clause → Terms → Option ℕ
-least_clause cs ts = least_from false 1 cs ts
+least_clause cs ts = least_from 1 cs ts
 
--- the variables that clauses wait for from this one on: a clause that accepts ends the search for the least, one that
--- rejects does so for good, and one that suspends may yet come to accept
-abbrev pub awaited_after : Verdict → List ℕ → List ℕ
-awaited_after (accepts places) later = []
-awaited_after rejects later = later
-awaited_after (suspends vs) later = vs ++ later
+-- the variables that clauses wait for from this one on, of those that later ones wait for where it rejects and suspends: a
+-- clause that accepts ends the search for the least, and one that suspends may yet come to accept
+abbrev pub awaited_after : Verdict → List ℕ → List ℕ → List ℕ
+awaited_after (accepts places) rejected suspended = []
+awaited_after (rejects vs) rejected suspended = vs ++ rejected
+awaited_after (suspends vs) rejected suspended = vs ++ suspended
 
--- the variables that clauses wait for, up to the first that accepts
+-- the variables that clauses wait for, up to the first that accepts, as far as they are of this section
+abbrev pub awaited_within : ℕ → List Clause → Terms → List ℕ
+awaited_within section [] ts = []
+awaited_within section (c ∷ cs) ts =
+    let later = awaited_within section cs ts in
+    if c.section == section then awaited_after (verdict c ts) later later else []
+
+-- the variables that clauses wait for, up to the first that accepts or the end of the section of the first that waits
 abbrev pub awaited_by_clauses : List Clause → Terms → List ℕ
 awaited_by_clauses [] ts = []
-awaited_by_clauses (c ∷ cs) ts = awaited_after (verdict c ts) (awaited_by_clauses cs ts)
+awaited_by_clauses (c ∷ cs) ts = awaited_after (verdict c ts) (awaited_by_clauses cs ts) (awaited_within c.section cs ts)
 
 -- the variables that a call waits for
 abbrev pub awaited_by_call : List Module → Option Call → List ℕ
@@ -65,9 +76,20 @@ awaited_at_head (variable v) = v ∷ []
 awaited_at_head (structure f (more a (more b none))) = if bytes_eq f (codes ":") then awaited_in_call a b else []
 awaited_at_head t = []
 
+-- the variable that an expression waits for
+abbrev pub awaited_by_evaluated : Evaluated → List ℕ
+awaited_by_evaluated (comes_to n) = []
+awaited_by_evaluated (awaits v) = v ∷ []
+awaited_by_evaluated is_no_expression = []
+
+-- the variables that a term waits for as a built-in goal
+abbrev pub awaited_by_built_in : Term → List ℕ
+awaited_by_built_in (structure f (more a (more b none))) = if bytes_eq f (codes ":=") then awaited_by_evaluated (evaluated b) else []
+awaited_by_built_in t = []
+
 -- the variables that a term waits for as a goal
 abbrev pub awaited_by_term : List Module → Term → List ℕ
-awaited_by_term modules t = awaited_at_head t ++ awaited_by_call modules (call_of t)
+awaited_by_term modules t = awaited_at_head t ++ awaited_by_call modules (call_of t) ++ awaited_by_built_in t
 
 -- a substitution leaves each of these variables as it is
 abbrev pub LeavesEach : (ℕ → Term) → List ℕ → Type 0

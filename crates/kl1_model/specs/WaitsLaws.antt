@@ -1,8 +1,10 @@
 -- What holds of verdicts and of what goals wait for when variables are replaced.
-use Rattle.std.specs.Prelude.{◌≡◌, ℕ, List, [], map, option_map}
+use Rattle.std.specs.Prelude.{◌≡◌, ℕ, suc, nat_le, ◌&&◌, ◌||◌, Bool, true, IsTrue, List, [], ◌∷◌, ◌++◌, map, filter, option_map}
+use Rattle.std.specs.List.{list_all}
 use Rattle.kl1_model.specs.Term.{Term, Terms, substituted, each_substituted, Replacement}
-use Rattle.kl1_model.specs.Module.{Clause, Module}
-use Rattle.kl1_model.specs.Match.{accepts, rejects, suspends, verdict, Call, call_of}
+use Rattle.kl1_model.specs.Meaning.{variables_in}
+use Rattle.kl1_model.specs.Module.{Clause, Module, has_only}
+use Rattle.kl1_model.specs.Match.{accepts, rejects, suspends, is_rejected, verdict, Candidate, candidate_by, candidates_from, Call, call_of}
 use Rattle.kl1_model.specs.Waits.{LeavesEach, least_clause, awaited_by_clauses, awaited_at_head, awaited_by_term, term_clause}
 
 -- a place after a substitution
@@ -17,9 +19,14 @@ places_substituted s ps = map (place_substituted s) ps
 abbrev pub call_substituted : (ℕ → Term) → Call → Call
 call_substituted s k = record { module_name = k.module_name; name = k.name; arguments = each_substituted s k.arguments }
 
--- a clause that rejects a goal rejects it whatever takes the place of the goal's variables
+-- a clause that rejects a goal rejects it until a variable that it names is replaced, and for good where it names none
 abbrev pub RejectsStays : Type 0
-RejectsStays = (s : ℕ → Term) (c : Clause) (ts : Terms) → verdict c ts ≡ rejects → verdict c (each_substituted s ts) ≡ rejects
+RejectsStays = (s : ℕ → Term) (c : Clause) (ts : Terms) (vs : List ℕ) → verdict c ts ≡ rejects vs → LeavesEach s vs → verdict c (each_substituted s ts) ≡ rejects vs
+
+-- and never comes to accept it: a test that clashes by the terms at the places that were reached clashes by all of them, once
+-- these have one term for each variable
+abbrev pub RejectsNeverAccepts : Type 0
+RejectsNeverAccepts = (s : ℕ → Term) (c : Clause) (ts : Terms) (vs : List ℕ) (places : List Replacement) → verdict c ts ≡ rejects vs → verdict c (each_substituted s ts) ≡ accepts places → ⊥
 
 -- one that accepts it accepts it still, with what has become of the terms at its places
 abbrev pub AcceptsStays : Type 0
@@ -29,9 +36,32 @@ AcceptsStays = (s : ℕ → Term) (c : Clause) (ts : Terms) (places : List Repla
 abbrev pub SuspendsStays : Type 0
 SuspendsStays = (s : ℕ → Term) (c : Clause) (ts : Terms) (vs : List ℕ) → verdict c ts ≡ suspends vs → LeavesEach s vs → verdict c (each_substituted s ts) ≡ suspends vs
 
--- and names a variable
+-- whether each variable of a clause's tests is one of its head
+abbrev pub is_guarded : Clause → Bool
+is_guarded c = list_all (has_only (variables_in c.patterns)) c.tests
+
+-- and names a variable, where the variables of its guard are the head's
 abbrev pub SuspendsWaits : Type 0
-SuspendsWaits = (c : Clause) (ts : Terms) → verdict c ts ≡ suspends [] → ⊥
+SuspendsWaits = (c : Clause) (ts : Terms) → IsTrue (is_guarded c) → verdict c ts ≡ suspends [] → ⊥
+
+-- the sections of clauses don't fall
+abbrev pub are_in_order : List Clause → Bool
+are_in_order [] = true
+are_in_order (c ∷ []) = true
+are_in_order (c ∷ d ∷ cs) = nat_le c.section d.section && are_in_order (d ∷ cs)
+
+-- the clauses that accept, of which the first has this number
+abbrev pub accepting_from : ℕ → List Clause → Terms → List Candidate
+accepting_from n [] ts = []
+accepting_from n (c ∷ cs) ts = candidate_by n c (verdict c ts) ++ accepting_from (suc n) cs ts
+
+-- whether each clause above the nearest `otherwise` above a clause rejects
+abbrev pub is_open : List Clause → Terms → Clause → Bool
+is_open cs ts c = list_all (λ d. nat_le c.section d.section || is_rejected (verdict d ts)) cs
+
+-- the candidates are the clauses that accept and above whose nearest `otherwise` each clause rejects
+abbrev pub CandidatesAreOpen : Type 0
+CandidatesAreOpen = (n : ℕ) (cs : List Clause) (ts : Terms) → IsTrue (are_in_order cs) → candidates_from n cs ts ≡ filter (λ k. is_open cs ts k.clause) (accepting_from n cs ts)
 
 -- the least clause of several, and the variables that they wait for, stay until one of these is replaced
 abbrev pub ClausesStay : Type 0

@@ -2,10 +2,20 @@
 #![tactic(auto)]
 
 mod built_in;
+mod comparison;
+mod inspection;
 pub mod limits;
+mod number;
+mod operator;
 mod pair_form;
+mod relation;
 mod sign;
 
 pub use built_in::BuiltIn;
+pub use comparison::Comparison;
+pub use inspection::Inspection;
+pub use number::Number;
+pub use operator::Operator;
 pub use pair_form::PairForm;
+pub use relation::Relation;
 pub use sign::Sign;

@@ -9,6 +9,9 @@ pub const MOST_ARGUMENTS: usize = 8;
 /// The greatest depth of a term that a text can write, in levels.
 pub const MOST_DEPTH: u64 = 256;
 
+/// The most operators of an expression.
+pub const MOST_OPERATORS: u32 = 64;
+
 /// The most clauses of a module.
 pub const MOST_CLAUSES: usize = 512;
 

@@ -1,13 +1,14 @@
 -- Calls, and goals that are none.
-use Rattle.std.proofs.Common.{◌≡◌, ℕ, true, false, List, [], ◌∷◌, length, refl, sym, ap, ◌∙◌}
+use Rattle.std.proofs.Common.{◌≡◌, ℕ, true, false, if◌then◌else◌, List, [], ◌∷◌, length, refl, sym, ap, ◌∙◌}
 use Rattle.std.specs.Prelude.{Some, None, slice_get, codes, bytes_eq}
 use Rattle.std.proofs.lemmas.Bool.{cond-true, cond-false}
 use Rattle.std.proofs.lemmas.Slice.Eq.{bytes_eq-Decides}
 use Rattle.kl1_model.specs.Term.{Term, variable, integer, atom, structure, Terms, none, more, count_of}
 use Rattle.kl1_model.specs.Match as model
 use Rattle.kl1_model.specs.Match.{call_of}
-use Rattle.kl1_model.specs.Reduction.{unifies, goes, built_in_move}
-use Rattle.kl1_model.specs.Waits.{awaited_in_call, awaited_at_head}
+use Rattle.kl1_model.specs.Arithmetic.{evaluated}
+use Rattle.kl1_model.specs.Reduction.{unifies, goes, assigned, built_in_move}
+use Rattle.kl1_model.specs.Waits.{awaited_in_call, awaited_at_head, awaited_by_evaluated, awaited_by_built_in}
 use Rattle.kl1_store.specs.declared.cell.Cell.{Cell}
 use Rattle.kl1_store.specs.declared.cell.Cell.TheVariants.{Atom, Structure}
 use Rattle.kl1_store.specs.Held.{Held, arguments_of}
@@ -22,7 +23,7 @@ use Rattle.kl1_moves.specs.declared.calling.Callee.{Callee}
 use Rattle.kl1_moves.specs.declared.calling.Callee.TheVariants as callee
 use Rattle.kl1_moves.specs.Shapes.{IsNoGoal, two_terms}
 use Rattle.kl1_moves.specs.Calls.{atom_in, name_in, IsOf, IsNameless, CallsNothing, Calls, CalledIn, CalledAs}
-use Rattle.kl1_moves.specs.Kinds.{IsCall, IsUnification, IsTrueGoal}
+use Rattle.kl1_moves.specs.Kinds.{IsCall, IsUnification, IsAssignment, IsTrueGoal}
 
 -- ---- under another name than `:`
 
@@ -41,21 +42,42 @@ other_head f a b e = cond-false (bytes_eq f (codes ":")) (awaited_in_call a b) [
 own_head : (f : List ℕ) (a b : Term) → bytes_eq f (codes ":") ≡ true → awaited_at_head (structure f (more a (more b none))) ≡ awaited_in_call a b
 own_head f a b e = cond-true (bytes_eq f (codes ":")) (awaited_in_call a b) [] e
 
-no_unification : (f : List ℕ) (a b : Term) → bytes_eq f (codes "=") ≡ false → built_in_move (structure f (more a (more b none))) ≡ None
-no_unification f a b e = cond-false (bytes_eq f (codes "=")) (Some (unifies a b)) None e
+-- what a name that isn't `=` makes of two terms
+no_unification : (f : List ℕ) (a b : Term) → bytes_eq f (codes "=") ≡ false → built_in_move (structure f (more a (more b none))) ≡ (if bytes_eq f (codes ":=") then assigned a (evaluated b) else None)
+no_unification f a b e = cond-false (bytes_eq f (codes "=")) (Some (unifies a b)) (if bytes_eq f (codes ":=") then assigned a (evaluated b) else None) e
+
+no_assignment : (f : List ℕ) (a b : Term) → bytes_eq f (codes "=") ≡ false → bytes_eq f (codes ":=") ≡ false → built_in_move (structure f (more a (more b none))) ≡ None
+no_assignment f a b e n = no_unification f a b e ∙ cond-false (bytes_eq f (codes ":=")) (assigned a (evaluated b)) None n
+
+no_expression : (f : List ℕ) (a b : Term) → bytes_eq f (codes ":=") ≡ false → awaited_by_built_in (structure f (more a (more b none))) ≡ []
+no_expression f a b n = cond-false (bytes_eq f (codes ":=")) (awaited_by_evaluated (evaluated b)) [] n
+
+-- a text that is one is no other
+other_text : (f own other : List ℕ) → bytes_eq f own ≡ true → bytes_eq own other ≡ false → bytes_eq f other ≡ false
+other_text f own other e n = let same : f ≡ own = (bytes_eq-Decides f own).0 e in ap (λ l. bytes_eq l other) same ∙ n
 
 pub is_unification : {N : Type 0} (f : N → List ℕ) (h : Held N) (name : N) (left right : Cell N) → bytes_eq (f name) (codes ":") ≡ false → bytes_eq (f name) (codes "=") ≡ true → IsUnification f h (two_terms f h name left right) left right
 is_unification f h name left right ne e = record {
   call = other_name (f name) (term_of f h left) (term_of f h right) ne;
-  built_in = cond-true (bytes_eq (f name) (codes "=")) (Some (unifies (term_of f h left) (term_of f h right))) None e;
+  built_in = cond-true (bytes_eq (f name) (codes "=")) (Some (unifies (term_of f h left) (term_of f h right))) (if bytes_eq (f name) (codes ":=") then assigned (term_of f h left) (evaluated (term_of f h right)) else None) e;
   awaits = other_head (f name) (term_of f h left) (term_of f h right) ne;
+  waits_no_more = no_expression (f name) (term_of f h left) (term_of f h right) (other_text (f name) (codes "=") (codes ":=") e refl);
 }
 
-pub other_two : {N : Type 0} (f : N → List ℕ) (h : Held N) (name : N) (left right : Cell N) → bytes_eq (f name) (codes ":") ≡ false → bytes_eq (f name) (codes "=") ≡ false → IsNoGoal (two_terms f h name left right) []
-other_two f h name left right ne e = record {
+pub is_assignment : {N : Type 0} (f : N → List ℕ) (h : Held N) (name : N) (left right : Cell N) → bytes_eq (f name) (codes ":") ≡ false → bytes_eq (f name) (codes "=") ≡ false → bytes_eq (f name) (codes ":=") ≡ true → IsAssignment f h (two_terms f h name left right) left right
+is_assignment f h name left right ne other e = record {
   call = other_name (f name) (term_of f h left) (term_of f h right) ne;
-  built_in = no_unification (f name) (term_of f h left) (term_of f h right) e;
+  built_in = no_unification (f name) (term_of f h left) (term_of f h right) other ∙ cond-true (bytes_eq (f name) (codes ":=")) (assigned (term_of f h left) (evaluated (term_of f h right))) None e;
   awaits = other_head (f name) (term_of f h left) (term_of f h right) ne;
+  waits_for = cond-true (bytes_eq (f name) (codes ":=")) (awaited_by_evaluated (evaluated (term_of f h right))) [] e;
+}
+
+pub other_two : {N : Type 0} (f : N → List ℕ) (h : Held N) (name : N) (left right : Cell N) → bytes_eq (f name) (codes ":") ≡ false → bytes_eq (f name) (codes "=") ≡ false → bytes_eq (f name) (codes ":=") ≡ false → IsNoGoal (two_terms f h name left right) []
+other_two f h name left right ne other e = record {
+  call = other_name (f name) (term_of f h left) (term_of f h right) ne;
+  built_in = no_assignment (f name) (term_of f h left) (term_of f h right) other e;
+  awaits = other_head (f name) (term_of f h left) (term_of f h right) ne;
+  waits_no_more = no_expression (f name) (term_of f h left) (term_of f h right) e;
 }
 
 -- ---- modules and callees
@@ -142,24 +164,26 @@ is_call f h name left right c e k = record {
       ∙ ap (λ x. Some (call_with (f c.module_name) (f c.name) (arguments_of_goal x))) (sym k.goal_is.means);
   counted = ap (λ x. count_of (arguments_of_goal x)) k.goal_is.means ∙ k.goal_is.counted;
   awaits = own_head (f name) (term_of f h left) (term_of f h right) e ∙ call_awaits (f c.module_name) (f c.name) (term_of f h left) (term_of f h right) k.module_is k.goal_is.name_is;
+  waits_no_more = no_expression (f name) (term_of f h left) (term_of f h right) (other_text (f name) (codes ":") (codes ":=") e refl);
 }
 
 pub nothing_called : {N : Type 0} (f : N → List ℕ) (h : Held N) (name : N) (left right : Cell N) (vs : List ℕ) → bytes_eq (f name) (codes ":") ≡ true → CallsNothing (term_of f h left) (term_of f h right) vs → IsNoGoal (two_terms f h name left right) vs
 nothing_called f h name left right vs is n =
-    let text : f name ≡ codes ":" = (bytes_eq-Decides (f name) (codes ":")).0 is in
+    let other : bytes_eq (f name) (codes ":=") ≡ false = other_text (f name) (codes ":") (codes ":=") is refl in
     record {
       call = n.call (f name);
-      built_in = no_unification (f name) (term_of f h left) (term_of f h right) (ap (λ l. bytes_eq l (codes "=")) text);
+      built_in = no_assignment (f name) (term_of f h left) (term_of f h right) (other_text (f name) (codes ":") (codes "=") is refl) other;
       awaits = own_head (f name) (term_of f h left) (term_of f h right) is ∙ n.awaits;
+      waits_no_more = no_expression (f name) (term_of f h left) (term_of f h right) other;
     }
 
 -- ---- atoms
 
 pub is_true_goal : (t : Term) (a : List ℕ) → t ≡ atom a → bytes_eq a (codes "true") ≡ true → IsTrueGoal t
-is_true_goal t a e is = record { call = ap call_of e; built_in = ap built_in_move e ∙ cond-true (bytes_eq a (codes "true")) (Some goes) None is; awaits = ap awaited_at_head e }
+is_true_goal t a e is = record { call = ap call_of e; built_in = ap built_in_move e ∙ cond-true (bytes_eq a (codes "true")) (Some goes) None is; awaits = ap awaited_at_head e; waits_no_more = ap awaited_by_built_in e }
 
 pub other_atom : (t : Term) (a : List ℕ) → t ≡ atom a → bytes_eq a (codes "true") ≡ false → IsNoGoal t []
-other_atom t a e is = record { call = ap call_of e; built_in = ap built_in_move e ∙ cond-false (bytes_eq a (codes "true")) (Some goes) None is; awaits = ap awaited_at_head e }
+other_atom t a e is = record { call = ap call_of e; built_in = ap built_in_move e ∙ cond-false (bytes_eq a (codes "true")) (Some goes) None is; awaits = ap awaited_at_head e; waits_no_more = ap awaited_by_built_in e }
 
 pub no_goal_yet : (t : Term) (v : ℕ) → t ≡ variable v → IsNoGoal t (v ∷ [])
-no_goal_yet t v e = record { call = ap call_of e; built_in = ap built_in_move e; awaits = ap awaited_at_head e }
+no_goal_yet t v e = record { call = ap call_of e; built_in = ap built_in_move e; awaits = ap awaited_at_head e; waits_no_more = ap awaited_by_built_in e }

@@ -1,45 +1,44 @@
 -- Candidates by number, and calls that fail.
-use Rattle.std.proofs.Common.{◌≡◌, ℕ, zero, suc, ◌+◌, ◌-◌, ◌<◌, ◌==◌, Bool, true, false, if◌then◌else◌, List, [], ◌∷◌, ◌++◌, refl, sym, ap, ◌∙◌, arith}
-use Rattle.std.specs.Prelude.{Option, Some, None, slice_get, find, option_map}
+use Rattle.std.proofs.Common.{◌≡◌, ℕ, suc, ◌+◌, ◌<◌, ◌≤◌, ◌==◌, Bool, true, false, if◌then◌else◌, List, [], ◌∷◌, ◌++◌, length, refl, sym, ap, ◌∙◌, arith}
+use Rattle.std.specs.Prelude.{Option, Some, None, option_map}
 use Rattle.std.proofs.lemmas.Bool.{cond-true, cond-false, eq-eqb, ne_eqb}
 use Rattle.kl1_model.specs.Term.{Term, Terms}
 use Rattle.kl1_model.specs.Module.{Clause, Module}
 use Rattle.kl1_model.specs.Match as model
-use Rattle.kl1_model.specs.Match.{call_of, clauses_of, Candidate, candidate_by, candidates_from, candidates_of, fails, verdict, accepts, rejects, suspends}
+use Rattle.kl1_model.specs.Match.{call_of, clauses_of, Candidate, candidate_by, candidates_within, candidates_from, candidates_of, fails, is_rejected, verdict, accepts, rejects, suspends}
 use Rattle.kl1_model.specs.Reduction as model_moves
 use Rattle.kl1_model.specs.Reduction.{commits, raises, failure, term_move, call_move, built_in_move}
 use Rattle.kl1_model.specs.Waits.{move_by, least_clause}
 use Rattle.kl1_model.proofs.LeastClause.{AreFrom, are_from, first_number, least-chosen}
+use Rattle.kl1_match.specs.Candidates.{numbered}
 use Rattle.kl1_moves.specs.Shapes.{IsNoGoal}
-use Rattle.kl1_moves.specs.Moves.{first_candidate, candidate_of}
 
-none_found : (j n : ℕ) (ks : List Candidate) → j < n → AreFrom n ks → find (λ q. q.number == j) ks ≡ None
-none_found j n [] lt a = refl
-none_found j n (k ∷ ks) lt a =
-    let le = a.0 in
-    cond-false (k.number == j) (Some k) (find (λ q. q.number == j) ks) (ne_eqb k.number j (λ e. omega arith)) ∙ none_found j n ks lt a.1
-
-at_front : (j n : ℕ) (c : Clause) (ks : List Candidate) (v : model.Verdict) → j ≡ n → AreFrom (suc n) ks → find (λ q. q.number == j) (candidate_by n c v ++ ks) ≡ first_candidate (candidate_by j c v)
-at_front j n c ks (accepts ps) e a =
-    cond-true (n == j) (Some (record { number = n; clause = c; places = ps })) (find (λ q. q.number == j) ks) (eq-eqb n j (sym e)) ∙ ap (λ m. first_candidate (candidate_by m c (accepts ps))) (sym e)
-at_front j n c ks rejects e a = none_found j (suc n) ks (omega arith) a
-at_front j n c ks (suspends vs) e a = none_found j (suc n) ks (omega arith) a
-
-behind_front : (j n : ℕ) (c : Clause) (ks : List Candidate) (v : model.Verdict) → n < j → find (λ q. q.number == j) (candidate_by n c v ++ ks) ≡ find (λ q. q.number == j) ks
-behind_front j n c ks (accepts ps) lt = cond-false (n == j) (Some (record { number = n; clause = c; places = ps })) (find (λ q. q.number == j) ks) (ne_eqb n j (λ e. omega arith))
-behind_front j n c ks rejects lt = refl
+behind_front : (j n : ℕ) (c : Clause) (ks : List Candidate) (v : model.Verdict) → n < j → numbered j (candidate_by n c v ++ ks) ≡ numbered j ks
+behind_front j n c ks (accepts ps) lt = cond-false (n == j) (Some (record { number = n; clause = c; places = ps })) (numbered j ks) (ne_eqb n j (λ e. absurd (omega (arith, lt, e))))
+behind_front j n c ks (rejects vs) lt = refl
 behind_front j n c ks (suspends vs) lt = refl
 
-find_at : (j n i : ℕ) (cs : List Clause) (ts : Terms) → j ≡ n + i → find (λ q. q.number == j) (candidates_from n cs ts) ≡ candidate_of j ts (slice_get cs i)
-find_at j n i [] ts e = refl
-find_at j n zero (c ∷ cs) ts e = at_front j n c (candidates_from (suc n) cs ts) (verdict c ts) (omega arith) (are_from (suc n) cs ts)
-find_at j n (suc i) (c ∷ cs) ts e = behind_front j n c (candidates_from (suc n) cs ts) (verdict c ts) (omega arith) ∙ find_at j (suc n) i cs ts (omega arith)
+-- behind all clauses there is no candidate
+none_within : (section j n : ℕ) (cs : List Clause) (ts : Terms) → n + length cs ≤ j → numbered j (candidates_within section n cs ts) ≡ None
+none_within section j n [] ts le = refl
+none_within section j n (c ∷ cs) ts le = by (c.section == section) (none_within section j (suc n) cs ts (omega (arith, le)))
+  where
+    by : (b : Bool) → numbered j (candidates_within section (suc n) cs ts) ≡ None → numbered j (if b then candidate_by n c (verdict c ts) ++ candidates_within section (suc n) cs ts else []) ≡ None
+    by true next = behind_front j n c (candidates_within section (suc n) cs ts) (verdict c ts) (omega (arith, le)) ∙ next
+    by false next = refl
+
+pub none_behind : (j n : ℕ) (cs : List Clause) (ts : Terms) → n + length cs ≤ j → numbered j (candidates_from n cs ts) ≡ None
+none_behind j n [] ts le = refl
+none_behind j n (c ∷ cs) ts le = by (is_rejected (verdict c ts)) (none_behind j (suc n) cs ts (omega (arith, le)))
+  where
+    by : (b : Bool) → numbered j (candidates_from (suc n) cs ts) ≡ None → numbered j (if b then candidates_from (suc n) cs ts else candidates_within c.section n (c ∷ cs) ts) ≡ None
+    by true next = next
+    by false next = none_within c.section j n (c ∷ cs) ts le
 
 -- what a call can do by a number above 0
-by_number : (modules : List Module) (k : model.Call) (number : ℕ) → 0 < number → call_move modules k number ≡ option_map (λ q. commits q) (candidate_of number k.arguments (slice_get (clauses_of modules k) (number - 1)))
+by_number : (modules : List Module) (k : model.Call) (number : ℕ) → 0 < number → call_move modules k number ≡ option_map (λ q. commits q) (numbered number (candidates_from 1 (clauses_of modules k) k.arguments))
 by_number modules k number some =
-    cond-false (number == 0) (if fails modules k then Some (raises failure) else None) (option_map (λ q. commits q) (find (λ q. q.number == number) (candidates_of modules k))) (ne_eqb number 0 (λ e. omega arith))
-    ∙ ap (λ o. option_map (λ q. commits q) o) (find_at number 1 (number - 1) (clauses_of modules k) k.arguments (omega arith))
+    cond-false (number == 0) (if fails modules k then Some (raises failure) else None) (option_map (λ q. commits q) (numbered number (candidates_of modules k))) (ne_eqb number 0 (λ e. absurd (omega (arith, some, e))))
 
 fails_then : (b : Bool) (ks : List Candidate) → AreFrom 1 ks → (if b then Some 0 else first_number ks) ≡ Some 0 → b ≡ true
 fails_then true ks a e = refl
@@ -53,12 +52,12 @@ fails_not false ks ne = refl
 call_fails : (modules : List Module) (k : model.Call) → least_clause (clauses_of modules k) k.arguments ≡ Some 0 → call_move modules k 0 ≡ Some (raises failure)
 call_fails modules k e =
     cond-true (fails modules k) (Some (raises failure)) None
-    (fails_then (fails modules k) (candidates_of modules k) (are_from 1 (clauses_of modules k) k.arguments) (sym (least-chosen false 1 (clauses_of modules k) k.arguments) ∙ e))
+    (fails_then (fails modules k) (candidates_of modules k) (are_from 1 (clauses_of modules k) k.arguments) (sym (least-chosen 1 (clauses_of modules k) k.arguments) ∙ e))
 
 call_goes_on : (modules : List Module) (k : model.Call) → (least_clause (clauses_of modules k) k.arguments ≡ Some 0 → ⊥) → call_move modules k 0 ≡ None
 call_goes_on modules k ne =
     cond-false (fails modules k) (Some (raises failure)) None
-    (fails_not (fails modules k) (candidates_of modules k) (λ q. ne (least-chosen false 1 (clauses_of modules k) k.arguments ∙ q)))
+    (fails_not (fails modules k) (candidates_of modules k) (λ q. ne (least-chosen 1 (clauses_of modules k) k.arguments ∙ q)))
 
 move_by-call : (modules : List Module) (t : Term) (k : model.Call) (n : ℕ) → call_of t ≡ Some k → move_by modules t n ≡ call_move modules k n
 move_by-call modules t k n e = ap (term_move modules t n) e
@@ -69,7 +68,7 @@ fails_by modules t k n e z l = move_by-call modules t k n e ∙ ap (call_move mo
 pub goes_on_by : (modules : List Module) (t : Term) (k : model.Call) (n : ℕ) → call_of t ≡ Some k → n ≡ 0 → (least_clause (clauses_of modules k) k.arguments ≡ Some 0 → ⊥) → move_by modules t n ≡ None
 goes_on_by modules t k n e z l = move_by-call modules t k n e ∙ ap (call_move modules k) z ∙ call_goes_on modules k l
 
-pub commits_by : (modules : List Module) (t : Term) (k : model.Call) (n : ℕ) (o : Option Candidate) → call_of t ≡ Some k → 0 < n → candidate_of n k.arguments (slice_get (clauses_of modules k) (n - 1)) ≡ o → move_by modules t n ≡ option_map (λ q. commits q) o
+pub commits_by : (modules : List Module) (t : Term) (k : model.Call) (n : ℕ) (o : Option Candidate) → call_of t ≡ Some k → 0 < n → numbered n (candidates_from 1 (clauses_of modules k) k.arguments) ≡ o → move_by modules t n ≡ option_map (λ q. commits q) o
 commits_by modules t k n o e lt c = move_by-call modules t k n e ∙ by_number modules k n lt ∙ ap (λ x. option_map (λ q. commits q) x) c
 
 -- ---- goals that are no calls

@@ -9,7 +9,7 @@ use Rattle.std.proofs.lemmas.List.Elements.{Contains-append_left, Contains-appen
 use Rattle.kl1_store.specs.Held.{Held}
 use Rattle.kl1_store.specs.Hooks.{Hook, Kept, hanging_on, HasGrown}
 use Rattle.kl1_store.proofs.Grows.{Grown-same, Grown-trans}
-use Rattle.kl1_match.specs.Waiting.{AreUnbound}
+use Rattle.kl1_match.specs.Waiting.{AreUnbound, AreSame}
 use Rattle.kl1_moves.specs.Hanging.{HangsOnEach, AreAmong}
 
 -- ---- what hangs newest was hung
@@ -103,3 +103,18 @@ pub next_within : {N : Type 0} (old mid : Kept N) (n i d : ℕ) (vs : List ℕ) 
 next_within {N} old mid n i d vs u lt h =
     let P : Held N → Type 0 = λ k. get_or vs i d < k.variables in
     subst P (sym h.held) (nth_within old.held vs i d u lt)
+
+-- ---- lists in which the same variables stand
+
+each_there : (hooks : List Hook) (n v : ℕ) (vs : List ℕ) → HangsOnEach hooks n vs → Contains vs v → Contains hooks (record { variable = v; number = n })
+each_there hooks n v [] h (i, lt, e) = absurd (omega arith)
+each_there hooks n v (w ∷ vs) h (zero, lt, e) = let P : ℕ → Type 0 = λ x. Contains hooks (record { variable = x; number = n }) in subst P e h.0
+each_there hooks n v (w ∷ vs) h (suc i, lt, e) = each_there hooks n v vs h.1 (i, omega (arith, lt), e)
+
+each_of : (hooks : List Hook) (n : ℕ) (vs ws : List ℕ) → ((v : ℕ) → Contains ws v → Contains vs v) → HangsOnEach hooks n vs → HangsOnEach hooks n ws
+each_of hooks n vs [] up h = tt
+each_of hooks n vs (w ∷ ws) up h = (each_there hooks n w vs h (up w (0, omega arith, refl)), each_of hooks n vs ws (λ v c. up v (suc c.0, omega (arith, c.1), c.2)) h)
+
+-- a number that hangs on each of some variables hangs on each of them in another list
+pub hangs_on_same : (hooks : List Hook) (n : ℕ) (vs ws : List ℕ) → AreSame vs ws → HangsOnEach hooks n vs → HangsOnEach hooks n ws
+hangs_on_same hooks n vs ws s h = each_of hooks n vs ws (λ v. (s.each v).1) h

@@ -1,16 +1,23 @@
 -- What a call can do by the clause of a number, by cells.
-use Rattle.std.proofs.Common.{◌≡◌, ℕ, zero, suc, ◌+◌, ◌-◌, ◌<◌, ◌≤◌, List, [], ◌∷◌, ◌++◌, length, map, get_or, refl, sym, ap, ◌∙◌, subst, arith, append-nil}
+use Rattle.std.proofs.Common.{◌≡◌, ℕ, zero, suc, ◌+◌, ◌-◌, ◌<◌, ◌≤◌, Bool, true, false, List, [], ◌∷◌, ◌++◌, length, map, drop, get_or, refl, sym, ap, ◌∙◌, subst, arith, append-nil}
 use Rattle.std.specs.Prelude.{Option, Some, None, slice_get, slice_index_or}
 use Rattle.kl1_model.specs.declared.built_in.BuiltIn.{BuiltIn}
 use Rattle.kl1_model.specs.Term.{Term}
 use Rattle.kl1_model.specs.Module.{Clause, Module}
-use Rattle.kl1_model.specs.Match.{call_of, clauses_of, Candidate, candidate_by, verdict}
+use Rattle.kl1_model.specs.Match as model
+use Rattle.kl1_model.specs.Match.{call_of, clauses_of, Candidate}
 use Rattle.kl1_model.specs.Instance.{body_instance}
-use Rattle.kl1_model.specs.Reduction.{unifies, goes}
-use Rattle.kl1_model.specs.Waits.{awaited_by_term, awaited_by_call, awaited_at_head}
+use Rattle.kl1_model.specs.declared.number.Number.{Number}
+use Rattle.kl1_model.specs.declared.number.Number.TheVariants.{Value, Overflow, ZeroDivisor}
+use Rattle.kl1_model.specs.Text.{text_of}
+use Rattle.kl1_model.specs.Arithmetic.{evaluated}
+use Rattle.kl1_model.specs.Reduction as model_moves
+use Rattle.kl1_model.specs.Reduction.{raises, unifies, goes, illegal_input, built_in_move}
+use Rattle.kl1_model.specs.Waits.{move_by, awaited_by_term, awaited_by_call, awaited_by_clauses, awaited_at_head, awaited_by_evaluated, awaited_by_built_in}
 use Rattle.kl1_model.proofs.LeastClause.{term_clause-call, term_clause-built_in, term_clause-none}
 use Rattle.kl1_text.specs.Reading.{Reads}
 use Rattle.kl1_store.specs.declared.cell.Cell.{Cell}
+use Rattle.kl1_store.specs.declared.cell.Cell.TheVariants.{Integer}
 use Rattle.kl1_store.specs.Held.{Held}
 use Rattle.kl1_store.specs.Meaning.{term_of}
 use Rattle.kl1_clause.specs.declared.compiled_clause.CompiledClause.{CompiledClause}
@@ -18,11 +25,16 @@ use Rattle.kl1_clause.specs.declared.predicate.Predicate.{Predicate}
 use Rattle.kl1_clause.specs.Clauses.{IsCompiled, AreCompiled}
 use Rattle.kl1_clause.specs.Predicates.{AreSome}
 use Rattle.kl1_match.specs.declared.place.Place.{Place}
-use Rattle.kl1_match.specs.declared.verdict.Verdict.{Verdict}
-use Rattle.kl1_match.specs.declared.verdict.Verdict.TheVariants.{Accepts, Rejects, Suspends}
 use Rattle.kl1_match.specs.Instances.{IsClause, replacements_of, IsInstance}
-use Rattle.kl1_match.specs.Verdicts.{IsVerdict, verdict_with_places, arguments_of_goal}
+use Rattle.kl1_match.specs.Verdicts.{arguments_of_goal}
 use Rattle.kl1_match.specs.Choices.{AreClauses, Chooses, IsChoice}
+use Rattle.kl1_match.specs.Candidates.{TakenAs, Takes}
+use Rattle.kl1_match.specs.Waiting.{AreSame}
+use Rattle.kl1_match.proofs.Cells.{at_integer}
+use Rattle.kl1_match.proofs.Naming.{same_as_itself}
+use Rattle.kl1_guard.specs.declared.evaluated.Evaluated.{Evaluated}
+use Rattle.kl1_guard.specs.declared.evaluated.Evaluated.TheVariants.{ComesTo, Awaits, IsNoExpression}
+use Rattle.kl1_guard.specs.Evaluations.{evaluated_of}
 use Rattle.kl1_moves.specs.declared.call.Call.{Call}
 use Rattle.kl1_moves.specs.declared.kind.Kind.{Kind}
 use Rattle.kl1_moves.specs.declared.kind.Kind.TheVariants as kind
@@ -30,11 +42,12 @@ use Rattle.kl1_moves.specs.declared.moves.Move.{Move}
 use Rattle.kl1_moves.specs.declared.moves.Move.TheVariants as move
 use Rattle.kl1_moves.specs.Calls.{cell_of, arguments_at, call_at}
 use Rattle.kl1_moves.specs.Shapes.{IsNoGoal}
-use Rattle.kl1_moves.specs.Kinds.{IsKind, IsCall, IsUnification, IsTrueGoal}
-use Rattle.kl1_moves.specs.Moves.{HasPredicate, FailsAs, candidate_of, candidate_at, first_candidate, IsCandidate, CommitsAs, MovesAs}
+use Rattle.kl1_moves.specs.Assigning as assigning
+use Rattle.kl1_moves.specs.Kinds.{IsKind, IsCall, IsUnification, IsAssignment, IsTrueGoal}
+use Rattle.kl1_moves.specs.Moves.{HasPredicate, FailsAs, candidate_at, IsCandidate, CommitsAs, MovesAs}
 use Rattle.kl1_moves.specs.Standing.{StandsAs}
 use Rattle.kl1_moves.specs.Bodies.{IsBody}
-use Rattle.kl1_moves.proofs.Candidates.{fails_by, goes_on_by, commits_by}
+use Rattle.kl1_moves.proofs.Candidates.{none_behind, fails_by, goes_on_by, commits_by, by_zero}
 
 -- ---- compiled clauses of a predicate
 
@@ -53,108 +66,142 @@ clause_at names [] place x a lt = absurd (omega arith)
 clause_at names (c ∷ cs) zero x a lt = a.0
 clause_at names (c ∷ cs) (suc place) x a lt = clause_at names cs place x a.1 (omega arith)
 
--- the clause at a place, and what it is compiled to
-record IsThere (names : List (List ℕ)) (cs : List CompiledClause) (compiled : CompiledClause) (ds : List Clause) (place : ℕ) : Type 0 where
-  clause : Clause
+-- the compiled clause at the place of a clause
+record IsThere (names : List (List ℕ)) (cs : List CompiledClause) (clause : Clause) (place : ℕ) : Type 0 where
+  compiled : CompiledClause
   at : slice_get cs place ≡ Some compiled
-  clause_is : slice_get ds place ≡ Some clause
   is : IsCompiled names compiled clause
 
-there : (names : List (List ℕ)) (cs : List CompiledClause) (ds : List Clause) (place : ℕ) (x : CompiledClause) → AreCompiled names cs ds → place < length cs → IsThere names cs (get_or cs place x) ds place
-there names [] ds place x a lt = absurd (omega arith)
-there names (c ∷ cs) [] place x a lt = absurd a
-there names (c ∷ cs) (d ∷ ds) zero x a lt = record { clause = d; at = refl; clause_is = refl; is = a.0 }
-there names (c ∷ cs) (d ∷ ds) (suc place) x a lt = let r = there names cs ds place x a.1 (omega arith) in record { clause = r.clause; at = r.at; clause_is = r.clause_is; is = r.is }
+there : (names : List (List ℕ)) (cs : List CompiledClause) (ds rest : List Clause) (place : ℕ) (d : Clause) → AreCompiled names cs ds → drop place ds ≡ d ∷ rest → IsThere names cs d place
+there names [] [] rest zero d a e = absurd (cc)
+there names [] [] rest (suc place) d a e = absurd (cc)
+there names [] (c ∷ ds) rest place d a e = absurd a
+there names (c ∷ cs) [] rest place d a e = absurd a
+there names (c ∷ cs) (b ∷ ds) rest zero d a e = let same : b ≡ d = cc in record { compiled = c; at = refl; is = subst (λ x. IsCompiled names c x) same a.0 }
+there names (c ∷ cs) (b ∷ ds) rest (suc place) d a e = let r = there names cs ds rest place d a.1 e in record { compiled = r.compiled; at = r.at; is = r.is }
 
-not_there : (names : List (List ℕ)) (cs : List CompiledClause) (ds : List Clause) (place : ℕ) → AreCompiled names cs ds → length cs ≤ place → slice_get ds place ≡ None
-not_there names [] [] place a le = refl
-not_there names [] (d ∷ ds) place a le = absurd a
-not_there names (c ∷ cs) [] place a le = absurd a
-not_there names (c ∷ cs) (d ∷ ds) zero a le = absurd (omega arith)
-not_there names (c ∷ cs) (d ∷ ds) (suc place) a le = not_there names cs ds place a.1 (omega arith)
+as_many : (names : List (List ℕ)) (cs : List CompiledClause) (ds : List Clause) → AreCompiled names cs ds → length ds ≡ length cs
+as_many names [] [] a = refl
+as_many names [] (d ∷ ds) a = absurd a
+as_many names (c ∷ cs) [] a = absurd a
+as_many names (c ∷ cs) (d ∷ ds) a = ap suc (as_many names cs ds a.1)
 
 -- ---- one clause tried
 
-pub none_left : {N : Type 0} (f : N → List ℕ) (h : Held N) (c : Call N) (p : Predicate N) (cs : List Clause) (number : ℕ) → AreCompiled (map f p.names.now) p.clauses.now cs → length p.clauses.now ≤ number - 1 → candidate_at f h c cs number ≡ None
-none_left f h c p cs number a le = ap (candidate_of number (arguments_at f h c)) (not_there (map f p.names.now) p.clauses.now cs (number - 1) a le)
+pub none_left : {N : Type 0} (f : N → List ℕ) (h : Held N) (c : Call N) (p : Predicate N) (cs : List Clause) (number : ℕ) → 0 < number → AreCompiled (map f p.names.now) p.clauses.now cs → length p.clauses.now ≤ number - 1 → candidate_at f h c cs number ≡ None
+none_left f h c p cs number some a le = let count = as_many (map f p.names.now) p.clauses.now cs a in none_behind number 1 cs (arguments_at f h c) (omega (arith, some, le, count))
 
--- the candidate that a verdict makes
-record Tried {N : Type 0} (f : N → List ℕ) (h : Held N) (c : Call N) (p : Predicate N) (cs : List Clause) (number : ℕ) (compiled : CompiledClause) (places : List (Place N)) (named : List ℕ) (given : Verdict) : Type 0 where
-  pub there : IsThere (map f p.names.now) p.clauses.now compiled cs (number - 1)
-  pub found : candidate_at f h c cs number ≡ first_candidate (candidate_by number there.clause (verdict_with_places f h places named given))
+-- the move by the clause at a place, where it is a candidate or isn't
+abbrev pub by_answer : {N : Type 0} → ℕ → Bool → Option (Move N)
+by_answer place true = Some (move.Commits place)
+by_answer place false = None
 
-tried : {N : Type 0} (built : BuiltIn → N) (f : N → List ℕ) (h : Held N) (c : Call N) (p : Predicate N) (cs : List Clause) (number : ℕ) (compiled : CompiledClause) (goal : Cell N) (places : List (Place N)) (before after : List ℕ) (given : Verdict) → Reads built f →
-    number - 1 < length p.clauses.now → compiled ≡ slice_index_or p.clauses.now (number - 1) compiled → goal ≡ cell_of c → AreCompiled (map f p.names.now) p.clauses.now cs → (v : IsVerdict built p.names.now compiled h goal places before after given) →
-    Tried f h c p cs number compiled places v.named given
-tried {N = N} built f h c p cs number compiled goal places before after given r lt at own a v =
-    let P : CompiledClause → Type 0 = λ x. IsThere (map f p.names.now) p.clauses.now x cs (number - 1) in
-    let t = subst P (sym at) (there (map f p.names.now) p.clauses.now cs (number - 1) compiled a lt) in
+taken_by : {N : Type 0} (f : N → List ℕ) (h : Held N) (c : Call N) (p : Predicate N) (cs : List Clause) (number place : ℕ) (places : List (Place N)) (answer : Bool) → suc place ≡ number → AreCompiled (map f p.names.now) p.clauses.now cs →
+    TakenAs f h p.clauses.now (map f p.names.now) cs (arguments_at f h c) place places answer → CommitsAs f h c p cs number places (by_answer place answer)
+taken_by f h c p cs number place places true e a t =
+    let r = there (map f p.names.now) p.clauses.now cs t.others place t.clause a t.at in
+    let k : Candidate = record { number = suc place; clause = t.clause; places = replacements_of f h places } in
     record {
-      there = t;
-      found =
-          ap (candidate_of number (arguments_at f h c)) t.clause_is
-          ∙ ap (λ (x : Cell N). first_candidate (candidate_by number t.clause (verdict t.clause (arguments_of_goal (term_of f h x))))) (sym own)
-          ∙ ap (λ w. first_candidate (candidate_by number t.clause w)) (v.verdict_is f r t.clause t.is);
+      candidate = k;
+      found = ap (candidate_at f h c cs) (sym e) ∙ t.found;
+      is = record { compiled = r.compiled; at = r.at; is = r.is; places_are = refl };
     }
+taken_by f h c p cs number place places false e a t = ap (candidate_at f h c cs) (sym e) ∙ t
 
--- what the verdict on a clause makes of a call
-abbrev pub by_verdict : {N : Type 0} → ℕ → Verdict → Option (Move N)
-by_verdict place Accepts = Some (move.Commits place)
-by_verdict place Rejects = None
-by_verdict place Suspends = None
-
-pub judged : {N : Type 0} (built : BuiltIn → N) (f : N → List ℕ) (h : Held N) (c : Call N) (p : Predicate N) (cs : List Clause) (number : ℕ) (compiled : CompiledClause) (goal : Cell N) (places : List (Place N)) (before after : List ℕ) (given : Verdict) → Reads built f →
-    number - 1 < length p.clauses.now → compiled ≡ slice_index_or p.clauses.now (number - 1) compiled → goal ≡ cell_of c → AreCompiled (map f p.names.now) p.clauses.now cs → IsVerdict built p.names.now compiled h goal places before after given →
-    CommitsAs f h c p cs number places (by_verdict (number - 1) given)
-judged built f h c p cs number compiled goal places before after Accepts r lt at own a v =
-    let t = tried built f h c p cs number compiled goal places before after Accepts r lt at own a v in
-    record {
-      candidate = record { number = number; clause = t.there.clause; places = replacements_of f h places };
-      found = t.found;
-      is = record { compiled = compiled; at = t.there.at; is = t.there.is; places_are = refl };
-    }
-judged built f h c p cs number compiled goal places before after Rejects r lt at own a v = (tried built f h c p cs number compiled goal places before after Rejects r lt at own a v).found
-judged built f h c p cs number compiled goal places before after Suspends r lt at own a v = (tried built f h c p cs number compiled goal places before after Suspends r lt at own a v).found
+-- whether a clause is a candidate decides the move by its number
+pub judged : {N : Type 0} (built : BuiltIn → N) (f : N → List ℕ) (h : Held N) (c : Call N) (p : Predicate N) (cs : List Clause) (number : ℕ) (goal : Cell N) (places : List (Place N)) (answer : Bool) → Reads built f → 0 < number → goal ≡ cell_of c →
+    AreCompiled (map f p.names.now) p.clauses.now cs → Takes built p.names.now p.clauses.now (number - 1) h goal places answer → CommitsAs f h c p cs number places (by_answer (number - 1) answer)
+judged {N = N} built f h c p cs number goal places answer r some own a t =
+    let P : Cell N → Type 0 = λ x. TakenAs f h p.clauses.now (map f p.names.now) cs (arguments_of_goal (term_of f h x)) (number - 1) places answer in
+    taken_by f h c p cs number (number - 1) places answer (omega (arith, some)) a (subst P own (t.taken f r cs a))
 
 -- ---- moves of terms
 
 pub fails_as : {N : Type 0} (f : N → List ℕ) (h : Held N) (modules : List Module) (t : Term) (c : Call N) (n : ℕ) (p : Predicate N) (places : List (Place N)) (found : Option (Move N)) → IsCall f h t c → n ≡ 0 → FailsAs f h c (clauses_of modules (call_at f h c)) found → MovesAs f h modules t n p places found
 fails_as f h modules t c n p places None e z r = goes_on_by modules t (call_at f h c) n e.is z r
 fails_as f h modules t c n p places (Some (move.Commits place)) e z r = absurd r
-fails_as f h modules t c n p places (Some move.Fails) e z r = fails_by modules t (call_at f h c) n e.is z r
+fails_as f h modules t c n p places (Some (move.Raises b)) e z r = fails_by modules t (call_at f h c) n e.is z r.1 ∙ ap (λ k. Some (raises (text_of k))) (sym r.0)
 fails_as f h modules t c n p places (Some (move.Unifies a b)) e z r = absurd r
 fails_as f h modules t c n p places (Some move.Goes) e z r = absurd r
 
 pub commits_as : {N : Type 0} (f : N → List ℕ) (h : Held N) (modules : List Module) (t : Term) (c : Call N) (n : ℕ) (p : Predicate N) (places : List (Place N)) (found : Option (Move N)) → IsCall f h t c → 0 < n → CommitsAs f h c p (clauses_of modules (call_at f h c)) n places found → MovesAs f h modules t n p places found
 commits_as f h modules t c n p places None e lt r = commits_by modules t (call_at f h c) n None e.is lt r
 commits_as f h modules t c n p places (Some (move.Commits place)) e lt r = record { candidate = r.candidate; moves = commits_by modules t (call_at f h c) n (Some r.candidate) e.is lt r.found; is = r.is }
-commits_as f h modules t c n p places (Some move.Fails) e lt r = absurd r
+commits_as f h modules t c n p places (Some (move.Raises b)) e lt r = absurd r
 commits_as f h modules t c n p places (Some (move.Unifies a b)) e lt r = absurd r
 commits_as f h modules t c n p places (Some move.Goes) e lt r = absurd r
 
+-- what comes of a cell that becomes a number
+becomes_as : {N : Type 0} (f : N → List ℕ) (h : Held N) (modules : List Module) (t : Term) (n : ℕ) (p : Predicate N) (places : List (Place N)) (a : Cell N) (x : Number) → move_by modules t n ≡ Some (model_moves.becomes (term_of f h a) x) → MovesAs f h modules t n p places (Some (assigning.becomes a x))
+becomes_as f h modules t n p places a (Value z) e = e ∙ ap (λ u. Some (unifies (term_of f h a) u)) (sym (at_integer f h (Integer z) z refl))
+becomes_as f h modules t n p places a Overflow e = e
+becomes_as f h modules t n p places a ZeroDivisor e = e
+
+-- and of one that becomes what an expression comes to
+pub assigned_as : {N : Type 0} (f : N → List ℕ) (h : Held N) (modules : List Module) (t : Term) (n : ℕ) (p : Predicate N) (places : List (Place N)) (a b : Cell N) (x : Evaluated ℕ) → IsAssignment f h t a b → n ≡ 0 → evaluated_of (λ v. v) x ≡ evaluated (term_of f h b) →
+    MovesAs f h modules t n p places (assigning.assigned a x)
+assigned_as f h modules t n p places a b x u z e = by x (by_zero modules t n (model_moves.assigned (term_of f h a) (evaluated (term_of f h b))) u.call u.built_in z ∙ ap (model_moves.assigned (term_of f h a)) (sym e))
+  where
+    by : (x : Evaluated ℕ) → move_by modules t n ≡ model_moves.assigned (term_of f h a) (evaluated_of (λ v. v) x) → MovesAs f h modules t n p places (assigning.assigned a x)
+    by (ComesTo k) m = becomes_as f h modules t n p places a k m
+    by (Awaits v) m = m
+    by IsNoExpression m = m
+
 -- ---- standing
+
+-- what a term waits for, by its head, its call and as a built-in goal
+awaited_parts : (modules : List Module) (t : Term) (hs bs : List ℕ) (o : Option model.Call) → awaited_at_head t ≡ hs → call_of t ≡ o → awaited_by_built_in t ≡ bs → awaited_by_term modules t ≡ hs ++ awaited_by_call modules o ++ bs
+awaited_parts modules t hs bs o a b c =
+    ap (λ vs. vs ++ awaited_by_call modules (call_of t) ++ awaited_by_built_in t) a ∙ ap (λ q. hs ++ awaited_by_call modules q ++ awaited_by_built_in t) b ∙ ap (λ vs. hs ++ awaited_by_call modules o ++ vs) c
+
+same_by : (vs awaited : List ℕ) → awaited ≡ vs → AreSame awaited vs
+same_by vs awaited e = subst (λ (ws : List ℕ). AreSame ws vs) (sym e) (same_as_itself vs)
 
 pub call_stands : {N : Type 0} (f : N → List ℕ) (h : Held N) (modules : List Module) (t : Term) (c : Call N) (goal : Cell N) (named awaited : List ℕ) (choice : Option ℕ) → IsCall f h t c → goal ≡ cell_of c → awaited ≡ [] ++ named → Chooses (clauses_of modules (call_at f h c)) (arguments_of_goal (term_of f h goal)) named choice → StandsAs modules t awaited choice
 call_stands {N = N} f h modules t c goal named awaited choice e own a k =
     let cs = clauses_of modules (call_at f h c) in
     let P : Cell N → Type 0 = λ x. Chooses cs (arguments_of_goal (term_of f h x)) named choice in
     let k = subst P own k in
+    let all : awaited_by_term modules t ≡ awaited_by_clauses cs (arguments_at f h c) = awaited_parts modules t [] [] (Some (call_at f h c)) e.awaits e.is e.waits_no_more ∙ append-nil (awaited_by_clauses cs (arguments_at f h c)) in
     record {
       clause_is = k.clause ∙ sym (term_clause-call modules t (call_at f h c) e.is);
-      awaits = a ∙ k.awaited ∙ sym (ap (λ vs. vs ++ awaited_by_call modules (call_of t)) e.awaits ∙ ap (awaited_by_call modules) e.is);
+      awaits = subst (λ (ws : List ℕ). AreSame ws (awaited_by_term modules t)) (sym a) (subst (λ (ws : List ℕ). AreSame named ws) (sym all) k.awaited);
     }
 
-alone : (modules : List Module) (t : Term) (vs awaited : List ℕ) → call_of t ≡ None → awaited_at_head t ≡ vs → awaited ≡ vs → awaited ≡ awaited_by_term modules t
-alone modules t vs awaited e h a = a ∙ sym (append-nil vs) ∙ sym (ap (λ o. awaited_at_head t ++ awaited_by_call modules o) e ∙ ap (λ l. l ++ []) h)
+-- a goal that is no call waits for what counts at its head, or as a built-in goal
+alone : (modules : List Module) (t : Term) (vs awaited : List ℕ) → call_of t ≡ None → awaited_at_head t ≡ vs → awaited_by_built_in t ≡ [] → awaited ≡ vs → AreSame awaited (awaited_by_term modules t)
+alone modules t vs awaited e h b a = same_by (awaited_by_term modules t) awaited (a ∙ sym (append-nil vs) ∙ sym (append-nil (vs ++ [])) ∙ sym (awaited_parts modules t vs [] None h e b))
 
 pub unification_stands : {N : Type 0} (f : N → List ℕ) (h : Held N) (modules : List Module) (t : Term) (left right : Cell N) (awaited : List ℕ) → IsUnification f h t left right → awaited ≡ [] → StandsAs modules t awaited (Some 0)
-unification_stands f h modules t left right awaited u a = record { clause_is = sym (term_clause-built_in modules t (unifies (term_of f h left) (term_of f h right)) u.call u.built_in); awaits = alone modules t [] awaited u.call u.awaits a }
+unification_stands f h modules t left right awaited u a = record { clause_is = sym (term_clause-built_in modules t (unifies (term_of f h left) (term_of f h right)) u.call u.built_in); awaits = alone modules t [] awaited u.call u.awaits u.waits_no_more a }
 
 pub true_stands : (modules : List Module) (t : Term) (awaited : List ℕ) → IsTrueGoal t → awaited ≡ [] → StandsAs modules t awaited (Some 0)
-true_stands modules t awaited u a = record { clause_is = sym (term_clause-built_in modules t goes u.call u.built_in); awaits = alone modules t [] awaited u.call u.awaits a }
+true_stands modules t awaited u a = record { clause_is = sym (term_clause-built_in modules t goes u.call u.built_in); awaits = alone modules t [] awaited u.call u.awaits u.waits_no_more a }
 
 pub nothing_stands : (modules : List Module) (t : Term) (vs awaited : List ℕ) → IsNoGoal t vs → awaited ≡ vs → StandsAs modules t awaited None
-nothing_stands modules t vs awaited u a = record { clause_is = sym (term_clause-none modules t u.call u.built_in); awaits = alone modules t vs awaited u.call u.awaits a }
+nothing_stands modules t vs awaited u a = record { clause_is = sym (term_clause-none modules t u.call u.built_in); awaits = alone modules t vs awaited u.call u.awaits u.waits_no_more a }
+
+-- by which clause a goal can step that makes a cell what an expression comes to
+abbrev pub clause_by : {V : Type 0} → Evaluated V → Option ℕ
+clause_by (ComesTo x) = Some 0
+clause_by (Awaits v) = None
+clause_by IsNoExpression = Some 0
+
+-- and what it waits for
+abbrev pub waits_by : Evaluated ℕ → List ℕ
+waits_by (ComesTo x) = []
+waits_by (Awaits v) = v ∷ []
+waits_by IsNoExpression = []
+
+pub assignment_stands : {N : Type 0} (f : N → List ℕ) (h : Held N) (modules : List Module) (t : Term) (left right : Cell N) (x : Evaluated ℕ) (awaited : List ℕ) → IsAssignment f h t left right → evaluated_of (λ v. v) x ≡ evaluated (term_of f h right) → awaited ≡ waits_by x →
+    StandsAs modules t awaited (clause_by x)
+assignment_stands f h modules t left right x awaited u e a =
+    by x (u.built_in ∙ ap (model_moves.assigned (term_of f h left)) (sym e)) (awaited_parts modules t [] (awaited_by_evaluated (evaluated (term_of f h right))) None u.awaits u.call u.waits_for ∙ ap awaited_by_evaluated (sym e)) a
+  where
+    by : (x : Evaluated ℕ) → built_in_move t ≡ model_moves.assigned (term_of f h left) (evaluated_of (λ v. v) x) → awaited_by_term modules t ≡ awaited_by_evaluated (evaluated_of (λ v. v) x) → awaited ≡ waits_by x → StandsAs modules t awaited (clause_by x)
+    by (ComesTo k) m w b = record { clause_is = sym (term_clause-built_in modules t (model_moves.becomes (term_of f h left) k) u.call m); awaits = same_by (awaited_by_term modules t) awaited (b ∙ sym w) }
+    by (Awaits v) m w b = record { clause_is = sym (term_clause-none modules t u.call m); awaits = same_by (awaited_by_term modules t) awaited (b ∙ sym w) }
+    by IsNoExpression m w b = record { clause_is = sym (term_clause-built_in modules t (raises illegal_input) u.call m); awaits = same_by (awaited_by_term modules t) awaited (b ∙ sym w) }
 
 -- ---- by kinds
 
@@ -175,6 +222,13 @@ call_commits_as {N = N} f h modules t k c n p places found e z takes is has =
     let P : Kind N → Type 0 = λ x. IsKind f h t x in
     let Q : Kind N → Type 0 = λ x. HasPredicate f h modules x p in
     commits_as f h modules t c n p places found (subst P e is) (positive n z) (takes (clauses_of modules (call_at f h c)) (subst Q e has))
+
+pub goal_assigns_as : {N : Type 0} (f : N → List ℕ) (h : Held N) (modules : List Module) (t : Term) (k : Kind N) (a b : Cell N) (x : Evaluated ℕ) (n : ℕ) (p : Predicate N) (places : List (Place N)) (found : Option (Move N)) → k ≡ kind.Assigns a b → n ≡ 0 → found ≡ assigning.assigned a x →
+    evaluated_of (λ v. v) x ≡ evaluated (term_of f h b) → IsKind f h t k → MovesAs f h modules t n p places found
+goal_assigns_as {N = N} f h modules t k a b x n p places found e z own value is =
+    let P : Kind N → Type 0 = λ y. IsKind f h t y in
+    let Q : Option (Move N) → Type 0 = λ o. MovesAs f h modules t n p places o in
+    subst Q (sym own) (assigned_as f h modules t n p places a b x (subst P e is) z value)
 
 pub kind_stands : {N : Type 0} (built : BuiltIn → N) (f : N → List ℕ) (h : Held N) (modules : List Module) (t : Term) (k : Kind N) (c : Call N) (goal : Cell N) (p : Predicate N) (before after : List ℕ) (choice : Option ℕ) → Reads built f → k ≡ kind.Calls c → goal ≡ cell_of c → before ≡ [] →
     IsChoice built p.names.now p.clauses.now h goal before after choice → IsKind f h t k → HasPredicate f h modules k p → StandsAs modules t after choice

@@ -25,28 +25,28 @@ unbound {N = N} h x v e inside walked =
 
 -- a structure of another number of arguments than two
 other_count : (f : List ℕ) (ts : Terms) → (count_of ts ≡ 2 → ⊥) → IsNoGoal (structure f ts) []
-other_count f none ne = record { call = refl; built_in = refl; awaits = refl }
-other_count f (more (variable n) none) ne = record { call = refl; built_in = refl; awaits = refl }
-other_count f (more (integer i) none) ne = record { call = refl; built_in = refl; awaits = refl }
-other_count f (more (atom a) none) ne = record { call = refl; built_in = refl; awaits = refl }
-other_count f (more (structure g us) none) ne = record { call = refl; built_in = refl; awaits = refl }
+other_count f none ne = record { call = refl; built_in = refl; awaits = refl; waits_no_more = refl }
+other_count f (more (variable n) none) ne = record { call = refl; built_in = refl; awaits = refl; waits_no_more = refl }
+other_count f (more (integer i) none) ne = record { call = refl; built_in = refl; awaits = refl; waits_no_more = refl }
+other_count f (more (atom a) none) ne = record { call = refl; built_in = refl; awaits = refl; waits_no_more = refl }
+other_count f (more (structure g us) none) ne = record { call = refl; built_in = refl; awaits = refl; waits_no_more = refl }
 other_count f (more t (more u none)) ne = absurd (ne refl)
-other_count f (more (variable n) (more (variable m) (more v ts))) ne = record { call = refl; built_in = refl; awaits = refl }
-other_count f (more (variable n) (more (integer m) (more v ts))) ne = record { call = refl; built_in = refl; awaits = refl }
-other_count f (more (variable n) (more (atom m) (more v ts))) ne = record { call = refl; built_in = refl; awaits = refl }
-other_count f (more (variable n) (more (structure m us) (more v ts))) ne = record { call = refl; built_in = refl; awaits = refl }
-other_count f (more (integer n) (more (variable m) (more v ts))) ne = record { call = refl; built_in = refl; awaits = refl }
-other_count f (more (integer n) (more (integer m) (more v ts))) ne = record { call = refl; built_in = refl; awaits = refl }
-other_count f (more (integer n) (more (atom m) (more v ts))) ne = record { call = refl; built_in = refl; awaits = refl }
-other_count f (more (integer n) (more (structure m us) (more v ts))) ne = record { call = refl; built_in = refl; awaits = refl }
-other_count f (more (atom n) (more (variable m) (more v ts))) ne = record { call = refl; built_in = refl; awaits = refl }
-other_count f (more (atom n) (more (integer m) (more v ts))) ne = record { call = refl; built_in = refl; awaits = refl }
-other_count f (more (atom n) (more (atom m) (more v ts))) ne = record { call = refl; built_in = refl; awaits = refl }
-other_count f (more (atom n) (more (structure m us) (more v ts))) ne = record { call = refl; built_in = refl; awaits = refl }
-other_count f (more (structure n ws) (more (variable m) (more v ts))) ne = record { call = refl; built_in = refl; awaits = refl }
-other_count f (more (structure n ws) (more (integer m) (more v ts))) ne = record { call = refl; built_in = refl; awaits = refl }
-other_count f (more (structure n ws) (more (atom m) (more v ts))) ne = record { call = refl; built_in = refl; awaits = refl }
-other_count f (more (structure n ws) (more (structure m us) (more v ts))) ne = record { call = refl; built_in = refl; awaits = refl }
+other_count f (more (variable n) (more (variable m) (more v ts))) ne = record { call = refl; built_in = refl; awaits = refl; waits_no_more = refl }
+other_count f (more (variable n) (more (integer m) (more v ts))) ne = record { call = refl; built_in = refl; awaits = refl; waits_no_more = refl }
+other_count f (more (variable n) (more (atom m) (more v ts))) ne = record { call = refl; built_in = refl; awaits = refl; waits_no_more = refl }
+other_count f (more (variable n) (more (structure m us) (more v ts))) ne = record { call = refl; built_in = refl; awaits = refl; waits_no_more = refl }
+other_count f (more (integer n) (more (variable m) (more v ts))) ne = record { call = refl; built_in = refl; awaits = refl; waits_no_more = refl }
+other_count f (more (integer n) (more (integer m) (more v ts))) ne = record { call = refl; built_in = refl; awaits = refl; waits_no_more = refl }
+other_count f (more (integer n) (more (atom m) (more v ts))) ne = record { call = refl; built_in = refl; awaits = refl; waits_no_more = refl }
+other_count f (more (integer n) (more (structure m us) (more v ts))) ne = record { call = refl; built_in = refl; awaits = refl; waits_no_more = refl }
+other_count f (more (atom n) (more (variable m) (more v ts))) ne = record { call = refl; built_in = refl; awaits = refl; waits_no_more = refl }
+other_count f (more (atom n) (more (integer m) (more v ts))) ne = record { call = refl; built_in = refl; awaits = refl; waits_no_more = refl }
+other_count f (more (atom n) (more (atom m) (more v ts))) ne = record { call = refl; built_in = refl; awaits = refl; waits_no_more = refl }
+other_count f (more (atom n) (more (structure m us) (more v ts))) ne = record { call = refl; built_in = refl; awaits = refl; waits_no_more = refl }
+other_count f (more (structure n ws) (more (variable m) (more v ts))) ne = record { call = refl; built_in = refl; awaits = refl; waits_no_more = refl }
+other_count f (more (structure n ws) (more (integer m) (more v ts))) ne = record { call = refl; built_in = refl; awaits = refl; waits_no_more = refl }
+other_count f (more (structure n ws) (more (atom m) (more v ts))) ne = record { call = refl; built_in = refl; awaits = refl; waits_no_more = refl }
+other_count f (more (structure n ws) (more (structure m us) (more v ts))) ne = record { call = refl; built_in = refl; awaits = refl; waits_no_more = refl }
 
 pub other_structure : {N : Type 0} (f : N → List ℕ) (h : Held N) (goal x : Cell N) (s : ℕ) (name : N) → IsFormed h → x ≡ Structure s → slice_get h.structures s ≡ Some (record { name = name; arguments = arguments_of h s }) →
     term_of f h x ≡ term_of f h goal → (length (arguments_of h s) ≡ 2 → ⊥) → IsNoGoal (term_of f h goal) []

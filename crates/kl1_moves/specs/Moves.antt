@@ -1,9 +1,11 @@
 -- What a goal can do, by the definitions, told of cells and compiled clauses.
-use Rattle.std.specs.Prelude.{◌≡◌, ℕ, ◌-◌, ◌<◌, List, [], ◌∷◌, length, map, Option, Some, None, slice_get, if◌then◌else◌}
-use Rattle.kl1_model.specs.Term.{Term, Terms}
+use Rattle.std.specs.Prelude.{◌≡◌, ℕ, ◌<◌, List, length, map, Option, Some, None, slice_get, if◌then◌else◌}
+use Rattle.kl1_model.specs.declared.built_in.BuiltIn.TheVariants.{Failure}
+use Rattle.kl1_model.specs.Text.{text_of}
+use Rattle.kl1_model.specs.Term.{Term}
 use Rattle.kl1_model.specs.Module.{Clause, Module}
-use Rattle.kl1_model.specs.Match.{clauses_of, Candidate, candidate_by, verdict}
-use Rattle.kl1_model.specs.Reduction.{commits, raises, unifies, goes, failure}
+use Rattle.kl1_model.specs.Match.{clauses_of, Candidate, candidates_from}
+use Rattle.kl1_model.specs.Reduction.{commits, raises, unifies, goes}
 use Rattle.kl1_model.specs.Waits.{move_by, least_clause}
 use Rattle.kl1_store.specs.Held.{Held, IsIn}
 use Rattle.kl1_store.specs.Meaning.{term_of}
@@ -12,6 +14,7 @@ use Rattle.kl1_clause.specs.declared.predicate.Predicate.{Predicate}
 use Rattle.kl1_clause.specs.Clauses.{IsCompiled, AreCompiled}
 use Rattle.kl1_match.specs.declared.place.Place.{Place}
 use Rattle.kl1_match.specs.Instances.{AreThere, replacements_of}
+use Rattle.kl1_match.specs.Candidates.{numbered}
 use Rattle.kl1_moves.specs.declared.call.Call.{Call}
 use Rattle.kl1_moves.specs.declared.kind.Kind.{Kind}
 use Rattle.kl1_moves.specs.declared.kind.Kind.TheVariants as kind
@@ -29,6 +32,7 @@ taken_places t = if t.is_in_order then kept_places t.scratch else t.places.items
 abbrev pub HasPredicate : {N : Type 0} → (N → List ℕ) → Held N → List Module → Kind N → Predicate N → Type 0
 HasPredicate f h modules (kind.Calls c) p = AreCompiled (map f p.names.now) p.clauses.now (clauses_of modules (call_at f h c))
 HasPredicate f h modules (kind.Unifies a b) p = Unit {0}
+HasPredicate f h modules (kind.Assigns a b) p = Unit {0}
 HasPredicate f h modules kind.Goes p = Unit {0}
 HasPredicate f h modules (kind.Waits v) p = Unit {0}
 HasPredicate f h modules kind.Nothing p = Unit {0}
@@ -37,7 +41,7 @@ HasPredicate f h modules kind.Nothing p = Unit {0}
 abbrev pub MoveIn : {N : Type 0} → Held N → Predicate N → List (Place N) → Option (Move N) → Type 0
 MoveIn h p places None = Unit {0}
 MoveIn h p places (Some (move.Commits place)) = (place < length p.clauses.now) × AreThere h places
-MoveIn h p places (Some move.Fails) = Unit {0}
+MoveIn h p places (Some (move.Raises b)) = Unit {0}
 MoveIn h p places (Some (move.Unifies a b)) = IsIn h a × IsIn h b
 MoveIn h p places (Some move.Goes) = Unit {0}
 
@@ -45,23 +49,13 @@ MoveIn h p places (Some move.Goes) = Unit {0}
 abbrev pub FailsAs : {N : Type 0} → (N → List ℕ) → Held N → Call N → List Clause → Option (Move N) → Type 0
 FailsAs f h c cs None = least_clause cs (arguments_at f h c) ≡ Some 0 → ⊥
 FailsAs f h c cs (Some (move.Commits place)) = ⊥
-FailsAs f h c cs (Some move.Fails) = least_clause cs (arguments_at f h c) ≡ Some 0
+FailsAs f h c cs (Some (move.Raises b)) = (b ≡ Failure) × (least_clause cs (arguments_at f h c) ≡ Some 0)
 FailsAs f h c cs (Some (move.Unifies a b)) = ⊥
 FailsAs f h c cs (Some move.Goes) = ⊥
 
--- the first candidate
-abbrev pub first_candidate : List Candidate → Option Candidate
-first_candidate [] = None
-first_candidate (k ∷ ks) = Some k
-
--- the candidate that a clause is, where it is there and accepts
-abbrev pub candidate_of : ℕ → Terms → Option Clause → Option Candidate
-candidate_of number ts None = None
-candidate_of number ts (Some c) = first_candidate (candidate_by number c (verdict c ts))
-
 -- the candidate of a number among the clauses of a call
 abbrev pub candidate_at : {N : Type 0} → (N → List ℕ) → Held N → Call N → List Clause → ℕ → Option Candidate
-candidate_at f h c cs number = candidate_of number (arguments_at f h c) (slice_get cs (number - 1))
+candidate_at f h c cs number = numbered number (candidates_from 1 cs (arguments_at f h c))
 
 -- this candidate has the clause at a place of a predicate, and these cells at the places of its head's variables
 pub record IsCandidate {N : Type 0} (f : N → List ℕ) (h : Held N) (p : Predicate N) (place : ℕ) (places : List (Place N)) (k : Candidate) : Type 0 where
@@ -80,7 +74,7 @@ pub record CommitsBy {N : Type 0} (f : N → List ℕ) (h : Held N) (c : Call N)
 abbrev pub CommitsAs : {N : Type 0} → (N → List ℕ) → Held N → Call N → Predicate N → List Clause → ℕ → List (Place N) → Option (Move N) → Type 0
 CommitsAs f h c p cs number places None = candidate_at f h c cs number ≡ None
 CommitsAs f h c p cs number places (Some (move.Commits place)) = CommitsBy f h c p cs number place places
-CommitsAs f h c p cs number places (Some move.Fails) = ⊥
+CommitsAs f h c p cs number places (Some (move.Raises b)) = ⊥
 CommitsAs f h c p cs number places (Some (move.Unifies a b)) = ⊥
 CommitsAs f h c p cs number places (Some move.Goes) = ⊥
 
@@ -94,6 +88,6 @@ pub record CommitsTo {N : Type 0} (f : N → List ℕ) (h : Held N) (modules : L
 abbrev pub MovesAs : {N : Type 0} → (N → List ℕ) → Held N → List Module → Term → ℕ → Predicate N → List (Place N) → Option (Move N) → Type 0
 MovesAs f h modules t number p places None = move_by modules t number ≡ None
 MovesAs f h modules t number p places (Some (move.Commits place)) = CommitsTo f h modules t number p place places
-MovesAs f h modules t number p places (Some move.Fails) = move_by modules t number ≡ Some (raises failure)
+MovesAs f h modules t number p places (Some (move.Raises b)) = move_by modules t number ≡ Some (raises (text_of b))
 MovesAs f h modules t number p places (Some (move.Unifies a b)) = move_by modules t number ≡ Some (unifies (term_of f h a) (term_of f h b))
 MovesAs f h modules t number p places (Some move.Goes) = move_by modules t number ≡ Some goes

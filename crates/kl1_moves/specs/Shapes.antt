@@ -3,7 +3,7 @@ use Rattle.std.specs.Prelude.{◌≡◌, ℕ, List, [], None}
 use Rattle.kl1_model.specs.Term.{Term, variable, atom, structure, none, more}
 use Rattle.kl1_model.specs.Match.{call_of}
 use Rattle.kl1_model.specs.Reduction.{built_in_move}
-use Rattle.kl1_model.specs.Waits.{awaited_at_head}
+use Rattle.kl1_model.specs.Waits.{awaited_at_head, awaited_by_built_in}
 use Rattle.kl1_store.specs.declared.cell.Cell.{Cell}
 use Rattle.kl1_store.specs.Held.{Held, IsIn}
 use Rattle.kl1_store.specs.Meaning.{term_of}
@@ -20,6 +20,7 @@ pub record IsNoGoal (t : Term) (vs : List ℕ) : Type 0 where
   pub call : call_of t ≡ None
   pub built_in : built_in_move t ≡ None
   pub awaits : awaited_at_head t ≡ vs
+  pub waits_no_more : awaited_by_built_in t ≡ []
 
 -- this stands at the top of a term
 abbrev pub HasShape : {N : Type 0} → (N → List ℕ) → Held N → Term → Shape N → Type 0

@@ -15,12 +15,13 @@ use kl1_model::BuiltIn;
 use kl1_store::{Cell, Store};
 use kl1_text::NameValue;
 
-/// What kind of goal a cell is: a call, a unification of two terms, `true`, none of these until a variable is bound, or none
-/// ever.
+/// What kind of goal a cell is: a call, a unification of two terms, one that makes a term what an expression comes to, `true`, none
+/// of these until a variable is bound, or none ever.
 #[derive(Clone, Copy)]
 pub enum Kind<N> {
     Calls(Call<N>),
     Unifies(Cell<N>, Cell<N>),
+    Assigns(Cell<N>, Cell<N>),
     Goes,
     Waits(u32),
     Nothing,
@@ -63,6 +64,9 @@ fn kind_of_two<N: NameValue>(store: &Store<N>, name: N, left: Cell<N>, right: Ce
     }
     if is_built_in(name, BuiltIn::Equal) {
         return Kind::Unifies(left, right);
+    }
+    if is_built_in(name, BuiltIn::Assign) {
+        return Kind::Assigns(left, right);
     }
     Kind::Nothing
 }

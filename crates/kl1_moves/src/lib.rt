@@ -1,6 +1,7 @@
 //! What goals can do, over cells: what goal a cell is, by which clause it can step, what it waits for, and its body's goals.
 #![tactic(auto)]
 
+mod assigning;
 mod call;
 mod calling;
 mod committing;

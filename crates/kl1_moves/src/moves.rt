@@ -1,6 +1,6 @@
 // What goals can do.
 
-ghost use Rattle.std.specs.Prelude.{◌≡◌, ℕ, ◌-◌, ◌<◌, List, map, length, IfOk, slice_index_or};
+ghost use Rattle.std.specs.Prelude.{◌≡◌, ℕ, ◌-◌, ◌<◌, List, map, length, IfOk};
 ghost use Rattle.kl1_model.specs.Module.{Clause, Module};
 ghost use Rattle.kl1_model.specs.Term.{Term};
 ghost use Rattle.kl1_text.specs.Reading.{Reads};
@@ -11,21 +11,24 @@ ghost use Rattle.kl1_moves.specs.Calls.{cell_of};
 ghost use Rattle.kl1_moves.specs.Kinds.{IsKind, KindIn};
 ghost use Rattle.kl1_moves.specs.Moves.{taken_places, HasPredicate, MoveIn, FailsAs, CommitsAs, MovesAs};
 
+use crate::assigning::assigned;
 use crate::call::Call;
 use crate::kind::Kind;
 use crate::trial::Trial;
-use kl1_clause::{CompiledClause, Predicate};
-use kl1_match::{Verdict, accepts_in_order, choose, verdict_on};
+use kl1_clause::Predicate;
+use kl1_guard::evaluate_cell;
+use kl1_match::{choose, is_candidate, takes_in_order};
+use kl1_model::BuiltIn;
 use kl1_store::{Cell, Store};
 use kl1_text::NameValue;
 use std::alloc::AllocError;
 
-/// What a goal can do: commit to the clause at a place among those of its predicate, from 0; fail; unify two terms; or nothing
-/// but go.
+/// What a goal can do: commit to the clause at a place among those of its predicate, from 0; raise an exception of the kind of a
+/// name; unify two terms; or nothing but go.
 #[derive(Clone, Copy)]
 pub enum Move<N> {
     Commits(usize),
-    Fails,
+    Raises(BuiltIn),
     Unifies(Cell<N>, Cell<N>),
     Goes,
 }
@@ -54,6 +57,13 @@ pub fn move_of<N: NameValue>(
         Kind::Unifies(left, right) => {
             if clause == 0 {
                 return Ok(Some(Move::Unifies(left, right)));
+            }
+            Ok(None)
+        }
+        Kind::Assigns(left, right) => {
+            if clause == 0 {
+                let value = evaluate_cell(store, right, &mut trial.guard)?;
+                return Ok(assigned(left, value));
             }
             Ok(None)
         }
@@ -92,19 +102,11 @@ fn failing<N: NameValue>(
         None => Ok(None),
         Some(number) => {
             if number == 0 {
-                return Ok(Some(Move::Fails));
+                return Ok(Some(Move::Raises(BuiltIn::Failure)));
             }
             Ok(None)
         }
     }
-}
-
-/// The clause at a place, from 0.
-pub(crate) fn nth(clauses: &[CompiledClause], place: usize) -> &CompiledClause
-    requires { place < length clauses.now }
-    ensures { result.now ≡ slice_index_or clauses.now place result.now }
-{
-    &clauses[place]
 }
 
 /// The move of a call by the clause of a number, from 1, whose cells are kept by their places, or nothing.
@@ -125,19 +127,19 @@ fn committing_by_places<N: NameValue>(
     let place = (number - 1) as usize;
     trial.awaited.clear();
     trial.is_in_order = false;
-    match verdict_on(
+    if is_candidate(
         store,
         predicate.names,
-        nth(predicate.clauses, place),
+        predicate.clauses,
+        place,
         call.cell(),
         &mut trial.scratch,
         &mut trial.places,
         &mut trial.awaited,
     )? {
-        Verdict::Accepts => Ok(Some(Move::Commits(place))),
-        Verdict::Rejects => Ok(None),
-        Verdict::Suspends => Ok(None),
+        return Ok(Some(Move::Commits(place)));
     }
+    Ok(None)
 }
 
 /// The move of a call by the clause of a number, from 1, or nothing.
@@ -158,10 +160,11 @@ fn committing<N: NameValue>(
     if place >= predicate.clauses.len() {
         return Ok(None);
     }
-    if !accepts_in_order(
+    if !takes_in_order(
         store,
         predicate.names,
-        nth(predicate.clauses, place),
+        predicate.clauses,
+        place,
         call.cell(),
         &mut trial.scratch,
     )? {

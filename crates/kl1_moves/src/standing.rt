@@ -13,6 +13,7 @@ ghost use Rattle.kl1_moves.specs.Standing.{StandsAs};
 use crate::kind::Kind;
 use crate::trial::Trial;
 use kl1_clause::Predicate;
+use kl1_guard::{Evaluated, evaluate_cell};
 use kl1_match::choose;
 use kl1_store::Store;
 use kl1_text::NameValue;
@@ -43,6 +44,16 @@ pub fn standing_of<N: NameValue>(
             &mut trial.awaited,
         ),
         Kind::Unifies(_, _) => Ok(Some(0)),
+        Kind::Assigns(_, right) => {
+            match evaluate_cell(store, right, &mut trial.guard)? {
+                Evaluated::ComesTo(_) => Ok(Some(0)),
+                Evaluated::Awaits(first) => {
+                    trial.awaited.push(first)?;
+                    Ok(None)
+                }
+                Evaluated::IsNoExpression => Ok(Some(0)),
+            }
+        }
         Kind::Goes => Ok(Some(0)),
         Kind::Waits(variable) => {
             trial.awaited.push(variable)?;

@@ -1,15 +1,17 @@
 // What trying clauses works with, and what it leaves.
 
 use kl1_match::{Place, Scratch};
+use kl1_store::Cell;
 use kl1_text::NameValue;
 use std::alloc::Global;
 
-/// Lists that calls work with, and keep for the next: scratch, the cells at the places of the head's variables of the clause
-/// that was tried last, which the scratch has where they are kept in order, and the variables that a goal waits for. It takes
-/// no memory until a call needs some.
+/// Lists that calls work with, and keep for the next: scratch of matching and of expressions, the cells at the places of the
+/// head's variables of the clause that was tried last, which the scratch has where they are kept in order, and the variables
+/// that a goal waits for. It takes no memory until a call needs some.
 #[derive(Drop)]
 pub struct Trial<N: NameValue> {
     pub scratch: Scratch<N>,
+    pub guard: kl1_guard::Scratch<Cell<N>, u32>,
     pub places: Vec<Place<N>>,
     pub awaited: Vec<u32>,
     pub is_in_order: bool,
@@ -20,6 +22,7 @@ impl<N: NameValue> Trial<N> {
     pub fn new(alloc: Global) -> Self {
         Trial {
             scratch: Scratch::new(alloc),
+            guard: kl1_guard::Scratch::new(alloc),
             places: Vec::new(alloc),
             awaited: Vec::new(alloc),
             is_in_order: false,

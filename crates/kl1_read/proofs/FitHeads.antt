@@ -1,6 +1,5 @@
 -- Which heads may stand there.
 use Rattle.std.proofs.Common.{◌≡◌, ℕ, suc, ◌+◌, ◌||◌, get_or, drop, ◌<◌, ◌≤◌, max, nat_lt, nat_le, ◌&&◌, not, if◌then◌else◌, Bool, true, false, IsTrue, List, [], ◌∷◌, length, codes, bytes_eq, refl, ap, sym, ◌∙◌, arith}
-use Rattle.std.specs.List.{list_any}
 use Rattle.std.proofs.lemmas.List.{at_drop_more}
 use Rattle.std.proofs.lemmas.Bool.{both_ways, not-true, and_parts, and_left, and_right, lt-leb, le-leb, and_from}
 use Rattle.std.proofs.lemmas.Slice.Eq.{bytes_eq-Decides}
@@ -9,9 +8,9 @@ use Rattle.kl1_model.specs.Limits.{most_arguments, most_depth}
 use Rattle.kl1_model.specs.Text.{is_text, text_of}
 use Rattle.kl1_model.specs.Term.{Term, structure, Terms, none, more, terms_of, count_of}
 use Rattle.kl1_model.specs.Meaning.{Depth, depths, depth, deepest, flat, cell_depth, is_narrow, are_narrow, is_writable}
-use Rattle.kl1_model.specs.Goal.{is_head, is_reserved, reserved_names}
+use Rattle.kl1_model.specs.Goal.{is_head, is_reserved}
 use Rattle.kl1_model.specs.declared.built_in.BuiltIn.{BuiltIn}
-use Rattle.kl1_read.specs.Heads.{may_name_atom, may_name_structure}
+use Rattle.kl1_read.specs.Heads.{is_named, may_name_atom, may_name_structure}
 use Rattle.kl1_read.specs.Statements.{is_fit_name}
 
 count_is : (ts : List Term) → count_of (terms_of ts) ≡ length ts
@@ -84,9 +83,9 @@ pub atom_fits : (p : List ℕ) (ts : List Term) → length ts ≡ 0 → IsTrue (
 atom_fits p [] h text = all_true_first (is_text p) (may_name_atom p) text
 atom_fits p (t ∷ ts) h text = absurd (omega arith)
 
--- the next of the reserved names is another one
-pub reserved_next : (p : List ℕ) (i : ℕ) (b : BuiltIn) (name : List ℕ) (all : Bool) → i < length reserved_names → name ≡ text_of (get_or reserved_names i b) → bytes_eq p name ≡ false → list_any (λ b. bytes_eq p (text_of b)) (drop i reserved_names) ≡ all → list_any (λ b. bytes_eq p (text_of b)) (drop (i + 1) reserved_names) ≡ all
-reserved_next p i b name all within n q h =
-    ap (λ x. x || list_any (λ b. bytes_eq p (text_of b)) (drop (i + 1) reserved_names)) (sym (ap (bytes_eq p) (sym n) ∙ q))
-    ∙ sym (at_drop_more (λ bs. list_any (λ b. bytes_eq p (text_of b)) bs) reserved_names i b within)
+-- the next of the names is another one
+pub named_next : (p : List ℕ) (names : List BuiltIn) (i : ℕ) (b : BuiltIn) (name : List ℕ) (all : Bool) → i < length names → name ≡ text_of (get_or names i b) → bytes_eq p name ≡ false → is_named p (drop i names) ≡ all → is_named p (drop (i + 1) names) ≡ all
+named_next p names i b name all within n q h =
+    ap (λ x. x || is_named p (drop (i + 1) names)) (sym (ap (bytes_eq p) (sym n) ∙ q))
+    ∙ sym (at_drop_more (is_named p) names i b within)
     ∙ h

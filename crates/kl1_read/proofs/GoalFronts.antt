@@ -65,11 +65,14 @@ module_begins f (Atom m ∷ Structure g n ∷ nodes) =
     ∙ ap (λ k. bytes_eq f (codes ":") && true && not (bytes_eq m (codes "shoen") && is_called (codes "execute") 6 g k)) (sym (count_of-front_of n (terms_in nodes)))
 
 -- a structure that is a goal has two arguments
-two_begin : (a b c : Bool) → (if◌then◌else◌ {A = Bool} c (a || b) false) ≡ (a && c) || (c && b)
-two_begin true b true = refl
-two_begin false b true = refl
-two_begin true b false = refl
-two_begin false b false = refl
+two_begin : (a b q c : Bool) → (if◌then◌else◌ {A = Bool} c (a || b || q) false) ≡ (a && c) || (b && c) || (c && q)
+two_begin true b q true = refl
+two_begin false true q true = refl
+two_begin false false q true = refl
+two_begin true true q false = refl
+two_begin true false q false = refl
+two_begin false true q false = refl
+two_begin false false q false = refl
 
 counted : (f : List ℕ) (n : ℕ) (nodes : List Node) (c : Bool) → (n == 2) ≡ c → (c && (bytes_eq f (codes ":") && begins_qualified nodes)) ≡ is_qualified_goal (structure f (front_of n (terms_in nodes)))
 counted f n nodes true e =
@@ -79,9 +82,9 @@ counted f n nodes false e = sym (no_module f n (terms_in nodes) (eqb-false n 2 e
 
 structure_begins : (f : List ℕ) (n : ℕ) (nodes : List Node) → begins_structure_goal f n nodes ≡ is_goal (structure f (front_of n (terms_in nodes)))
 structure_begins f n nodes =
-    two_begin (bytes_eq f (codes "=")) (bytes_eq f (codes ":") && begins_qualified nodes) (n == 2)
-    ∙ ap (λ b. (bytes_eq f (codes "=") && (n == 2)) || b) (counted f n nodes (n == 2) refl)
-    ∙ ap (λ k. (bytes_eq f (codes "=") && (k == 2)) || is_qualified_goal (structure f (front_of n (terms_in nodes)))) (sym (count_of-front_of n (terms_in nodes)))
+    two_begin (bytes_eq f (codes "=")) (bytes_eq f (codes ":=")) (bytes_eq f (codes ":") && begins_qualified nodes) (n == 2)
+    ∙ ap (λ b. (bytes_eq f (codes "=") && (n == 2)) || (bytes_eq f (codes ":=") && (n == 2)) || b) (counted f n nodes (n == 2) refl)
+    ∙ ap (λ k. (bytes_eq f (codes "=") && (k == 2)) || (bytes_eq f (codes ":=") && (k == 2)) || is_qualified_goal (structure f (front_of n (terms_in nodes)))) (sym (count_of-front_of n (terms_in nodes)))
 
 or_none : (b : Bool) → b ≡ b || false
 or_none true = refl

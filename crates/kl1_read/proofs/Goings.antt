@@ -1,11 +1,18 @@
 -- What goes on behind a term: by what stands in front, and that nothing comes of a term that no text can write.
-use Rattle.std.proofs.Common.{◌≡◌, List, [], ◌∷◌, ◌++◌, codes, Option, Some, None, refl, ap, sym, ◌∙◌, append_assoc}
+use Rattle.std.proofs.Common.{◌≡◌, ℕ, zero, suc, List, [], ◌∷◌, ◌++◌, length, codes, Option, Some, None, refl, ap, sym, ◌∙◌, append_assoc}
+use Rattle.kl1_model.specs.declared.built_in.BuiltIn.{BuiltIn}
+use Rattle.kl1_model.specs.declared.relation.Relation.{Relation}
+use Rattle.kl1_model.specs.declared.relation.Relation.TheVariants.{Equal, NotEqual, Assign, Less, Greater, AtMost, AtLeast, SameNumber, OtherNumber}
+use Rattle.kl1_model.specs.Text.{text_of}
 use Rattle.kl1_model.specs.Term.{Term, Terms, none, more, terms_of, list_of}
-use Rattle.kl1_model.specs.Grammar.{Numbered, Relation, Expression, Part, single, qualified, Primary, last, another}
-use Rattle.kl1_model.specs.Meaning.{pair, expression_term, part_term, primary_term, series_terms}
-use Rattle.kl1_model.specs.Reader.{Answer, then_read, if_there, behind_comma, behind_colon, relation_in_front, series_at, primary_at, part_at, related_at}
-use Rattle.kl1_read.specs.Meanings.{reading, answer_map, expression_read, part_read, primary_read, series_read, Going, after_relation, after_part, after_colon, primary_then}
-use Rattle.kl1_read.proofs.FuelFree.{reading_step, series_step}
+use Rattle.kl1_model.specs.Grammar.{Numbered, Adding, by_plus, by_minus, Multiplying, by_star, by_slash, by_mod, Expression, related, Sum, summand, added, Product, factor, multiplied, Part, single, qualified, Primary, last, another}
+use Rattle.kl1_model.specs.Meaning.{pair, relation_name, expression_term, sum_term, product_term, part_term, primary_term, series_terms}
+use Rattle.kl1_model.specs.Reader.{Answer, then_read, if_there, behind_comma, behind_colon, relation_in_front, adding_in_front, multiplying_in_front, series_at, primary_at, part_at, grouped_on, grouped_by, product_at, sum_at, related_at}
+use Rattle.kl1_model.proofs.ReadSteps.{expressions_go_on, series_go_on}
+use Rattle.kl1_read.specs.declared.infix.Level.TheVariants.{Sums, Products}
+use Rattle.kl1_read.specs.Infixes.{answer_map, relation_named, adding_named, multiplying_named}
+use Rattle.kl1_read.specs.Waits.{no_left}
+use Rattle.kl1_read.specs.Meanings.{reading, expression_read, sum_read, product_read, part_read, primary_read, series_read, operation, Going, after_relation, after_sum, after_operand, after_product, after_part, after_colon, primary_then}
 
 -- the arguments as a list are the arguments
 pub list_back : (ts : Terms) → terms_of (list_of ts) ≡ ts
@@ -33,20 +40,79 @@ module _ (k : Going) where
   unfolding part_read primary_read
   part_goes ts = mapped_then primary_term part_term (primary_at reading ts) _ k _ (λ p us. colon_goes p us (behind_colon us))
 
-  relation_goes : (p : Part) (us : List Numbered) (x : Answer Relation) → then_read (answer_map expression_term (related_at reading p us x)) k ≡ after_relation k (part_term p) us x
-  unfolding part_read
-  relation_goes p us None = refl
-  relation_goes p us (Some r) = mapped_then part_term expression_term (part_at reading r.1) _ k _ (λ q ws. refl)
+-- operators and operands as the names and terms that they mean, grouped to the left
+module _ {S O A : Type 0} (operator : List Numbered → Answer O) (operand : List Numbered → Answer A) (join : S → O → A → S) (named : O → BuiltIn) (whole : S → Term) (term : A → Term) (means : (s : S) (o : O) (a : A) → whole (join s o a) ≡ operation (whole s) (named o) (term a)) where
+  behind_operator : (next : S → List Numbered → Answer S) (other : Term → List Numbered → Answer Term) → ((s : S) (ts : List Numbered) → answer_map whole (next s ts) ≡ other (whole s) ts) → (s : S) (o : O) (x : Answer A) → answer_map whole (then_read x (λ a us. next (join s o a) us)) ≡ then_read (answer_map term x) (λ b us. other (operation (whole s) (named o) b) us)
+  behind_operator next other same s o None = refl
+  behind_operator next other same s o (Some r) = same (join s o r.0) r.1 ∙ ap (λ t. other t r.1) (means s o r.0)
 
-  expression_parts : (ts : List Numbered) → then_read (expression_read ts) k ≡ then_read (part_read ts) (after_part None k)
-  unfolding expression_read part_read
-  expression_parts ts =
-      ap (λ x. then_read (answer_map expression_term x) k) (reading_step ts)
-      ∙ mapped_then part_term expression_term (part_at reading ts) _ k _ (λ p us. relation_goes p us (relation_in_front us))
+  grouped_once : (next : S → List Numbered → Answer S) (other : Term → List Numbered → Answer Term) → ((s : S) (ts : List Numbered) → answer_map whole (next s ts) ≡ other (whole s) ts) → (s : S) (ts : List Numbered) (x : Answer O) → answer_map whole (grouped_on operand join next s ts x) ≡ grouped_on (λ us. answer_map term (operand us)) operation other (whole s) ts (answer_map named x)
+  grouped_once next other same s ts None = refl
+  grouped_once next other same s ts (Some o) = behind_operator next other same s o.0 (operand o.1)
+
+  grouped_terms : (m : ℕ) (s : S) (ts : List Numbered) → answer_map whole (grouped_by operator operand join m s ts) ≡ grouped_by (λ us. answer_map named (operator us)) (λ us. answer_map term (operand us)) operation m (whole s) ts
+  unfolding grouped_by
+  grouped_terms zero s ts = refl
+  grouped_terms (suc m) s ts =
+      grouped_once (grouped_by operator operand join m) (grouped_by (λ us. answer_map named (operator us)) (λ us. answer_map term (operand us)) operation m) (grouped_terms m) s ts (operator ts)
+
+multiplying_means : (p : Product) (o : Multiplying) (q : Part) → product_term (multiplied p o q) ≡ operation (product_term p) (multiplying_named o) (part_term q)
+multiplying_means p by_star q = refl
+multiplying_means p by_slash q = refl
+multiplying_means p (by_mod applied) q = refl
+
+adding_means : (s : Sum) (o : Adding) (p : Product) → sum_term (added s o p) ≡ operation (sum_term s) (adding_named o) (product_term p)
+adding_means s by_plus p = refl
+adding_means s (by_minus digit) p = refl
+
+relation_means : (r : Relation) → relation_name r ≡ text_of (relation_named r)
+relation_means Equal = refl
+relation_means NotEqual = refl
+relation_means Assign = refl
+relation_means Less = refl
+relation_means Greater = refl
+relation_means AtMost = refl
+relation_means AtLeast = refl
+relation_means SameNumber = refl
+relation_means OtherNumber = refl
+
+-- an expression is a sum and perhaps a relation and another sum; a sum is products, and a product is parts, each behind an
+-- operator
+module _ (k : Going) where
+  pub product_goes : (ts : List Numbered) → then_read (product_read ts) k ≡ then_read (part_read ts) (after_operand Products None k)
+  unfolding product_read part_read
+  product_goes ts =
+      mapped_then part_term product_term (part_at reading ts) _ k _ (λ p us.
+      ap (λ x. then_read x k) (grouped_terms multiplying_in_front (part_at reading) multiplied multiplying_named product_term part_term multiplying_means (suc (length us)) (factor p) us))
+
+  pub sum_goes : (ts : List Numbered) → then_read (sum_read ts) k ≡ then_read (product_read ts) (after_operand Sums None k)
+  unfolding sum_read product_read
+  sum_goes ts =
+      mapped_then product_term sum_term (product_at reading ts) _ k _ (λ p us.
+      ap (λ x. then_read x k) (grouped_terms adding_in_front (product_at reading) added adding_named sum_term product_term adding_means (suc (length us)) (summand p) us))
+
+  related_goes : (s : Sum) (r : Relation) (x : Answer Sum) → then_read (answer_map expression_term (then_read x (λ q us. Some (related s r q, us)))) k ≡ then_read (answer_map sum_term x) (λ q us. k (operation (sum_term s) (relation_named r) q) us)
+  related_goes s r None = refl
+  related_goes s r (Some q) = ap (λ f. k (pair f (sum_term s) (sum_term q.0)) q.1) (relation_means r)
+
+  relation_goes : (s : Sum) (us : List Numbered) (x : Answer Relation) → then_read (answer_map expression_term (related_at reading s us x)) k ≡ after_relation k (sum_term s) us (answer_map relation_named x)
+  unfolding sum_read
+  relation_goes s us None = refl
+  relation_goes s us (Some r) = related_goes s r.0 (sum_at reading r.1)
+
+  expression_sums : (ts : List Numbered) → then_read (expression_read ts) k ≡ then_read (sum_read ts) (after_sum None k)
+  unfolding expression_read sum_read
+  expression_sums ts =
+      ap (λ x. then_read (answer_map expression_term x) k) (expressions_go_on ts)
+      ∙ mapped_then sum_term expression_term (sum_at reading ts) _ k _ (λ s us. relation_goes s us (relation_in_front us))
 
 -- an expression is a primary, and what may follow it
-pub expression_goes : (k : Going) (ts : List Numbered) → then_read (expression_read ts) k ≡ primary_then (record { relation = None; colon = None }) k ts
-expression_goes k ts = expression_parts k ts ∙ part_goes (after_part None k) ts
+pub expression_goes : (k : Going) (ts : List Numbered) → then_read (expression_read ts) k ≡ primary_then no_left k ts
+expression_goes k ts =
+    expression_sums k ts
+    ∙ sum_goes (after_sum None k) ts
+    ∙ product_goes (after_product None None k) ts
+    ∙ part_goes (after_part None None None k) ts
 
 -- expressions parted by commas are one, and then perhaps a comma and the others
 module _ {R : Type 0} (k : List Term → List Numbered → Option R) where
@@ -58,7 +124,7 @@ module _ {R : Type 0} (k : List Term → List Numbered → Option R) where
   pub series_goes : (ts : List Numbered) → then_read (series_read ts) k ≡ then_read (expression_read ts) (λ e us. if_there (behind_comma us) (k (e ∷ []) us) (λ vs. then_read (series_read vs) (λ s ws. k (e ∷ s) ws)))
   unfolding series_read expression_read
   series_goes ts =
-      ap (λ x. then_read (answer_map (λ s. list_of (series_terms s)) x) k) (series_step ts)
+      ap (λ x. then_read (answer_map (λ s. list_of (series_terms s)) x) k) (series_go_on ts)
       ∙ mapped_then expression_term (λ s. list_of (series_terms s)) (reading ts) _ k _ (λ e us. comma_goes e us (behind_comma us))
 
 -- the same behind terms that were read before

@@ -1,12 +1,12 @@
--- The nodes of heads and tests begin as the definitions say.
+-- The nodes of heads begin as the definitions say.
 use Rattle.std.proofs.Common.{◌≡◌, ℕ, zero, suc, List, [], ◌∷◌, map, refl, ap, sym, ◌∙◌}
 use Rattle.kl1_model.specs.Term.{Term, count_of}
 use Rattle.kl1_model.specs.TermCode.{nodes_of, front_of, behind_first}
-use Rattle.kl1_model.specs.Goal.{is_head, is_test}
+use Rattle.kl1_model.specs.Goal.{is_head}
 use Rattle.kl1_term.specs.Nodes.{code_of, term_in, terms_in}
 use Rattle.kl1_term.specs.declared.node.Node.{Node}
 use Rattle.kl1_term.specs.declared.node.Node.TheVariants.{Variable, Integer, Atom, Structure}
-use Rattle.kl1_read.specs.Heads.{may_name_structure, begins_head, begins_test}
+use Rattle.kl1_read.specs.Heads.{may_name_structure, begins_head}
 use Rattle.kl1_read.proofs.Nodes.{term_of_nodes}
 
 -- so many terms in front are so many
@@ -22,15 +22,5 @@ head_by (Integer i ∷ nodes) = refl
 head_by (Atom a ∷ nodes) = refl
 head_by (Structure f n ∷ nodes) = ap (may_name_structure f) (sym (front_counts n (terms_in nodes)))
 
-test_by : (nodes : List Node) → begins_test nodes ≡ is_test (term_in nodes)
-test_by [] = refl
-test_by (Variable n ∷ nodes) = refl
-test_by (Integer i ∷ nodes) = refl
-test_by (Atom a ∷ nodes) = refl
-test_by (Structure f n ∷ nodes) = refl
-
 pub head_begins : (nodes : List Node) (t : Term) → map code_of nodes ≡ nodes_of t → begins_head nodes ≡ is_head t
 head_begins nodes t e = head_by nodes ∙ ap is_head (term_of_nodes nodes t e)
-
-pub test_begins : (nodes : List Node) (t : Term) → map code_of nodes ≡ nodes_of t → begins_test nodes ≡ is_test t
-test_begins nodes t e = test_by nodes ∙ ap is_test (term_of_nodes nodes t e)

@@ -2,11 +2,12 @@ pub mod Arguments
 pub mod Doomed
 pub mod FitHeads
 pub mod Follows
-pub mod FuelFree
 pub mod Clauses
 pub mod GoalFronts
 pub mod Goings
 pub mod HeadFronts
+pub mod HeadNumbers
+pub mod Levels
 pub mod ItemSteps
 pub mod MarkSteps
 pub mod ModuleLines
@@ -14,7 +15,6 @@ pub mod Nodes
 pub mod PartSteps
 pub mod Primaries
 pub mod PrimarySteps
-pub mod MarkedRows
 pub mod Singles
 pub mod StatementReads
 pub mod Startables
@@ -23,3 +23,4 @@ pub mod Unwritable
 pub mod WholeSteps
 pub mod WordLemmas
 pub mod SeenSpellings
+pub mod TestFronts

@@ -1,11 +1,10 @@
 -- Marks in front of tokens.
-use Rattle.std.proofs.Common.{◌≡◌, List, [], ◌∷◌, Some, None, option_map, refl, ap, sym, ◌∙◌}
+use Rattle.std.proofs.Common.{◌≡◌, List, [], ◌∷◌, Some, None, refl, ap, sym, ◌∙◌}
 use Rattle.kl1_model.specs.declared.sign.Sign.TheVariants as sign
 use Rattle.kl1_model.specs.Token.{sign_token}
-use Rattle.kl1_model.specs.Grammar.{Numbered, equality}
-use Rattle.kl1_model.specs.Reader.{relation_in_front}
+use Rattle.kl1_model.specs.Grammar.{Numbered}
 use Rattle.kl1_read.specs.declared.mark.Mark.{Mark}
-use Rattle.kl1_read.specs.declared.mark.Mark.TheVariants.{Comma, Open, Close, CloseList, Bar, Colon, Equals, Neck}
+use Rattle.kl1_read.specs.declared.mark.Mark.TheVariants.{Comma, Open, Close, CloseList, Bar, Colon, Neck}
 use Rattle.kl1_read.specs.Marks.{sign_of, behind_mark}
 
 here_by : (mark : Mark) (ts : List Numbered) → behind_mark mark (sign_token (sign_of mark) ∷ ts) ≡ Some ts
@@ -15,7 +14,6 @@ here_by Close ts = refl
 here_by CloseList ts = refl
 here_by Bar ts = refl
 here_by Colon ts = refl
-here_by Equals ts = refl
 here_by Neck ts = refl
 
 -- a mark is there
@@ -30,7 +28,6 @@ mark_gone Close (sign_token sign.Close) ts h = absurd (h refl)
 mark_gone CloseList (sign_token sign.CloseList) ts h = absurd (h refl)
 mark_gone Bar (sign_token sign.Bar) ts h = absurd (h refl)
 mark_gone Colon (sign_token sign.Colon) ts h = absurd (h refl)
-mark_gone Equals (sign_token sign.Equals) ts h = absurd (h refl)
 mark_gone Neck (sign_token sign.Neck) ts h = absurd (h refl)
 mark_gone Comma _ ts h = refl
 mark_gone Open _ ts h = refl
@@ -38,7 +35,6 @@ mark_gone Close _ ts h = refl
 mark_gone CloseList _ ts h = refl
 mark_gone Bar _ ts h = refl
 mark_gone Colon _ ts h = refl
-mark_gone Equals _ ts h = refl
 mark_gone Neck _ ts h = refl
 
 pub mark_end : (mark : Mark) → None ≡ behind_mark mark []
@@ -48,10 +44,4 @@ mark_end Close = refl
 mark_end CloseList = refl
 mark_end Bar = refl
 mark_end Colon = refl
-mark_end Equals = refl
 mark_end Neck = refl
-
--- a relation in front is the mark of equality
-pub relation_here : (ts : List Numbered) → relation_in_front ts ≡ option_map (λ us. (equality, us)) (behind_mark Equals ts)
-relation_here (sign_token sign.Equals ∷ ts) = refl
-relation_here _ = refl

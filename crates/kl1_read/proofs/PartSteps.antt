@@ -1,25 +1,72 @@
--- What follows a part, arguments, elements and a tail.
-use Rattle.std.proofs.Common.{◌≡◌, ℕ, List, [], ◌∷◌, ◌++◌, codes, Some, None, Vec, option_map, ap, sym, ◌∙◌}
+-- What follows a part, a product, a sum, arguments, elements and a tail.
+use Rattle.std.proofs.Common.{◌≡◌, ℕ, List, [], ◌∷◌, ◌++◌, codes, Option, Some, None, Vec, ap, sym, ◌∙◌}
 use Rattle.std.specs.Borrow.{Bor}
 use Rattle.std.specs.declared.alloc.Global.{Global}
+use Rattle.kl1_model.specs.declared.built_in.BuiltIn.{BuiltIn}
 use Rattle.kl1_model.specs.Term.{Term, structure, terms_of}
-use Rattle.kl1_model.specs.Grammar.{Numbered, equality}
+use Rattle.kl1_model.specs.Grammar.{Numbered}
 use Rattle.kl1_model.specs.Meaning.{pair, cells}
 use Rattle.kl1_model.specs.Reader.{Answer, then_read, then_skip, if_there, behind_comma, behind_close, behind_close_list}
-use Rattle.kl1_read.specs.declared.mark.Mark.TheVariants.{Equals}
+use Rattle.kl1_read.specs.declared.infix.Level.TheVariants.{Relations, Sums, Products}
 use Rattle.kl1_read.specs.declared.opened.Opened.TheVariants.{Arguments, Elements}
-use Rattle.kl1_read.specs.Marks.{behind_mark}
+use Rattle.kl1_read.specs.declared.left.Left.{Left}
+use Rattle.kl1_read.specs.Infixes.{infix_in_front}
 use Rattle.kl1_read.specs.Pieces.{writable}
-use Rattle.kl1_read.specs.Meanings.{series_read, Going, Dooms, fit, after_relation, after_part, after_arguments, after_elements, open_then, primary_then}
-use Rattle.kl1_read.proofs.Goings.{part_goes}
+use Rattle.kl1_read.specs.Meanings.{series_read, joined, Going, Dooms, fit, after_relation, after_sum, after_product, after_part, after_colon, after_primary, after_arguments, after_elements, open_then, primary_then}
+use Rattle.kl1_read.proofs.Goings.{sum_goes, product_goes, part_goes}
+use Rattle.kl1_read.proofs.Levels.{operator_follows, operator_gone}
 use Rattle.kl1_read.proofs.Primaries.{arguments_more, elements_more}
+use Rattle.kl1_read.proofs.Doomed.{sum_dooms, product_dooms, part_dooms, operand_doomed}
 use Rattle.kl1_read.proofs.Arguments.{writable_is, unwritable_is}
-use Rattle.kl1_read.proofs.MarkSteps.{relation_here}
 
--- a relation follows a part
-pub relation_follows : (p : Term) (ts us : List Numbered) → Some us ≡ behind_mark Equals ts → (k : Going) → Dooms k → fit (primary_then (record { relation = Some p; colon = None }) k us) ≡ fit (after_part None k p ts)
-relation_follows p ts us h k dooms =
-    ap fit (sym (ap (after_relation k p ts) (relation_here ts ∙ ap (option_map (λ us. (equality, us))) (sym h)) ∙ part_goes (λ q vs. k (pair (codes "=") p q) vs) us))
+-- what follows a part with what stands to its left
+module _ (relation sum product : Option (BuiltIn × Term)) (p : Term) (ts : List Numbered) (k : Going) (dooms : Dooms k) where
+  pub part_follows : (whole : Term) (name : BuiltIn) (us : List Numbered) → Some whole ≡ writable (joined product p) → Some (name, us) ≡ infix_in_front Products ts → fit (primary_then (record { relation = relation; sum = sum; product = Some (name, whole); colon = None }) k us) ≡ fit (after_part relation sum product k p ts)
+  part_follows whole name us w h =
+      ap fit (sym (part_goes (after_part relation sum (Some (name, whole)) k) us)
+      ∙ operator_follows Products product (after_product relation sum k) p whole ts (writable_is (joined product p) whole w) name us h)
+
+  pub part_ends : (whole : Term) → Some whole ≡ writable (joined product p) → None ≡ infix_in_front Products ts → fit (after_product relation sum k whole ts) ≡ fit (after_part relation sum product k p ts)
+  part_ends whole w h =
+      ap fit (operator_gone Products product (after_product relation sum k) p whole ts (writable_is (joined product p) whole w) h)
+
+  pub part_doomed : None ≡ writable (joined product p) → None ≡ fit (after_part relation sum product k p ts)
+  part_doomed w =
+      operand_doomed (after_product relation sum k) (product_dooms relation sum k dooms) Products product p ts w
+
+-- what follows a primary with what stands to its left
+module _ (left : Left) (m p : Term) (ts : List Numbered) (e : left.colon ≡ Some m) (k : Going) (dooms : Dooms k) where
+  pub colon_ends : (whole : Term) → Some whole ≡ writable (pair (codes ":") m p) → fit (after_part left.relation left.sum left.product k whole ts) ≡ fit (after_primary left k p ts)
+  colon_ends whole w =
+      ap (λ u. fit (after_part left.relation left.sum left.product k u ts)) (writable_is (pair (codes ":") m p) whole w)
+      ∙ ap (λ x. fit (after_colon x (after_part left.relation left.sum left.product k) p ts)) (sym e)
+
+  pub colon_doomed : None ≡ writable (pair (codes ":") m p) → None ≡ fit (after_primary left k p ts)
+  colon_doomed w =
+      sym (ap (λ x. fit (after_colon x (after_part left.relation left.sum left.product k) p ts)) e
+      ∙ part_dooms left.relation left.sum left.product k dooms (pair (codes ":") m p) ts (unwritable_is (pair (codes ":") m p) w))
+
+-- what follows a product with what stands to its left
+module _ (relation sum : Option (BuiltIn × Term)) (p : Term) (ts : List Numbered) (k : Going) (dooms : Dooms k) where
+  pub product_follows : (whole : Term) (name : BuiltIn) (us : List Numbered) → Some whole ≡ writable (joined sum p) → Some (name, us) ≡ infix_in_front Sums ts → fit (primary_then (record { relation = relation; sum = Some (name, whole); product = None; colon = None }) k us) ≡ fit (after_product relation sum k p ts)
+  product_follows whole name us w h =
+      ap fit (sym (part_goes (after_part relation (Some (name, whole)) None k) us)
+      ∙ sym (product_goes (after_product relation (Some (name, whole)) k) us)
+      ∙ operator_follows Sums sum (after_sum relation k) p whole ts (writable_is (joined sum p) whole w) name us h)
+
+  pub product_ends : (whole : Term) → Some whole ≡ writable (joined sum p) → None ≡ infix_in_front Sums ts → fit (after_sum relation k whole ts) ≡ fit (after_product relation sum k p ts)
+  product_ends whole w h = ap fit (operator_gone Sums sum (after_sum relation k) p whole ts (writable_is (joined sum p) whole w) h)
+
+  pub product_doomed : None ≡ writable (joined sum p) → None ≡ fit (after_product relation sum k p ts)
+  product_doomed w = operand_doomed (after_sum relation k) (sum_dooms k dooms relation) Sums sum p ts w
+
+-- a relation follows a sum
+pub relation_follows : (s : Term) (name : BuiltIn) (ts us : List Numbered) → Some (name, us) ≡ infix_in_front Relations ts → (k : Going) → Dooms k → fit (primary_then (record { relation = Some (name, s); sum = None; product = None; colon = None }) k us) ≡ fit (after_sum None k s ts)
+relation_follows s name ts us h k dooms =
+    ap fit (sym (part_goes (after_part (Some (name, s)) None None k) us)
+    ∙ sym (product_goes (after_product (Some (name, s)) None k) us)
+    ∙ sym (sum_goes (after_sum (Some (name, s)) k) us)
+    ∙ ap (after_relation k s ts) h)
 
 -- a comma follows arguments
 pub arguments_follow : (f : Bor (List ℕ)) (before : List Term) (e : Term) (v : Vec Term Global) (ts us : List Numbered) → v.items ≡ before ++ e ∷ [] → Some us ≡ behind_comma ts → (k : Going) → Dooms k → fit (open_then (Arguments f v) k us) ≡ fit (if_there (behind_comma ts) (after_arguments f.now k (before ++ e ∷ []) ts) (λ us. then_read (series_read us) (λ s vs. after_arguments f.now k (before ++ e ∷ s) vs)))

@@ -4,10 +4,10 @@ use Rattle.kl1_model.specs.Term.{Term, list_of}
 use Rattle.kl1_model.specs.Grammar.{Numbered, Expression, Series, last, another}
 use Rattle.kl1_model.specs.Meaning.{expression_term, series_terms, is_writable}
 use Rattle.kl1_model.specs.Reader.{Answer, then_read, if_there, behind_comma, series_at, all_read, expression_tree}
+use Rattle.kl1_model.proofs.ReadSteps.{series_go_on}
 use Rattle.kl1_read.specs.Pieces.{writable}
 use Rattle.kl1_read.specs.Series.{single}
 use Rattle.kl1_read.specs.Meanings.{reading, answer_map, series_read, fit}
-use Rattle.kl1_read.proofs.FuelFree.{series_step}
 
 -- a list with something behind it is not read alone
 behind_fits : (b : Bool) (es : List Term) (t : Numbered) (ts : List Numbered) → single (if◌then◌else◌ {A = Answer (List Term)} b (Some (es, t ∷ ts)) None) ≡ None
@@ -48,4 +48,4 @@ single_by (Some r) = one_by r.0 r.1
 pub single_reads : (ts : List Numbered) → single (fit (series_read ts)) ≡ option_and_then writable (option_map expression_term (expression_tree ts))
 unfolding series_read
 single_reads ts =
-    ap (λ x. single (fit (answer_map (λ s. list_of (series_terms s)) x))) (series_step ts) ∙ single_by (reading ts)
+    ap (λ x. single (fit (answer_map (λ s. list_of (series_terms s)) x))) (series_go_on ts) ∙ single_by (reading ts)

@@ -11,7 +11,7 @@ use Rattle.kl1_model.specs.Reader.{Answer, then_read, if_there, behind_comma}
 use Rattle.kl1_read.specs.declared.opened.Opened.{Opened}
 use Rattle.kl1_read.specs.declared.left.Left.{Left}
 use Rattle.kl1_read.specs.declared.frame.Frame.{Frame}
-use Rattle.kl1_read.specs.Waits.{opened_of, left_of}
+use Rattle.kl1_read.specs.Waits.{no_left, opened_of, left_of}
 use Rattle.kl1_read.specs.declared.begun.Begun.{Begun}
 use Rattle.kl1_read.specs.declared.joined.Joined.{Joined}
 use Rattle.kl1_read.specs.declared.closed.Closed.{Closed}
@@ -26,10 +26,6 @@ pub ok_along : {A E : Type 0} (P Q : A → Type 0) (r : Result A E) → IfOk r P
 ok_along P Q (Ok a) h f = f a h
 ok_along P Q (Err e) h f = h
 
--- nothing stands to the left
-abbrev pub no_left : Left
-no_left = record { relation = None; colon = None }
-
 -- what was opened waits behind those before
 pub frame_opens : (fs gs : List Frame) (f : Frame) (opened : Opened) (left : Left) (done : List Term) (us : List Numbered) → gs ≡ fs ++ f ∷ [] → opened_of f ≡ opened → left_of f ≡ left → primary_then no_left (after_expression (reverse gs) done) us ≡ open_then opened (after_primary left (after_expression (reverse fs) done)) us
 frame_opens fs gs f opened left done us e o l =
@@ -37,6 +33,13 @@ frame_opens fs gs f opened left done us e o l =
     ∙ sym (expression_goes (after_expression (f ∷ reverse fs) done) us)
     ∙ ap (λ x. open_then x (after_primary (left_of f) (after_expression (reverse fs) done)) us) o
     ∙ ap (λ x. open_then opened (after_primary x (after_expression (reverse fs) done)) us) l
+
+-- the frame that was opened last waits for an expression
+pub frame_closes : (fs gs : List Frame) (f : Frame) (opened : Opened) (left : Left) (done : List Term) (e : Term) (ts : List Numbered) → gs ≡ fs ++ f ∷ [] → opened ≡ opened_of f → left ≡ left_of f → after_opened opened (after_primary left (after_expression (reverse fs) done)) e ts ≡ after_expression (reverse gs) done e ts
+frame_closes fs gs f opened left done e ts h o l =
+    ap (λ x. after_opened x (after_primary left (after_expression (reverse fs) done)) e ts) o
+    ∙ ap (λ x. after_opened (opened_of f) (after_primary x (after_expression (reverse fs) done)) e ts) l
+    ∙ ap (λ xs. after_expression xs done e ts) (sym (ap reverse h ∙ reverse-append fs (f ∷ [])))
 
 -- more terms are read behind those that are done
 pub more_terms : (done : List Term) (us : List Numbered) → primary_then no_left (after_expression [] done) us ≡ then_read (series_read us) (λ s vs. Some (done ++ s, vs))
@@ -65,9 +68,9 @@ begun_on b c left fs done ts e h =
     ap (λ x. fit (begun_then x (after_primary left (after_expression fs done)))) (sym e) ∙ h (after_primary left (after_expression fs done)) (primary_dooms left (after_expression fs done) (expression_dooms fs done))
 
 -- goes on behind a primary
-pub joined_on : (b c : Joined) (left : Left) (fs : List Frame) (done : List Term) (p : Term) (ts : List Numbered) → b ≡ c → Joins left p ts b → fit (joined_then c (after_expression fs done)) ≡ fit (after_primary left (after_expression fs done) p ts)
-joined_on b c left fs done p ts e h =
-    ap (λ x. fit (joined_then x (after_expression fs done))) (sym e) ∙ h (after_expression fs done) (expression_dooms fs done)
+pub joined_on : (b c : Joined) (left now : Left) (fs : List Frame) (done : List Term) (p : Term) (ts : List Numbered) → b ≡ c → Joins left p ts now b → fit (joined_then now c (after_expression fs done)) ≡ fit (after_primary left (after_expression fs done) p ts)
+joined_on b c left now fs done p ts e h =
+    ap (λ x. fit (joined_then now x (after_expression fs done))) (sym e) ∙ h (after_expression fs done) (expression_dooms fs done)
 
 -- goes on behind an expression in what was opened
 pub closed_on : (b c : Closed) (opened : Opened) (left : Left) (fs : List Frame) (done : List Term) (e : Term) (ts : List Numbered) → b ≡ c → Closes opened e ts b → fit (closed_then c (after_primary left (after_expression fs done))) ≡ fit (after_opened opened (after_primary left (after_expression fs done)) e ts)

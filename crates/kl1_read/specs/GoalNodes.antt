@@ -18,7 +18,7 @@ begins_qualified _ = false
 
 -- whether a structure of a name and so many arguments, whose nodes these are, is a goal
 abbrev pub begins_structure_goal : List ℕ → ℕ → List Node → Bool
-begins_structure_goal f n nodes = if n == 2 then bytes_eq f (codes "=") || (bytes_eq f (codes ":") && begins_qualified nodes) else false
+begins_structure_goal f n nodes = if n == 2 then bytes_eq f (codes "=") || bytes_eq f (codes ":=") || (bytes_eq f (codes ":") && begins_qualified nodes) else false
 
 -- whether nodes begin as those of a goal do
 abbrev pub begins_goal : List Node → Bool

@@ -10,22 +10,29 @@ use Rattle.kl1_read.specs.declared.closed.Closed.TheVariants as closed
 use Rattle.kl1_read.specs.declared.left.Left.{Left}
 use Rattle.kl1_read.specs.declared.opened.Opened.{Opened}
 use Rattle.kl1_read.specs.Views.{numbered_token}
+use Rattle.kl1_read.specs.Waits.{no_left}
 use Rattle.kl1_read.specs.Meanings.{Going, Dooms, fit, open_then, primary_then, after_primary, after_opened}
 
 -- goes on behind a primary that was joined with what stands to its left
-abbrev pub joined_then : Joined → Going → Answer (List Term)
-joined_then joined.Bad k = None
-joined_then (joined.More left rest) k = primary_then left k (map numbered_token rest.now)
-joined_then (joined.Whole p rest) k = k p (map numbered_token rest.now)
+abbrev pub joined_then : Left → Joined → Going → Answer (List Term)
+joined_then left joined.Bad k = None
+joined_then left (joined.More rest) k = primary_then left k (map numbered_token rest.now)
+joined_then left (joined.Whole p rest) k = k p (map numbered_token rest.now)
 
 -- going on behind the join is going on behind the primary
-abbrev pub Joins : Left → Term → List grammar.Numbered → Joined → Type 0
-Joins left p ts j = (k : Going) → Dooms k → fit (joined_then j k) ≡ fit (after_primary left k p ts)
+abbrev pub Joins : Left → Term → List grammar.Numbered → Left → Joined → Type 0
+Joins left p ts now j = (k : Going) → Dooms k → fit (joined_then now j k) ≡ fit (after_primary left k p ts)
+
+-- nothing stands to the left of a whole expression
+abbrev pub LeavesNone : Left → Joined → Type 0
+LeavesNone now joined.Bad = Unit {0}
+LeavesNone now (joined.More rest) = Unit {0}
+LeavesNone now (joined.Whole p rest) = now ≡ no_left
 
 -- more tokens are read, or none
 abbrev pub JoinedLess : ℕ → Joined → Type 0
 JoinedLess n joined.Bad = Unit {0}
-JoinedLess n (joined.More left rest) = length rest.now < n
+JoinedLess n (joined.More rest) = length rest.now < n
 JoinedLess n (joined.Whole p rest) = length rest.now ≤ n
 
 -- goes on behind an expression in what was opened

@@ -15,9 +15,9 @@ pub mod Statements
 pub mod Heads
 pub mod GoalNodes
 pub mod Started
-pub mod Marked
 pub mod Followings
 pub mod Spellings
 pub mod Held
+pub mod Infixes
 pub mod Waits
 pub mod SmallNodes

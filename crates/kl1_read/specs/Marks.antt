@@ -1,11 +1,11 @@
 -- Signs that part what is read.
-use Rattle.std.specs.Prelude.{List, Option, option_map}
+use Rattle.std.specs.Prelude.{List, Option}
 use Rattle.kl1_model.specs.declared.sign.Sign.{Sign}
 use Rattle.kl1_model.specs.declared.sign.Sign.TheVariants as sign
 use Rattle.kl1_model.specs.Grammar.{Numbered}
-use Rattle.kl1_model.specs.Reader.{behind_comma, behind_open, behind_close, behind_close_list, behind_bar, behind_colon, behind_neck, relation_in_front}
+use Rattle.kl1_model.specs.Reader.{behind_comma, behind_open, behind_close, behind_close_list, behind_bar, behind_colon, behind_neck}
 use Rattle.kl1_read.specs.declared.mark.Mark.{Mark}
-use Rattle.kl1_read.specs.declared.mark.Mark.TheVariants.{Comma, Open, Close, CloseList, Bar, Colon, Equals, Neck}
+use Rattle.kl1_read.specs.declared.mark.Mark.TheVariants.{Comma, Open, Close, CloseList, Bar, Colon, Neck}
 
 -- the sign of a mark
 abbrev pub sign_of : Mark → Sign
@@ -15,7 +15,6 @@ sign_of Close = sign.Close
 sign_of CloseList = sign.CloseList
 sign_of Bar = sign.Bar
 sign_of Colon = sign.Colon
-sign_of Equals = sign.Equals
 sign_of Neck = sign.Neck
 
 -- what is behind a mark in front
@@ -26,5 +25,4 @@ behind_mark Close ts = behind_close ts
 behind_mark CloseList ts = behind_close_list ts
 behind_mark Bar ts = behind_bar ts
 behind_mark Colon ts = behind_colon ts
-behind_mark Equals ts = option_map (λ r. r.1) (relation_in_front ts)
 behind_mark Neck ts = behind_neck ts

@@ -3,27 +3,35 @@ use Rattle.std.specs.Prelude.{◌≡◌, ℕ, List, [], ◌∷◌, ◌++◌, cod
 use Rattle.std.specs.List.{list_all}
 use Rattle.kl1_model.specs.Term.{Term, structure, terms_of, list_of}
 use Rattle.kl1_model.specs.Grammar as grammar
-use Rattle.kl1_model.specs.Grammar.{Relation}
-use Rattle.kl1_model.specs.Meaning.{pair, nil, cells, relation_name, expression_term, part_term, primary_term, series_terms, is_writable}
-use Rattle.kl1_model.specs.Reader.{Answer, Inner, then_read, then_skip, if_there, behind_comma, behind_close, behind_close_list, behind_bar, behind_colon, relation_in_front, series_at, primary_at, part_at, inner_of}
+use Rattle.kl1_model.specs.Text.{text_of}
+use Rattle.kl1_model.specs.declared.built_in.BuiltIn.{BuiltIn}
+use Rattle.kl1_model.specs.Meaning.{pair, nil, cells, expression_term, sum_term, product_term, part_term, primary_term, series_terms, is_writable}
+use Rattle.kl1_model.specs.Reader.{Answer, Inner, then_read, then_skip, if_there, behind_comma, behind_close, behind_close_list, behind_bar, behind_colon, series_at, primary_at, part_at, grouped_at, product_at, sum_at, inner_of}
+use Rattle.kl1_read.specs.declared.infix.Level.{Level}
+use Rattle.kl1_read.specs.declared.infix.Level.TheVariants.{Relations, Sums, Products}
 use Rattle.kl1_read.specs.declared.opened.Opened.{Opened}
 use Rattle.kl1_read.specs.declared.opened.Opened.TheVariants.{Group, Arguments, Elements, Tail}
 use Rattle.kl1_read.specs.declared.left.Left.{Left}
 use Rattle.kl1_read.specs.declared.frame.Frame.{Frame}
+pub use Rattle.kl1_read.specs.Infixes.{answer_map}
+use Rattle.kl1_read.specs.Infixes.{infix_in_front}
 use Rattle.kl1_read.specs.Waits.{opened_of, left_of}
 
 -- an expression in front of tokens, read with as many steps as it needs
 abbrev pub reading : Inner
 reading ts = inner_of ts ts
 
--- what was read, changed
-abbrev pub answer_map : {A B : Type 0} → (A → B) → Answer A → Answer B
-answer_map f None = None
-answer_map f (Some r) = Some (f r.0, r.1)
-
 -- the term of the expression in front of tokens
 unfoldable pub expression_read : List grammar.Numbered → Answer Term
 expression_read ts = answer_map expression_term (reading ts)
+
+-- the term of the sum in front of tokens
+unfoldable pub sum_read : List grammar.Numbered → Answer Term
+sum_read ts = answer_map sum_term (sum_at reading ts)
+
+-- the term of the product in front of tokens
+unfoldable pub product_read : List grammar.Numbered → Answer Term
+product_read ts = answer_map product_term (product_at reading ts)
 
 -- the term of the part in front of tokens
 unfoldable pub part_read : List grammar.Numbered → Answer Term
@@ -37,19 +45,50 @@ primary_read ts = answer_map primary_term (primary_at reading ts)
 unfoldable pub series_read : List grammar.Numbered → Answer (List Term)
 series_read ts = answer_map (λ s. list_of (series_terms s)) (series_at reading ts)
 
+-- the term of what stands behind a name of a level
+abbrev pub operand_read : Level → List grammar.Numbered → Answer Term
+operand_read Relations = sum_read
+operand_read Sums = product_read
+operand_read Products = part_read
+
+-- the structure of a built-in name and the terms on both of its sides
+abbrev pub operation : Term → BuiltIn → Term → Term
+operation a name b = pair (text_of name) a b
+
+-- a term with what stands to its left
+abbrev pub joined : Option (BuiltIn × Term) → Term → Term
+joined None t = t
+joined (Some before) t = operation before.1 before.0 t
+
+-- the term of what was read and of the operands behind it, each behind an operator of a level
+abbrev pub grouped_read : Level → Term → List grammar.Numbered → Answer Term
+grouped_read level t ts = grouped_at (infix_in_front level) (operand_read level) operation t ts
+
 -- what goes on with a term that was read, and with the tokens behind it
 abbrev pub Going : Type 0
 Going = Term → List grammar.Numbered → Answer (List Term)
 
--- goes on with a part, or, where a relation was read, with the structure of it and the part behind
-abbrev pub after_relation : Going → Term → List grammar.Numbered → Answer Relation → Answer (List Term)
-after_relation k p ts None = k p ts
-after_relation k p ts (Some r) = then_read (part_read r.1) (λ q us. k (pair (relation_name r.0) p q) us)
+-- goes on with a sum, or, where a relation was read, with the structure of it and the sum behind
+abbrev pub after_relation : Going → Term → List grammar.Numbered → Answer BuiltIn → Answer (List Term)
+after_relation k s ts None = k s ts
+after_relation k s ts (Some r) = then_read (operand_read Relations r.1) (λ q us. k (operation s r.0 q) us)
 
--- goes on with a part behind what stands to the left of a relation, or perhaps with a relation
-abbrev pub after_part : Option Term → Going → Going
-after_part None k p ts = after_relation k p ts (relation_in_front ts)
-after_part (Some a) k p ts = k (pair (codes "=") a p) ts
+-- goes on with a sum behind what stands to the left of a relation, or perhaps with a relation
+abbrev pub after_sum : Option (BuiltIn × Term) → Going → Going
+after_sum None k s ts = after_relation k s ts (infix_in_front Relations ts)
+after_sum (Some before) k s ts = k (operation before.1 before.0 s) ts
+
+-- goes on with an operand behind what stands to its left, and with the operators of its level that follow
+abbrev pub after_operand : Level → Option (BuiltIn × Term) → Going → Going
+after_operand level left k t ts = then_read (grouped_read level (joined left t) ts) k
+
+-- goes on with a product behind what stands to its left
+abbrev pub after_product : Option (BuiltIn × Term) → Option (BuiltIn × Term) → Going → Going
+after_product relation sum k = after_operand Sums sum (after_sum relation k)
+
+-- goes on with a part behind what stands to its left
+abbrev pub after_part : Option (BuiltIn × Term) → Option (BuiltIn × Term) → Option (BuiltIn × Term) → Going → Going
+after_part relation sum product k = after_operand Products product (after_product relation sum k)
 
 -- goes on with a primary behind what stands to the left of a colon, or perhaps with a colon
 abbrev pub after_colon : Option Term → Going → Going
@@ -58,7 +97,7 @@ after_colon (Some m) k p ts = k (pair (codes ":") m p) ts
 
 -- goes on with a primary behind what stands to its left
 abbrev pub after_primary : Left → Going → Going
-after_primary left k = after_colon left.colon (after_part left.relation k)
+after_primary left k = after_colon left.colon (after_part left.relation left.sum left.product k)
 
 -- goes on behind the elements of a list
 abbrev pub after_elements : Going → List Term → List grammar.Numbered → Answer (List Term)

@@ -1,17 +1,17 @@
 -- A clause as terms, before it is known whether they may stand there.
-use Rattle.std.specs.Prelude.{ℕ, ◌&&◌, not, Bool, true, false, if◌then◌else◌, List, [], ◌∷◌, map, Option, Some, None, option_map, option_and_then}
+use Rattle.std.specs.Prelude.{ℕ, nat_le, ◌&&◌, Bool, true, false, if◌then◌else◌, List, [], ◌∷◌, map, Option, Some, None, option_map, option_and_then}
 use Rattle.std.specs.Borrow.{Bor}
 use Rattle.kl1_model.specs.Term.{Term, atom, structure, more, terms_of}
 use Rattle.kl1_model.specs.Token.{name_token}
 use Rattle.kl1_model.specs.Grammar as grammar
 use Rattle.kl1_model.specs.Reader.{Answer, then_read, then_skip, if_there, behind_open, behind_close, behind_neck, behind_bar}
-use Rattle.kl1_model.specs.Meaning.{is_writable, variables_in}
-use Rattle.kl1_model.specs.Goal.{is_head}
-use Rattle.kl1_model.specs.Module.{Clause, each_of, has_repeats, fit_test, fit_goal, true_goal}
+use Rattle.kl1_model.specs.Meaning.{is_writable, highest, highest_in}
+use Rattle.kl1_model.specs.Goal.{is_head, is_test, body_goal}
+use Rattle.kl1_model.specs.Module.{BodyGoal, Clause, each_of, without_priority, true_goal}
 use Rattle.kl1_read.specs.declared.numbered.Numbered.{Numbered}
 use Rattle.kl1_read.specs.declared.clause_terms.ClauseTerms.{ClauseTerms}
 use Rattle.kl1_read.specs.declared.role.Role.{Role}
-use Rattle.kl1_read.specs.declared.role.Role.TheVariants.{Pattern, Test, Goal}
+use Rattle.kl1_read.specs.declared.role.Role.TheVariants.{Pattern, Test}
 use Rattle.kl1_read.specs.Views.{numbered_token}
 use Rattle.kl1_read.specs.Meanings.{series_read, fit}
 
@@ -88,20 +88,28 @@ heading_term p (t ∷ ts) = structure p (more t (terms_of ts))
 abbrev pub is_fit_name : List ℕ → List Term → Bool
 is_fit_name p ts = is_writable (heading_term p ts) && is_head (heading_term p ts)
 
--- whether a head may stand there
-abbrev pub is_fit_heading : List ℕ → List Term → Bool
-is_fit_heading p ts = is_fit_name p ts && not (has_repeats (variables_in (terms_of ts)))
-
 -- the patterns of a head that may stand there
 abbrev pub fit_patterns : List ℕ → List Term → Option (List Term)
-fit_patterns p ts = if is_fit_heading p ts then Some ts else None
+fit_patterns p ts = if is_fit_name p ts then Some ts else None
+
+-- a test, whose variables have numbers up to this one
+abbrev pub fit_test_upto : ℕ → Term → Option Term
+fit_test_upto most t = if is_writable t && is_test t && nat_le (highest t) most then Some t else None
+
+-- a term as a goal of the body, in a module of this name, without a priority
+abbrev pub fit_plain : List ℕ → Term → Option BodyGoal
+fit_plain m t = if is_writable t then option_map without_priority (body_goal m t) else None
+
+-- the clause of patterns, tests and a body, in a module of this name
+abbrev pub clause_behind : List ℕ → Statement → List Term → Option Clause
+clause_behind m s ps =
+    option_and_then (λ ts. option_map (λ gs. record { name = s.heading.name; patterns = terms_of ps; tests = ts; section = 0; body = gs }) (each_of (fit_plain m) s.body)) (each_of (fit_test_upto (highest_in (terms_of ps))) s.tests)
 
 -- the clause of a head, tests and a body, in a module of this name
 abbrev pub clause_of_statement : List ℕ → Statement → Option Clause
-clause_of_statement m s = option_and_then (λ ps. option_and_then (λ ts. option_map (λ gs. record { name = s.heading.name; patterns = terms_of ps; tests = ts; body = gs }) (each_of (fit_goal m) s.body)) (each_of fit_test s.tests)) (fit_patterns s.heading.name s.heading.arguments)
+clause_of_statement m s = option_and_then (clause_behind m s) (fit_patterns s.heading.name s.heading.arguments)
 
--- what stands in the head, the guard or the body of a clause
+-- what stands in the head or the guard of a clause
 abbrev pub fit_as : Role → Term → Option Term
 fit_as Pattern t = Some t
-fit_as Test t = fit_test t
-fit_as (Goal m) t = fit_goal m t
+fit_as (Test most) t = fit_test_upto most t

@@ -16,15 +16,15 @@ abbrev pub read_on : Option Term → Left → Going → List grammar.Numbered �
 read_on None left k ts = primary_then left k ts
 read_on (Some p) left k ts = after_primary left k p ts
 
--- the terms that come of a state, where these were opened and these terms are done
-abbrev pub state_answer : List Frame → List Term → State → Answer (List Term)
-state_answer frames done s = read_on s.read s.left (after_expression (reverse frames) done) (map numbered_token s.rest.now)
+-- the terms that come of a state, where these were opened, these terms are done and this stands to the left
+abbrev pub state_answer : List Frame → List Term → Left → State → Answer (List Term)
+state_answer frames done left s = read_on s.read left (after_expression (reverse frames) done) (map numbered_token s.rest.now)
 
 -- the terms that come of a step
-abbrev pub step_answer : List Frame → List Term → Step → Answer (List Term)
-step_answer frames done Bad = None
-step_answer frames done (On s) = state_answer frames done s
-step_answer frames done (Finished rest) = Some (done, map numbered_token rest.now)
+abbrev pub step_answer : List Frame → List Term → Left → Step → Answer (List Term)
+step_answer frames done left Bad = None
+step_answer frames done left (On s) = state_answer frames done left s
+step_answer frames done left (Finished rest) = Some (done, map numbered_token rest.now)
 
 -- fewer tokens than these are left
 abbrev pub StepLess : ℕ → Step → Type 0

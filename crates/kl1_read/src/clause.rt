@@ -8,12 +8,11 @@ ghost use Rattle.kl1_read.specs.Views.{kept_token};
 ghost use Rattle.kl1_read.specs.Sources.{clause_of_parts};
 ghost use Rattle.kl1_read.specs.Statements.{given, statement_of, statement_read, clause_of_statement};
 
-use crate::body::put_terms;
+use crate::body::put_goals;
 use crate::clause_parts::ClauseParts;
 use crate::clause_terms::{ClauseTerms, read_terms};
 use crate::kept::Kept;
-use crate::patterns::put_patterns;
-use crate::role::Role;
+use crate::patterns::{put_patterns, put_tests};
 use kl1_text::AtomText;
 use std::alloc::{AllocError, Global};
 
@@ -26,6 +25,7 @@ pub(crate) fn read_clause(
 ) -> Result<bool, AllocError>
     requires patterns { parts.old.patterns.items ≡ [] }
     requires tests { parts.old.tests.items ≡ [] }
+    requires section { parts.old.section ≡ 0 }
     requires body { parts.old.body.items ≡ [] }
     ensures { IfOk result (λ r. given r (clause_of_parts parts.new) ≡ clause_of module_name (map kept_token tokens.items)) }
 {
@@ -51,6 +51,7 @@ fn read_parts(
     requires terms_body { terms.old.body.items ≡ [] }
     requires patterns { parts.old.patterns.items ≡ [] }
     requires tests { parts.old.tests.items ≡ [] }
+    requires section { parts.old.section ≡ 0 }
     requires body { parts.old.body.items ≡ [] }
     ensures { IfOk result (λ r. given r (clause_of_parts parts.new) ≡ option_and_then (clause_of_statement module_name) (all_read (statement_read (numbered_tokens (map kept_token tokens.items))))) }
 {
@@ -66,13 +67,13 @@ fn read_parts(
     )? {
         return Ok(false);
     }
-    if !put_terms(alloc, Role::Test, &mut terms.tests, &mut parts.tests)? {
+    if !put_tests(
+        alloc,
+        parts.patterns.as_slice(),
+        &mut terms.tests,
+        &mut parts.tests,
+    )? {
         return Ok(false);
     }
-    put_terms(
-        alloc,
-        Role::Goal(module_name),
-        &mut terms.body,
-        &mut parts.body,
-    )
+    put_goals(alloc, module_name, &mut terms.body, &mut parts.body)
 }

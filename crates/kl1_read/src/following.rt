@@ -1,23 +1,38 @@
-// Which clauses may follow others.
+// Which clauses may follow others, and in which section.
 
-ghost use Rattle.std.specs.Prelude.{◌≡◌, nat_lt, length, map};
-ghost use Rattle.kl1_model.specs.Module.{most_clauses, may_follow};
+ghost use Rattle.std.specs.Prelude.{◌≡◌, ◌≤◌, nat_lt, length, map};
+ghost use Rattle.kl1_model.specs.Module.{most_clauses};
 ghost use Rattle.kl1_read.specs.Sources.{clause_of_parts};
-ghost use Rattle.kl1_read.specs.Followings.{is_one_of, ends_with, holds};
+ghost use Rattle.kl1_read.specs.Followings.{is_one_of, section_within, holds, last_section, section_for};
 
 use crate::clause_parts::ClauseParts;
 use kl1_model::limits::MOST_CLAUSES;
 use kl1_text::AtomText;
 
-/// Whether a clause may follow these: there is room, and clauses of one name and number of arguments stand together.
-pub(crate) fn may_follow(before: &[ClauseParts], clause: &ClauseParts) -> bool
-    ensures { result ≡ may_follow (map clause_of_parts before.now) (clause_of_parts clause.now) }
+/// The section of a clause behind these, directly behind an `otherwise` or not, where it may follow them: there is room, clauses
+/// of one name and number of arguments stand together, and an `otherwise` stands between two of them. Behind an `otherwise` a
+/// section begins.
+pub(crate) fn section_for(before: &[ClauseParts], behind: bool, clause: &ClauseParts) -> Option<u64>
+    requires { last_section before.now ≤ length before.now }
+    ensures { result ≡ section_for (map clause_of_parts before.now) behind (clause_of_parts clause.now) }
 {
     if !has_room(before) {
-        return false;
+        return None;
     }
     let count = clause.patterns.len();
-    ends_with(before, &clause.name, count) || !holds(before, &clause.name, count)
+    match section_within(before, &clause.name, count) {
+        Some(section) => Some(if behind { section + 1 } else { section }),
+        None => {
+            if behind {
+                return None;
+            }
+            if holds(before, &clause.name, count) {
+                None
+            } else {
+                Some(0)
+            }
+        }
+    }
 }
 
 /// Whether one clause more may be in a module with these.
@@ -27,13 +42,19 @@ fn has_room(clauses: &[ClauseParts]) -> bool
     clauses.len() < MOST_CLAUSES
 }
 
-/// Whether the last of clauses is one of a predicate.
-fn ends_with(clauses: &[ClauseParts], name: &AtomText, count: usize) -> bool
-    ensures { result ≡ ends_with name.now count clauses.now }
+/// The section of the last of clauses, where it is one of a predicate.
+fn section_within(clauses: &[ClauseParts], name: &AtomText, count: usize) -> Option<u64>
+    ensures { result ≡ section_within name.now count clauses.now }
 {
     match clauses {
-        [] => false,
-        [.., last] => is_one_of(last, name, count),
+        [] => None,
+        [.., last] => {
+            if is_one_of(last, name, count) {
+                Some(last.section)
+            } else {
+                None
+            }
+        }
     }
 }
 

@@ -1,12 +1,12 @@
 // What waits for an expression.
 
-ghost use Rattle.std.specs.Prelude.{◌≡◌, IfOk};
-ghost use Rattle.kl1_read.specs.Waits.{opened_of, left_of};
+ghost use Rattle.std.specs.Prelude.{◌≡◌, IfOk, OnOk};
+ghost use Rattle.kl1_read.specs.Waits.{no_left, opened_of, left_of};
 
 use crate::left::Left;
 use crate::opened::Opened;
-use crate::piece::Piece;
 use std::alloc::{AllocError, Global};
+use std::mem;
 
 /// What was opened, with what stands to its left. Most brackets have nothing there.
 #[derive(Drop)]
@@ -26,57 +26,46 @@ pub(crate) struct Waiting<'a> {
     pub(crate) left: Left,
 }
 
-/// What was opened, with what stands to its left, as a frame.
+/// What was opened, with what stands to its left, as a frame; nothing stands to the left in it.
 pub(crate) fn frame_of<'a>(
     alloc: Global,
     opened: Opened<'a>,
-    left: Left,
+    left: &mut Left,
 ) -> Result<Frame<'a>, AllocError>
     ensures opened { IfOk result (λ frame. opened_of frame ≡ opened.entry) }
-    ensures left { IfOk result (λ frame. left_of frame ≡ left) }
+    ensures left { IfOk result (λ frame. left_of frame ≡ left.old) }
+    ensures none { OnOk result (left.new ≡ no_left) }
 {
-    let Left { relation, colon } = left;
-    match relation {
-        None => match colon {
-            None => match opened {
-                Opened::Group => Ok(Frame::Group),
-                other => {
-                    let boxed = Box::new(alloc, other)?;
-                    Ok(Frame::First(boxed))
-                }
-            },
-            Some(module) => behind_frame(alloc, opened, None, Some(module)),
-        },
-        Some(first) => behind_frame(alloc, opened, Some(first), colon),
+    if left.is_empty() {
+        return match opened {
+            Opened::Group => Ok(Frame::Group),
+            other => {
+                let boxed = Box::new(alloc, other)?;
+                Ok(Frame::First(boxed))
+            }
+        };
     }
-}
-
-/// What was opened behind something.
-fn behind_frame<'a>(
-    alloc: Global,
-    opened: Opened<'a>,
-    relation: Option<Piece>,
-    colon: Option<Piece>,
-) -> Result<Frame<'a>, AllocError>
-    ensures opened { IfOk result (λ frame. opened_of frame ≡ opened.entry) }
-    ensures left { IfOk result (λ frame. left_of frame ≡ record { relation = relation; colon = colon }) }
-{
-    let left = Left { relation, colon };
+    let left = mem::replace(left, Left::none());
     let waiting = Box::new(alloc, Waiting { opened, left })?;
     Ok(Frame::Behind(waiting))
 }
 
-/// What a frame waits with.
-pub(crate) fn parts_of(frame: Frame<'_>) -> (Opened<'_>, Left)
-    ensures opened { result.0 ≡ opened_of frame.entry }
-    ensures left { result.1 ≡ left_of frame.entry }
+/// What was opened in a frame; what stands to its left is put back.
+pub(crate) fn opened_of<'a>(frame: Frame<'a>, left: &mut Left) -> Opened<'a>
+    requires { left.old ≡ no_left }
+    ensures opened { result ≡ opened_of frame.entry }
+    ensures left { left.new ≡ left_of frame.entry }
 {
     match frame {
-        Frame::Group => (Opened::Group, Left::none()),
-        Frame::First(opened) => (Box::into_inner(opened), Left::none()),
+        Frame::Group => Opened::Group,
+        Frame::First(opened) => Box::into_inner(opened),
         Frame::Behind(waiting) => {
-            let Waiting { opened, left } = Box::into_inner(waiting);
-            (opened, left)
+            let Waiting {
+                opened,
+                left: before,
+            } = Box::into_inner(waiting);
+            *left = before;
+            opened
         }
     }
 }

@@ -36,6 +36,7 @@ fn begins_structure_goal(name: &AtomText, count: usize, nodes: &[Node]) -> bool
 {
     count == 2
         && (name.is(&AtomText::of(b"="))
+            || name.is(&AtomText::of(b":="))
             || (name.is(&AtomText::of(b":")) && begins_qualified(nodes)))
 }
 

@@ -1,12 +1,11 @@
-// Which terms are heads and tests.
+// Which terms are heads.
 
 ghost use Rattle.std.specs.Prelude.{◌≡◌};
-ghost use Rattle.kl1_model.specs.Goal.{is_head, is_test};
-ghost use Rattle.kl1_read.specs.Heads.{begins_head, begins_test};
+ghost use Rattle.kl1_model.specs.Goal.{is_head};
+ghost use Rattle.kl1_read.specs.Heads.{begins_head};
 
 use crate::reserved::{may_name_atom, may_name_structure};
 use kl1_term::{Node, Term};
-use kl1_text::AtomText;
 
 /// Whether a term is a head, and so a goal of the module in which it stands. No more than its first node is looked at.
 #[tactic(auto, using(crate::proofs::HeadFronts::head_begins))]
@@ -25,27 +24,6 @@ fn begins_head(nodes: &[Node]) -> bool
         [first, _rest @ ..] => match first {
             Node::Atom(name) => may_name_atom(name),
             Node::Structure(name, count) => may_name_structure(name, *count),
-            _ => false,
-        },
-    }
-}
-
-/// Whether a term is a test. No more than its first node is looked at.
-#[tactic(auto, using(crate::proofs::HeadFronts::test_begins))]
-pub(crate) fn is_test(term: &Term) -> bool
-    ensures { result ≡ is_test term.now }
-{
-    begins_test(term.nodes())
-}
-
-/// Whether the nodes of a term begin as those of a test do.
-fn begins_test(nodes: &[Node]) -> bool
-    ensures { result ≡ begins_test nodes.now }
-{
-    match nodes {
-        [] => false,
-        [first, _rest @ ..] => match first {
-            Node::Atom(name) => name.is(&AtomText::of(b"true")),
             _ => false,
         },
     }

@@ -17,7 +17,6 @@ pub(crate) enum Mark {
     CloseList,
     Bar,
     Colon,
-    Equals,
     Neck,
 }
 
@@ -32,7 +31,6 @@ fn sign_of(mark: Mark) -> Sign
         Mark::CloseList => Sign::CloseList,
         Mark::Bar => Sign::Bar,
         Mark::Colon => Sign::Colon,
-        Mark::Equals => Sign::Equals,
         Mark::Neck => Sign::Neck,
     }
 }

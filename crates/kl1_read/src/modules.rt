@@ -1,7 +1,8 @@
 // Modules.
 
-ghost use Rattle.std.specs.Prelude.{◌≡◌, ◌+◌, ◌^◌, ◌<◌, length, map, IfOk, IfErr, OnOk};
-ghost use Rattle.kl1_model.specs.Module.{good, read_module, clause_of, clauses_from, with_clause};
+ghost use Rattle.std.specs.Prelude.{◌≡◌, ◌+◌, ◌^◌, ◌<◌, ◌≤◌, List, [], length, map, None, Some, IfOk, IfErr, OnOk};
+ghost use Rattle.kl1_model.specs.Module.{Clause, good, read_module, clause_of, clauses_from, clauses_ended, is_otherwise, otherwise_on, with_clause};
+ghost use Rattle.kl1_read.specs.Followings.{last_section, standing_behind};
 ghost use Rattle.kl1_read.specs.Items.{items_left};
 ghost use Rattle.kl1_read.specs.Sources.{IsFaultOf, clause_of_parts, module_of_parts};
 ghost use Rattle.kl1_read.specs.Statements.{given};
@@ -9,7 +10,7 @@ ghost use Rattle.kl1_read.specs.Views.{kept_token};
 
 use crate::clause::read_clause;
 use crate::clause_parts::ClauseParts;
-use crate::following::may_follow;
+use crate::following::section_for;
 use crate::item::{Item, Next, Place, next_item};
 use crate::kept::Kept;
 use crate::module_line::named_module;
@@ -53,18 +54,20 @@ fn put_clauses(
     place: Place<'_>,
     clauses: &mut Vec<ClauseParts>,
 ) -> Result<(), ReadFault>
-    requires { place.line + length place.bytes.now < 2 ^ 64 }
-    ensures clauses { OnOk result (clauses_from name (map clause_of_parts clauses.old.items) (items_left place.entry.line place.entry.bytes.now) ≡ good (map clause_of_parts clauses.new.items)) }
-    ensures fault { IfErr result (IsFaultOf (clauses_from name (map clause_of_parts clauses.old.items) (items_left place.entry.line place.entry.bytes.now))) }
+    requires lines { place.line + length place.bytes.now < 2 ^ 64 }
+    requires none { clauses.old.items ≡ [] }
+    ensures clauses { OnOk result (clauses_from name [] None (items_left place.entry.line place.entry.bytes.now) ≡ good (map clause_of_parts clauses.new.items)) }
+    ensures fault { IfErr result (IsFaultOf (clauses_from name [] None (items_left place.entry.line place.entry.bytes.now))) }
 {
     let mut place = place;
+    let mut pending = None;
     'items: loop {
         match next_item(alloc, place)? {
-            Next::Nothing => return Ok(()),
+            Next::Nothing => return ended(pending),
             Next::Bad(line) => return Err(ReadFault::Bad { line }),
             Next::Whole(item, behind) => {
                 let Item { line, tokens } = item;
-                match put_clause(alloc, name, clauses, tokens) {
+                match put_item(alloc, name, clauses, &mut pending, line, tokens) {
                     Ok(true) => place = behind,
                     Ok(false) => return Err(ReadFault::Bad { line }),
                     Err(_refused) => return Err(ReadFault::Memory),
@@ -74,25 +77,92 @@ fn put_clauses(
     }
 }
 
+/// The end of a module's items: an `otherwise` on this line with no clause behind it is bad.
+fn ended(pending: Option<u64>) -> Result<(), ReadFault>
+    ensures clauses { OnOk result ((before : List Clause) → clauses_ended before pending ≡ good before) }
+    ensures fault { IfErr result (λ e. (before : List Clause) → IsFaultOf (clauses_ended before pending) e) }
+{
+    match pending {
+        None => Ok(()),
+        Some(line) => Err(ReadFault::Bad { line }),
+    }
+}
+
+/// Puts what an item means behind the clauses and the line of an `otherwise` directly behind them, where it may follow them in a
+/// module of this name. Answers whether it may.
+fn put_item(
+    alloc: Global,
+    name: AtomText,
+    clauses: &mut Vec<ClauseParts>,
+    pending: &mut Option<u64>,
+    line: u64,
+    tokens: Vec<Kept>,
+) -> Result<bool, AllocError>
+    requires few { last_section clauses.old.items ≤ length clauses.old.items }
+    ensures standing { IfOk result (λ put. given put (map clause_of_parts clauses.new.items, pending.new) ≡ standing_behind name (map clause_of_parts clauses.old.items, pending.old) line (map kept_token tokens.items)) }
+    ensures few { OnOk result (last_section clauses.new.items ≤ length clauses.new.items) }
+{
+    if is_otherwise(tokens.as_slice()) {
+        *pending = otherwise_on(line, clauses.as_slice(), *pending);
+        return Ok(pending.is_some());
+    }
+    let behind = pending.is_some();
+    *pending = None;
+    put_clause(alloc, name, clauses, behind, tokens)
+}
+
+/// Whether the tokens of an item are `otherwise`.
+fn is_otherwise(tokens: &[Kept]) -> bool
+    ensures { result ≡ is_otherwise (Some (map kept_token tokens.now)) }
+{
+    match tokens {
+        [Kept::Name(_quotes, _applied, word)] => word.name().is(&AtomText::of(b"otherwise")),
+        _ => false,
+    }
+}
+
+/// The line of an `otherwise` on this line, where it stands directly behind a clause, and not behind another `otherwise`.
+fn otherwise_on(line: u64, before: &[ClauseParts], pending: Option<u64>) -> Option<u64>
+    ensures { result ≡ otherwise_on line (map clause_of_parts before.now) pending }
+{
+    match before {
+        [] => None,
+        [_first, _others @ ..] => match pending {
+            None => Some(line),
+            Some(_line) => None,
+        },
+    }
+}
+
 /// Puts the clause that the tokens of an item are behind the others, where they are one that may follow them in a module of
-/// this name. Answers whether it did.
+/// this name, directly behind an `otherwise` or not. Answers whether it did.
 fn put_clause(
     alloc: Global,
     name: AtomText,
     clauses: &mut Vec<ClauseParts>,
+    behind: bool,
     tokens: Vec<Kept>,
 ) -> Result<bool, AllocError>
-    ensures { IfOk result (λ put. given put (map clause_of_parts clauses.new.items) ≡ with_clause (map clause_of_parts clauses.old.items) (clause_of name (map kept_token tokens.items))) }
+    requires few { last_section clauses.old.items ≤ length clauses.old.items }
+    ensures clauses { IfOk result (λ put. given put (map clause_of_parts clauses.new.items) ≡ with_clause (map clause_of_parts clauses.old.items) behind (clause_of name (map kept_token tokens.items))) }
+    ensures few { OnOk result (last_section clauses.new.items ≤ length clauses.new.items) }
 {
     let mut clause = ClauseParts {
         name,
         patterns: Vec::new(alloc),
         tests: Vec::new(alloc),
+        section: 0,
         body: Vec::new(alloc),
     };
-    if !read_clause(alloc, name, tokens, &mut clause)? || !may_follow(clauses.as_slice(), &clause) {
+    if !read_clause(alloc, name, tokens, &mut clause)? {
         return Ok(false);
     }
-    clauses.push(clause)?;
-    Ok(true)
+    match section_for(clauses.as_slice(), behind, &clause) {
+        None => Ok(false),
+        Some(section) => {
+            clause.section = section;
+            clauses.push(clause)?;
+            Ok(true)
+        }
+    }
 }

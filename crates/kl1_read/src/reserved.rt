@@ -1,8 +1,8 @@
 // Names that no head has.
 
 ghost use Rattle.std.specs.Prelude.{◌≡◌};
-ghost use Rattle.kl1_model.specs.Goal.{is_reserved, reserved_names};
-ghost use Rattle.kl1_read.specs.Heads.{may_name_atom, may_name_structure};
+ghost use Rattle.kl1_model.specs.Goal.{is_reserved};
+ghost use Rattle.kl1_read.specs.Heads.{is_named, may_name_atom, may_name_structure};
 
 use kl1_model::BuiltIn;
 use kl1_text::AtomText;
@@ -32,8 +32,15 @@ const RESERVED: [BuiltIn; 17] = [
 fn is_reserved(name: &AtomText) -> bool
     ensures { result ≡ is_reserved name.now }
 {
-    for reserved in RESERVED.iter() {
-        if name.is(&AtomText::of_built_in(*reserved)) {
+    is_named(name, RESERVED.as_slice())
+}
+
+/// Whether a name is one of these.
+pub(crate) fn is_named(name: &AtomText, names: &[BuiltIn]) -> bool
+    ensures { result ≡ is_named name.now names.now }
+{
+    for built_in in names {
+        if name.is(&AtomText::of_built_in(*built_in)) {
             return true;
         }
     }

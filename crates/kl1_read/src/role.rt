@@ -1,11 +1,8 @@
 // Where a term stands in a clause.
 
-use kl1_text::AtomText;
-
-/// Where a term stands in a clause: in its head, its guard, or its body in a module of this name.
+/// Where a term stands in a clause: in its head, or in its guard behind a head whose variables have numbers up to this.
 #[derive(Clone, Copy)]
 pub(crate) enum Role {
     Pattern,
-    Test,
-    Goal(AtomText),
+    Test(u64),
 }

@@ -21,13 +21,13 @@ pub(crate) fn read_series<'a>(
 {
     let mut frames = Vec::new(alloc);
     let mut done = Vec::new(alloc);
+    let mut left = Left::none();
     let mut state = State {
-        left: Left::none(),
         read: None,
         rest: tokens,
     };
     'tokens: loop {
-        match one_step(alloc, &mut frames, &mut done, state)? {
+        match one_step(alloc, &mut frames, &mut done, &mut left, state)? {
             Step::Bad => return Ok(None),
             Step::On(next) => state = next,
             Step::Finished(rest) => return Ok(Some((done, rest))),

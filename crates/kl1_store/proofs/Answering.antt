@@ -1,10 +1,16 @@
 -- From what was compared to the answer of passive equality.
-use Rattle.std.proofs.Common.{◌≡◌, ℕ, zero, suc, true, List, [], ◌∷◌, length, get_or, ◌<◌, ◌⊎◌, inl, inr, refl, arith, subst}
+use Rattle.std.proofs.Common.{◌≡◌, ℕ, zero, suc, true, List, [], ◌∷◌, ◌++◌, length, get_or, ◌<◌, ◌⊎◌, inl, inr, refl, sym, arith, subst}
 use Rattle.std.specs.Prelude.{Contains, ◌↔◌}
-use Rattle.kl1_model.specs.Same.{some_clash, awaited_by, passive_each, same, differs, unknown}
+use Rattle.kl1_model.specs.declared.built_in.BuiltIn.{BuiltIn}
+use Rattle.kl1_model.specs.Same.{awaited, some_clash, awaited_by, passive_each, same, differs, unknown}
 use Rattle.kl1_model.proofs.SameEach.{each_is_same, each_differs, each_is_unknown}
+use Rattle.kl1_text.specs.Reading.{Reads}
 use Rattle.kl1_store.specs.declared.cell.Cell.{Cell}
 use Rattle.kl1_store.specs.Held.{Held}
+use Rattle.kl1_store.specs.Meaning.{term_of}
+use Rattle.kl1_store.specs.Unbound.{AreUnbound}
+use Rattle.kl1_store.specs.Compares.{Compared}
+use Rattle.kl1_store.specs.Sameness.{AreAlike}
 use Rattle.kl1_store.specs.Done.{IsOf}
 use Rattle.kl1_store.specs.ComparesEach.{term_list, ComparedEach}
 
@@ -47,3 +53,26 @@ answers_wait {N = N} f h xs start longer s lt c = (
     waits : (ws : List ℕ) → awaited_by (term_list f h xs) ≡ ws → (v : ℕ) × IsOf v (awaited_by (term_list f h xs)) → passive_each (term_list f h xs) ≡ unknown
     waits [] a m = let E : List ℕ → Type 0 = λ k. IsOf m.0 k in absurd (subst E a m.1)
     waits (w ∷ ws) a m = each_is_unknown (term_list f h xs) w ws c.clash a
+
+-- ---- two cells
+
+same_members : (start longer ws : List ℕ) → start ≡ [] → ((v : ℕ) → IsOf v longer ↔ (IsOf v start ⊎ IsOf v ws)) → (v : ℕ) → Contains longer v ↔ Contains ws v
+same_members start longer ws s each v =
+    (λ p. contains_of v ws (forth ((each v).0 (of_at v longer p.0 p.1 p.2))), λ p. contains_of v longer ((each v).1 (inr (of_at v ws p.0 p.1 p.2))))
+  where
+    forth : IsOf v start ⊎ IsOf v ws → IsOf v ws
+    forth (inl a) = let E : List ℕ → Type 0 = λ k. IsOf v k in absurd (subst E s a)
+    forth (inr a) = a
+
+-- two cells that were compared, beginning with no variables, where those that were found are put behind others
+pub alike_from : {N : Type 0} (built : BuiltIn → N) (h : Held N) (x y : Cell N) (start longer before after : List ℕ) → start ≡ [] → after ≡ before ++ longer → (AreUnbound h start → AreUnbound h longer) →
+    ((f : N → List ℕ) → Reads built f → Compared f h x y start longer) → AreAlike built h x y before after
+alike_from {N = N} built h x y start longer before after s added unbound compared =
+    let U : List ℕ → Type 0 = λ l. AreUnbound h l in
+    record {
+      named = longer;
+      added = added;
+      unbound = unbound (subst U (sym s) tt);
+      clash = λ f reads. (compared f reads).clash;
+      awaited = λ f reads. same_members start longer (awaited (term_of f h x) (term_of f h y)) s (compared f reads).awaited;
+    }

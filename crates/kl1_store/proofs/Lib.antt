@@ -21,6 +21,7 @@ pub mod Nesting
 pub mod Equalling
 pub mod Chaining
 pub mod Telling
+pub mod Unbinding
 pub mod Later
 pub mod Freeing
 pub mod Tops

@@ -25,3 +25,4 @@ pub mod Done
 pub mod Later
 pub mod Tops
 pub mod Places
+pub mod Unbound

@@ -1,11 +1,12 @@
 // Two cells side by side, without binding anything.
 
-ghost use Rattle.std.specs.Prelude.{◌≡◌, ℕ, true, List, [], ◌∷◌, ◌++◌, IfOk, IsTrue};
+ghost use Rattle.std.specs.Prelude.{◌≡◌, ℕ, true, List, [], ◌∷◌, ◌++◌, IfOk, OnOk, IsTrue};
 ghost use Rattle.kl1_store.specs.Done.{IsKnown};
 ghost use Rattle.kl1_store.specs.Held.{Held, IsIn, IsWalked};
 ghost use Rattle.kl1_store.specs.Sound.{IsFormed};
 ghost use Rattle.kl1_store.specs.Waiting.{ArePairs};
 ghost use Rattle.kl1_store.specs.Compares.{ComparesAs, ComparedAs};
+ghost use Rattle.kl1_store.specs.Unbound.{AreUnbound};
 
 use crate::advance::turn;
 use crate::cell::Cell;
@@ -15,7 +16,7 @@ use crate::meeting::Meeting;
 use crate::meets::meet;
 use crate::sides::Sides;
 use kl1_text::NameValue;
-use std::alloc::AllocError;
+use std::alloc::{AllocError, Global};
 use std::collections::HashSet;
 
 /// Puts a variable on the list of those that are waited for, and says yes.
@@ -40,7 +41,8 @@ fn compare_sides<N: NameValue>(
     requires left_walked { IsWalked cells.now.held left }
     requires right_walked { IsWalked cells.now.held right }
     requires pairs { ArePairs cells.now.held frames.old.items }
-    ensures { IfOk result (ComparesAs N.built cells.now.held left right frames.old.items frames.new.items waits.old.items waits.new.items) }
+    ensures compares { IfOk result (ComparesAs N.built cells.now.held left right frames.old.items frames.new.items waits.old.items waits.new.items) }
+    ensures unbound { OnOk result (AreUnbound cells.now.held waits.old.items → AreUnbound cells.now.held waits.new.items) }
 {
     if let Some(variable) = left.variable() {
         match right.variable() {
@@ -80,23 +82,24 @@ fn is_known<N: Copy>(pairs: &HashSet<[u32; 2]>, left: Cell<N>, right: Cell<N>) -
     false
 }
 
-/// Compares two cells: false where they clash; `waits` gets the variables for which they wait, `frames` and `pairs`, the
-/// structures by number that were compared, are scratch.
+/// Compares two cells: false where they clash; `waits` gets the variables for which they wait, and `frames` is scratch.
 pub fn compare<N: NameValue>(
     cells: &Cells<N>,
     frames: &mut Vec<Frame>,
-    pairs: &mut HashSet<[u32; 2]>,
+    alloc: Global,
     waits: &mut Vec<u32>,
     left: Cell<N>,
     right: Cell<N>,
 ) -> Result<bool, AllocError>
     requires left_in { IsIn cells.now.held left }
     requires right_in { IsIn cells.now.held right }
-    ensures { IfOk result (ComparedAs N.built cells.now.held left right waits.old.items waits.new.items) }
+    ensures compared { IfOk result (ComparedAs N.built cells.now.held left right waits.old.items waits.new.items) }
+    ensures unbound { OnOk result (AreUnbound cells.now.held waits.old.items → AreUnbound cells.now.held waits.new.items) }
 {
     let _ = cells.mark();
     frames.clear();
-    pairs.clear();
+    // The structures, by number, that were compared. To empty a set that was large would cost what it once held.
+    let mut pairs = HashSet::new(alloc);
     let first = cells.walk(left);
     let second = cells.walk(right);
     if !compare_sides(cells, frames, waits, first, second)? {
@@ -109,7 +112,7 @@ pub fn compare<N: NameValue>(
         }
         let Sides { left, right } = turn(cells, frame);
         frames.push(frame.onward())?;
-        if is_known(pairs, left, right) {
+        if is_known(&pairs, left, right) {
             continue;
         }
         if !compare_sides(cells, frames, waits, left, right)? {

@@ -4,13 +4,11 @@ use crate::frame::Frame;
 use crate::merges::Merges;
 use crate::task::Task;
 use kl1_text::NameValue;
-use std::collections::HashSet;
 
 /// Lists that each call empties before it uses them.
 #[derive(Drop)]
 pub struct Scratch<N: NameValue> {
     pub frames: Vec<Frame>,
     pub merges: Merges,
-    pub pairs: HashSet<[u32; 2]>,
     pub tasks: Vec<Task<N>>,
 }

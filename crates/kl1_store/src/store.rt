@@ -8,12 +8,13 @@ ghost use Rattle.kl1_store.specs.Sound.{IsFormed};
 ghost use Rattle.kl1_store.specs.Places.{all_arguments, StandFrom};
 ghost use Rattle.kl1_store.specs.Unifies.{OnlyBound};
 ghost use Rattle.kl1_store.specs.Unification.{SettlesTo};
-ghost use Rattle.kl1_store.specs.Sameness.{SameAs};
+ghost use Rattle.kl1_store.specs.Sameness.{SameAs, NamesUnbound, AlikeAs};
 ghost use Rattle.kl1_store.specs.Hooks.{Kept, hanging_on, told_by, point_of, HasGrown};
 ghost use Rattle.kl1_store.specs.Tops.{firsts, others};
 
 use crate::cell::Cell;
 use crate::cells::Cells;
+use crate::compare::compare;
 use crate::compare_each::compare_each;
 use crate::head::Head;
 use crate::hooks::Hooks;
@@ -21,6 +22,7 @@ use crate::levels::Levels;
 use crate::merges::Merges;
 use crate::point::Point;
 use crate::same::Same;
+use crate::same_scratch::SameScratch;
 use crate::scratch::Scratch;
 use crate::settle::unify_cells;
 use crate::take_back::take_back;
@@ -28,7 +30,6 @@ use crate::tell::tell_all;
 use crate::unified::Unified;
 use kl1_text::NameValue;
 use std::alloc::{AllocError, Global};
-use std::collections::HashSet;
 use std::marker::Model;
 
 /// Terms as cells that share parts: variables and structures by number, each variable bound at most once.
@@ -71,7 +72,6 @@ impl<N: NameValue> Store<N> {
             scratch: Scratch {
                 frames: Vec::new(alloc),
                 merges: Merges::new(alloc),
-                pairs: HashSet::new(alloc),
                 tasks: Vec::new(alloc),
             },
             hooks: Hooks::new(alloc),
@@ -229,6 +229,7 @@ impl<N: NameValue> Store<N> {
     pub fn same(&mut self, terms: &[Cell<N>]) -> Result<Same, AllocError>
         requires { AreIn self.old.held terms.now }
         ensures ok { IfOk result (SameAs N.built self.old.held terms.now) }
+        ensures unbound { IfOk result (NamesUnbound self.old.held) }
         ensures same { self.new.held ≡ self.old.held }
         ensures room { self.new.room ≡ self.old.room }
         ensures hooks { self.new.hooks ≡ self.old.hooks }
@@ -238,7 +239,7 @@ impl<N: NameValue> Store<N> {
         if !compare_each(
             &self.cells,
             &mut self.scratch.frames,
-            &mut self.scratch.pairs,
+            self.alloc,
             &mut waits,
             terms,
         )? {
@@ -248,6 +249,34 @@ impl<N: NameValue> Store<N> {
             return Ok(Same::Yes);
         }
         Ok(Same::Wait(waits))
+    }
+
+    /// Whether two cells may mean the same term: false where they clash. Else `waits` gets the variables that this waits for behind
+    /// its own, and none where they mean the same term already.
+    pub fn may_be_same(
+        &self,
+        left: Cell<N>,
+        right: Cell<N>,
+        scratch: &mut SameScratch,
+        waits: &mut Vec<u32>,
+    ) -> Result<bool, AllocError>
+        requires left_in { IsIn self.now.held left }
+        requires right_in { IsIn self.now.held right }
+        ensures { IfOk result (AlikeAs N.built self.now.held left right waits.old.items waits.new.items) }
+    {
+        scratch.waits.clear();
+        if !compare(
+            &self.cells,
+            &mut scratch.frames,
+            self.alloc,
+            &mut scratch.waits,
+            left,
+            right,
+        )? {
+            return Ok(false);
+        }
+        waits.extend_from_slice(scratch.waits.as_slice())?;
+        Ok(true)
     }
 
     /// Makes room for so many more variables, structures, arguments and bindings: these can't be refused then.

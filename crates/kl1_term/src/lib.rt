@@ -18,3 +18,4 @@ pub use node::Node;
 pub use print::{print_cut, print_whole, put_whole};
 pub use printer::Printer;
 pub use term::Term;
+pub use variables::highest_among;

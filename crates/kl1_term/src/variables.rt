@@ -1,7 +1,8 @@
 // The variables of terms.
 
 ghost use Rattle.std.specs.Prelude.{◌≡◌, map};
-ghost use Rattle.kl1_model.specs.Meaning.{highest, is_numbered, numbered_after};
+ghost use Rattle.kl1_model.specs.Term.{terms_of};
+ghost use Rattle.kl1_model.specs.Meaning.{highest, highest_in as highest_of_all, is_numbered, numbered_after};
 ghost use Rattle.kl1_term.specs.Nodes.{code_of};
 ghost use Rattle.kl1_term.specs.Variables.{highest_in, variables_in};
 
@@ -24,6 +25,17 @@ impl Term {
     {
         are_numbered(self.nodes())
     }
+}
+
+/// The greatest number of a variable in terms, 0 where they have none.
+pub fn highest_among(terms: &[Term]) -> u64
+    ensures { result ≡ highest_of_all (terms_of terms.now) }
+{
+    let mut most = 0;
+    for term in terms {
+        most = most.max(term.highest());
+    }
+    most
 }
 
 /// The greatest number of a variable among nodes, 0 where there is none.

@@ -63,11 +63,15 @@ fn put_compiled(answer: &mut Text, code: &Code, source: &[u8]) {
     }
 }
 
-/// Puts a clause: in angle brackets its predicate, the numbers of the variables of its head and of its others, and its
-/// patterns, tests and goals, with `?` between them.
+/// Puts a clause: in angle brackets its predicate, with `+` and the number of its section where that isn't 0, the numbers of
+/// the variables of its head and of its others, and its patterns, tests and goals, with `?` between them.
 fn put_clause(answer: &mut Text, clause: &CompiledClause) {
     answer.put(b" <");
     put_structure(answer, clause.name, clause.count as u64);
+    if clause.section > 0 {
+        answer.put(b"+");
+        answer.put_number(clause.section);
+    }
     answer.put(b" ");
     answer.put_number(clause.head_variables);
     answer.put(b"+");

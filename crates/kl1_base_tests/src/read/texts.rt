@@ -2,7 +2,7 @@
 
 use crate::read::answer::{put_atom, put_term};
 use crate::read::kind::Kind;
-use kl1_read::{ClauseParts, ReadFault, Source, read_goal, read_module};
+use kl1_read::{ClauseParts, GoalParts, ReadFault, Source, read_goal, read_module};
 use kl1_rows::Text;
 use kl1_term::Term;
 
@@ -62,7 +62,7 @@ fn put_source(answer: &mut Text, module: &Source) {
     }
 }
 
-/// Puts a clause: its head, `:-`, its tests, `|` and its goals.
+/// Puts a clause: its head, `+` and the number of its section where that isn't 0, `:-`, its tests, `|` and its goals.
 fn put_clause(answer: &mut Text, clause: &ClauseParts) {
     put_atom(answer, &clause.name);
     if !clause.patterns.is_empty() {
@@ -70,10 +70,30 @@ fn put_clause(answer: &mut Text, clause: &ClauseParts) {
         put_terms(answer, clause.patterns.as_slice());
         answer.put(b")");
     }
+    if clause.section > 0 {
+        answer.put(b"+");
+        answer.put_number(clause.section);
+    }
     answer.put(b":-");
     put_terms(answer, clause.tests.as_slice());
     answer.put(b"|");
-    put_terms(answer, clause.body.as_slice());
+    put_goals(answer, clause.body.as_slice());
+}
+
+/// Puts the prints of goals, with commas between them, each with `@` and its priority where it names one.
+fn put_goals(answer: &mut Text, goals: &[GoalParts]) {
+    let mut is_first = true;
+    for goal in goals {
+        if !is_first {
+            answer.put(b",");
+        }
+        is_first = false;
+        put_term(answer, &goal.goal);
+        if let Some(priority) = goal.priority {
+            answer.put(b"@");
+            answer.put_number(priority);
+        }
+    }
 }
 
 /// Puts the prints of terms, with commas between them.

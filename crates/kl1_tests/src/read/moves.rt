@@ -10,11 +10,12 @@ use crate::read::heads::{behind_colon, cell_of, put_numbers};
 use crate::read::printed_cells::{push_arguments, put_cells};
 use crate::rows::Text;
 use kl1_clause::{Code, Predicate};
+use kl1_model::BuiltIn;
 use kl1_moves::{Kind, Move, Trial, commit, kind_of, move_of, or_none, standing_of};
 use kl1_read::read_goal;
 use kl1_store::{Cell, Store};
 use kl1_term::Term;
-use kl1_text::{AtomText, NameValue};
+use kl1_text::{AtomText, NameValue, put_atom};
 use std::alloc::AllocError;
 
 /// Puts what each argument of the goal behind the colon of a goal can do, as a goal, in a new store.
@@ -64,6 +65,7 @@ fn put_kind(answer: &mut Text, kind: &Kind<AtomText>) {
     let word: &[u8] = match kind {
         Kind::Calls(_) => b" call",
         Kind::Unifies(_, _) => b" unification",
+        Kind::Assigns(_, _) => b" assignment",
         Kind::Goes => b" true",
         Kind::Waits(_) => b" unbound",
         Kind::Nothing => b" none",
@@ -133,8 +135,15 @@ fn put_of_kind(
     }
 }
 
+/// Puts the kind of an exception that a goal raises.
+fn put_raised(answer: &mut Text, kind: BuiltIn) -> Result<(), AllocError> {
+    answer.put(b" raises ");
+    let name: AtomText = NameValue::of(kind);
+    put_atom(&mut answer.bytes, &name)
+}
+
 /// Puts what a goal of a kind does by the clause of a number: the clause and the goals of its body, or the terms that it
-/// unifies, or a word.
+/// unifies, or the kind of the exception that it raises, or a word.
 fn put_done(
     answer: &mut Text,
     store: &mut Store<AtomText>,
@@ -148,7 +157,7 @@ fn put_done(
 {
     match move_of(store, kind, predicate, clause, trial)? {
         None => answer.fail(),
-        Some(Move::Fails) => answer.put(b" fails"),
+        Some(Move::Raises(kind)) => put_raised(answer, kind)?,
         Some(Move::Goes) => answer.put(b" goes"),
         Some(Move::Unifies(left, right)) => put_cells(answer, store, &[left, right])?,
         Some(Move::Commits(place)) => {

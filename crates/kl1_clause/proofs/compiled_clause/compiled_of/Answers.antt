@@ -1,18 +1,19 @@
-use Rattle.std.proofs.Common.{◌≡◌, ◌-◌, ap, sym, ◌∙◌}
+use Rattle.std.proofs.Common.{◌≡◌, ◌-◌, map, refl, ap, sym, ◌∙◌}
 use Rattle.kl1_model.specs.Term.{terms_of}
 use Rattle.kl1_model.specs.Meaning.{highest_in}
+use Rattle.kl1_model.specs.Module.{goals_of}
 use Rattle.kl1_term.proofs.Rows.{count_of-terms_of}
-use Rattle.kl1_read.specs.Sources.{clause_of_parts}
+use Rattle.kl1_read.specs.Sources.{clause_of_parts, goal_of_parts}
 use Rattle.kl1_clause.proofs.ClauseFacts.{made}
 use Rattle.kl1_clause.proofs.compiled_clause.compiled_of.Goals as goal
 
 pub returns : goal.returns
 returns c =
     let p = c.args.parts.now in
-    let head : c.highest_among-head_variables.result ≡ highest_in (terms_of p.patterns.items) = c.highest_among-head_variables.ensures ∙ ap (λ x. highest_in (terms_of x)) c.deref-4.ensures.value in
-    let fresh : c.fresh_among-fresh_variables.result ≡ highest_in (terms_of p.body.items) - highest_in (terms_of p.patterns.items) = c.fresh_among-fresh_variables.ensures ∙ (ap (λ x. highest_in (terms_of x) - c.highest_among-head_variables.result) c.deref-5.ensures.value ∙ ap (λ n. highest_in (terms_of p.body.items) - n) head) in
-    let all = made c.args.names.now c.placed.new.self c.row_of.new.names c.row_of-2.new.names c.row_of-3.new.names
-    (record { name = c.in_ok-name.name; count = c.len-count.result; patterns = c.in_ok-patterns.patterns; tests = c.in_ok-tests.tests; goals = c.in_ok-goals.goals; head_variables = c.highest_among-head_variables.result; fresh_variables = c.fresh_among-fresh_variables.result })
+    let head : c.highest_among-head_variables.result ≡ highest_in (terms_of p.patterns.items) = c.highest_among-head_variables.ensures ∙ ap (λ x. highest_in (terms_of x)) c.deref-5.ensures.value in
+    let fresh : c.fresh_among-fresh_variables.result ≡ highest_in (terms_of (goals_of (map goal_of_parts p.body.items))) - highest_in (terms_of p.patterns.items) = c.fresh_among-fresh_variables.ensures ∙ (ap (λ x. highest_in (terms_of (goals_of (map goal_of_parts x))) - c.highest_among-head_variables.result) c.deref-6.ensures.value ∙ ap (λ n. highest_in (terms_of (goals_of (map goal_of_parts p.body.items))) - n) head) in
+    let all = made c.args.names.now c.placed.new.self c.row_of.new.names c.row_of-2.new.names c.goal_row.new.names
+    (record { name = c.in_ok-name.name; count = c.len-count.result; section = p.section; patterns = c.in_ok-patterns.patterns; tests = c.in_ok-tests.tests; goals = c.in_ok-goals.goals; priorities = c.in_ok-priorities.priorities; head_variables = c.highest_among-head_variables.result; fresh_variables = c.fresh_among-fresh_variables.result; is_plain = c.is_plain-is_plain.result })
     (clause_of_parts p)
     (record {
       parted = record {
@@ -25,9 +26,13 @@ returns c =
       name = c.in_ok-name.ensures.text;
       patterns = rw c.deref.ensures.value at c.in_ok-patterns.ensures.row;
       tests = rw c.deref-2.ensures.value at c.in_ok-tests.ensures.row;
+      section = refl;
       goals = rw c.deref-3.ensures.value at c.in_ok-goals.ensures.row;
+      priorities = rw c.deref-4.ensures.value at c.in_ok-priorities.ensures;
       count = c.len-count.ensures ∙ (p.patterns.ok.0 ∙ sym (count_of-terms_of p.patterns.items));
       head_variables = head;
       fresh_variables = fresh;
+      plain = rw c.as_slice.ensures.value at (rw c.as_slice-2.ensures.value at c.is_plain-is_plain.ensures);
+      guarded = c.requires;
     }) in
     record { names = all.0; clause = all.1 }

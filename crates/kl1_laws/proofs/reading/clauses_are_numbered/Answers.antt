@@ -1,5 +1,5 @@
 -- Clauses that were read, by the lemma on modules.
-use Rattle.kl1_laws.proofs.ReadClauses.{clauses_are_numbered}
+use Rattle.kl1_model.proofs.ReadClauses.{clauses_are_numbered}
 use Rattle.kl1_laws.proofs.reading.clauses_are_numbered.Goals as goal
 
 pub returns : goal.returns

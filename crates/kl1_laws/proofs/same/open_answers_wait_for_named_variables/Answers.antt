@@ -1,4 +1,4 @@
-use Rattle.kl1_laws.proofs.SameStays.{same_stays, differs_stays, unknown_waits, unknown_stays, each_same_stays, each_differs_stays, each_unknown_waits, each_unknown_stays}
+use Rattle.kl1_model.proofs.SameStays.{same_stays, differs_stays, unknown_waits, unknown_stays, each_same_stays, each_differs_stays, each_unknown_waits, each_unknown_stays}
 use Rattle.kl1_laws.proofs.same.open_answers_wait_for_named_variables.Goals as goal
 
 pub returns : goal.returns

@@ -1,6 +1,5 @@
-use Rattle.std.proofs.Common.{◌≡◌, ◌+◌, ap, sym, ◌∙◌, length, take, drop, arith}
+use Rattle.std.proofs.Common.{ap, sym, ◌∙◌, take, drop}
 use Rattle.std.proofs.lemmas.List.{drop-take}
-use Rattle.kl1_store.specs.Held.{arguments_of}
 use Rattle.kl1_store.specs.Places.{all_arguments}
 use Rattle.kl1_match.proofs.arguments.span_in.Goals as goal
 

@@ -1,4 +1,4 @@
-use Rattle.std.proofs.Common.{refl, arith}
+use Rattle.std.proofs.Common.{refl}
 use Rattle.kl1_match.proofs.Cells.{taken_next}
 use Rattle.kl1_match.proofs.arguments.take_cell.Goals as goal
 

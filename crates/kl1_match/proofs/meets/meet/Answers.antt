@@ -85,7 +85,7 @@ returns-in-Atom-clause-meets g c =
       rest = rest;
       cells_are = first_left h c.args.span.now after behind x c.take_cell-cell-in-Atom.ensures.cells;
       kept = λ k. refl;
-      meets = λ ps there. atom_meets g.N.NameValue.built h c.args.names.now c.in-Atom.name c.name_at-name.result x c.walk-in-Atom.result rest ps c.meet_atom.result there c.name_at-name.ensures c.walk-in-Atom.ensures.means c.meet_atom.ensures.meets;
+      meets = λ ps there. atom_meets g.N.NameValue.built h c.args.names.now c.in-Atom.name c.name_at-name.result x c.walk-in-Atom.result rest ps c.meet_atom.result there c.name_at-name.ensures.reads c.walk-in-Atom.ensures.means c.meet_atom.ensures.meets;
     })
 
 pub returns-in-Structure-clause-meets : goal.returns-in-Structure-clause-meets
@@ -104,7 +104,7 @@ returns-in-Structure-clause-meets g c =
       cells_are = first_left h c.args.span.now after behind x c.take_cell-cell-in-Structure.ensures.cells;
       kept = λ k. refl;
       meets = λ ps there. structure_meets g.N.NameValue.built h c.args.names.now c.in-Structure.name c.in-Structure.count c.name_at-name-in-Structure.result x c.walk-in-Structure.result rest now ps c.meet_structure.result
-          there c.name_at-name-in-Structure.ensures c.walk-in-Structure.ensures.means c.meet_structure.ensures.meets;
+          there c.name_at-name-in-Structure.ensures.reads c.walk-in-Structure.ensures.means c.meet_structure.ensures.meets;
     })
 
 pub returns-in-Integer-clause-unbound : goal.returns-in-Integer-clause-unbound

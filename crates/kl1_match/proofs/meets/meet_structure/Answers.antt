@@ -1,4 +1,4 @@
-use Rattle.std.proofs.Common.{ℕ, List, ap, sym, refl, subst, ◌∙◌}
+use Rattle.std.proofs.Common.{List, ap, sym, refl, subst, ◌∙◌}
 use Rattle.std.proofs.lemmas.Bool.{false≢true}
 use Rattle.kl1_model.specs.Term.{structure}
 use Rattle.kl1_model.specs.Match.{match_term}

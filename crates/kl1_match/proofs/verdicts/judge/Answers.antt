@@ -1,20 +1,13 @@
-use Rattle.std.proofs.Common.{arith, subst}
-use Rattle.kl1_match.specs.declared.verdict.Verdict.{Verdict}
-use Rattle.kl1_match.proofs.Trying.{keeps_of, TriedKept, accepts_kept, suspends_kept, dropped_kept}
+use Rattle.std.proofs.lemmas.Result.{IfOk-weaker}
+use Rattle.kl1_match.specs.Verdicts.{IsVerdict}
+use Rattle.kl1_match.proofs.Trying.{keeps_of, GivenKept, kept_anyway}
 use Rattle.kl1_match.proofs.verdicts.judge.Goals as goal
 
-pub returns-in-Accepts : goal.returns-in-Accepts
-returns-in-Accepts g c =
-    let Q : Verdict → Type 0 = λ v. TriedKept g.N.NameValue.built c.args.names.now c.args.clause.now c.args.store.now.held c.args.goal (keeps_of g.row.KEEP) c.find_verdict.new.places.items c.args.awaited.now.items c.find_verdict.new.awaited.items v in
-    accepts_kept g.N.NameValue.built c.args.names.now c.args.clause.now c.args.store.now.held c.args.goal (keeps_of g.row.KEEP) c.find_verdict.new.places.items c.args.awaited.now.items c.find_verdict.new.awaited.items (subst Q c.in-Accepts.is c.in_ok-find_verdict.ensures)
+pub judge_plain-requires-clause-plain : goal.judge_plain-requires-clause-plain
+judge_plain-requires-clause-plain g c = c.requires.clause.is.plain c.if-clause.true
 
-pub returns-in-Suspends : goal.returns-in-Suspends
-returns-in-Suspends g c =
-    let Q : Verdict → Type 0 = λ v. TriedKept g.N.NameValue.built c.args.names.now c.args.clause.now c.args.store.now.held c.args.goal (keeps_of g.row.KEEP) c.find_verdict.new.places.items c.args.awaited.now.items c.find_verdict.new.awaited.items v in
-    suspends_kept g.N.NameValue.built c.args.names.now c.args.clause.now c.args.store.now.held c.args.goal (keeps_of g.row.KEEP) c.find_verdict.new.places.items c.args.awaited.now.items c.find_verdict.new.awaited.items (subst Q c.in-Suspends.is c.in_ok-find_verdict.ensures)
-
-pub returns-in-Rejects : goal.returns-in-Rejects
-returns-in-Rejects g c =
-    let Q : Verdict → Type 0 = λ v. TriedKept g.N.NameValue.built c.args.names.now c.args.clause.now c.args.store.now.held c.args.goal (keeps_of g.row.KEEP) c.find_verdict.new.places.items c.args.awaited.now.items c.find_verdict.new.awaited.items v in
-    dropped_kept g.N.NameValue.built c.args.names.now c.args.clause.now c.args.store.now.held c.args.goal (keeps_of g.row.KEEP) c.find_verdict.new.places.items c.args.awaited.now.items c.find_verdict.new.awaited.items c.truncate.new.self.items c.len-before.result
-    (omega (arith, c.len-before.ensures, c.args.awaited.now.ok.0)) c.truncate.ensures.items (subst Q c.in-Rejects.is c.in_ok-find_verdict.ensures)
+pub returns : goal.returns
+returns g c =
+    IfOk-weaker c.judge_whole.result (IsVerdict g.N.NameValue.built c.args.names.now c.args.clause.now c.args.store.now.held c.args.goal c.judge_whole.new.places.items c.args.awaited.now.items c.judge_whole.new.awaited.items)
+    (GivenKept g.N.NameValue.built c.args.names.now c.args.clause.now c.args.store.now.held c.args.goal (keeps_of g.row.KEEP) c.judge_whole.new.places.items c.args.awaited.now.items c.judge_whole.new.awaited.items)
+    (λ v k. kept_anyway (keeps_of g.row.KEEP) c.judge_whole.new.places.items (λ ps. IsVerdict g.N.NameValue.built c.args.names.now c.args.clause.now c.args.store.now.held c.args.goal ps c.args.awaited.now.items c.judge_whole.new.awaited.items v) k) c.judge_whole.ensures

@@ -1,5 +1,5 @@
 use Rattle.std.proofs.lemmas.Result.{IfOk-weaker}
-use Rattle.kl1_moves.proofs.Taking.{call_fails_as, call_commits_as}
+use Rattle.kl1_moves.proofs.Taking.{call_fails_as, call_commits_as, goal_assigns_as}
 use Rattle.kl1_moves.specs.Moves.{taken_places}
 use Rattle.kl1_moves.proofs.moves.move_of.Goals as goal
 
@@ -12,3 +12,8 @@ pub returns-else-clause-eq0-clause-moves : goal.returns-else-clause-eq0-clause-m
 returns-else-clause-eq0-clause-moves g c =
     IfOk-weaker c.committing.result _ _ (λ found e. λ f r modules t k p.
     call_commits_as f c.args.store.now.held modules t c.args.kind c.in-Calls.call c.args.clause c.args.predicate (taken_places c.committing.new.trial) found c.in-Calls.is c.if-clause-eq0.false (e f r) k p) c.committing.ensures.commits
+
+pub returns-then-clause-eq0-3-clause-moves : goal.returns-then-clause-eq0-3-clause-moves
+returns-then-clause-eq0-3-clause-moves g c = λ f r modules t k p.
+    goal_assigns_as f c.args.store.now.held modules t c.args.kind c.in-Assigns.left c.in-Assigns.right c.in_ok-value-in-Assigns.value c.args.clause c.args.predicate (taken_places c.args.trial.now) c.assigned.result c.in-Assigns.is c.if-clause-eq0-3.true c.assigned.ensures
+    (c.in_ok-value-in-Assigns.ensures.value f r) k

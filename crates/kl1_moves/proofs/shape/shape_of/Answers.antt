@@ -11,7 +11,7 @@ returns-in-Variable-clause-shape g c = λ f. sym (c.walk.ensures.means f) ∙ at
 pub returns-in-Integer-clause-shape : goal.returns-in-Integer-clause-shape
 returns-in-Integer-clause-shape g c = λ f.
     no_goal (term_of f c.args.store.now.held c.args.goal) (integer c.in-Integer.field-0) []
-    (sym (c.walk.ensures.means f) ∙ at_integer f c.args.store.now.held c.walk.result c.in-Integer.field-0 c.in-Integer.is) (record { call = refl; built_in = refl; awaits = refl })
+    (sym (c.walk.ensures.means f) ∙ at_integer f c.args.store.now.held c.walk.result c.in-Integer.field-0 c.in-Integer.is) (record { call = refl; built_in = refl; awaits = refl; waits_no_more = refl })
 
 pub returns-in-Atom-clause-shape : goal.returns-in-Atom-clause-shape
 returns-in-Atom-clause-shape g c = λ f. sym (c.walk.ensures.means f) ∙ at_atom f c.args.store.now.held c.walk.result c.in-Atom.name c.in-Atom.is

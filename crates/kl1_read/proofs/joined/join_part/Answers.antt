@@ -1,8 +1,19 @@
-use Rattle.std.proofs.Common.{map}
+use Rattle.std.proofs.Common.{map, ap, sym, ◌∙◌}
+use Rattle.kl1_read.specs.Pieces.{writable}
 use Rattle.kl1_read.specs.Views.{numbered_token}
-use Rattle.kl1_read.proofs.PartSteps.{relation_follows}
+use Rattle.kl1_read.specs.Meanings.{joined}
+use Rattle.kl1_read.proofs.Steps.{ok_along}
+use Rattle.kl1_read.proofs.PartSteps.{part_follows, part_ends, part_doomed}
 use Rattle.kl1_read.proofs.joined.join_part.Goals as goal
 
-pub returns-in-Some-behind_mark-clause-value : goal.returns-in-Some-behind_mark-clause-value
-returns-in-Some-behind_mark-clause-value c =
-    rw c.in-None.is (relation_follows c.args.part (map numbered_token c.args.tokens.now) (map numbered_token c.in-Some-behind_mark.behind.now) c.in-Some-behind_mark.ensures.value)
+pub returns-in-None-clause-value : goal.returns-in-None-clause-value
+returns-in-None-clause-value c =
+    λ k dooms. part_doomed c.args.left.now.relation c.args.left.now.sum c.args.left.now.product c.args.part (map numbered_token c.args.tokens.now) k dooms (sym c.in-None.is ∙ c.in_ok-join_operand.ensures ∙ ap (λ x. writable (joined x c.args.part)) c.take.ensures.value)
+
+pub returns-in-None-infix_in_front-clause-value : goal.returns-in-None-infix_in_front-clause-value
+returns-in-None-infix_in_front-clause-value c =
+    ok_along _ _ c.join_product.result c.join_product.ensures.value (λ j h k dooms. h k dooms ∙ part_ends c.args.left.now.relation c.args.left.now.sum c.args.left.now.product c.args.part (map numbered_token c.args.tokens.now) k dooms c.in-Some.whole (sym c.in-Some.is ∙ c.in_ok-join_operand.ensures ∙ ap (λ x. writable (joined x c.args.part)) c.take.ensures.value) c.in-None-infix_in_front.ensures.value)
+
+pub returns-in-Some-infix_in_front-clause-value : goal.returns-in-Some-infix_in_front-clause-value
+returns-in-Some-infix_in_front-clause-value c =
+    rw c.requires (λ k dooms. part_follows c.args.left.now.relation c.args.left.now.sum c.args.left.now.product c.args.part (map numbered_token c.args.tokens.now) k dooms c.in-Some.whole c.in-Some-infix_in_front.operator (map numbered_token c.in-Some-infix_in_front.behind.now) (sym c.in-Some.is ∙ c.in_ok-join_operand.ensures ∙ ap (λ x. writable (joined x c.args.part)) c.take.ensures.value) c.in-Some-infix_in_front.ensures.value)

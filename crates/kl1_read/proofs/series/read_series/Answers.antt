@@ -7,7 +7,7 @@ use Rattle.kl1_read.proofs.series.read_series.Goals as goal
 pub tokens-init : goal.tokens-init
 tokens-init c =
     record {
-      same = rw (c.none.ensures, c.new-frames.ensures.items, c.new-done.ensures.items) (ap fit (terms_begin (map numbered_token c.args.tokens.now)));
+      same = rw (c.none-left.ensures, c.new-frames.ensures.items, c.new-done.ensures.items) (ap fit (terms_begin (map numbered_token c.args.tokens.now)));
       fits = rw c.new-done.ensures.items refl;
     }
 

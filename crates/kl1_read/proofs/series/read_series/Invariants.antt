@@ -10,7 +10,7 @@ use Rattle.kl1_read.proofs.series.read_series.Given as goal
 abbrev pub invariant-tokens : goal.invariant-tokens
 invariant-tokens l =
     record {
-      same : fit (state_answer l.frames.items l.done.items l.state) ≡ fit (series_read (map numbered_token l.tokens));
+      same : fit (state_answer l.frames.items l.done.items l.left l.state) ≡ fit (series_read (map numbered_token l.tokens));
       fits : IsTrue (list_all is_writable l.done.items);
     }
 

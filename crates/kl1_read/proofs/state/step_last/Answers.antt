@@ -6,4 +6,4 @@ use Rattle.kl1_read.proofs.state.step_last.Goals as goal
 
 pub returns-in-Some-clause-value : goal.returns-in-Some-clause-value
 returns-in-Some-clause-value c =
-    rw c.none.ensures (ap fit (term_done c.args.done.now.items c.push.new.self.items c.args.piece (map numbered_token c.args.rest.now) (map numbered_token c.in-Some.behind.now) c.in_ok-push.ensures.items c.in-Some.ensures.value))
+    ap fit (term_done c.args.done.now.items c.push.new.self.items c.args.piece (map numbered_token c.args.rest.now) (map numbered_token c.in-Some.behind.now) c.in_ok-push.ensures.items c.in-Some.ensures.value)

@@ -1,7 +1,8 @@
 use Rattle.std.proofs.Common.{ℕ, List, ap, refl, ◌∙◌, map}
 use Rattle.kl1_model.specs.State.{names_of_clauses}
 use Rattle.kl1_clause.specs.declared.code.Code.TheInside.{Inside}
-use Rattle.kl1_read.specs.Sources.{clause_of_parts}
+use Rattle.kl1_model.proofs.ReadClauses.{clauses_are_guarded}
+use Rattle.kl1_read.specs.Sources.{clause_of_parts, module_of_parts}
 use Rattle.kl1_clause.specs.NameList.{with_texts}
 use Rattle.kl1_clause.proofs.Soundness.{IsBuilt, module_is, is_sound}
 use Rattle.kl1_clause.proofs.code.Code.of_parts.Goals as goal
@@ -27,3 +28,6 @@ invariant_of-result c = is_sound c.args.source.now c.args.parts.now (fields c) c
 
 pub returns : goal.returns
 returns c = module_is c.args.source.now c.args.parts.now (fields c) (is_built c)
+
+pub clauses_of-requires : goal.clauses_of-requires
+clauses_of-requires c = rw c.deref.ensures.value (clauses_are_guarded c.args.source.now (module_of_parts c.args.source.now c.args.parts.now) c.requires.reads)

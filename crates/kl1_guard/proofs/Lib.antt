@@ -1,0 +1,5 @@
+mod Parts
+mod Pendings
+mod Outcomes
+mod Sides
+mod OfTwo

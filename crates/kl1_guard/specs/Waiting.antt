@@ -1,0 +1,2 @@
+-- Variables of a store that tests wait for.
+pub use Rattle.kl1_store.specs.Unbound.{IsUnbound}

@@ -1,0 +1,8 @@
+// Terms side by side.
+
+/// Two terms side by side.
+#[derive(Clone, Copy)]
+pub struct Pair<A> {
+    pub left: A,
+    pub right: A,
+}

@@ -1,0 +1,11 @@
+use Rattle.std.proofs.Common.{length}
+use Rattle.kl1_match.specs.TestTerms.{tests_of}
+use Rattle.kl1_match.proofs.TermPairs.{PairsLeft}
+use Rattle.kl1_match.proofs.passing.compare_pairs.Given as goal
+
+-- what is left, with what was named, comes to the whole
+abbrev pub invariant-loop-rest : goal.invariant-loop-rest
+invariant-loop-rest g l = PairsLeft g.N.NameValue.built (tests_of l.view) l.fn.pairs l.rest l.fn.awaited.items l.awaited.items
+
+abbrev pub decreases-loop-rest : goal.decreases-loop-rest
+decreases-loop-rest g l = length l.rest

@@ -1,0 +1,25 @@
+use Rattle.std.proofs.Common.{arith, subst}
+use Rattle.kl1_match.specs.declared.passing.Passed.{Passed}
+use Rattle.kl1_match.specs.TestTerms.{tests_of}
+use Rattle.kl1_match.specs.Passing.{Passes}
+use Rattle.kl1_match.proofs.TestSteps.{other_clashes, other_agrees, other_waits}
+use Rattle.kl1_match.proofs.testing.may_differ.Goals as goal
+
+pub returns-in-Same : goal.returns-in-Same
+returns-in-Same g c =
+    let t = tests_of c.args.view.now in
+    let P : Passed → Type 0 = λ v. Passes g.N.NameValue.built t c.args.left c.args.right c.args.awaited.now.items c.compare_terms.new.awaited.items v in
+    other_clashes g.N.NameValue.built t c.args.left c.args.right c.args.awaited.now.items c.compare_terms.new.awaited.items (subst P c.in-Same.is c.in_ok-compare_terms.ensures)
+
+pub returns-in-Differs : goal.returns-in-Differs
+returns-in-Differs g c =
+    let t = tests_of c.args.view.now in
+    let P : Passed → Type 0 = λ v. Passes g.N.NameValue.built t c.args.left c.args.right c.args.awaited.now.items c.compare_terms.new.awaited.items v in
+    other_agrees g.N.NameValue.built t c.args.left c.args.right c.args.awaited.now.items c.compare_terms.new.awaited.items c.truncate.new.self.items c.len-before.result (omega (arith, c.len-before.ensures, c.args.awaited.now.ok.0)) c.truncate.ensures.items
+    (subst P c.in-Differs.is c.in_ok-compare_terms.ensures)
+
+pub returns-in-Unknown : goal.returns-in-Unknown
+returns-in-Unknown g c =
+    let t = tests_of c.args.view.now in
+    let P : Passed → Type 0 = λ v. Passes g.N.NameValue.built t c.args.left c.args.right c.args.awaited.now.items c.compare_terms.new.awaited.items v in
+    other_waits g.N.NameValue.built t c.args.left c.args.right c.args.awaited.now.items c.compare_terms.new.awaited.items (subst P c.in-Unknown.is c.in_ok-compare_terms.ensures)

@@ -1,0 +1,59 @@
+-- What comes of a clause's tests.
+use Rattle.std.specs.Prelude.{ℕ, Bool, true, false, List, drop}
+use Rattle.kl1_model.specs.declared.built_in.BuiltIn.{BuiltIn}
+use Rattle.kl1_model.specs.Term.{Term}
+use Rattle.kl1_model.specs.TermCode.{first_term}
+use Rattle.kl1_model.specs.Same.{passive, awaited}
+use Rattle.kl1_model.specs.Guard as guard
+use Rattle.kl1_model.specs.Guard.{other_outcome}
+use Rattle.kl1_model.specs.Match.{both, own_outcome, each_alike, test_outcome, tests_outcome}
+use Rattle.kl1_clause.specs.declared.instruction.Instruction.{Instruction}
+use Rattle.kl1_clause.specs.declared.instruction.Instruction.TheVariants.{Variable, Integer, Atom, Structure}
+use Rattle.kl1_guard.specs.declared.outcome.Outcome.{Outcome}
+use Rattle.kl1_guard.specs.declared.test.Test.{Test}
+use Rattle.kl1_guard.specs.Outcomes.{outcome_of}
+use Rattle.kl1_guard.specs.Tests.{test_in}
+use Rattle.kl1_match.specs.declared.test_view.TestAt.{TestAt}
+use Rattle.kl1_match.specs.declared.test_view.TestVariable.{TestVariable}
+use Rattle.kl1_match.specs.Instances.{replacements_of}
+use Rattle.kl1_match.specs.Outcomes.{Comes}
+use Rattle.kl1_match.specs.TestTerms.{Tests, last_of, named_in, terms_from, test_term, test_number}
+
+-- whether an instruction is a variable
+abbrev pub is_variable : Instruction → Bool
+is_variable (Variable n) = true
+is_variable (Integer i) = false
+is_variable (Atom a) = false
+is_variable (Structure a n) = false
+
+-- the tests from a place of the row on
+abbrev pub tests_from : {N : Type 0} → (BuiltIn → N) → (N → List ℕ) → Tests N → ℕ → List Term
+tests_from built f t q = terms_from (named_in built f t) (drop q t.row)
+
+-- what comes of a test whose outcome is known
+abbrev pub SettledAs : {N : Type 0} → (BuiltIn → N) → Tests N → Outcome TestVariable → List ℕ → List ℕ → Bool → Type 0
+SettledAs built t outcome before after answer = Comes built t.held (λ f. own_outcome (last_of t) (outcome_of (test_number t) outcome)) before after answer
+
+-- what comes of `=`
+abbrev pub SameAs : {N : Type 0} → (BuiltIn → N) → Tests N → TestAt N → TestAt N → List ℕ → List ℕ → Bool → Type 0
+SameAs built t x y before after answer = Comes built t.held (λ f. own_outcome (last_of t) (guard.alike (test_term built f t x) (test_term built f t y))) before after answer
+
+-- what comes of `\=`
+abbrev pub OtherAs : {N : Type 0} → (BuiltIn → N) → Tests N → TestAt N → TestAt N → List ℕ → List ℕ → Bool → Type 0
+OtherAs built t x y before after answer = Comes built t.held (λ f. own_outcome (last_of t) (other_outcome (passive (test_term built f t x) (test_term built f t y)) (awaited (test_term built f t x) (test_term built f t y)))) before after answer
+
+-- what comes of a test
+abbrev pub FoundAs : {N : Type 0} → (BuiltIn → N) → Tests N → Test (TestAt N) → List ℕ → List ℕ → Bool → Type 0
+FoundAs built t test before after answer = Comes built t.held (λ f. own_outcome (last_of t) (guard.outcome_of (test_in (test_term built f t) test))) before after answer
+
+-- what comes of the test at a place of the row
+abbrev pub TestComes : {N : Type 0} → (BuiltIn → N) → Tests N → ℕ → List ℕ → List ℕ → Bool → Type 0
+TestComes built t q before after answer = Comes built t.held (λ f. test_outcome (last_of t) (replacements_of f t.held t.places) (first_term (tests_from built f t q))) before after answer
+
+-- what comes of all from a place on
+abbrev pub TestsCome : {N : Type 0} → (BuiltIn → N) → Tests N → ℕ → List ℕ → List ℕ → Bool → Type 0
+TestsCome built t q before after answer = Comes built t.held (λ f. tests_outcome (last_of t) (replacements_of f t.held t.places) (tests_from built f t q)) before after answer
+
+-- what comes of each two places of a variable, and of all tests
+abbrev pub RestComes : {N : Type 0} → (BuiltIn → N) → Tests N → List ℕ → List ℕ → Bool → Type 0
+RestComes built t before after answer = Comes built t.held (λ f. both (each_alike (replacements_of f t.held t.places)) (tests_outcome (last_of t) (replacements_of f t.held t.places) (tests_from built f t 0))) before after answer

@@ -1,0 +1,284 @@
+-- Outcomes of tests when variables are replaced.
+use Rattle.std.proofs.Common.{◌≡◌, ℕ, suc, ◌+◌, ◌-◌, ◌≤◌, ◌==◌, Bool, true, false, if◌then◌else◌, List, [], ◌∷◌, ◌++◌, refl, sym, ap, ap₂, ◌∙◌, arith, inl, inr}
+use Rattle.std.specs.Prelude.{nat_le, bytes_eq, codes, Option, Some, None, option_map}
+use Rattle.std.proofs.lemmas.Bool.{cond-true, cond-false, eqb-true, leb-true, le-leb, false_from_ne_true, false≢true}
+use Rattle.std.proofs.lemmas.Bool.Decides.{leb_tells}
+use Rattle.kl1_model.specs.declared.comparison.Comparison.{Comparison}
+use Rattle.kl1_model.specs.declared.inspection.Inspection.{Inspection}
+use Rattle.kl1_model.specs.declared.inspection.Inspection.TheVariants as look_for
+use Rattle.kl1_model.specs.Term.{Term, variable, integer, atom, structure, Terms, none, more, terms_of, substituted, each_substituted, Replacement}
+use Rattle.kl1_model.specs.Meaning.{highest, highest_in}
+use Rattle.kl1_model.specs.Same.{Passive, same, differs, unknown, passive, awaited, all_awaited}
+use Rattle.kl1_model.specs.Arithmetic.{Evaluated, comes_to, awaits, is_no_expression, evaluated}
+use Rattle.kl1_model.specs.Guard.{Outcome, agrees, clashes, waits, both, decided, Test, holds, looks, is_same, is_other, compares, test_of, inspection_named, comparison_named, test_substituted, is_found, look, same_outcome, other_outcome, alike, compared_sides, outcome_of, outcome_by}
+use Rattle.kl1_model.specs.Match.{awaited_in, places_alike, alike_with, each_alike, beside, test_variable, own_variables, own_outcome, test_outcome, tests_outcome, guard_outcome}
+use Rattle.kl1_model.specs.Waits.{LeavesEach, awaited_by_evaluated}
+use Rattle.kl1_model.specs.WaitsLaws.{place_substituted, places_substituted}
+use Rattle.kl1_model.proofs.SameEach.{awaited_self}
+use Rattle.kl1_model.proofs.SameStays.{left_front, left_back, same_stays, differs_stays, unknown_stays}
+use Rattle.kl1_model.proofs.ScanStays.{evaluated_stays}
+
+-- ---- an outcome and what becomes of it
+
+-- an outcome stays until a variable for which it waits is replaced
+abbrev pub Stays : (ℕ → Term) → Outcome → Outcome → Type 0
+Stays s o p = LeavesEach s (awaited_in o) → p ≡ o
+
+clashes_right : (o p : Outcome) → p ≡ clashes → both o p ≡ clashes
+clashes_right agrees p e = e
+clashes_right clashes p e = refl
+clashes_right (waits vs) p e = ap (both (waits vs)) e
+
+pub both_stay : (s : ℕ → Term) (a b p q : Outcome) → Stays s a p → Stays s b q → Stays s (both a b) (both p q)
+both_stay s agrees b p q f g l = ap (λ o. both o q) (f tt) ∙ g l
+both_stay s clashes b p q f g l = ap (λ o. both o q) (f tt)
+both_stay s (waits vs) agrees p q f g l = ap₂ both (f l) (g tt)
+both_stay s (waits vs) clashes p q f g l = clashes_right p q (g tt)
+both_stay s (waits vs) (waits ws) p q f g l = ap₂ both (f (left_front s vs ws l)) (g (left_back s vs ws l))
+
+-- ---- passive equality
+
+two_awaited : (s : ℕ → Term) (v w : ℕ) (c : Bool) → v == w ≡ c → LeavesEach s (if c then [] else v ∷ w ∷ []) → awaited (s v) (s w) ≡ (if v == w then [] else v ∷ w ∷ [])
+two_awaited s v w true e l = ap (λ x. awaited (s v) (s x)) (sym (eqb-true v w e)) ∙ awaited_self (s v) ∙ sym (cond-true (v == w) [] (v ∷ w ∷ []) e)
+two_awaited s v w false e l = ap₂ awaited l.0 l.1.0
+
+mutual
+  awaited_stays : (s : ℕ → Term) (t u : Term) → LeavesEach s (awaited t u) → awaited (substituted s t) (substituted s u) ≡ awaited t u
+  awaited_stays s (variable v) (variable w) l = two_awaited s v w (v == w) refl l
+  awaited_stays s (variable v) (integer j) l = ap (λ x. awaited x (integer j)) l.0
+  awaited_stays s (variable v) (atom b) l = ap (λ x. awaited x (atom b)) l.0
+  awaited_stays s (variable v) (structure g us) l = ap (λ x. awaited x (structure g (each_substituted s us))) l.0
+  awaited_stays s (integer i) (variable w) l = ap (awaited (integer i)) l.0
+  awaited_stays s (integer i) (integer j) l = refl
+  awaited_stays s (integer i) (atom b) l = refl
+  awaited_stays s (integer i) (structure g us) l = refl
+  awaited_stays s (atom a) (variable w) l = ap (awaited (atom a)) l.0
+  awaited_stays s (atom a) (integer j) l = refl
+  awaited_stays s (atom a) (atom b) l = refl
+  awaited_stays s (atom a) (structure g us) l = refl
+  awaited_stays s (structure f ts) (variable w) l = ap (awaited (structure f (each_substituted s ts))) l.0
+  awaited_stays s (structure f ts) (integer j) l = refl
+  awaited_stays s (structure f ts) (atom b) l = refl
+  awaited_stays s (structure f ts) (structure g us) l = all_awaited_stays s ts us l
+
+  all_awaited_stays : (s : ℕ → Term) (ts us : Terms) → LeavesEach s (all_awaited ts us) → all_awaited (each_substituted s ts) (each_substituted s us) ≡ all_awaited ts us
+  all_awaited_stays s none us l = refl
+  all_awaited_stays s (more t ts) none l = refl
+  all_awaited_stays s (more t ts) (more u us) l =
+      ap₂ (λ (vs ws : List ℕ). vs ++ ws) (awaited_stays s t u (left_front s (awaited t u) (all_awaited ts us) l)) (all_awaited_stays s ts us (left_back s (awaited t u) (all_awaited ts us) l))
+
+alike_by : (s : ℕ → Term) (t u : Term) (p : Passive) → passive t u ≡ p → Stays s (same_outcome p (awaited t u)) (alike (substituted s t) (substituted s u))
+alike_by s t u same e l = ap (λ p. same_outcome p (awaited (substituted s t) (substituted s u))) (same_stays s t u e)
+alike_by s t u differs e l = ap (λ p. same_outcome p (awaited (substituted s t) (substituted s u))) (differs_stays s t u e)
+alike_by s t u unknown e l = ap (λ p. same_outcome p (awaited (substituted s t) (substituted s u))) (unknown_stays s t u e l) ∙ ap waits (awaited_stays s t u l)
+
+pub alike_stays : (s : ℕ → Term) (t u : Term) → Stays s (alike t u) (alike (substituted s t) (substituted s u))
+alike_stays s t u l = alike_by s t u (passive t u) refl l
+
+other_by : (s : ℕ → Term) (t u : Term) (p : Passive) → passive t u ≡ p → Stays s (other_outcome p (awaited t u)) (other_outcome (passive (substituted s t) (substituted s u)) (awaited (substituted s t) (substituted s u)))
+other_by s t u same e l = ap (λ p. other_outcome p (awaited (substituted s t) (substituted s u))) (same_stays s t u e)
+other_by s t u differs e l = ap (λ p. other_outcome p (awaited (substituted s t) (substituted s u))) (differs_stays s t u e)
+other_by s t u unknown e l = ap (λ p. other_outcome p (awaited (substituted s t) (substituted s u))) (unknown_stays s t u e l) ∙ ap waits (awaited_stays s t u l)
+
+-- ---- looks and comparisons
+
+found_stays : (s : ℕ → Term) (i : Inspection) (f : List ℕ) (ts : Terms) → is_found i (structure f (each_substituted s ts)) ≡ is_found i (structure f ts)
+found_stays s look_for.Bound f ts = refl
+found_stays s look_for.Integer f ts = refl
+found_stays s look_for.Atom f ts = refl
+found_stays s look_for.Cell f none = refl
+found_stays s look_for.Cell f (more a none) = refl
+found_stays s look_for.Cell f (more a (more b none)) = refl
+found_stays s look_for.Cell f (more a (more b (more c ts))) = refl
+
+look_stays : (s : ℕ → Term) (i : Inspection) (t : Term) → Stays s (look i t) (look i (substituted s t))
+look_stays s i (variable v) l = ap (look i) l.0
+look_stays s i (integer n) l = refl
+look_stays s i (atom a) l = refl
+look_stays s i (structure f ts) l = ap decided (found_stays s i f ts)
+
+sides_stay : (s : ℕ → Term) (c : Comparison) (p q x y : Evaluated) → (LeavesEach s (awaited_by_evaluated x) → p ≡ x) → (LeavesEach s (awaited_by_evaluated y) → q ≡ y) → Stays s (compared_sides c x y) (compared_sides c p q)
+sides_stay s c p q (awaits v) y f g l = ap (λ x. compared_sides c x q) (f l)
+sides_stay s c p q is_no_expression y f g l = ap (λ x. compared_sides c x q) (f tt)
+sides_stay s c p q (comes_to n) (awaits v) f g l = ap₂ (compared_sides c) (f tt) (g l)
+sides_stay s c p q (comes_to n) is_no_expression f g l = ap₂ (compared_sides c) (f tt) (g tt)
+sides_stay s c p q (comes_to n) (comes_to m) f g l = ap₂ (compared_sides c) (f tt) (g tt)
+
+-- the outcome of a test stays until a variable for which it waits is replaced
+pub outcome_stays : (s : ℕ → Term) (test : Test) → Stays s (outcome_of test) (outcome_of (test_substituted s test))
+outcome_stays s holds l = refl
+outcome_stays s (looks i t) l = look_stays s i t l
+outcome_stays s (is_same t u) l = alike_stays s t u l
+outcome_stays s (is_other t u) l = other_by s t u (passive t u) refl l
+outcome_stays s (compares c t u) l = sides_stay s c (evaluated (substituted s t)) (evaluated (substituted s u)) (evaluated t) (evaluated u) (evaluated_stays s t) (evaluated_stays s u) l
+
+-- ---- substitutions one after another, and substitutions that agree
+
+mutual
+  pub then_substituted : (f g : ℕ → Term) (t : Term) → substituted f (substituted g t) ≡ substituted (λ v. substituted f (g v)) t
+  then_substituted f g (variable v) = refl
+  then_substituted f g (integer i) = refl
+  then_substituted f g (atom a) = refl
+  then_substituted f g (structure h ts) = ap (structure h) (then_each_substituted f g ts)
+
+  then_each_substituted : (f g : ℕ → Term) (ts : Terms) → each_substituted f (each_substituted g ts) ≡ each_substituted (λ v. substituted f (g v)) ts
+  then_each_substituted f g none = refl
+  then_each_substituted f g (more t ts) = ap₂ more (then_substituted f g t) (then_each_substituted f g ts)
+
+mutual
+  agreeing : (f g : ℕ → Term) (last : ℕ) → ((v : ℕ) → v ≤ last → f v ≡ g v) → (t : Term) → highest t ≤ last → substituted f t ≡ substituted g t
+  agreeing f g last same_to (variable v) few = same_to v few
+  agreeing f g last same_to (integer i) few = refl
+  agreeing f g last same_to (atom a) few = refl
+  agreeing f g last same_to (structure h ts) few = ap (structure h) (each_agreeing f g last same_to ts few)
+
+  each_agreeing : (f g : ℕ → Term) (last : ℕ) → ((v : ℕ) → v ≤ last → f v ≡ g v) → (ts : Terms) → highest_in ts ≤ last → each_substituted f ts ≡ each_substituted g ts
+  each_agreeing f g last same_to none few = refl
+  each_agreeing f g last same_to (more t ts) few = ap₂ more (agreeing f g last same_to t (omega (arith, few))) (each_agreeing f g last same_to ts (omega (arith, few)))
+
+pub everywhere : (f g : ℕ → Term) → ((v : ℕ) → f v ≡ g v) → (t : Term) → substituted f t ≡ substituted g t
+everywhere f g all t = agreeing f g (highest t) (λ v few. all v) t (omega arith)
+
+-- ---- tests beside the goal's variables
+
+-- a substitution of the goal's variables, where those of a test go before them
+abbrev lift : ℕ → (ℕ → Term) → ℕ → Term
+lift last s n = if nat_le n last then variable n else beside last (s (n - suc last))
+
+lift_own : (last : ℕ) (s : ℕ → Term) (v : ℕ) → v ≤ last → lift last s v ≡ variable v
+lift_own last s v few = cond-true (nat_le v last) (variable v) (beside last (s (v - suc last))) (le-leb v last few)
+
+pub behind_last : (last v : ℕ) → nat_le (suc (last + v)) last ≡ false
+behind_last last v = false_from_ne_true (nat_le (suc (last + v)) last) (λ e. let less = leb-true (suc (last + v)) last e in omega (arith, less))
+
+lift_goal : (last : ℕ) (s : ℕ → Term) (v : ℕ) → lift last s (suc (last + v)) ≡ beside last (s v)
+lift_goal last s v =
+    let back : suc (last + v) - suc last ≡ v = omega arith in
+    cond-false (nat_le (suc (last + v)) last) (variable (suc (last + v))) (beside last (s (suc (last + v) - suc last))) (behind_last last v) ∙ ap (λ k. beside last (s k)) back
+
+lift_beside : (last : ℕ) (s : ℕ → Term) (t : Term) → substituted (lift last s) (beside last t) ≡ beside last (substituted s t)
+lift_beside last s t =
+    then_substituted (lift last s) (λ v. variable (suc (last + v))) t
+    ∙ everywhere (λ v. lift last s (suc (last + v))) (λ v. beside last (s v)) (lift_goal last s) t
+    ∙ sym (then_substituted (λ v. variable (suc (last + v))) s t)
+
+by_place : (last : ℕ) (s : ℕ → Term) (c : Bool) (t u x : Term) → u ≡ substituted (lift last s) x → (if c then beside last (substituted s t) else u) ≡ substituted (lift last s) (if c then beside last t else x)
+by_place last s true t u x e = sym (lift_beside last s t)
+by_place last s false t u x e = e
+
+test_variable_stays : (last : ℕ) (s : ℕ → Term) (places : List Replacement) (v : ℕ) → v ≤ last → test_variable last (places_substituted s places) v ≡ substituted (lift last s) (test_variable last places v)
+test_variable_stays last s [] v few = sym (lift_own last s v few)
+test_variable_stays last s (p ∷ places) v few =
+    by_place last s (p.number == v) p.by (test_variable last (places_substituted s places) v) (test_variable last places v) (test_variable_stays last s places v few)
+
+-- what stands for the variables of a test before and after, where a substitution makes the one of the other
+module _ (last : ℕ) (s before later : ℕ → Term) (again : (v : ℕ) → v ≤ last → later v ≡ substituted s (before v)) where
+  term_again : (t : Term) → highest t ≤ last → substituted later t ≡ substituted s (substituted before t)
+  term_again t few = agreeing later (λ v. substituted s (before v)) last again t few ∙ sym (then_substituted s before t)
+
+  -- the variables of a test are numbered up to the last
+  abbrev pub FewIn : Test → Type 0
+  FewIn holds = Unit {0}
+  FewIn (looks i t) = highest t ≤ last
+  FewIn (is_same t u) = (highest t ≤ last) × (highest u ≤ last)
+  FewIn (is_other t u) = (highest t ≤ last) × (highest u ≤ last)
+  FewIn (compares c t u) = (highest t ≤ last) × (highest u ≤ last)
+
+  abbrev pub FewOption : Option Test → Type 0
+  FewOption None = Unit {0}
+  FewOption (Some test) = FewIn test
+
+  test_again : (test : Test) → FewIn test → test_substituted later test ≡ test_substituted s (test_substituted before test)
+  test_again holds few = refl
+  test_again (looks i t) few = ap (looks i) (term_again t few)
+  test_again (is_same t u) few = ap₂ is_same (term_again t few.0) (term_again u few.1)
+  test_again (is_other t u) few = ap₂ is_other (term_again t few.0) (term_again u few.1)
+  test_again (compares c t u) few = ap₂ (compares c) (term_again t few.0) (term_again u few.1)
+
+  few_true : (c : Bool) → FewOption (if c then Some holds else None)
+  few_true true = tt
+  few_true false = tt
+
+  few_one : (o : Option Inspection) (a : Term) → highest a ≤ last → FewOption (option_map (λ i. looks i a) o)
+  few_one None a few = tt
+  few_one (Some i) a few = few
+
+  few_two : (c d : Bool) (o : Option Comparison) (a b : Term) → highest a ≤ last → highest b ≤ last → FewOption (if c then Some (is_same a b) else if d then Some (is_other a b) else option_map (λ k. compares k a b) o)
+  few_two true d o a b few less = (few, less)
+  few_two false true o a b few less = (few, less)
+  few_two false false None a b few less = tt
+  few_two false false (Some k) a b few less = (few, less)
+
+  pub few_test : (t : Term) → highest t ≤ last → FewOption (test_of t)
+  few_test (variable v) few = tt
+  few_test (integer i) few = tt
+  few_test (atom a) few = few_true (bytes_eq a (codes "true"))
+  few_test (structure f none) few = tt
+  few_test (structure f (more a none)) few = few_one (inspection_named f) a (omega (arith, few))
+  few_test (structure f (more a (more b none))) few = few_two (bytes_eq f (codes "=")) (bytes_eq f (codes "\\=")) (comparison_named f) a b (omega (arith, few)) (omega (arith, few))
+  few_test (structure f (more a (more b (more c ts)))) few = tt
+
+  pub by_test : (x : Option Test) → FewOption x → Stays s (outcome_by before x) (outcome_by later x)
+  by_test None few l = refl
+  by_test (Some test) few l = ap outcome_of (test_again test few) ∙ outcome_stays s (test_substituted before test) l
+
+more_than : (v last : ℕ) → nat_le v last ≡ false → suc last ≤ v
+more_than v last e = elim (leb_tells v last) [ inl a ↦ absurd (false≢true (sym e ∙ a.0)) | inr b ↦ b.1 ]
+
+lifted_by : (last : ℕ) (s : ℕ → Term) (v : ℕ) (vs : List ℕ) (c : Bool) → nat_le v last ≡ c → (LeavesEach s (own_variables last vs) → LeavesEach (lift last s) vs) → LeavesEach s (if c then own_variables last vs else (v - suc last) ∷ own_variables last vs) → LeavesEach (lift last s) (v ∷ vs)
+lifted_by last s v vs true e f k = (cond-true (nat_le v last) (variable v) (beside last (s (v - suc last))) e, f k)
+lifted_by last s v vs false e f k =
+    let above : suc last ≤ v = more_than v last e in
+    let back : suc (last + (v - suc last)) ≡ v = omega (arith, above) in
+    (cond-false (nat_le v last) (variable v) (beside last (s (v - suc last))) e ∙ ap (beside last) k.0 ∙ ap variable back, f k.1)
+
+lifted : (last : ℕ) (s : ℕ → Term) (vs : List ℕ) → LeavesEach s (own_variables last vs) → LeavesEach (lift last s) vs
+lifted last s [] l = tt
+lifted last s (v ∷ vs) l = lifted_by last s v vs (nat_le v last) refl (lifted last s vs) l
+
+own_left : (last : ℕ) (s : ℕ → Term) (o : Outcome) → LeavesEach s (awaited_in (own_outcome last o)) → LeavesEach (lift last s) (awaited_in o)
+own_left last s agrees l = tt
+own_left last s clashes l = tt
+own_left last s (waits vs) l = lifted last s vs l
+
+test_stays : (last : ℕ) (s : ℕ → Term) (places : List Replacement) (t : Term) → highest t ≤ last → Stays s (test_outcome last places t) (test_outcome last (places_substituted s places) t)
+test_stays last s places t few l =
+    let before = test_variable last places in
+    let later = test_variable last (places_substituted s places) in
+    let again = test_variable_stays last s places in
+    ap (own_outcome last) (by_test last (lift last s) before later again (test_of t) (few_test last (lift last s) before later again t few) (own_left last s (outcome_by before (test_of t)) l))
+
+tests_stay : (last : ℕ) (s : ℕ → Term) (places : List Replacement) (ts : List Term) → highest_in (terms_of ts) ≤ last → Stays s (tests_outcome last places ts) (tests_outcome last (places_substituted s places) ts)
+tests_stay last s places [] few l = refl
+tests_stay last s places (t ∷ ts) few l =
+    both_stay s (test_outcome last places t) (tests_outcome last places ts) (test_outcome last (places_substituted s places) t) (tests_outcome last (places_substituted s places) ts)
+    (test_stays last s places t (omega (arith, few)))
+    (tests_stay last s places ts (omega (arith, few)))
+    l
+
+-- the outcome of a guard stays until a variable for which it waits is replaced
+pub guard_stays : (s : ℕ → Term) (places : List Replacement) (ts : List Term) → Stays s (guard_outcome places ts) (guard_outcome (places_substituted s places) ts)
+guard_stays s places ts = tests_stay (highest_in (terms_of ts)) s places ts (omega arith)
+
+-- ---- the places of a variable
+
+by_same : (s : ℕ → Term) (c : Bool) (t u : Term) → Stays s (if c then alike t u else agrees) (if c then alike (substituted s t) (substituted s u) else agrees)
+by_same s true t u l = alike_stays s t u l
+by_same s false t u l = refl
+
+alike_with_stays : (s : ℕ → Term) (p : Replacement) (qs : List Replacement) → Stays s (alike_with p qs) (alike_with (place_substituted s p) (places_substituted s qs))
+alike_with_stays s p [] l = refl
+alike_with_stays s p (q ∷ qs) l =
+    both_stay s (places_alike p q) (alike_with p qs) (places_alike (place_substituted s p) (place_substituted s q)) (alike_with (place_substituted s p) (places_substituted s qs))
+    (by_same s (p.number == q.number) p.by q.by)
+    (alike_with_stays s p qs)
+    l
+
+-- what the places of variables come to stays until a variable for which they wait is replaced
+pub each_alike_stays : (s : ℕ → Term) (ps : List Replacement) → Stays s (each_alike ps) (each_alike (places_substituted s ps))
+each_alike_stays s [] l = refl
+each_alike_stays s (p ∷ ps) l =
+    both_stay s (alike_with p ps) (each_alike ps) (alike_with (place_substituted s p) (places_substituted s ps)) (each_alike (places_substituted s ps))
+    (alike_with_stays s p ps)
+    (each_alike_stays s ps)
+    l

@@ -1,0 +1,426 @@
+-- A clause that suspends names a variable, where the variables of its guard are the head's.
+use Rattle.std.proofs.Common.{◌≡◌, ℕ, zero, suc, ◌+◌, ◌-◌, ◌≤◌, ◌==◌, ◌&&◌, ◌||◌, Bool, true, false, if◌then◌else◌, List, [], ◌∷◌, ◌++◌, refl, sym, ap, ◌∙◌, subst, arith}
+use Rattle.std.specs.Prelude.{nat_le, bytes_eq, codes, Option, Some, None, option_map}
+use Rattle.std.specs.List.{list_all, list_any}
+use Rattle.std.specs.Ordering.{int_eq}
+use Rattle.std.proofs.lemmas.Bool.{cond-false, leb-true, false_from_ne_true, false≢true, and_parts, eq-eqb, eqb-true, or_left, or_right}
+use Rattle.std.proofs.lemmas.List.Folds.{list_all-append, list_any-append}
+use Rattle.kl1_model.specs.declared.operator.Operator.{Operator}
+use Rattle.kl1_model.specs.declared.comparison.Comparison.{Comparison}
+use Rattle.kl1_model.specs.declared.inspection.Inspection.{Inspection}
+use Rattle.kl1_model.specs.declared.number.Number.{Number}
+use Rattle.kl1_model.specs.declared.number.Number.TheVariants.{Value, Overflow, ZeroDivisor}
+use Rattle.kl1_model.specs.Limits.{most_operators}
+use Rattle.kl1_model.specs.Term.{Term, variable, integer, atom, structure, Terms, none, more, terms_of, count_of, substituted, each_substituted, Replacement}
+use Rattle.kl1_model.specs.Meaning.{variables_of, variables_in, highest_in}
+use Rattle.kl1_model.specs.Module.{is_among, has_only}
+use Rattle.kl1_model.specs.Same.{Passive, same, differs, unknown, passive, awaited, all_awaited}
+use Rattle.kl1_model.specs.Arithmetic.{Formula, Scan, found, waits_for, wrong_type, with_left, with_right, operator_named, scan, scan_operation, Evaluated, comes_to, awaits, is_no_expression, computed, evaluated}
+use Rattle.kl1_model.specs.Guard.{Outcome, agrees, clashes, waits, both, decided, inspection_named, comparison_named, Test, holds, looks, is_same, is_other, compares, test_of, test_substituted, is_found, look, same_outcome, other_outcome, alike, compared, compared_numbers, compared_sides, outcome_of, outcome_by}
+use Rattle.kl1_model.specs.Match.{Matched, with_outcome, match_term, match_terms, places_alike, alike_with, each_alike, beside, test_variable, own_variables, own_outcome, test_outcome, tests_outcome, guard_outcome, suspends, verdict_with}
+use Rattle.kl1_model.specs.WaitsLaws.{SuspendsWaits}
+use Rattle.kl1_model.proofs.SameStays.{unknown_waits}
+
+-- ---- who waits names a variable
+
+-- an outcome that waits does so for some variable
+abbrev Names : Outcome → Type 0
+Names agrees = Unit {0}
+Names clashes = Unit {0}
+Names (waits []) = ⊥
+Names (waits (v ∷ vs)) = Unit {0}
+
+names_both : (a b : Outcome) → Names a → Names b → Names (both a b)
+names_both agrees b n k = k
+names_both clashes b n k = tt
+names_both (waits vs) agrees n k = n
+names_both (waits vs) clashes n k = tt
+names_both (waits []) (waits ws) n k = absurd n
+names_both (waits (v ∷ vs)) (waits ws) n k = tt
+
+names_decided : (b : Bool) (m : Matched) → Names m.outcome → Names (if b then m else with_outcome clashes).outcome
+names_decided true m n = n
+names_decided false m n = tt
+
+decided_names : (b : Bool) → Names (if b then agrees else clashes)
+decided_names true = tt
+decided_names false = tt
+
+mutual
+  match_names : (p t : Term) → Names (match_term p t).outcome
+  match_names (variable v) t = tt
+  match_names (integer i) (variable w) = tt
+  match_names (integer i) (integer j) = decided_names (int_eq i j)
+  match_names (integer i) (atom b) = tt
+  match_names (integer i) (structure g us) = tt
+  match_names (atom a) (variable w) = tt
+  match_names (atom a) (integer j) = tt
+  match_names (atom a) (atom b) = decided_names (bytes_eq a b)
+  match_names (atom a) (structure g us) = tt
+  match_names (structure f ps) (variable w) = tt
+  match_names (structure f ps) (integer j) = tt
+  match_names (structure f ps) (atom b) = tt
+  match_names (structure f ps) (structure g ts) = names_decided (bytes_eq f g && count_of ps == count_of ts) (match_terms ps ts) (match_all_names ps ts)
+
+  match_all_names : (ps ts : Terms) → Names (match_terms ps ts).outcome
+  match_all_names none none = tt
+  match_all_names none (more t ts) = tt
+  match_all_names (more p ps) none = tt
+  match_all_names (more p ps) (more t ts) = names_both (match_term p t).outcome (match_terms ps ts).outcome (match_names p t) (match_all_names ps ts)
+
+some_waits : (vs : List ℕ) → (vs ≡ [] → ⊥) → Names (waits vs)
+some_waits [] f = absurd (f refl)
+some_waits (v ∷ vs) f = tt
+
+alike_names_by : (t u : Term) (p : Passive) → passive t u ≡ p → Names (same_outcome p (awaited t u))
+alike_names_by t u same e = tt
+alike_names_by t u differs e = tt
+alike_names_by t u unknown e = some_waits (awaited t u) (unknown_waits t u e)
+
+if_names : (c : Bool) (o : Outcome) → Names o → Names (if c then o else agrees)
+if_names true o n = n
+if_names false o n = tt
+
+alike_with_names : (p : Replacement) (qs : List Replacement) → Names (alike_with p qs)
+alike_with_names p [] = tt
+alike_with_names p (q ∷ qs) =
+    names_both (places_alike p q) (alike_with p qs) (if_names (p.number == q.number) (alike p.by q.by) (alike_names_by p.by q.by (passive p.by q.by) refl)) (alike_with_names p qs)
+
+each_alike_names : (ps : List Replacement) → Names (each_alike ps)
+each_alike_names [] = tt
+each_alike_names (p ∷ ps) = names_both (alike_with p ps) (each_alike ps) (alike_with_names p ps) (each_alike_names ps)
+
+-- ---- terms of the goal's variables alone
+
+abbrev mutual
+  Above : ℕ → Term → Type 0
+  Above last (variable v) = suc last ≤ v
+  Above last (integer i) = Unit {0}
+  Above last (atom a) = Unit {0}
+  Above last (structure f ts) = EachAbove last ts
+
+  EachAbove : ℕ → Terms → Type 0
+  EachAbove last none = Unit {0}
+  EachAbove last (more t ts) = Above last t × EachAbove last ts
+
+abbrev AllAbove : ℕ → List ℕ → Type 0
+AllAbove last [] = Unit {0}
+AllAbove last (v ∷ vs) = (suc last ≤ v) × AllAbove last vs
+
+-- an outcome that waits does so first for a variable of the goal
+abbrev Own : ℕ → Outcome → Type 0
+Own last agrees = Unit {0}
+Own last clashes = Unit {0}
+Own last (waits []) = ⊥
+Own last (waits (v ∷ vs)) = suc last ≤ v
+
+mutual
+  beside_above : (last : ℕ) (t : Term) → Above last (beside last t)
+  beside_above last (variable v) = omega arith
+  beside_above last (integer i) = tt
+  beside_above last (atom a) = tt
+  beside_above last (structure f ts) = each_beside_above last ts
+
+  each_beside_above : (last : ℕ) (ts : Terms) → EachAbove last (each_substituted (λ v. variable (suc (last + v))) ts)
+  each_beside_above last none = tt
+  each_beside_above last (more t ts) = (beside_above last t, each_beside_above last ts)
+
+above_append : (last : ℕ) (vs ws : List ℕ) → AllAbove last vs → AllAbove last ws → AllAbove last (vs ++ ws)
+above_append last [] ws a b = b
+above_append last (v ∷ vs) ws a b = (a.0, above_append last vs ws a.1 b)
+
+two_above : (last v w : ℕ) (c : Bool) → suc last ≤ v → suc last ≤ w → AllAbove last (if c then [] else v ∷ w ∷ [])
+two_above last v w true a b = tt
+two_above last v w false a b = (a, (b, tt))
+
+mutual
+  awaited_above : (last : ℕ) (t u : Term) → Above last t → Above last u → AllAbove last (awaited t u)
+  awaited_above last (variable v) (variable w) a b = two_above last v w (v == w) a b
+  awaited_above last (variable v) (integer j) a b = (a, tt)
+  awaited_above last (variable v) (atom y) a b = (a, tt)
+  awaited_above last (variable v) (structure g us) a b = (a, tt)
+  awaited_above last (integer i) (variable w) a b = (b, tt)
+  awaited_above last (integer i) (integer j) a b = tt
+  awaited_above last (integer i) (atom y) a b = tt
+  awaited_above last (integer i) (structure g us) a b = tt
+  awaited_above last (atom x) (variable w) a b = (b, tt)
+  awaited_above last (atom x) (integer j) a b = tt
+  awaited_above last (atom x) (atom y) a b = tt
+  awaited_above last (atom x) (structure g us) a b = tt
+  awaited_above last (structure f ts) (variable w) a b = (b, tt)
+  awaited_above last (structure f ts) (integer j) a b = tt
+  awaited_above last (structure f ts) (atom y) a b = tt
+  awaited_above last (structure f ts) (structure g us) a b = all_awaited_above last ts us a b
+
+  all_awaited_above : (last : ℕ) (ts us : Terms) → EachAbove last ts → EachAbove last us → AllAbove last (all_awaited ts us)
+  all_awaited_above last none us a b = tt
+  all_awaited_above last (more t ts) none a b = tt
+  all_awaited_above last (more t ts) (more u us) a b = above_append last (awaited t u) (all_awaited ts us) (awaited_above last t u a.0 b.0) (all_awaited_above last ts us a.1 b.1)
+
+first_above : (last : ℕ) (vs : List ℕ) → AllAbove last vs → (vs ≡ [] → ⊥) → Own last (waits vs)
+first_above last [] a f = absurd (f refl)
+first_above last (v ∷ vs) a f = a.0
+
+-- ---- tests of such terms
+
+same_own : (last : ℕ) (t u : Term) (p : Passive) → passive t u ≡ p → Above last t → Above last u → Own last (same_outcome p (awaited t u))
+same_own last t u same e a b = tt
+same_own last t u differs e a b = tt
+same_own last t u unknown e a b = first_above last (awaited t u) (awaited_above last t u a b) (unknown_waits t u e)
+
+other_own : (last : ℕ) (t u : Term) (p : Passive) → passive t u ≡ p → Above last t → Above last u → Own last (other_outcome p (awaited t u))
+other_own last t u same e a b = tt
+other_own last t u differs e a b = tt
+other_own last t u unknown e a b = first_above last (awaited t u) (awaited_above last t u a b) (unknown_waits t u e)
+
+decided_own : (last : ℕ) (b : Bool) → Own last (decided b)
+decided_own last true = tt
+decided_own last false = tt
+
+look_own : (last : ℕ) (i : Inspection) (t : Term) → Above last t → Own last (look i t)
+look_own last i (variable v) a = a
+look_own last i (integer n) a = decided_own last (is_found i (integer n))
+look_own last i (atom x) a = decided_own last (is_found i (atom x))
+look_own last i (structure f ts) a = decided_own last (is_found i (structure f ts))
+
+abbrev ScanAbove : ℕ → Scan → Type 0
+ScanAbove last (found e left) = Unit {0}
+ScanAbove last (waits_for v) = suc last ≤ v
+ScanAbove last wrong_type = Unit {0}
+
+right_above : (last : ℕ) (o : Operator) (e : Formula) (y : Scan) → ScanAbove last y → ScanAbove last (with_right o e y)
+right_above last o e (found b left) a = tt
+right_above last o e (waits_for v) a = a
+right_above last o e wrong_type a = tt
+
+left_above : (last : ℕ) (o : Operator) (x : Scan) (right : ℕ → Scan) → ScanAbove last x → ((m : ℕ) → ScanAbove last (right m)) → ScanAbove last (with_left o x right)
+left_above last o (found e m) right a f = right_above last o e (right m) (f m)
+left_above last o (waits_for v) right a f = a
+left_above last o wrong_type right a f = tt
+
+mutual
+  scan_above : (last n : ℕ) (t : Term) → Above last t → ScanAbove last (scan n t)
+  scan_above last n (variable v) a = a
+  scan_above last n (integer i) a = tt
+  scan_above last n (atom x) a = tt
+  scan_above last n (structure f ts) a = operation_above last (operator_named f) n ts a
+
+  operation_above : (last : ℕ) (o : Option Operator) (n : ℕ) (ts : Terms) → EachAbove last ts → ScanAbove last (scan_operation o n ts)
+  operation_above last None n ts a = tt
+  operation_above last (Some o) zero ts a = tt
+  operation_above last (Some o) (suc n) none a = tt
+  operation_above last (Some o) (suc n) (more t none) a = tt
+  operation_above last (Some o) (suc n) (more t (more u none)) a = left_above last o (scan n t) (λ m. scan m u) (scan_above last n t a.0) (λ m. scan_above last m u a.1.0)
+  operation_above last (Some o) (suc n) (more t (more u (more w ts))) a = tt
+
+abbrev EvaluatedAbove : ℕ → Evaluated → Type 0
+EvaluatedAbove last (comes_to n) = Unit {0}
+EvaluatedAbove last (awaits v) = suc last ≤ v
+EvaluatedAbove last is_no_expression = Unit {0}
+
+computed_above : (last : ℕ) (x : Scan) → ScanAbove last x → EvaluatedAbove last (computed x)
+computed_above last (found e left) a = tt
+computed_above last (waits_for v) a = a
+computed_above last wrong_type a = tt
+
+numbers_own : (last : ℕ) (c : Comparison) (x y : Number) → Own last (compared_numbers c x y)
+numbers_own last c (Value i) (Value j) = decided_own last (compared c i j)
+numbers_own last c (Value i) Overflow = tt
+numbers_own last c (Value i) ZeroDivisor = tt
+numbers_own last c Overflow y = tt
+numbers_own last c ZeroDivisor y = tt
+
+sides_own : (last : ℕ) (c : Comparison) (x y : Evaluated) → EvaluatedAbove last x → EvaluatedAbove last y → Own last (compared_sides c x y)
+sides_own last c (awaits v) y a b = a
+sides_own last c is_no_expression y a b = tt
+sides_own last c (comes_to n) (awaits v) a b = b
+sides_own last c (comes_to n) is_no_expression a b = tt
+sides_own last c (comes_to n) (comes_to m) a b = numbers_own last c n m
+
+abbrev TestAbove : ℕ → Test → Type 0
+TestAbove last holds = Unit {0}
+TestAbove last (looks i t) = Above last t
+TestAbove last (is_same t u) = Above last t × Above last u
+TestAbove last (is_other t u) = Above last t × Above last u
+TestAbove last (compares c t u) = Above last t × Above last u
+
+test_own : (last : ℕ) (test : Test) → TestAbove last test → Own last (outcome_of test)
+test_own last holds a = tt
+test_own last (looks i t) a = look_own last i t a
+test_own last (is_same t u) a = same_own last t u (passive t u) refl a.0 a.1
+test_own last (is_other t u) a = other_own last t u (passive t u) refl a.0 a.1
+test_own last (compares c t u) a =
+    sides_own last c (evaluated t) (evaluated u) (computed_above last (scan most_operators t) (scan_above last most_operators t a.0)) (computed_above last (scan most_operators u) (scan_above last most_operators u a.1))
+
+not_below : (last v : ℕ) → suc last ≤ v → nat_le v last ≡ false
+not_below last v h = false_from_ne_true (nat_le v last) (λ e. let less = leb-true v last e in omega (arith, h, less))
+
+own_names : (last : ℕ) (o : Outcome) → Own last o → Names (own_outcome last o)
+own_names last agrees a = tt
+own_names last clashes a = tt
+own_names last (waits []) a = absurd a
+own_names last (waits (v ∷ vs)) a = subst (λ (l : List ℕ). Names (waits l)) (sym (cond-false (nat_le v last) (own_variables last vs) ((v - suc last) ∷ own_variables last vs) (not_below last v a))) tt
+
+-- ---- variables that have a place
+
+-- whether a variable has a place
+abbrev has : List Replacement → ℕ → Bool
+has places v = list_any (λ p. p.number == v) places
+
+place_above : (last : ℕ) (c r : Bool) (t u : Term) → (c || r) ≡ true → (r ≡ true → Above last u) → Above last (if c then beside last t else u)
+place_above last true r t u h f = beside_above last t
+place_above last false r t u h f = f h
+
+found_above : (last : ℕ) (places : List Replacement) (v : ℕ) → has places v ≡ true → Above last (test_variable last places v)
+found_above last [] v h = absurd (false≢true h)
+found_above last (p ∷ places) v h = place_above last (p.number == v) (has places v) p.by (test_variable last places v) h (found_above last places v)
+
+all_append : (f : ℕ → Bool) (vs ws : List ℕ) → list_all f (vs ++ ws) ≡ true → (list_all f vs ≡ true) × (list_all f ws ≡ true)
+all_append f vs ws h = and_parts (list_all f vs) (list_all f ws) (sym (list_all-append f vs ws) ∙ h)
+
+module _ (last : ℕ) (places : List Replacement) where
+  abbrev placed : Term → Term
+  placed t = substituted (test_variable last places) t
+
+  mutual
+    term_above : (t : Term) → list_all (has places) (variables_of t) ≡ true → Above last (placed t)
+    term_above (variable v) h = found_above last places v (and_parts (has places v) true h).0
+    term_above (integer i) h = tt
+    term_above (atom a) h = tt
+    term_above (structure f ts) h = terms_above ts h
+
+    terms_above : (ts : Terms) → list_all (has places) (variables_in ts) ≡ true → EachAbove last (each_substituted (test_variable last places) ts)
+    terms_above none h = tt
+    terms_above (more t ts) h = let b = all_append (has places) (variables_of t) (variables_in ts) h in (term_above t b.0, terms_above ts b.1)
+
+  abbrev OptionAbove : Option Test → Type 0
+  OptionAbove None = Unit {0}
+  OptionAbove (Some test) = TestAbove last (test_substituted (test_variable last places) test)
+
+  true_above : (c : Bool) → OptionAbove (if c then Some holds else None)
+  true_above true = tt
+  true_above false = tt
+
+  one_above : (o : Option Inspection) (a : Term) → Above last (placed a) → OptionAbove (option_map (λ i. looks i a) o)
+  one_above None a h = tt
+  one_above (Some i) a h = h
+
+  pair_above : (c d : Bool) (o : Option Comparison) (a b : Term) → Above last (placed a) → Above last (placed b) → OptionAbove (if c then Some (is_same a b) else if d then Some (is_other a b) else option_map (λ k. compares k a b) o)
+  pair_above true d o a b h k = (h, k)
+  pair_above false true o a b h k = (h, k)
+  pair_above false false None a b h k = tt
+  pair_above false false (Some q) a b h k = (h, k)
+
+  test_above : (t : Term) → list_all (has places) (variables_of t) ≡ true → OptionAbove (test_of t)
+  test_above (variable v) h = tt
+  test_above (integer i) h = tt
+  test_above (atom a) h = true_above (bytes_eq a (codes "true"))
+  test_above (structure f none) h = tt
+  test_above (structure f (more a none)) h = one_above (inspection_named f) a (terms_above (more a none) h).0
+  test_above (structure f (more a (more b none))) h =
+      let k = terms_above (more a (more b none)) h in
+      pair_above (bytes_eq f (codes "=")) (bytes_eq f (codes "\\=")) (comparison_named f) a b k.0 k.1.0
+  test_above (structure f (more a (more b (more c ts)))) h = tt
+
+  by_own : (x : Option Test) → OptionAbove x → Own last (outcome_by (test_variable last places) x)
+  by_own None h = tt
+  by_own (Some test) h = test_own last (test_substituted (test_variable last places) test) h
+
+  each_has : (vs ns : List ℕ) → ((v : ℕ) → is_among v vs ≡ true → has places v ≡ true) → list_all (λ v. is_among v vs) ns ≡ true → list_all (has places) ns ≡ true
+  each_has vs [] f h = refl
+  each_has vs (n ∷ ns) f h = let b = and_parts (is_among n vs) (list_all (λ v. is_among v vs) ns) h in ap (λ x. x && list_all (has places) ns) (f n b.0) ∙ each_has vs ns f b.1
+
+  tests_names : (vs : List ℕ) → ((v : ℕ) → is_among v vs ≡ true → has places v ≡ true) → (ts : List Term) → list_all (has_only vs) ts ≡ true → Names (tests_outcome last places ts)
+  tests_names vs f [] h = tt
+  tests_names vs f (t ∷ ts) h =
+      let b = and_parts (has_only vs t) (list_all (has_only vs) ts) h in
+      names_both (test_outcome last places t) (tests_outcome last places ts)
+      (own_names last (outcome_by (test_variable last places) (test_of t)) (by_own (test_of t) (test_above t (each_has vs (variables_of t) f b.0))))
+      (tests_names vs f ts b.1)
+
+-- ---- a match that agrees has a place for each variable
+
+both_agree : (a b : Outcome) → both a b ≡ agrees → (a ≡ agrees) × (b ≡ agrees)
+both_agree agrees b e = (refl, e)
+both_agree clashes b e = absurd (cc)
+both_agree (waits vs) agrees e = absurd (cc)
+both_agree (waits vs) clashes e = absurd (cc)
+both_agree (waits vs) (waits ws) e = absurd (cc)
+
+or_false : (x : Bool) → (x || false) ≡ true → x ≡ true
+or_false true h = refl
+or_false false h = h
+
+has_one : (w v : ℕ) (t : Term) → v == w ≡ true → has (record { number = w; by = t } ∷ []) v ≡ true
+has_one w v t e = or_left (w == v) false (eq-eqb w v (sym (eqb-true v w e)))
+
+has_inside : (c : Bool) (m : Matched) (v : ℕ) → (if c then m else with_outcome clashes).outcome ≡ agrees → (m.outcome ≡ agrees → has m.places v ≡ true) → has (if c then m else with_outcome clashes).places v ≡ true
+has_inside true m v e f = f e
+has_inside false m v e f = absurd (let k : clashes ≡ agrees = e in cc)
+
+has_either : (ps qs : List Replacement) (v : ℕ) (x y : Bool) → (x || y) ≡ true → (x ≡ true → has ps v ≡ true) → (y ≡ true → has qs v ≡ true) → has (ps ++ qs) v ≡ true
+has_either ps qs v true y h f g = list_any-append (λ p. p.number == v) ps qs ∙ or_left (has ps v) (has qs v) (f refl)
+has_either ps qs v false y h f g = list_any-append (λ p. p.number == v) ps qs ∙ or_right (has ps v) (has qs v) (g h)
+
+mutual
+  match_has : (p t : Term) → (match_term p t).outcome ≡ agrees → (v : ℕ) → is_among v (variables_of p) ≡ true → has (match_term p t).places v ≡ true
+  match_has (variable w) t e v h = has_one w v t (or_false (v == w) h)
+  match_has (integer i) t e v h = absurd (false≢true h)
+  match_has (atom a) t e v h = absurd (false≢true h)
+  match_has (structure f ps) (variable w) e v h = absurd (let k : waits (w ∷ []) ≡ agrees = e in cc)
+  match_has (structure f ps) (integer j) e v h = absurd (let k : clashes ≡ agrees = e in cc)
+  match_has (structure f ps) (atom b) e v h = absurd (let k : clashes ≡ agrees = e in cc)
+  match_has (structure f ps) (structure g ts) e v h = has_inside (bytes_eq f g && count_of ps == count_of ts) (match_terms ps ts) v e (λ k. match_each_has ps ts k v h)
+
+  match_each_has : (ps ts : Terms) → (match_terms ps ts).outcome ≡ agrees → (v : ℕ) → is_among v (variables_in ps) ≡ true → has (match_terms ps ts).places v ≡ true
+  match_each_has none none e v h = absurd (false≢true h)
+  match_each_has none (more t ts) e v h = absurd (false≢true h)
+  match_each_has (more p ps) none e v h = absurd (let k : clashes ≡ agrees = e in cc)
+  match_each_has (more p ps) (more t ts) e v h =
+      let b = both_agree (match_term p t).outcome (match_terms ps ts).outcome e in
+      has_either (match_term p t).places (match_terms ps ts).places v (is_among v (variables_of p)) (is_among v (variables_in ps))
+      (sym (list_any-append (λ m. v == m) (variables_of p) (variables_in ps)) ∙ h)
+      (match_has p t b.0 v)
+      (match_each_has ps ts b.1 v)
+
+-- ---- verdicts
+
+-- an outcome that clashes, or waits for some variable
+abbrev Stuck : Outcome → Type 0
+Stuck agrees = ⊥
+Stuck clashes = Unit {0}
+Stuck (waits []) = ⊥
+Stuck (waits (v ∷ vs)) = Unit {0}
+
+stuck_both : (a b : Outcome) → Stuck a → Stuck (both a b)
+stuck_both agrees b k = absurd k
+stuck_both clashes b k = tt
+stuck_both (waits []) b k = absurd k
+stuck_both (waits (v ∷ vs)) agrees k = tt
+stuck_both (waits (v ∷ vs)) clashes k = tt
+stuck_both (waits (v ∷ vs)) (waits ws) k = tt
+
+stuck_names : (o : Outcome) → Stuck o → Names o
+stuck_names agrees k = tt
+stuck_names clashes k = tt
+stuck_names (waits []) k = k
+stuck_names (waits (v ∷ vs)) k = tt
+
+whole_names : (a b g : Outcome) → Names a → Names b → (a ≡ agrees → Names g) → Names (both (both a b) g)
+whole_names agrees b g n k f = names_both b g k (f refl)
+whole_names clashes b g n k f = tt
+whole_names (waits []) b g n k f = absurd n
+whole_names (waits (v ∷ vs)) b g n k f = stuck_names (both (both (waits (v ∷ vs)) b) g) (stuck_both (both (waits (v ∷ vs)) b) g (stuck_both (waits (v ∷ vs)) b tt))
+
+no_suspension : (m : Matched) (o : Outcome) → verdict_with m o ≡ suspends [] → Names o → ⊥
+no_suspension m agrees e n = absurd (cc)
+no_suspension m clashes e n = absurd (cc)
+no_suspension m (waits []) e n = n
+no_suspension m (waits (v ∷ vs)) e n = absurd (cc)
+
+pub suspends_waits : SuspendsWaits
+suspends_waits c ts g e =
+    let m = match_terms c.patterns ts in
+    no_suspension m (both (both m.outcome (each_alike m.places)) (guard_outcome m.places c.tests)) e
+    (whole_names m.outcome (each_alike m.places) (guard_outcome m.places c.tests) (match_all_names c.patterns ts) (each_alike_names m.places)
+    (λ k. tests_names (highest_in (terms_of c.tests)) m.places (variables_in c.patterns) (match_each_has c.patterns ts k) c.tests g))

@@ -1,0 +1,113 @@
+-- Expressions of arithmetic: how a term is scanned, and what it comes to.
+use Rattle.std.specs.Prelude.{ℕ, suc, nat_lt, if◌then◌else◌, Bool, ℤ, pos, negsuc, ◌+ℤ◌, ◌-ℤ◌, ◌*ℤ◌, int_div, int_rem, List, [], ◌∷◌, codes, bytes_eq, find, Option, Some}
+use Rattle.std.specs.Ordering.{int_eq}
+pub use Rattle.kl1_model.specs.Limits.{most_operators}
+use Rattle.kl1_model.specs.Limits.{number_limit}
+use Rattle.kl1_model.specs.declared.operator.Operator.{Operator}
+use Rattle.kl1_model.specs.declared.operator.Operator.TheVariants.{Plus, Minus, Times, Divide, Modulo}
+use Rattle.kl1_model.specs.declared.number.Number.{Number}
+use Rattle.kl1_model.specs.declared.number.Number.TheVariants.{Value, Overflow, ZeroDivisor}
+use Rattle.kl1_model.specs.Term.{Term, variable, integer, atom, structure, Terms, none, more}
+
+-- the name of an operator
+abbrev pub operator_name : Operator → List ℕ
+operator_name Plus = codes "+"
+operator_name Minus = codes "-"
+operator_name Times = codes "*"
+operator_name Divide = codes "/"
+operator_name Modulo = codes "mod"
+
+-- all operators
+abbrev pub operators : List Operator
+operators = Plus ∷ Minus ∷ Times ∷ Divide ∷ Modulo ∷ []
+
+-- the operator of a name
+abbrev pub operator_named : List ℕ → Option Operator
+operator_named f = find (λ o. bytes_eq f (operator_name o)) operators
+
+-- an expression of arithmetic: an integer, or an operator with two operands
+pub data Formula : Type 0 where
+  number : ℤ → Formula
+  operation : Operator → Formula → Formula → Formula
+
+-- what is found in a term, each operator before its operands and the left before the right: an expression, and how many
+-- operators more there might have been; or an unbound variable; or else something that belongs in no expression
+pub data Scan : Type 0 where
+  found : Formula → ℕ → Scan
+  waits_for : ℕ → Scan
+  wrong_type : Scan
+
+-- an operation, where its right operand is found
+abbrev pub with_right : Operator → Formula → Scan → Scan
+with_right o a (found b left) = found (operation o a b) left
+with_right o a (waits_for v) = waits_for v
+with_right o a wrong_type = wrong_type
+
+-- an operation, where its left operand is found; the right one is scanned then
+abbrev pub with_left : Operator → Scan → (ℕ → Scan) → Scan
+with_left o (found a left) right = with_right o a (right left)
+with_left o (waits_for v) right = waits_for v
+with_left o wrong_type right = wrong_type
+
+-- a term scanned where there may be this many operators: the first leaf that is no integer decides
+abbrev mutual
+  pub scan : ℕ → Term → Scan
+  scan most (variable v) = waits_for v
+  scan most (integer i) = found (number i) most
+  scan most (atom a) = wrong_type
+  scan most (structure f ts) = scan_operation (operator_named f) most ts
+
+  pub scan_operation : Option Operator → ℕ → Terms → Scan
+  scan_operation (Some o) (suc most) (more a (more b none)) = with_left o (scan most a) (λ left. scan left b)
+  scan_operation o most ts = wrong_type
+
+-- whether an integer has 64 bits
+abbrev pub fits : ℤ → Bool
+fits (pos n) = nat_lt n number_limit
+fits (negsuc n) = nat_lt n number_limit
+
+-- a result, which has 64 bits or overflows
+abbrev pub fitted : ℤ → Number
+fitted z = if fits z then Value z else Overflow
+
+-- a quotient or a remainder by this divisor
+abbrev pub divided_by : ℤ → Number → Number
+divided_by d n = if int_eq d (pos 0) then ZeroDivisor else n
+
+-- what an operator makes of two integers; a quotient is rounded towards zero, and the remainder is the dividend less the
+-- quotient times the divisor, so it has the dividend's sign
+abbrev pub operated : Operator → ℤ → ℤ → Number
+operated Plus x y = fitted (x +ℤ y)
+operated Minus x y = fitted (x -ℤ y)
+operated Times x y = fitted (x *ℤ y)
+operated Divide x y = divided_by y (fitted (int_div x y))
+operated Modulo x y = divided_by y (Value (int_rem x y))
+
+-- what an operator makes of what its operands come to: a fault of the left one goes before one of the right, and both before its own
+abbrev pub applied : Operator → Number → Number → Number
+applied o (Value x) (Value y) = operated o x y
+applied o (Value x) Overflow = Overflow
+applied o (Value x) ZeroDivisor = ZeroDivisor
+applied o Overflow right = Overflow
+applied o ZeroDivisor right = ZeroDivisor
+
+-- what an expression comes to
+abbrev pub compute : Formula → Number
+compute (number i) = Value i
+compute (operation o a b) = applied o (compute a) (compute b)
+
+-- what a term comes to as an expression: a number or a fault of computing, or the wait for a variable, or it is none
+pub data Evaluated : Type 0 where
+  comes_to : Number → Evaluated
+  awaits : ℕ → Evaluated
+  is_no_expression : Evaluated
+
+-- what a scan leads to
+abbrev pub computed : Scan → Evaluated
+computed (found e left) = comes_to (compute e)
+computed (waits_for v) = awaits v
+computed wrong_type = is_no_expression
+
+-- what a term comes to as an expression, which has at most 64 operators
+abbrev pub evaluated : Term → Evaluated
+evaluated t = computed (scan most_operators t)
