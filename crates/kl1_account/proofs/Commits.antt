@@ -2,12 +2,14 @@
 use Rattle.std.proofs.Common.{◌≡◌, ℕ, ◌+◌, List, [], ◌++◌, length, sym, ap, ◌∙◌, arith, subst}
 use Rattle.std.specs.Prelude.{Option, Some, Result, Ok, Err, OnOk}
 use Rattle.std.proofs.lemmas.List.{append-nil}
+use Rattle.kl1_model.specs.declared.built_in.BuiltIn.{BuiltIn}
+use Rattle.kl1_model.specs.Text.{text_of}
 use Rattle.kl1_model.specs.Term as term
 use Rattle.kl1_model.specs.Match.{Candidate}
 use Rattle.kl1_model.specs.Unify.{solve}
 use Rattle.kl1_model.specs.Report.{report, exception}
 use Rattle.kl1_model.specs.Reduction as model
-use Rattle.kl1_model.specs.Reduction.{commits, raises, unifies, goes, failure, committed, moved, unified, equation}
+use Rattle.kl1_model.specs.Reduction.{commits, raises, unifies, goes, committed, moved, unified, equation}
 use Rattle.kl1_model.specs.Waits.{move_by}
 use Rattle.kl1_text.specs.Reading.{Reads}
 use Rattle.kl1_text.specs.declared.cell_name.CellName.{CellName}
@@ -85,12 +87,12 @@ moves_by_commit p place places x h k d e commit ms goal clause m removed as_foun
     (λ f knows s shoens there. ap (λ n. moved (goal_with (meaning f h) goal) (meaning f h x) n (worked f s h shoens (made_of goals d))) (is f knows) ∙ ap (λ n. committed (goal_with (meaning f h) goal) (candidate_in n) (worked f s h shoens (made_of goals d))) (sym (is f knows)))
     (commit ms goal (λ f. candidate_in (m f)) removed (λ f knows. subst (C f) (ap candidate_in (sym (is f knows))) (as_found f knows).is) goals i)
 
-pub moves_by_failure : (p : Predicate CellName) (places : List (Place CellName)) (x : Cell CellName) (h k : Held CellName) (d e : Draft) → DraftsAll (λ f. report d.shoen.number (exception failure (meaning f h x))) h k d e → Moves p move.Fails places x h k d e
-moves_by_failure p places x h k d e raised ms goal clause m removed as_found found goals i =
-    turns_as ms (λ f. report d.shoen.number (exception failure (meaning f h x))) (λ f. moved (goal_with (meaning f h) goal) (meaning f h x) (m f)) h k (made_of goals d) (made_of goals e)
+pub moves_by_exception : (p : Predicate CellName) (places : List (Place CellName)) (b : BuiltIn) (x : Cell CellName) (h k : Held CellName) (d e : Draft) → DraftsAll (λ f. report d.shoen.number (exception (text_of b) (meaning f h x))) h k d e → Moves p (move.Raises b) places x h k d e
+moves_by_exception p places b x h k d e raised ms goal clause m removed as_found found goals i =
+    turns_as ms (λ f. report d.shoen.number (exception (text_of b) (meaning f h x))) (λ f. moved (goal_with (meaning f h) goal) (meaning f h x) (m f)) h k (made_of goals d) (made_of goals e)
     (λ f knows s shoens there.
-    ap (λ n. moved (goal_with (meaning f h) goal) (meaning f h x) n (worked f s h shoens (made_of goals d))) (found_is (m f) (raises failure) (move_by (contents ms) (meaning f h x) clause) (found f knows) (as_found f knows))
-    ∙ ap (λ n. report n (exception failure (meaning f h x)) (worked f s h shoens (made_of goals d))) removed.shoen)
+    ap (λ n. moved (goal_with (meaning f h) goal) (meaning f h x) n (worked f s h shoens (made_of goals d))) (found_is (m f) (raises (text_of b)) (move_by (contents ms) (meaning f h x) clause) (found f knows) (as_found f knows))
+    ∙ ap (λ n. report n (exception (text_of b) (meaning f h x)) (worked f s h shoens (made_of goals d))) removed.shoen)
     (raised ms goals i)
 
 pub moves_by_unification : (p : Predicate CellName) (places : List (Place CellName)) (x l r : Cell CellName) (h k : Held CellName) (d e : Draft) →

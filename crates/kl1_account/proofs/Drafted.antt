@@ -3,6 +3,7 @@ use Rattle.std.proofs.Common.{◌≡◌, ℕ, suc, ◌+◌, ◌<◌, ◌≤◌, 
 use Rattle.std.specs.Prelude.{Option, Some, None, filter}
 use Rattle.kl1_model.specs.Module.{Module}
 use Rattle.kl1_model.specs.State.{State}
+use Rattle.kl1_model.specs.Text.{text_of}
 use Rattle.kl1_model.specs.Term.{Term}
 use Rattle.kl1_model.specs.Reduction as model
 use Rattle.kl1_model.specs.Reduction.{moved}
@@ -44,7 +45,7 @@ use Rattle.kl1_account.proofs.States.{goals_grown}
 -- a move that is found is one of the definitions
 pub found_move : (f : Reading) (h : Held CellName) (modules : List Module) (t : Term) (clause : ℕ) (p : Predicate CellName) (places : List (Place CellName)) (m : Move CellName) → MovesAs f h modules t clause p places (Some m) → (n : model.Move) × (move_by modules t clause ≡ Some n)
 found_move f h modules t clause p places (made.Commits place) k = (model.commits k.candidate, k.moves)
-found_move f h modules t clause p places made.Fails k = (model.raises model.failure, k)
+found_move f h modules t clause p places (made.Raises b) k = (model.raises (text_of b), k)
 found_move f h modules t clause p places (made.Unifies a b) k = (model.unifies (meaning f h a) (meaning f h b), k)
 found_move f h modules t clause p places made.Goes k = (model.goes, k)
 

@@ -5,6 +5,7 @@ use Rattle.std.proofs.lemmas.Bool.{and_parts, eqb-true}
 use Rattle.kl1_model.specs.Module.{Clause, Module}
 use Rattle.kl1_model.specs.Term.{Term}
 use Rattle.kl1_model.specs.Match.{clauses_of}
+use Rattle.kl1_model.specs.Waits.{awaited_by_term}
 use Rattle.kl1_text.specs.Reading.{Reads}
 use Rattle.kl1_text.specs.declared.cell_name.CellName.{CellName}
 use Rattle.kl1_store.specs.declared.cell.Cell.{Cell}
@@ -24,6 +25,7 @@ use Rattle.kl1_moves.specs.Standing.{StandsAs}
 use Rattle.kl1_modules.specs.Numbered.{Numbered}
 use Rattle.kl1_modules.specs.Finding.{contents, Finds}
 use Rattle.kl1_moves.specs.Hanging.{HangsOnEach}
+use Rattle.kl1_moves.proofs.Hooked.{hangs_on_same}
 use Rattle.kl1_account.specs.declared.draft.Change.{Change}
 use Rattle.kl1_account.specs.Fitting.{Reading, built}
 use Rattle.kl1_account.specs.Account.{meaning}
@@ -50,6 +52,7 @@ call_serves ms kind c found p e finds compiled =
 pub serves_has : (ms : List Numbered) (kind : Kind CellName) (p : Predicate CellName) → Serves ms kind p → (f : Reading) → Knows ms f → (h : Held CellName) (t : Term) → IsKind f h t kind → HasPredicate f h (contents ms) kind p
 serves_has ms (Calls c) p s f knows h t is = s f knows (call_at f h c) (record { module_is = refl; name_is = refl; counted = is.counted })
 serves_has ms (kinds.Unifies left right) p s f knows h t is = tt
+serves_has ms (kinds.Assigns left right) p s f knows h t is = tt
 serves_has ms kinds.Goes p s f knows h t is = tt
 serves_has ms (kinds.Waits v) p s f knows h t is = tt
 serves_has ms kinds.Nothing p s f knows h t is = tt
@@ -69,6 +72,7 @@ serves_same ms c (Calls d) p e s = λ f knows call asks.
       counted = asks.counted ∙ eqb-true d.count c.count one.1;
     })
 serves_same ms c (kinds.Unifies left right) p e s = tt
+serves_same ms c (kinds.Assigns left right) p e s = tt
 serves_same ms c kinds.Goes p e s = tt
 serves_same ms c (kinds.Waits v) p e s = tt
 serves_same ms c kinds.Nothing p e s = tt
@@ -82,7 +86,11 @@ pub stands_by : (h : Held CellName) (hooks : List Hook) (kind : Kind CellName) (
     ws ≡ vs → HangsOnEach hooks n ws → StandsBy h hooks kind p (record { number = n; standing = clause })
 stands_by h hooks kind p n vs ws clause stands same hangs =
     let H : List ℕ → Type 0 = λ us. HangsOnEach hooks n us in
-    record { found = λ f ms x reads k has. let s = stands f reads (contents ms) (meaning f h x) k has in record { standing = s.clause_is; hung = subst H (same ∙ s.awaits) hangs } }
+    record {
+      found = λ f ms x reads k has.
+          let s = stands f reads (contents ms) (meaning f h x) k has in
+          record { standing = s.clause_is; hung = hangs_on_same hooks n vs (awaited_by_term (contents ms) (meaning f h x)) s.awaits (subst H same hangs) };
+    }
 
 -- the same of the goal for a cell, where its kind and its predicate are found
 pub stands_at : (ms : List Numbered) (h : Held CellName) (hooks : List Hook) (x : Cell CellName) (kind : Kind CellName) (p : Predicate CellName) (c : Change) →

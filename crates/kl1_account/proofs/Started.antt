@@ -33,7 +33,9 @@ use Rattle.kl1_goals.specs.declared.goal.Goal.{Goal}
 use Rattle.kl1_modules.specs.Numbered.{Numbered, AreRead}
 use Rattle.kl1_shoen.specs.declared.shoen.Shoen.{Shoen}
 use Rattle.kl1_modules.specs.Finding.{contents}
+use Rattle.kl1_match.specs.Waiting.{AreSame}
 use Rattle.kl1_moves.specs.Hanging.{HangsOnEach}
+use Rattle.kl1_moves.proofs.Hooked.{hangs_on_same}
 use Rattle.kl1_account.specs.declared.opening.Opening.{Opening}
 use Rattle.kl1_account.specs.declared.refusal.Refusal.{Refusal}
 use Rattle.kl1_account.specs.declared.refusal.Refusal.TheVariants.{Names, Journal}
@@ -240,13 +242,14 @@ started_kept a b mid texts row numbers count cells awaited o allowance low high 
           let K : List Hook → Type 0 = λ ks. AreSettled f ks b.held b.modules b.goals in
           let M : List Numbered → Type 0 = λ ms. AreSettled f (hooks ++ hooks_on awaited (a.last_goal + 2)) b.held ms b.goals in
           let Z : List (Goal CellName) → Type 0 = λ gs. AreSettled f (hooks ++ hooks_on awaited (a.last_goal + 2)) b.held a.modules gs in
-          let A : List ℕ → Type 0 = λ vs. HangsOnEach (hooks ++ hooks_on awaited (a.last_goal + 2)) (suc (suc a.last_goal)) vs in
           let H : ℕ → Type 0 = λ n. HangsOnEach (hooks ++ hooks_on awaited (a.last_goal + 2)) n awaited in
-          let waits : awaited ≡ awaited_by_term (contents a.modules) (meaning f b.held p.cell) = judged.awaits ∙ ap (awaited_by_term (contents a.modules)) (sym means) in
+          let W : Term → Type 0 = λ t. AreSame awaited (awaited_by_term (contents a.modules) t) in
+          let hang = subst H number (hangs_on_all hooks (a.last_goal + 2) awaited) in
+          let hung_on = hangs_on_same (hooks ++ hooks_on awaited (a.last_goal + 2)) (suc (suc a.last_goal)) awaited (awaited_by_term (contents a.modules) (meaning f b.held p.cell)) (subst W (sym means) judged.awaits) hang in
           subst K (sym hung) (subst M (sym s.modules) (subst Z (sym p.goals_are)
           (settled_both f (hooks ++ hooks_on awaited (a.last_goal + 2)) b.held a.modules a.goals two
           (all_settled_same f hooks (hooks ++ hooks_on awaited (a.last_goal + 2)) a.held b.held a.modules a.goals agree k.goals (Contains-append_left hooks (hooks_on awaited (a.last_goal + 2))) (k.settled f (s.fits f fits)))
-          (record { standing = refl; hung = tt }, (record { standing = judged.clause_is ∙ ap (term_clause (contents a.modules)) (sym means); hung = subst A waits (subst H number (hangs_on_all hooks (a.last_goal + 2) awaited)) }, tt)))));
+          (record { standing = refl; hung = tt }, (record { standing = judged.clause_is ∙ ap (term_clause (contents a.modules)) (sym means); hung = hung_on }, tt)))));
       rows = λ f fits. (let M : List Numbered → Type 0 = λ ms. AreRead f ms in subst M (sym s.modules) (k.rows f (s.fits f fits)));
       named = λ f g fits also.
           sym (started_state a b mid texts row numbers count cells awaited o allowance low high goal hooks known k s f fits)

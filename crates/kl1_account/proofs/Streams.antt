@@ -1,6 +1,8 @@
 -- Reports, the end of a stream, exceptions and unifications, of the shoen at work.
 use Rattle.std.proofs.Common.{◌≡◌, ◌-◌, true, false, if◌then◌else◌, Bool, List, refl, sym, ap, ◌∙◌, arith, subst}
+use Rattle.kl1_model.specs.declared.built_in.BuiltIn.{BuiltIn}
 use Rattle.kl1_model.specs.declared.built_in.BuiltIn.TheVariants.{Failure}
+use Rattle.kl1_model.specs.Text.{text_of}
 use Rattle.kl1_model.specs.Term.{Term, variable, integer, atom, structure, replace, replaced}
 use Rattle.kl1_model.specs.Meaning.{nil}
 use Rattle.kl1_model.specs.Unify.{solve}
@@ -81,11 +83,11 @@ grown_turns ms h k w g same others i = record {
       ∙ ap (λ n. read_as s (meaning f k) (n - 1) shoens w) (sym same);
 }
 
-pub raised_turns : (ms : List Numbered) (h full k : Held CellName) (w v : Made) (goal message : Cell CellName) → Grown h full → IsException built h full Failure goal message → IsMadeIn h w →
-    (IsMadeIn full w → Turns ms (λ f. report w.shoen.number (meaning f full message)) full k w v) → Turns ms (λ f. report w.shoen.number (exception failure (meaning f h goal))) h k w v
-raised_turns ms h full k w v goal message g e i next =
+pub raised_turns : (ms : List Numbered) (h full k : Held CellName) (w v : Made) (kind : BuiltIn) (goal message : Cell CellName) → Grown h full → IsException built h full kind goal message → IsMadeIn h w →
+    (IsMadeIn full w → Turns ms (λ f. report w.shoen.number (meaning f full message)) full k w v) → Turns ms (λ f. report w.shoen.number (exception (text_of kind) (meaning f h goal))) h k w v
+raised_turns ms h full k w v kind goal message g e i next =
     let first = grown_turns ms h full w g e.variables e.others i in
-    turns_as ms (λ f. report w.shoen.number (meaning f full message)) (λ f. report w.shoen.number (exception failure (meaning f h goal))) h k w v
+    turns_as ms (λ f. report w.shoen.number (meaning f full message)) (λ f. report w.shoen.number (exception (text_of kind) (meaning f h goal))) h k w v
     (λ f reads s shoens p. ap (λ t. report w.shoen.number t (worked f s h shoens w)) (sym (e.means f reads.reads)))
     (turns_then ms (λ f s. s) (λ f. report w.shoen.number (meaning f full message)) h full k w w v g first (next first.inside))
 

@@ -33,6 +33,7 @@ use Rattle.kl1_account.specs.Waking.{AreSettledOr, IsFoundOut}
 abbrev pub Serves : List Numbered → Kind CellName → Predicate CellName → Type 0
 Serves modules (kind.Calls c) p = (f : Reading) → Knows modules f → (call : model.Call) → Asks f c.module_name c.name c.count call → AreCompiled (map f p.names.now) p.clauses.now (clauses_of (contents modules) call)
 Serves modules (kind.Unifies left right) p = Unit {0}
+Serves modules (kind.Assigns left right) p = Unit {0}
 Serves modules kind.Goes p = Unit {0}
 Serves modules (kind.Waits v) p = Unit {0}
 Serves modules kind.Nothing p = Unit {0}
@@ -41,6 +42,7 @@ Serves modules kind.Nothing p = Unit {0}
 abbrev pub calls_same : Call CellName → Kind CellName → Bool
 calls_same c (kind.Calls d) = d.module_name.number == c.module_name.number && d.name.number == c.name.number && d.count == c.count
 calls_same c (kind.Unifies left right) = false
+calls_same c (kind.Assigns left right) = false
 calls_same c kind.Goes = false
 calls_same c (kind.Waits v) = false
 calls_same c kind.Nothing = false

@@ -17,6 +17,7 @@ use Rattle.kl1_account.specs.declared.reply.Reply.TheVariants as reply
 -- the query that this one is
 abbrev pub query_of : Query → model.Query
 query_of (query.Value n) = model.value n.0
+query_of query.Quiet = model.is_quiet
 
 -- the event that this one is
 abbrev pub event_of : Event → model.Event
@@ -42,6 +43,7 @@ reply_of (reply.Opened n) = model.opened n.0
 reply_of reply.Reduced = model.reduced
 reply_of (reply.Ran n) = model.ran n
 reply_of (reply.Shown text) = model.shown text.items
+reply_of (reply.Quiet b) = model.quiet_is b
 reply_of (reply.Refused r) = model.refused (refusal_of r)
 
 -- the reply to a reduction that is refused for this reason, or done where there is none

@@ -8,6 +8,8 @@ use kl1_term::Term;
 pub enum Query {
     /// The goal of a shoen as started, with what is bound now.
     Value(ShoenNo),
+    /// Whether no goal can step.
+    Quiet,
 }
 
 /// What may be done to an account. Any numbers, goals and lengths may stand here: those that the language does not allow

@@ -32,6 +32,7 @@ pub(crate) fn predicate_of(modules: &Modules, kind: Kind<CellName>) -> Predicate
     match kind {
         Kind::Calls(call) => or_none(modules.find(call.module_name, call.name, call.count)),
         Kind::Unifies(_, _) => or_none(None),
+        Kind::Assigns(_, _) => or_none(None),
         Kind::Goes => or_none(None),
         Kind::Waits(_) => or_none(None),
         Kind::Nothing => or_none(None),
@@ -49,6 +50,7 @@ fn calls_same(call: Call<CellName>, kind: Kind<CellName>) -> bool
                 && other.count == call.count
         }
         Kind::Unifies(_, _) => false,
+        Kind::Assigns(_, _) => false,
         Kind::Goes => false,
         Kind::Waits(_) => false,
         Kind::Nothing => false,
@@ -77,6 +79,7 @@ fn predicate_near<'a>(
             predicate_of(modules, kind)
         }
         Kind::Unifies(_, _) => predicate_of(modules, kind),
+        Kind::Assigns(_, _) => predicate_of(modules, kind),
         Kind::Goes => predicate_of(modules, kind),
         Kind::Waits(_) => predicate_of(modules, kind),
         Kind::Nothing => predicate_of(modules, kind),

@@ -44,6 +44,7 @@ fn predicate_beside<'a>(
             call.count,
         )),
         Kind::Unifies(_, _) => or_none(None),
+        Kind::Assigns(_, _) => or_none(None),
         Kind::Goes => or_none(None),
         Kind::Waits(_) => or_none(None),
         Kind::Nothing => or_none(None),

@@ -40,7 +40,7 @@ pub(crate) fn do_move(
 {
     match made {
         Move::Commits(place) => commit(store, predicate, place, trial, draft),
-        Move::Fails => raise(store, draft, cell),
+        Move::Raises(kind) => raise(store, draft, kind, cell),
         Move::Unifies(left, right) => unify(store, draft, cell, left, right),
         Move::Goes => Ok(()),
     }

@@ -17,6 +17,8 @@ pub enum Reply {
     Ran(u64),
     /// A goal, printed and cut.
     Shown(Vec<u8>),
+    /// Whether no goal can step.
+    Quiet(bool),
     /// The event is refused, and the account is as it was.
     Refused(Refusal),
 }

@@ -3,7 +3,8 @@
 ghost use Rattle.std.specs.Prelude.{◌≡◌, codes, List, OnOk};
 ghost use Rattle.kl1_model.specs.Unify.{solve};
 ghost use Rattle.kl1_model.specs.Report.{report, close, exception};
-ghost use Rattle.kl1_model.specs.Reduction.{failure, unified, equation};
+ghost use Rattle.kl1_model.specs.Reduction.{unified, equation};
+ghost use Rattle.kl1_model.specs.Text.{text_of};
 ghost use Rattle.kl1_store.specs.Held.{IsIn};
 ghost use Rattle.kl1_store.specs.Sound.{Grown};
 ghost use Rattle.kl1_account.specs.Account.{meaning};
@@ -46,22 +47,24 @@ pub(crate) fn report(
     }
 }
 
-/// Reports that a goal of the shoen at work failed. Where memory is refused, the store may have grown.
+/// Reports that a goal of the shoen at work raised an exception of the kind of a name. Where memory is refused, the store may have
+/// grown.
 pub(crate) fn raise(
     store: &mut Store<CellName>,
     draft: &mut Draft,
+    kind: BuiltIn,
     goal: Cell<CellName>,
 ) -> Result<(), AllocError>
     requires goal { IsIn store.old.held goal }
     requires shoen { IsShoenIn store.old.held draft.old.shoen }
-    ensures ok { OnOk result (DraftsAll (λ f. report draft.old.shoen.number (exception failure (meaning f store.old.held goal))) store.old.held store.new.held draft.old draft.new) }
+    ensures ok { OnOk result (DraftsAll (λ f. report draft.old.shoen.number (exception (text_of kind) (meaning f store.old.held goal))) store.old.held store.new.held draft.old draft.new) }
     ensures shoen { OnOk result (IsShoenIn store.new.held draft.new.shoen) }
     ensures moved { IsMoved draft.old draft.new }
     ensures cells { draft.new.cells ≡ draft.old.cells }
     ensures grown { Grown store.old.held store.new.held }
     ensures hooks { store.new.hooks ≡ store.old.hooks }
 {
-    let message = exception_of(store, BuiltIn::Failure, goal)?;
+    let message = exception_of(store, kind, goal)?;
     report(store, draft, message)
 }
 
@@ -86,7 +89,7 @@ pub(crate) fn unify(
 {
     match kl1_unify::unify(store, left, right)? {
         Unified::Bound => Ok(()),
-        Unified::Clash => raise(store, draft, goal),
+        Unified::Clash => raise(store, draft, BuiltIn::Failure, goal),
     }
 }
 

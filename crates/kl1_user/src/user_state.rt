@@ -67,6 +67,7 @@ impl<A: AtomSource> UserState<A> {
             Event::Reduce { goal, clause } => Ok(reply_to(self.account.reduce(goal.0, clause.0)?)),
             Event::Read(query) => match *query {
                 Query::Value(number) => self.account.value(names, seat, number.0),
+                Query::Quiet => Ok(Reply::Quiet(self.account.quiet())),
             },
             Event::Load { source } => self.account.load(names, seat, source.as_slice()),
             Event::Start {
