@@ -26,3 +26,4 @@ pub mod Later
 pub mod Freeing
 pub mod Tops
 pub mod Placing
+pub mod InModules

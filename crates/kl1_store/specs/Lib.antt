@@ -26,3 +26,4 @@ pub mod Later
 pub mod Tops
 pub mod Places
 pub mod Unbound
+pub mod InModules
