@@ -13,8 +13,11 @@ use Rattle.kl1_clause.specs.declared.instruction.Instruction.{Instruction}
 use Rattle.kl1_clause.specs.declared.name.Name.{Name}
 use Rattle.kl1_clause.specs.NameList.{with_text, with_texts}
 use Rattle.kl1_clause.specs.Instructions.{text_in, IsPlaced, IsRowOf, code_in}
+use Rattle.kl1_clause.specs.BareGoals.{module_of, bare, whole_each, module_text, AreModulesOf}
 use Rattle.kl1_clause.specs.Plain.{IsPlain}
 use Rattle.kl1_clause.specs.Clauses.{priorities_of, goals_with, clause_in, terms_in, IsCompiled, AreCompiled}
+use Rattle.kl1_clause.proofs.BareGoals.{whole_each_again}
+use Rattle.kl1_clause.proofs.Bodies.{modules_of_stay}
 use Rattle.kl1_clause.proofs.Growth.{Grows, joined, one_grows, all_grow, with_more, with_both, name_stays, row_stays}
 
 -- names with others behind them, where it is known which
@@ -47,7 +50,8 @@ clause_stays names new c d g i =
       patterns = row_of_stays names new c.patterns.items (nodes_of_all d.patterns) g i.patterns;
       tests = row_of_stays names new c.tests.items (nodes_of_all (terms_of d.tests)) g i.tests;
       section = i.section;
-      goals = row_of_stays names new c.goals.items (nodes_of_all (terms_of (goals_of d.body))) g i.goals;
+      goals = row_of_stays names new c.goals.items (nodes_of_all (terms_of (map bare (goals_of d.body)))) g i.goals;
+      modules = modules_of_stay names new c.modules.items (map module_of (goals_of d.body)) g i.modules;
       priorities = i.priorities;
       head_variables = i.head_variables;
       fresh_variables = i.fresh_variables;
@@ -82,8 +86,11 @@ pub clause_means : (names : List (List ℕ)) (c : CompiledClause) (d : Clause) �
 clause_means names c d i =
     let patterns : terms_of (terms_in names c.patterns.items) ≡ d.patterns = ap terms_of (read_row names c.patterns.items d.patterns i.patterns) ∙ terms_of-list_of d.patterns in
     let tests : terms_in names c.tests.items ≡ d.tests = read_row names c.tests.items (terms_of d.tests) i.tests ∙ list_of-terms_of d.tests in
-    let goals : terms_in names c.goals.items ≡ goals_of d.body = read_row names c.goals.items (terms_of (goals_of d.body)) i.goals ∙ list_of-terms_of (goals_of d.body) in
-    let body : goals_with (terms_in names c.goals.items) c.priorities.items ≡ d.body = ap (λ ts. goals_with ts c.priorities.items) goals ∙ ap (goals_with (goals_of d.body)) i.priorities ∙ goals_again d.body in
+    let bares : terms_in names c.goals.items ≡ map bare (goals_of d.body) = read_row names c.goals.items (terms_of (map bare (goals_of d.body))) i.goals ∙ list_of-terms_of (map bare (goals_of d.body)) in
+    let goals : whole_each (map (module_text names) c.modules.items) (terms_in names c.goals.items) ≡ goals_of d.body =
+    ap (λ ms. whole_each ms (terms_in names c.goals.items)) i.modules.texts_are ∙ ap (whole_each (map module_of (goals_of d.body))) bares ∙ whole_each_again (goals_of d.body) in
+    let body : goals_with (whole_each (map (module_text names) c.modules.items) (terms_in names c.goals.items)) c.priorities.items ≡ d.body =
+    ap (λ ts. goals_with ts c.priorities.items) goals ∙ ap (goals_with (goals_of d.body)) i.priorities ∙ goals_again d.body in
     clause_eq (clause_in names c) d i.name patterns tests i.section body
   where
     clause_eq : (a b : Clause) → a.name ≡ b.name → a.patterns ≡ b.patterns → a.tests ≡ b.tests → a.section ≡ b.section → a.body ≡ b.body → a ≡ b
@@ -121,7 +128,8 @@ pub record IsMade (names a b c d : List (List ℕ)) (compiled : CompiledClause) 
   pub patterns : IsRowOf b compiled.patterns.items (nodes_of_all clause.patterns)
   pub tests : IsRowOf c compiled.tests.items (nodes_of_all (terms_of clause.tests))
   pub section : compiled.section ≡ clause.section
-  pub goals : IsRowOf d compiled.goals.items (nodes_of_all (terms_of (goals_of clause.body)))
+  pub goals : IsRowOf d compiled.goals.items (nodes_of_all (terms_of (map bare (goals_of clause.body))))
+  pub modules : AreModulesOf d compiled.modules.items (map module_of (goals_of clause.body))
   pub priorities : compiled.priorities.items ≡ priorities_of clause.body
   pub count : compiled.count ≡ count_of clause.patterns
   pub head_variables : compiled.head_variables ≡ head_variables clause
@@ -146,6 +154,7 @@ made names a b c d compiled clause m =
         tests = row_of_stays c d compiled.tests.items (nodes_of_all (terms_of clause.tests)) to_d m.tests;
         section = m.section;
         goals = m.goals;
+        modules = m.modules;
         priorities = m.priorities;
         head_variables = m.head_variables;
         fresh_variables = m.fresh_variables;

@@ -10,3 +10,5 @@ pub mod Soundness
 pub mod Together
 pub mod Rising
 pub mod Guards
+pub mod BareGoals
+pub mod Bodies

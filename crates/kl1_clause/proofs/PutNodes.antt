@@ -4,9 +4,6 @@ use Rattle.std.proofs.lemmas.List.{map-append, take_more}
 use Rattle.kl1_model.specs.Term.{Term, Terms, terms_of}
 use Rattle.kl1_model.specs.TermCode.{NodeCode, nodes_of, nodes_of_all}
 use Rattle.kl1_model.specs.State.{names_in}
-use Rattle.kl1_model.specs.Module.{goals_of}
-use Rattle.kl1_read.specs.declared.clause_parts.GoalParts.{GoalParts}
-use Rattle.kl1_read.specs.Sources.{goal_of_parts}
 use Rattle.kl1_term.specs.declared.node.Node.{Node}
 use Rattle.kl1_term.specs.Nodes.{code_of}
 use Rattle.kl1_clause.specs.declared.instruction.Instruction.{Instruction}
@@ -44,7 +41,7 @@ put_next a b c r s t nodes i node within is p q =
     subst (Puts a c r t) (sym (ap (map code_of) (take_more nodes i node within ∙ ap (λ (x : Node). take i nodes ++ x ∷ []) (sym is)) ∙ map-append code_of (take i nodes) (node ∷ []))) (put_both p q)
 
 -- the nodes of terms with one more behind
-nodes_push : (ts : List Term) (t : Term) → nodes_of_all (terms_of (ts ++ t ∷ [])) ≡ nodes_of_all (terms_of ts) ++ nodes_of t
+pub nodes_push : (ts : List Term) (t : Term) → nodes_of_all (terms_of (ts ++ t ∷ [])) ≡ nodes_of_all (terms_of ts) ++ nodes_of t
 nodes_push [] t = append-nil (nodes_of t)
 nodes_push (u ∷ us) t = ap (λ (x : List NodeCode). nodes_of u ++ x) (nodes_push us t) ∙ sym (append_assoc (nodes_of u) (nodes_of_all (terms_of us)) (nodes_of t))
 
@@ -52,16 +49,6 @@ nodes_push (u ∷ us) t = ap (λ (x : List NodeCode). nodes_of u ++ x) (nodes_pu
 pub put_next_term : (a b c : List (List ℕ)) (r s t : List Instruction) (terms : List Term) (i : ℕ) (term : Term) → i < length terms → term ≡ get_or terms i term → Puts a b r s (nodes_of_all (terms_of (take i terms))) → Puts b c s t (nodes_of term) → Puts a c r t (nodes_of_all (terms_of (take (i + 1) terms)))
 put_next_term a b c r s t terms i term within is p q =
     subst (Puts a c r t) (sym (ap (λ (x : List Term). nodes_of_all (terms_of x)) (take_more terms i term within ∙ ap (λ (x : Term). take i terms ++ x ∷ []) (sym is)) ∙ nodes_push (take i terms) term)) (put_both p q)
-
--- the nodes of goals with one more behind
-goals_push : (goals : List GoalParts) (g : GoalParts) → nodes_of_all (terms_of (goals_of (map goal_of_parts (goals ++ g ∷ [])))) ≡ nodes_of_all (terms_of (goals_of (map goal_of_parts goals))) ++ nodes_of g.goal
-goals_push [] g = append-nil (nodes_of g.goal)
-goals_push (h ∷ goals) g = ap (λ (x : List NodeCode). nodes_of h.goal ++ x) (goals_push goals g) ∙ sym (append_assoc (nodes_of h.goal) (nodes_of_all (terms_of (goals_of (map goal_of_parts goals)))) (nodes_of g.goal))
-
--- the next of goals
-pub put_next_goal : (a b c : List (List ℕ)) (r s t : List Instruction) (goals : List GoalParts) (i : ℕ) (g : GoalParts) → i < length goals → g ≡ get_or goals i g → Puts a b r s (nodes_of_all (terms_of (goals_of (map goal_of_parts (take i goals))))) → Puts b c s t (nodes_of g.goal) → Puts a c r t (nodes_of_all (terms_of (goals_of (map goal_of_parts (take (i + 1) goals)))))
-put_next_goal a b c r s t goals i g within is p q =
-    subst (Puts a c r t) (sym (ap (λ (x : List GoalParts). nodes_of_all (terms_of (goals_of (map goal_of_parts x)))) (take_more goals i g within ∙ ap (λ (x : GoalParts). take i goals ++ x ∷ []) (sym is)) ∙ goals_push (take i goals) g)) (put_both p q)
 
 -- a row of terms that was put whole
 pub row_done : (names new : List (List ℕ)) (after : List Instruction) (ts : Terms) → Puts names new [] after (nodes_of_all ts) → (new ≡ with_texts names (names_in ts)) × IsRowOf new after (nodes_of_all ts)

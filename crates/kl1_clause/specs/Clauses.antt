@@ -8,6 +8,7 @@ use Rattle.kl1_model.specs.WaitsLaws.{is_guarded}
 use Rattle.kl1_clause.specs.declared.compiled_clause.CompiledClause.{CompiledClause}
 use Rattle.kl1_clause.specs.declared.instruction.Instruction.{Instruction}
 use Rattle.kl1_clause.specs.Instructions.{text_in, IsPlaced, IsRowOf, code_in}
+use Rattle.kl1_clause.specs.BareGoals.{module_of, bare, whole_each, module_text, AreModulesOf}
 use Rattle.kl1_clause.specs.Plain.{IsPlain}
 
 -- the terms of a row, one behind another, where the names of the code are these
@@ -26,7 +27,7 @@ goals_with (t ∷ ts) (p ∷ ps) = record { goal = t; priority = p } ∷ goals_w
 
 -- the clause that a compiled clause means, where the names of the code are these
 abbrev pub clause_in : List (List ℕ) → CompiledClause → Clause
-clause_in names c = record { name = text_in names c.name; patterns = terms_of (terms_in names c.patterns.items); tests = terms_in names c.tests.items; section = c.section; body = goals_with (terms_in names c.goals.items) c.priorities.items }
+clause_in names c = record { name = text_in names c.name; patterns = terms_of (terms_in names c.patterns.items); tests = terms_in names c.tests.items; section = c.section; body = goals_with (whole_each (map (module_text names) c.modules.items) (terms_in names c.goals.items)) c.priorities.items }
 
 -- a compiled clause is this clause, whose tests have variables of its head alone, where the names of the code are these
 pub record IsCompiled (names : List (List ℕ)) (compiled : CompiledClause) (clause : Clause) : Type 0 where
@@ -36,7 +37,8 @@ pub record IsCompiled (names : List (List ℕ)) (compiled : CompiledClause) (cla
   pub patterns : IsRowOf names compiled.patterns.items (nodes_of_all clause.patterns)
   pub tests : IsRowOf names compiled.tests.items (nodes_of_all (terms_of clause.tests))
   pub section : compiled.section ≡ clause.section
-  pub goals : IsRowOf names compiled.goals.items (nodes_of_all (terms_of (goals_of clause.body)))
+  pub goals : IsRowOf names compiled.goals.items (nodes_of_all (terms_of (map bare (goals_of clause.body))))
+  pub modules : AreModulesOf names compiled.modules.items (map module_of (goals_of clause.body))
   pub priorities : compiled.priorities.items ≡ priorities_of clause.body
   pub head_variables : compiled.head_variables ≡ head_variables clause
   pub fresh_variables : compiled.fresh_variables ≡ fresh_variables clause

@@ -1,3 +1,5 @@
+pub mod BareGoals
+pub mod Bodies
 pub mod Clauses
 pub mod Codes
 pub mod GoalCodes

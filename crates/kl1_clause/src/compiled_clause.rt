@@ -12,19 +12,21 @@ ghost use Rattle.kl1_model.specs.WaitsLaws.{is_guarded};
 ghost use Rattle.kl1_read.specs.Sources.{clause_of_parts, goal_of_parts};
 ghost use Rattle.kl1_clause.specs.Clauses.{IsCompiled, priorities_of};
 
+use crate::body::body_of;
 use crate::instruction::Instruction;
 use crate::name::Name;
 use crate::names::Names;
 use crate::plain::is_plain;
-use crate::rows::{goal_row, row_of};
+use crate::rows::row_of;
 use kl1_read::{ClauseParts, GoalParts};
 use kl1_term::highest_among;
 use std::alloc::{AllocError, Global};
 
 /// A clause as instructions: its predicate's name and number of arguments; the number of its section, from 0, between the
-/// `otherwise`s of its predicate; its patterns, its tests and the goals of its body, each a row of terms one behind another;
-/// for each goal the priority that it names, if any; how many variables its head has, and how many others its body has; and
-/// whether it is plain: where it is, it has no tests but `true`, and its head repeats no variable.
+/// `otherwise`s of its predicate; its patterns, its tests and the goals of its body, each a row of terms one behind another,
+/// where a goal that names its module by an atom stands without that name and the `:`; for each goal that name, and the
+/// priority that it names, if any; how many variables its head has, and how many others its body has; and whether it is plain:
+/// where it is, it has no tests but `true`, and its head repeats no variable.
 #[derive(Drop)]
 pub struct CompiledClause {
     pub name: Name,
@@ -33,6 +35,7 @@ pub struct CompiledClause {
     pub patterns: Vec<Instruction>,
     pub tests: Vec<Instruction>,
     pub goals: Vec<Instruction>,
+    pub modules: Vec<Option<Name>>,
     pub priorities: Vec<Option<u64>>,
     pub head_variables: u64,
     pub fresh_variables: u64,
@@ -52,7 +55,7 @@ pub(crate) fn compiled_of(
     let name = names.placed(&parts.name)?;
     let patterns = row_of(alloc, names, &parts.patterns)?;
     let tests = row_of(alloc, names, &parts.tests)?;
-    let goals = goal_row(alloc, names, &parts.body)?;
+    let body = body_of(alloc, names, &parts.body)?;
     let priorities = priorities_of(alloc, &parts.body)?;
     let head_variables = highest_among(&parts.patterns);
     let fresh_variables = fresh_among(&parts.body, head_variables);
@@ -64,7 +67,8 @@ pub(crate) fn compiled_of(
         section: parts.section,
         patterns,
         tests,
-        goals,
+        goals: body.goals,
+        modules: body.modules,
         priorities,
         head_variables,
         fresh_variables,

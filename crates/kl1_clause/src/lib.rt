@@ -1,6 +1,7 @@
 //! Modules compiled once for all accounts: clauses as rows of instructions, whose names are places in the module's own list.
 #![tactic(auto)]
 
+mod body;
 mod code;
 mod code_fault;
 mod compiled_clause;

@@ -4,16 +4,13 @@ ghost use Rattle.std.specs.Prelude.{◌≡◌, ◌∷◌, [], ◌++◌, length, 
 ghost use Rattle.kl1_model.specs.Term.{terms_of};
 ghost use Rattle.kl1_model.specs.TermCode.{nodes_of_all};
 ghost use Rattle.kl1_model.specs.State.{names_in};
-ghost use Rattle.kl1_model.specs.Module.{goals_of};
 ghost use Rattle.kl1_term.specs.Nodes.{code_of};
-ghost use Rattle.kl1_read.specs.Sources.{goal_of_parts};
 ghost use Rattle.kl1_clause.specs.NameList.{with_texts};
 ghost use Rattle.kl1_clause.specs.Instructions.{IsNamed, AreNamed, IsRowOf, code_in, names_of_nodes};
 ghost use Rattle.kl1_clause.specs.Putting.{Puts};
 
 use crate::instruction::Instruction;
 use crate::names::Names;
-use kl1_read::GoalParts;
 use kl1_term::{Node, Term};
 use std::alloc::{AllocError, Global};
 
@@ -29,22 +26,6 @@ pub(crate) fn row_of(
     let mut row = Vec::new(alloc);
     for term in terms {
         put_nodes(names, &mut row, term.nodes())?;
-    }
-    Ok(row)
-}
-
-/// The instructions of goals, one behind another, with their names put to the others.
-pub(crate) fn goal_row(
-    alloc: Global,
-    names: &mut Names,
-    goals: &[GoalParts],
-) -> Result<Vec<Instruction>, AllocError>
-    ensures names { OnOk result (names.new ≡ with_texts names.old (names_in (terms_of (goals_of (map goal_of_parts goals.now))))) }
-    ensures row { IfOk result (λ row. IsRowOf names.new row.items (nodes_of_all (terms_of (goals_of (map goal_of_parts goals.now))))) }
-{
-    let mut row = Vec::new(alloc);
-    for goal in goals {
-        put_nodes(names, &mut row, goal.goal.nodes())?;
     }
     Ok(row)
 }

@@ -12,22 +12,23 @@ returns c =
     let p = c.args.parts.now in
     let head : c.highest_among-head_variables.result ≡ highest_in (terms_of p.patterns.items) = c.highest_among-head_variables.ensures ∙ ap (λ x. highest_in (terms_of x)) c.deref-5.ensures.value in
     let fresh : c.fresh_among-fresh_variables.result ≡ highest_in (terms_of (goals_of (map goal_of_parts p.body.items))) - highest_in (terms_of p.patterns.items) = c.fresh_among-fresh_variables.ensures ∙ (ap (λ x. highest_in (terms_of (goals_of (map goal_of_parts x))) - c.highest_among-head_variables.result) c.deref-6.ensures.value ∙ ap (λ n. highest_in (terms_of (goals_of (map goal_of_parts p.body.items))) - n) head) in
-    let all = made c.args.names.now c.placed.new.self c.row_of.new.names c.row_of-2.new.names c.goal_row.new.names
-    (record { name = c.in_ok-name.name; count = c.len-count.result; section = p.section; patterns = c.in_ok-patterns.patterns; tests = c.in_ok-tests.tests; goals = c.in_ok-goals.goals; priorities = c.in_ok-priorities.priorities; head_variables = c.highest_among-head_variables.result; fresh_variables = c.fresh_among-fresh_variables.result; is_plain = c.is_plain-is_plain.result })
+    let all = made c.args.names.now c.placed.new.self c.row_of.new.names c.row_of-2.new.names c.body_of.new.names
+    (record { name = c.in_ok-name.name; count = c.len-count.result; section = p.section; patterns = c.in_ok-patterns.patterns; tests = c.in_ok-tests.tests; goals = c.in_ok-body.body.goals; modules = c.in_ok-body.body.modules; priorities = c.in_ok-priorities.priorities; head_variables = c.highest_among-head_variables.result; fresh_variables = c.fresh_among-fresh_variables.result; is_plain = c.is_plain-is_plain.result })
     (clause_of_parts p)
     (record {
       parted = record {
         name = c.in_ok-name.ensures.names;
         patterns = rw c.deref.ensures.value at c.in_ok-patterns.ensures.names;
         tests = rw c.deref-2.ensures.value at c.in_ok-tests.ensures.names;
-        body = rw c.deref-3.ensures.value at c.in_ok-goals.ensures.names;
+        body = rw c.deref-3.ensures.value at c.in_ok-body.ensures.names_are;
       };
       placed = c.in_ok-name.ensures.placed;
       name = c.in_ok-name.ensures.text;
       patterns = rw c.deref.ensures.value at c.in_ok-patterns.ensures.row;
       tests = rw c.deref-2.ensures.value at c.in_ok-tests.ensures.row;
       section = refl;
-      goals = rw c.deref-3.ensures.value at c.in_ok-goals.ensures.row;
+      goals = rw c.deref-3.ensures.value at c.in_ok-body.ensures.row_is;
+      modules = rw c.deref-3.ensures.value at c.in_ok-body.ensures.modules_are;
       priorities = rw c.deref-4.ensures.value at c.in_ok-priorities.ensures;
       count = c.len-count.ensures ∙ (p.patterns.ok.0 ∙ sym (count_of-terms_of p.patterns.items));
       head_variables = head;
