@@ -2,8 +2,8 @@
 use Rattle.std.proofs.Common.{◌≡◌, ℕ, List, [], ◌∷◌, ◌++◌, length, map, take, get_or, ◌+◌, ◌<◌, refl, sym, ap, subst, ◌∙◌, append_assoc, append-nil}
 use Rattle.std.specs.Prelude.{Option, Some, None}
 use Rattle.std.proofs.lemmas.List.{map-append, take_more}
-use Rattle.kl1_model.specs.Term.{Term, Terms, terms_of}
-use Rattle.kl1_model.specs.TermCode.{NodeCode, nodes_of, nodes_of_all}
+use Rattle.kl1_model.specs.Term.{Term, terms_of}
+use Rattle.kl1_model.specs.TermCode.{nodes_of, nodes_of_all}
 use Rattle.kl1_model.specs.State.{names_of, names_in}
 use Rattle.kl1_model.specs.Module.{goals_of}
 use Rattle.kl1_read.specs.declared.clause_parts.GoalParts.{GoalParts}
@@ -11,11 +11,11 @@ use Rattle.kl1_read.specs.Sources.{goal_of_parts}
 use Rattle.kl1_clause.specs.declared.instruction.Instruction.{Instruction}
 use Rattle.kl1_clause.specs.declared.name.Name.{Name}
 use Rattle.kl1_clause.specs.NameList.{with_text, with_texts}
-use Rattle.kl1_clause.specs.Instructions.{text_in, IsPlaced, AreNamed, code_in}
+use Rattle.kl1_clause.specs.Instructions.{text_in, IsPlaced, AreNamed}
 use Rattle.kl1_clause.specs.BareGoals.{module_of, bare, module_text, ArePlaced, AreModulesOf, name_list}
 use Rattle.kl1_clause.specs.Putting.{Puts}
 use Rattle.kl1_clause.specs.Bodies.{PutsModule, PutsGoal, IsBody}
-use Rattle.kl1_clause.proofs.Growth.{Grows, joined, all_grow, with_none, with_more, with_both, name_stays, row_stays, names_of_one, names_of_all}
+use Rattle.kl1_clause.proofs.Growth.{Grows, joined, all_grow, with_none, with_more, with_both, name_stays, row_stays, names_of_one}
 use Rattle.kl1_clause.proofs.BareGoals.{names_apart}
 use Rattle.kl1_clause.proofs.PutNodes.{nodes_push}
 

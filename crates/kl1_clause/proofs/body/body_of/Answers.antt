@@ -1,4 +1,3 @@
-use Rattle.std.proofs.Common.{[]}
 use Rattle.kl1_clause.proofs.Bodies.{no_goals, next_goal}
 use Rattle.kl1_clause.proofs.body.body_of.Goals as goal
 

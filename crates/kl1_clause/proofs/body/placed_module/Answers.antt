@@ -1,6 +1,5 @@
 use Rattle.std.proofs.Common.{ℕ, List, subst, sym}
 use Rattle.std.specs.Prelude.{Option, Some, None}
-use Rattle.kl1_clause.specs.declared.name.Name.{Name}
 use Rattle.kl1_clause.specs.Bodies.{PutsModule}
 use Rattle.kl1_clause.proofs.Bodies.{no_module, one_module}
 use Rattle.kl1_clause.proofs.body.placed_module.Goals as goal

@@ -1,4 +1,4 @@
-use Rattle.std.proofs.Common.{ℕ, List, subst, ap, sym, ◌≡◌, ◌∙◌, map}
+use Rattle.std.proofs.Common.{ℕ, List, subst, ap, ◌≡◌, ◌∙◌, map}
 use Rattle.std.specs.Prelude.{Option}
 use Rattle.std.proofs.lemmas.Result.{on_ok_weaker}
 use Rattle.kl1_model.specs.TermCode.{NodeCode, nodes_of}
