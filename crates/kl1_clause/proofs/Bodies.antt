@@ -12,7 +12,7 @@ use Rattle.kl1_clause.specs.declared.instruction.Instruction.{Instruction}
 use Rattle.kl1_clause.specs.declared.name.Name.{Name}
 use Rattle.kl1_clause.specs.NameList.{with_text, with_texts}
 use Rattle.kl1_clause.specs.Instructions.{text_in, IsPlaced, AreNamed}
-use Rattle.kl1_clause.specs.BareGoals.{module_of, bare, module_text, ArePlaced, AreModulesOf, name_list}
+use Rattle.kl1_clause.specs.BareGoals.{module_of, bare, module_text, IsModulePlaced, ArePlaced, AreModulesOf, name_list}
 use Rattle.kl1_clause.specs.Putting.{Puts}
 use Rattle.kl1_clause.specs.Bodies.{PutsModule, PutsGoal, IsBody}
 use Rattle.kl1_clause.proofs.Growth.{Grows, joined, all_grow, with_none, with_more, with_both, name_stays, row_stays, names_of_one}
@@ -20,23 +20,18 @@ use Rattle.kl1_clause.proofs.BareGoals.{names_apart}
 use Rattle.kl1_clause.proofs.PutNodes.{nodes_push}
 
 -- names of modules keep their texts while names grow
-module_stays : (names added : List (List ℕ)) (m : Option Name) (ms : List (Option Name)) → ArePlaced (length names) (m ∷ ms) → (ArePlaced (length names) ms → ArePlaced (length (names ++ added)) ms) →
-    ArePlaced (length (names ++ added)) (m ∷ ms) × (module_text (names ++ added) m ≡ module_text names m)
-module_stays names added None ms p rest = (rest p, refl)
-module_stays names added (Some n) ms p rest =
-    let s = name_stays names added n p.0 in
-    ((s.0, rest p.1), ap (λ t. Some t) s.1)
-
-later_placed : (count : ℕ) (m : Option Name) (ms : List (Option Name)) → ArePlaced count (m ∷ ms) → ArePlaced count ms
-later_placed count None ms p = p
-later_placed count (Some n) ms p = p.1
+module_behind : (names added : List (List ℕ)) (m : Option Name) → IsModulePlaced (length names) m → IsModulePlaced (length (names ++ added)) m × (module_text (names ++ added) m ≡ module_text names m)
+module_behind names added None p = (tt, refl)
+module_behind names added (Some n) p =
+    let s = name_stays names added n p in
+    (s.0, ap (λ t. Some t) s.1)
 
 modules_behind : (names added : List (List ℕ)) (ms : List (Option Name)) → ArePlaced (length names) ms → ArePlaced (length (names ++ added)) ms × (map (module_text (names ++ added)) ms ≡ map (module_text names) ms)
 modules_behind names added [] p = (tt, refl)
 modules_behind names added (m ∷ ms) p =
-    let rest = modules_behind names added ms (later_placed (length names) m ms p) in
-    let first = module_stays names added m ms p (λ q. rest.0) in
-    (first.0, ap (λ t. t ∷ map (module_text (names ++ added)) ms) first.1 ∙ ap (λ ts. module_text names m ∷ ts) rest.1)
+    let first = module_behind names added m p.0 in
+    let rest = modules_behind names added ms p.1 in
+    ((first.0, rest.0), ap (λ t. t ∷ map (module_text (names ++ added)) ms) first.1 ∙ ap (λ ts. module_text names m ∷ ts) rest.1)
 
 pub modules_stay : (names new : List (List ℕ)) (ms : List (Option Name)) → Grows names new → ArePlaced (length names) ms → ArePlaced (length new) ms × (map (module_text new) ms ≡ map (module_text names) ms)
 modules_stay names new ms g p =
@@ -49,10 +44,9 @@ modules_of_stay names new ms texts g a =
     record { placed = s.0; texts_are = s.1 ∙ a.texts_are }
 
 -- one more behind them
-placed_push : (count : ℕ) (ms : List (Option Name)) (m : Option Name) → ArePlaced count ms → ArePlaced count (m ∷ []) → ArePlaced count (ms ++ m ∷ [])
-placed_push count [] m p q = q
-placed_push count (None ∷ ms) m p q = placed_push count ms m p q
-placed_push count (Some n ∷ ms) m p q = (p.0, placed_push count ms m p.1 q)
+placed_push : (count : ℕ) (ms : List (Option Name)) (m : Option Name) → ArePlaced count ms → IsModulePlaced count m → ArePlaced count (ms ++ m ∷ [])
+placed_push count [] m p q = (q, tt)
+placed_push count (n ∷ ms) m p q = (p.0, placed_push count ms m p.1 q)
 
 -- no name of a module
 pub no_module : (names : List (List ℕ)) → PutsModule names names None None
@@ -60,7 +54,7 @@ no_module names = record { names_are = sym (with_none names); placed = tt; text_
 
 -- or one
 pub one_module : (names new : List (List ℕ)) (text : List ℕ) (name : Name) → new ≡ with_text names text → IsPlaced (length new) name → text_in new name ≡ text → PutsModule names new (Some text) (Some name)
-one_module names new text name e p t = record { names_are = e ∙ sym (with_more names text [] ∙ with_none (with_text names text)); placed = (p, tt); text_is = ap (λ x. Some x) t }
+one_module names new text name e p t = record { names_are = e ∙ sym (with_more names text [] ∙ with_none (with_text names text)); placed = p; text_is = ap (λ x. Some x) t }
 
 grown_with : (names new texts : List (List ℕ)) → new ≡ with_texts names texts → Grows names new
 grown_with names new texts e = let g = all_grow names texts in record { added = g.added; is = e ∙ g.is }
@@ -76,14 +70,14 @@ goal_put a b c row after modules later m goal placed named e put rows =
     let to_b = grown_with a b (name_list (module_of goal)) put.names_are in
     let to_c = grown_with b c (names_of (bare goal)) (rows.names_are ∙ ap (with_texts b) (names_of_one (bare goal))) in
     let old = modules_stay a c modules (joined to_b to_c) placed in
-    let own = modules_stay b c (m ∷ []) to_c put.placed in
+    let own = modules_stay b c (m ∷ []) to_c (put.placed, tt) in
     let P : List (Option Name) → Type 0 = λ ms. ArePlaced (length c) ms in
     record {
       names_are =
           rows.names_are ∙ ap (with_texts b) (names_of_one (bare goal)) ∙ ap (λ ns. with_texts ns (names_of (bare goal))) put.names_are ∙ sym (names_apart a goal);
       named = rows.named;
       row_is = rows.row_is ∙ ap (λ cs. cs ++ nodes_of (bare goal)) (row_stays a b row to_b named).1;
-      placed = subst P (sym e) (placed_push (length c) modules m old.0 own.0);
+      placed = subst P (sym e) (placed_push (length c) modules m old.0 own.0.0);
       modules_are =
           ap (map (module_text c)) e ∙ map-append (module_text c) modules (m ∷ [])
           ∙ ap (λ ts. ts ++ map (module_text c) (m ∷ [])) old.1

@@ -32,11 +32,15 @@ abbrev pub module_text : List (List ℕ) → Option Name → Option (List ℕ)
 module_text names None = None
 module_text names (Some n) = Some (text_in names n)
 
+-- the name of a module, if there is one, is one of the language or of so many
+abbrev pub IsModulePlaced : ℕ → Option Name → Type 0
+IsModulePlaced count None = Unit {0}
+IsModulePlaced count (Some n) = IsPlaced count n
+
 -- the names of modules are of the language or of so many
 abbrev pub ArePlaced : ℕ → List (Option Name) → Type 0
 ArePlaced count [] = Unit {0}
-ArePlaced count (None ∷ ns) = ArePlaced count ns
-ArePlaced count (Some n ∷ ns) = IsPlaced count n × ArePlaced count ns
+ArePlaced count (m ∷ ms) = IsModulePlaced count m × ArePlaced count ms
 
 -- the names of modules are these, where the names of the code are these
 pub record AreModulesOf (names : List (List ℕ)) (modules : List (Option Name)) (texts : List (Option (List ℕ))) : Type 0 where

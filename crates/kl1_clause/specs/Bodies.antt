@@ -7,12 +7,12 @@ use Rattle.kl1_clause.specs.declared.name.Name.{Name}
 use Rattle.kl1_clause.specs.declared.instruction.Instruction.{Instruction}
 use Rattle.kl1_clause.specs.NameList.{with_texts}
 use Rattle.kl1_clause.specs.Instructions.{code_in, AreNamed, IsRowOf}
-use Rattle.kl1_clause.specs.BareGoals.{module_of, bare, module_text, ArePlaced, AreModulesOf, name_list}
+use Rattle.kl1_clause.specs.BareGoals.{module_of, bare, module_text, IsModulePlaced, ArePlaced, AreModulesOf, name_list}
 
 -- the name of a module was put to the others, if there is one
 pub record PutsModule (names new : List (List ℕ)) (text : Option (List ℕ)) (name : Option Name) : Type 0 where
   pub names_are : new ≡ with_texts names (name_list text)
-  pub placed : ArePlaced (length new) (name ∷ [])
+  pub placed : IsModulePlaced (length new) name
   pub text_is : module_text new name ≡ text
 
 -- a goal was put behind a row without the name of its module, that name behind others, and all its names to the others
