@@ -3,8 +3,8 @@ use Rattle.std.proofs.Common.{◌≡◌, ℕ, zero, suc, ◌+◌, ◌<◌, List,
 use Rattle.std.specs.Prelude.{Option}
 use Rattle.std.proofs.lemmas.List.{take_more}
 use Rattle.kl1_text.specs.declared.cell_name.CellName.{CellName}
-use Rattle.kl1_store.specs.declared.cell.Cell.{Cell}
-use Rattle.kl1_store.specs.Held.{Held, IsIn, AreIn}
+use Rattle.kl1_store.specs.declared.qualified.Qualified.{Qualified}
+use Rattle.kl1_store.specs.Held.{Held, IsIn}
 use Rattle.kl1_store.specs.Hooks.{Hook, Kept, HasGrown}
 use Rattle.kl1_goals.specs.declared.task.Task.TheVariants.{Reduces}
 use Rattle.kl1_goals.specs.declared.goal.Goal.{Goal}
@@ -19,13 +19,14 @@ use Rattle.kl1_account.proofs.SettledStays.{settled_more}
 use Rattle.kl1_account.proofs.Waking.{found_out}
 use Rattle.kl1_moves.proofs.Hooked.{HasGrown-same, HasGrown-trans, grown_among}
 use Rattle.kl1_account.proofs.Restood.{each_is, each_append}
+use Rattle.kl1_store.specs.InModules.{AreQualifiedIn}
 
 -- a goal for a cell, with the clause by which it can step
-abbrev goal_by : ℕ → ℕ → ℕ → Cell CellName → Option ℕ → Goal CellName
+abbrev goal_by : ℕ → ℕ → ℕ → Qualified CellName → Option ℕ → Goal CellName
 goal_by n shoen priority x standing = record { number = n; task = Reduces x; shoen = shoen; priority = priority; standing = standing }
 
 -- one goal more
-standing_push : (last shoen priority : ℕ) (xs : List (Cell CellName)) (ss : List (Option ℕ)) (x : Cell CellName) (s : Option ℕ) (n : ℕ) → length ss ≡ length xs → n ≡ suc (last + length xs) →
+standing_push : (last shoen priority : ℕ) (xs : List (Qualified CellName)) (ss : List (Option ℕ)) (x : Qualified CellName) (s : Option ℕ) (n : ℕ) → length ss ≡ length xs → n ≡ suc (last + length xs) →
     goals_standing last shoen priority (xs ++ x ∷ []) (ss ++ s ∷ []) ≡ goals_standing last shoen priority xs ss ++ goal_by n shoen priority x s ∷ []
 standing_push last shoen priority [] [] x s n c e = let k : suc last ≡ n = omega arith in ap (λ m. goal_by m shoen priority x s ∷ []) k
 standing_push last shoen priority [] (r ∷ ss) x s n c e = absurd (omega arith)
@@ -40,7 +41,7 @@ all_more f hooks more h ms gs up all = each_is (IsSettled f hooks h ms) (IsSettl
 -- ---- one cell after another
 
 -- a store that holds what it held, and goals for the cells so far, with these clauses, that are settled
-pub record StillAdds (ms : List Numbered) (old new : Kept CellName) (last : ℕ) (xs : List (Cell CellName)) (ss : List (Option ℕ)) : Type 0 where
+pub record StillAdds (ms : List Numbered) (old new : Kept CellName) (last : ℕ) (xs : List (Qualified CellName)) (ss : List (Option ℕ)) : Type 0 where
   pub held : new.held ≡ old.held
   pub grown : HasGrown old new
   pub count : length ss ≡ length xs
@@ -50,7 +51,7 @@ pub record StillAdds (ms : List Numbered) (old new : Kept CellName) (last : ℕ)
 pub none_added : (ms : List Numbered) (k : Kept CellName) (last : ℕ) (ss : List (Option ℕ)) → ss ≡ [] → StillAdds ms k k last [] ss
 none_added ms k last ss e = record { held = refl; grown = HasGrown-same k; count = ap length e; wakes = λ f knows shoen priority. tt }
 
-wakes_next : (ms : List Numbered) (h : Held CellName) (mid more : List Hook) (last n : ℕ) (xs : List (Cell CellName)) (ss : List (Option ℕ)) (x : Cell CellName) (s : Option ℕ) → length ss ≡ length xs → n ≡ suc (last + length xs) → AreAmong mid more →
+wakes_next : (ms : List Numbered) (h : Held CellName) (mid more : List Hook) (last n : ℕ) (xs : List (Qualified CellName)) (ss : List (Option ℕ)) (x : Qualified CellName) (s : Option ℕ) → length ss ≡ length xs → n ≡ suc (last + length xs) → AreAmong mid more →
     WakesAdded ms h mid last xs ss → StandsAt ms h more x (record { number = n; standing = s }) → WakesAdded ms h more last (xs ++ x ∷ []) (ss ++ s ∷ [])
 wakes_next ms h mid more last n xs ss x s count e up wakes stands f knows shoen priority =
     let c : Change = record { number = n; standing = s } in
@@ -61,13 +62,13 @@ wakes_next ms h mid more last n xs ss x s count e up wakes stands f knows shoen 
     (each_append (IsSettled f more h ms) (goals_standing last shoen priority xs ss) (goal ∷ []) before (found_out f more h ms x c goal refl refl (stands.found f knows), tt))
 
 -- one more was looked at
-pub next_added : (ms : List Numbered) (old mid new : Kept CellName) (last n : ℕ) (cells : List (Cell CellName)) (i : ℕ) (d : Cell CellName) (ss all : List (Option ℕ)) (s : Option ℕ) → i < length cells → n ≡ last + i →
+pub next_added : (ms : List Numbered) (old mid new : Kept CellName) (last n : ℕ) (cells : List (Qualified CellName)) (i : ℕ) (d : Qualified CellName) (ss all : List (Option ℕ)) (s : Option ℕ) → i < length cells → n ≡ last + i →
     StillAdds ms old mid last (take i cells) ss → new.held ≡ mid.held → HasGrown mid new → StandsAt ms mid.held new.hooks (get_or cells i d) (record { number = n + 1; standing = s }) → all ≡ ss ++ s ∷ [] →
     StillAdds ms old new last (take (i + 1) cells) all
 next_added ms old mid new last n cells i d ss all s lt e a same grown stands more =
     let x = get_or cells i d in
     let F : Held CellName → Type 0 = λ h. StandsAt ms h new.hooks x (record { number = n + 1; standing = s }) in
-    let T : List (Cell CellName) → Type 0 = λ xs. StillAdds ms old new last xs all in
+    let T : List (Qualified CellName) → Type 0 = λ xs. StillAdds ms old new last xs all in
     let P : List (Option ℕ) → Type 0 = λ us. StillAdds ms old new last (take i cells ++ x ∷ []) us in
     let count : n + 1 ≡ suc (last + length (take i cells)) = omega (arith, length-take i cells) in
     subst T (sym (take_more cells i d lt))
@@ -79,11 +80,11 @@ next_added ms old mid new last n cells i d ss all s lt e a same grown stands mor
       wakes = wakes_next ms old.held mid.hooks new.hooks last (n + 1) (take i cells) ss x s a.count count (grown_among mid new grown) a.wakes (subst F a.held stands);
     }))
   where
-    both_longer : (xs : List (Cell CellName)) (us : List (Option ℕ)) (y : Cell CellName) (u : Option ℕ) → length us ≡ length xs → length (us ++ u ∷ []) ≡ length (xs ++ y ∷ [])
+    both_longer : (xs : List (Qualified CellName)) (us : List (Option ℕ)) (y : Qualified CellName) (u : Option ℕ) → length us ≡ length xs → length (us ++ u ∷ []) ≡ length (xs ++ y ∷ [])
     both_longer xs us y u k = grind (arith, length-append)
 
 -- a cell of these is of the store
-pub nth_in : (h : Held CellName) (xs : List (Cell CellName)) (i : ℕ) (d : Cell CellName) → AreIn h xs → i < length xs → IsIn h (get_or xs i d)
+pub nth_in : (h : Held CellName) (xs : List (Qualified CellName)) (i : ℕ) (d : Qualified CellName) → AreQualifiedIn h xs → i < length xs → IsIn h (get_or xs i d).cell
 nth_in h [] i d all lt = absurd (omega arith)
 nth_in h (x ∷ xs) zero d all lt = all.0
 nth_in h (x ∷ xs) (suc i) d all lt = nth_in h xs i d all.1 (omega arith)

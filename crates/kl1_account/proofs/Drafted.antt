@@ -10,9 +10,9 @@ use Rattle.kl1_model.specs.Reduction.{moved}
 use Rattle.kl1_model.specs.Report.{settle}
 use Rattle.kl1_model.specs.Waits.{move_by}
 use Rattle.kl1_text.specs.declared.cell_name.CellName.{CellName}
-use Rattle.kl1_store.specs.declared.cell.Cell.{Cell}
+use Rattle.kl1_store.specs.declared.qualified.Qualified.{Qualified}
 use Rattle.kl1_store.specs.declared.point.Point.{Point}
-use Rattle.kl1_store.specs.Held.{Held, AreIn}
+use Rattle.kl1_store.specs.Held.{Held}
 use Rattle.kl1_store.specs.Hooks.{Kept, point_of}
 use Rattle.kl1_store.specs.Sound.{IsFormed, Grown}
 use Rattle.kl1_store.proofs.Grows.{Grown-trans}
@@ -29,7 +29,7 @@ use Rattle.kl1_modules.specs.Numbered.{Numbered}
 use Rattle.kl1_modules.specs.Finding.{contents}
 use Rattle.kl1_account.specs.declared.draft.Draft.{Draft}
 use Rattle.kl1_account.specs.Fitting.{Reading}
-use Rattle.kl1_account.specs.Account.{meaning, goal_with}
+use Rattle.kl1_account.specs.Account.{meaning, goal_with, aim}
 use Rattle.kl1_account.specs.Kept.{AreGoalsIn, AreUpTo, IsShoenIn}
 use Rattle.kl1_account.specs.Works.{Made, IsMadeIn, Knows, Turns}
 use Rattle.kl1_account.specs.Drafts.{goals_for, goals_left, goals_added, without_monitor, made_of, Drafts}
@@ -39,6 +39,7 @@ use Rattle.kl1_account.proofs.Goals.{goals_in_append, goals_for_in, filter_in, u
 use Rattle.kl1_account.proofs.Reductions.{reduced_turns}
 use Rattle.kl1_account.proofs.LookedAt.{left_up_to}
 use Rattle.kl1_account.proofs.States.{goals_grown}
+use Rattle.kl1_store.specs.InModules.{AreQualifiedIn}
 
 -- ---- what a goal does by a clause
 
@@ -54,11 +55,11 @@ gives None m e = absurd (cc)
 gives (Some n) m e = refl
 
 -- and so it is what the goal does
-pub allowed_move : (ms : List Numbered) (h : Held CellName) (p : Predicate CellName) (places : List (Place CellName)) (x : Cell CellName) (m : Move CellName) (clause : ℕ) → Allows ms h p places x m clause →
-    (f : Reading) → Knows ms f → move_by (contents ms) (meaning f h x) clause ≡ Some (move_at ms h x clause f)
+pub allowed_move : (ms : List Numbered) (h : Held CellName) (p : Predicate CellName) (places : List (Place CellName)) (x : Qualified CellName) (m : Move CellName) (clause : ℕ) → Allows ms h p places x m clause →
+    (f : Reading) → Knows ms f → move_by (contents ms) (aim f h x) clause ≡ Some (move_at ms h x clause f)
 allowed_move ms h p places x m clause allows f knows =
-    let found = found_move f h (contents ms) (meaning f h x) clause p places m (allows f knows) in
-    gives (move_by (contents ms) (meaning f h x) clause) found.0 found.1
+    let found = found_move f h (contents ms) (aim f h x) clause p places m (allows f knows) in
+    gives (move_by (contents ms) (aim f h x) clause) found.0 found.1
 
 -- ---- a draft that has begun
 
@@ -75,7 +76,7 @@ left_in h goals d i = by_case d.is_ending
 -- what it makes has the cells of the store
 pub begins_in : (h : Held CellName) (goals : List (Goal CellName)) (d : Draft) → 0 < h.variables → AreGoalsIn h goals → AreUpTo d.last_goal goals → d.cells.items ≡ [] → IsShoenIn h d.shoen → 0 < d.shoen.number → IsMadeIn h (made_of goals d)
 begins_in h goals d some i up none s number =
-    let A : List (Cell CellName) → Type 0 = λ xs. AreIn h xs in
+    let A : List (Qualified CellName) → Type 0 = λ xs. AreQualifiedIn h xs in
     let last = d.last_goal + length d.cells.items in
     record {
       some = some;
@@ -87,7 +88,7 @@ begins_in h goals d some i up none s number =
 
 -- ---- the cells of goals that come
 
-for_in : (h : Held CellName) (last shoen priority : ℕ) (xs : List (Cell CellName)) → AreGoalsIn h (goals_for last shoen priority xs) → AreIn h xs
+for_in : (h : Held CellName) (last shoen priority : ℕ) (xs : List (Qualified CellName)) → AreGoalsIn h (goals_for last shoen priority xs) → AreQualifiedIn h xs
 for_in h last shoen priority [] i = tt
 for_in h last shoen priority (x ∷ xs) i = (i.0, for_in h (suc last) shoen priority xs i.1)
 
@@ -96,16 +97,16 @@ behind_in h [] ks i = i
 behind_in h (g ∷ gs) ks i = behind_in h gs ks i.1
 
 -- the cells of a draft are of the store
-pub cells_in : (h : Held CellName) (goals : List (Goal CellName)) (d : Draft) → AreGoalsIn h (made_of goals d).goals → AreIn h d.cells.items
+pub cells_in : (h : Held CellName) (goals : List (Goal CellName)) (d : Draft) → AreGoalsIn h (made_of goals d).goals → AreQualifiedIn h d.cells.items
 cells_in h goals d i = for_in h d.last_goal d.shoen.number d.priority d.cells.items (behind_in h (goals_left goals d) (goals_added d) i)
 
 -- ---- a move, and then the look at the shoen
 
-pub drafted_turns : (ms : List Numbered) (h k l : Held CellName) (goals : List (Goal CellName)) (goal : Goal CellName) (x : Cell CellName) (clause : ℕ) (p : Predicate CellName) (m : Move CellName) (places : List (Place CellName)) (before mid after : Draft) →
+pub drafted_turns : (ms : List Numbered) (h k l : Held CellName) (goals : List (Goal CellName)) (goal : Goal CellName) (x : Qualified CellName) (clause : ℕ) (p : Predicate CellName) (m : Move CellName) (places : List (Place CellName)) (before mid after : Draft) →
     IsMadeIn h (made_of goals before) → goal.shoen ≡ before.shoen.number → goal.priority ≡ before.priority → Allows ms h p places x m clause → Grown h k → Moves p m places x h k before mid →
     ((ns : List Numbered) → Drafts ns (λ f. settle mid.shoen.number) k l goals mid after) → Turns ms (reduced_to ms h goal x clause) h l (made_of goals before) (made_of goals after)
 drafted_turns ms h k l goals goal x clause p m places before mid after inside number priority allows grown moves settles =
-    let change : Reading → State → State = λ f. moved (goal_with (meaning f h) goal) (meaning f h x) (move_at ms h x clause f) in
+    let change : Reading → State → State = λ f. moved (goal_with (meaning f h) goal) (aim f h x) (move_at ms h x clause f) in
     let first : Turns ms change h k (made_of goals before) (made_of goals mid) =
     moves ms goal clause (move_at ms h x clause) (record { shoen = number; priority = priority }) allows (allowed_move ms h p places x m clause allows) goals inside in
     reduced_turns ms change h k l (made_of goals before) (made_of goals mid) (made_of goals after) goal.shoen number grown first (settles ms)
@@ -164,17 +165,17 @@ has_begun h goals goal shoens last sh d some goals_in up shoen_in same known b =
 pub record IsReady (h : Held CellName) (goals : List (Goal CellName)) (d : Draft) : Type 0 where
   pub goals_in : AreGoalsIn h goals
   pub living : d.is_ending ≡ false
-  pub cells : AreIn h d.cells.items
+  pub cells : AreQualifiedIn h d.cells.items
 
-pub is_ready : (ms : List Numbered) (old k : Held CellName) (goals : List (Goal CellName)) (goal : Goal CellName) (x : Cell CellName) (clause shoens : ℕ) (p : Predicate CellName) (m : Move CellName) (places : List (Place CellName)) (before mid : Draft) →
+pub is_ready : (ms : List Numbered) (old k : Held CellName) (goals : List (Goal CellName)) (goal : Goal CellName) (x : Qualified CellName) (clause shoens : ℕ) (p : Predicate CellName) (m : Move CellName) (places : List (Place CellName)) (before mid : Draft) →
     HasBegun old goals goal shoens before → Allows ms old p places x m clause → Moves p m places x old k before mid → IsMoved before mid → Grown old k → IsReady k goals mid
 is_ready ms old k goals goal x clause shoens p m places before mid begun allows moves is_moved grown =
-    let turned : Turns ms (λ f. moved (goal_with (meaning f old) goal) (meaning f old x) (move_at ms old x clause f)) old k (made_of goals before) (made_of goals mid) =
+    let turned : Turns ms (λ f. moved (goal_with (meaning f old) goal) (aim f old x) (move_at ms old x clause f)) old k (made_of goals before) (made_of goals mid) =
     moves ms goal clause (move_at ms old x clause) (record { shoen = sym begun.number; priority = sym begun.priority }) allows (allowed_move ms old p places x m clause allows) goals begun.inside in
     record { goals_in = goals_grown old k grown goals begun.goals_in; living = is_moved.ending ∙ begun.ending; cells = cells_in k goals mid turned.inside.goals }
 
 -- a reduction is drafted by a move and what finishes it
-pub is_drafted : (ms : List Numbered) (mark : Point) (old k new : Kept CellName) (goals : List (Goal CellName)) (goal : Goal CellName) (x : Cell CellName) (clause shoens room : ℕ) (p : Predicate CellName) (m : Move CellName) (places : List (Place CellName)) (before mid last : Draft) →
+pub is_drafted : (ms : List Numbered) (mark : Point) (old k new : Kept CellName) (goals : List (Goal CellName)) (goal : Goal CellName) (x : Qualified CellName) (clause shoens room : ℕ) (p : Predicate CellName) (m : Move CellName) (places : List (Place CellName)) (before mid last : Draft) →
     HasBegun old.held goals goal shoens before → Allows ms old.held p places x m clause → Moves p m places x old.held k.held before mid → IsMoved before mid → Grown old.held k.held → k.hooks ≡ old.hooks → Finishes ms mark k new goals room mid last →
     mark ≡ point_of old → IsFormed old.held → IsDrafted ms old new goals goal x clause shoens room before last
 is_drafted ms mark old k new goals goal x clause shoens room p m places before mid last begun allows moves is_moved grown hooks finished point formed =

@@ -11,7 +11,7 @@ use Rattle.kl1_model.specs.Text.{text_of}
 use Rattle.kl1_model.specs.Term.{atom}
 use Rattle.kl1_model.specs.Report.{report, close, terminate}
 use Rattle.kl1_text.specs.declared.cell_name.CellName.{CellName}
-use Rattle.kl1_store.specs.declared.cell.Cell.{Cell}
+use Rattle.kl1_store.specs.declared.qualified.Qualified.{Qualified}
 use Rattle.kl1_store.specs.declared.cell.Cell.TheVariants.{Atom}
 use Rattle.kl1_store.specs.Held.{Held}
 use Rattle.kl1_store.specs.Sound.{Grown}
@@ -70,7 +70,7 @@ both_true : (b : Bool) → b ≡ true → (b && true) ≡ true
 both_true b e = ap (λ c. c && true) e
 
 -- a goal that is added is one of the shoen
-any_added : (last n priority : ℕ) (xs : List (Cell CellName)) → (length xs ≡ 0 → ⊥) → list_any (is_goal_of n) (goals_for last n priority xs) ≡ true
+any_added : (last n priority : ℕ) (xs : List (Qualified CellName)) → (length xs ≡ 0 → ⊥) → list_any (is_goal_of n) (goals_for last n priority xs) ≡ true
 any_added last n priority [] some = absurd (some refl)
 any_added last n priority (x ∷ xs) some = ap (λ b. b || list_any (is_goal_of n) (goals_for (suc last) n priority xs)) (both_true (n == n) (eq-eqb n n refl))
 
@@ -88,11 +88,11 @@ busy_by_goals goals d e h = any_left (is_goal_of d.shoen.number) (goals_left goa
 -- otherwise it has none
 pub never_busy : (goals : List (Goal CellName)) (d : Draft) → d.is_ending ≡ false → length d.cells.items ≡ 0 → list_any (is_goal_of d.shoen.number) (filter (is_other d.removed) goals) ≡ false → list_any (is_goal_of d.shoen.number) (made_of goals d).goals ≡ false
 never_busy goals d e none h =
-    ap (λ (xs : List (Cell CellName)). list_any (is_goal_of d.shoen.number) (goals_left goals d ++ goals_for d.last_goal d.shoen.number d.priority xs)) (no_cells d.cells.items none)
+    ap (λ (xs : List (Qualified CellName)). list_any (is_goal_of d.shoen.number) (goals_left goals d ++ goals_for d.last_goal d.shoen.number d.priority xs)) (no_cells d.cells.items none)
     ∙ ap (list_any (is_goal_of d.shoen.number)) (append-nil (goals_left goals d))
     ∙ ap (list_any (is_goal_of d.shoen.number)) (left_as goals d e)
     ∙ h
   where
-    no_cells : (xs : List (Cell CellName)) → length xs ≡ 0 → xs ≡ []
+    no_cells : (xs : List (Qualified CellName)) → length xs ≡ 0 → xs ≡ []
     no_cells [] n = refl
     no_cells (x ∷ xs) n = absurd (omega arith)

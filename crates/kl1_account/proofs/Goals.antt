@@ -1,21 +1,22 @@
 -- Lists of goals, as they are kept and as they are read.
-use Rattle.std.proofs.Common.{◌≡◌, true, false, if◌then◌else◌, ℕ, suc, ◌+◌, ◌<◌, ◌≤◌, ◌==◌, not, ◌&&◌, ◌||◌, Bool, List, [], ◌∷◌, ◌++◌, length, map, refl, ap, ◌∙◌, arith, le_trans}
+use Rattle.std.proofs.Common.{◌≡◌, true, false, if◌then◌else◌, ℕ, suc, ◌+◌, ◌<◌, ◌≤◌, ◌==◌, not, ◌&&◌, ◌||◌, Bool, List, [], ◌∷◌, ◌++◌, length, map, refl, sym, ap, ◌∙◌, arith, le_trans}
 use Rattle.std.specs.Prelude.{filter, None}
 use Rattle.std.specs.List.{list_any}
 use Rattle.kl1_model.specs.State as model
 use Rattle.kl1_model.specs.Reduction.{goals_from}
 use Rattle.kl1_text.specs.declared.cell_name.CellName.{CellName}
-use Rattle.kl1_store.specs.declared.cell.Cell.{Cell}
-use Rattle.kl1_store.specs.Held.{Held, AreIn}
-use Rattle.kl1_store.specs.ComparesEach.{term_list}
+use Rattle.kl1_store.specs.declared.qualified.Qualified.{Qualified}
+use Rattle.kl1_store.specs.Held.{Held}
+use Rattle.kl1_store.specs.InModules.{qualified_list, AreQualifiedIn}
 use Rattle.kl1_goals.specs.declared.task.Task.{Task}
 use Rattle.kl1_goals.specs.declared.task.Task.TheVariants.{Monitor, Reduces}
 use Rattle.kl1_goals.specs.declared.goal.Goal.{Goal}
 use Rattle.kl1_goals.specs.Lists.{is_monitor_task, is_monitor_of, is_goal_of, is_other}
 use Rattle.kl1_account.specs.Fitting.{Reading}
-use Rattle.kl1_account.specs.Account.{Means, meaning, task_with, goal_with}
+use Rattle.kl1_account.specs.Account.{Means, meaning, task_with, goal_with, aim}
 use Rattle.kl1_account.specs.Kept.{AreGoalsIn, AreOwned, AreUpTo}
 use Rattle.kl1_account.specs.Drafts.{goals_for, without_monitor}
+use Rattle.kl1_account.proofs.Aims.{aim_is}
 
 tests_same : (n : ℕ) (t : Means) (k : Task CellName) (b : Bool) → (b && model.is_monitor (task_with t k)) ≡ (b && is_monitor_task k)
 tests_same n t Monitor b = refl
@@ -55,12 +56,13 @@ has_goal_read t n (g ∷ gs) =
     ap (λ b. b || list_any (λ g. g.shoen == n && not (model.is_monitor g.task)) (map (goal_with t) gs)) (others_same t g.task (g.shoen == n))
     ∙ ap (λ b. is_goal_of n g || b) (has_goal_read t n gs)
 
-pub goals_read : (f : Reading) (h : Held CellName) (last shoen priority : ℕ) (xs : List (Cell CellName)) → goals_from last shoen priority (term_list f h xs) ≡ map (goal_with (meaning f h)) (goals_for last shoen priority xs)
+pub goals_read : (f : Reading) (h : Held CellName) (last shoen priority : ℕ) (xs : List (Qualified CellName)) → goals_from last shoen priority (qualified_list f h xs) ≡ map (goal_with (meaning f h)) (goals_for last shoen priority xs)
 goals_read f h last shoen priority [] = refl
 goals_read f h last shoen priority (x ∷ xs) =
-    ap (λ (gs : List model.Goal). let g : model.Goal = record { number = suc last; task = model.reduces (meaning f h x); shoen = shoen; priority = priority } in g ∷ gs) (goals_read f h (suc last) shoen priority xs)
+    ap (λ t. let g : model.Goal = record { number = suc last; task = model.reduces t; shoen = shoen; priority = priority } in g ∷ goals_from (suc last) shoen priority (qualified_list f h xs)) (sym (aim_is f h x))
+    ∙ ap (λ (gs : List model.Goal). let g : model.Goal = record { number = suc last; task = model.reduces (aim f h x); shoen = shoen; priority = priority } in g ∷ gs) (goals_read f h (suc last) shoen priority xs)
 
-pub count_read : (f : Reading) (h : Held CellName) (xs : List (Cell CellName)) → length (term_list f h xs) ≡ length xs
+pub count_read : (f : Reading) (h : Held CellName) (xs : List (Qualified CellName)) → length (qualified_list f h xs) ≡ length xs
 count_read f h [] = refl
 count_read f h (x ∷ xs) = ap suc (count_read f h xs)
 
@@ -68,7 +70,7 @@ pub goals_in_append : (h : Held CellName) (gs ks : List (Goal CellName)) → Are
 goals_in_append h [] ks i j = j
 goals_in_append h (g ∷ gs) ks i j = (i.0, goals_in_append h gs ks i.1 j)
 
-pub goals_for_in : (h : Held CellName) (last shoen priority : ℕ) (xs : List (Cell CellName)) → AreIn h xs → AreGoalsIn h (goals_for last shoen priority xs)
+pub goals_for_in : (h : Held CellName) (last shoen priority : ℕ) (xs : List (Qualified CellName)) → AreQualifiedIn h xs → AreGoalsIn h (goals_for last shoen priority xs)
 goals_for_in h last shoen priority [] i = tt
 goals_for_in h last shoen priority (x ∷ xs) i = (i.0, goals_for_in h (suc last) shoen priority xs i.1)
 
@@ -76,7 +78,7 @@ pub owned_append : (count : ℕ) (gs ks : List (Goal CellName)) → AreOwned cou
 owned_append count [] ks i j = j
 owned_append count (g ∷ gs) ks i j = (i.0, owned_append count gs ks i.1 j)
 
-pub goals_for_owned : (count last shoen priority : ℕ) (xs : List (Cell CellName)) → 0 < shoen → shoen < suc count → AreOwned count (goals_for last shoen priority xs)
+pub goals_for_owned : (count last shoen priority : ℕ) (xs : List (Qualified CellName)) → 0 < shoen → shoen < suc count → AreOwned count (goals_for last shoen priority xs)
 goals_for_owned count last shoen priority [] a b = tt
 goals_for_owned count last shoen priority (x ∷ xs) a b = (record { low = a; high = b }, goals_for_owned count (suc last) shoen priority xs a b)
 
@@ -88,7 +90,7 @@ pub up_to_more : (last more : ℕ) (gs : List (Goal CellName)) → last ≤ more
 up_to_more last more [] le i = tt
 up_to_more last more (g ∷ gs) le i = (le_trans i.0 le, up_to_more last more gs le i.1)
 
-pub goals_for_up_to : (most last shoen priority : ℕ) (xs : List (Cell CellName)) → last + length xs ≤ most → AreUpTo most (goals_for last shoen priority xs)
+pub goals_for_up_to : (most last shoen priority : ℕ) (xs : List (Qualified CellName)) → last + length xs ≤ most → AreUpTo most (goals_for last shoen priority xs)
 goals_for_up_to most last shoen priority [] le = tt
 goals_for_up_to most last shoen priority (x ∷ xs) le = (omega arith, goals_for_up_to most (suc last) shoen priority xs (omega arith))
 
@@ -130,7 +132,7 @@ never_both true = refl
 never_both false = refl
 
 -- goals for cells are no monitors
-pub goals_for_stay : (n last shoen priority : ℕ) (xs : List (Cell CellName)) → without_monitor n (goals_for last shoen priority xs) ≡ goals_for last shoen priority xs
+pub goals_for_stay : (n last shoen priority : ℕ) (xs : List (Qualified CellName)) → without_monitor n (goals_for last shoen priority xs) ≡ goals_for last shoen priority xs
 goals_for_stay n last shoen priority [] = refl
 goals_for_stay n last shoen priority (x ∷ xs) =
     let g : Goal CellName = record { number = suc last; task = Reduces x; shoen = shoen; priority = priority; standing = None } in

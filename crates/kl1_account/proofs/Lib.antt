@@ -1,3 +1,4 @@
+pub mod Aims
 pub mod States
 pub mod Works
 pub mod Goals
@@ -42,3 +43,4 @@ pub mod StartHooks
 pub mod NamesOnce
 pub mod Started
 pub mod StartChecks
+pub mod Wholes

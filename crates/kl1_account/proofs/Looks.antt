@@ -8,7 +8,7 @@ use Rattle.kl1_model.specs.Match.{clauses_of}
 use Rattle.kl1_model.specs.Waits.{awaited_by_term}
 use Rattle.kl1_text.specs.Reading.{Reads}
 use Rattle.kl1_text.specs.declared.cell_name.CellName.{CellName}
-use Rattle.kl1_store.specs.declared.cell.Cell.{Cell}
+use Rattle.kl1_store.specs.declared.qualified.Qualified.{Qualified}
 use Rattle.kl1_store.specs.Hooks.{Hook}
 use Rattle.kl1_store.specs.Held.{Held}
 use Rattle.kl1_clause.specs.Clauses.{AreCompiled}
@@ -28,9 +28,11 @@ use Rattle.kl1_moves.specs.Hanging.{HangsOnEach}
 use Rattle.kl1_moves.proofs.Hooked.{hangs_on_same}
 use Rattle.kl1_account.specs.declared.draft.Change.{Change}
 use Rattle.kl1_account.specs.Fitting.{Reading, built}
-use Rattle.kl1_account.specs.Account.{meaning}
+use Rattle.kl1_account.specs.Account.{meaning, aim}
 use Rattle.kl1_account.specs.Works.{Knows}
 use Rattle.kl1_account.specs.Looking.{Serves, calls_same, StandsBy, StandsAt, FindsOut}
+use Rattle.kl1_store.specs.InModules.{qualified_term}
+use Rattle.kl1_account.proofs.Aims.{kind_at}
 
 -- the predicate of a call is what was found of it, or none
 pub call_has : (ms : List Numbered) (kind : Kind CellName) (c : Call CellName) (found : Option (Predicate CellName)) (p : Predicate CellName) → kind ≡ Calls c → Finds ms c.module_name c.name c.count found →
@@ -88,18 +90,18 @@ stands_by h hooks kind p n vs ws clause stands same hangs =
     let H : List ℕ → Type 0 = λ us. HangsOnEach hooks n us in
     record {
       found = λ f ms x reads k has.
-          let s = stands f reads (contents ms) (meaning f h x) k has in
-          record { standing = s.clause_is; hung = hangs_on_same hooks n vs (awaited_by_term (contents ms) (meaning f h x)) s.awaits (subst H same hangs) };
+          let s = stands f reads (contents ms) (aim f h x) k has in
+          record { standing = s.clause_is; hung = hangs_on_same hooks n vs (awaited_by_term (contents ms) (aim f h x)) s.awaits (subst H same hangs) };
     }
 
 -- the same of the goal for a cell, where its kind and its predicate are found
-pub stands_at : (ms : List Numbered) (h : Held CellName) (hooks : List Hook) (x : Cell CellName) (kind : Kind CellName) (p : Predicate CellName) (c : Change) →
-    ((f : Reading) → Reads built f → IsKind f h (meaning f h x) kind) →
+pub stands_at : (ms : List Numbered) (h : Held CellName) (hooks : List Hook) (x : Qualified CellName) (kind : Kind CellName) (p : Predicate CellName) (c : Change) →
+    ((f : Reading) → Reads built f → IsKind f h (qualified_term f h x) kind) →
     ((f : Reading) → Knows ms f → (k : Held CellName) (t : Term) → IsKind f k t kind → HasPredicate f k (contents ms) kind p) →
     StandsBy h hooks kind p c → StandsAt ms h hooks x c
-stands_at ms h hooks x kind p c is has s = record { found = λ f knows. let k = is f knows.reads in s.found f ms x knows.reads k (has f knows h (meaning f h x) k) }
+stands_at ms h hooks x kind p c is has s = record { found = λ f knows. let k = kind_at f h x kind (is f knows.reads) in s.found f ms x knows.reads k (has f knows h (aim f h x) k) }
 
 -- what is found becomes one change more
-pub finds_out : (ms : List Numbered) (h : Held CellName) (hooks : List Hook) (x : Cell CellName) (n : ℕ) (clause : Option ℕ) (before after : List Change) →
+pub finds_out : (ms : List Numbered) (h : Held CellName) (hooks : List Hook) (x : Qualified CellName) (n : ℕ) (clause : Option ℕ) (before after : List Change) →
     StandsAt ms h hooks x (record { number = n; standing = clause }) → after ≡ before ++ record { number = n; standing = clause } ∷ [] → FindsOut ms h hooks x n before after
 finds_out ms h hooks x n clause before after s e = record { change = record { number = n; standing = clause }; is = e; number_is = refl; found = s.found }

@@ -6,8 +6,8 @@ use Rattle.std.proofs.lemmas.List.{map-append}
 use Rattle.std.proofs.lemmas.Bool.{ne_eqb, eq-eqb}
 use Rattle.kl1_model.specs.State as model
 use Rattle.kl1_text.specs.declared.cell_name.CellName.{CellName}
+use Rattle.kl1_store.specs.declared.qualified.Qualified.{Qualified}
 use Rattle.kl1_store.specs.Held.{Held}
-use Rattle.kl1_store.specs.declared.cell.Cell.{Cell}
 use Rattle.kl1_goals.specs.declared.task.Task.TheVariants.{Reduces}
 use Rattle.kl1_goals.specs.declared.goal.Goal.{Goal}
 use Rattle.kl1_shoen.specs.declared.shoen.Shoen.{Shoen}
@@ -21,7 +21,7 @@ use Rattle.kl1_account.proofs.Restood.{Holds, restood_holds, restood_read, each_
 
 -- ---- goals with their clauses
 
-standing_read : (t : Means) (last shoen priority : ℕ) (xs : List (Cell CellName)) (ss : List (Option ℕ)) → map (goal_with t) (goals_standing last shoen priority xs ss) ≡ map (goal_with t) (goals_for last shoen priority xs)
+standing_read : (t : Means) (last shoen priority : ℕ) (xs : List (Qualified CellName)) (ss : List (Option ℕ)) → map (goal_with t) (goals_standing last shoen priority xs ss) ≡ map (goal_with t) (goals_for last shoen priority xs)
 standing_read t last shoen priority [] ss = refl
 standing_read t last shoen priority (x ∷ xs) [] = refl
 standing_read t last shoen priority (x ∷ xs) (s ∷ ss) =
@@ -37,7 +37,7 @@ after_read t goals d =
     ∙ ap (λ (gs : List model.Goal). map (goal_with t) left ++ gs) (standing_read t d.last_goal d.shoen.number d.priority d.cells.items d.standings.items)
     ∙ sym (map-append (goal_with t) left (goals_added d))
 
-standing_holds : (P : Goal CellName → Type 0) → Holds P → (last shoen priority : ℕ) (xs : List (Cell CellName)) (ss : List (Option ℕ)) → AllByRecursion P (goals_for last shoen priority xs) → AllByRecursion P (goals_standing last shoen priority xs ss)
+standing_holds : (P : Goal CellName → Type 0) → Holds P → (last shoen priority : ℕ) (xs : List (Qualified CellName)) (ss : List (Option ℕ)) → AllByRecursion P (goals_for last shoen priority xs) → AllByRecursion P (goals_standing last shoen priority xs ss)
 standing_holds P all last shoen priority [] ss a = tt
 standing_holds P all last shoen priority (x ∷ xs) [] a = a
 standing_holds P all last shoen priority (x ∷ xs) (s ∷ ss) a =

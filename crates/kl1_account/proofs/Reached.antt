@@ -5,7 +5,7 @@ use Rattle.std.specs.List.{AllByRecursion, find}
 use Rattle.std.proofs.lemmas.Bool.{cases_eq, ltb-true, ltb-false}
 use Rattle.kl1_model.specs.State as model
 use Rattle.kl1_text.specs.declared.cell_name.CellName.{CellName}
-use Rattle.kl1_store.specs.declared.cell.Cell.{Cell}
+use Rattle.kl1_store.specs.declared.qualified.Qualified.{Qualified}
 use Rattle.kl1_store.specs.Held.{Held}
 use Rattle.kl1_store.specs.Hooks.{Hook, Kept, HasGrown}
 use Rattle.kl1_goals.specs.declared.task.Task.{Task}
@@ -51,7 +51,7 @@ goal_stays : (f : Reading) (hooks more : List Hook) (h : Held CellName) (ms : Li
 goal_stays f hooks more h ms n goal g up le next other r =
     record { settled = λ lt. settled_more f hooks more h ms g up (r.settled (comes_before g.number n goal.number next.0 lt other)); idle = λ lt. r.idle (omega arith) }
 
-goal_found : (f : Reading) (hooks more : List Hook) (h : Held CellName) (ms : List Numbered) (n : ℕ) (goal g : Goal CellName) (x : Cell CellName) (c : Change) → AreAmong hooks more → n ≤ goal.number → goal.task ≡ Reduces x → c.number ≡ goal.number → IsFoundOut f more h ms x c →
+goal_found : (f : Reading) (hooks more : List Hook) (h : Held CellName) (ms : List Numbered) (n : ℕ) (goal g : Goal CellName) (x : Qualified CellName) (c : Change) → AreAmong hooks more → n ≤ goal.number → goal.task ≡ Reduces x → c.number ≡ goal.number → IsFoundOut f more h ms x c →
     IsNext n goal g.number g.task → IsReached f hooks h ms n g → IsReached f more h ms (suc goal.number) (restood_by c g)
 goal_found f hooks more h ms n goal g x c up le t same found next r =
     let R : Goal CellName → Type 0 = λ k. IsReached f more h ms (suc goal.number) k in

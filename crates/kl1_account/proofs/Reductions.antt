@@ -11,9 +11,10 @@ use Rattle.kl1_model.specs.Report as model_report
 use Rattle.kl1_model.specs.Report.{report, close, terminate, settle, settle_of}
 use Rattle.kl1_model.specs.Reduction.{goals_from, committed}
 use Rattle.kl1_text.specs.declared.cell_name.CellName.{CellName}
+use Rattle.kl1_store.specs.declared.qualified.Qualified.{Qualified}
 use Rattle.kl1_store.specs.declared.cell.Cell.{Cell}
-use Rattle.kl1_store.specs.Held.{Held, AreIn}
-use Rattle.kl1_store.specs.ComparesEach.{term_list}
+use Rattle.kl1_store.specs.Held.{Held}
+use Rattle.kl1_store.specs.InModules.{qualified_list, AreQualifiedIn}
 use Rattle.kl1_store.specs.Sound.{Grown}
 use Rattle.kl1_store.proofs.Grows.{Grown-same}
 use Rattle.kl1_moves.specs.Bodies.{IsBody}
@@ -33,10 +34,10 @@ use Rattle.kl1_account.proofs.Goals.{monitors_read, has_goal_read, goals_read, c
 -- ---- a goal that commits
 
 -- what is made with the goals of a body after the others
-abbrev pub with_body : Made → ℕ → List (Cell CellName) → Made
+abbrev pub with_body : Made → ℕ → List (Qualified CellName) → Made
 with_body w priority cells = record { goals = w.goals ++ goals_for w.last_goal w.shoen.number priority cells; shoen = w.shoen; last_goal = w.last_goal + length cells }
 
-pub commit_turns : (ms : List Numbered) (h k : Held CellName) (w : Made) (goal : Goal CellName) (cells : List (Cell CellName)) (candidate : Reading → Candidate) → IsMadeIn h w → Grown h k → goal.shoen ≡ w.shoen.number → AreIn k cells →
+pub commit_turns : (ms : List Numbered) (h k : Held CellName) (w : Made) (goal : Goal CellName) (cells : List (Qualified CellName)) (candidate : Reading → Candidate) → IsMadeIn h w → Grown h k → goal.shoen ≡ w.shoen.number → AreQualifiedIn k cells →
     ((f : Reading) → Knows ms f → IsBody f (candidate f) h k cells) → Turns ms (λ f. committed (goal_with (meaning f h) goal) (candidate f)) h k w (with_body w goal.priority cells)
 commit_turns ms h k w goal cells candidate i g own inside body_is =
     let v = with_body w goal.priority cells in
@@ -61,14 +62,14 @@ commit_turns ms h k w goal cells candidate i g own inside body_is =
     states f knows s shoens p =
         let c = candidate f in
         let gs = body_is f knows in
-        let body : body_instance c.clause c.places (h.variables - 1) ≡ term_list f k cells = sym gs.terms in
+        let body : body_instance c.clause c.places (h.variables - 1) ≡ qualified_list f k cells = sym gs.terms in
         let agree : Agree h (meaning f h) (meaning f k) = λ x j. sym (gs.kept x j) in
         let fresh : (h.variables - 1) + fresh_variables c.clause ≡ k.variables - 1 = let a = gs.variables in let d = i.some in omega arith in
         let added = goals_for w.last_goal w.shoen.number goal.priority cells in
         let all_goals : map (goal_with (meaning f h)) w.goals ++ goals_from w.last_goal goal.shoen goal.priority (body_instance c.clause c.places (h.variables - 1)) ≡ map (goal_with (meaning f k)) (w.goals ++ added) =
         ap (λ (xs : List model.Goal). xs ++ goals_from w.last_goal goal.shoen goal.priority (body_instance c.clause c.places (h.variables - 1))) (same_goals h (meaning f h) (meaning f k) agree w.goals i.goals)
         ∙ ap (λ (xs : List Term). map (goal_with (meaning f k)) w.goals ++ goals_from w.last_goal goal.shoen goal.priority xs) body
-        ∙ ap (λ n. map (goal_with (meaning f k)) w.goals ++ goals_from w.last_goal n goal.priority (term_list f k cells)) own
+        ∙ ap (λ n. map (goal_with (meaning f k)) w.goals ++ goals_from w.last_goal n goal.priority (qualified_list f k cells)) own
         ∙ ap (λ (xs : List model.Goal). map (goal_with (meaning f k)) w.goals ++ xs) (goals_read f k w.last_goal w.shoen.number goal.priority cells)
         ∙ sym (map-append (goal_with (meaning f k)) w.goals added) in
         let last : w.last_goal + length (body_instance c.clause c.places (h.variables - 1)) ≡ w.last_goal + length cells = ap (λ (xs : List Term). w.last_goal + length xs) body ∙ ap (λ n. w.last_goal + n) (count_read f k cells) in

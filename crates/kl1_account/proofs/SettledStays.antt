@@ -19,9 +19,10 @@ use Rattle.kl1_modules.specs.Numbered.{Numbered}
 use Rattle.kl1_modules.specs.Finding.{contents}
 use Rattle.kl1_moves.specs.Hanging.{HangsOnEach}
 use Rattle.kl1_account.specs.Fitting.{Reading}
-use Rattle.kl1_account.specs.Account.{meaning, task_with}
+use Rattle.kl1_account.specs.Account.{meaning, task_with, aim}
 use Rattle.kl1_account.specs.Kept.{IsTaskIn}
 use Rattle.kl1_account.specs.Settled.{task_clause, awaited_by_task, IsSettled}
+use Rattle.kl1_account.proofs.Aims.{aim_later}
 
 -- a number hangs on no variable of these
 abbrev pub HangsOnNone : List Hook → ℕ → List ℕ → Type 0
@@ -51,8 +52,8 @@ by_task f hooks old new modules g Monitor e formed grown i free hung = (refl, re
 by_task f hooks old new modules g (Reduces x) e formed grown i free hung =
     let l = is_later f old new formed grown in
     let N : List ℕ → Type 0 = λ ns. HangsOnNone hooks g.number ns in
-    let t = meaning f old x in
-    let is : meaning f new x ≡ substituted (values_of l.replacements) t = l.means x i ∙ replaced_is l.replacements t in
+    let t = aim f old x in
+    let is : aim f new x ≡ substituted (values_of l.replacements) t = aim_later f old new x l i ∙ replaced_is l.replacements t in
     let stays = term_stays (contents modules) (values_of l.replacements) t (leaves_hung l.replacements hooks g.number (awaited_by_term (contents modules) t) hung (subst N (sym l.numbers) free)) in
     (ap (term_clause (contents modules)) is ∙ stays.0, ap (awaited_by_term (contents modules)) is ∙ stays.1)
 

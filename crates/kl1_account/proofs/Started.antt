@@ -52,7 +52,7 @@ use Rattle.kl1_account.proofs.Goals.{goals_in_append, owned_append, up_to_append
 use Rattle.kl1_account.proofs.SettledStays.{hung_more}
 use Rattle.kl1_match.specs.GoalCells.{AreGoalVariables}
 use Rattle.kl1_account.specs.Starting.{HasNames, IsStartable, StartsAs, two_goals, shoen_opened, IsDrafted, IsPlaced, hooks_on}
-use Rattle.kl1_account.proofs.States.{Agree, in_grown, goals_grown, shoens_grown}
+use Rattle.kl1_account.proofs.States.{Agree, in_grown, goals_grown, shoens_grown, aims_same}
 use Rattle.kl1_account.proofs.Beyond.{absent_beyond}
 use Rattle.kl1_account.proofs.Opened.{ReadsOpened, start_opens}
 use Rattle.kl1_account.proofs.NamesOnce.{collected}
@@ -168,7 +168,7 @@ settled_same f hooks more h k modules g agree i up s =
   where
     by_task : (t : Task CellName) → IsTaskIn h t → task_with (meaning f h) t ≡ task_with (meaning f k) t
     by_task Monitor j = refl
-    by_task (Reduces x) j = ap model.reduces (agree x j)
+    by_task (Reduces q) j = ap model.reduces (aims_same h (meaning f h) (meaning f k) agree q j)
 
 all_settled_same : (f : Reading) (hooks more : List Hook) (h k : Held CellName) (modules : List Numbered) (gs : List (Goal CellName)) → Agree h (meaning f h) (meaning f k) → AreGoalsIn h gs → ((y : Hook) → Contains hooks y → Contains more y) → AreSettled f hooks h modules gs → AreSettled f more k modules gs
 all_settled_same f hooks more h k modules [] agree i up s = tt

@@ -1,11 +1,12 @@
 -- States made of goals and shoens whose cells are read in one way or another.
 use Rattle.std.proofs.Common.{◌≡◌, ℕ, zero, suc, ◌+◌, ◌<◌, ◌≤◌, ◌==◌, if◌then◌else◌, List, [], ◌∷◌, length, map, refl, ap, ◌∙◌, arith, length-take}
-use Rattle.std.specs.Prelude.{Option, Some, None, option_map, slice_set}
+use Rattle.std.specs.Prelude.{codes, Option, Some, None, option_map, slice_set}
 use Rattle.std.proofs.lemmas.Bool.{ne_eqb, eq-eqb}
-use Rattle.kl1_model.specs.Term.{Term, replace, Replacement, replaced}
+use Rattle.kl1_model.specs.Term.{Term, structure, none, more, replace, Replacement, replaced}
 use Rattle.kl1_model.specs.State as model
 use Rattle.kl1_model.specs.State.{State, replace_in_goal, replace_in_shoen, replace_in_state, replace_all, shoen_at, change_shoen}
 use Rattle.kl1_text.specs.declared.cell_name.CellName.{CellName}
+use Rattle.kl1_store.specs.declared.qualified.Qualified.{Qualified}
 use Rattle.kl1_store.specs.declared.cell.Cell.{Cell}
 use Rattle.kl1_store.specs.declared.cell.Cell.TheVariants.{Variable, Integer, Atom, Structure}
 use Rattle.kl1_store.specs.Held.{Held, IsIn}
@@ -15,7 +16,7 @@ use Rattle.kl1_goals.specs.declared.task.Task.TheVariants.{Monitor, Reduces}
 use Rattle.kl1_goals.specs.declared.goal.Goal.{Goal}
 use Rattle.kl1_shoen.specs.declared.shoen.Origin.{Origin}
 use Rattle.kl1_shoen.specs.declared.shoen.Shoen.{Shoen}
-use Rattle.kl1_account.specs.Account.{Means, task_with, goal_with, origin_with, shoen_with, state_with}
+use Rattle.kl1_account.specs.Account.{Means, task_with, goal_with, origin_with, shoen_with, state_with, told_in, aim_with}
 use Rattle.kl1_account.specs.Kept.{IsTaskIn, AreGoalsIn, IsOriginIn, IsShoenIn, AreShoensIn, AreNumbered}
 
 -- ---- one way of reading in place of another
@@ -24,12 +25,19 @@ use Rattle.kl1_account.specs.Kept.{IsTaskIn, AreGoalsIn, IsOriginIn, IsShoenIn, 
 abbrev pub Agree : Held CellName → Means → Means → Type 0
 Agree h t u = (x : Cell CellName) → IsIn h x → t x ≡ u x
 
+told_same : (h : Held CellName) (t u : Means) → Agree h t u → (m : Option CellName) (b c : Term) → b ≡ c → told_in t m b ≡ told_in u m c
+told_same h t u a None b c e = e
+told_same h t u a (Some m) b c e = ap (λ x. structure (codes ":") (more x (more b none))) (a (Atom m) tt) ∙ ap (λ x. structure (codes ":") (more (u (Atom m)) (more x none))) e
+
+pub aims_same : (h : Held CellName) (t u : Means) → Agree h t u → (q : Qualified CellName) → IsIn h q.cell → aim_with t q ≡ aim_with u q
+aims_same h t u a q i = told_same h t u a q.module_name (t q.cell) (u q.cell) (a q.cell i)
+
 same_goal : (h : Held CellName) (t u : Means) → Agree h t u → (g : Goal CellName) → IsTaskIn h g.task → goal_with t g ≡ goal_with u g
 same_goal h t u a g i = ap (λ (k : model.Task). let r : model.Goal = record { number = g.number; task = k; shoen = g.shoen; priority = g.priority } in r) (by_task g.task i)
   where
     by_task : (k : Task CellName) → IsTaskIn h k → task_with t k ≡ task_with u k
     by_task Monitor i = refl
-    by_task (Reduces x) i = ap model.reduces (a x i)
+    by_task (Reduces q) i = ap model.reduces (aims_same h t u a q i)
 
 pub same_goals : (h : Held CellName) (t u : Means) → Agree h t u → (gs : List (Goal CellName)) → AreGoalsIn h gs → map (goal_with t) gs ≡ map (goal_with u) gs
 same_goals h t u a [] i = refl
@@ -61,6 +69,13 @@ same_state s h t u last gs ss a i j =
 
 -- ---- replacements everywhere
 
+told_replaced : (v : ℕ) (b : Term) (t : Means) (m : Option CellName) (u : Term) → replace v b (told_in t m u) ≡ told_in (λ x. replace v b (t x)) m (replace v b u)
+told_replaced v b t None u = refl
+told_replaced v b t (Some m) u = refl
+
+aim_replaced : (v : ℕ) (b : Term) (t : Means) (q : Qualified CellName) → replace v b (aim_with t q) ≡ aim_with (λ x. replace v b (t x)) q
+aim_replaced v b t q = told_replaced v b t q.module_name (t q.cell)
+
 replaced_goals : (v : ℕ) (b : Term) (t : Means) (gs : List (Goal CellName)) → map (replace_in_goal v b) (map (goal_with t) gs) ≡ map (goal_with (λ x. replace v b (t x))) gs
 replaced_goals v b t [] = refl
 replaced_goals v b t (g ∷ gs) =
@@ -69,7 +84,7 @@ replaced_goals v b t (g ∷ gs) =
   where
     by_task : (k : Task CellName) → model.replace_in_task v b (task_with t k) ≡ task_with (λ x. replace v b (t x)) k
     by_task Monitor = refl
-    by_task (Reduces x) = refl
+    by_task (Reduces q) = ap model.reduces (aim_replaced v b t q)
 
 replaced_shoens : (v : ℕ) (b : Term) (t : Means) (ss : List (Shoen CellName)) → map (replace_in_shoen v b) (map (shoen_with t) ss) ≡ map (shoen_with (λ x. replace v b (t x))) ss
 replaced_shoens v b t [] = refl

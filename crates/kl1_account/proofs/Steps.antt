@@ -12,6 +12,7 @@ use Rattle.kl1_model.specs.Reduction as reduction
 use Rattle.kl1_model.specs.Reduction.{moved, reduce_goal, reduced_by, effect_of}
 use Rattle.kl1_model.specs.Waits.{move_by}
 use Rattle.kl1_text.specs.declared.cell_name.CellName.{CellName}
+use Rattle.kl1_store.specs.declared.qualified.Qualified.{Qualified}
 use Rattle.kl1_atoms.specs.declared.known.Known.{Known}
 use Rattle.kl1_store.specs.declared.cell.Cell.{Cell}
 use Rattle.kl1_store.specs.Held.{Held, IsIn}
@@ -32,7 +33,7 @@ use Rattle.kl1_modules.specs.Finding.{contents}
 use Rattle.kl1_account.specs.declared.draft.Draft.{Draft}
 use Rattle.kl1_account.specs.declared.refusal.Refusal.TheVariants as refusal
 use Rattle.kl1_account.specs.Fitting.{Reading}
-use Rattle.kl1_account.specs.Account.{Account, Means, meaning, task_with, goal_with, shoen_with, state_of}
+use Rattle.kl1_account.specs.Account.{Account, Means, meaning, task_with, goal_with, shoen_with, state_of, aim}
 use Rattle.kl1_account.specs.Kept.{IsTaskIn, AreGoalsIn, IsOwned, AreOwned, AreShoensIn, AreNumbered}
 use Rattle.kl1_account.specs.Works.{Made, with_shoen, worked, HasNumber, Knows}
 use Rattle.kl1_account.specs.Drafts.{goals_left, goals_for, without_monitor, made_of, goals_after}
@@ -52,7 +53,7 @@ found_inside h n (x ∷ gs) g i e = by_case (x.number == n) e (found_inside h n 
     by_case true f k = let P : Goal CellName → Type 0 = λ z. IsTaskIn h z.task in let same : x ≡ g = cc in subst P same i.0
     by_case false f k = k f
 
-pub found_cell : (h : Held CellName) (n : ℕ) (gs : List (Goal CellName)) (g : Goal CellName) (x : Cell CellName) → AreGoalsIn h gs → find (has_number n) gs ≡ Some g → g.task ≡ Reduces x → IsIn h x
+pub found_cell : (h : Held CellName) (n : ℕ) (gs : List (Goal CellName)) (g : Goal CellName) (x : Qualified CellName) → AreGoalsIn h gs → find (has_number n) gs ≡ Some g → g.task ≡ Reduces x → IsIn h x.cell
 found_cell h n gs g x i e t = let P : Task CellName → Type 0 = λ k. IsTaskIn h k in subst P t (found_inside h n gs g i e)
 
 pub found_owned : (count n : ℕ) (gs : List (Goal CellName)) (g : Goal CellName) → AreOwned count gs → find (has_number n) gs ≡ Some g → IsOwned count g
@@ -119,15 +120,15 @@ refused_monitor a k n c g e found t = record {
   steps = λ f knows. steps_not (state_of f a) n c (goal_with (meaning f a.held) g) e (finds_goal f a n (Some g) found) (moves_as (state_of f a) (meaning f a.held) g Monitor c t);
 }
 
-pub refused_move : (a : Account) (k : Kept CellName) (n c : ℕ) (g : Goal CellName) (x : Cell CellName) → (is_number n && is_number c) ≡ true → find (has_number n) a.goals ≡ Some g → g.task ≡ Reduces x →
-    ((f : Reading) → Knows a.modules f → move_by (contents a.modules) (meaning f a.held x) c ≡ None) → IsRefused a k k n c refusal.Step
+pub refused_move : (a : Account) (k : Kept CellName) (n c : ℕ) (g : Goal CellName) (x : Qualified CellName) → (is_number n && is_number c) ≡ true → find (has_number n) a.goals ≡ Some g → g.task ≡ Reduces x →
+    ((f : Reading) → Knows a.modules f → move_by (contents a.modules) (aim f a.held x) c ≡ None) → IsRefused a k k n c refusal.Step
 refused_move a k n c g x e found t none = record {
   held = refl;
   hooks = refl;
   steps = λ f knows. steps_not (state_of f a) n c (goal_with (meaning f a.held) g) e (finds_goal f a n (Some g) found) (moves_as (state_of f a) (meaning f a.held) g (Reduces x) c t ∙ none f knows);
 }
 
-pub refused_full : (a : Account) (k : Kept CellName) (n c : ℕ) (g : Goal CellName) (x : Cell CellName) (p : Predicate CellName) (places : List (Place CellName)) (m : Move CellName) → (is_number n && is_number c) ≡ true → find (has_number n) a.goals ≡ Some g → g.task ≡ Reduces x →
+pub refused_full : (a : Account) (k : Kept CellName) (n c : ℕ) (g : Goal CellName) (x : Qualified CellName) (p : Predicate CellName) (places : List (Place CellName)) (m : Move CellName) → (is_number n && is_number c) ≡ true → find (has_number n) a.goals ≡ Some g → g.task ≡ Reduces x →
     Allows a.modules a.held p places x m c → most_entries ≤ a.entries → IsRefused a k k n c refusal.Journal
 refused_full a k n c g x p places m e found t allows full = record {
   held = refl;
@@ -171,7 +172,7 @@ ends f a h d same =
     ∙ ap (λ n. let z : State = record (with_entry (state_of f a)) { goals = map (goal_with t) (goals_after a.goals d); shoens = map (shoen_with t) (exchanged d.shoen a.shoens); last_variable = h.variables - 1; last_goal = w.last_goal; last_shoen = n } in z) count
 
 -- a reduction that is drafted
-pub is_reduction : (a : Account) (old new : Kept CellName) (n c known room : ℕ) (g : Goal CellName) (x : Cell CellName) (sh : Shoen CellName) (p : Predicate CellName) (places : List (Place CellName)) (m : Move CellName) (before d : Draft) → a.held ≡ old.held →
+pub is_reduction : (a : Account) (old new : Kept CellName) (n c known room : ℕ) (g : Goal CellName) (x : Qualified CellName) (sh : Shoen CellName) (p : Predicate CellName) (places : List (Place CellName)) (m : Move CellName) (before d : Draft) → a.held ≡ old.held →
     (is_number n && is_number c) ≡ true → find (has_number n) a.goals ≡ Some g → g.task ≡ Reduces x → Allows a.modules old.held p places x m c → a.entries < most_entries →
     find (shoen.has_number g.shoen) a.shoens ≡ Some sh → sh.number ≡ g.shoen → AreOwned (length a.shoens) a.goals → AreShoensIn old.held a.shoens → AreNumbered 0 a.shoens → Grown old.held new.held →
     IsBegun g sh a.last_goal before → IsDrafted a.modules old new a.goals g x c known room before d → IsReduction a old new n c known room d

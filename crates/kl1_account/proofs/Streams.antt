@@ -11,6 +11,7 @@ use Rattle.kl1_model.specs.Report.{report, close, close_of, closed_at, exception
 use Rattle.kl1_model.specs.Reduction.{failure, unified, equation}
 use Rattle.kl1_text.specs.Reading.{Reads}
 use Rattle.kl1_text.specs.declared.cell_name.CellName.{CellName}
+use Rattle.kl1_store.specs.declared.qualified.Qualified.{Qualified}
 use Rattle.kl1_store.specs.declared.cell.Cell.{Cell}
 use Rattle.kl1_store.specs.declared.unified.Unified.TheVariants.{Bound, Clash}
 use Rattle.kl1_store.specs.Held.{Held, IsIn}
@@ -25,11 +26,12 @@ use Rattle.kl1_goals.specs.declared.goal.Goal.{Goal}
 use Rattle.kl1_account.specs.declared.draft.Draft.{Draft}
 use Rattle.kl1_modules.specs.Numbered.{Numbered}
 use Rattle.kl1_account.specs.Fitting.{Reading, built}
-use Rattle.kl1_account.specs.Account.{meaning}
+use Rattle.kl1_account.specs.Account.{meaning, aim}
 use Rattle.kl1_account.specs.Drafts.{made_of, Drafts}
 use Rattle.kl1_account.specs.Works.{Made, with_shoen, worked, IsMadeIn, HasNumber, Turns, after_report}
 use Rattle.kl1_account.proofs.States.{replaced_state, all_replaced, goals_grown, shoen_grown}
 use Rattle.kl1_account.proofs.Works.{read_as, finds, rereads, turns_then, turns_as, report_turns}
+use Rattle.kl1_account.specs.Wholes.{IsWhole}
 
 -- what is made is still there in a store that has grown
 pub made_grown : (h k : Held CellName) (w : Made) → Grown h k → IsMadeIn h w → IsMadeIn k w
@@ -91,25 +93,34 @@ raised_turns ms h full k w v kind goal message g e i next =
     (λ f reads s shoens p. ap (λ t. report w.shoen.number t (worked f s h shoens w)) (sym (e.means f reads.reads)))
     (turns_then ms (λ f s. s) (λ f. report w.shoen.number (meaning f full message)) h full k w w v g first (next first.inside))
 
+-- the same of a goal that was made whole before
+pub whole_turns : (ms : List Numbered) (h mid k : Held CellName) (w v : Made) (kind : BuiltIn) (goal : Qualified CellName) (x : Cell CellName) → Grown h mid → IsWhole h mid goal x → IsMadeIn h w →
+    (IsMadeIn mid w → Turns ms (λ f. report w.shoen.number (exception (text_of kind) (meaning f mid x))) mid k w v) → Turns ms (λ f. report w.shoen.number (exception (text_of kind) (aim f h goal))) h k w v
+whole_turns ms h mid k w v kind goal x g e i next =
+    let first = grown_turns ms h mid w g e.variables e.others i in
+    turns_as ms (λ f. report w.shoen.number (exception (text_of kind) (meaning f mid x))) (λ f. report w.shoen.number (exception (text_of kind) (aim f h goal))) h k w v
+    (λ f reads s shoens p. ap (λ t. report w.shoen.number (exception (text_of kind) t) (worked f s h shoens w)) (sym (e.means f reads.reads)))
+    (turns_then ms (λ f s. s) (λ f. report w.shoen.number (exception (text_of kind) (meaning f mid x))) h mid k w w v g first (next first.inside))
+
 -- ---- unifications
 
-pub solved_turns : (ms : List Numbered) (h k : Held CellName) (w : Made) (goal left right : Cell CellName) → IsMadeIn h w → UnifiesAs built h k left right Bound →
-    Turns ms (λ f s. unified w.shoen.number (meaning f h goal) (solve (equation (meaning f h left) (meaning f h right))) s) h k w w
+pub solved_turns : (ms : List Numbered) (h k : Held CellName) (w : Made) (goal : Qualified CellName) (left right : Cell CellName) → IsMadeIn h w → UnifiesAs built h k left right Bound →
+    Turns ms (λ f s. unified w.shoen.number (aim f h goal) (solve (equation (meaning f h left) (meaning f h right))) s) h k w w
 solved_turns ms h k w goal left right i u = record {
   inside = made_grown h k w u.1 i;
   number = refl;
   owned = λ count lt o. o;
   states = λ f reads s shoens p.
       let solved = u.0 f reads.reads in
-      ap (λ o. unified w.shoen.number (meaning f h goal) o (worked f s h shoens w)) solved.solves
+      ap (λ o. unified w.shoen.number (aim f h goal) o (worked f s h shoens w)) solved.solves
       ∙ all_replaced solved.replacements (record s { last_goal = w.last_goal }) (meaning f h) (h.variables - 1) w.goals (with_shoen shoens w.shoen)
       ∙ rereads s (λ x. replaced solved.replacements (meaning f h x)) (meaning f k) (h.variables - 1) h shoens w (λ x j. sym (solved.everywhere x)) i p
       ∙ ap (λ n. read_as s (meaning f k) (n - 1) shoens w) (sym u.2);
 }
 
-pub clash_turns : (ms : List Numbered) (h mid k : Held CellName) (w v : Made) (goal left right : Cell CellName) → UnifiesAs built h mid left right Clash → Turns ms (λ f. report w.shoen.number (exception failure (meaning f mid goal))) mid k w v →
-    Turns ms (λ f s. unified w.shoen.number (meaning f h goal) (solve (equation (meaning f h left) (meaning f h right))) s) h k w v
+pub clash_turns : (ms : List Numbered) (h mid k : Held CellName) (w v : Made) (goal : Qualified CellName) (left right : Cell CellName) → UnifiesAs built h mid left right Clash → Turns ms (λ f. report w.shoen.number (exception failure (aim f mid goal))) mid k w v →
+    Turns ms (λ f s. unified w.shoen.number (aim f h goal) (solve (equation (meaning f h left) (meaning f h right))) s) h k w v
 clash_turns ms h mid k w v goal left right u t =
-    let P : Held CellName → Type 0 = λ x. Turns ms (λ f. report w.shoen.number (exception failure (meaning f x goal))) x k w v in
-    turns_as ms (λ f. report w.shoen.number (exception failure (meaning f h goal))) (λ f s. unified w.shoen.number (meaning f h goal) (solve (equation (meaning f h left) (meaning f h right))) s) h k w v
-    (λ f reads s shoens p. ap (λ o. unified w.shoen.number (meaning f h goal) o (worked f s h shoens w)) (u.0 f reads.reads)) (subst P u.1 t)
+    let P : Held CellName → Type 0 = λ x. Turns ms (λ f. report w.shoen.number (exception failure (aim f x goal))) x k w v in
+    turns_as ms (λ f. report w.shoen.number (exception failure (aim f h goal))) (λ f s. unified w.shoen.number (aim f h goal) (solve (equation (meaning f h left) (meaning f h right))) s) h k w v
+    (λ f reads s shoens p. ap (λ o. unified w.shoen.number (aim f h goal) o (worked f s h shoens w)) (u.0 f reads.reads)) (subst P u.1 t)

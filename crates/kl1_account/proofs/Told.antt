@@ -4,7 +4,7 @@ use Rattle.std.specs.Prelude.{Option, Some, None}
 use Rattle.std.specs.List.{find}
 use Rattle.std.proofs.lemmas.List.{drop_all}
 use Rattle.kl1_text.specs.declared.cell_name.CellName.{CellName}
-use Rattle.kl1_store.specs.declared.cell.Cell.{Cell}
+use Rattle.kl1_store.specs.declared.qualified.Qualified.{Qualified}
 use Rattle.kl1_store.specs.Held.{Held, IsIn}
 use Rattle.kl1_store.specs.Hooks.{Hook, Kept, HasGrown}
 use Rattle.kl1_goals.specs.declared.task.Task.{Task}
@@ -29,12 +29,12 @@ use Rattle.kl1_account.proofs.Restood.{each_is, restood_keeps, restood_push}
 
 -- where no goal that is no monitor has the number, nothing changes
 none_wakes : (ms : List Numbered) (h : Held CellName) (hooks : List Hook) (goals : List (Goal CellName)) (removed n : ℕ) (changes : List Change) →
-    ((g : Goal CellName) → (find (has_number g.number) goals ≡ Some g) × (g.number ≡ removed → ⊥) → (x : Cell CellName) → g.task ≡ Reduces x → g.number ≡ n → ⊥) →
+    ((g : Goal CellName) → (find (has_number g.number) goals ≡ Some g) × (g.number ≡ removed → ⊥) → (x : Qualified CellName) → g.task ≡ Reduces x → g.number ≡ n → ⊥) →
     Wakes ms h hooks hooks goals removed n changes changes
 none_wakes ms h hooks goals removed n changes none f knows gs others told settled =
     none_settled f hooks h ms n told (restood changes gs)
-    (restood_keeps (λ m t. (x : Cell CellName) → t ≡ Reduces x → m ≡ n → ⊥) changes gs
-    (each_is (λ g. (find (has_number g.number) goals ≡ Some g) × (g.number ≡ removed → ⊥)) (λ g. (x : Cell CellName) → g.task ≡ Reduces x → g.number ≡ n → ⊥) gs none others))
+    (restood_keeps (λ m t. (x : Qualified CellName) → t ≡ Reduces x → m ≡ n → ⊥) changes gs
+    (each_is (λ g. (find (has_number g.number) goals ≡ Some g) × (g.number ≡ removed → ⊥)) (λ g. (x : Qualified CellName) → g.task ≡ Reduces x → g.number ≡ n → ⊥) gs none others))
     settled
 
 -- the number of the goal that is removed
@@ -49,7 +49,7 @@ pub absent_wakes : (ms : List Numbered) (h : Held CellName) (hooks : List Hook) 
 absent_wakes ms h hooks goals removed n changes e =
     none_wakes ms h hooks goals removed n changes (λ g other x t same. let k = finds_same goals n None g e other.0 same in absurd (cc))
 
-monitor_not : (t : Task CellName) (x : Cell CellName) → t ≡ Monitor → t ≡ Reduces x → ⊥
+monitor_not : (t : Task CellName) (x : Qualified CellName) → t ≡ Monitor → t ≡ Reduces x → ⊥
 monitor_not t x a b = absurd (cc)
 
 -- a monitor's number
@@ -60,7 +60,7 @@ monitor_wakes ms h hooks goals removed n changes goal e m =
     (λ g other x t same. let k = same_goal goal g (finds_same goals n (Some goal) g e other.0 same) in monitor_not goal.task x m (ap (λ (a : Goal CellName). a.task) k ∙ t))
 
 -- the cell of a goal that is found is of the store
-pub found_in : (h : Held CellName) (p : Goal CellName → Bool) (goals : List (Goal CellName)) (goal : Goal CellName) (x : Cell CellName) → AreGoalsIn h goals → Some goal ≡ find p goals → goal.task ≡ Reduces x → IsIn h x
+pub found_in : (h : Held CellName) (p : Goal CellName → Bool) (goals : List (Goal CellName)) (goal : Goal CellName) (x : Qualified CellName) → AreGoalsIn h goals → Some goal ≡ find p goals → goal.task ≡ Reduces x → IsIn h x.cell
 found_in h p [] goal x all e t = absurd (cc)
 found_in h p (g ∷ goals) goal x all e t = here (p g) (λ k. found_in h p goals goal x all.1 k t) e
   where
@@ -69,7 +69,7 @@ found_in h p (g ∷ goals) goal x all e t = here (p g) (λ k. found_in h p goals
     here false later k = later k
 
 -- a goal's number
-pub cell_wakes : (ms : List Numbered) (h : Held CellName) (hooks more : List Hook) (goals : List (Goal CellName)) (removed n : ℕ) (before after : List Change) (goal : Goal CellName) (x : Cell CellName) →
+pub cell_wakes : (ms : List Numbered) (h : Held CellName) (hooks more : List Hook) (goals : List (Goal CellName)) (removed n : ℕ) (before after : List Change) (goal : Goal CellName) (x : Qualified CellName) →
     Some goal ≡ find (has_number n) goals → goal.task ≡ Reduces x → AreAmong hooks more → FindsOut ms h more x n before after → Wakes ms h hooks more goals removed n before after
 cell_wakes ms h hooks more goals removed n before after goal x e t up l f knows gs others told settled =
     let c = l.change in

@@ -11,6 +11,7 @@ use Rattle.kl1_goals.specs.declared.goal.Goal.{Goal}
 use Rattle.kl1_goals.specs.Lists.{is_monitor, is_monitor_of}
 use Rattle.kl1_goals.specs.Tables.{AreBefore, IsNext}
 use Rattle.kl1_account.specs.Kept.{AreOwned, AreUpTo}
+use Rattle.kl1_account.specs.Account.{whole}
 
 pub before_next : (last n : ℕ) (gs : List (Goal CellName)) → last < n → AreUpTo last gs → AreBefore n gs
 before_next last n [] lt a = tt
@@ -39,7 +40,7 @@ monitor_next last count after shoen number gs goals up owned e s a n = record {
 
 -- and its goal after that
 pub goal_next : (last count after shoen number priority : ℕ) (gs mid goals : List (Goal CellName)) (m : Goal CellName) (x : Cell CellName) (standing : Option ℕ) → AreUpTo last gs → mid ≡ gs → goals ≡ mid ++ m ∷ [] → m.number ≡ last + 1 → shoen ≡ suc count → after ≡ count + 1 → number ≡ last + 2 → priority ≤ monitor_priority →
-    IsNext (let g : Goal CellName = record { number = number; task = Reduces x; shoen = shoen; priority = priority; standing = standing } in g) goals after
+    IsNext (let g : Goal CellName = record { number = number; task = Reduces (whole x); shoen = shoen; priority = priority; standing = standing } in g) goals after
 goal_next last count after shoen number priority gs mid goals m x standing up d e f s a n le = record {
   number = rw (e, d) (before_both number gs m (omega arith) (before_next last number gs (omega arith) up));
   low = omega arith;

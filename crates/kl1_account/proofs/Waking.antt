@@ -5,8 +5,8 @@ use Rattle.std.specs.List.{AllByRecursion}
 use Rattle.std.proofs.lemmas.Bool.{ne_eqb, eq-eqb, cases_eq}
 use Rattle.kl1_model.specs.State as model
 use Rattle.kl1_text.specs.declared.cell_name.CellName.{CellName}
+use Rattle.kl1_store.specs.declared.qualified.Qualified.{Qualified}
 use Rattle.kl1_store.specs.Hooks.{Hook}
-use Rattle.kl1_store.specs.declared.cell.Cell.{Cell}
 use Rattle.kl1_store.specs.Held.{Held}
 use Rattle.kl1_store.specs.Later.{bound_since}
 use Rattle.kl1_store.specs.Sound.{IsFormed, Grown}
@@ -39,14 +39,14 @@ other_stands c g other = ap (λ b. if b then record g { standing = c.standing } 
 pub same_stands : (c : Change) (g : Goal CellName) → g.number ≡ c.number → restood_by c g ≡ record g { standing = c.standing }
 same_stands c g e = ap (λ b. if b then record g { standing = c.standing } else g) (eq-eqb g.number c.number e)
 
-pub found_out : (f : Reading) (hooks : List Hook) (h : Held CellName) (modules : List Numbered) (x : Cell CellName) (c : Change) (g : Goal CellName) → g.number ≡ c.number → g.task ≡ Reduces x → IsFoundOut f hooks h modules x c → IsSettled f hooks h modules (record g { standing = c.standing })
+pub found_out : (f : Reading) (hooks : List Hook) (h : Held CellName) (modules : List Numbered) (x : Qualified CellName) (c : Change) (g : Goal CellName) → g.number ≡ c.number → g.task ≡ Reduces x → IsFoundOut f hooks h modules x c → IsSettled f hooks h modules (record g { standing = c.standing })
 found_out f hooks h modules x c g e t s =
     let same : model.reduces (meaning f h x) ≡ task_with (meaning f h) g.task = ap (task_with (meaning f h)) (sym t) in
     let H : ℕ → Type 0 = λ n. HangsOnEach hooks n (awaited_by_task (contents modules) (task_with (meaning f h) g.task)) in
     let T : model.Task → Type 0 = λ k. HangsOnEach hooks c.number (awaited_by_task (contents modules) k) in
     record { standing = s.standing ∙ ap (task_clause (contents modules)) same; hung = subst H (sym e) (subst T same s.hung) }
 
-step_goal : (f : Reading) (hooks more : List Hook) (h : Held CellName) (modules : List Numbered) (x : Cell CellName) (c : Change) (pending : List ℕ) (g : Goal CellName) → AreAmong hooks more → (g.number ≡ c.number → g.task ≡ Reduces x) → IsFoundOut f more h modules x c →
+step_goal : (f : Reading) (hooks more : List Hook) (h : Held CellName) (modules : List Numbered) (x : Qualified CellName) (c : Change) (pending : List ℕ) (g : Goal CellName) → AreAmong hooks more → (g.number ≡ c.number → g.task ≡ Reduces x) → IsFoundOut f more h modules x c →
     IsSettledOr (c.number ∷ pending) f hooks h modules g → IsSettledOr pending f more h modules (restood_by c g)
 step_goal f hooks more h modules x c pending g up task s or =
     let S : Goal CellName → Type 0 = λ k. IsSettledOr pending f more h modules k in
@@ -60,16 +60,16 @@ step_goal f hooks more h modules x c pending g up task s or =
     (cases_eq g.number c.number)
 
 -- a goal that was pending is settled, and all others are as before
-pub one_settled : (f : Reading) (hooks more : List Hook) (h : Held CellName) (modules : List Numbered) (x : Cell CellName) (c : Change) (pending : List ℕ) (goals : List (Goal CellName)) → AreAmong hooks more → AreFor c.number x goals → IsFoundOut f more h modules x c →
+pub one_settled : (f : Reading) (hooks more : List Hook) (h : Held CellName) (modules : List Numbered) (x : Qualified CellName) (c : Change) (pending : List ℕ) (goals : List (Goal CellName)) → AreAmong hooks more → AreFor c.number x goals → IsFoundOut f more h modules x c →
     AreSettledOr (c.number ∷ pending) f hooks h modules goals → AreSettledOr pending f more h modules (map (restood_by c) goals)
 one_settled f hooks more h modules x c pending [] up for s all = tt
 one_settled f hooks more h modules x c pending (g ∷ goals) up for s all = (step_goal f hooks more h modules x c pending g up for.0 s all.0, one_settled f hooks more h modules x c pending goals up for.1 s all.1)
 
 -- no goal that is no monitor has a number
 abbrev pub AreNotOf : ℕ → List (Goal CellName) → Type 0
-AreNotOf n goals = AllByRecursion (λ g. (x : Cell CellName) → g.task ≡ Reduces x → g.number ≡ n → ⊥) goals
+AreNotOf n goals = AllByRecursion (λ g. (x : Qualified CellName) → g.task ≡ Reduces x → g.number ≡ n → ⊥) goals
 
-skip_goal : (f : Reading) (hooks : List Hook) (h : Held CellName) (modules : List Numbered) (n : ℕ) (pending : List ℕ) (g : Goal CellName) → ((x : Cell CellName) → g.task ≡ Reduces x → g.number ≡ n → ⊥) → IsSettledOr (n ∷ pending) f hooks h modules g → IsSettledOr pending f hooks h modules g
+skip_goal : (f : Reading) (hooks : List Hook) (h : Held CellName) (modules : List Numbered) (n : ℕ) (pending : List ℕ) (g : Goal CellName) → ((x : Qualified CellName) → g.task ≡ Reduces x → g.number ≡ n → ⊥) → IsSettledOr (n ∷ pending) f hooks h modules g → IsSettledOr pending f hooks h modules g
 skip_goal f hooks h modules n pending g not or =
     ⊎_elim
     (λ (settled : IsSettled f hooks h modules g). inl settled)

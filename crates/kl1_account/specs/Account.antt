@@ -1,11 +1,13 @@
 -- What an account keeps, with numbers for names, and the state that it is when they are read.
-use Rattle.std.specs.Prelude.{ℕ, ◌-◌, List, [], length, map, option_map}
-use Rattle.kl1_model.specs.Term.{Term}
+use Rattle.std.specs.Prelude.{ℕ, ◌-◌, List, [], length, map, codes, Option, None, Some, option_map}
+use Rattle.kl1_model.specs.Term.{Term, structure, none, more}
 use Rattle.kl1_model.specs.State as model
 use Rattle.kl1_model.specs.State.{State, monitor, reduces, living, terminated}
 use Rattle.kl1_text.specs.declared.cell_name.CellName.{CellName}
 use Rattle.kl1_atoms.specs.declared.known.Known.{Known}
 use Rattle.kl1_store.specs.declared.cell.Cell.{Cell}
+use Rattle.kl1_store.specs.declared.cell.Cell.TheVariants.{Atom}
+use Rattle.kl1_store.specs.declared.qualified.Qualified.{Qualified}
 use Rattle.kl1_store.specs.Held.{Held}
 use Rattle.kl1_store.specs.Meaning.{term_of}
 use Rattle.kl1_goals.specs.declared.task.Task.{Task}
@@ -39,10 +41,27 @@ Means = Cell CellName → Term
 abbrev pub meaning : Reading → Held CellName → Means
 meaning f h x = term_of f h x
 
+-- a goal in the module of a name, or a whole goal, where cells mean this
+abbrev pub told_in : Means → Option CellName → Term → Term
+told_in t None u = u
+told_in t (Some m) u = structure (codes ":") (more (t (Atom m)) (more u none))
+
+-- what is to be reduced, where cells mean this
+abbrev pub aim_with : Means → Qualified CellName → Term
+aim_with t q = told_in t q.module_name (t q.cell)
+
+-- what is to be reduced, for a reading
+abbrev pub aim : Reading → Held CellName → Qualified CellName → Term
+aim f h q = aim_with (meaning f h) q
+
+-- the whole goal that a cell is
+abbrev pub whole : Cell CellName → Qualified CellName
+whole x = record { module_name = None; cell = x }
+
 -- a task, where cells mean this
 abbrev pub task_with : Means → Task CellName → model.Task
 task_with t Monitor = monitor
-task_with t (Reduces x) = reduces (t x)
+task_with t (Reduces q) = reduces (aim_with t q)
 
 -- a goal, where cells mean this
 abbrev pub goal_with : Means → Goal CellName → model.Goal

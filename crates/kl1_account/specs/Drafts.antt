@@ -2,7 +2,7 @@
 use Rattle.std.specs.Prelude.{ℕ, suc, ◌+◌, ◌==◌, not, if◌then◌else◌, List, [], ◌∷◌, ◌++◌, length, filter, map, Option, None}
 use Rattle.kl1_model.specs.State.{State}
 use Rattle.kl1_text.specs.declared.cell_name.CellName.{CellName}
-use Rattle.kl1_store.specs.declared.cell.Cell.{Cell}
+use Rattle.kl1_store.specs.declared.qualified.Qualified.{Qualified}
 use Rattle.kl1_store.specs.Held.{Held}
 use Rattle.kl1_goals.specs.declared.task.Task.TheVariants.{Reduces}
 use Rattle.kl1_goals.specs.declared.goal.Goal.{Goal}
@@ -14,7 +14,7 @@ use Rattle.kl1_account.specs.Fitting.{Reading}
 use Rattle.kl1_account.specs.Works.{Made, IsMadeIn, Turns}
 
 -- goals for cells, with the numbers after the last
-abbrev pub goals_for : ℕ → ℕ → ℕ → List (Cell CellName) → List (Goal CellName)
+abbrev pub goals_for : ℕ → ℕ → ℕ → List (Qualified CellName) → List (Goal CellName)
 goals_for last shoen priority [] = []
 goals_for last shoen priority (x ∷ xs) =
     record { number = suc last; task = Reduces x; shoen = shoen; priority = priority; standing = None } ∷ goals_for (suc last) shoen priority xs
@@ -54,7 +54,7 @@ restood (c ∷ cs) goals = restood cs (map (restood_by c) goals)
 
 -- goals for cells, each with its own of these clauses by which they can step, with the numbers after the last; without clauses none
 -- can step
-abbrev pub goals_standing : ℕ → ℕ → ℕ → List (Cell CellName) → List (Option ℕ) → List (Goal CellName)
+abbrev pub goals_standing : ℕ → ℕ → ℕ → List (Qualified CellName) → List (Option ℕ) → List (Goal CellName)
 goals_standing last shoen priority [] standings = []
 goals_standing last shoen priority (x ∷ xs) [] = goals_for last shoen priority (x ∷ xs)
 goals_standing last shoen priority (x ∷ xs) (standing ∷ standings) =

@@ -12,7 +12,7 @@ use Rattle.kl1_shoen.specs.declared.shoen.Shoen.{Shoen}
 -- the cells of a task are of the store
 abbrev pub IsTaskIn : Held CellName → Task CellName → Type 0
 IsTaskIn h Monitor = Unit {0}
-IsTaskIn h (Reduces x) = IsIn h x
+IsTaskIn h (Reduces q) = IsIn h q.cell
 
 -- the cells of goals are of the store
 abbrev pub AreGoalsIn : Held CellName → List (Goal CellName) → Type 0

@@ -16,3 +16,4 @@ pub mod Tops
 pub mod Loadings
 pub mod Reducing
 pub mod Starting
+pub mod Wholes

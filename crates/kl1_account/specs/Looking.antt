@@ -5,7 +5,7 @@ use Rattle.kl1_model.specs.Match as model
 use Rattle.kl1_model.specs.Match.{clauses_of}
 use Rattle.kl1_text.specs.Reading.{Reads}
 use Rattle.kl1_text.specs.declared.cell_name.CellName.{CellName}
-use Rattle.kl1_store.specs.declared.cell.Cell.{Cell}
+use Rattle.kl1_store.specs.declared.qualified.Qualified.{Qualified}
 use Rattle.kl1_store.specs.Hooks.{Hook}
 use Rattle.kl1_store.specs.Held.{Held}
 use Rattle.kl1_clause.specs.declared.predicate.Predicate.{Predicate}
@@ -23,7 +23,7 @@ use Rattle.kl1_modules.specs.Numbered.{Numbered}
 use Rattle.kl1_modules.specs.Finding.{contents, Asks}
 use Rattle.kl1_account.specs.declared.draft.Change.{Change}
 use Rattle.kl1_account.specs.Fitting.{Reading, built}
-use Rattle.kl1_account.specs.Account.{meaning}
+use Rattle.kl1_account.specs.Account.{aim}
 use Rattle.kl1_account.specs.Works.{Knows}
 use Rattle.kl1_account.specs.Drafts.{goals_standing, restood}
 use Rattle.kl1_account.specs.Settled.{IsSettled, AreSettled}
@@ -50,14 +50,14 @@ calls_same c kind.Nothing = false
 -- this was found of a goal of this kind, where these are the clauses of its predicate: the clause by which it can step, and that its
 -- number hangs on each variable that it waits for
 pub record StandsBy (h : Held CellName) (hooks : List Hook) (kind : Kind CellName) (p : Predicate CellName) (c : Change) : Type 0 where
-  pub found : (f : Reading) (modules : List Numbered) (x : Cell CellName) → Reads built f → IsKind f h (meaning f h x) kind → HasPredicate f h (contents modules) kind p → IsFoundOut f hooks h modules x c
+  pub found : (f : Reading) (modules : List Numbered) (x : Qualified CellName) → Reads built f → IsKind f h (aim f h x) kind → HasPredicate f h (contents modules) kind p → IsFoundOut f hooks h modules x c
 
 -- the same of a goal for this cell
-pub record StandsAt (modules : List Numbered) (h : Held CellName) (hooks : List Hook) (x : Cell CellName) (c : Change) : Type 0 where
+pub record StandsAt (modules : List Numbered) (h : Held CellName) (hooks : List Hook) (x : Qualified CellName) (c : Change) : Type 0 where
   pub found : (f : Reading) → Knows modules f → IsFoundOut f hooks h modules x c
 
 -- the goal of a number, which is for this cell, was looked at: there is one change more
-pub record FindsOut (modules : List Numbered) (h : Held CellName) (hooks : List Hook) (x : Cell CellName) (number : ℕ) (before after : List Change) : Type 0 where
+pub record FindsOut (modules : List Numbered) (h : Held CellName) (hooks : List Hook) (x : Qualified CellName) (number : ℕ) (before after : List Change) : Type 0 where
   pub change : Change
   pub is : after ≡ before ++ change ∷ []
   pub number_is : change.number ≡ number
@@ -80,7 +80,7 @@ WakesTold modules h hooks more goals removed told before after =
     AreSettledOr told f hooks h modules (restood before gs) → AreSettled f more h modules (restood after gs)
 
 -- goals for cells with these clauses, which have the numbers after the last, are settled, whatever shoen they are of
-abbrev pub WakesAdded : List Numbered → Held CellName → List Hook → ℕ → List (Cell CellName) → List (Option ℕ) → Type 0
+abbrev pub WakesAdded : List Numbered → Held CellName → List Hook → ℕ → List (Qualified CellName) → List (Option ℕ) → Type 0
 WakesAdded modules h hooks last cells standings = (f : Reading) → Knows modules f → (shoen priority : ℕ) → AreSettled f hooks h modules (goals_standing last shoen priority cells standings)
 
 -- the goal of a number, which has this task, was looked at; there is nothing to find of a monitor

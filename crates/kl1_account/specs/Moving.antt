@@ -5,7 +5,7 @@ use Rattle.kl1_model.specs.Reduction as model
 use Rattle.kl1_model.specs.Reduction.{committed, moved}
 use Rattle.kl1_model.specs.Waits.{move_by}
 use Rattle.kl1_text.specs.declared.cell_name.CellName.{CellName}
-use Rattle.kl1_store.specs.declared.cell.Cell.{Cell}
+use Rattle.kl1_store.specs.declared.qualified.Qualified.{Qualified}
 use Rattle.kl1_store.specs.Held.{Held}
 use Rattle.kl1_clause.specs.declared.predicate.Predicate.{Predicate}
 use Rattle.kl1_match.specs.declared.place.Place.{Place}
@@ -16,7 +16,7 @@ use Rattle.kl1_modules.specs.Numbered.{Numbered}
 use Rattle.kl1_modules.specs.Finding.{contents}
 use Rattle.kl1_account.specs.declared.draft.Draft.{Draft}
 use Rattle.kl1_account.specs.Fitting.{Reading}
-use Rattle.kl1_account.specs.Account.{meaning, goal_with}
+use Rattle.kl1_account.specs.Account.{meaning, goal_with, aim}
 use Rattle.kl1_account.specs.Works.{Knows}
 use Rattle.kl1_account.specs.Drafts.{Drafts}
 
@@ -33,12 +33,12 @@ Commits p place places old new before after =
     (goals : List (Goal CellName)) → Drafts ms (λ f. committed (goal_with (meaning f old) goal) (k f)) old new goals before after
 
 -- the goal that a draft removes, which is this cell, has done this move by the clause of some number
-abbrev pub Moves : Predicate CellName → Move CellName → List (Place CellName) → Cell CellName → Held CellName → Held CellName → Draft → Draft → Type 0
+abbrev pub Moves : Predicate CellName → Move CellName → List (Place CellName) → Qualified CellName → Held CellName → Held CellName → Draft → Draft → Type 0
 Moves p made places x old new before after =
     (ms : List Numbered) (goal : Goal CellName) (clause : ℕ) (m : Reading → model.Move) → IsRemoved goal before →
-    ((f : Reading) → Knows ms f → MovesAs f old (contents ms) (meaning f old x) clause p places (Some made)) →
-    ((f : Reading) → Knows ms f → move_by (contents ms) (meaning f old x) clause ≡ Some (m f)) →
-    (goals : List (Goal CellName)) → Drafts ms (λ f. moved (goal_with (meaning f old) goal) (meaning f old x) (m f)) old new goals before after
+    ((f : Reading) → Knows ms f → MovesAs f old (contents ms) (aim f old x) clause p places (Some made)) →
+    ((f : Reading) → Knows ms f → move_by (contents ms) (aim f old x) clause ≡ Some (m f)) →
+    (goals : List (Goal CellName)) → Drafts ms (λ f. moved (goal_with (meaning f old) goal) (aim f old x) (m f)) old new goals before after
 
 -- a draft after a move: only its cells and its shoen may be others, and the shoen has its number
 pub record IsMoved (before after : Draft) : Type 0 where

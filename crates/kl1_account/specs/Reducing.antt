@@ -9,7 +9,7 @@ use Rattle.kl1_model.specs.Waits.{move_by}
 use Rattle.kl1_model.specs.Event.{reduce, reduced, refuse, most_entries}
 use Rattle.kl1_model.specs.Step.{step}
 use Rattle.kl1_text.specs.declared.cell_name.CellName.{CellName}
-use Rattle.kl1_store.specs.declared.cell.Cell.{Cell}
+use Rattle.kl1_store.specs.declared.qualified.Qualified.{Qualified}
 use Rattle.kl1_store.specs.declared.point.Point.{Point}
 use Rattle.kl1_store.specs.Held.{Held}
 use Rattle.kl1_store.specs.Sound.{IsFormed, Grown}
@@ -26,7 +26,7 @@ use Rattle.kl1_modules.specs.Finding.{contents}
 use Rattle.kl1_account.specs.declared.draft.Draft.{Draft}
 use Rattle.kl1_account.specs.declared.refusal.Refusal.{Refusal}
 use Rattle.kl1_account.specs.Fitting.{Reading}
-use Rattle.kl1_account.specs.Account.{Account, meaning, goal_with, state_of}
+use Rattle.kl1_account.specs.Account.{Account, meaning, goal_with, state_of, aim}
 use Rattle.kl1_account.specs.Kept.{AreGoalsIn, AreOwned, AreUpTo, AreShoensIn, AreNumbered}
 use Rattle.kl1_account.specs.Works.{Knows, Turns}
 use Rattle.kl1_account.specs.Drafts.{made_of, goals_after, Drafts}
@@ -49,16 +49,16 @@ move_or_go None = goes
 move_or_go (Some m) = m
 
 -- what a goal for a cell does by the clause of a number
-abbrev pub move_at : List Numbered → Held CellName → Cell CellName → ℕ → Reading → model.Move
-move_at ms h x clause f = move_or_go (move_by (contents ms) (meaning f h x) clause)
+abbrev pub move_at : List Numbered → Held CellName → Qualified CellName → ℕ → Reading → model.Move
+move_at ms h x clause f = move_or_go (move_by (contents ms) (aim f h x) clause)
 
 -- what the reduction of a goal for a cell by the clause of a number does to a state without it
-abbrev pub reduced_to : List Numbered → Held CellName → Goal CellName → Cell CellName → ℕ → Reading → State → State
-reduced_to ms h goal x clause f s = settle goal.shoen (moved (goal_with (meaning f h) goal) (meaning f h x) (move_at ms h x clause f) s)
+abbrev pub reduced_to : List Numbered → Held CellName → Goal CellName → Qualified CellName → ℕ → Reading → State → State
+reduced_to ms h goal x clause f s = settle goal.shoen (moved (goal_with (meaning f h) goal) (aim f h x) (move_at ms h x clause f) s)
 
 -- a goal for a cell can do this move by the clause of a number, for each reading
-abbrev pub Allows : List Numbered → Held CellName → Predicate CellName → List (Place CellName) → Cell CellName → Move CellName → ℕ → Type 0
-Allows ms h p places x made clause = (f : Reading) → Knows ms f → MovesAs f h (contents ms) (meaning f h x) clause p places (Some made)
+abbrev pub Allows : List Numbered → Held CellName → Predicate CellName → List (Place CellName) → Qualified CellName → Move CellName → ℕ → Type 0
+Allows ms h p places x made clause = (f : Reading) → Knows ms f → MovesAs f h (contents ms) (aim f h x) clause p places (Some made)
 
 -- a draft that removes a goal, and leaves the rest and this shoen as they are
 pub record IsBegun (goal : Goal CellName) (shoen : Shoen CellName) (last : ℕ) (d : Draft) : Type 0 where
@@ -103,7 +103,7 @@ pub record Finishes (ms : List Numbered) (mark : Point) (now new : Kept CellName
   pub enough : length after.cells.items ≤ room
 
 -- the reduction of a goal for a cell by the clause of a number is drafted
-pub record IsDrafted (ms : List Numbered) (old new : Kept CellName) (goals : List (Goal CellName)) (goal : Goal CellName) (x : Cell CellName) (clause shoens room : ℕ) (before after : Draft) : Type 0 where
+pub record IsDrafted (ms : List Numbered) (old new : Kept CellName) (goals : List (Goal CellName)) (goal : Goal CellName) (x : Qualified CellName) (clause shoens room : ℕ) (before after : Draft) : Type 0 where
   pub fitting : IsFitting goals shoens room after
   pub turns : Turns ms (reduced_to ms old.held goal x clause) old.held new.held (made_of goals before) (made_of goals after)
   pub settles : Settles ms old new goals (goals_after goals after)

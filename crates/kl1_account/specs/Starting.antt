@@ -34,7 +34,7 @@ use Rattle.kl1_account.specs.declared.startable.Starting.TheVariants.{Refused, C
 use Rattle.kl1_account.specs.declared.opening.Streams.{Streams}
 use Rattle.kl1_account.specs.declared.opening.Opening.{Opening}
 use Rattle.kl1_account.specs.Fitting.{Reading, Fits, built}
-use Rattle.kl1_account.specs.Account.{meaning, texts_of}
+use Rattle.kl1_account.specs.Account.{meaning, texts_of, whole}
 use Rattle.kl1_account.specs.Views.{refusal_of}
 use Rattle.kl1_account.specs.Naming.{AreSmall}
 use Rattle.kl1_account.specs.Works.{Knows}
@@ -60,7 +60,7 @@ StartsAs names entries allowance low high goal (Coded code) = IsStartable names 
 abbrev pub two_goals : ℕ → ℕ → ℕ → Cell CellName → Option ℕ → List (Goal CellName)
 two_goals last shoen high x standing =
     record { number = suc last; task = Monitor; shoen = shoen; priority = monitor_priority; standing = None }
-    ∷ record { number = suc (suc last); task = Reduces x; shoen = shoen; priority = high; standing = standing } ∷ []
+    ∷ record { number = suc (suc last); task = Reduces (whole x); shoen = shoen; priority = high; standing = standing } ∷ []
 
 -- a shoen that opens, with these cells
 abbrev pub shoen_opened : ℕ → ℕ → ℕ → ℕ → Cell CellName → Cell CellName → Cell CellName → Cell CellName → Shoen CellName

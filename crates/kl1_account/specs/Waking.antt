@@ -2,7 +2,7 @@
 use Rattle.std.specs.Prelude.{◌≡◌, ℕ, ◌==◌, ◌||◌, Bool, true, false, ◌⊎◌, List, [], ◌∷◌}
 use Rattle.std.specs.List.{AllByRecursion}
 use Rattle.kl1_text.specs.declared.cell_name.CellName.{CellName}
-use Rattle.kl1_store.specs.declared.cell.Cell.{Cell}
+use Rattle.kl1_store.specs.declared.qualified.Qualified.{Qualified}
 use Rattle.kl1_store.specs.Hooks.{Hook}
 use Rattle.kl1_store.specs.Held.{Held}
 use Rattle.kl1_goals.specs.declared.task.Task.TheVariants.{Reduces}
@@ -13,7 +13,7 @@ use Rattle.kl1_account.specs.Fitting.{Reading}
 use Rattle.kl1_model.specs.State as model
 use Rattle.kl1_modules.specs.Finding.{contents}
 use Rattle.kl1_account.specs.declared.draft.Change.{Change}
-use Rattle.kl1_account.specs.Account.{meaning}
+use Rattle.kl1_account.specs.Account.{aim}
 use Rattle.kl1_account.specs.Settled.{task_clause, awaited_by_task, IsSettled}
 
 -- whether a number is among others
@@ -24,7 +24,7 @@ is_among n (m ∷ ms) = n == m || is_among n ms
 -- a goal that is to be looked at again: it is no monitor, and its number is among these
 pub record IsPending (numbers : List ℕ) (g : Goal CellName) : Type 0 where
   pub among : is_among g.number numbers ≡ true
-  pub cell : Cell CellName
+  pub cell : Qualified CellName
   pub task : g.task ≡ Reduces cell
 
 -- a goal that is settled, or to be looked at again
@@ -36,10 +36,10 @@ abbrev pub AreSettledOr : List ℕ → Reading → List Hook → Held CellName �
 AreSettledOr numbers f hooks h modules goals = AllByRecursion (IsSettledOr numbers f hooks h modules) goals
 
 -- the goals of a number are for this cell
-abbrev pub AreFor : ℕ → Cell CellName → List (Goal CellName) → Type 0
+abbrev pub AreFor : ℕ → Qualified CellName → List (Goal CellName) → Type 0
 AreFor n x goals = AllByRecursion (λ g. g.number ≡ n → g.task ≡ Reduces x) goals
 
 -- what was found of a cell's goal
-pub record IsFoundOut (f : Reading) (hooks : List Hook) (h : Held CellName) (modules : List Numbered) (x : Cell CellName) (c : Change) : Type 0 where
-  pub standing : c.standing ≡ task_clause (contents modules) (model.reduces (meaning f h x))
-  pub hung : HangsOnEach hooks c.number (awaited_by_task (contents modules) (model.reduces (meaning f h x)))
+pub record IsFoundOut (f : Reading) (hooks : List Hook) (h : Held CellName) (modules : List Numbered) (x : Qualified CellName) (c : Change) : Type 0 where
+  pub standing : c.standing ≡ task_clause (contents modules) (model.reduces (aim f h x))
+  pub hung : HangsOnEach hooks c.number (awaited_by_task (contents modules) (model.reduces (aim f h x)))

@@ -3,7 +3,7 @@
 ghost use Rattle.std.specs.Prelude.{◌≡◌, []};
 
 use kl1_shoen::{Life, Shoen};
-use kl1_store::Cell;
+use kl1_store::{Cell, Qualified};
 use kl1_text::CellName;
 use std::alloc::Global;
 
@@ -21,7 +21,7 @@ pub(crate) struct Change {
 #[derive(Drop)]
 pub(crate) struct Draft {
     pub removed: u64,
-    pub cells: Vec<Cell<CellName>>,
+    pub cells: Vec<Qualified<CellName>>,
     pub priority: u64,
     pub is_ending: bool,
     pub shoen: Shoen<CellName>,

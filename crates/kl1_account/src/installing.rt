@@ -10,7 +10,7 @@ ghost use Rattle.kl1_account.specs.Reducing.{IsFitting};
 use crate::draft::{Change, Draft};
 use kl1_goals::{Goal, GoalTable, Task};
 use kl1_shoen::ShoenTree;
-use kl1_store::Cell;
+use kl1_store::Qualified;
 use kl1_text::CellName;
 
 /// Puts a draft in place of what it leaves of the goals and the shoens. It has to fit them.
@@ -47,7 +47,7 @@ fn put_goals(
     last_goal: u64,
     shoen: u64,
     priority: u64,
-    cells: &[Cell<CellName>],
+    cells: &[Qualified<CellName>],
     standings: &[Option<u64>],
 )
     requires room { length cells.now ≤ goals.old.room }

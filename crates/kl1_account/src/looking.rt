@@ -3,7 +3,8 @@
 ghost use Rattle.std.specs.Prelude.{◌≡◌, ◌+◌, ◌<◌, ◌^◌, [], length, IfOk, OnOk};
 ghost use Rattle.kl1_model.specs.Term.{Term};
 ghost use Rattle.kl1_text.specs.declared.cell_name.CellName.{CellName};
-ghost use Rattle.kl1_store.specs.Held.{Held, IsIn, AreIn};
+ghost use Rattle.kl1_store.specs.Held.{Held, IsIn};
+ghost use Rattle.kl1_store.specs.InModules.{AreQualifiedIn};
 ghost use Rattle.kl1_store.specs.Hooks.{HasGrown};
 ghost use Rattle.kl1_clause.specs.Predicates.{AreSome};
 ghost use Rattle.kl1_moves.specs.Kinds.{IsKind, KindIn};
@@ -18,8 +19,8 @@ use crate::draft::Change;
 use kl1_clause::Predicate;
 use kl1_goals::{GoalTable, Task};
 use kl1_modules::Modules;
-use kl1_moves::{Call, Kind, Trial, hang_on, kind_of, or_none, standing_of};
-use kl1_store::{Cell, Store};
+use kl1_moves::{Call, Kind, Trial, hang_on, kind_of_qualified, or_none, standing_of};
+use kl1_store::{Qualified, Store};
 use kl1_text::CellName;
 use std::alloc::AllocError;
 
@@ -118,16 +119,16 @@ fn standing_at(
     predicate: Predicate<'_, CellName>,
     trial: &mut Trial<CellName>,
     number: u64,
-    cell: Cell<CellName>,
+    cell: Qualified<CellName>,
 ) -> Result<Option<u64>, AllocError>
-    requires cell { IsIn store.old.held cell }
+    requires cell { IsIn store.old.held cell.cell }
     requires some { AreSome predicate.names.now predicate.clauses.now }
     requires serves { Serves modules.now.loaded known predicate }
     ensures stands { IfOk result (λ standing. StandsAt modules.now.loaded store.old.held store.new.hooks cell (record { number = number; standing = standing })) }
     ensures held { store.new.held ≡ store.old.held }
     ensures grown { HasGrown store.old store.new }
 {
-    let kind = kind_of(store, cell);
+    let kind = kind_of_qualified(store, cell);
     let clauses = predicate_near(modules, known, predicate, kind);
     hung_standing(store, kind, clauses, trial, number)
 }
@@ -141,10 +142,10 @@ fn look_at_cell(
     predicate: Predicate<'_, CellName>,
     trial: &mut Trial<CellName>,
     number: u64,
-    cell: Cell<CellName>,
+    cell: Qualified<CellName>,
     changes: &mut Vec<Change>,
 ) -> Result<(), AllocError>
-    requires cell { IsIn store.old.held cell }
+    requires cell { IsIn store.old.held cell.cell }
     requires some { AreSome predicate.names.now predicate.clauses.now }
     requires serves { Serves modules.now.loaded known predicate }
     ensures finds { OnOk result (FindsOut modules.now.loaded store.old.held store.new.hooks cell number changes.old.items changes.new.items) }
@@ -225,10 +226,10 @@ pub(crate) fn wake_added(
     predicate: Predicate<'_, CellName>,
     trial: &mut Trial<CellName>,
     last_goal: u64,
-    cells: &[Cell<CellName>],
+    cells: &[Qualified<CellName>],
     standings: &mut Vec<Option<u64>>,
 ) -> Result<(), AllocError>
-    requires cells { AreIn store.old.held cells.now }
+    requires cells { AreQualifiedIn store.old.held cells.now }
     requires fits { last_goal + length cells.now < 2 ^ 64 }
     requires empty { standings.old.items ≡ [] }
     requires some { AreSome predicate.names.now predicate.clauses.now }

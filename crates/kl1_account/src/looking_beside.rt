@@ -20,8 +20,8 @@ use crate::looking::hung_standing;
 use kl1_clause::Predicate;
 use kl1_goals::{Goal, GoalTable, Task};
 use kl1_modules::{Loaded, Modules};
-use kl1_moves::{Kind, Trial, kind_of, or_none};
-use kl1_store::{Cell, Store};
+use kl1_moves::{Kind, Trial, kind_of_qualified, or_none};
+use kl1_store::{Qualified, Store};
 use kl1_text::CellName;
 use std::alloc::AllocError;
 
@@ -58,16 +58,16 @@ fn look_at_cell(
     draft: &Loaded,
     trial: &mut Trial<CellName>,
     number: u64,
-    cell: Cell<CellName>,
+    cell: Qualified<CellName>,
     changes: &mut Vec<Change>,
 ) -> Result<(), AllocError>
-    requires cell { IsIn store.old.held cell }
+    requires cell { IsIn store.old.held cell.cell }
     requires new { is_numbered modules.now.loaded (number_of draft.now) ≡ false }
     ensures finds { OnOk result (FindsOut (modules.now.loaded ++ draft.now ∷ []) store.old.held store.new.hooks cell number changes.old.items changes.new.items) }
     ensures held { store.new.held ≡ store.old.held }
     ensures grown { HasGrown store.old store.new }
 {
-    let kind = kind_of(store, cell);
+    let kind = kind_of_qualified(store, cell);
     let predicate = predicate_beside(modules, draft, kind);
     let standing = hung_standing(store, kind, predicate, trial, number)?;
     changes.push(Change { number, standing })?;

@@ -13,7 +13,7 @@ use crate::draft::Draft;
 use crate::reporting::{raise, unify};
 use kl1_clause::Predicate;
 use kl1_moves::{Move, Trial};
-use kl1_store::{Cell, Store};
+use kl1_store::{Qualified, Store};
 use kl1_text::CellName;
 use std::alloc::AllocError;
 
@@ -23,10 +23,10 @@ pub(crate) fn do_move(
     predicate: Predicate<'_, CellName>,
     made: Move<CellName>,
     trial: &mut Trial<CellName>,
-    cell: Cell<CellName>,
+    cell: Qualified<CellName>,
     draft: &mut Draft,
 ) -> Result<(), AllocError>
-    requires cell { IsIn store.old.held cell }
+    requires cell { IsIn store.old.held cell.cell }
     requires inside { MoveIn store.old.held predicate (taken_places trial.old) (Some made) }
     requires predicate { AreSome predicate.names.now predicate.clauses.now }
     requires some { 0 < store.old.held.variables }

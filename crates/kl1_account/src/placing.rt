@@ -8,7 +8,7 @@ ghost use Rattle.kl1_account.specs.Starting.{two_goals, hooks_on};
 
 use kl1_goals::{Goal, GoalTable, Task};
 use kl1_model::limits::MONITOR_PRIORITY;
-use kl1_store::{Cell, Store};
+use kl1_store::{Cell, Qualified, Store};
 use kl1_text::CellName;
 
 /// Hangs a number on each of these variables. There has to be room for that.
@@ -55,7 +55,10 @@ pub(crate) fn put_two(
     });
     goals.put(Goal {
         number: last_goal + 2,
-        task: Task::Reduces(cell),
+        task: Task::Reduces(Qualified {
+            module_name: None,
+            cell,
+        }),
         shoen,
         priority: high,
         standing,

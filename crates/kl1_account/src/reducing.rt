@@ -2,7 +2,8 @@
 
 ghost use Rattle.std.specs.Prelude.{◌≡◌, ◌+◌, ◌<◌, ◌^◌, false, List, ℕ, length, Some, IfOk, OnOk};
 ghost use Rattle.kl1_atoms.specs.declared.known.Known.{Known};
-ghost use Rattle.kl1_store.specs.Held.{IsIn, AreIn};
+ghost use Rattle.kl1_store.specs.Held.{IsIn};
+ghost use Rattle.kl1_store.specs.InModules.{AreQualifiedIn};
 ghost use Rattle.kl1_store.specs.Hooks.{HasGrown};
 ghost use Rattle.kl1_clause.specs.Predicates.{AreSome};
 ghost use Rattle.kl1_moves.specs.Moves.{MoveIn};
@@ -22,9 +23,9 @@ use kl1_clause::Predicate;
 use kl1_goals::{Goal, GoalTable, Task};
 use kl1_model::limits::MOST_ENTRIES;
 use kl1_modules::Modules;
-use kl1_moves::{Kind, Move, Trial, kind_of, move_of};
+use kl1_moves::{Kind, Move, Trial, kind_of_qualified, move_of};
 use kl1_shoen::{Shoen, ShoenTree};
-use kl1_store::{Cell, Point, Store};
+use kl1_store::{Point, Store};
 use kl1_text::CellName;
 use std::alloc::AllocError;
 
@@ -61,7 +62,7 @@ fn wake(
 ) -> Result<(), AllocError>
     requires goals { AreGoalsIn store.old.held goals.now.goals }
     requires order { AreInOrder goals.now.goals }
-    requires cells { AreIn store.old.held draft.old.cells.items }
+    requires cells { AreQualifiedIn store.old.held draft.old.cells.items }
     requires some { AreSome predicate.names.now predicate.clauses.now }
     requires serves { Serves modules.now.loaded known predicate }
     requires fits { draft.old.last_goal + length draft.old.cells.items < 2 ^ 64 }
@@ -114,7 +115,7 @@ fn finish(
     requires order { AreInOrder goals.old.goals }
     requires shoen { IsShoenIn store.old.held draft.old.shoen }
     requires living { draft.old.is_ending ≡ false }
-    requires cells { AreIn store.old.held draft.old.cells.items }
+    requires cells { AreQualifiedIn store.old.held draft.old.cells.items }
     requires some { AreSome predicate.names.now predicate.clauses.now }
     requires serves { Serves modules.now.loaded known predicate }
     ensures ok { OnOk result (Finishes modules.now.loaded mark store.old store.new goals.old.goals goals.new.room draft.old draft.new) }
@@ -162,7 +163,7 @@ pub(crate) fn draft_reduction(
     let Task::Reduces(cell) = goal.task else {
         return Ok(Some(Refusal::Step));
     };
-    let kind = kind_of(store, cell);
+    let kind = kind_of_qualified(store, cell);
     let predicate = predicate_of(modules, kind);
     let Some(made) = move_of(store, kind, predicate, clause, trial)? else {
         return Ok(Some(Refusal::Step));

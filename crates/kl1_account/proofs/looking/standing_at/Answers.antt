@@ -12,9 +12,9 @@ returns-clause-stands c =
     let h = c.args.store.now.held in
     let hooks = c.hung_standing.new.store.hooks in
     let x = c.args.cell in
-    let kind = c.kind_of-kind.result in
+    let kind = c.kind_of_qualified-kind.result in
     let p = c.predicate_near-clauses.result in
     let one : Option ℕ → Change = λ s. record { number = c.args.number; standing = s } in
     IfOk-weaker c.hung_standing.result (λ s. StandsBy h hooks kind p (one s)) (λ s. StandsAt ms h hooks x (one s))
-    (λ s found. stands_at ms h hooks x kind p (one s) c.kind_of-kind.ensures.kind (serves_has ms kind p c.predicate_near-clauses.ensures.serves) found)
+    (λ s found. stands_at ms h hooks x kind p (one s) c.kind_of_qualified-kind.ensures.kind (serves_has ms kind p c.predicate_near-clauses.ensures.serves) found)
     c.hung_standing.ensures.stands

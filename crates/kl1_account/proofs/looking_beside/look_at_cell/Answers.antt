@@ -10,5 +10,5 @@ returns-clause-finds c =
     let n = c.args.number in
     let s = c.in_ok-standing.standing in
     finds_out ms h hooks c.args.cell n s c.args.changes.now.items c.push.new.self.items
-    (stands_at ms h hooks c.args.cell c.kind_of-kind.result c.predicate_beside-predicate.result (record { number = n; standing = s }) c.kind_of-kind.ensures.kind c.predicate_beside-predicate.ensures.has c.in_ok-standing.ensures.stands)
+    (stands_at ms h hooks c.args.cell c.kind_of_qualified-kind.result c.predicate_beside-predicate.result (record { number = n; standing = s }) c.kind_of_qualified-kind.ensures.kind c.predicate_beside-predicate.ensures.has c.in_ok-standing.ensures.stands)
     c.in_ok-push.ensures.items

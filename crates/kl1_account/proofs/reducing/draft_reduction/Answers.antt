@@ -6,13 +6,14 @@ use Rattle.kl1_shoen.specs.declared.shoen.Shoen.{Shoen}
 use Rattle.kl1_moves.specs.declared.moves.Move.{Move}
 use Rattle.kl1_moves.specs.Moves.{taken_places, MovesAs}
 use Rattle.kl1_modules.specs.Finding.{contents}
-use Rattle.kl1_account.specs.Account.{meaning}
+use Rattle.kl1_account.specs.Account.{aim}
 use Rattle.kl1_account.specs.Kept.{IsShoenIn}
 use Rattle.kl1_account.specs.Reducing.{Allows}
 use Rattle.kl1_account.proofs.PutIn.{never_absent, found_shoen_in}
 use Rattle.kl1_account.proofs.Drafted.{has_begun, is_ready, is_drafted}
 use Rattle.kl1_account.proofs.Steps.{account_at, found_cell, found_owned, refused_syntax, refused_nowhere, refused_monitor, refused_move, refused_full, is_reduction}
 use Rattle.kl1_account.proofs.reducing.draft_reduction.Goals as goal
+use Rattle.kl1_account.proofs.Aims.{kind_at}
 
 pub returns-then-not-are_numbers-clause-ok : goal.returns-then-not-are_numbers-clause-ok
 returns-then-not-are_numbers-clause-ok c = λ own names.
@@ -29,8 +30,8 @@ returns-in_default-task-clause-ok c = λ own names.
     let a = account_at own names c.args.store.now.held c.args.goals.now.goals c.args.shoens.now.shoens c.args.modules.now.loaded c.args.last_goal c.args.entries in
     refused_monitor a c.args.store.now c.args.number c.args.clause c.in-Some.goal (sym c.if-not-are_numbers.ensures) (sym c.in-Some.ensures.goal) c.in_default-task.is
 
-pub kind_of-kind-requires : goal.kind_of-kind-requires
-kind_of-kind-requires c = found_cell c.args.store.now.held c.args.number c.args.goals.now.goals c.in-Some.goal c.in-Reduces.cell c.requires.goals (sym c.in-Some.ensures.goal) c.in-Reduces.is
+pub kind_of_qualified-kind-requires : goal.kind_of_qualified-kind-requires
+kind_of_qualified-kind-requires c = found_cell c.args.store.now.held c.args.number c.args.goals.now.goals c.in-Some.goal c.in-Reduces.cell c.requires.goals (sym c.in-Some.ensures.goal) c.in-Reduces.is
 
 pub returns-in_default-2-clause-ok : goal.returns-in_default-2-clause-ok
 returns-in_default-2-clause-ok c = λ own names.
@@ -40,9 +41,9 @@ returns-in_default-2-clause-ok c = λ own names.
     let a = account_at own names h c.args.goals.now.goals c.args.shoens.now.shoens ms c.args.last_goal c.args.entries in
     refused_move a c.args.store.now c.args.number c.args.clause c.in-Some.goal x (sym c.if-not-are_numbers.ensures) (sym c.in-Some.ensures.goal) c.in-Reduces.is
     (λ f knows.
-    let P : Option (Move CellName) → Type 0 = λ o. MovesAs f h (contents ms) (meaning f h x) c.args.clause c.predicate_of-predicate.result (taken_places c.move_of.new.trial) o in
-    let k = c.kind_of-kind.ensures.kind f knows.reads in
-    subst P c.in_default-2.is (c.in_ok-made.ensures.moves f knows.reads (contents ms) (meaning f h x) k (c.predicate_of-predicate.ensures.has f knows h (meaning f h x) k)))
+    let P : Option (Move CellName) → Type 0 = λ o. MovesAs f h (contents ms) (aim f h x) c.args.clause c.predicate_of-predicate.result (taken_places c.move_of.new.trial) o in
+    let k = kind_at f h x c.kind_of_qualified-kind.result (c.kind_of_qualified-kind.ensures.kind f knows.reads) in
+    subst P c.in_default-2.is (c.in_ok-made.ensures.moves f knows.reads (contents ms) (aim f h x) k (c.predicate_of-predicate.ensures.has f knows h (aim f h x) k)))
 
 pub returns-then-entries-ge-MOST_ENTRIES-clause-ok : goal.returns-then-entries-ge-MOST_ENTRIES-clause-ok
 returns-then-entries-ge-MOST_ENTRIES-clause-ok c = λ own names.
@@ -52,9 +53,9 @@ returns-then-entries-ge-MOST_ENTRIES-clause-ok c = λ own names.
     let a = account_at own names h c.args.goals.now.goals c.args.shoens.now.shoens ms c.args.last_goal c.args.entries in
     refused_full a c.args.store.now c.args.number c.args.clause c.in-Some.goal x c.predicate_of-predicate.result (taken_places c.move_of.new.trial) c.in-Some-2.made (sym c.if-not-are_numbers.ensures) (sym c.in-Some.ensures.goal) c.in-Reduces.is
     (λ f knows.
-    let P : Option (Move CellName) → Type 0 = λ o. MovesAs f h (contents ms) (meaning f h x) c.args.clause c.predicate_of-predicate.result (taken_places c.move_of.new.trial) o in
-    let k = c.kind_of-kind.ensures.kind f knows.reads in
-    subst P c.in-Some-2.is (c.in_ok-made.ensures.moves f knows.reads (contents ms) (meaning f h x) k (c.predicate_of-predicate.ensures.has f knows h (meaning f h x) k)))
+    let P : Option (Move CellName) → Type 0 = λ o. MovesAs f h (contents ms) (aim f h x) c.args.clause c.predicate_of-predicate.result (taken_places c.move_of.new.trial) o in
+    let k = kind_at f h x c.kind_of_qualified-kind.result (c.kind_of_qualified-kind.ensures.kind f knows.reads) in
+    subst P c.in-Some-2.is (c.in_ok-made.ensures.moves f knows.reads (contents ms) (aim f h x) k (c.predicate_of-predicate.ensures.has f knows h (aim f h x) k)))
     c.if-entries-ge-MOST_ENTRIES.true
 
 pub unreachable-requires : goal.unreachable-requires
@@ -84,9 +85,9 @@ finish-requires c =
     let sh = c.in-Some-lend.shoen.now in
     let before = c.begin.new.draft in
     let allows : Allows ms h p places x made c.args.clause = λ f knows.
-    (let P : Option (Move CellName) → Type 0 = λ o. MovesAs f h (contents ms) (meaning f h x) c.args.clause p places o in
-    let k = c.kind_of-kind.ensures.kind f knows.reads in
-    subst P c.in-Some-2.is (c.in_ok-made.ensures.moves f knows.reads (contents ms) (meaning f h x) k (c.predicate_of-predicate.ensures.has f knows h (meaning f h x) k))) in
+    (let P : Option (Move CellName) → Type 0 = λ o. MovesAs f h (contents ms) (aim f h x) c.args.clause p places o in
+    let k = kind_at f h x c.kind_of_qualified-kind.result (c.kind_of_qualified-kind.ensures.kind f knows.reads) in
+    subst P c.in-Some-2.is (c.in_ok-made.ensures.moves f knows.reads (contents ms) (aim f h x) k (c.predicate_of-predicate.ensures.has f knows h (aim f h x) k))) in
     let begun = has_begun h gs g c.args.goals.now.shoens c.args.last_goal sh before c.requires.some c.requires.goals c.requires.last
     (found_shoen_in h g.shoen c.args.shoens.now.shoens sh c.requires.shoens (sym c.in-Some-lend.ensures.value)) c.in-Some-lend.ensures.number c.in-Some.ensures.known c.begin.ensures in
     let ready = is_ready ms h c.do_move.new.store.held gs g x c.args.clause c.args.goals.now.shoens p made places before c.do_move.new.draft begun allows c.in_ok-do_move.ensures.ok c.in_ok-do_move.ensures.moved c.in_ok-do_move.ensures.grown in
@@ -114,9 +115,9 @@ returns-clause-ok c = λ own names.
     let before = c.begin.new.draft in
     let a = account_at own names h gs c.args.shoens.now.shoens ms c.args.last_goal c.args.entries in
     let allows : Allows ms h p places x made c.args.clause = λ f knows.
-    (let P : Option (Move CellName) → Type 0 = λ o. MovesAs f h (contents ms) (meaning f h x) c.args.clause p places o in
-    let k = c.kind_of-kind.ensures.kind f knows.reads in
-    subst P c.in-Some-2.is (c.in_ok-made.ensures.moves f knows.reads (contents ms) (meaning f h x) k (c.predicate_of-predicate.ensures.has f knows h (meaning f h x) k))) in
+    (let P : Option (Move CellName) → Type 0 = λ o. MovesAs f h (contents ms) (aim f h x) c.args.clause p places o in
+    let k = kind_at f h x c.kind_of_qualified-kind.result (c.kind_of_qualified-kind.ensures.kind f knows.reads) in
+    subst P c.in-Some-2.is (c.in_ok-made.ensures.moves f knows.reads (contents ms) (aim f h x) k (c.predicate_of-predicate.ensures.has f knows h (aim f h x) k))) in
     let begun = has_begun h gs g c.args.goals.now.shoens c.args.last_goal sh before c.requires.some c.requires.goals c.requires.last
     (found_shoen_in h g.shoen c.args.shoens.now.shoens sh c.requires.shoens (sym c.in-Some-lend.ensures.value)) c.in-Some-lend.ensures.number c.in-Some.ensures.known c.begin.ensures in
     let drafted = is_drafted ms c.mark-mark.result c.args.store.now c.do_move.new.store c.finish.new.store gs g x c.args.clause c.args.goals.now.shoens c.finish.new.goals.room p made places before c.do_move.new.draft c.finish.new.draft

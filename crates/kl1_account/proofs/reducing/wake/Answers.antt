@@ -1,7 +1,7 @@
 use Rattle.std.proofs.Common.{◌≡◌, ℕ, List, ◌++◌, drop, ap, ◌∙◌, subst}
 use Rattle.std.proofs.lemmas.Result.{on_ok_weaker}
 use Rattle.kl1_text.specs.declared.cell_name.CellName.{CellName}
-use Rattle.kl1_store.specs.declared.cell.Cell.{Cell}
+use Rattle.kl1_store.specs.declared.qualified.Qualified.{Qualified}
 use Rattle.kl1_store.specs.Hooks.{told_by}
 use Rattle.kl1_account.specs.declared.draft.Draft.{Draft}
 use Rattle.kl1_account.specs.declared.draft.Change.{Change}
@@ -20,7 +20,7 @@ returns-clause-wakes c =
     let after : Draft = record d { changes = c.wake_told.new.changes; standings = c.wake_added.new.standings; told = c.tell.new.told } in
     let T : List ℕ → Type 0 = λ ns. WakesTold ms now.held now.hooks mid.hooks goals d.removed ns c.clear-2.new.self.items c.wake_told.new.changes.items in
     let S : List Change → Type 0 = λ cs. WakesTold ms now.held now.hooks mid.hooks goals d.removed c.tell.new.told.items cs c.wake_told.new.changes.items in
-    let A : List (Cell CellName) → Type 0 = λ xs. WakesAdded ms mid.held new.hooks d.last_goal xs c.wake_added.new.standings.items in
+    let A : List (Qualified CellName) → Type 0 = λ xs. WakesAdded ms mid.held new.hooks d.last_goal xs c.wake_added.new.standings.items in
     let told_is : c.tell.new.told.items ≡ told_by (drop c.args.mark.sizes.bindings now.held.bindings) now.hooks =
     c.in_ok-tell.ensures ∙ ap (λ (ns : List ℕ). ns ++ told_by (drop c.args.mark.sizes.bindings now.held.bindings) now.hooks) c.clear.ensures.items in
     on_ok_weaker c.wake_added.result

@@ -1,10 +1,10 @@
 use Rattle.std.proofs.lemmas.Result.{on_ok_weaker}
 use Rattle.kl1_account.specs.Drafts.{made_of}
-use Rattle.kl1_account.proofs.Streams.{raised_turns}
+use Rattle.kl1_account.proofs.Streams.{whole_turns}
 use Rattle.kl1_account.proofs.reporting.raise.Goals as goal
 
 pub returns-clause-ok : goal.returns-clause-ok
 returns-clause-ok c =
-    on_ok_weaker c.report.result
-    (λ ok ms goals i. raised_turns ms c.args.store.now.held c.exception_of.new.store.held c.report.new.store.held (made_of goals c.args.draft.now) (made_of goals c.report.new.draft) c.args.kind c.args.goal c.in_ok-message.message c.in_ok-message.ensures.grown c.in_ok-message.ensures.exception i (ok ms goals))
-    c.report.ensures.ok
+    on_ok_weaker c.raise_whole.result
+    (λ ok ms goals i. whole_turns ms c.args.store.now.held c.whole.new.store.held c.raise_whole.new.store.held (made_of goals c.args.draft.now) (made_of goals c.raise_whole.new.draft) c.args.kind c.args.goal c.in_ok-cell.cell c.in_ok-cell.ensures.grown c.in_ok-cell.ensures.whole i (ok ms goals))
+    c.raise_whole.ensures.ok
