@@ -153,7 +153,7 @@ goals_grown h k g (x ∷ gs) i = (by_task x.task i.0, goals_grown h k g gs i.1)
   where
     by_task : (t : Task CellName) → IsTaskIn h t → IsTaskIn k t
     by_task Monitor i = tt
-    by_task (Reduces c) i = in_grown h k g c i
+    by_task (Reduces q) i = in_grown h k g q.cell i
 
 pub shoen_grown : (h k : Held CellName) → Grown h k → (s : Shoen CellName) → IsShoenIn h s → IsShoenIn k s
 shoen_grown h k g s i = record { control = in_grown h k g s.control i.control; tail = in_grown h k g s.tail i.tail; origin = by_origin s.origin i.origin }
