@@ -20,7 +20,8 @@ mapped_at f [] k d lt = absurd (omega arith)
 mapped_at f (n ∷ ns) zero d lt = refl
 mapped_at f (n ∷ ns) (suc k) d lt = mapped_at f ns k d (omega arith)
 
-name_same : {N : Type 0} (built : BuiltIn → N) (f : N → List ℕ) (names : List N) (a : Name) → Reads built f → IsPlaced (length (map f names)) a → f (name_of built names a) ≡ text_in (map f names) a
+-- a name of the code is read as its text
+pub name_same : {N : Type 0} (built : BuiltIn → N) (f : N → List ℕ) (names : List N) (a : Name) → Reads built f → IsPlaced (length (map f names)) a → f (name_of built names a) ≡ text_in (map f names) a
 name_same built f names (Language x) reads p = reads.texts x
 name_same built f names (Place k) reads p = mapped_at f names k _ p
 

@@ -17,3 +17,5 @@ pub mod TestTerms
 pub mod Passing
 pub mod Testing
 pub mod Candidates
+pub mod Qualifying
+pub mod Bodies

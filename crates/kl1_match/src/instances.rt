@@ -1,6 +1,6 @@
 // The instance of a clause's body.
 
-ghost use Rattle.std.specs.Prelude.{◌≡◌, ℕ, ◌<◌, ◌≤◌, List, [], length, map, OnOk, IsOk, slice_index_or, vec_capacity};
+ghost use Rattle.std.specs.Prelude.{◌≡◌, ℕ, ◌+◌, ◌<◌, ◌≤◌, List, [], length, map, OnOk, IsOk, slice_index_or, vec_capacity};
 ghost use Rattle.kl1_text.specs.Reading.{Reads};
 ghost use Rattle.kl1_store.specs.declared.cell.Cell.{Cell};
 ghost use Rattle.kl1_store.specs.Held.{AreIn};
@@ -13,17 +13,19 @@ ghost use Rattle.kl1_match.specs.Rooms.{structures_at, structures_in, arguments_
 ghost use Rattle.kl1_match.specs.Steps.{step_code, IsBelow};
 ghost use Rattle.kl1_match.specs.Variables.{cell_at, AreVariables};
 ghost use Rattle.kl1_match.specs.Kept.{places_behind, kept_places};
+ghost use Rattle.kl1_match.specs.Bodies.{BuildsBody};
 ghost use Rattle.kl1_match.specs.Built.{IsWithinRow, AreBelow, BuildsRow};
 
 use crate::building::put_step;
 use crate::name_in::name_at;
 use crate::place::Place;
+use crate::qualifying::qualify;
 use crate::scratch::Scratch;
 use crate::step::Step;
 use crate::variables::{put_fresh, put_in_order, set_places};
 use kl1_clause::{CompiledClause, Instruction};
 use kl1_model::BuiltIn;
-use kl1_store::{Cell, Store};
+use kl1_store::{Cell, Qualified, Store};
 use kl1_text::NameValue;
 use std::alloc::AllocError;
 
@@ -132,6 +134,29 @@ fn put_variables<N: NameValue>(
     put_fresh(store, cells, clause.fresh_variables)
 }
 
+/// Puts in place of `goals` those of a clause's body. `variables` has a cell for each of its variables, by its number from 0.
+/// Where memory is refused, `goals` is of no use.
+fn put_body<N: NameValue>(
+    store: &mut Store<N>,
+    names: &[N],
+    clause: &CompiledClause,
+    variables: &[Cell<N>],
+    stack: &mut Vec<Cell<N>>,
+    goals: &mut Vec<Qualified<N>>,
+) -> Result<(), AllocError>
+    requires clause { IsClause names.now clause.now }
+    requires count { length variables.now ≡ clause.now.head_variables + 1 + clause.now.fresh_variables }
+    requires variables { AreIn store.old.held variables.now }
+    ensures grown { Grown store.old.held store.new.held }
+    ensures hooks { store.new.hooks ≡ store.old.hooks }
+    ensures bindings { store.new.held.bindings ≡ store.old.held.bindings }
+    ensures body { OnOk result (BuildsBody N.built names.now clause.now store.old.held store.new.held variables.now goals.new.items) }
+{
+    stack.clear();
+    put_row(store, names, variables, clause.goals.as_slice(), stack)?;
+    qualify(names, clause.modules.as_slice(), stack, goals)
+}
+
 /// Puts in place of `goals` those of a clause's body, with the terms at the places of its head's variables in them. Its other
 /// variables are the next of the store, in order of first occurrence. No variable is bound. Where memory is refused, the store
 /// may have grown, and `goals` is of no use.
@@ -141,7 +166,7 @@ pub fn put_instance<N: NameValue>(
     clause: &CompiledClause,
     places: &[Place<N>],
     scratch: &mut Scratch<N>,
-    goals: &mut Vec<Cell<N>>,
+    goals: &mut Vec<Qualified<N>>,
 ) -> Result<(), AllocError>
     requires clause { IsClause names.now clause.now }
     requires places { AreThere store.old.held places.now }
@@ -153,17 +178,15 @@ pub fn put_instance<N: NameValue>(
 {
     let variables = &mut scratch.variables;
     variables.clear();
-    goals.clear();
     put_variables(store, clause, places, variables)?;
-    put_row(
+    put_body(
         store,
         names,
+        clause,
         variables.as_slice(),
-        clause.goals.as_slice(),
+        &mut scratch.stack,
         goals,
-    )?;
-    goals.reverse();
-    Ok(())
+    )
 }
 
 /// Makes so many cells of those that are kept in order: the first stands for 0, and what is wanted behind them too.
@@ -213,7 +236,7 @@ pub fn put_kept_instance<N: NameValue>(
     names: &[N],
     clause: &CompiledClause,
     scratch: &mut Scratch<N>,
-    goals: &mut Vec<Cell<N>>,
+    goals: &mut Vec<Qualified<N>>,
 ) -> Result<(), AllocError>
     requires clause { IsClause names.now clause.now }
     requires places { AreThere store.old.held (kept_places scratch.old) }
@@ -224,15 +247,13 @@ pub fn put_kept_instance<N: NameValue>(
     ensures goals { OnOk result (IsInstance N.built names.now clause.now (kept_places scratch.old) store.old.held store.new.held goals.new.items) }
 {
     let variables = &mut scratch.variables;
-    goals.clear();
     fill_variables(store, clause, variables)?;
-    put_row(
+    put_body(
         store,
         names,
+        clause,
         variables.as_slice(),
-        clause.goals.as_slice(),
+        &mut scratch.stack,
         goals,
-    )?;
-    goals.reverse();
-    Ok(())
+    )
 }

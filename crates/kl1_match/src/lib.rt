@@ -13,6 +13,7 @@ mod met;
 mod name_in;
 mod passing;
 mod place;
+mod qualifying;
 mod scratch;
 mod skips;
 mod span;
