@@ -1,10 +1,10 @@
 // What a goal does.
 
-use kl1_store::Cell;
+use kl1_store::Qualified;
 
-/// What a goal does: it reads its shoen's control stream, or it is the term of a cell, to be reduced.
+/// What a goal does: it reads its shoen's control stream, or it is to be reduced.
 #[derive(Clone, Copy)]
 pub enum Task<N> {
     Monitor,
-    Reduces(Cell<N>),
+    Reduces(Qualified<N>),
 }

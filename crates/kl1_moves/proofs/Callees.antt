@@ -1,6 +1,6 @@
 -- Calls, and goals that are none.
-use Rattle.std.proofs.Common.{◌≡◌, ℕ, true, false, if◌then◌else◌, List, [], ◌∷◌, length, refl, sym, ap, ◌∙◌}
-use Rattle.std.specs.Prelude.{Some, None, slice_get, codes, bytes_eq}
+use Rattle.std.proofs.Common.{◌≡◌, ℕ, true, false, if◌then◌else◌, List, [], ◌∷◌, length, refl, sym, ap, subst, ◌∙◌}
+use Rattle.std.specs.Prelude.{Option, Some, None, slice_get, codes, bytes_eq}
 use Rattle.std.proofs.lemmas.Bool.{cond-true, cond-false}
 use Rattle.std.proofs.lemmas.Slice.Eq.{bytes_eq-Decides}
 use Rattle.kl1_model.specs.Term.{Term, variable, integer, atom, structure, Terms, none, more, count_of}
@@ -10,9 +10,11 @@ use Rattle.kl1_model.specs.Arithmetic.{evaluated}
 use Rattle.kl1_model.specs.Reduction.{unifies, goes, assigned, built_in_move}
 use Rattle.kl1_model.specs.Waits.{awaited_in_call, awaited_at_head, awaited_by_evaluated, awaited_by_built_in}
 use Rattle.kl1_store.specs.declared.cell.Cell.{Cell}
+use Rattle.kl1_store.specs.declared.qualified.Qualified.{Qualified}
 use Rattle.kl1_store.specs.declared.cell.Cell.TheVariants.{Atom, Structure}
 use Rattle.kl1_store.specs.Held.{Held, arguments_of}
 use Rattle.kl1_store.specs.Meaning.{term_of, terms_of}
+use Rattle.kl1_store.specs.InModules.{in_module, qualified_term}
 use Rattle.kl1_store.specs.Sound.{IsFormed}
 use Rattle.kl1_store.proofs.Terms.{term_of-Structure}
 use Rattle.kl1_store.proofs.Meetings.{count_of-terms_of}
@@ -21,9 +23,11 @@ use Rattle.kl1_match.proofs.Cells.{at_atom}
 use Rattle.kl1_moves.specs.declared.call.Call.{Call}
 use Rattle.kl1_moves.specs.declared.calling.Callee.{Callee}
 use Rattle.kl1_moves.specs.declared.calling.Callee.TheVariants as callee
+use Rattle.kl1_moves.specs.declared.kind.Kind.{Kind}
+use Rattle.kl1_moves.specs.declared.kind.Kind.TheVariants as kind
 use Rattle.kl1_moves.specs.Shapes.{IsNoGoal, two_terms}
-use Rattle.kl1_moves.specs.Calls.{atom_in, name_in, IsOf, IsNameless, CallsNothing, Calls, CalledIn, CalledAs}
-use Rattle.kl1_moves.specs.Kinds.{IsCall, IsUnification, IsAssignment, IsTrueGoal}
+use Rattle.kl1_moves.specs.Calls.{atom_in, name_in, IsOf, IsNameless, CallsNothing, Calls, CallsIn, CalledIn, CalledAs}
+use Rattle.kl1_moves.specs.Kinds.{IsCall, IsUnification, IsAssignment, IsTrueGoal, IsKind}
 
 -- ---- under another name than `:`
 
@@ -176,6 +180,49 @@ nothing_called f h name left right vs is n =
       awaits = own_head (f name) (term_of f h left) (term_of f h right) is ∙ n.awaits;
       waits_no_more = no_expression (f name) (term_of f h left) (term_of f h right) other;
     }
+
+-- ---- goals in the modules of names
+
+in_module_calls : {N : Type 0} (f : N → List ℕ) (h : Held N) (m : N) (goal : Cell N) (c : Call N) → CallsIn f h m goal c → IsCall f h (in_module f (Some m) (term_of f h goal)) c
+in_module_calls f h m goal c k =
+    let t = term_of f h goal in
+    let named : atom_in (atom (f m)) ≡ Some (f c.module_name) = ap (λ x. Some (f x)) (sym k.module_is) in
+    record {
+      is =
+          calls (codes ":") (f c.module_name) (f c.name) (atom (f m)) t refl named k.goal_is.name_is
+          ∙ ap (λ x. Some (call_with (f c.module_name) (f c.name) (arguments_of_goal x))) (sym k.goal_is.means);
+      counted = ap (λ x. count_of (arguments_of_goal x)) k.goal_is.means ∙ k.goal_is.counted;
+      awaits = own_head (codes ":") (atom (f m)) t refl ∙ call_awaits (f c.module_name) (f c.name) (atom (f m)) t named k.goal_is.name_is;
+      waits_no_more = no_expression (codes ":") (atom (f m)) t refl;
+    }
+
+in_module_nothing : (m : List ℕ) (t : Term) (vs : List ℕ) → IsNameless t vs → IsNoGoal (structure (codes ":") (more (atom m) (more t none))) vs
+in_module_nothing m t vs n = record {
+  call = no_callee_call (codes ":") (atom m) t n.name;
+  built_in = no_assignment (codes ":") (atom m) t refl refl;
+  awaits = own_head (codes ":") (atom m) t refl ∙ n.awaits m;
+  waits_no_more = no_expression (codes ":") (atom m) t refl;
+}
+
+-- what is called in the module of a name is a goal's kind
+abbrev pub kind_by : {N : Type 0} → Callee N → Kind N
+kind_by (callee.Calls c) = kind.Calls c
+kind_by (callee.Waits v) = kind.Waits v
+kind_by callee.Nothing = kind.Nothing
+
+pub in_module_kind : {N : Type 0} (f : N → List ℕ) (h : Held N) (q : Qualified N) (m : N) (r r' : Callee N) → q.module_name ≡ Some m → r ≡ r' → CalledIn f h m q.cell r → IsKind f h (qualified_term f h q) (kind_by r')
+in_module_kind {N = N} f h q m r r' e same k =
+    let P : Option N → Type 0 = λ o. IsKind f h (in_module f o (term_of f h q.cell)) (kind_by r') in
+    let Q : Callee N → Type 0 = λ x. CalledIn f h m q.cell x in
+    subst P (sym e) (by r' (subst Q same k))
+  where
+    by : (x : Callee N) → CalledIn f h m q.cell x → IsKind f h (in_module f (Some m) (term_of f h q.cell)) (kind_by x)
+    by (callee.Calls c) k = in_module_calls f h m q.cell c k
+    by (callee.Waits v) k = in_module_nothing (f m) (term_of f h q.cell) (v ∷ []) k
+    by callee.Nothing k = in_module_nothing (f m) (term_of f h q.cell) [] k
+
+pub whole_kind : {N : Type 0} (f : N → List ℕ) (h : Held N) (q : Qualified N) (k : Kind N) → q.module_name ≡ None → IsKind f h (term_of f h q.cell) k → IsKind f h (qualified_term f h q) k
+whole_kind {N = N} f h q k e is = let P : Option N → Type 0 = λ o. IsKind f h (in_module f o (term_of f h q.cell)) k in subst P (sym e) is
 
 -- ---- atoms
 

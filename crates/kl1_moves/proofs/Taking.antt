@@ -17,6 +17,7 @@ use Rattle.kl1_model.specs.Waits.{move_by, awaited_by_term, awaited_by_call, awa
 use Rattle.kl1_model.proofs.LeastClause.{term_clause-call, term_clause-built_in, term_clause-none}
 use Rattle.kl1_text.specs.Reading.{Reads}
 use Rattle.kl1_store.specs.declared.cell.Cell.{Cell}
+use Rattle.kl1_store.specs.declared.qualified.Qualified.{Qualified}
 use Rattle.kl1_store.specs.declared.cell.Cell.TheVariants.{Integer}
 use Rattle.kl1_store.specs.Held.{Held}
 use Rattle.kl1_store.specs.Meaning.{term_of}
@@ -244,7 +245,7 @@ at_place [] place x y e = absurd (cc)
 at_place (c ∷ cs) zero x y e = cc
 at_place (c ∷ cs) (suc place) x y e = at_place cs place x y e
 
-pub body_of : {N : Type 0} (built : BuiltIn → N) (f : N → List ℕ) (p : Predicate N) (place : ℕ) (compiled : CompiledClause) (places at : List (Place N)) (old new : Held N) (goals : List (Cell N)) (k : Candidate) → Reads built f →
+pub body_of : {N : Type 0} (built : BuiltIn → N) (f : N → List ℕ) (p : Predicate N) (place : ℕ) (compiled : CompiledClause) (places at : List (Place N)) (old new : Held N) (goals : List (Qualified N)) (k : Candidate) → Reads built f →
     compiled ≡ slice_index_or p.clauses.now place compiled → at ≡ places → IsInstance built p.names.now compiled at old new goals → IsCandidate f old p place places k → IsBody f k old new goals
 body_of {N = N} built f p place compiled places at old new goals k r here same i is =
     let found : is.compiled ≡ compiled = sym (here ∙ at_place p.clauses.now place compiled is.compiled is.at) in

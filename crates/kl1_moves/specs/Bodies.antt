@@ -2,13 +2,13 @@
 use Rattle.std.specs.Prelude.{◌≡◌, ℕ, ◌+◌, ◌-◌, List}
 use Rattle.kl1_model.specs.Match.{Candidate}
 use Rattle.kl1_model.specs.Instance.{body_instance, fresh_variables}
-use Rattle.kl1_store.specs.declared.cell.Cell.{Cell}
+use Rattle.kl1_store.specs.declared.qualified.Qualified.{Qualified}
 use Rattle.kl1_store.specs.Held.{Held}
-use Rattle.kl1_store.specs.ComparesEach.{term_list}
+use Rattle.kl1_store.specs.InModules.{qualified_list}
 use Rattle.kl1_match.specs.Instances.{AreKept}
 
--- these cells are the goals of a candidate's body, and each cell that was there means what it meant
-pub record IsBody {N : Type 0} (f : N → List ℕ) (k : Candidate) (old new : Held N) (goals : List (Cell N)) : Type 0 where
-  pub terms : term_list f new goals ≡ body_instance k.clause k.places (old.variables - 1)
+-- these are the goals of a candidate's body, and each cell that was there means what it meant
+pub record IsBody {N : Type 0} (f : N → List ℕ) (k : Candidate) (old new : Held N) (goals : List (Qualified N)) : Type 0 where
+  pub terms : qualified_list f new goals ≡ body_instance k.clause k.places (old.variables - 1)
   pub variables : new.variables ≡ old.variables + fresh_variables k.clause
   pub kept : AreKept f old new

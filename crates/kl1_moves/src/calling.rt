@@ -19,7 +19,7 @@ pub(crate) enum Callee<N> {
 
 /// The call of what a cell is, in the module of a name.
 #[inline(always)]
-fn called_in<N: NameValue>(store: &Store<N>, module_name: N, goal: Cell<N>) -> Callee<N>
+pub(crate) fn called_in<N: NameValue>(store: &Store<N>, module_name: N, goal: Cell<N>) -> Callee<N>
     requires { IsIn store.now.held goal }
     ensures inside { CalledInside store.now.held result }
     ensures called { (f : N → List ℕ) → CalledIn f store.now.held module_name goal result }

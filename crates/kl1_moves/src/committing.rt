@@ -3,7 +3,7 @@
 ghost use Rattle.std.specs.Prelude.{◌≡◌, ℕ, ◌<◌, List, length, OnOk, slice_index_or};
 ghost use Rattle.kl1_model.specs.Match.{Candidate};
 ghost use Rattle.kl1_text.specs.Reading.{Reads};
-ghost use Rattle.kl1_store.specs.Held.{AreIn};
+ghost use Rattle.kl1_store.specs.InModules.{AreQualifiedIn};
 ghost use Rattle.kl1_store.specs.Sound.{Grown};
 ghost use Rattle.kl1_clause.specs.Predicates.{AreSome};
 ghost use Rattle.kl1_match.specs.Instances.{AreThere};
@@ -13,7 +13,7 @@ ghost use Rattle.kl1_moves.specs.Bodies.{IsBody};
 use crate::trial::Trial;
 use kl1_clause::{CompiledClause, Predicate};
 use kl1_match::{put_instance, put_kept_instance};
-use kl1_store::{Cell, Store};
+use kl1_store::{Qualified, Store};
 use kl1_text::NameValue;
 use std::alloc::AllocError;
 
@@ -33,7 +33,7 @@ pub fn commit<N: NameValue>(
     predicate: Predicate<'_, N>,
     place: usize,
     trial: &mut Trial<N>,
-    goals: &mut Vec<Cell<N>>,
+    goals: &mut Vec<Qualified<N>>,
 ) -> Result<(), AllocError>
     requires place { place < length predicate.clauses.now }
     requires predicate { AreSome predicate.names.now predicate.clauses.now }
@@ -42,7 +42,7 @@ pub fn commit<N: NameValue>(
     ensures grown { Grown store.old.held store.new.held }
     ensures hooks { store.new.hooks ≡ store.old.hooks }
     ensures bindings { store.new.held.bindings ≡ store.old.held.bindings }
-    ensures inside { OnOk result (AreIn store.new.held goals.new.items) }
+    ensures inside { OnOk result (AreQualifiedIn store.new.held goals.new.items) }
     ensures goals { OnOk result ((f : N → List ℕ) → Reads N.built f → (k : Candidate) → IsCandidate f store.old.held predicate.entry place (taken_places trial.old) k → IsBody f k store.old.held store.new.held goals.new.items) }
 {
     if trial.is_in_order {

@@ -4,15 +4,16 @@ ghost use Rattle.std.specs.Prelude.{◌≡◌, ℕ, List};
 ghost use Rattle.kl1_text.specs.Reading.{Reads};
 ghost use Rattle.kl1_store.specs.Held.{IsIn};
 ghost use Rattle.kl1_store.specs.Meaning.{term_of};
+ghost use Rattle.kl1_store.specs.InModules.{qualified_term};
 ghost use Rattle.kl1_moves.specs.Shapes.{two_terms};
 ghost use Rattle.kl1_moves.specs.Kinds.{IsKind, KindIn};
 
 use crate::call::Call;
-use crate::calling::{Callee, called};
+use crate::calling::{Callee, called, called_in};
 use crate::naming::is_built_in;
 use crate::shape::{Shape, shape_of};
 use kl1_model::BuiltIn;
-use kl1_store::{Cell, Store};
+use kl1_store::{Cell, Qualified, Store};
 use kl1_text::NameValue;
 
 /// What kind of goal a cell is: a call, a unification of two terms, one that makes a term what an expression comes to, `true`, none
@@ -44,6 +45,23 @@ pub fn kind_of<N: NameValue>(store: &Store<N>, goal: Cell<N>) -> Kind<N>
             Kind::Nothing
         }
         Shape::Two(name, left, right) => kind_of_two(store, name, left, right),
+    }
+}
+
+/// What kind of goal is to be reduced. Of one in the module of a name nothing but that goal is looked at.
+#[inline(always)]
+pub fn kind_of_qualified<N: NameValue>(store: &Store<N>, goal: Qualified<N>) -> Kind<N>
+    requires { IsIn store.now.held goal.cell }
+    ensures inside { KindIn store.now.held result }
+    ensures kind { (f : N → List ℕ) → Reads N.built f → IsKind f store.now.held (qualified_term f store.now.held goal) result }
+{
+    match goal.module_name {
+        None => kind_of(store, goal.cell),
+        Some(name) => match called_in(store, name, goal.cell) {
+            Callee::Calls(call) => Kind::Calls(call),
+            Callee::Waits(variable) => Kind::Waits(variable),
+            Callee::Nothing => Kind::Nothing,
+        },
     }
 }
 

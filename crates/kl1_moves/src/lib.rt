@@ -17,7 +17,7 @@ mod trial;
 pub use call::Call;
 pub use committing::commit;
 pub use hanging::hang_on;
-pub use kind::{Kind, kind_of};
+pub use kind::{Kind, kind_of, kind_of_qualified};
 pub use moves::{Move, move_of};
 pub use predicates::or_none;
 pub use standing::standing_of;
