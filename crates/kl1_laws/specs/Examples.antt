@@ -42,6 +42,14 @@ accounts_alone_script = codes "accounts" ++ 10 ∷ [] ++ codes "alice run 0" ++ 
 abbrev pub accounts_alone_output : List ℕ
 accounts_alone_output = codes "! accounts" ++ 10 ∷ []
 
+-- the bytes of append_by_single_reductions.script
+abbrev pub append_by_single_reductions_script : List ℕ
+append_by_single_reductions_script = codes "accounts alice bob" ++ 10 ∷ [] ++ codes "alice load 91" ++ 10 ∷ [] ++ codes ":- module app." ++ 10 ∷ [] ++ codes "app([],Y,Z) :- true | Z = Y." ++ 10 ∷ [] ++ codes "app([A|X],Y,Z) :- true | Z = [A|W], app(X,Y,W)." ++ 10 ∷ [] ++ codes "alice start 100 0 10 app:app([1],[2],R)" ++ 10 ∷ [] ++ codes "alice reduce 2 2" ++ 10 ∷ [] ++ codes "alice reduce 3 0" ++ 10 ∷ [] ++ codes "alice reduce 4 1" ++ 10 ∷ [] ++ codes "alice reduce 5 0" ++ 10 ∷ [] ++ codes "alice value 1" ++ 10 ∷ []
+
+-- the bytes of append_by_single_reductions.expected
+abbrev pub append_by_single_reductions_output : List ℕ
+append_by_single_reductions_output = codes "alice + loaded app" ++ 10 ∷ [] ++ codes "alice + shoen 1" ++ 10 ∷ [] ++ codes "alice + reduced" ++ 10 ∷ [] ++ codes "alice + reduced" ++ 10 ∷ [] ++ codes "alice + reduced" ++ 10 ∷ [] ++ codes "alice + reduced" ++ 10 ∷ [] ++ codes "alice + app:app([1],[2],[1,2])" ++ 10 ∷ []
+
 -- the bytes of append_two_lists.script
 abbrev pub append_two_lists_script : List ℕ
 append_two_lists_script = codes "accounts alice bob" ++ 10 ∷ [] ++ codes "alice load 91" ++ 10 ∷ [] ++ codes ":- module app." ++ 10 ∷ [] ++ codes "app([],Y,Z) :- true | Z = Y." ++ 10 ∷ [] ++ codes "app([A|X],Y,Z) :- true | Z = [A|W], app(X,Y,W)." ++ 10 ∷ [] ++ codes "alice start 100 0 10 app:app([1],[2],R)" ++ 10 ∷ [] ++ codes "alice run 100" ++ 10 ∷ [] ++ codes "alice value 1" ++ 10 ∷ []
@@ -172,11 +180,11 @@ fresh_variables_output = codes "alice + loaded t" ++ 10 ∷ [] ++ codes "alice +
 
 -- the bytes of goal_waits_for_ever.script
 abbrev pub goal_waits_for_ever_script : List ℕ
-goal_waits_for_ever_script = codes "accounts alice" ++ 10 ∷ [] ++ codes "alice load 91" ++ 10 ∷ [] ++ codes ":- module app." ++ 10 ∷ [] ++ codes "app([],Y,Z) :- true | Z = Y." ++ 10 ∷ [] ++ codes "app([A|X],Y,Z) :- true | Z = [A|W], app(X,Y,W)." ++ 10 ∷ [] ++ codes "alice start 100 0 10 app:app(X,[2],R)" ++ 10 ∷ [] ++ codes "alice run 100" ++ 10 ∷ [] ++ codes "alice value 1" ++ 10 ∷ []
+goal_waits_for_ever_script = codes "accounts alice" ++ 10 ∷ [] ++ codes "alice load 91" ++ 10 ∷ [] ++ codes ":- module app." ++ 10 ∷ [] ++ codes "app([],Y,Z) :- true | Z = Y." ++ 10 ∷ [] ++ codes "app([A|X],Y,Z) :- true | Z = [A|W], app(X,Y,W)." ++ 10 ∷ [] ++ codes "alice start 100 0 10 app:app(X,[2],R)" ++ 10 ∷ [] ++ codes "alice run 100" ++ 10 ∷ [] ++ codes "alice quiet" ++ 10 ∷ [] ++ codes "alice value 1" ++ 10 ∷ []
 
 -- the bytes of goal_waits_for_ever.expected
 abbrev pub goal_waits_for_ever_output : List ℕ
-goal_waits_for_ever_output = codes "alice + loaded app" ++ 10 ∷ [] ++ codes "alice + shoen 1" ++ 10 ∷ [] ++ codes "alice + 0" ++ 10 ∷ [] ++ codes "alice + app:app(_1,[2],_2)" ++ 10 ∷ []
+goal_waits_for_ever_output = codes "alice + loaded app" ++ 10 ∷ [] ++ codes "alice + shoen 1" ++ 10 ∷ [] ++ codes "alice + 0" ++ 10 ∷ [] ++ codes "alice + yes" ++ 10 ∷ [] ++ codes "alice + app:app(_1,[2],_2)" ++ 10 ∷ []
 
 -- the bytes of goals_of_a_start.script
 abbrev pub goals_of_a_start_script : List ℕ
@@ -322,6 +330,14 @@ no_accounts_script = []
 abbrev pub no_accounts_output : List ℕ
 no_accounts_output = codes "! accounts" ++ 10 ∷ []
 
+-- the bytes of no_clause_for_a_goal_that_waits.script
+abbrev pub no_clause_for_a_goal_that_waits_script : List ℕ
+no_clause_for_a_goal_that_waits_script = codes "accounts alice bob" ++ 10 ∷ [] ++ codes "alice load 71" ++ 10 ∷ [] ++ codes ":- module o." ++ 10 ∷ [] ++ codes "p(a,R) :- true | R = 1." ++ 10 ∷ [] ++ codes "otherwise." ++ 10 ∷ [] ++ codes "p(X,R) :- true | R = 2." ++ 10 ∷ [] ++ codes "alice start 10 0 10 o:p(X,R)" ++ 10 ∷ [] ++ codes "alice run 10" ++ 10 ∷ [] ++ codes "alice reduce 2 2" ++ 10 ∷ []
+
+-- the bytes of no_clause_for_a_goal_that_waits.expected
+abbrev pub no_clause_for_a_goal_that_waits_output : List ℕ
+no_clause_for_a_goal_that_waits_output = codes "alice + loaded o" ++ 10 ∷ [] ++ codes "alice + shoen 1" ++ 10 ∷ [] ++ codes "alice + 0" ++ 10 ∷ [] ++ codes "alice - 6 step" ++ 10 ∷ []
+
 -- the bytes of no_cyclic_terms.script
 abbrev pub no_cyclic_terms_script : List ℕ
 no_cyclic_terms_script = codes "accounts alice" ++ 10 ∷ [] ++ codes "alice start 10 0 10 X = f(X)" ++ 10 ∷ [] ++ codes "alice run 10" ++ 10 ∷ [] ++ codes "alice value 1" ++ 10 ∷ []
@@ -362,6 +378,22 @@ producer_and_consumer_script = codes "accounts alice" ++ 10 ∷ [] ++ codes "ali
 abbrev pub producer_and_consumer_output : List ℕ
 producer_and_consumer_output = codes "alice + loaded stream" ++ 10 ∷ [] ++ codes "alice + shoen 1" ++ 10 ∷ [] ++ codes "alice + 13" ++ 10 ∷ [] ++ codes "alice + stream:both([1,2],some(1,some(2,none)))" ++ 10 ∷ []
 
+-- the bytes of quiet_or_not.script
+abbrev pub quiet_or_not_script : List ℕ
+quiet_or_not_script = codes "accounts alice bob" ++ 10 ∷ [] ++ codes "alice quiet" ++ 10 ∷ [] ++ codes "alice start 10 0 10 X = a" ++ 10 ∷ [] ++ codes "alice quiet" ++ 10 ∷ [] ++ codes "alice run 1" ++ 10 ∷ [] ++ codes "alice quiet" ++ 10 ∷ [] ++ codes "alice  quiet " ++ 9 ∷ [] ++ 10 ∷ [] ++ codes "alice quiet 1" ++ 10 ∷ [] ++ codes "alice quieter" ++ 10 ∷ [] ++ codes "alice QUIET" ++ 10 ∷ [] ++ codes "alice reduce" ++ 10 ∷ []
+
+-- the bytes of quiet_or_not.expected
+abbrev pub quiet_or_not_output : List ℕ
+quiet_or_not_output = codes "alice + yes" ++ 10 ∷ [] ++ codes "alice + shoen 1" ++ 10 ∷ [] ++ codes "alice + no" ++ 10 ∷ [] ++ codes "alice + 1" ++ 10 ∷ [] ++ codes "alice + yes" ++ 10 ∷ [] ++ codes "alice + yes" ++ 10 ∷ [] ++ codes "alice - 1 syntax" ++ 10 ∷ [] ++ codes "alice - 1 syntax" ++ 10 ∷ [] ++ codes "alice - 1 syntax" ++ 10 ∷ [] ++ codes "alice - 1 syntax" ++ 10 ∷ []
+
+-- the bytes of quiet_with_many_blanks.script
+abbrev pub quiet_with_many_blanks_script : List ℕ
+quiet_with_many_blanks_script = codes "accounts alice bob" ++ 10 ∷ [] ++ codes "alice quiet                                                                                                                                                                                                                                                                                                                                                                                                                                                                                                                                                                                                                                                                                                                                                                                                                                                                                                                                                                                                                                                                                                                                                                                                                                                                                                                                                                                                                                                                                                                                                                                                                                                                                                                                                                                                                                                                                                                                                                                                                                                                                                                                                                                                                                                                                                                                                                                                                                                                                                                                                                                                                                                                                                                                                                                                                                                                                                                                                                                                                                                                                                                                                                                                                                                                                                                                                                                                                                                                                                                                                                                                                                                                                                                                                                                                                                                                                                                                                                                                                                                                                                                                                                                                                                                           " ++ 10 ∷ [] ++ codes "alice quiet                                                                                                                                                                                                                                                                                                                                                                                                                                                                                                                                                                                                                                                                                                                                                                                                                                                                                                                                                                                                                                                                                                                                                                                                                                                                                                                                                                                                                                                                                                                                                                                                                                                                                                                                                                                                                                                                                                                                                                                                                                                                                                                                                                                                                                                                                                                                                                                                                                                                                                                                                                                                                                                                                                                                                                                                                                                                                                                                                                                                                                                                                                                                                                                                                                                                                                                                                                                                                                                                                                                                                                                                                                                                                                                                                                                                                                                                                                                                                                                                                                                                                                                                                                                                                                                            " ++ 10 ∷ []
+
+-- the bytes of quiet_with_many_blanks.expected
+abbrev pub quiet_with_many_blanks_output : List ℕ
+quiet_with_many_blanks_output = codes "alice + yes" ++ 10 ∷ [] ++ codes "alice - 1 syntax" ++ 10 ∷ []
+
 -- the bytes of reversed_list.script
 abbrev pub reversed_list_script : List ℕ
 reversed_list_script = codes "accounts alice" ++ 10 ∷ [] ++ codes "alice load 136" ++ 10 ∷ [] ++ codes ":- module reverse." ++ 10 ∷ [] ++ codes "rev(Xs,R) :- true | rev(Xs,[],R)." ++ 10 ∷ [] ++ codes "rev([],Done,R) :- true | R = Done." ++ 10 ∷ [] ++ codes "rev([X|Xs],Done,R) :- true | rev(Xs,[X|Done],R)." ++ 10 ∷ [] ++ codes "alice start 100 0 10 reverse:rev([1,2,3],R)" ++ 10 ∷ [] ++ codes "alice run 100" ++ 10 ∷ [] ++ codes "alice value 1" ++ 10 ∷ []
@@ -385,6 +417,14 @@ seventeen_accounts_script = codes "accounts a0 a1 a2 a3 a4 a5 a6 a7 a8 a9 a10 a1
 -- the bytes of seventeen_accounts.expected
 abbrev pub seventeen_accounts_output : List ℕ
 seventeen_accounts_output = codes "! accounts" ++ 10 ∷ []
+
+-- the bytes of single_reductions.script
+abbrev pub single_reductions_script : List ℕ
+single_reductions_script = codes "accounts alice bob" ++ 10 ∷ [] ++ codes "alice reduce 99 1" ++ 10 ∷ [] ++ codes "alice start 10 0 10 X = a" ++ 10 ∷ [] ++ codes "alice start 10 0 10 X = b" ++ 10 ∷ [] ++ codes "alice reduce 0 0" ++ 10 ∷ [] ++ codes "alice reduce 1 0" ++ 10 ∷ [] ++ codes "alice reduce 2 1" ++ 10 ∷ [] ++ codes "alice reduce 3 0" ++ 10 ∷ [] ++ codes "alice reduce 4" ++ 10 ∷ [] ++ codes "alice reduce 4 0 0" ++ 10 ∷ [] ++ codes "alice reduce x 0" ++ 10 ∷ [] ++ codes "alice reduce 4 x" ++ 10 ∷ [] ++ codes "alice reduce -4 0" ++ 10 ∷ [] ++ codes "alice reduce 9223372036854775807 9223372036854775807" ++ 10 ∷ [] ++ codes "alice reduce 9223372036854775808 0" ++ 10 ∷ [] ++ codes "alice reduce 4 9223372036854775808" ++ 10 ∷ [] ++ codes "alice reduce 00000000000000000004 0" ++ 10 ∷ [] ++ codes "alice value 2" ++ 10 ∷ [] ++ codes "alice " ++ 9 ∷ [] ++ codes "reduce  0000000000000000004" ++ 9 ∷ [] ++ codes "0 " ++ 10 ∷ [] ++ codes "alice value 2" ++ 10 ∷ [] ++ codes "alice reduce 4 0" ++ 10 ∷ [] ++ codes "alice value 1" ++ 10 ∷ []
+
+-- the bytes of single_reductions.expected
+abbrev pub single_reductions_output : List ℕ
+single_reductions_output = codes "alice - 6 step" ++ 10 ∷ [] ++ codes "alice + shoen 1" ++ 10 ∷ [] ++ codes "alice + shoen 2" ++ 10 ∷ [] ++ codes "alice - 6 step" ++ 10 ∷ [] ++ codes "alice - 6 step" ++ 10 ∷ [] ++ codes "alice - 6 step" ++ 10 ∷ [] ++ codes "alice - 6 step" ++ 10 ∷ [] ++ codes "alice - 1 syntax" ++ 10 ∷ [] ++ codes "alice - 1 syntax" ++ 10 ∷ [] ++ codes "alice - 1 syntax" ++ 10 ∷ [] ++ codes "alice - 1 syntax" ++ 10 ∷ [] ++ codes "alice - 1 syntax" ++ 10 ∷ [] ++ codes "alice - 6 step" ++ 10 ∷ [] ++ codes "alice - 1 syntax" ++ 10 ∷ [] ++ codes "alice - 1 syntax" ++ 10 ∷ [] ++ codes "alice - 1 syntax" ++ 10 ∷ [] ++ codes "alice + '='(_5,b)" ++ 10 ∷ [] ++ codes "alice + reduced" ++ 10 ∷ [] ++ codes "alice + '='(b,b)" ++ 10 ∷ [] ++ codes "alice - 6 step" ++ 10 ∷ [] ++ codes "alice + '='(_1,a)" ++ 10 ∷ []
 
 -- the bytes of sixteen_accounts.script
 abbrev pub sixteen_accounts_script : List ℕ
@@ -473,6 +513,7 @@ pub record ExamplesHold : Type 0 where
   pub account_name_of_17_bytes : output account_name_of_17_bytes_script ≡ account_name_of_17_bytes_output
   pub account_with_a_capital : output account_with_a_capital_script ≡ account_with_a_capital_output
   pub accounts_alone : output accounts_alone_script ≡ accounts_alone_output
+  pub append_by_single_reductions : output append_by_single_reductions_script ≡ append_by_single_reductions_output
   pub append_two_lists : output append_two_lists_script ≡ append_two_lists_output
   pub arithmetic : output arithmetic_script ≡ arithmetic_output
   pub bad_load_lines : output bad_load_lines_script ≡ bad_load_lines_output
@@ -508,14 +549,18 @@ pub record ExamplesHold : Type 0 where
   pub names_of_63_and_64_bytes : output names_of_63_and_64_bytes_script ≡ names_of_63_and_64_bytes_output
   pub nested_patterns : output nested_patterns_script ≡ nested_patterns_output
   pub no_accounts : output no_accounts_script ≡ no_accounts_output
+  pub no_clause_for_a_goal_that_waits : output no_clause_for_a_goal_that_waits_script ≡ no_clause_for_a_goal_that_waits_output
   pub no_cyclic_terms : output no_cyclic_terms_script ≡ no_cyclic_terms_output
   pub numbers_of_19_digits : output numbers_of_19_digits_script ≡ numbers_of_19_digits_output
   pub otherwise_waits : output otherwise_waits_script ≡ otherwise_waits_output
   pub places_of_one_variable : output places_of_one_variable_script ≡ places_of_one_variable_output
   pub producer_and_consumer : output producer_and_consumer_script ≡ producer_and_consumer_output
+  pub quiet_or_not : output quiet_or_not_script ≡ quiet_or_not_output
+  pub quiet_with_many_blanks : output quiet_with_many_blanks_script ≡ quiet_with_many_blanks_output
   pub reversed_list : output reversed_list_script ≡ reversed_list_output
   pub second_variable_wakes : output second_variable_wakes_script ≡ second_variable_wakes_output
   pub seventeen_accounts : output seventeen_accounts_script ≡ seventeen_accounts_output
+  pub single_reductions : output single_reductions_script ≡ single_reductions_output
   pub sixteen_accounts : output sixteen_accounts_script ≡ sixteen_accounts_output
   pub truncated_load : output truncated_load_script ≡ truncated_load_output
   pub truncated_load_of_another_name : output truncated_load_of_another_name_script ≡ truncated_load_of_another_name_output

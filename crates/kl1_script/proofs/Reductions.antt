@@ -47,6 +47,7 @@ goes_by (model.opened m) next s after n e = refl
 goes_by model.reduced next s after n e = refl
 goes_by (model.ran m) next s after n e = refl
 goes_by (model.shown text) next s after n e = refl
+goes_by (model.quiet_is b) next s after n e = refl
 
 stops_by : (reply : model.Reply) (next : Going) (s after : State) (n : ℕ) (r : model.Refusal) → refusal_in reply ≡ Some r → run_on next s n after reply ≡ stopped_by s n r
 stops_by (model.refused q) next s after n r e = ap (stopped_by s n) (let same : q ≡ r = cc in same)
@@ -55,6 +56,7 @@ stops_by (model.opened m) next s after n r e = none_is _ r e
 stops_by model.reduced next s after n r e = none_is _ r e
 stops_by (model.ran m) next s after n r e = none_is _ r e
 stops_by (model.shown text) next s after n r e = none_is _ r e
+stops_by (model.quiet_is b) next s after n r e = none_is _ r e
 
 -- the first goal was reduced, or its reduction refused
 pub first_told : (s after : State) (reply : model.Reply) (c : Chosen) (told : FirstStep) → Some c ≡ first s → step s (reduce c.goal c.clause) ≡ record { state = after; reply = reply } → IsTold reply told → IsFirstStep s told after

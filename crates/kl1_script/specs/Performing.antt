@@ -19,6 +19,7 @@ refusal_in (model.opened n) = None
 refusal_in model.reduced = None
 refusal_in (model.ran n) = None
 refusal_in (model.shown text) = None
+refusal_in (model.quiet_is b) = None
 
 -- what became of a goal whose reduction has this reply
 abbrev pub IsTold : model.Reply → FirstStep → Type 0

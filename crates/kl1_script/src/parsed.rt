@@ -1,16 +1,16 @@
 // The commands of lines and records.
 
 ghost use Rattle.std.specs.Prelude.{◌≡◌, IfOk};
-ghost use Rattle.kl1_model.specs.Command.{parse, command_by, command_of, runs, asks_value, start_command, start_with};
+ghost use Rattle.kl1_model.specs.Command.{parse, command_by, command_of, runs, asks_value, asks_quiet, start_command, start_with, reduce_command};
 ghost use Rattle.kl1_model.specs.Module.{read_goal};
 ghost use Rattle.kl1_lines.specs.Records.{request_of};
 ghost use Rattle.kl1_script.specs.Commands.{parsed_view};
 
 use crate::command::Command;
-use kl1_lines::{Request, is_same, number_in, only_number, split_word, up_to};
+use kl1_lines::{Request, is_blank_line, is_same, number_in, only_number, split_word, up_to};
 use kl1_model::limits::{MOST_COMMAND_BYTES, MOST_PRIORITY, MOST_STEPS};
 use kl1_read::{ReadFault, read_goal};
-use kl1_user::{Event, Query, ShoenNo};
+use kl1_user::{ClauseNo, Event, GoalNo, Query, ShoenNo};
 use std::alloc::{AllocError, Global};
 
 /// What a line or a record asks for.
@@ -50,6 +50,10 @@ pub fn parse(alloc: Global, line: &[u8]) -> Result<Parsed, AllocError>
         Ok(parse_run(rest))
     } else if is_same(word, b"value") {
         Ok(parse_value(rest))
+    } else if is_same(word, b"quiet") {
+        Ok(parse_quiet(rest))
+    } else if is_same(word, b"reduce") {
+        Ok(parse_reduce(rest))
     } else {
         Ok(Parsed::Refused)
     }
@@ -73,6 +77,34 @@ fn parse_value(rest: &[u8]) -> Parsed
         Some(shoen) => { Parsed::Command(Command::Does(Event::Read(Query::Value(ShoenNo(shoen))))) }
         None => Parsed::Refused,
     }
+}
+
+/// What stands after `quiet`.
+fn parse_quiet(rest: &[u8]) -> Parsed
+    ensures { parsed_view result ≡ command_by asks_quiet rest.now }
+{
+    if is_blank_line(rest) {
+        Parsed::Command(Command::Does(Event::Read(Query::Quiet)))
+    } else {
+        Parsed::Refused
+    }
+}
+
+/// What stands after `reduce`.
+fn parse_reduce(rest: &[u8]) -> Parsed
+    ensures { parsed_view result ≡ reduce_command rest.now }
+{
+    let (first, rest) = split_word(rest);
+    let Some(goal) = number_in(first) else {
+        return Parsed::Refused;
+    };
+    let Some(clause) = only_number(rest) else {
+        return Parsed::Refused;
+    };
+    Parsed::Command(Command::Does(Event::Reduce {
+        goal: GoalNo(goal),
+        clause: ClauseNo(clause),
+    }))
 }
 
 /// What stands after `start`.

@@ -58,6 +58,8 @@ fn put_lines(out: &mut Vec<u8>, account: Option<&[u8]>, reply: &Reply) -> Result
         Reply::Reduced => put_line(out, account, b"+ reduced", b""),
         Reply::Ran(steps) => put_number_line(out, account, b"+ ", *steps),
         Reply::Shown(text) => put_line(out, account, b"+ ", text.as_slice()),
+        Reply::Quiet(true) => put_line(out, account, b"+ yes", b""),
+        Reply::Quiet(false) => put_line(out, account, b"+ no", b""),
         Reply::Refused(refusal) => put_refusal(out, account, *refusal),
     }
 }
