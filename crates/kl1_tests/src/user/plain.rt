@@ -2,6 +2,7 @@
 // everywhere, as the language's rules say it.
 
 use crate::rows::is_counted;
+use crate::user::answers::is_told_quiet;
 use crate::user::expressions::{Outcome, outcome_of, scanned};
 use crate::user::guards::Verdict;
 use crate::user::matching::{arguments_of, clause_of, heads_of, judged, put_instance};
@@ -9,7 +10,7 @@ use crate::user::nodes::{Row, highest_in, replace_in, split_term};
 use crate::user::solving::solve;
 use kl1_read::{Source, read_module};
 use kl1_term::{Node, Printer};
-use kl1_user::Event;
+use kl1_user::{Event, Query};
 use std::alloc::{AllocError, Global};
 
 /// More than the clauses of any predicate of the rows.
@@ -368,8 +369,8 @@ impl Plain {
         Some(true)
     }
 
-    /// Whether an event does what is wanted. A load is done, a start opens the shoen of the number that is wanted, and a goal
-    /// is reduced just where that is wanted.
+    /// Whether an event does what is wanted. A load is done, a start opens the shoen of the number that is wanted, a goal is
+    /// reduced just where that is wanted, and no goal can step just where that is wanted.
     pub fn is_answered(&mut self, event: &Event, wanted: &[u8]) -> Option<bool> {
         match event {
             Event::Load { source } => Some(self.load(source.as_slice())),
@@ -381,7 +382,8 @@ impl Plain {
                 let is_reduced = self.reduce(goal.0, clause.0)?;
                 Some(is_reduced == (wanted == b"+ reduced".as_slice()))
             }
-            Event::Read(_query) => Some(true),
+            Event::Read(Query::Quiet) => Some(is_told_quiet(self.first()? == (0, 0), wanted)),
+            Event::Read(Query::Value(_shoen)) => Some(true),
         }
     }
 
