@@ -66,7 +66,7 @@ commits_to_body p place places h k d x none is g inside body ms goal c removed c
 
 -- a candidate without a clause
 abbrev no_candidate : Candidate
-no_candidate = record { number = 0; clause = record { name = []; patterns = term.none; tests = []; body = [] }; places = [] }
+no_candidate = record { number = 0; clause = record { name = []; patterns = term.none; tests = []; section = 0; body = [] }; places = [] }
 
 -- the candidate that a move commits to
 abbrev candidate_in : model.Move → Candidate

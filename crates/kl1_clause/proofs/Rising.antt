@@ -1,5 +1,5 @@
 -- Rows whose variables rise.
-use Rattle.std.proofs.Common.{◌≡◌, ℕ, true, List, [], ◌∷◌, length, refl, arith}
+use Rattle.std.proofs.Common.{◌≡◌, ℕ, true, List, [], ◌∷◌}
 use Rattle.std.specs.Prelude.{nat_lt}
 use Rattle.std.proofs.lemmas.Bool.{and_parts, ltb-true}
 use Rattle.kl1_clause.specs.declared.instruction.Instruction.{Instruction}
@@ -12,8 +12,3 @@ rising n (Variable v ∷ is) e = let k = and_parts (nat_lt n v) (is_rising v is)
 rising n (Integer i ∷ is) e = rising n is e
 rising n (Atom a ∷ is) e = rising n is e
 rising n (Structure a count ∷ is) e = rising n is e
-
--- a list without length is empty
-pub nothing_in : (row : List Instruction) → length row ≡ 0 → row ≡ []
-nothing_in [] e = refl
-nothing_in (i ∷ is) e = absurd (omega arith)

@@ -1,5 +1,7 @@
 -- Clauses of which the match alone decides.
 use Rattle.std.specs.Prelude.{◌≡◌, ℕ, ◌<◌, nat_lt, ◌&&◌, Bool, true, List, [], ◌∷◌}
+use Rattle.kl1_model.specs.declared.built_in.BuiltIn.TheVariants.{True}
+use Rattle.kl1_clause.specs.declared.name.Name.TheVariants.{Language}
 use Rattle.kl1_clause.specs.declared.instruction.Instruction.{Instruction}
 use Rattle.kl1_clause.specs.declared.instruction.Instruction.TheVariants.{Variable, Integer, Atom, Structure}
 
@@ -19,7 +21,12 @@ is_rising n (Integer i ∷ is) = is_rising n is
 is_rising n (Atom a ∷ is) = is_rising n is
 is_rising n (Structure a count ∷ is) = is_rising n is
 
--- a clause of these rows has no tests, and its head repeats no variable
+-- each test of a row is `true`
+abbrev pub AreTrue : List Instruction → Type 0
+AreTrue [] = Unit {0}
+AreTrue (i ∷ is) = (i ≡ Atom (Language True)) × AreTrue is
+
+-- a clause of these rows has no tests but `true`, and its head repeats no variable
 pub record IsPlain (patterns tests : List Instruction) : Type 0 where
-  pub none : tests ≡ []
+  pub tests_are : AreTrue tests
   pub rising : AreRising 0 patterns

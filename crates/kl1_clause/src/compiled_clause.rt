@@ -24,7 +24,7 @@ use std::alloc::{AllocError, Global};
 /// A clause as instructions: its predicate's name and number of arguments; the number of its section, from 0, between the
 /// `otherwise`s of its predicate; its patterns, its tests and the goals of its body, each a row of terms one behind another;
 /// for each goal the priority that it names, if any; how many variables its head has, and how many others its body has; and
-/// whether it is plain: where it is, it has no tests, and its head repeats no variable.
+/// whether it is plain: where it is, it has no tests but `true`, and its head repeats no variable.
 #[derive(Drop)]
 pub struct CompiledClause {
     pub name: Name,

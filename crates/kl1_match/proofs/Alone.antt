@@ -1,21 +1,23 @@
--- Of a clause without tests whose head repeats no variable the match alone decides.
-use Rattle.std.proofs.Common.{◌≡◌, ℕ, ◌<◌, ◌≤◌, ◌==◌, ◌&&◌, Bool, true, false, if◌then◌else◌, List, [], ◌∷◌, ◌++◌, map, refl, sym, ap, ap₂, ◌∙◌, subst, arith, append-nil}
-use Rattle.std.specs.Prelude.{bytes_eq}
+-- Of a clause without tests but `true` whose head repeats no variable the match alone decides.
+use Rattle.std.proofs.Common.{◌≡◌, ℕ, ◌<◌, ◌≤◌, ◌==◌, ◌&&◌, Bool, true, false, if◌then◌else◌, List, [], ◌∷◌, ◌++◌, map, refl, sym, ap, ap₂, ◌∙◌, subst, arith, append-nil, inl, inr}
+use Rattle.std.specs.Prelude.{bytes_eq, codes}
 use Rattle.std.proofs.lemmas.Bool.{ne_eqb}
 use Rattle.kl1_model.specs.Term.{Term, variable, integer, atom, structure, Terms, none, more, terms_of, count_of, Replacement}
 use Rattle.kl1_model.specs.TermCode.{NodeCode, nodes_of_all}
-use Rattle.kl1_model.specs.Meaning.{variables_of, variables_in as variables_of_all}
+use Rattle.kl1_model.specs.declared.built_in.BuiltIn.TheVariants.{True}
+use Rattle.kl1_model.specs.Meaning.{variables_of, variables_in as variables_of_all, highest_in}
 use Rattle.kl1_model.specs.Module.{Clause}
-use Rattle.kl1_model.specs.Match.{agrees, clashes, both, Matched, with_outcome, match_term, match_terms, alike_with, each_alike, guard_outcome, verdict, verdict_with}
+use Rattle.kl1_model.specs.Match.{agrees, clashes, both, Matched, with_outcome, match_term, match_terms, alike_with, each_alike, test_outcome, tests_outcome, guard_outcome, verdict, verdict_with}
 use Rattle.kl1_model.specs.Guard.{alike}
 use Rattle.kl1_term.specs.Variables.{variables_in}
 use Rattle.kl1_term.proofs.VariableFacts.{variables_all}
 use Rattle.kl1_clause.specs.declared.compiled_clause.CompiledClause.{CompiledClause}
+use Rattle.kl1_clause.specs.declared.name.Name.TheVariants.{Language}
 use Rattle.kl1_clause.specs.declared.instruction.Instruction.{Instruction}
 use Rattle.kl1_clause.specs.declared.instruction.Instruction.TheVariants.{Variable, Integer, Atom, Structure}
 use Rattle.kl1_clause.specs.Instructions.{code_in}
 use Rattle.kl1_clause.specs.Clauses.{IsCompiled}
-use Rattle.kl1_clause.specs.Plain.{AreRising, IsPlain}
+use Rattle.kl1_clause.specs.Plain.{AreRising, AreTrue, IsPlain}
 use Rattle.kl1_match.proofs.Answered.{both-agrees}
 
 -- ---- numbers that rise
@@ -112,12 +114,40 @@ row_rises names low (Structure a count ∷ is) r = row_rises names low is r
 row_variables : (nodes : List NodeCode) (ps : Terms) → nodes ≡ nodes_of_all ps → variables_in nodes ≡ variables_of_all ps
 row_variables nodes ps e = ap variables_in (e ∙ sym (append-nil (nodes_of_all ps))) ∙ (variables_all ps [] ∙ append-nil (variables_of_all ps))
 
-no_tests : (tests : List Term) → [] ≡ nodes_of_all (terms_of tests) → tests ≡ []
-no_tests [] e = refl
-no_tests (variable n ∷ ts) e = absurd (cc)
-no_tests (integer i ∷ ts) e = absurd (cc)
-no_tests (atom a ∷ ts) e = absurd (cc)
-no_tests (structure f us ∷ ts) e = absurd (cc)
+-- the atom of a first node that is one
+abbrev atom_at : List NodeCode → Term
+atom_at (inr (inl a) ∷ cs) = atom a
+atom_at cs = variable 0
+
+-- the nodes behind the first
+abbrev behind_node : List NodeCode → List NodeCode
+behind_node [] = []
+behind_node (c ∷ cs) = cs
+
+-- each of these tests is `true`
+abbrev AllHold : List Term → Type 0
+AllHold [] = Unit {0}
+AllHold (t ∷ ts) = (t ≡ atom (codes "true")) × AllHold ts
+
+true_first : (names : List (List ℕ)) (i : Instruction) (is : List Instruction) (nodes : List NodeCode) → i ≡ Atom (Language True) → map (code_in names) (i ∷ is) ≡ nodes → inr (inl (codes "true")) ∷ map (code_in names) is ≡ nodes
+true_first names i is nodes e same = ap (λ x. code_in names x ∷ map (code_in names) is) (sym e) ∙ same
+
+all_hold : (names : List (List ℕ)) (row : List Instruction) (tests : List Term) → AreTrue row → map (code_in names) row ≡ nodes_of_all (terms_of tests) → AllHold tests
+all_hold names row [] a e = tt
+all_hold names [] (variable n ∷ ts) a e = absurd (cc)
+all_hold names [] (integer i ∷ ts) a e = absurd (cc)
+all_hold names [] (atom b ∷ ts) a e = absurd (cc)
+all_hold names [] (structure f us ∷ ts) a e = absurd (cc)
+all_hold names (i ∷ is) (variable n ∷ ts) a e = let k = true_first names i is (nodes_of_all (terms_of (variable n ∷ ts))) a.0 e in absurd (cc)
+all_hold names (i ∷ is) (integer j ∷ ts) a e = let k = true_first names i is (nodes_of_all (terms_of (integer j ∷ ts))) a.0 e in absurd (cc)
+all_hold names (i ∷ is) (atom b ∷ ts) a e =
+    let k = true_first names i is (nodes_of_all (terms_of (atom b ∷ ts))) a.0 e in
+    (ap atom_at (sym k), all_hold names is ts a.1 (ap behind_node k))
+all_hold names (i ∷ is) (structure f us ∷ ts) a e = let k = true_first names i is (nodes_of_all (terms_of (structure f us ∷ ts))) a.0 e in absurd (cc)
+
+hold_agree : (last : ℕ) (places : List Replacement) (tests : List Term) → AllHold tests → tests_outcome last places tests ≡ agrees
+hold_agree last places [] h = refl
+hold_agree last places (t ∷ ts) h = ap (λ x. both (test_outcome last places x) (tests_outcome last places ts)) h.0 ∙ hold_agree last places ts h.1
 
 -- ---- verdicts
 
@@ -129,13 +159,9 @@ places_agree names compiled clause ts plain is =
     let own = subst R (row_variables (map (code_in names) compiled.patterns.items) clause.patterns is.patterns.nodes_are) k.rises in
     all_alone 0 k.high (match_terms clause.patterns ts).places (matches_rise 0 k.high clause.patterns ts own)
 
--- a clause whose row of tests is empty has none
-pub untested : (names : List (List ℕ)) (compiled : CompiledClause) (clause : Clause) → compiled.tests.items ≡ [] → IsCompiled names compiled clause → clause.tests ≡ []
-untested names compiled clause e is = no_tests clause.tests (sym (ap (map (code_in names)) e) ∙ is.tests.nodes_are)
-
--- and its guard, which has no test
+-- and its guard, whose tests all hold
 guard_agrees : (names : List (List ℕ)) (compiled : CompiledClause) (clause : Clause) (places : List Replacement) → IsPlain compiled.patterns.items compiled.tests.items → IsCompiled names compiled clause → guard_outcome places clause.tests ≡ agrees
-guard_agrees names compiled clause places plain is = ap (guard_outcome places) (untested names compiled clause plain.none is)
+guard_agrees names compiled clause places plain is = hold_agree (highest_in (terms_of clause.tests)) places clause.tests (all_hold names compiled.tests.items clause.tests plain.tests_are is.tests.nodes_are)
 
 -- the verdict of such a clause is that of its match
 pub plain_verdict : (names : List (List ℕ)) (compiled : CompiledClause) (clause : Clause) (ts : Terms) → IsPlain compiled.patterns.items compiled.tests.items → IsCompiled names compiled clause →

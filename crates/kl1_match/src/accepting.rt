@@ -104,7 +104,7 @@ fn plain_accepts_in_order<N: NameValue>(
     Ok(!is_left(store, &mut span, behind))
 }
 
-/// Whether a clause without tests accepts a goal, and the variables of its head stand in order of their numbers, each once, where
+/// Whether a clause without tests but `true` accepts a goal, and the variables of its head stand in order of their numbers, each once, where
 /// the names of the clause's code are these. Then the scratch keeps the cells at their places until it is used for something else
 /// than an instance of this clause. If not, nothing is said of the clause.
 #[inline]
