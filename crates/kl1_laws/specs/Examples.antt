@@ -202,6 +202,14 @@ greater_priority_then_least_number_script = codes "accounts alice bob" ++ 10 ∷
 abbrev pub greater_priority_then_least_number_output : List ℕ
 greater_priority_then_least_number_output = codes "alice + shoen 1" ++ 10 ∷ [] ++ codes "alice + shoen 2" ++ 10 ∷ [] ++ codes "alice + shoen 3" ++ 10 ∷ [] ++ codes "alice + 1" ++ 10 ∷ [] ++ codes "alice + '='(b,b)" ++ 10 ∷ [] ++ codes "alice + 1" ++ 10 ∷ [] ++ codes "alice + '='(c,c)" ++ 10 ∷ [] ++ codes "alice + '='(_1,a)" ++ 10 ∷ [] ++ codes "alice + 1" ++ 10 ∷ [] ++ codes "alice + '='(a,a)" ++ 10 ∷ []
 
+-- the bytes of greatest_common_divisor.script
+abbrev pub greatest_common_divisor_script : List ℕ
+greatest_common_divisor_script = codes "accounts alice" ++ 10 ∷ [] ++ codes "alice load 90" ++ 10 ∷ [] ++ codes ":- module gcd." ++ 10 ∷ [] ++ codes "gcd(A,0,R) :- true | R = A." ++ 10 ∷ [] ++ codes "gcd(A,B,R) :- B > 0 | C := A mod B, gcd(B,C,R)." ++ 10 ∷ [] ++ codes "alice start 100 0 10 gcd:gcd(48,36,R)" ++ 10 ∷ [] ++ codes "alice run 100" ++ 10 ∷ [] ++ codes "alice value 1" ++ 10 ∷ []
+
+-- the bytes of greatest_common_divisor.expected
+abbrev pub greatest_common_divisor_output : List ℕ
+greatest_common_divisor_output = codes "alice + loaded gcd" ++ 10 ∷ [] ++ codes "alice + shoen 1" ++ 10 ∷ [] ++ codes "alice + 6" ++ 10 ∷ [] ++ codes "alice + gcd:gcd(48,36,12)" ++ 10 ∷ []
+
 -- the bytes of higher_variable_takes_the_lower.script
 abbrev pub higher_variable_takes_the_lower_script : List ℕ
 higher_variable_takes_the_lower_script = codes "accounts alice" ++ 10 ∷ [] ++ codes "alice start 10 0 10 f(X,Y) = f(Y,X)" ++ 10 ∷ [] ++ codes "alice run 10" ++ 10 ∷ [] ++ codes "alice value 1" ++ 10 ∷ []
@@ -353,6 +361,14 @@ numbers_of_19_digits_script = codes "accounts alice bob" ++ 10 ∷ [] ++ codes "
 -- the bytes of numbers_of_19_digits.expected
 abbrev pub numbers_of_19_digits_output : List ℕ
 numbers_of_19_digits_output = codes "alice + 0" ++ 10 ∷ [] ++ codes "alice - 1 syntax" ++ 10 ∷ [] ++ codes "alice - 4 noshoen" ++ 10 ∷ [] ++ codes "alice - 1 syntax" ++ 10 ∷ [] ++ codes "alice + 0" ++ 10 ∷ [] ++ codes "alice - 1 syntax" ++ 10 ∷ [] ++ codes "alice - 1 syntax" ++ 10 ∷ [] ++ codes "alice - 1 syntax" ++ 10 ∷ [] ++ codes "alice - 1 syntax" ++ 10 ∷ [] ++ codes "alice + shoen 1" ++ 10 ∷ []
+
+-- the bytes of otherwise_takes_the_rest.script
+abbrev pub otherwise_takes_the_rest_script : List ℕ
+otherwise_takes_the_rest_script = codes "accounts alice" ++ 10 ∷ [] ++ codes "alice load 129" ++ 10 ∷ [] ++ codes ":- module look." ++ 10 ∷ [] ++ codes "look(X,R) :- integer(X) | R = integer." ++ 10 ∷ [] ++ codes "look(X,R) :- list(X) | R = list." ++ 10 ∷ [] ++ codes "otherwise." ++ 10 ∷ [] ++ codes "look(X,R) :- true | R = other." ++ 10 ∷ [] ++ codes "alice start 10 0 10 look:look([],R)" ++ 10 ∷ [] ++ codes "alice run 10" ++ 10 ∷ [] ++ codes "alice value 1" ++ 10 ∷ [] ++ codes "alice start 10 0 10 look:look(X,R)" ++ 10 ∷ [] ++ codes "alice run 10" ++ 10 ∷ [] ++ codes "alice quiet" ++ 10 ∷ []
+
+-- the bytes of otherwise_takes_the_rest.expected
+abbrev pub otherwise_takes_the_rest_output : List ℕ
+otherwise_takes_the_rest_output = codes "alice + loaded look" ++ 10 ∷ [] ++ codes "alice + shoen 1" ++ 10 ∷ [] ++ codes "alice + 2" ++ 10 ∷ [] ++ codes "alice + look:look([],other)" ++ 10 ∷ [] ++ codes "alice + shoen 2" ++ 10 ∷ [] ++ codes "alice + 0" ++ 10 ∷ [] ++ codes "alice + yes" ++ 10 ∷ []
 
 -- the bytes of otherwise_waits.script
 abbrev pub otherwise_waits_script : List ℕ
@@ -533,6 +549,7 @@ pub record ExamplesHold : Type 0 where
   pub goal_waits_for_ever : output goal_waits_for_ever_script ≡ goal_waits_for_ever_output
   pub goals_of_a_start : output goals_of_a_start_script ≡ goals_of_a_start_output
   pub greater_priority_then_least_number : output greater_priority_then_least_number_script ≡ greater_priority_then_least_number_output
+  pub greatest_common_divisor : output greatest_common_divisor_script ≡ greatest_common_divisor_output
   pub higher_variable_takes_the_lower : output higher_variable_takes_the_lower_script ≡ higher_variable_takes_the_lower_output
   pub integers_are_no_atoms : output integers_are_no_atoms_script ≡ integers_are_no_atoms_output
   pub last_line_without_a_feed : output last_line_without_a_feed_script ≡ last_line_without_a_feed_output
@@ -552,6 +569,7 @@ pub record ExamplesHold : Type 0 where
   pub no_clause_for_a_goal_that_waits : output no_clause_for_a_goal_that_waits_script ≡ no_clause_for_a_goal_that_waits_output
   pub no_cyclic_terms : output no_cyclic_terms_script ≡ no_cyclic_terms_output
   pub numbers_of_19_digits : output numbers_of_19_digits_script ≡ numbers_of_19_digits_output
+  pub otherwise_takes_the_rest : output otherwise_takes_the_rest_script ≡ otherwise_takes_the_rest_output
   pub otherwise_waits : output otherwise_waits_script ≡ otherwise_waits_output
   pub places_of_one_variable : output places_of_one_variable_script ≡ places_of_one_variable_output
   pub producer_and_consumer : output producer_and_consumer_script ≡ producer_and_consumer_output

@@ -4,6 +4,8 @@ mod accounts;
 mod acts;
 mod again;
 mod answers;
+mod expressions;
+mod guards;
 mod made;
 mod matching;
 mod nodes;

@@ -32,8 +32,10 @@ fn is_wanted_event(event: &Event, wanted: &[u8]) -> bool {
             high,
             goal: _goal,
         } => is_told(wanted, b"start", &[*allowance, *low, *high], b""),
+        Event::Reduce { goal, clause } => is_told(wanted, b"reduce", &[goal.0, clause.0], b""),
         Event::Read(Query::Value(shoen)) => is_told(wanted, b"value", &[shoen.0], b""),
-        _ => false,
+        Event::Read(Query::Quiet) => is_told(wanted, b"quiet", &[], b""),
+        Event::Load { source: _source } => false,
     }
 }
 

@@ -80,6 +80,8 @@ pub fn is_reply(alloc: Global, reply: &[u8], bytes: &[u8]) -> bool {
         is_put(alloc, &Reply::Ran(number_of(rest)), bytes)
     } else if is_same(word, b"shown") {
         is_put_for_text(alloc, rest, bytes)
+    } else if is_same(word, b"quiet") {
+        is_put(alloc, &Reply::Quiet(is_same(rest, b"yes")), bytes)
     } else {
         is_same(word, b"refused") && is_put_for_refusal(alloc, rest, bytes)
     }

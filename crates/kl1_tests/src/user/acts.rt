@@ -8,6 +8,7 @@
 // | `reduce G C` | goal G is reduced by clause C |
 // | `step` | the first goal is reduced |
 // | `value S` | the goal of shoen S is shown |
+// | `quiet` | whether no goal can step is asked |
 // | `run N` | the first goal is reduced, again and again, at most N times; the answer is how often |
 // | `first` | nothing; the answer is the first goal with its clause, as `2 by 1`, or `quiet` |
 
@@ -77,6 +78,7 @@ pub fn event_of(alloc: Global, user: &Player, word: &[u8], words: &[u8]) -> Opti
         b"reduce" => Some(reduction_of(words)),
         b"step" => first_step(user),
         b"value" => Some(Event::Read(Query::Value(ShoenNo(number_of(words))))),
+        b"quiet" => Some(Event::Read(Query::Quiet)),
         _ => None,
     }
 }

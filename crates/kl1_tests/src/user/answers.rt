@@ -41,10 +41,17 @@ fn is_change(reply: &Reply, wanted: &[u8]) -> bool {
     }
 }
 
+/// Whether a text says whether no goal can step.
+pub fn is_told_quiet(is_quiet: bool, wanted: &[u8]) -> bool {
+    let word: &[u8] = if is_quiet { b"+ yes" } else { b"+ no" };
+    word == wanted
+}
+
 /// Whether a reply has this text.
 pub fn is_reply(reply: &Reply, wanted: &[u8]) -> bool {
     match reply {
         Reply::Shown(text) => is_joined(wanted, b"+ ", text.as_slice()),
+        Reply::Quiet(is_quiet) => is_told_quiet(*is_quiet, wanted),
         Reply::Refused(refusal) => is_refusal(*refusal, wanted),
         _ => is_change(reply, wanted),
     }

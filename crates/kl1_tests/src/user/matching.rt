@@ -1,19 +1,14 @@
 // Calls and what clauses make of them, over whole terms.
 
-use crate::user::nodes::{Row, are_alike, number_in, split_term};
+use crate::user::guards::{Verdict, alike, both, tested};
+use crate::user::nodes::{Row, are_alike, highest_in, number_in, split_term};
 use kl1_read::{ClauseParts, Source};
-use kl1_term::Node;
-use std::alloc::AllocError;
+use kl1_term::{Node, Term};
+use std::alloc::{AllocError, Global};
 
-/// What a clause makes of a call.
-#[derive(Clone, Copy)]
-pub enum Verdict {
-    Accepts,
-    Rejects,
-    Suspends,
-    /// There is no clause of that number.
-    Missing,
-}
+/// More than the number of any variable of the rows: what a variable of a head stands for at none of whose places a term stands
+/// has a number from here on.
+const FAR: u64 = 1_000_000_000;
 
 /// The two arguments of a structure of a name, one behind the other.
 pub fn arguments_of<'a>(term: &'a [Node], name: &[u8]) -> Option<&'a [Node]> {
@@ -68,16 +63,17 @@ pub fn called_with(goal: &[Node]) -> &[Node] {
 }
 
 /// Puts the patterns of a clause behind a row, one after another.
-pub fn put_patterns(row: &mut Row, parts: &ClauseParts) -> Result<(), AllocError> {
+fn put_patterns(row: &mut Row, parts: &ClauseParts) -> Result<(), AllocError> {
     for pattern in &parts.patterns {
         row.extend_from_slice(pattern.nodes())?;
     }
     Ok(())
 }
 
-/// What patterns make of as many terms; the term at the place of each variable is put down, in the order of the variables.
-pub fn matched(patterns: &[Node], terms: &[Node], places: &mut Row) -> Option<Verdict> {
-    let mut waits = false;
+/// What patterns make of as many terms but for variables that occur in them more than once; each variable at whose place a term
+/// stands is put down with that term behind it.
+fn matched(patterns: &[Node], terms: &[Node], places: &mut Row) -> Option<Verdict> {
+    let mut verdict = Verdict::Accepts;
     let mut patterns = patterns;
     let mut terms = terms;
     for _ in 0..patterns.len() {
@@ -86,6 +82,7 @@ pub fn matched(patterns: &[Node], terms: &[Node], places: &mut Row) -> Option<Ve
         };
         let (whole, behind) = split_term(terms);
         if number_in(pattern) != 0 {
+            places.push(*pattern).ok()?;
             places.extend_from_slice(whole).ok()?;
             patterns = inside;
             terms = behind;
@@ -95,29 +92,95 @@ pub fn matched(patterns: &[Node], terms: &[Node], places: &mut Row) -> Option<Ve
         } else if number_in(term) == 0 {
             return Some(Verdict::Rejects);
         } else {
-            waits = true;
+            verdict = Verdict::Suspends;
             patterns = split_term(patterns).1;
             terms = behind;
         }
     }
-    Some(if waits {
-        Verdict::Suspends
-    } else {
-        Verdict::Accepts
-    })
+    Some(verdict)
 }
 
-/// Puts the term of a number, from 1, among terms one behind the other behind a row.
-fn put_place(row: &mut Row, places: &[Node], number: u64) -> Result<(), AllocError> {
+/// The first term at a place of a variable, and the places behind it.
+fn place_of(places: &[Node], number: u64) -> Option<(&[Node], &[Node])> {
     let mut left = places;
-    for _ in 1..number {
-        left = split_term(left).1;
+    for _ in 0..places.len() {
+        let [found, behind @ ..] = left else {
+            return None;
+        };
+        let (term, rest) = split_term(behind);
+        if number_in(found) == number {
+            return Some((term, rest));
+        }
+        left = rest;
     }
-    row.extend_from_slice(split_term(left).0)
+    None
 }
 
-/// Puts a term behind a row, with the terms at the places of its first variables, of which there are so many, and with the next
-/// variables behind the last one in place of the others.
+/// Whether a term is the same as each one at a place of a variable.
+fn is_at_each(term: &[Node], number: u64, places: &[Node]) -> Verdict {
+    let mut verdict = Verdict::Accepts;
+    let mut left = places;
+    while let Some((other, rest)) = place_of(left, number) {
+        verdict = both(verdict, alike(term, other));
+        left = rest;
+    }
+    verdict
+}
+
+/// Whether each two terms at places of one variable are the same.
+fn are_repeated(places: &[Node]) -> Verdict {
+    let mut verdict = Verdict::Accepts;
+    let mut left = places;
+    for _ in 0..places.len() {
+        let [variable, behind @ ..] = left else {
+            break;
+        };
+        let (term, rest) = split_term(behind);
+        verdict = both(verdict, is_at_each(term, number_in(variable), rest));
+        left = rest;
+    }
+    verdict
+}
+
+/// What tests make of the terms at the places of a head's variables, of which there are so many.
+fn of_tests(alloc: Global, tests: &[Term], heads: u64, places: &[Node]) -> Option<Verdict> {
+    let mut verdict = Verdict::Accepts;
+    for test in tests {
+        let mut row = Vec::new(alloc);
+        put_instance(&mut row, test.nodes(), heads, places, 0).ok()?;
+        verdict = both(verdict, tested(alloc, row.as_slice())?);
+    }
+    Some(verdict)
+}
+
+/// The greatest number of a variable in the head of a clause.
+pub fn heads_of(parts: &ClauseParts) -> u64 {
+    let mut most = 0;
+    for term in &parts.patterns {
+        most = highest_in(term.nodes()).max(most);
+    }
+    most
+}
+
+/// What a clause makes of a goal of its predicate; the variables of its head are put down, each with a term at one of its places
+/// behind it.
+pub fn judged(
+    alloc: Global,
+    parts: &ClauseParts,
+    goal: &[Node],
+    places: &mut Row,
+) -> Option<Verdict> {
+    places.clear();
+    let mut patterns = Vec::new(alloc);
+    put_patterns(&mut patterns, parts).ok()?;
+    let verdict = matched(patterns.as_slice(), called_with(goal), places)?;
+    let places = places.as_slice();
+    let tests = of_tests(alloc, parts.tests.as_slice(), heads_of(parts), places)?;
+    Some(both(verdict, both(are_repeated(places), tests)))
+}
+
+/// Puts a term behind a row, with the first terms at the places of its first variables, of which there are so many, and with the
+/// next variables behind the last one in place of the others.
 pub fn put_instance(
     row: &mut Row,
     nodes: &[Node],
@@ -132,7 +195,10 @@ pub fn put_instance(
         } else if number > heads {
             row.push(Node::Variable(last.saturating_add(number - heads)))?;
         } else {
-            put_place(row, places, number)?;
+            match place_of(places, number) {
+                Some((term, _behind)) => row.extend_from_slice(term)?,
+                None => row.push(Node::Variable(number.saturating_add(FAR)))?,
+            }
         }
     }
     Ok(())

@@ -2,14 +2,15 @@
 // everywhere, as the language's rules say it.
 
 use crate::rows::is_counted;
-use crate::user::matching::{
-    Verdict, arguments_of, called_with, clause_of, matched, put_instance, put_patterns,
-};
+use crate::user::answers::is_told_quiet;
+use crate::user::expressions::{Outcome, outcome_of, scanned};
+use crate::user::guards::Verdict;
+use crate::user::matching::{arguments_of, clause_of, heads_of, judged, put_instance};
 use crate::user::nodes::{Row, highest_in, replace_in, split_term};
 use crate::user::solving::solve;
 use kl1_read::{Source, read_module};
-use kl1_term::{Node, Printer, Term};
-use kl1_user::Event;
+use kl1_term::{Node, Printer};
+use kl1_user::{Event, Query};
 use std::alloc::{AllocError, Global};
 
 /// More than the clauses of any predicate of the rows.
@@ -39,38 +40,62 @@ pub struct Plain {
     last_goal: u64,
 }
 
-/// What the clause of a number makes of a goal; the term at the place of each of its variables is put down.
-fn verdict_by(
-    alloc: Global,
-    modules: &[Source],
-    goal: &[Node],
-    number: u64,
-    places: &mut Row,
-) -> Option<Verdict> {
-    let Some(parts) = clause_of(modules, goal, number) else {
-        return Some(Verdict::Missing);
-    };
-    let mut patterns = Vec::new(alloc);
-    put_patterns(&mut patterns, parts).ok()?;
-    matched(patterns.as_slice(), called_with(goal), places)
+/// The number for what a goal does that waits for the result of an expression, 0 where it can compute one.
+fn clause_for_expression(expression: &[Node]) -> u64 {
+    match scanned(expression) {
+        Some(Outcome::Waits) => MANY,
+        _ => 0,
+    }
 }
 
-/// The least number of a clause by which a goal can step, 0 where none can or will; `MANY` where it waits.
+/// The least number of a clause by which a goal can step, 0 where none can or will; `MANY` where it waits. A clause that waits
+/// holds back all clauses of later sections.
 fn clause_for(alloc: Global, modules: &[Source], term: &[Node]) -> Option<u64> {
+    if let Some(pair) = arguments_of(term, b":=") {
+        return Some(clause_for_expression(split_term(pair).1));
+    }
     let mut places = Vec::new(alloc);
-    let mut none = 0;
+    let mut last_section = u64::MAX;
     for number in 1..MANY {
-        match verdict_by(alloc, modules, term, number, &mut places)? {
-            Verdict::Accepts => return Some(number),
+        let Some(parts) = clause_of(modules, term, number) else {
+            return Some(if last_section == u64::MAX { 0 } else { MANY });
+        };
+        match judged(alloc, parts, term, &mut places)? {
             Verdict::Rejects => (),
-            Verdict::Suspends => none = MANY,
-            Verdict::Missing => return Some(none),
+            Verdict::Suspends => last_section = last_section.min(parts.section),
+            Verdict::Accepts => {
+                if parts.section <= last_section {
+                    return Some(number);
+                }
+            }
         }
     }
     None
 }
 
-/// Whether a goal can step by the clause of a number; the term at the place of each of its variables is put down.
+/// Whether all clauses of the sections above one reject a goal.
+fn are_rejected_above(
+    alloc: Global,
+    modules: &[Source],
+    term: &[Node],
+    section: u64,
+) -> Option<bool> {
+    let mut places = Vec::new(alloc);
+    for number in 1..MANY {
+        match clause_of(modules, term, number) {
+            Some(parts) if parts.section < section => {
+                if !matches!(judged(alloc, parts, term, &mut places)?, Verdict::Rejects) {
+                    return Some(false);
+                }
+            }
+            _ => return Some(true),
+        }
+    }
+    None
+}
+
+/// Whether a goal can step by the clause of a number; the variables of the clause's head are put down, each with the term at its
+/// place behind it.
 fn can_step(
     alloc: Global,
     modules: &[Source],
@@ -81,19 +106,13 @@ fn can_step(
     if clause == 0 {
         return Some(clause_for(alloc, modules, term)? == 0);
     }
-    match verdict_by(alloc, modules, term, clause, places)? {
-        Verdict::Accepts => Some(true),
+    let Some(parts) = clause_of(modules, term, clause) else {
+        return Some(false);
+    };
+    match judged(alloc, parts, term, places)? {
+        Verdict::Accepts => are_rejected_above(alloc, modules, term, parts.section),
         _ => Some(false),
     }
-}
-
-/// The greatest number of a variable in terms.
-fn highest_of(terms: &[Term]) -> u64 {
-    let mut most = 0;
-    for term in terms {
-        most = highest_in(term.nodes()).max(most);
-    }
-    most
 }
 
 /// The text of a term, cut as an account cuts it.
@@ -151,8 +170,8 @@ impl Plain {
         }
     }
 
-    /// A term, with the terms at the places of its first variables, of which there are so many, and with the next variables in
-    /// place of the others.
+    /// A term, with the first terms at the places of its first variables, of which there are so many, and with the next variables
+    /// in place of the others.
     fn instance(&self, nodes: &[Node], heads: u64, places: &[Node]) -> Result<Row, AllocError> {
         let mut row = Vec::new(self.alloc);
         put_instance(&mut row, nodes, heads, places, self.last_variable)?;
@@ -225,28 +244,46 @@ impl Plain {
         Some(())
     }
 
-    /// Does what a goal does that steps by no clause, and was removed: two terms become one, or it fails, or it is `true`.
-    fn end(&mut self, term: &[Node]) -> Option<()> {
-        match arguments_of(term, b"=") {
-            Some(pair) => self.unify(pair),
-            None => {
-                if let [Node::Structure(_name, _count), ..] = term {
-                    self.take_variables(1);
-                }
+    /// Makes a term what the expression behind it comes to, or reports that it comes to nothing.
+    fn assign(&mut self, pair: &[Node]) -> Option<()> {
+        let (left, expression) = split_term(pair);
+        match outcome_of(self.alloc, expression)? {
+            Outcome::Is(number) => {
+                let mut both = Vec::from_slice(self.alloc, left).ok()?;
+                both.push(Node::Integer(number)).ok()?;
+                self.unify(both.as_slice())
+            }
+            _ => {
+                self.take_variables(1);
                 Some(())
             }
         }
     }
 
+    /// Does what a goal does that steps by no clause, and was removed: two terms become one, or it fails, or it is `true`.
+    fn end(&mut self, term: &[Node]) -> Option<()> {
+        if let Some(pair) = arguments_of(term, b"=") {
+            return self.unify(pair);
+        }
+        if let Some(pair) = arguments_of(term, b":=") {
+            return self.assign(pair);
+        }
+        if let [Node::Structure(_name, _count), ..] = term {
+            self.take_variables(1);
+        }
+        Some(())
+    }
+
     /// The instances of the goals in the body of the clause of a number, and how many of their variables are new.
     fn body_of(&self, goal: &PlainGoal, clause: u64, places: &[Node]) -> Option<(Vec<Row>, u64)> {
         let parts = clause_of(self.modules.as_slice(), goal.term.as_slice(), clause)?;
-        let heads = highest_of(parts.patterns.as_slice());
-        let most = highest_of(parts.body.as_slice());
+        let heads = heads_of(parts);
+        let mut most = heads;
         let mut body = Vec::new(self.alloc);
-        for term in &parts.body {
-            body.push(self.instance(term.nodes(), heads, places).ok()?)
-                .ok()?;
+        for part in &parts.body {
+            let nodes = part.goal.nodes();
+            most = highest_in(nodes).max(most);
+            body.push(self.instance(nodes, heads, places).ok()?).ok()?;
         }
         Some((body, most.saturating_sub(heads)))
     }
@@ -332,8 +369,8 @@ impl Plain {
         Some(true)
     }
 
-    /// Whether an event does what is wanted. A load is done, a start opens the shoen of the number that is wanted, and a goal
-    /// is reduced just where that is wanted.
+    /// Whether an event does what is wanted. A load is done, a start opens the shoen of the number that is wanted, a goal is
+    /// reduced just where that is wanted, and no goal can step just where that is wanted.
     pub fn is_answered(&mut self, event: &Event, wanted: &[u8]) -> Option<bool> {
         match event {
             Event::Load { source } => Some(self.load(source.as_slice())),
@@ -345,7 +382,8 @@ impl Plain {
                 let is_reduced = self.reduce(goal.0, clause.0)?;
                 Some(is_reduced == (wanted == b"+ reduced".as_slice()))
             }
-            Event::Read(_query) => Some(true),
+            Event::Read(Query::Quiet) => Some(is_told_quiet(self.first()? == (0, 0), wanted)),
+            Event::Read(Query::Value(_shoen)) => Some(true),
         }
     }
 
