@@ -25,3 +25,14 @@ pub fn numbered(alloc: Global, number: u64) -> Text {
     source.put(b").\n");
     source
 }
+
+/// The source of a module of so many clauses that differs by a number alone.
+pub fn with_clauses(alloc: Global, number: u64, count: u64) -> Text {
+    let mut source = numbered(alloc, number);
+    for clause in 1..count {
+        source.put(b"p(");
+        source.put_number(clause);
+        source.put(b",[A|X],Y,Z) :- A > 0 | Z = [A|W], p(X,Y,W).\n");
+    }
+    source
+}
