@@ -51,15 +51,19 @@ impl CodeSource for PlainCodes {
 
     ghost meaning = { λ r. arc_value r };
 
+    #[tactic(auto, using(crate::proofs::Sources::source_is))]
     fn find_or_push(&mut self, source: &[u8]) -> Result<Arc<Code>, CodeFault> {
-        let kept = match self.find(source) {
-            Some(known) => Arc::try_clone(known),
-            None => {
-                let code = Code::compile(self.alloc, source)?;
-                self.push(code)
-            }
+        if let Some(known) = self.find(source) {
+            let Ok(again) = Arc::try_clone(known) else {
+                return Err(CodeFault::Memory);
+            };
+            return Ok(again);
+        }
+        let code = Code::compile(self.alloc, source)?;
+        let Ok(kept) = self.push(code) else {
+            return Err(CodeFault::Memory);
         };
-        kept.map_err(|_refused| CodeFault::Memory)
+        Ok(kept)
     }
 
     fn code<'a>(&'a self, r: &'a Arc<Code>) -> &'a Code {
