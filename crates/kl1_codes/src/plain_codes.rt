@@ -51,7 +51,6 @@ impl CodeSource for PlainCodes {
 
     ghost meaning = { λ r. arc_value r };
 
-    #[tactic(auto, using(crate::proofs::Sources::source_is))]
     fn find_or_push(&mut self, source: &[u8]) -> Result<Arc<Code>, CodeFault> {
         if let Some(known) = self.find(source) {
             let Ok(again) = Arc::try_clone(known) else {
