@@ -1,6 +1,6 @@
 // What an account asks of the codes of modules.
 
-ghost use Rattle.std.specs.Prelude.{◌≡◌, IfOk, IfErr};
+ghost use Rattle.std.specs.Prelude.{◌≡◌, ◌↔◌, IfOk, IfErr};
 ghost use Rattle.kl1_model.specs.Module.{Module, good, read_module};
 ghost use Rattle.kl1_clause.specs.Modules.{IsFaultOf};
 
@@ -11,7 +11,7 @@ pub trait CodeSource {
     /// What finds a code again.
     type Ref: Drop;
 
-    /// Whether a reference is to a code that is kept here.
+    /// Whether a reference is one of this source's, which no call changes.
     ghost is_of: { Self → Self.Ref → Type 0 };
 
     /// The module whose code a reference finds.
@@ -23,7 +23,7 @@ pub trait CodeSource {
         ensures source { IfOk result (λ r. (meaning r).source ≡ source.now) }
         ensures module { IfOk result (λ r. read_module source.now ≡ good (meaning r)) }
         ensures fault { IfErr result (IsFaultOf (read_module source.now)) }
-        ensures others { (r : Self.Ref) → is_of self.old r → is_of self.new r };
+        ensures same { (r : Self.Ref) → is_of self.old r ↔ is_of self.new r };
 
     /// The code that a reference finds.
     fn code<'a>(&'a self, r: &'a Self::Ref) -> &'a Code

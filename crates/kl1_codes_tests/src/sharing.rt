@@ -1,12 +1,8 @@
 // That a source is put in once, and what two threads find that put sources in at once.
 
-ghost use Rattle.std.specs.Prelude.{IfOk};
-ghost use Rattle.boxcar.specs.Table.{Shows};
-
 use crate::modules::{APP, O, numbered};
 use crate::seeing::found;
-use kl1_clause::CodeFault;
-use kl1_codes::{CodeTable, PlainCodes, SharedCodes};
+use kl1_codes::{CodeSource, CodeTable, PlainCodes, SharedCodes};
 use std::alloc::{AllocError, Global};
 use std::sync::{Arc, Wait};
 use std::thread::{Threads, join};
@@ -70,9 +66,10 @@ fn gives<R: Wait>(rt: &R, alloc: Global, table: &CodeTable, number: u64) -> bool
     let source = numbered(alloc, number);
     let again = numbered(alloc, number);
     let source = if source.has_failed { again } else { source };
-    match found(&mut SharedCodes { table, rt }, source.bytes.as_slice()) {
+    let mut codes = SharedCodes { table, rt };
+    match found(&mut codes, source.bytes.as_slice()) {
         Err(_fault) => false,
-        Ok(shown) => table.code(&shown).source() == source.bytes.as_slice(),
+        Ok(shown) => codes.code(&shown).source() == source.bytes.as_slice(),
     }
 }
 

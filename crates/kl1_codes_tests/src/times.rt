@@ -29,9 +29,14 @@ fn time_of<R: Wait + Clock>(rt: &R, table: &CodeTable, sources: &[Text]) -> u128
     nanoseconds_since(rt, start)
 }
 
-/// Puts the nanoseconds for a source.
+/// Puts a number, or that of all of 64 bits, where that is less.
+fn put_count(out: &mut Text, count: u128) {
+    out.put_number(count.min(0xffff_ffff_ffff_ffff) as u64);
+}
+
+/// Puts the nanoseconds for each source.
 fn put_each(out: &mut Text, time: u128) {
-    out.put_number((time / u128::from(SOURCES)) as u64);
+    put_count(out, time / u128::from(SOURCES));
     out.put(b" ns ");
 }
 
@@ -47,7 +52,7 @@ fn put_time<R: Wait + Clock>(rt: &R, out: &mut Text, clauses: u64) -> Result<(),
     out.put(b"again ");
     put_each(out, again);
     out.put(b"hundredths ");
-    out.put_number(hundredths(again, first) as u64);
+    put_count(out, hundredths(again, first));
     out.put(b"\n");
     Ok(())
 }
