@@ -25,33 +25,43 @@ fn put_check(out: &mut Text, name: &[u8], done: Result<bool, AllocError>) {
     }
 }
 
-/// Whether a source of codes tells of modules what it has to.
+/// Whether a source of codes tells of modules what it has to, at the second try where memory is refused at the first.
 fn tells_modules<C: CodeSource>(alloc: Global, codes: &mut C) -> bool {
     let mut seen = Text::new(alloc);
     see_modules(&mut seen, codes);
+    if seen.has_failed {
+        seen = Text::new(alloc);
+        see_modules(&mut seen, codes);
+    }
     !seen.has_failed & (seen.bytes.as_slice() == MODULES)
 }
 
-/// Whether a source of codes tells of bad sources what it has to.
+/// The same of bad sources.
 fn tells_faults<C: CodeSource>(alloc: Global, codes: &mut C) -> bool {
     let mut seen = Text::new(alloc);
     see_faults(&mut seen, codes);
+    if seen.has_failed {
+        seen = Text::new(alloc);
+        see_faults(&mut seen, codes);
+    }
     !seen.has_failed & (seen.bytes.as_slice() == FAULTS)
 }
 
-/// Whether a table tells what it has to, whatever word from 0 to 63 its hints begin as.
-fn tables_tell<R: Wait>(rt: &R, alloc: Global) -> Result<bool, AllocError> {
+/// Whether a table tells of modules what it has to, whatever word from 0 to 63 its hints begin as.
+fn tables_tell_of_modules<R: Wait>(rt: &R, alloc: Global) -> Result<bool, AllocError> {
     for word in 0..64 {
         let table = table_with(alloc, word)?;
-        let mut codes = SharedCodes { table: &table, rt };
-        if !tells_modules(alloc, &mut codes) {
-            return Ok(false);
-        }
-        if !tells_faults(alloc, &mut codes) {
+        if !tells_modules(alloc, &mut SharedCodes { table: &table, rt }) {
             return Ok(false);
         }
     }
     Ok(true)
+}
+
+/// Whether a table tells of bad sources what it has to.
+fn a_table_tells_of_faults<R: Wait>(rt: &R, alloc: Global) -> Result<bool, AllocError> {
+    let table = table_with(alloc, 0)?;
+    Ok(tells_faults(alloc, &mut SharedCodes { table: &table, rt }))
 }
 
 /// Puts a line on each check behind a report.
@@ -64,12 +74,10 @@ pub fn put_checks<R: Threads + Wait + Sync>(rt: &R, out: &mut Text) {
     put_check(out, b"plain codes tell of faults", Ok(done));
     let done = plain_codes_find_again(alloc);
     put_check(out, b"plain codes find a source again", done);
-    let done = tables_tell(rt, alloc);
-    put_check(
-        out,
-        b"tables with hints of each word tell of modules and faults",
-        done,
-    );
+    let done = tables_tell_of_modules(rt, alloc);
+    put_check(out, b"tables with hints of each word tell of modules", done);
+    let done = a_table_tells_of_faults(rt, alloc);
+    put_check(out, b"a table tells of faults", done);
     let done = each_word_stays_in_place(rt, alloc);
     put_check(
         out,

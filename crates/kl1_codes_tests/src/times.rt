@@ -3,7 +3,7 @@
 use crate::modules::with_clauses;
 use crate::sharing::table_with;
 use kl1_codes::CodeTable;
-use kl1_rows::{Text, hundredths, moment, nanoseconds_since};
+use kl1_rows::{Text, moment, nanoseconds_since};
 use std::alloc::{AllocError, Global};
 use std::rt::Clock;
 use std::sync::Wait;
@@ -40,7 +40,8 @@ fn put_each(out: &mut Text, time: u128) {
     out.put(b" ns ");
 }
 
-/// Puts how long the first look-ups of sources of so many clauses take, and how long the second ones.
+/// Puts how long the first look-ups of sources of so many clauses take, how long the second ones, and how many
+/// times as long the first are.
 fn put_time<R: Wait + Clock>(rt: &R, out: &mut Text, clauses: u64) -> Result<(), AllocError> {
     let table = table_with(out.alloc, 0)?;
     let sources = sources_of(out.alloc, clauses)?;
@@ -51,9 +52,8 @@ fn put_time<R: Wait + Clock>(rt: &R, out: &mut Text, clauses: u64) -> Result<(),
     put_each(out, first);
     out.put(b"again ");
     put_each(out, again);
-    out.put(b"hundredths ");
-    put_count(out, hundredths(again, first));
-    out.put(b"\n");
+    put_count(out, first / again.max(1));
+    out.put(b" times\n");
     Ok(())
 }
 
