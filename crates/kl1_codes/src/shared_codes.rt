@@ -1,0 +1,32 @@
+// The shared table as a source of codes.
+
+ghost use Rattle.boxcar.specs.Table.{Shows};
+
+use crate::code_source::CodeSource;
+use crate::code_table::CodeTable;
+use boxcar::Pushed;
+use kl1_clause::{Code, CodeFault};
+use std::sync::Wait;
+
+/// The shared table, lent with the handle by which a code is put in: a source of codes for code that takes any.
+#[derive(Drop)]
+pub struct SharedCodes<'c, R: Wait> {
+    pub table: &'c CodeTable,
+    pub rt: &'c R,
+}
+
+impl<'c, R: Wait> CodeSource for SharedCodes<'c, R> {
+    type Ref = Pushed<Code>;
+
+    ghost is_of = { λ codes r. Shows codes.table.now r };
+
+    ghost meaning = { λ r. r.value };
+
+    fn find_or_push(&mut self, source: &[u8]) -> Result<Pushed<Code>, CodeFault> {
+        self.table.find_or_push(self.rt, source)
+    }
+
+    fn code<'a>(&'a self, r: &'a Pushed<Code>) -> &'a Code {
+        self.table.code(r)
+    }
+}
