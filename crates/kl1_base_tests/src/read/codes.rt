@@ -64,7 +64,8 @@ fn put_compiled(answer: &mut Text, code: &Code, source: &[u8]) {
 }
 
 /// Puts a clause: in angle brackets its predicate, with `+` and the number of its section where that isn't 0, the numbers of
-/// the variables of its head and of its others, and its patterns, tests and goals, with `?` between them.
+/// the variables of its head and of its others, its patterns, tests and goals, and the modules of its goals, with `?` between
+/// them.
 fn put_clause(answer: &mut Text, clause: &CompiledClause) {
     answer.put(b" <");
     put_structure(answer, clause.name, clause.count as u64);
@@ -81,7 +82,20 @@ fn put_clause(answer: &mut Text, clause: &CompiledClause) {
     put_row(answer, clause.tests.as_slice());
     answer.put(b" ?");
     put_row(answer, clause.goals.as_slice());
+    answer.put(b" ?");
+    put_modules(answer, clause.modules.as_slice());
     answer.put(b">");
+}
+
+/// Puts the names of modules, each behind a space, and `-` where there is none.
+fn put_modules(answer: &mut Text, modules: &[Option<Name>]) {
+    for name in modules {
+        answer.put(b" ");
+        match name {
+            None => answer.put(b"-"),
+            Some(name) => put_name(answer, *name),
+        }
+    }
 }
 
 /// Puts instructions, each behind a space.

@@ -5,7 +5,7 @@ ghost use Rattle.kl1_goals.specs.declared.task.Task.TheVariants.{Monitor, Reduce
 ghost use Rattle.kl1_store.specs.declared.cell.Cell.TheVariants.{Integer};
 
 use kl1_goals::{Goal, GoalTable, Task};
-use kl1_store::Cell;
+use kl1_store::{Cell, Qualified};
 use kl1_text::AtomNo;
 use std::alloc::{AllocError, Global};
 
@@ -24,11 +24,14 @@ fn monitor(number: u64, shoen: u64) -> Goal<AtomNo>
 
 /// A goal of a shoen with a priority, whose term is an integer.
 fn goal(number: u64, shoen: u64, priority: u64, term: i64) -> Goal<AtomNo>
-    ensures { result ≡ record { number = number; task = Reduces (Integer term); shoen = shoen; priority = priority; standing = None } }
+    ensures { result ≡ record { number = number; task = Reduces (record { module_name = None; cell = Integer term }); shoen = shoen; priority = priority; standing = None } }
 {
     Goal {
         number,
-        task: Task::Reduces(Cell::Integer(term)),
+        task: Task::Reduces(Qualified {
+            module_name: None,
+            cell: Cell::Integer(term),
+        }),
         shoen,
         priority,
         standing: None,
@@ -75,8 +78,11 @@ fn is_goal(found: Option<Goal<AtomNo>>, number: u64, shoen: u64, priority: u64, 
         return false;
     };
     let has_term = match goal.task {
-        Task::Reduces(Cell::Integer(value)) => value == term,
-        _ => false,
+        Task::Reduces(goal) => match goal.cell {
+            Cell::Integer(value) => value == term,
+            _ => false,
+        },
+        Task::Monitor => false,
     };
     has_term && goal.number == number && goal.shoen == shoen && goal.priority == priority
 }
