@@ -1,21 +1,18 @@
 -- Structures of two arguments that are built.
-use Rattle.std.proofs.Common.{◌≡◌, ℕ, List, [], ◌∷◌, ◌++◌, length, length-append, length-take, refl, ap, sym, ◌∙◌, arith, subst}
+use Rattle.std.proofs.Common.{◌≡◌, ℕ, List, [], ◌∷◌, ◌++◌, length, length-append, refl, ap, sym, ◌∙◌, arith, subst}
 use Rattle.std.specs.Prelude.{Some, slice_get}
 use Rattle.kl1_model.specs.declared.built_in.BuiltIn.{BuiltIn}
-use Rattle.kl1_model.specs.declared.built_in.BuiltIn.TheVariants.{Exception, Colon}
+use Rattle.kl1_model.specs.declared.built_in.BuiltIn.TheVariants.{Exception}
 use Rattle.kl1_model.specs.Text.{text_of}
 use Rattle.kl1_model.specs.Term.{atom, structure, none, more}
-use Rattle.kl1_model.specs.Report.{exception}
 use Rattle.kl1_store.specs.declared.cell.Cell.{Cell}
 use Rattle.kl1_store.specs.declared.cell.Cell.TheVariants.{Atom, Structure}
 use Rattle.kl1_store.specs.Held.{Shape, Held, IsIn, AreIn, with_structure, arguments_of, shape_arguments}
 use Rattle.kl1_store.specs.Meaning.{term_of, terms_of}
-use Rattle.kl1_store.specs.declared.qualified.Qualified.{Qualified}
-use Rattle.kl1_store.specs.InModules.{in_module}
-use Rattle.kl1_store.specs.Sound.{IsFormed, Grown}
-use Rattle.kl1_store.proofs.Growing.{IsFormed-structure, IsWithin-more}
+use Rattle.kl1_store.specs.Sound.{IsFormed}
+use Rattle.kl1_store.proofs.Growing.{IsFormed-structure}
 use Rattle.kl1_store.proofs.Terms.{term_of-structure, term_of-Structure, term_of-Atom}
-use Rattle.kl1_stream.specs.Exceptions.{IsException, IsWhole, IsExceptionOf}
+use Rattle.kl1_stream.specs.Exceptions.{IsException}
 
 pub get_after : {A : Type 0} (xs : List A) (x : A) → slice_get (xs ++ x ∷ []) (length xs) ≡ Some x
 get_after [] x = refl
@@ -62,40 +59,3 @@ is_exception {N = N} built h new kind goal s name kind_name p i e k b =
     } in
     let one = subst (λ (x : Held N). Q x (length h.structures)) (sym b.1) there in
     subst (λ n. Q new n) (sym b.0) one
-
--- a goal in the module of a name was built
-pub is_whole_in : {N : Type 0} (built : BuiltIn → N) (h new : Held N) (q : Qualified N) (s : ℕ) (name m : N) → IsFormed h → IsIn h q.cell → name ≡ built Colon → q.module_name ≡ Some m →
-    (s ≡ length h.structures) × (new ≡ with_pair h name (Atom m) q.cell) → IsWhole built h new q (Structure s)
-is_whole_in {N = N} built h new q s name m p i e own b =
-    let Q : Held N → ℕ → Type 0 = λ x n. IsWhole built h x q (Structure n) in
-    let full = with_pair h name (Atom m) q.cell in
-    let shape : Shape N = record { name = name; arguments = Atom m ∷ q.cell ∷ [] } in
-    let there : IsWhole built h full q (Structure (length h.structures)) = record {
-      inside = omega (arith, length-append h.structures (shape ∷ []));
-      variables = refl;
-      bindings = refl;
-      means = λ f reads.
-          pair_means f h name (Atom m) q.cell p (tt, (i, tt))
-          ∙ ap (λ t. structure (f name) (more t (more (term_of f h q.cell) none))) (term_of-Atom f h m)
-          ∙ ap (λ n. structure n (more (atom (f m)) (more (term_of f h q.cell) none))) (ap f e ∙ reads.texts Colon)
-          ∙ ap (λ n. in_module f n (term_of f h q.cell)) (sym own);
-      others = λ f y j. term_of-structure f h name (Atom m ∷ q.cell ∷ []) y p j;
-    } in
-    let one = subst (λ (x : Held N). Q x (length h.structures)) (sym b.1) there in
-    subst (λ n. Q new n) (sym b.0) one
-
--- a cell of a store that has grown
-within_grown : {N : Type 0} (h k : Held N) (x : Cell N) → Grown h k → IsIn h x → IsIn k x
-within_grown h k x g i =
-    let e = ap length g.structures in
-    IsWithin-more h.variables (length h.structures) k.variables (length k.structures) x g.variables (omega (arith, e, length-take (length h.structures) k.structures)) i
-
--- an exception with a whole goal
-pub is_exception_of : {N : Type 0} (built : BuiltIn → N) (h mid new : Held N) (kind : BuiltIn) (q : Qualified N) (w x : Cell N) → Grown h mid → IsWhole built h mid q w → IsException built mid new kind w x → IsExceptionOf built h new kind q x
-is_exception_of built h mid new kind q w x g whole e = record {
-  inside = e.inside;
-  variables = e.variables ∙ whole.variables;
-  bindings = e.bindings ∙ whole.bindings;
-  means = λ f reads. e.means f reads ∙ ap (exception (text_of kind)) (whole.means f reads);
-  others = λ f y j. e.others f y (within_grown h mid y g j) ∙ whole.others f y j;
-}

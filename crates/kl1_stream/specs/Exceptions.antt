@@ -6,8 +6,6 @@ use Rattle.kl1_model.specs.Report.{exception}
 use Rattle.kl1_text.specs.Reading.{Reads}
 use Rattle.kl1_store.specs.declared.cell.Cell.{Cell}
 use Rattle.kl1_store.specs.Held.{Held, IsIn}
-use Rattle.kl1_store.specs.declared.qualified.Qualified.{Qualified}
-use Rattle.kl1_store.specs.InModules.{qualified_term}
 use Rattle.kl1_store.specs.Meaning.{term_of}
 
 -- a cell of a store means an exception of a kind with a goal, no variable and no binding is new, and all that was there means what it meant
@@ -16,21 +14,4 @@ pub record IsException {N : Type 0} (built : BuiltIn → N) (old new : Held N) (
   pub variables : new.variables ≡ old.variables
   pub bindings : new.bindings ≡ old.bindings
   pub means : (f : N → List ℕ) → Reads built f → term_of f new x ≡ exception (text_of kind) (term_of f old goal)
-  pub others : (f : N → List ℕ) (y : Cell N) → IsIn old y → term_of f new y ≡ term_of f old y
-
--- a cell of a store means what is to be reduced, no variable and no binding is new, and all that was there means what it meant
-pub record IsWhole {N : Type 0} (built : BuiltIn → N) (old new : Held N) (goal : Qualified N) (x : Cell N) : Type 0 where
-  pub inside : IsIn new x
-  pub variables : new.variables ≡ old.variables
-  pub bindings : new.bindings ≡ old.bindings
-  pub means : (f : N → List ℕ) → Reads built f → term_of f new x ≡ qualified_term f old goal
-  pub others : (f : N → List ℕ) (y : Cell N) → IsIn old y → term_of f new y ≡ term_of f old y
-
--- a cell of a store means an exception of a kind with what was to be reduced, no variable and no binding is new, and all that was there
--- means what it meant
-pub record IsExceptionOf {N : Type 0} (built : BuiltIn → N) (old new : Held N) (kind : BuiltIn) (goal : Qualified N) (x : Cell N) : Type 0 where
-  pub inside : IsIn new x
-  pub variables : new.variables ≡ old.variables
-  pub bindings : new.bindings ≡ old.bindings
-  pub means : (f : N → List ℕ) → Reads built f → term_of f new x ≡ exception (text_of kind) (qualified_term f old goal)
   pub others : (f : N → List ℕ) (y : Cell N) → IsIn old y → term_of f new y ≡ term_of f old y

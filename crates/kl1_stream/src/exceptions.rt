@@ -4,10 +4,10 @@ ghost use Rattle.std.specs.Prelude.{◌≡◌, ◌<◌, ◌≤◌, IfOk, IsOk, O
 ghost use Rattle.kl1_store.specs.Held.{IsIn};
 ghost use Rattle.kl1_store.specs.Sound.{Grown};
 ghost use Rattle.kl1_store.specs.Spending.{Spends};
-ghost use Rattle.kl1_stream.specs.Exceptions.{IsException, IsWhole, IsExceptionOf};
+ghost use Rattle.kl1_stream.specs.Exceptions.{IsException};
 
 use kl1_model::BuiltIn;
-use kl1_store::{Cell, Qualified, Store};
+use kl1_store::{Cell, Store};
 use kl1_text::NameValue;
 use std::alloc::AllocError;
 
@@ -30,43 +30,4 @@ pub fn exception_of<N: NameValue>(
     let name = N::of(BuiltIn::Exception);
     let structure = store.build_pair(name, Cell::Atom(N::of(kind)), goal)?;
     Ok(Cell::Structure(structure))
-}
-
-/// What is to be reduced as one cell: a goal in the module of a name gets that name and `:` before it.
-pub fn whole_of<N: NameValue>(
-    store: &mut Store<N>,
-    goal: Qualified<N>,
-) -> Result<Cell<N>, AllocError>
-    requires { IsIn store.old.held goal.cell }
-    ensures whole { IfOk result (IsWhole N.built store.old.held store.new.held goal) }
-    ensures err { OnErr result (store.new.held ≡ store.old.held) }
-    ensures grown { Grown store.old.held store.new.held }
-    ensures hooks { store.new.hooks ≡ store.old.hooks }
-    ensures hook_room { store.new.hook_room ≡ store.old.hook_room }
-{
-    let _formed = store.mark();
-    match goal.module_name {
-        None => Ok(goal.cell),
-        Some(module_name) => {
-            let colon = N::of(BuiltIn::Colon);
-            let structure = store.build_pair(colon, Cell::Atom(module_name), goal.cell)?;
-            Ok(Cell::Structure(structure))
-        }
-    }
-}
-
-/// The message that what was to be reduced met an exception of a kind. Where memory is refused, the store may have grown.
-pub fn exception_in_module<N: NameValue>(
-    store: &mut Store<N>,
-    kind: BuiltIn,
-    goal: Qualified<N>,
-) -> Result<Cell<N>, AllocError>
-    requires { IsIn store.old.held goal.cell }
-    ensures exception { IfOk result (IsExceptionOf N.built store.old.held store.new.held kind goal) }
-    ensures grown { Grown store.old.held store.new.held }
-    ensures hooks { store.new.hooks ≡ store.old.hooks }
-    ensures hook_room { store.new.hook_room ≡ store.old.hook_room }
-{
-    let whole = whole_of(store, goal)?;
-    exception_of(store, kind, whole)
 }

@@ -6,6 +6,6 @@ mod reports;
 mod sending;
 mod told;
 
-pub use exceptions::{exception_in_module, exception_of, whole_of};
+pub use exceptions::exception_of;
 pub use reports::{append_report, close_report};
 pub use told::Told;
