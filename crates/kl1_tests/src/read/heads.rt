@@ -6,7 +6,7 @@ ghost use Rattle.kl1_store.specs.Held.{IsIn};
 ghost use Rattle.kl1_match.specs.Instances.{IsClause, AreThere};
 
 use crate::read::kind::Kind;
-use crate::read::printed_cells::{put_cells, walked};
+use crate::read::printed_cells::{put_cells, put_goals, walked};
 use crate::rows::Text;
 use kl1_clause::{Code, CompiledClause, GoalCode};
 use kl1_match::{
@@ -219,7 +219,7 @@ fn put_accepted(
     let mut scratch = Scratch::new(answer.alloc);
     let mut goals = Vec::new(answer.alloc);
     put_instance(store, names, clause, places, &mut scratch, &mut goals)?;
-    put_cells(answer, store, goals.as_slice())
+    put_goals(answer, store, goals.as_slice())
 }
 
 /// Binds the first variable of a goal to 7.

@@ -7,7 +7,7 @@ ghost use Rattle.kl1_moves.specs.Moves.{taken_places};
 ghost use Rattle.kl1_moves.specs.Kinds.{KindIn};
 
 use crate::read::heads::{behind_colon, cell_of, put_numbers};
-use crate::read::printed_cells::{push_arguments, put_cells};
+use crate::read::printed_cells::{push_arguments, put_cells, put_goals};
 use crate::rows::Text;
 use kl1_clause::{Code, Predicate};
 use kl1_model::BuiltIn;
@@ -186,5 +186,5 @@ fn put_body(
     }
     let mut goals = Vec::new(answer.alloc);
     commit(store, predicate, place, trial, &mut goals)?;
-    put_cells(answer, store, goals.as_slice())
+    put_goals(answer, store, goals.as_slice())
 }
