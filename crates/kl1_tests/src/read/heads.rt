@@ -6,7 +6,7 @@ ghost use Rattle.kl1_store.specs.Held.{IsIn};
 ghost use Rattle.kl1_match.specs.Instances.{IsClause, AreThere};
 
 use crate::read::kind::Kind;
-use crate::read::printed_cells::{put_cells, walked};
+use crate::read::printed_cells::{put_cells, put_goals, walked};
 use crate::rows::Text;
 use kl1_clause::{Code, CompiledClause, GoalCode};
 use kl1_match::{
@@ -172,27 +172,11 @@ fn put_tried(
     Ok(())
 }
 
-/// The least of numbers that is over another one.
-fn least_over(numbers: &[u32], last: u32) -> Option<u32> {
-    let mut least = None;
-    for number in numbers {
-        if *number > last && *number <= least.unwrap_or(*number) {
-            least = Some(*number);
-        }
-    }
-    least
-}
-
-/// Puts the numbers of variables, each once, the least first.
+/// Puts the numbers of variables.
 pub fn put_numbers(answer: &mut Text, numbers: &[u32]) {
-    let mut last = 0;
-    for _ in 0..numbers.len() {
-        let Some(next) = least_over(numbers, last) else {
-            break;
-        };
+    for number in numbers {
         answer.put(b" ");
-        answer.put_number(u64::from(next));
-        last = next;
+        answer.put_number(u64::from(*number));
     }
 }
 
@@ -235,7 +219,7 @@ fn put_accepted(
     let mut scratch = Scratch::new(answer.alloc);
     let mut goals = Vec::new(answer.alloc);
     put_instance(store, names, clause, places, &mut scratch, &mut goals)?;
-    put_cells(answer, store, goals.as_slice())
+    put_goals(answer, store, goals.as_slice())
 }
 
 /// Binds the first variable of a goal to 7.

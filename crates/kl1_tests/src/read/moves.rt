@@ -7,13 +7,13 @@ ghost use Rattle.kl1_moves.specs.Moves.{taken_places};
 ghost use Rattle.kl1_moves.specs.Kinds.{KindIn};
 
 use crate::read::heads::{behind_colon, cell_of, put_numbers};
-use crate::read::printed_cells::{push_arguments, put_cells};
+use crate::read::printed_cells::{push_arguments, put_cells, put_goals};
 use crate::rows::Text;
 use kl1_clause::{Code, Predicate};
 use kl1_model::BuiltIn;
 use kl1_moves::{Kind, Move, Trial, commit, kind_of, move_of, or_none, standing_of};
 use kl1_read::read_goal;
-use kl1_store::{Cell, Qualified, Store};
+use kl1_store::{Cell, Store};
 use kl1_term::Term;
 use kl1_text::{AtomText, NameValue, put_atom};
 use std::alloc::AllocError;
@@ -187,22 +187,4 @@ fn put_body(
     let mut goals = Vec::new(answer.alloc);
     commit(store, predicate, place, trial, &mut goals)?;
     put_goals(answer, store, goals.as_slice())
-}
-
-/// Puts goals, each in its module as a structure with the name `:`.
-fn put_goals(
-    answer: &mut Text,
-    store: &Store<AtomText>,
-    goals: &[Qualified<AtomText>],
-) -> Result<(), AllocError> {
-    for goal in goals {
-        if let Some(module_name) = goal.module_name {
-            answer.put(b" ");
-            put_atom(&mut answer.bytes, &AtomText::of(b":"))?;
-            answer.put(b"/2 ");
-            put_atom(&mut answer.bytes, &module_name)?;
-        }
-        put_cells(answer, store, &[goal.cell])?;
-    }
-    Ok(())
 }

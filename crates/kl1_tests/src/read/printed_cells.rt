@@ -4,7 +4,8 @@ ghost use Rattle.std.specs.Prelude.{◌<◌, length, IfSome};
 ghost use Rattle.kl1_store.specs.Held.{IsIn};
 
 use crate::rows::Text;
-use kl1_store::{Cell, Store};
+use kl1_store::{Cell, Qualified, Store};
+use kl1_stream::whole_of;
 use kl1_text::{AtomText, NameValue, put_atom, put_int};
 use std::alloc::AllocError;
 
@@ -32,6 +33,22 @@ pub fn put_cells(
         };
         answer.put(b" ");
         put_top(answer, store, cell, &mut stack)?;
+    }
+    Ok(())
+}
+
+/// Puts what is to be reduced as whole goals, in the same way.
+pub fn put_goals(
+    answer: &mut Text,
+    store: &mut Store<AtomText>,
+    goals: &[Qualified<AtomText>],
+) -> Result<(), AllocError> {
+    for goal in goals {
+        if !store.holds(goal.cell) {
+            return Err(AllocError);
+        }
+        let whole = whole_of(store, *goal)?;
+        put_cells(answer, store, &[whole])?;
     }
     Ok(())
 }
