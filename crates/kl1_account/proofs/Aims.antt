@@ -12,6 +12,7 @@ use Rattle.kl1_moves.specs.declared.kind.Kind.{Kind}
 use Rattle.kl1_moves.specs.Kinds.{IsKind}
 use Rattle.kl1_account.specs.Fitting.{Reading}
 use Rattle.kl1_account.specs.Account.{meaning, told_in, aim}
+use Rattle.kl1_store.proofs.Terms.{term_of-Atom}
 
 told_is : (f : Reading) (h : Held CellName) (m : Option CellName) (t : Term) → told_in (meaning f h) m t ≡ in_module f m t
 told_is f h None t = refl

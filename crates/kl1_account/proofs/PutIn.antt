@@ -13,7 +13,7 @@ use Rattle.kl1_goals.specs.declared.goal.Goal.{Goal}
 use Rattle.kl1_shoen.specs.declared.shoen.Shoen.{Shoen}
 use Rattle.kl1_shoen.specs.Shoens.{has_number, exchanged}
 use Rattle.kl1_account.specs.declared.draft.Draft.{Draft}
-use Rattle.kl1_account.specs.Account.{Means, goal_with}
+use Rattle.kl1_account.specs.Account.{Means, goal_with, aim_with}
 use Rattle.kl1_account.specs.Kept.{IsShoenIn, AreShoensIn, AreNumbered}
 use Rattle.kl1_account.specs.Works.{with_shoen}
 use Rattle.kl1_account.specs.Drafts.{goals_for, goals_left, goals_added, made_of, restood, goals_standing, goals_after}
@@ -25,7 +25,7 @@ standing_read : (t : Means) (last shoen priority : ℕ) (xs : List (Qualified Ce
 standing_read t last shoen priority [] ss = refl
 standing_read t last shoen priority (x ∷ xs) [] = refl
 standing_read t last shoen priority (x ∷ xs) (s ∷ ss) =
-    ap (λ (gs : List model.Goal). let g : model.Goal = record { number = suc last; task = model.reduces (t x); shoen = shoen; priority = priority } in g ∷ gs) (standing_read t (suc last) shoen priority xs ss)
+    ap (λ (gs : List model.Goal). let g : model.Goal = record { number = suc last; task = model.reduces (aim_with t x); shoen = shoen; priority = priority } in g ∷ gs) (standing_read t (suc last) shoen priority xs ss)
 
 -- the goals of a draft in place are those that it makes: their clauses are no part of what they are
 pub after_read : (t : Means) (goals : List (Goal CellName)) (d : Draft) → map (goal_with t) (goals_after goals d) ≡ map (goal_with t) (made_of goals d).goals

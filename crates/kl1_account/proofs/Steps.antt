@@ -14,7 +14,6 @@ use Rattle.kl1_model.specs.Waits.{move_by}
 use Rattle.kl1_text.specs.declared.cell_name.CellName.{CellName}
 use Rattle.kl1_store.specs.declared.qualified.Qualified.{Qualified}
 use Rattle.kl1_atoms.specs.declared.known.Known.{Known}
-use Rattle.kl1_store.specs.declared.cell.Cell.{Cell}
 use Rattle.kl1_store.specs.Held.{Held, IsIn}
 use Rattle.kl1_store.specs.Hooks.{Kept}
 use Rattle.kl1_store.specs.Sound.{Grown}
@@ -149,8 +148,8 @@ begun_made goals g sh last d b =
     let one = filter (is_other d.removed) goals in
     let left : goals_left goals d ≡ filter (is_other g.number) goals = ap (λ c. if c then without_monitor d.shoen.number one else one) b.ending ∙ ap (λ n. filter (is_other n) goals) b.removed in
     let all : goals_left goals d ++ goals_for d.last_goal d.shoen.number d.priority d.cells.items ≡ filter (is_other g.number) goals =
-    ap (λ (xs : List (Cell CellName)). goals_left goals d ++ goals_for d.last_goal d.shoen.number d.priority xs) b.cells ∙ append-nil (goals_left goals d) ∙ left in
-    let count : d.last_goal + length d.cells.items ≡ last = let e = ap (λ (xs : List (Cell CellName)). length xs) b.cells in let q = b.last_is in omega (arith, e) in
+    ap (λ (xs : List (Qualified CellName)). goals_left goals d ++ goals_for d.last_goal d.shoen.number d.priority xs) b.cells ∙ append-nil (goals_left goals d) ∙ left in
+    let count : d.last_goal + length d.cells.items ≡ last = let e = ap (λ (xs : List (Qualified CellName)). length xs) b.cells in let q = b.last_is in omega (arith, e) in
     ap (λ (gs : List (Goal CellName)). let w : Made = record { goals = gs; shoen = d.shoen; last_goal = d.last_goal + length d.cells.items } in w) all
     ∙ ap (λ (s : Shoen CellName). let w : Made = record { goals = filter (is_other g.number) goals; shoen = s; last_goal = d.last_goal + length d.cells.items } in w) b.shoen_is
     ∙ ap (λ n. let w : Made = record { goals = filter (is_other g.number) goals; shoen = sh; last_goal = n } in w) count

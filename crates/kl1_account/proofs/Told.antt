@@ -64,7 +64,7 @@ pub found_in : (h : Held CellName) (p : Goal CellName → Bool) (goals : List (G
 found_in h p [] goal x all e t = absurd (cc)
 found_in h p (g ∷ goals) goal x all e t = here (p g) (λ k. found_in h p goals goal x all.1 k t) e
   where
-    here : (b : Bool) → (Some goal ≡ find p goals → IsIn h x) → Some goal ≡ (if b then Some g else find p goals) → IsIn h x
+    here : (b : Bool) → (Some goal ≡ find p goals → IsIn h x.cell) → Some goal ≡ (if b then Some g else find p goals) → IsIn h x.cell
     here true later k = let T : Task CellName → Type 0 = λ s. IsTaskIn h s in subst T (ap (λ (a : Goal CellName). a.task) (sym (same_goal goal g k)) ∙ t) all.0
     here false later k = later k
 

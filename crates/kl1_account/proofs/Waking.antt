@@ -18,7 +18,7 @@ use Rattle.kl1_modules.specs.Finding.{contents}
 use Rattle.kl1_moves.specs.Hanging.{HangsOnEach, AreAmong}
 use Rattle.kl1_account.specs.declared.draft.Change.{Change}
 use Rattle.kl1_account.specs.Fitting.{Reading}
-use Rattle.kl1_account.specs.Account.{meaning, task_with}
+use Rattle.kl1_account.specs.Account.{meaning, task_with, aim}
 use Rattle.kl1_account.specs.Kept.{IsTaskIn, AreGoalsIn}
 use Rattle.kl1_account.specs.Drafts.{restood_by}
 use Rattle.kl1_account.specs.Settled.{task_clause, awaited_by_task, IsSettled, AreSettled}
@@ -41,7 +41,7 @@ same_stands c g e = ap (λ b. if b then record g { standing = c.standing } else 
 
 pub found_out : (f : Reading) (hooks : List Hook) (h : Held CellName) (modules : List Numbered) (x : Qualified CellName) (c : Change) (g : Goal CellName) → g.number ≡ c.number → g.task ≡ Reduces x → IsFoundOut f hooks h modules x c → IsSettled f hooks h modules (record g { standing = c.standing })
 found_out f hooks h modules x c g e t s =
-    let same : model.reduces (meaning f h x) ≡ task_with (meaning f h) g.task = ap (task_with (meaning f h)) (sym t) in
+    let same : model.reduces (aim f h x) ≡ task_with (meaning f h) g.task = ap (task_with (meaning f h)) (sym t) in
     let H : ℕ → Type 0 = λ n. HangsOnEach hooks n (awaited_by_task (contents modules) (task_with (meaning f h) g.task)) in
     let T : model.Task → Type 0 = λ k. HangsOnEach hooks c.number (awaited_by_task (contents modules) k) in
     record { standing = s.standing ∙ ap (task_clause (contents modules)) same; hung = subst H (sym e) (subst T same s.hung) }

@@ -3,11 +3,12 @@ use Rattle.std.proofs.lemmas.Result.{on_ok_weaker}
 use Rattle.kl1_account.proofs.Drafted.{finishes}
 use Rattle.kl1_account.proofs.Drafting.{cells_grown}
 use Rattle.kl1_account.proofs.reducing.finish.Goals as goal
+use Rattle.kl1_store.specs.InModules.{cells_of}
 
 pub wake-requires-clause-cells : goal.wake-requires-clause-cells
 wake-requires-clause-cells c =
     rw (c.in_ok-settle.ensures.settling.cells)
-    (cells_grown c.args.store.now.held c.settle.new.store.held c.in_ok-settle.ensures.grown c.args.draft.now.cells.items c.requires.cells)
+    (cells_grown c.args.store.now.held c.settle.new.store.held c.in_ok-settle.ensures.grown (cells_of c.args.draft.now.cells.items) c.requires.cells)
 
 pub returns-clause-ok : goal.returns-clause-ok
 returns-clause-ok c =
