@@ -172,11 +172,27 @@ fn put_tried(
     Ok(())
 }
 
-/// Puts the numbers of variables.
-pub fn put_numbers(answer: &mut Text, numbers: &[u32]) {
+/// The least of numbers that is over another one.
+fn least_over(numbers: &[u32], last: u32) -> Option<u32> {
+    let mut least = None;
     for number in numbers {
+        if *number > last && *number <= least.unwrap_or(*number) {
+            least = Some(*number);
+        }
+    }
+    least
+}
+
+/// Puts the numbers of variables, each once, the least first.
+pub fn put_numbers(answer: &mut Text, numbers: &[u32]) {
+    let mut last = 0;
+    for _ in 0..numbers.len() {
+        let Some(next) = least_over(numbers, last) else {
+            break;
+        };
         answer.put(b" ");
-        answer.put_number(u64::from(*number));
+        answer.put_number(u64::from(next));
+        last = next;
     }
 }
 

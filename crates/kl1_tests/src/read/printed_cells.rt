@@ -5,7 +5,6 @@ ghost use Rattle.kl1_store.specs.Held.{IsIn};
 
 use crate::rows::Text;
 use kl1_store::{Cell, Qualified, Store};
-use kl1_stream::whole_of;
 use kl1_text::{AtomText, NameValue, put_atom, put_int};
 use std::alloc::AllocError;
 
@@ -37,18 +36,20 @@ pub fn put_cells(
     Ok(())
 }
 
-/// Puts what is to be reduced as whole goals, in the same way.
+/// Puts goals in the same way, each that is in a module behind the name `:` and that of the module.
 pub fn put_goals(
     answer: &mut Text,
-    store: &mut Store<AtomText>,
+    store: &Store<AtomText>,
     goals: &[Qualified<AtomText>],
 ) -> Result<(), AllocError> {
     for goal in goals {
-        if !store.holds(goal.cell) {
-            return Err(AllocError);
+        if let Some(module_name) = goal.module_name {
+            answer.put(b" ");
+            put_atom(&mut answer.bytes, &AtomText::of(b":"))?;
+            answer.put(b"/2 ");
+            put_atom(&mut answer.bytes, &module_name)?;
         }
-        let whole = whole_of(store, *goal)?;
-        put_cells(answer, store, &[whole])?;
+        put_cells(answer, store, &[goal.cell])?;
     }
     Ok(())
 }
