@@ -100,15 +100,13 @@ fn applied(name: &AtomText, left: Outcome, right: Outcome) -> Outcome {
 /// What an expression comes to in which a scan finds nothing: its nodes from the last to the first.
 pub fn computed(alloc: Global, nodes: &[Node]) -> Option<Outcome> {
     let mut behind = Vec::new(alloc);
-    let mut left = nodes;
-    while let [before @ .., node] = left {
-        let outcome = match node {
+    for place in 0..nodes.len() {
+        let outcome = match &nodes[nodes.len() - 1 - place] {
             Node::Integer(number) => Outcome::Is(*number),
             Node::Structure(name, _count) => applied(name, behind.pop()?, behind.pop()?),
             _ => return None,
         };
         behind.push(outcome).ok()?;
-        left = before;
     }
     behind.pop()
 }

@@ -120,7 +120,10 @@ fn place_of(places: &[Node], number: u64) -> Option<(&[Node], &[Node])> {
 fn is_at_each(term: &[Node], number: u64, places: &[Node]) -> Verdict {
     let mut verdict = Verdict::Accepts;
     let mut left = places;
-    while let Some((other, rest)) = place_of(left, number) {
+    for _ in 0..places.len() {
+        let Some((other, rest)) = place_of(left, number) else {
+            break;
+        };
         verdict = both(verdict, alike(term, other));
         left = rest;
     }
