@@ -17,6 +17,7 @@ pub mod LeastClause
 pub mod SameStays
 pub mod ScanFinds
 pub mod ScanStays
+pub mod LookStays
 pub mod GuardStays
 pub mod Beside
 pub mod VerdictStays
