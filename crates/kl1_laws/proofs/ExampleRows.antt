@@ -2,245 +2,390 @@
 use Rattle.std.specs.Prelude.{◌≡◌, refl}
 use Rattle.std.specs.Fmt.{digits}
 use Rattle.kl1_model.specs.Unify.{solve_within, walk}
+use Rattle.kl1_model.specs.Tree.{path_within}
 use Rattle.kl1_model.specs.Token.{tokens_within}
 use Rattle.kl1_model.specs.Reader.{expression_at, series_by, grouped_by, body_by}
 use Rattle.kl1_model.specs.Line.{words_within}
 use Rattle.kl1_model.specs.Record.{records_within}
 use Rattle.kl1_model.specs.Script.{output}
-use Rattle.kl1_laws.specs.Examples.{a_failure_stops_nothing_else_script, a_failure_stops_nothing_else_output, account_name_of_16_bytes_script, account_name_of_16_bytes_output, account_name_of_17_bytes_script, account_name_of_17_bytes_output, account_with_a_capital_script, account_with_a_capital_output, accounts_alone_script, accounts_alone_output, append_two_lists_script, append_two_lists_output, arithmetic_script, arithmetic_output, bad_load_lines_script, bad_load_lines_output, bad_source_script, bad_source_output, blank_first_line_script, blank_first_line_output, blank_lines_script, blank_lines_output, blanks_between_accounts_script, blanks_between_accounts_output, bytes_behind_a_load_script, bytes_behind_a_load_output, clash_outweighs_waiting_script, clash_outweighs_waiting_output, clause_below_otherwise_closes_script, clause_below_otherwise_closes_output, commands_that_are_none_script, commands_that_are_none_output, countdown_script, countdown_output, doubled_account_script, doubled_account_output, first_of_two_clauses_script, first_of_two_clauses_output, forms_that_are_faults_script, forms_that_are_faults_output, fresh_variables_script, fresh_variables_output, goal_waits_for_ever_script, goal_waits_for_ever_output, goals_of_a_start_script, goals_of_a_start_output, greater_priority_then_least_number_script, greater_priority_then_least_number_output, higher_variable_takes_the_lower_script, higher_variable_takes_the_lower_output, integers_are_no_atoms_script, integers_are_no_atoms_output, last_line_without_a_feed_script, last_line_without_a_feed_output, lines_of_4096_bytes_script, lines_of_4096_bytes_output, load_of_no_bytes_script, load_of_no_bytes_output, load_without_a_last_feed_script, load_without_a_last_feed_output, loaded_twice_script, loaded_twice_output, loads_of_other_names_script, loads_of_other_names_output, loads_of_others_are_skipped_script, loads_of_others_are_skipped_output, module_without_clauses_script, module_without_clauses_output, modules_loaded_at_that_moment_script, modules_loaded_at_that_moment_output, names_before_the_first_space_script, names_before_the_first_space_output, names_in_quotes_script, names_in_quotes_output, names_of_63_and_64_bytes_script, names_of_63_and_64_bytes_output, nested_patterns_script, nested_patterns_output, no_accounts_script, no_accounts_output, no_cyclic_terms_script, no_cyclic_terms_output, numbers_of_19_digits_script, numbers_of_19_digits_output, otherwise_waits_script, otherwise_waits_output, places_of_one_variable_script, places_of_one_variable_output, producer_and_consumer_script, producer_and_consumer_output, reversed_list_script, reversed_list_output, second_variable_wakes_script, second_variable_wakes_output, seventeen_accounts_script, seventeen_accounts_output, sixteen_accounts_script, sixteen_accounts_output, truncated_load_script, truncated_load_output, truncated_load_of_another_name_script, truncated_load_of_another_name_output, unification_fails_whole_script, unification_fails_whole_output, unknown_predicates_fail_script, unknown_predicates_fail_output, value_is_cut_script, value_is_cut_output, value_of_4000_bytes_script, value_of_4000_bytes_output, variables_of_a_second_start_script, variables_of_a_second_start_output, woken_by_a_binding_script, woken_by_a_binding_output, words_and_line_ends_script, words_and_line_ends_output, ExamplesHold}
+use Rattle.kl1_laws.specs.Examples.{a_failure_stops_nothing_else_script, a_failure_stops_nothing_else_output, abort_ends_what_is_below_script, abort_ends_what_is_below_output, abort_with_two_children_script, abort_with_two_children_output, aborted_child_ends_its_parent_script, aborted_child_ends_its_parent_output, account_name_of_16_bytes_script, account_name_of_16_bytes_output, account_name_of_17_bytes_script, account_name_of_17_bytes_output, account_with_a_capital_script, account_with_a_capital_output, accounts_alone_script, accounts_alone_output, allow_of_a_variable_waits_script, allow_of_a_variable_waits_output, allow_raises_an_allowance_script, allow_raises_an_allowance_output, allowance_has_a_greatest_script, allowance_has_a_greatest_output, allowance_of_0_script, allowance_of_0_output, allowance_runs_out_script, allowance_runs_out_output, append_two_lists_script, append_two_lists_output, append_with_its_status_script, append_with_its_status_output, arithmetic_script, arithmetic_output, bad_load_lines_script, bad_load_lines_output, bad_source_script, bad_source_output, blank_first_line_script, blank_first_line_output, blank_lines_script, blank_lines_output, blanks_between_accounts_script, blanks_between_accounts_output, bytes_behind_a_load_script, bytes_behind_a_load_output, charges_go_up_the_tree_script, charges_go_up_the_tree_output, clash_outweighs_waiting_script, clash_outweighs_waiting_output, clause_below_otherwise_closes_script, clause_below_otherwise_closes_output, codes_that_are_wrong_script, codes_that_are_wrong_output, commands_that_are_none_script, commands_that_are_none_output, commands_to_shoens_that_are_none_script, commands_to_shoens_that_are_none_output, control_breaks_off_script, control_breaks_off_output, control_is_closed_script, control_is_closed_output, countdown_script, countdown_output, cyclic_term_is_reported_script, cyclic_term_is_reported_output, doubled_account_script, doubled_account_output, ended_or_exhausted_script, ended_or_exhausted_output, failure_is_reported_script, failure_is_reported_output, first_of_two_clauses_script, first_of_two_clauses_output, forms_that_are_faults_script, forms_that_are_faults_output, fresh_variables_script, fresh_variables_output, goal_waits_for_ever_script, goal_waits_for_ever_output, goals_of_a_start_script, goals_of_a_start_output, greater_priority_of_a_body_script, greater_priority_of_a_body_output, greater_priority_then_least_number_script, greater_priority_then_least_number_output, higher_variable_takes_the_lower_script, higher_variable_takes_the_lower_output, inner_shoen_stays_stopped_script, inner_shoen_stays_stopped_output, integers_are_no_atoms_script, integers_are_no_atoms_output, last_line_without_a_feed_script, last_line_without_a_feed_output, lines_of_4096_bytes_script, lines_of_4096_bytes_output, load_of_no_bytes_script, load_of_no_bytes_output, load_without_a_last_feed_script, load_without_a_last_feed_output, loaded_twice_script, loaded_twice_output, loads_of_other_names_script, loads_of_other_names_output, loads_of_others_are_skipped_script, loads_of_others_are_skipped_output, module_without_clauses_script, module_without_clauses_output, modules_are_listed_script, modules_are_listed_output, modules_loaded_at_that_moment_script, modules_loaded_at_that_moment_output, names_before_the_first_space_script, names_before_the_first_space_output, names_from_codes_script, names_from_codes_output, names_in_quotes_script, names_in_quotes_output, names_of_63_and_64_bytes_script, names_of_63_and_64_bytes_output, nested_patterns_script, nested_patterns_output, no_accounts_script, no_accounts_output, no_cyclic_terms_script, no_cyclic_terms_output, numbers_of_19_digits_script, numbers_of_19_digits_output, orders_of_each_kind_script, orders_of_each_kind_output, orders_that_are_wrong_script, orders_that_are_wrong_output, orders_that_wait_script, orders_that_wait_output, other_messages_are_skipped_script, other_messages_are_skipped_output, otherwise_waits_script, otherwise_waits_output, overflow_is_reported_script, overflow_is_reported_output, places_of_one_variable_script, places_of_one_variable_output, priorities_are_clipped_script, priorities_are_clipped_output, producer_and_consumer_script, producer_and_consumer_output, report_that_holds_its_tail_script, report_that_holds_its_tail_output, reversed_list_script, reversed_list_output, second_variable_wakes_script, second_variable_wakes_output, seventeen_accounts_script, seventeen_accounts_output, shoens_32_deep_script, shoens_32_deep_output, sixteen_accounts_script, sixteen_accounts_output, stopped_and_resumed_script, stopped_and_resumed_output, stopped_once_script, stopped_once_output, stopped_shoen_terminates_script, stopped_shoen_terminates_output, stream_bound_by_the_program_script, stream_bound_by_the_program_output, truncated_load_script, truncated_load_output, truncated_load_of_another_name_script, truncated_load_of_another_name_output, two_shoens_on_one_stream_script, two_shoens_on_one_stream_output, unification_fails_whole_script, unification_fails_whole_output, unknown_predicates_fail_script, unknown_predicates_fail_output, value_is_cut_script, value_is_cut_output, value_of_4000_bytes_script, value_of_4000_bytes_output, variables_of_a_second_start_script, variables_of_a_second_start_output, waiting_goal_is_alive_script, waiting_goal_is_alive_output, woken_by_a_binding_script, woken_by_a_binding_output, woken_by_a_second_variable_script, woken_by_a_second_variable_output, words_and_line_ends_script, words_and_line_ends_output, ExamplesHold}
 
 a_failure_stops_nothing_else_row : output a_failure_stops_nothing_else_script ≡ a_failure_stops_nothing_else_output
-unfolding digits tokens_within expression_at series_by grouped_by body_by solve_within walk records_within words_within
+unfolding digits tokens_within expression_at series_by grouped_by body_by solve_within walk path_within records_within words_within
 a_failure_stops_nothing_else_row = refl
 
+abort_ends_what_is_below_row : output abort_ends_what_is_below_script ≡ abort_ends_what_is_below_output
+unfolding digits tokens_within expression_at series_by grouped_by body_by solve_within walk path_within records_within words_within
+abort_ends_what_is_below_row = refl
+
+abort_with_two_children_row : output abort_with_two_children_script ≡ abort_with_two_children_output
+unfolding digits tokens_within expression_at series_by grouped_by body_by solve_within walk path_within records_within words_within
+abort_with_two_children_row = refl
+
+aborted_child_ends_its_parent_row : output aborted_child_ends_its_parent_script ≡ aborted_child_ends_its_parent_output
+unfolding digits tokens_within expression_at series_by grouped_by body_by solve_within walk path_within records_within words_within
+aborted_child_ends_its_parent_row = refl
+
 account_name_of_16_bytes_row : output account_name_of_16_bytes_script ≡ account_name_of_16_bytes_output
-unfolding digits tokens_within expression_at series_by grouped_by body_by solve_within walk records_within words_within
+unfolding digits tokens_within expression_at series_by grouped_by body_by solve_within walk path_within records_within words_within
 account_name_of_16_bytes_row = refl
 
 account_name_of_17_bytes_row : output account_name_of_17_bytes_script ≡ account_name_of_17_bytes_output
-unfolding digits tokens_within expression_at series_by grouped_by body_by solve_within walk records_within words_within
+unfolding digits tokens_within expression_at series_by grouped_by body_by solve_within walk path_within records_within words_within
 account_name_of_17_bytes_row = refl
 
 account_with_a_capital_row : output account_with_a_capital_script ≡ account_with_a_capital_output
-unfolding digits tokens_within expression_at series_by grouped_by body_by solve_within walk records_within words_within
+unfolding digits tokens_within expression_at series_by grouped_by body_by solve_within walk path_within records_within words_within
 account_with_a_capital_row = refl
 
 accounts_alone_row : output accounts_alone_script ≡ accounts_alone_output
-unfolding digits tokens_within expression_at series_by grouped_by body_by solve_within walk records_within words_within
+unfolding digits tokens_within expression_at series_by grouped_by body_by solve_within walk path_within records_within words_within
 accounts_alone_row = refl
 
+allow_of_a_variable_waits_row : output allow_of_a_variable_waits_script ≡ allow_of_a_variable_waits_output
+unfolding digits tokens_within expression_at series_by grouped_by body_by solve_within walk path_within records_within words_within
+allow_of_a_variable_waits_row = refl
+
+allow_raises_an_allowance_row : output allow_raises_an_allowance_script ≡ allow_raises_an_allowance_output
+unfolding digits tokens_within expression_at series_by grouped_by body_by solve_within walk path_within records_within words_within
+allow_raises_an_allowance_row = refl
+
+allowance_has_a_greatest_row : output allowance_has_a_greatest_script ≡ allowance_has_a_greatest_output
+unfolding digits tokens_within expression_at series_by grouped_by body_by solve_within walk path_within records_within words_within
+allowance_has_a_greatest_row = refl
+
+allowance_of_0_row : output allowance_of_0_script ≡ allowance_of_0_output
+unfolding digits tokens_within expression_at series_by grouped_by body_by solve_within walk path_within records_within words_within
+allowance_of_0_row = refl
+
+allowance_runs_out_row : output allowance_runs_out_script ≡ allowance_runs_out_output
+unfolding digits tokens_within expression_at series_by grouped_by body_by solve_within walk path_within records_within words_within
+allowance_runs_out_row = refl
+
 append_two_lists_row : output append_two_lists_script ≡ append_two_lists_output
-unfolding digits tokens_within expression_at series_by grouped_by body_by solve_within walk records_within words_within
+unfolding digits tokens_within expression_at series_by grouped_by body_by solve_within walk path_within records_within words_within
 append_two_lists_row = refl
 
+append_with_its_status_row : output append_with_its_status_script ≡ append_with_its_status_output
+unfolding digits tokens_within expression_at series_by grouped_by body_by solve_within walk path_within records_within words_within
+append_with_its_status_row = refl
+
 arithmetic_row : output arithmetic_script ≡ arithmetic_output
-unfolding digits tokens_within expression_at series_by grouped_by body_by solve_within walk records_within words_within
+unfolding digits tokens_within expression_at series_by grouped_by body_by solve_within walk path_within records_within words_within
 arithmetic_row = refl
 
 bad_load_lines_row : output bad_load_lines_script ≡ bad_load_lines_output
-unfolding digits tokens_within expression_at series_by grouped_by body_by solve_within walk records_within words_within
+unfolding digits tokens_within expression_at series_by grouped_by body_by solve_within walk path_within records_within words_within
 bad_load_lines_row = refl
 
 bad_source_row : output bad_source_script ≡ bad_source_output
-unfolding digits tokens_within expression_at series_by grouped_by body_by solve_within walk records_within words_within
+unfolding digits tokens_within expression_at series_by grouped_by body_by solve_within walk path_within records_within words_within
 bad_source_row = refl
 
 blank_first_line_row : output blank_first_line_script ≡ blank_first_line_output
-unfolding digits tokens_within expression_at series_by grouped_by body_by solve_within walk records_within words_within
+unfolding digits tokens_within expression_at series_by grouped_by body_by solve_within walk path_within records_within words_within
 blank_first_line_row = refl
 
 blank_lines_row : output blank_lines_script ≡ blank_lines_output
-unfolding digits tokens_within expression_at series_by grouped_by body_by solve_within walk records_within words_within
+unfolding digits tokens_within expression_at series_by grouped_by body_by solve_within walk path_within records_within words_within
 blank_lines_row = refl
 
 blanks_between_accounts_row : output blanks_between_accounts_script ≡ blanks_between_accounts_output
-unfolding digits tokens_within expression_at series_by grouped_by body_by solve_within walk records_within words_within
+unfolding digits tokens_within expression_at series_by grouped_by body_by solve_within walk path_within records_within words_within
 blanks_between_accounts_row = refl
 
 bytes_behind_a_load_row : output bytes_behind_a_load_script ≡ bytes_behind_a_load_output
-unfolding digits tokens_within expression_at series_by grouped_by body_by solve_within walk records_within words_within
+unfolding digits tokens_within expression_at series_by grouped_by body_by solve_within walk path_within records_within words_within
 bytes_behind_a_load_row = refl
 
+charges_go_up_the_tree_row : output charges_go_up_the_tree_script ≡ charges_go_up_the_tree_output
+unfolding digits tokens_within expression_at series_by grouped_by body_by solve_within walk path_within records_within words_within
+charges_go_up_the_tree_row = refl
+
 clash_outweighs_waiting_row : output clash_outweighs_waiting_script ≡ clash_outweighs_waiting_output
-unfolding digits tokens_within expression_at series_by grouped_by body_by solve_within walk records_within words_within
+unfolding digits tokens_within expression_at series_by grouped_by body_by solve_within walk path_within records_within words_within
 clash_outweighs_waiting_row = refl
 
 clause_below_otherwise_closes_row : output clause_below_otherwise_closes_script ≡ clause_below_otherwise_closes_output
-unfolding digits tokens_within expression_at series_by grouped_by body_by solve_within walk records_within words_within
+unfolding digits tokens_within expression_at series_by grouped_by body_by solve_within walk path_within records_within words_within
 clause_below_otherwise_closes_row = refl
 
+codes_that_are_wrong_row : output codes_that_are_wrong_script ≡ codes_that_are_wrong_output
+unfolding digits tokens_within expression_at series_by grouped_by body_by solve_within walk path_within records_within words_within
+codes_that_are_wrong_row = refl
+
 commands_that_are_none_row : output commands_that_are_none_script ≡ commands_that_are_none_output
-unfolding digits tokens_within expression_at series_by grouped_by body_by solve_within walk records_within words_within
+unfolding digits tokens_within expression_at series_by grouped_by body_by solve_within walk path_within records_within words_within
 commands_that_are_none_row = refl
 
+commands_to_shoens_that_are_none_row : output commands_to_shoens_that_are_none_script ≡ commands_to_shoens_that_are_none_output
+unfolding digits tokens_within expression_at series_by grouped_by body_by solve_within walk path_within records_within words_within
+commands_to_shoens_that_are_none_row = refl
+
+control_breaks_off_row : output control_breaks_off_script ≡ control_breaks_off_output
+unfolding digits tokens_within expression_at series_by grouped_by body_by solve_within walk path_within records_within words_within
+control_breaks_off_row = refl
+
+control_is_closed_row : output control_is_closed_script ≡ control_is_closed_output
+unfolding digits tokens_within expression_at series_by grouped_by body_by solve_within walk path_within records_within words_within
+control_is_closed_row = refl
+
 countdown_row : output countdown_script ≡ countdown_output
-unfolding digits tokens_within expression_at series_by grouped_by body_by solve_within walk records_within words_within
+unfolding digits tokens_within expression_at series_by grouped_by body_by solve_within walk path_within records_within words_within
 countdown_row = refl
 
+cyclic_term_is_reported_row : output cyclic_term_is_reported_script ≡ cyclic_term_is_reported_output
+unfolding digits tokens_within expression_at series_by grouped_by body_by solve_within walk path_within records_within words_within
+cyclic_term_is_reported_row = refl
+
 doubled_account_row : output doubled_account_script ≡ doubled_account_output
-unfolding digits tokens_within expression_at series_by grouped_by body_by solve_within walk records_within words_within
+unfolding digits tokens_within expression_at series_by grouped_by body_by solve_within walk path_within records_within words_within
 doubled_account_row = refl
 
+ended_or_exhausted_row : output ended_or_exhausted_script ≡ ended_or_exhausted_output
+unfolding digits tokens_within expression_at series_by grouped_by body_by solve_within walk path_within records_within words_within
+ended_or_exhausted_row = refl
+
+failure_is_reported_row : output failure_is_reported_script ≡ failure_is_reported_output
+unfolding digits tokens_within expression_at series_by grouped_by body_by solve_within walk path_within records_within words_within
+failure_is_reported_row = refl
+
 first_of_two_clauses_row : output first_of_two_clauses_script ≡ first_of_two_clauses_output
-unfolding digits tokens_within expression_at series_by grouped_by body_by solve_within walk records_within words_within
+unfolding digits tokens_within expression_at series_by grouped_by body_by solve_within walk path_within records_within words_within
 first_of_two_clauses_row = refl
 
 forms_that_are_faults_row : output forms_that_are_faults_script ≡ forms_that_are_faults_output
-unfolding digits tokens_within expression_at series_by grouped_by body_by solve_within walk records_within words_within
+unfolding digits tokens_within expression_at series_by grouped_by body_by solve_within walk path_within records_within words_within
 forms_that_are_faults_row = refl
 
 fresh_variables_row : output fresh_variables_script ≡ fresh_variables_output
-unfolding digits tokens_within expression_at series_by grouped_by body_by solve_within walk records_within words_within
+unfolding digits tokens_within expression_at series_by grouped_by body_by solve_within walk path_within records_within words_within
 fresh_variables_row = refl
 
 goal_waits_for_ever_row : output goal_waits_for_ever_script ≡ goal_waits_for_ever_output
-unfolding digits tokens_within expression_at series_by grouped_by body_by solve_within walk records_within words_within
+unfolding digits tokens_within expression_at series_by grouped_by body_by solve_within walk path_within records_within words_within
 goal_waits_for_ever_row = refl
 
 goals_of_a_start_row : output goals_of_a_start_script ≡ goals_of_a_start_output
-unfolding digits tokens_within expression_at series_by grouped_by body_by solve_within walk records_within words_within
+unfolding digits tokens_within expression_at series_by grouped_by body_by solve_within walk path_within records_within words_within
 goals_of_a_start_row = refl
 
+greater_priority_of_a_body_row : output greater_priority_of_a_body_script ≡ greater_priority_of_a_body_output
+unfolding digits tokens_within expression_at series_by grouped_by body_by solve_within walk path_within records_within words_within
+greater_priority_of_a_body_row = refl
+
 greater_priority_then_least_number_row : output greater_priority_then_least_number_script ≡ greater_priority_then_least_number_output
-unfolding digits tokens_within expression_at series_by grouped_by body_by solve_within walk records_within words_within
+unfolding digits tokens_within expression_at series_by grouped_by body_by solve_within walk path_within records_within words_within
 greater_priority_then_least_number_row = refl
 
 higher_variable_takes_the_lower_row : output higher_variable_takes_the_lower_script ≡ higher_variable_takes_the_lower_output
-unfolding digits tokens_within expression_at series_by grouped_by body_by solve_within walk records_within words_within
+unfolding digits tokens_within expression_at series_by grouped_by body_by solve_within walk path_within records_within words_within
 higher_variable_takes_the_lower_row = refl
 
+inner_shoen_stays_stopped_row : output inner_shoen_stays_stopped_script ≡ inner_shoen_stays_stopped_output
+unfolding digits tokens_within expression_at series_by grouped_by body_by solve_within walk path_within records_within words_within
+inner_shoen_stays_stopped_row = refl
+
 integers_are_no_atoms_row : output integers_are_no_atoms_script ≡ integers_are_no_atoms_output
-unfolding digits tokens_within expression_at series_by grouped_by body_by solve_within walk records_within words_within
+unfolding digits tokens_within expression_at series_by grouped_by body_by solve_within walk path_within records_within words_within
 integers_are_no_atoms_row = refl
 
 last_line_without_a_feed_row : output last_line_without_a_feed_script ≡ last_line_without_a_feed_output
-unfolding digits tokens_within expression_at series_by grouped_by body_by solve_within walk records_within words_within
+unfolding digits tokens_within expression_at series_by grouped_by body_by solve_within walk path_within records_within words_within
 last_line_without_a_feed_row = refl
 
 lines_of_4096_bytes_row : output lines_of_4096_bytes_script ≡ lines_of_4096_bytes_output
-unfolding digits tokens_within expression_at series_by grouped_by body_by solve_within walk records_within words_within
+unfolding digits tokens_within expression_at series_by grouped_by body_by solve_within walk path_within records_within words_within
 lines_of_4096_bytes_row = refl
 
 load_of_no_bytes_row : output load_of_no_bytes_script ≡ load_of_no_bytes_output
-unfolding digits tokens_within expression_at series_by grouped_by body_by solve_within walk records_within words_within
+unfolding digits tokens_within expression_at series_by grouped_by body_by solve_within walk path_within records_within words_within
 load_of_no_bytes_row = refl
 
 load_without_a_last_feed_row : output load_without_a_last_feed_script ≡ load_without_a_last_feed_output
-unfolding digits tokens_within expression_at series_by grouped_by body_by solve_within walk records_within words_within
+unfolding digits tokens_within expression_at series_by grouped_by body_by solve_within walk path_within records_within words_within
 load_without_a_last_feed_row = refl
 
 loaded_twice_row : output loaded_twice_script ≡ loaded_twice_output
-unfolding digits tokens_within expression_at series_by grouped_by body_by solve_within walk records_within words_within
+unfolding digits tokens_within expression_at series_by grouped_by body_by solve_within walk path_within records_within words_within
 loaded_twice_row = refl
 
 loads_of_other_names_row : output loads_of_other_names_script ≡ loads_of_other_names_output
-unfolding digits tokens_within expression_at series_by grouped_by body_by solve_within walk records_within words_within
+unfolding digits tokens_within expression_at series_by grouped_by body_by solve_within walk path_within records_within words_within
 loads_of_other_names_row = refl
 
 loads_of_others_are_skipped_row : output loads_of_others_are_skipped_script ≡ loads_of_others_are_skipped_output
-unfolding digits tokens_within expression_at series_by grouped_by body_by solve_within walk records_within words_within
+unfolding digits tokens_within expression_at series_by grouped_by body_by solve_within walk path_within records_within words_within
 loads_of_others_are_skipped_row = refl
 
 module_without_clauses_row : output module_without_clauses_script ≡ module_without_clauses_output
-unfolding digits tokens_within expression_at series_by grouped_by body_by solve_within walk records_within words_within
+unfolding digits tokens_within expression_at series_by grouped_by body_by solve_within walk path_within records_within words_within
 module_without_clauses_row = refl
 
+modules_are_listed_row : output modules_are_listed_script ≡ modules_are_listed_output
+unfolding digits tokens_within expression_at series_by grouped_by body_by solve_within walk path_within records_within words_within
+modules_are_listed_row = refl
+
 modules_loaded_at_that_moment_row : output modules_loaded_at_that_moment_script ≡ modules_loaded_at_that_moment_output
-unfolding digits tokens_within expression_at series_by grouped_by body_by solve_within walk records_within words_within
+unfolding digits tokens_within expression_at series_by grouped_by body_by solve_within walk path_within records_within words_within
 modules_loaded_at_that_moment_row = refl
 
 names_before_the_first_space_row : output names_before_the_first_space_script ≡ names_before_the_first_space_output
-unfolding digits tokens_within expression_at series_by grouped_by body_by solve_within walk records_within words_within
+unfolding digits tokens_within expression_at series_by grouped_by body_by solve_within walk path_within records_within words_within
 names_before_the_first_space_row = refl
 
+names_from_codes_row : output names_from_codes_script ≡ names_from_codes_output
+unfolding digits tokens_within expression_at series_by grouped_by body_by solve_within walk path_within records_within words_within
+names_from_codes_row = refl
+
 names_in_quotes_row : output names_in_quotes_script ≡ names_in_quotes_output
-unfolding digits tokens_within expression_at series_by grouped_by body_by solve_within walk records_within words_within
+unfolding digits tokens_within expression_at series_by grouped_by body_by solve_within walk path_within records_within words_within
 names_in_quotes_row = refl
 
 names_of_63_and_64_bytes_row : output names_of_63_and_64_bytes_script ≡ names_of_63_and_64_bytes_output
-unfolding digits tokens_within expression_at series_by grouped_by body_by solve_within walk records_within words_within
+unfolding digits tokens_within expression_at series_by grouped_by body_by solve_within walk path_within records_within words_within
 names_of_63_and_64_bytes_row = refl
 
 nested_patterns_row : output nested_patterns_script ≡ nested_patterns_output
-unfolding digits tokens_within expression_at series_by grouped_by body_by solve_within walk records_within words_within
+unfolding digits tokens_within expression_at series_by grouped_by body_by solve_within walk path_within records_within words_within
 nested_patterns_row = refl
 
 no_accounts_row : output no_accounts_script ≡ no_accounts_output
-unfolding digits tokens_within expression_at series_by grouped_by body_by solve_within walk records_within words_within
+unfolding digits tokens_within expression_at series_by grouped_by body_by solve_within walk path_within records_within words_within
 no_accounts_row = refl
 
 no_cyclic_terms_row : output no_cyclic_terms_script ≡ no_cyclic_terms_output
-unfolding digits tokens_within expression_at series_by grouped_by body_by solve_within walk records_within words_within
+unfolding digits tokens_within expression_at series_by grouped_by body_by solve_within walk path_within records_within words_within
 no_cyclic_terms_row = refl
 
 numbers_of_19_digits_row : output numbers_of_19_digits_script ≡ numbers_of_19_digits_output
-unfolding digits tokens_within expression_at series_by grouped_by body_by solve_within walk records_within words_within
+unfolding digits tokens_within expression_at series_by grouped_by body_by solve_within walk path_within records_within words_within
 numbers_of_19_digits_row = refl
 
+orders_of_each_kind_row : output orders_of_each_kind_script ≡ orders_of_each_kind_output
+unfolding digits tokens_within expression_at series_by grouped_by body_by solve_within walk path_within records_within words_within
+orders_of_each_kind_row = refl
+
+orders_that_are_wrong_row : output orders_that_are_wrong_script ≡ orders_that_are_wrong_output
+unfolding digits tokens_within expression_at series_by grouped_by body_by solve_within walk path_within records_within words_within
+orders_that_are_wrong_row = refl
+
+orders_that_wait_row : output orders_that_wait_script ≡ orders_that_wait_output
+unfolding digits tokens_within expression_at series_by grouped_by body_by solve_within walk path_within records_within words_within
+orders_that_wait_row = refl
+
+other_messages_are_skipped_row : output other_messages_are_skipped_script ≡ other_messages_are_skipped_output
+unfolding digits tokens_within expression_at series_by grouped_by body_by solve_within walk path_within records_within words_within
+other_messages_are_skipped_row = refl
+
 otherwise_waits_row : output otherwise_waits_script ≡ otherwise_waits_output
-unfolding digits tokens_within expression_at series_by grouped_by body_by solve_within walk records_within words_within
+unfolding digits tokens_within expression_at series_by grouped_by body_by solve_within walk path_within records_within words_within
 otherwise_waits_row = refl
 
+overflow_is_reported_row : output overflow_is_reported_script ≡ overflow_is_reported_output
+unfolding digits tokens_within expression_at series_by grouped_by body_by solve_within walk path_within records_within words_within
+overflow_is_reported_row = refl
+
 places_of_one_variable_row : output places_of_one_variable_script ≡ places_of_one_variable_output
-unfolding digits tokens_within expression_at series_by grouped_by body_by solve_within walk records_within words_within
+unfolding digits tokens_within expression_at series_by grouped_by body_by solve_within walk path_within records_within words_within
 places_of_one_variable_row = refl
 
+priorities_are_clipped_row : output priorities_are_clipped_script ≡ priorities_are_clipped_output
+unfolding digits tokens_within expression_at series_by grouped_by body_by solve_within walk path_within records_within words_within
+priorities_are_clipped_row = refl
+
 producer_and_consumer_row : output producer_and_consumer_script ≡ producer_and_consumer_output
-unfolding digits tokens_within expression_at series_by grouped_by body_by solve_within walk records_within words_within
+unfolding digits tokens_within expression_at series_by grouped_by body_by solve_within walk path_within records_within words_within
 producer_and_consumer_row = refl
 
+report_that_holds_its_tail_row : output report_that_holds_its_tail_script ≡ report_that_holds_its_tail_output
+unfolding digits tokens_within expression_at series_by grouped_by body_by solve_within walk path_within records_within words_within
+report_that_holds_its_tail_row = refl
+
 reversed_list_row : output reversed_list_script ≡ reversed_list_output
-unfolding digits tokens_within expression_at series_by grouped_by body_by solve_within walk records_within words_within
+unfolding digits tokens_within expression_at series_by grouped_by body_by solve_within walk path_within records_within words_within
 reversed_list_row = refl
 
 second_variable_wakes_row : output second_variable_wakes_script ≡ second_variable_wakes_output
-unfolding digits tokens_within expression_at series_by grouped_by body_by solve_within walk records_within words_within
+unfolding digits tokens_within expression_at series_by grouped_by body_by solve_within walk path_within records_within words_within
 second_variable_wakes_row = refl
 
 seventeen_accounts_row : output seventeen_accounts_script ≡ seventeen_accounts_output
-unfolding digits tokens_within expression_at series_by grouped_by body_by solve_within walk records_within words_within
+unfolding digits tokens_within expression_at series_by grouped_by body_by solve_within walk path_within records_within words_within
 seventeen_accounts_row = refl
 
+shoens_32_deep_row : output shoens_32_deep_script ≡ shoens_32_deep_output
+unfolding digits tokens_within expression_at series_by grouped_by body_by solve_within walk path_within records_within words_within
+shoens_32_deep_row = refl
+
 sixteen_accounts_row : output sixteen_accounts_script ≡ sixteen_accounts_output
-unfolding digits tokens_within expression_at series_by grouped_by body_by solve_within walk records_within words_within
+unfolding digits tokens_within expression_at series_by grouped_by body_by solve_within walk path_within records_within words_within
 sixteen_accounts_row = refl
 
+stopped_and_resumed_row : output stopped_and_resumed_script ≡ stopped_and_resumed_output
+unfolding digits tokens_within expression_at series_by grouped_by body_by solve_within walk path_within records_within words_within
+stopped_and_resumed_row = refl
+
+stopped_once_row : output stopped_once_script ≡ stopped_once_output
+unfolding digits tokens_within expression_at series_by grouped_by body_by solve_within walk path_within records_within words_within
+stopped_once_row = refl
+
+stopped_shoen_terminates_row : output stopped_shoen_terminates_script ≡ stopped_shoen_terminates_output
+unfolding digits tokens_within expression_at series_by grouped_by body_by solve_within walk path_within records_within words_within
+stopped_shoen_terminates_row = refl
+
+stream_bound_by_the_program_row : output stream_bound_by_the_program_script ≡ stream_bound_by_the_program_output
+unfolding digits tokens_within expression_at series_by grouped_by body_by solve_within walk path_within records_within words_within
+stream_bound_by_the_program_row = refl
+
 truncated_load_row : output truncated_load_script ≡ truncated_load_output
-unfolding digits tokens_within expression_at series_by grouped_by body_by solve_within walk records_within words_within
+unfolding digits tokens_within expression_at series_by grouped_by body_by solve_within walk path_within records_within words_within
 truncated_load_row = refl
 
 truncated_load_of_another_name_row : output truncated_load_of_another_name_script ≡ truncated_load_of_another_name_output
-unfolding digits tokens_within expression_at series_by grouped_by body_by solve_within walk records_within words_within
+unfolding digits tokens_within expression_at series_by grouped_by body_by solve_within walk path_within records_within words_within
 truncated_load_of_another_name_row = refl
 
+two_shoens_on_one_stream_row : output two_shoens_on_one_stream_script ≡ two_shoens_on_one_stream_output
+unfolding digits tokens_within expression_at series_by grouped_by body_by solve_within walk path_within records_within words_within
+two_shoens_on_one_stream_row = refl
+
 unification_fails_whole_row : output unification_fails_whole_script ≡ unification_fails_whole_output
-unfolding digits tokens_within expression_at series_by grouped_by body_by solve_within walk records_within words_within
+unfolding digits tokens_within expression_at series_by grouped_by body_by solve_within walk path_within records_within words_within
 unification_fails_whole_row = refl
 
 unknown_predicates_fail_row : output unknown_predicates_fail_script ≡ unknown_predicates_fail_output
-unfolding digits tokens_within expression_at series_by grouped_by body_by solve_within walk records_within words_within
+unfolding digits tokens_within expression_at series_by grouped_by body_by solve_within walk path_within records_within words_within
 unknown_predicates_fail_row = refl
 
 value_is_cut_row : output value_is_cut_script ≡ value_is_cut_output
-unfolding digits tokens_within expression_at series_by grouped_by body_by solve_within walk records_within words_within
+unfolding digits tokens_within expression_at series_by grouped_by body_by solve_within walk path_within records_within words_within
 value_is_cut_row = refl
 
 value_of_4000_bytes_row : output value_of_4000_bytes_script ≡ value_of_4000_bytes_output
-unfolding digits tokens_within expression_at series_by grouped_by body_by solve_within walk records_within words_within
+unfolding digits tokens_within expression_at series_by grouped_by body_by solve_within walk path_within records_within words_within
 value_of_4000_bytes_row = refl
 
 variables_of_a_second_start_row : output variables_of_a_second_start_script ≡ variables_of_a_second_start_output
-unfolding digits tokens_within expression_at series_by grouped_by body_by solve_within walk records_within words_within
+unfolding digits tokens_within expression_at series_by grouped_by body_by solve_within walk path_within records_within words_within
 variables_of_a_second_start_row = refl
 
+waiting_goal_is_alive_row : output waiting_goal_is_alive_script ≡ waiting_goal_is_alive_output
+unfolding digits tokens_within expression_at series_by grouped_by body_by solve_within walk path_within records_within words_within
+waiting_goal_is_alive_row = refl
+
 woken_by_a_binding_row : output woken_by_a_binding_script ≡ woken_by_a_binding_output
-unfolding digits tokens_within expression_at series_by grouped_by body_by solve_within walk records_within words_within
+unfolding digits tokens_within expression_at series_by grouped_by body_by solve_within walk path_within records_within words_within
 woken_by_a_binding_row = refl
 
+woken_by_a_second_variable_row : output woken_by_a_second_variable_script ≡ woken_by_a_second_variable_output
+unfolding digits tokens_within expression_at series_by grouped_by body_by solve_within walk path_within records_within words_within
+woken_by_a_second_variable_row = refl
+
 words_and_line_ends_row : output words_and_line_ends_script ≡ words_and_line_ends_output
-unfolding digits tokens_within expression_at series_by grouped_by body_by solve_within walk records_within words_within
+unfolding digits tokens_within expression_at series_by grouped_by body_by solve_within walk path_within records_within words_within
 words_and_line_ends_row = refl
 
 -- all of them
 pub examples_hold : ExamplesHold
-examples_hold = record { a_failure_stops_nothing_else = a_failure_stops_nothing_else_row; account_name_of_16_bytes = account_name_of_16_bytes_row; account_name_of_17_bytes = account_name_of_17_bytes_row; account_with_a_capital = account_with_a_capital_row; accounts_alone = accounts_alone_row; append_two_lists = append_two_lists_row; arithmetic = arithmetic_row; bad_load_lines = bad_load_lines_row; bad_source = bad_source_row; blank_first_line = blank_first_line_row; blank_lines = blank_lines_row; blanks_between_accounts = blanks_between_accounts_row; bytes_behind_a_load = bytes_behind_a_load_row; clash_outweighs_waiting = clash_outweighs_waiting_row; clause_below_otherwise_closes = clause_below_otherwise_closes_row; commands_that_are_none = commands_that_are_none_row; countdown = countdown_row; doubled_account = doubled_account_row; first_of_two_clauses = first_of_two_clauses_row; forms_that_are_faults = forms_that_are_faults_row; fresh_variables = fresh_variables_row; goal_waits_for_ever = goal_waits_for_ever_row; goals_of_a_start = goals_of_a_start_row; greater_priority_then_least_number = greater_priority_then_least_number_row; higher_variable_takes_the_lower = higher_variable_takes_the_lower_row; integers_are_no_atoms = integers_are_no_atoms_row; last_line_without_a_feed = last_line_without_a_feed_row; lines_of_4096_bytes = lines_of_4096_bytes_row; load_of_no_bytes = load_of_no_bytes_row; load_without_a_last_feed = load_without_a_last_feed_row; loaded_twice = loaded_twice_row; loads_of_other_names = loads_of_other_names_row; loads_of_others_are_skipped = loads_of_others_are_skipped_row; module_without_clauses = module_without_clauses_row; modules_loaded_at_that_moment = modules_loaded_at_that_moment_row; names_before_the_first_space = names_before_the_first_space_row; names_in_quotes = names_in_quotes_row; names_of_63_and_64_bytes = names_of_63_and_64_bytes_row; nested_patterns = nested_patterns_row; no_accounts = no_accounts_row; no_cyclic_terms = no_cyclic_terms_row; numbers_of_19_digits = numbers_of_19_digits_row; otherwise_waits = otherwise_waits_row; places_of_one_variable = places_of_one_variable_row; producer_and_consumer = producer_and_consumer_row; reversed_list = reversed_list_row; second_variable_wakes = second_variable_wakes_row; seventeen_accounts = seventeen_accounts_row; sixteen_accounts = sixteen_accounts_row; truncated_load = truncated_load_row; truncated_load_of_another_name = truncated_load_of_another_name_row; unification_fails_whole = unification_fails_whole_row; unknown_predicates_fail = unknown_predicates_fail_row; value_is_cut = value_is_cut_row; value_of_4000_bytes = value_of_4000_bytes_row; variables_of_a_second_start = variables_of_a_second_start_row; woken_by_a_binding = woken_by_a_binding_row; words_and_line_ends = words_and_line_ends_row }
+examples_hold = record { a_failure_stops_nothing_else = a_failure_stops_nothing_else_row; abort_ends_what_is_below = abort_ends_what_is_below_row; abort_with_two_children = abort_with_two_children_row; aborted_child_ends_its_parent = aborted_child_ends_its_parent_row; account_name_of_16_bytes = account_name_of_16_bytes_row; account_name_of_17_bytes = account_name_of_17_bytes_row; account_with_a_capital = account_with_a_capital_row; accounts_alone = accounts_alone_row; allow_of_a_variable_waits = allow_of_a_variable_waits_row; allow_raises_an_allowance = allow_raises_an_allowance_row; allowance_has_a_greatest = allowance_has_a_greatest_row; allowance_of_0 = allowance_of_0_row; allowance_runs_out = allowance_runs_out_row; append_two_lists = append_two_lists_row; append_with_its_status = append_with_its_status_row; arithmetic = arithmetic_row; bad_load_lines = bad_load_lines_row; bad_source = bad_source_row; blank_first_line = blank_first_line_row; blank_lines = blank_lines_row; blanks_between_accounts = blanks_between_accounts_row; bytes_behind_a_load = bytes_behind_a_load_row; charges_go_up_the_tree = charges_go_up_the_tree_row; clash_outweighs_waiting = clash_outweighs_waiting_row; clause_below_otherwise_closes = clause_below_otherwise_closes_row; codes_that_are_wrong = codes_that_are_wrong_row; commands_that_are_none = commands_that_are_none_row; commands_to_shoens_that_are_none = commands_to_shoens_that_are_none_row; control_breaks_off = control_breaks_off_row; control_is_closed = control_is_closed_row; countdown = countdown_row; cyclic_term_is_reported = cyclic_term_is_reported_row; doubled_account = doubled_account_row; ended_or_exhausted = ended_or_exhausted_row; failure_is_reported = failure_is_reported_row; first_of_two_clauses = first_of_two_clauses_row; forms_that_are_faults = forms_that_are_faults_row; fresh_variables = fresh_variables_row; goal_waits_for_ever = goal_waits_for_ever_row; goals_of_a_start = goals_of_a_start_row; greater_priority_of_a_body = greater_priority_of_a_body_row; greater_priority_then_least_number = greater_priority_then_least_number_row; higher_variable_takes_the_lower = higher_variable_takes_the_lower_row; inner_shoen_stays_stopped = inner_shoen_stays_stopped_row; integers_are_no_atoms = integers_are_no_atoms_row; last_line_without_a_feed = last_line_without_a_feed_row; lines_of_4096_bytes = lines_of_4096_bytes_row; load_of_no_bytes = load_of_no_bytes_row; load_without_a_last_feed = load_without_a_last_feed_row; loaded_twice = loaded_twice_row; loads_of_other_names = loads_of_other_names_row; loads_of_others_are_skipped = loads_of_others_are_skipped_row; module_without_clauses = module_without_clauses_row; modules_are_listed = modules_are_listed_row; modules_loaded_at_that_moment = modules_loaded_at_that_moment_row; names_before_the_first_space = names_before_the_first_space_row; names_from_codes = names_from_codes_row; names_in_quotes = names_in_quotes_row; names_of_63_and_64_bytes = names_of_63_and_64_bytes_row; nested_patterns = nested_patterns_row; no_accounts = no_accounts_row; no_cyclic_terms = no_cyclic_terms_row; numbers_of_19_digits = numbers_of_19_digits_row; orders_of_each_kind = orders_of_each_kind_row; orders_that_are_wrong = orders_that_are_wrong_row; orders_that_wait = orders_that_wait_row; other_messages_are_skipped = other_messages_are_skipped_row; otherwise_waits = otherwise_waits_row; overflow_is_reported = overflow_is_reported_row; places_of_one_variable = places_of_one_variable_row; priorities_are_clipped = priorities_are_clipped_row; producer_and_consumer = producer_and_consumer_row; report_that_holds_its_tail = report_that_holds_its_tail_row; reversed_list = reversed_list_row; second_variable_wakes = second_variable_wakes_row; seventeen_accounts = seventeen_accounts_row; shoens_32_deep = shoens_32_deep_row; sixteen_accounts = sixteen_accounts_row; stopped_and_resumed = stopped_and_resumed_row; stopped_once = stopped_once_row; stopped_shoen_terminates = stopped_shoen_terminates_row; stream_bound_by_the_program = stream_bound_by_the_program_row; truncated_load = truncated_load_row; truncated_load_of_another_name = truncated_load_of_another_name_row; two_shoens_on_one_stream = two_shoens_on_one_stream_row; unification_fails_whole = unification_fails_whole_row; unknown_predicates_fail = unknown_predicates_fail_row; value_is_cut = value_is_cut_row; value_of_4000_bytes = value_of_4000_bytes_row; variables_of_a_second_start = variables_of_a_second_start_row; waiting_goal_is_alive = waiting_goal_is_alive_row; woken_by_a_binding = woken_by_a_binding_row; woken_by_a_second_variable = woken_by_a_second_variable_row; words_and_line_ends = words_and_line_ends_row }
