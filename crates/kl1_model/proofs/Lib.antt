@@ -26,3 +26,6 @@ pub mod VerdictWaits
 pub mod OpenSections
 pub mod TermStays
 pub mod ReadClauses
+pub mod TreeKeeps
+pub mod TreeGrows
+pub mod TreeSteps

@@ -39,5 +39,6 @@ pub mod WaitsLaws
 pub mod ScanLaws
 pub mod Command
 pub mod Script
+pub mod TreeLaws
 pub mod UnifyLaws
 pub mod ReadLaws
