@@ -1,17 +1,15 @@
 -- Rows of shoens: accounts at their limits, and the order of refusals.
-use Rattle.std.specs.Prelude.{◌≡◌, ◌^◌, ℕ, zero, suc, codes, List, [], ◌∷◌, ◌++◌, Option, Some, None, pos, replicate, decimal, length, option_map}
+use Rattle.std.specs.Prelude.{◌≡◌, ◌^◌, ℕ, zero, suc, codes, List, [], ◌∷◌, ◌++◌, pos, replicate, decimal}
 use Rattle.kl1_model.specs.declared.message.Message.TheVariants.{Stop, Allow}
-use Rattle.kl1_model.specs.declared.condition.Condition.TheVariants.{Exhausted, Running}
-use Rattle.kl1_model.specs.declared.life.Life.TheVariants.{Terminated}
-use Rattle.kl1_model.specs.Term.{Term, variable, integer, atom, structure, none, more}
+use Rattle.kl1_model.specs.declared.condition.Condition.TheVariants.{Running}
+use Rattle.kl1_model.specs.Term.{Term, variable, integer, atom}
 use Rattle.kl1_model.specs.Meaning.{nil, cell, pair}
 use Rattle.kl1_model.specs.Print.{print}
-use Rattle.kl1_model.specs.Module.{Module}
-use Rattle.kl1_model.specs.State.{monitor, reduces, Goal, Shoen, State, fresh}
-use Rattle.kl1_model.specs.Tree.{path, depth_of, charged_of, goals_alive}
-use Rattle.kl1_model.specs.Event.{load, start, control, reduce, read, status, reports, value, modules, loaded, opened, sent, reduced, shown, status_is, listed, refused, syntax, exists, no_shoen, shoen_ended, step_refused, too_many_names, limit_passed, journal_full}
+use Rattle.kl1_model.specs.State.{monitor, reduces, Goal, State, fresh}
+use Rattle.kl1_model.specs.Tree.{path, goals_alive}
+use Rattle.kl1_model.specs.Event.{load, start, control, reduce, read, status, reports, loaded, opened, sent, reduced, status_is, listed, refused, syntax, exists, no_shoen, shoen_ended, step_refused, too_many_names, limit_passed, journal_full}
 use Rattle.kl1_model.specs.Step.{step}
-use Rattle.kl1_laws.specs.AccountRows.{after_events, after_lines, app_text, equals, having, lines, numbers, one_fact, stream, true_term, with_entries}
+use Rattle.kl1_laws.specs.AccountRows.{after_events, after_lines, equals, having, lines, numbers, stream, true_term, with_entries}
 
 -- an account that is fresh
 abbrev pub nothing_done : State

@@ -29,3 +29,4 @@ pub mod ReadClauses
 pub mod TreeKeeps
 pub mod TreeGrows
 pub mod TreeSteps
+pub mod TreeEndings

@@ -1,7 +1,9 @@
 -- Each event leaves the shoens of an account a tree, and charges just the path of the goal that it reduces.
-use Rattle.std.proofs.Common.{◌≡◌, ◌≤◌, ◌<◌, ℕ, zero, suc, ◌+◌, ◌==◌, ◌||◌, not, ◌&&◌, Bool, true, false, if◌then◌else◌, List, [], ◌∷◌, ◌++◌, refl, sym, ap, ap₂, ◌∙◌, subst, arith}
-use Rattle.std.specs.Prelude.{nat_lt, nat_le, map, filter, find, length, get_or, count_by, sum_by, cond, Option, Some, None, option_map, ◌⊎◌}
-use Rattle.std.specs.List.{AllByRecursion}
+use Rattle.std.proofs.Common.{not, ◌||◌, ◌≡◌, ◌≤◌, ◌<◌, ℕ, zero, suc, ◌+◌, ◌==◌, Bool, true, false, if◌then◌else◌, List, [], ◌∷◌, ◌++◌, refl, sym, ap, ap₂, ◌∙◌, subst, arith}
+use Rattle.std.specs.Prelude.{nat_le, length, get_or, count_by, cond, Option, Some, None}
+use Rattle.std.specs.List.{AllByRecursion, list_any}
+use Rattle.std.proofs.Math.Bool.{or-true}
+use Rattle.std.proofs.lemmas.Bool.{false≢true, eqb-true}
 use Rattle.std.proofs.lemmas.List.{get_or_append_left, append-nil}
 use Rattle.std.proofs.lemmas.List.Sums.{sum_by-cons}
 use Rattle.std.proofs.lemmas.Option.{none-some, same_Some}
@@ -10,15 +12,15 @@ use Rattle.kl1_model.specs.Term.{Term, atom, Replacement}
 use Rattle.kl1_model.specs.Unify.{solve}
 use Rattle.kl1_model.specs.Module.{is_among}
 use Rattle.kl1_model.specs.Match.{Candidate}
-use Rattle.kl1_model.specs.State.{Task, monitor, reduces, Goal, Shoen, State, fresh, goal_at, without_goal, with_name}
-use Rattle.kl1_model.specs.Tree.{parents_of, path_within, path, is_on_path, charged_of, charge}
+use Rattle.kl1_model.specs.State.{Goal, Shoen, State, goal_at, without_goal, with_name}
+use Rattle.kl1_model.specs.Tree.{parents_of, path_within, path, is_on_path, charged_of, charge, is_blocking_at}
 use Rattle.kl1_model.specs.Control.{Control}
 use Rattle.kl1_model.specs.Event.{with_entry}
 use Rattle.kl1_model.specs.Report.{report, exception, failure, exhaustion, started_report, exhausted_report}
 use Rattle.kl1_model.specs.Ending.{settle, settle_charged}
 use Rattle.kl1_model.specs.Opening.{opening_goals, with_shoen, open_shoen, has_room_for_child, child_shoen, open_child}
 use Rattle.kl1_model.specs.Reduction.{Move, commits, raises, unifies, names, opens, goes, moves, reads, goals_from, has_room_for, committed, unified, equation, or_exhaustion, moved, heard, acted}
-use Rattle.kl1_model.specs.TreeLaws.{ParentsAreLower, PathsGoOn, AreWithin, IsTree, FreshIsTree, ChargesPath}
+use Rattle.kl1_model.specs.TreeLaws.{ParentsAreLower, PathsGoOn, AreWithin, IsTree, ChargesPath, HeldBackBelow}
 use Rattle.kl1_model.proofs.TreeKeeps.{Keeps, keeps_same, keeps_both, kept_tree, keeps_if, keeps_all, keeps_report, keeps_fewer, keeps_settle, keeps_settle_charged, keeps_heard}
 
 -- ---- paths
@@ -54,6 +56,18 @@ path_among ps qs lower (suc m) (suc n) few =
     ap (λ (k : ℕ). suc n ∷ path_within m (ps ++ qs) k) (get_or_append_left ps qs 0 n l)
     ∙ ap (λ (ks : List ℕ). suc n ∷ ks) (path_among ps qs lower m (get_or ps n 0) (omega (arith, lower n, l)))
 
+among_case : (p : ℕ → Bool) (a n : ℕ) (ns : List ℕ) (c : Bool) → a == n ≡ c → (is_among a ns ≡ true → list_any p ns ≡ true) → (c || is_among a ns) ≡ true → p a ≡ true → (p n || list_any p ns) ≡ true
+among_case p a n ns true d f e h = ap (λ b. b || list_any p ns) (ap p (sym (eqb-true a n d)) ∙ h)
+among_case p a n ns false d f e h = ap (λ b. p n || b) (f e) ∙ or-true (p n)
+
+-- a test that holds of a number among others holds of one of them
+among_any : (p : ℕ → Bool) (a : ℕ) (ns : List ℕ) → is_among a ns ≡ true → p a ≡ true → list_any p ns ≡ true
+among_any p a [] e h = absurd (false≢true e)
+among_any p a (n ∷ ns) e h = among_case p a n ns (a == n) refl (λ f. among_any p a ns f h) e h
+
+pub held_back_below : HeldBackBelow
+held_back_below s n a on blocks = ap not (among_any (is_blocking_at s) a (path s.shoens n) on blocks)
+
 -- ---- charges
 
 pub charges_path : ChargesPath
@@ -70,7 +84,7 @@ charged_among s t more a tree parents work =
     ap (λ ps. count_by (λ w. is_among a (path_within w ps w)) t.work) parents
     ∙ ap (count_by (λ w. is_among a (path_within w (parents_of s.shoens ++ more) w))) work
     ∙ count_same (λ w. is_among a (path_within w (parents_of s.shoens ++ more) w)) (λ w. is_among a (path_within w (parents_of s.shoens) w)) s.last_shoen
-      (λ w few. ap (is_among a) (path_among (parents_of s.shoens) more tree.lower w w (subst (λ n. w ≤ n) (sym tree.count) few))) s.work tree.worked
+    (λ w few. ap (is_among a) (path_among (parents_of s.shoens) more tree.lower w w (subst (λ n. w ≤ n) (sym tree.count) few))) s.work tree.worked
 
 -- ---- openings
 

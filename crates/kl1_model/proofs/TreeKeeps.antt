@@ -1,6 +1,6 @@
 -- What effects keep of the tree of shoens and of charges.
-use Rattle.std.proofs.Common.{◌≡◌, ◌≤◌, ℕ, zero, suc, ◌==◌, ◌||◌, not, ◌&&◌, Bool, true, false, if◌then◌else◌, List, [], ◌∷◌, ◌++◌, refl, sym, ap, ap₂, ◌∙◌, subst}
-use Rattle.std.specs.Prelude.{nat_lt, map, filter, length, get_or, Option, Some, None, option_map}
+use Rattle.std.proofs.Common.{◌≡◌, ◌≤◌, ℕ, suc, ◌==◌, ◌||◌, not, ◌&&◌, Bool, true, false, if◌then◌else◌, List, [], ◌∷◌, refl, sym, ap, ap₂, ◌∙◌, subst}
+use Rattle.std.specs.Prelude.{nat_lt, map, filter, length, get_or, Option, Some, None}
 use Rattle.std.specs.List.{AllByRecursion}
 use Rattle.kl1_model.specs.Limits.{most_reports}
 use Rattle.kl1_model.specs.declared.life.Life.TheVariants.{Terminated, Aborted}
@@ -8,9 +8,9 @@ use Rattle.kl1_model.specs.declared.message.Message.{Message}
 use Rattle.kl1_model.specs.declared.message.Message.TheVariants.{Stop, Start, Abort, Allow}
 use Rattle.kl1_model.specs.Term.{Term, variable, integer, atom, structure, Replacement, occurs}
 use Rattle.kl1_model.specs.Meaning.{nil, cell}
-use Rattle.kl1_model.specs.State.{Goal, Shoen, State, shoen_at, replace_in_goal, replace_in_shoen, replace_in_state, replace_all, change_shoen, without_goal, is_living}
+use Rattle.kl1_model.specs.State.{Goal, Shoen, State, shoen_at, replace_in_goal, replace_in_shoen, replace_in_state, replace_all, change_shoen, is_living}
 use Rattle.kl1_model.specs.Tree.{parents_of, path, is_on_path}
-use Rattle.kl1_model.specs.Control.{Control, silent, tells, tells_other, ends, breaks_off}
+use Rattle.kl1_model.specs.Control.{Control, awaits_message, tells, tells_other, ends, breaks_off}
 use Rattle.kl1_model.specs.Report.{broken_at, reported_at, report_of, report, report_each, closed_at, close_of, close, exception, illegal_input, exhausted_report, terminated_report, aborted_report, stopped_report, resumed_report}
 use Rattle.kl1_model.specs.Ending.{without_monitor, ended_at, terminate, terminate_each, ending_of, settle, reached_of, settle_charged, aborted_below, ended_below, abort}
 use Rattle.kl1_model.specs.Reduction.{stopped_of, resumed_of, allowed_more, obeyed, with_control, heard}
@@ -182,7 +182,7 @@ obeyed_keeps n Abort s = keeps_abort n s
 obeyed_keeps n (Allow extra) s = keeps_change n (allowed_more extra) s (λ h. refl)
 
 pub keeps_heard : (n : ℕ) (c : Control) (s : State) → Keeps s (heard n c s)
-keeps_heard n (silent v) s = keeps_same s
+keeps_heard n (awaits_message v) s = keeps_same s
 keeps_heard n (tells m rest) s =
     let t = with_control n rest s in
     keeps_both s t (obeyed n m t) (keeps_change n (λ h. record h { control = rest }) s (λ h. refl)) (obeyed_keeps n m t)

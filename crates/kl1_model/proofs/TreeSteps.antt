@@ -1,7 +1,7 @@
 -- What each event does to the tree of shoens and to charges, and that a refused event changes nothing.
-use Rattle.std.proofs.Common.{◌≡◌, ◌≤◌, ℕ, zero, suc, ◌+◌, ◌==◌, ◌&&◌, Bool, true, false, if◌then◌else◌, List, [], ◌∷◌, ◌++◌, refl, sym, ap, ap₂, ◌∙◌, subst, arith}
+use Rattle.std.proofs.Common.{◌≡◌, ◌≤◌, ℕ, suc, ◌+◌, ◌==◌, ◌&&◌, Bool, true, false, if◌then◌else◌, List, refl, sym, ap, ◌∙◌, subst, arith}
 use Rattle.std.proofs.lemmas.Bool.{false≢true}
-use Rattle.std.specs.Prelude.{nat_lt, nat_le, length, map, find, Option, Some, None, option_map, is_some}
+use Rattle.std.specs.Prelude.{nat_lt, nat_le, length, Option, Some, None, option_map, is_some}
 use Rattle.std.proofs.lemmas.Option.{none-some, same_Some}
 use Rattle.kl1_model.specs.declared.message.Message.{Message}
 use Rattle.kl1_model.specs.Limits.{most_modules}
@@ -10,16 +10,16 @@ use Rattle.kl1_model.specs.Meaning.{cell, highest}
 use Rattle.kl1_model.specs.Nodes.{goal_nodes}
 use Rattle.kl1_model.specs.Module.{Module, Reading, good, bad, read_module}
 use Rattle.kl1_model.specs.Match.{call_of, module_of}
-use Rattle.kl1_model.specs.State.{Task, monitor, reduces, Goal, Origin, Shoen, State, fresh, goal_at, shoen_at, names_of, names_of_module, with_names, replace_in_state, change_shoen, is_monitor, is_living}
-use Rattle.kl1_model.specs.Tree.{parents_of, is_on_path, charged_of, is_enabled}
-use Rattle.kl1_model.specs.Control.{Control, silent, tells, tells_other, ends, breaks_off, control_of, message_term, message_nodes}
-use Rattle.kl1_model.specs.Event.{Refusal, syntax, source, exists, no_shoen, shoen_ended, step_refused, too_many_names, limit_passed, journal_full, Query, value, status, reports, modules, is_quiet, Event, load, start, control, reduce, read, Reply, loaded, opened, sent, reduced, refused, Stepped, refuse, is_number, most_source_bytes, most_names, most_entries, with_entry, recorded, named, limited}
+use Rattle.kl1_model.specs.State.{Task, monitor, reduces, Goal, Origin, Shoen, State, goal_at, shoen_at, names_of, names_of_module, with_names, replace_in_state, change_shoen, is_monitor, is_living}
+use Rattle.kl1_model.specs.Tree.{is_on_path, charged_of, is_enabled}
+use Rattle.kl1_model.specs.Control.{Control, awaits_message, tells, tells_other, ends, breaks_off, control_of, message_term, message_nodes}
+use Rattle.kl1_model.specs.Event.{Refusal, syntax, source, exists, no_shoen, shoen_ended, step_refused, too_many_names, limit_passed, journal_full, Query, value, status, reports, modules, is_quiet, load, start, control, reduce, read, Reply, loaded, opened, sent, reduced, Stepped, refuse, is_number, most_source_bytes, most_names, most_entries, with_entry, recorded, named, limited}
 use Rattle.kl1_model.specs.Reduction.{Move, Action, moves, reads, term_move, read_action, monitor_action, task_action, action_of, acted, reduced_by, reduce_goal}
-use Rattle.kl1_model.specs.Opening.{may_start, has_room_to_start, with_next_variables, started_shoen, start_goal, open_shoen}
+use Rattle.kl1_model.specs.Opening.{may_start, has_room_to_start, with_next_variables, started_shoen, start_goal}
 use Rattle.kl1_model.specs.Sending.{may_send, has_room_to_send, with_control_tail, sent_on, send_by, send_to}
 use Rattle.kl1_model.specs.Asking.{origin_at, value_of, status_of, reports_of, answer}
 use Rattle.kl1_model.specs.Step.{with_module, load_module, step}
-use Rattle.kl1_model.specs.TreeLaws.{IsTree, FreshIsTree, TreesStay, ReductionsCharge, MonitorsChargeNobody, is_reduction, OthersChargeNobody, is_refused, RefusalsChangeNothing}
+use Rattle.kl1_model.specs.TreeLaws.{IsTree, FreshIsTree, TreesStay, ReductionsCharge, MonitorsChargeNobody, OthersChargeNobody, is_refused, RefusalsChangeNothing}
 use Rattle.kl1_model.proofs.TreeKeeps.{Keeps, keeps_same, keeps_both, kept_tree, keeps_change, keeps_replace}
 use Rattle.kl1_model.proofs.TreeGrows.{Follows, follows_kept, follows_then, opening_follows, acted_move, acted_reading, charged_among, charged_kept, with_entry_keeps, found_within}
 
@@ -170,7 +170,7 @@ is_move (moves t m) = true
 is_move (reads c) = false
 
 no_move : (x : Control) (t : Term) (m : Move) → read_action x ≡ Some (moves t m) → ⊥
-no_move (silent v) t m e = none-some (moves t m) e
+no_move (awaits_message v) t m e = none-some (moves t m) e
 no_move (tells n rest) t m e = false≢true (ap is_move (same_Some (reads (tells n rest)) (moves t m) e))
 no_move (tells_other n rest) t m e = false≢true (ap is_move (same_Some (reads (tells_other n rest)) (moves t m) e))
 no_move ends t m e = false≢true (ap is_move (same_Some (reads ends) (moves t m) e))

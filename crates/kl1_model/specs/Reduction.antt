@@ -1,5 +1,5 @@
 -- Reductions: what a goal can do, and what comes of it.
-use Rattle.std.specs.Prelude.{ℕ, suc, ◌+◌, ◌==◌, nat_le, min, not, ◌&&◌, Bool, true, false, if◌then◌else◌, List, [], ◌∷◌, ◌++◌, length, map, find, codes, bytes_eq, Option, Some, None, option_map}
+use Rattle.std.specs.Prelude.{ℕ, suc, ◌+◌, ◌==◌, nat_le, min, ◌&&◌, Bool, true, false, if◌then◌else◌, List, [], ◌∷◌, ◌++◌, length, map, find, codes, bytes_eq, Option, Some, None, option_map}
 use Rattle.kl1_model.specs.Limits.{most_goals, most_variables, most_nodes, most_names, most_allowance}
 use Rattle.kl1_model.specs.Term.{Term, integer, atom, structure, none, more, Replacement}
 use Rattle.kl1_model.specs.declared.number.Number.{Number}
@@ -14,7 +14,7 @@ use Rattle.kl1_model.specs.Module.{Clause, goals_of, Module}
 use Rattle.kl1_model.specs.Match.{Call, call_of, Candidate, candidates_of, fails}
 use Rattle.kl1_model.specs.Instance.{body_instance, body_priorities, fresh_variables}
 use Rattle.kl1_model.specs.Look.{Spelling, spelled, awaits_code, misspelled, spelling, most_spelled, Look, right, waits_on, wrong, Order, order_look}
-use Rattle.kl1_model.specs.Control.{Control, silent, tells, tells_other, ends, breaks_off, control_of}
+use Rattle.kl1_model.specs.Control.{Control, awaits_message, tells, tells_other, ends, breaks_off, control_of}
 use Rattle.kl1_model.specs.State.{Task, monitor, reduces, Goal, Shoen, State, shoen_at, replace_all, change_shoen, without_goal, with_name}
 use Rattle.kl1_model.specs.Tree.{goals_alive, charge, is_enabled}
 use Rattle.kl1_model.specs.Event.{step_refused, reduced, Stepped, refuse, with_entry, recorded}
@@ -105,7 +105,7 @@ pub data Action : Type 0 where
 
 -- what a monitor reads, where it doesn't wait
 abbrev pub read_action : Control → Option Action
-read_action (silent v) = None
+read_action (awaits_message v) = None
 read_action (tells m rest) = Some (reads (tells m rest))
 read_action (tells_other m rest) = Some (reads (tells_other m rest))
 read_action ends = Some (reads ends)
@@ -208,7 +208,7 @@ with_control n rest s = change_shoen n (λ h. record h { control = rest }) s
 
 -- the effect of what the monitor of a shoen reads
 abbrev pub heard : ℕ → Control → State → State
-heard n (silent v) s = s
+heard n (awaits_message v) s = s
 heard n (tells m rest) s = obeyed n m (with_control n rest s)
 heard n (tells_other m rest) s = report n (exception illegal_input m) (with_control n rest s)
 heard n ends s = without_monitor n s

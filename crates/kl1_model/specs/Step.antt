@@ -1,12 +1,10 @@
 -- The step: what each event does to an account, and the reply.
-use Rattle.std.specs.Prelude.{ℕ, suc, nat_le, nat_lt, ◌&&◌, if◌then◌else◌, List, [], ◌∷◌, ◌++◌, length, Option, Some, None, is_some, option_and_then}
+use Rattle.std.specs.Prelude.{suc, nat_le, nat_lt, ◌&&◌, if◌then◌else◌, [], ◌∷◌, ◌++◌, length, is_some}
 use Rattle.kl1_model.specs.Limits.{most_modules}
-use Rattle.kl1_model.specs.declared.message.Message.{Message}
-use Rattle.kl1_model.specs.declared.message.Message.TheVariants.{Allow}
 use Rattle.kl1_model.specs.Module.{Module, Reading, good, bad, read_module}
 use Rattle.kl1_model.specs.Match.{module_of}
 use Rattle.kl1_model.specs.State.{State, goal_at, shoen_at, names_of, names_of_module, with_names}
-use Rattle.kl1_model.specs.Event.{syntax, source, exists, Query, Event, load, start, control, reduce, read, loaded, opened, Stepped, refuse, is_number, most_source_bytes, with_entry, recorded, named, limited}
+use Rattle.kl1_model.specs.Event.{syntax, source, exists, Event, load, start, control, reduce, read, loaded, opened, Stepped, refuse, is_number, most_source_bytes, with_entry, recorded, named, limited}
 use Rattle.kl1_model.specs.Reduction.{reduce_goal}
 use Rattle.kl1_model.specs.Opening.{may_start, has_room_to_start, start_goal}
 use Rattle.kl1_model.specs.Sending.{may_send, send_to}

@@ -1,12 +1,12 @@
 -- What holds of the tree of shoens, of what they are charged, and of how they end.
-use Rattle.std.specs.Prelude.{◌≡◌, ◌≤◌, ℕ, suc, ◌+◌, not, ◌&&◌, Bool, true, false, if◌then◌else◌, List, [], ◌∷◌, map, filter, length, get_or, Option, Some}
+use Rattle.std.specs.Prelude.{◌≡◌, ◌≤◌, ℕ, suc, ◌+◌, not, ◌&&◌, Bool, true, false, if◌then◌else◌, List, ◌∷◌, map, filter, length, get_or, Some}
 use Rattle.std.specs.List.{AllByRecursion}
 use Rattle.kl1_model.specs.declared.life.Life.{Life}
 use Rattle.kl1_model.specs.declared.life.Life.TheVariants.{Terminated, Aborted}
 use Rattle.kl1_model.specs.Module.{is_among}
 use Rattle.kl1_model.specs.State.{Goal, Shoen, State, fresh, goal_at, is_monitor, is_living}
-use Rattle.kl1_model.specs.Tree.{parents_of, path, is_on_path, charged_of, charge}
-use Rattle.kl1_model.specs.Event.{Event, load, start, control, reduce, read, Reply, loaded, opened, sent, reduced, ran, shown, status_is, listed, quiet_is, refused}
+use Rattle.kl1_model.specs.Tree.{parents_of, path, is_on_path, charged_of, charge, is_blocking_at, is_enabled_in}
+use Rattle.kl1_model.specs.Event.{Event, reduce, Reply, reduced, refused}
 use Rattle.kl1_model.specs.Ending.{has_goal, ending_of, has_reached, reached_of, settle, settle_charged, abort}
 use Rattle.kl1_model.specs.Step.{step}
 
@@ -39,6 +39,10 @@ FreshIsTree = (name : List ℕ) → IsTree (fresh name)
 -- and each event leaves a tree a tree
 abbrev pub TreesStay : Type 0
 TreesStay = (s : State) (e : Event) → IsTree s → IsTree (step s e).state
+
+-- goals below a shoen that holds them back are not enabled
+abbrev pub HeldBackBelow : Type 0
+HeldBackBelow = (s : State) (n a : ℕ) → is_on_path s.shoens a n ≡ true → is_blocking_at s a ≡ true → is_enabled_in s n ≡ false
 
 -- ---- charges
 
