@@ -1,10 +1,11 @@
 //! Laws of shoens: of their tree, of what they are charged, and of how they end.
-ghost use Rattle.kl1_model.specs.TreeLaws.{PathsGoOn, FreshIsTree, TreesStay, HeldBackBelow, ChargesPath, ReductionsCharge, MonitorsChargeNobody, OthersChargeNobody, RefusalsChangeNothing, AbortEndsAllBelow, AbortRemovesAllBelow, TerminationsEnd, TerminationsEndAlone, EndingHaveNoGoals, ReachedGoOn};
+ghost use Rattle.kl1_model.specs.TreeLaws.{PathsGoOn, PathsFollowParents, FreshIsTree, TreesStay, HeldBackBelow, ChargesPath, ReductionsCharge, MonitorsChargeNobody, OthersChargeNobody, RefusalsChangeNothing, AbortEndsAllBelow, AbortRemovesAllBelow, TerminationsEnd, TerminationsEndAlone, EndingHaveNoGoals, ReachedGoOn};
 
-/// The path of a shoen is that shoen and then the path of its parent, where each parent has a lesser number; so it has in a fresh
-/// account, and after each event.
+/// The path of a shoen is that shoen and then the path of its parent: by its place, where parents have lesser numbers, and by its
+/// number, where shoens are a tree. They are one in a fresh account, and after each event.
 pub fn paths_go_on()
     ensures paths { PathsGoOn }
+    ensures parents { PathsFollowParents }
     ensures fresh { FreshIsTree }
     ensures stay { TreesStay }
 {}

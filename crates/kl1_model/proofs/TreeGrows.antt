@@ -12,7 +12,7 @@ use Rattle.kl1_model.specs.Term.{Term, atom, Replacement}
 use Rattle.kl1_model.specs.Unify.{solve}
 use Rattle.kl1_model.specs.Module.{is_among}
 use Rattle.kl1_model.specs.Match.{Candidate}
-use Rattle.kl1_model.specs.State.{Goal, Shoen, State, goal_at, without_goal, with_name}
+use Rattle.kl1_model.specs.State.{Goal, Shoen, State, shoen_at, goal_at, without_goal, with_name}
 use Rattle.kl1_model.specs.Tree.{parents_of, path_within, path, is_on_path, charged_of, charge, is_blocking_at}
 use Rattle.kl1_model.specs.Control.{Control}
 use Rattle.kl1_model.specs.Event.{with_entry}
@@ -20,7 +20,7 @@ use Rattle.kl1_model.specs.Report.{report, exception, failure, exhaustion, start
 use Rattle.kl1_model.specs.Ending.{settle, settle_charged}
 use Rattle.kl1_model.specs.Opening.{opening_goals, with_shoen, open_shoen, has_room_for_child, child_shoen, open_child}
 use Rattle.kl1_model.specs.Reduction.{Move, commits, raises, unifies, names, opens, goes, moves, reads, goals_from, has_room_for, committed, unified, equation, or_exhaustion, moved, heard, acted}
-use Rattle.kl1_model.specs.TreeLaws.{ParentsAreLower, PathsGoOn, AreWithin, IsTree, ChargesPath, HeldBackBelow}
+use Rattle.kl1_model.specs.TreeLaws.{AreNumbered, PathsFollowParents, ParentsAreLower, PathsGoOn, AreWithin, IsTree, ChargesPath, HeldBackBelow}
 use Rattle.kl1_model.proofs.TreeKeeps.{Keeps, keeps_same, keeps_both, kept_tree, keeps_if, keeps_all, keeps_report, keeps_fewer, keeps_settle, keeps_settle_charged, keeps_heard}
 
 -- ---- paths
@@ -45,6 +45,31 @@ pub paths_go_on : PathsGoOn
 paths_go_on shoens n lower =
     let parents = parents_of shoens in
     path_step parents n ∙ ap (λ (ps : List ℕ). suc n ∷ ps) (path_enough parents lower n (get_or parents n 0) (get_or parents n 0) (lower n) (omega arith))
+
+-- the place of the shoen that has a number
+record IsAt (b n : ℕ) (hs : List Shoen) (h : Shoen) : Type 0 where
+  place : ℕ
+  number : n ≡ suc (b + place)
+  parent : get_or (parents_of hs) place 0 ≡ h.parent
+
+at_case : (c : Bool) (b n : ℕ) (k : Shoen) (hs : List Shoen) (h : Shoen) → k.number == n ≡ c → k.number ≡ suc b → (if c then Some k else shoen_at n hs) ≡ Some h → (shoen_at n hs ≡ Some h → IsAt (suc b) n hs h) → IsAt b n (k ∷ hs) h
+at_case true b n k hs h d e f g =
+    let same = eqb-true k.number n d in
+    record { place = 0; number = omega (arith, same, e); parent = ap (λ (x : Shoen). x.parent) (same_Some k h f) }
+at_case false b n k hs h d e f g =
+    let later = g f in
+    let more = later.number in
+    record { place = suc later.place; number = omega (arith, more); parent = later.parent }
+
+found_at : (b n : ℕ) (hs : List Shoen) (h : Shoen) → AreNumbered b hs → shoen_at n hs ≡ Some h → IsAt b n hs h
+found_at b n [] h a e = absurd (none-some h e)
+found_at b n (k ∷ hs) h a e = at_case (k.number == n) b n k hs h refl a.0 e (λ f. found_at (suc b) n hs h a.1 f)
+
+pub paths_follow_parents : PathsFollowParents
+paths_follow_parents s n h tree e =
+    let at = found_at 0 n s.shoens h tree.numbered e in
+    let is : n ≡ suc at.place = omega (arith, at.number) in
+    ap (path s.shoens) is ∙ paths_go_on s.shoens at.place tree.lower ∙ ap₂ (λ (m p : ℕ). m ∷ path s.shoens p) (sym is) at.parent
 
 -- a path among known shoens doesn't change where more are opened
 path_among : (ps qs : List ℕ) → ParentsAreLower ps → (m n : ℕ) → n ≤ length ps → path_within m (ps ++ qs) n ≡ path_within m ps n
@@ -116,10 +141,15 @@ both_within : (n : ℕ) (gs hs : List Goal) → AreWithin n gs → AreWithin n h
 both_within n [] hs a b = b
 both_within n (g ∷ gs) hs a b = (a.0, both_within n gs hs a.1 b)
 
+numbered_after : (n : ℕ) (hs : List Shoen) (h : Shoen) → AreNumbered n hs → h.number ≡ suc (n + length (parents_of hs)) → AreNumbered n (hs ++ h ∷ [])
+numbered_after n [] h a e = (omega (arith, e), tt)
+numbered_after n (k ∷ hs) h a e = (a.0, numbered_after (suc n) hs h a.1 (omega (arith, e)))
+
 opened_tree : (h : Shoen) (goal : Term) (s : State) → h.number ≡ suc s.last_shoen → h.parent ≤ s.last_shoen → IsTree s → IsTree (with_shoen h goal s)
 opened_tree h goal s number parent tree =
     let less : s.last_shoen ≤ h.number = omega (arith, number) in
     let few : h.number ≤ h.number = omega arith in record {
+      numbered = numbered_after 0 s.shoens h tree.numbered (omega (arith, number, tree.count));
       lower = subst ParentsAreLower (sym (parents_after s.shoens h)) (λ k. let l = lower_after 0 h.parent (parents_of s.shoens) (λ j. let m = tree.lower j in omega (arith, m)) (omega (arith, parent, tree.count)) k in omega (arith, l));
       count = ap length (parents_after s.shoens h) ∙ length_after (parents_of s.shoens) h.parent ∙ ap suc tree.count ∙ sym number;
       owners = both_within h.number s.goals (opening_goals s.last_goal h goal) (wider s.last_shoen h.number less s.goals tree.owners) (few, (few, tt));
@@ -169,6 +199,7 @@ commit_follows g k s = record {
   parents = sym (append-nil (parents_of s.shoens));
   work = refl;
   tree = λ few tree. record {
+    numbered = tree.numbered;
     lower = tree.lower;
     count = tree.count;
     owners = both_within s.last_shoen s.goals _ tree.owners (from_within s.last_shoen s.last_goal g.shoen _ _ few);
@@ -186,7 +217,7 @@ move_follows g t (raises kind) s = follows_kept g.shoen s (report g.shoen (excep
 move_follows g t (unifies a b) s = follows_kept g.shoen s (unified g.shoen t (solve (equation a b)) s) (unified_keeps g.shoen t (solve (equation a b)) s)
 move_follows g t (names text a) s =
     let u = record s { names = with_name s.names text } in
-    let k : Keeps s u = record { parents = refl; work = refl; last = refl; owners = λ n w. w } in
+    let k : Keeps s u = record { parents = refl; work = refl; last = refl; owners = λ n w. w; numbered = λ n w. w } in
     let v = unified g.shoen t (solve (equation a (atom text))) u in
     follows_or (nat_le (length (with_name s.names text)) most_names) g.shoen g.shoen t s v (follows_kept g.shoen s v (keeps_both s u v k (unified_keeps g.shoen t (solve (equation a (atom text))) u)))
 move_follows g t (opens o) s =
@@ -194,7 +225,7 @@ move_follows g t (opens o) s =
 move_follows g t goes s = follows_kept g.shoen s s (keeps_same s)
 
 charged_tree : (n : ℕ) (s : State) → n ≤ s.last_shoen → IsTree s → IsTree (charge n s)
-charged_tree n s few tree = record { lower = tree.lower; count = tree.count; owners = tree.owners; worked = (few, tree.worked) }
+charged_tree n s few tree = record { numbered = tree.numbered; lower = tree.lower; count = tree.count; owners = tree.owners; worked = (few, tree.worked) }
 
 -- ---- reductions
 
@@ -218,7 +249,7 @@ pub charged_kept : (s t : State) (a : ℕ) → Keeps s t → charged_of t a ≡ 
 charged_kept s t a k = ap₂ (λ ps ws. count_by (λ w. is_among a (path_within w ps w)) ws) k.parents k.work
 
 pub with_entry_keeps : (s : State) → Keeps s (with_entry s)
-with_entry_keeps s = record { parents = refl; work = refl; last = refl; owners = λ n a. a }
+with_entry_keeps s = record { parents = refl; work = refl; last = refl; owners = λ n a. a; numbered = λ n a. a }
 
 found_case : (c : Bool) (n : ℕ) (g h : Goal) (o : Option Goal) → (if c then Some g else o) ≡ Some h → g.shoen ≤ n → (o ≡ Some h → h.shoen ≤ n) → h.shoen ≤ n
 found_case true n g h o e few f = subst (λ (k : Goal). k.shoen ≤ n) (same_Some g h e) few

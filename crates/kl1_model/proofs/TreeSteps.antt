@@ -24,7 +24,7 @@ use Rattle.kl1_model.proofs.TreeKeeps.{Keeps, keeps_same, keeps_both, kept_tree,
 use Rattle.kl1_model.proofs.TreeGrows.{Follows, follows_kept, follows_then, opening_follows, acted_move, acted_reading, charged_among, charged_kept, with_entry_keeps, found_within}
 
 pub fresh_is_tree : FreshIsTree
-fresh_is_tree name = record { lower = λ k. omega arith; count = refl; owners = tt; worked = tt }
+fresh_is_tree name = record { numbered = tt; lower = λ k. omega arith; count = refl; owners = tt; worked = tt }
 
 -- ---- what is refused changes nothing, and what follows an event that is no reduction
 
@@ -48,7 +48,7 @@ comes_or c s x r p = comes_if c s x (refuse s r) p (comes_refused s r)
 
 comes_loaded : (s : State) (m : Module) → Comes s (record { state = with_entry (with_module s m); reply = loaded m.name })
 comes_loaded s m = record {
-  follows = follows_kept 0 s (with_entry (with_module s m)) (record { parents = refl; work = refl; last = refl; owners = λ n a. a });
+  follows = follows_kept 0 s (with_entry (with_module s m)) (record { parents = refl; work = refl; last = refl; owners = λ n a. a; numbered = λ n a. a });
   kept = λ e. absurd (false≢true e);
 }
 
@@ -71,7 +71,7 @@ start_follows s allowance low high t =
     let h = started_shoen s allowance low high goal (variable (suc count)) (variable (suc (suc count))) in
     let u = record s { names = with_names s.names (names_of t); last_variable = suc (suc count); variables = s.variables + suc (suc (highest t)); nodes = s.nodes + goal_nodes t } in
     let f = opening_follows 0 h goal u refl (λ few. few) in
-    let k : Keeps s u = record { parents = refl; work = refl; last = refl; owners = λ n a. a } in
+    let k : Keeps s u = record { parents = refl; work = refl; last = refl; owners = λ n a. a; numbered = λ n a. a } in
     record { more = f.more; parents = f.parents; work = f.work; tree = λ few tree. f.tree few (kept_tree s u k tree) }
 
 comes_started : (s : State) (allowance low high : ℕ) (t : Term) → Comes s (record { state = with_entry (start_goal s allowance low high t); reply = opened (suc s.last_shoen) })
@@ -97,8 +97,8 @@ sent_keeps n m (variable v) s =
     let by = cell (message_term m) (variable next) in
     let u = record (replace_in_state v by s) { last_variable = next; variables = suc s.variables; nodes = s.nodes + message_nodes m } in
     let k = keeps_replace v by s in
-    let b : Keeps s u = record { parents = k.parents; work = k.work; last = k.last; owners = k.owners } in
-    keeps_both s u (change_shoen n (with_control_tail (variable next)) u) b (keeps_change n (with_control_tail (variable next)) u (λ h. refl))
+    let b : Keeps s u = record { parents = k.parents; work = k.work; last = k.last; owners = k.owners; numbered = k.numbered } in
+    keeps_both s u (change_shoen n (with_control_tail (variable next)) u) b (keeps_change n (with_control_tail (variable next)) u (λ h. refl) (λ h. refl))
 sent_keeps n m (integer i) s = keeps_same s
 sent_keeps n m (atom a) s = keeps_same s
 sent_keeps n m (structure f ts) s = keeps_same s

@@ -1,10 +1,10 @@
 -- What holds of the tree of shoens, of what they are charged, and of how they end.
-use Rattle.std.specs.Prelude.{◌≡◌, ◌≤◌, ℕ, suc, ◌+◌, not, ◌&&◌, Bool, true, false, if◌then◌else◌, List, ◌∷◌, map, filter, length, get_or, Some}
+use Rattle.std.specs.Prelude.{⊤, ◌≡◌, ◌≤◌, ℕ, suc, ◌+◌, not, ◌&&◌, Bool, true, false, if◌then◌else◌, List, [], ◌∷◌, map, filter, length, get_or, Some}
 use Rattle.std.specs.List.{AllByRecursion}
 use Rattle.kl1_model.specs.declared.life.Life.{Life}
 use Rattle.kl1_model.specs.declared.life.Life.TheVariants.{Terminated, Aborted}
 use Rattle.kl1_model.specs.Module.{is_among}
-use Rattle.kl1_model.specs.State.{Goal, Shoen, State, fresh, goal_at, is_monitor, is_living}
+use Rattle.kl1_model.specs.State.{Goal, Shoen, State, fresh, goal_at, shoen_at, is_monitor, is_living}
 use Rattle.kl1_model.specs.Tree.{parents_of, path, is_on_path, charged_of, charge, is_blocking_at, is_enabled_in}
 use Rattle.kl1_model.specs.Event.{Event, reduce, Reply, reduced, refused}
 use Rattle.kl1_model.specs.Ending.{has_goal, ending_of, has_reached, reached_of, settle, settle_charged, abort}
@@ -24,9 +24,15 @@ PathsGoOn = (shoens : List Shoen) (n : ℕ) → ParentsAreLower (parents_of shoe
 abbrev pub AreWithin : ℕ → List Goal → Type 0
 AreWithin n goals = AllByRecursion (λ g. g.shoen ≤ n) goals
 
--- the shoens of an account are a tree: parents have lesser numbers, the last number is how many there are, and goals and charged
--- reductions are of shoens that are there
+-- shoens have the numbers after this one, in order
+abbrev pub AreNumbered : ℕ → List Shoen → Type 0
+AreNumbered last [] = ⊤
+AreNumbered last (h ∷ hs) = (h.number ≡ suc last) × AreNumbered (suc last) hs
+
+-- the shoens of an account are a tree: they stand in order of their numbers, parents have lesser numbers, the last number is how many
+-- there are, and goals and charged reductions are of shoens that are there
 pub record IsTree (s : State) : Type 0 where
+  pub numbered : AreNumbered 0 s.shoens
   pub lower : ParentsAreLower (parents_of s.shoens)
   pub count : length (parents_of s.shoens) ≡ s.last_shoen
   pub owners : AreWithin s.last_shoen s.goals
@@ -39,6 +45,10 @@ FreshIsTree = (name : List ℕ) → IsTree (fresh name)
 -- and each event leaves a tree a tree
 abbrev pub TreesStay : Type 0
 TreesStay = (s : State) (e : Event) → IsTree s → IsTree (step s e).state
+
+-- the path of the shoen of a number is that number, and then the path of the shoen's parent
+abbrev pub PathsFollowParents : Type 0
+PathsFollowParents = (s : State) (n : ℕ) (h : Shoen) → IsTree s → shoen_at n s.shoens ≡ Some h → path s.shoens n ≡ n ∷ path s.shoens h.parent
 
 -- goals below a shoen that holds them back are not enabled
 abbrev pub HeldBackBelow : Type 0
