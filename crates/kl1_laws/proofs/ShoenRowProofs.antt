@@ -12,8 +12,8 @@ use Rattle.std.specs.Fmt.{digits}
 use Rattle.kl1_model.specs.Unify.{solve_within, walk}
 use Rattle.kl1_model.specs.Token.{tokens_within}
 use Rattle.kl1_model.specs.Reader.{expression_at, series_by, grouped_by, body_by}
-use Rattle.kl1_laws.specs.AccountRows.{after_events, after_lines, equals, numbers, stream, true_term, with_entries}
-use Rattle.kl1_laws.specs.ShoenRows.{nothing_done, with_counts, with_reports, with_last_shoen, with_many_names, with_modules, crowded, letters, from_codes, with_fresh_variable, with_order, with_codes, ended_and_waiting, ShoenRowsHold}
+use Rattle.kl1_laws.specs.AccountRows.{after_events, after_lines, equals, having, lines, numbers, stream, true_term, with_entries}
+use Rattle.kl1_laws.specs.ShoenRows.{nothing_done, with_counts, with_reports, with_last_shoen, with_many_names, with_modules, crowded, letters, from_codes, with_fresh_variable, with_order, with_codes, ended_and_waiting, twice_text, with_many_reports, lines_listed, ShoenRowsHold}
 
 commit_to_the_last_goal_row : goals_alive (step (crowded 8191 100) (reduce 2 1)).state ≡ 8192
 unfolding digits tokens_within expression_at series_by grouped_by body_by solve_within walk path_within
@@ -219,6 +219,26 @@ path_of_a_child_row : path (after_lines nothing_done (codes "start 9 0 9 shoen:e
 unfolding digits tokens_within expression_at series_by grouped_by body_by solve_within walk path_within
 path_of_a_child_row = refl
 
+exhausted_before_terminations_row : stream 1 (after_lines (having (lines (codes ":- module s." ∷ codes "s :- true | shoen:execute(true,0,10,1,C,R), X := Y." ∷ []))) (codes "start 3 0 10 s:s" ∷ codes "run 9" ∷ [])) ≡ codes "[started,exhausted|_9]"
+unfolding digits tokens_within expression_at series_by grouped_by body_by solve_within walk path_within
+exhausted_before_terminations_row = refl
+
+exhausted_after_what_is_inside_row : stream 1 (after_lines (having twice_text) (codes "start 2 0 10 shoen:execute(r:r,0,10,1,C,R)" ∷ codes "run 9" ∷ [])) ≡ codes "[started,exhausted|_8]"
+unfolding digits tokens_within expression_at series_by grouped_by body_by solve_within walk path_within
+exhausted_after_what_is_inside_row = refl
+
+many_reports_row : lines_listed (step (with_many_reports 70) (read (reports 1 1))).reply ≡ 64
+unfolding digits tokens_within expression_at series_by grouped_by body_by solve_within walk path_within
+many_reports_row = refl
+
+last_of_many_reports_row : lines_listed (step (with_many_reports 70) (read (reports 1 67))).reply ≡ 4
+unfolding digits tokens_within expression_at series_by grouped_by body_by solve_within walk path_within
+last_of_many_reports_row = refl
+
+reports_past_the_last_row : lines_listed (step (with_many_reports 70) (read (reports 1 71))).reply ≡ 0
+unfolding digits tokens_within expression_at series_by grouped_by body_by solve_within walk path_within
+reports_past_the_last_row = refl
+
 -- all of them
 pub shoen_rows_hold : ShoenRowsHold
-shoen_rows_hold = record { commit_to_the_last_goal = commit_to_the_last_goal_row; status_of_a_crowd = status_of_a_crowd_row; commit_past_the_last_goal = commit_past_the_last_goal_row; report_of_a_crowd = report_of_a_crowd_row; start_of_the_last_goal = start_of_the_last_goal_row; start_past_the_last_goal = start_past_the_last_goal_row; start_of_the_last_variable = start_of_the_last_variable_row; start_past_the_last_variable = start_past_the_last_variable_row; message_of_the_last_variable = message_of_the_last_variable_row; message_past_the_last_variable = message_past_the_last_variable_row; commit_of_the_last_variable = commit_of_the_last_variable_row; commit_past_the_last_variable = commit_past_the_last_variable_row; commit_of_the_last_structure = commit_of_the_last_structure_row; commit_past_the_last_structure = commit_past_the_last_structure_row; start_of_the_last_structure = start_of_the_last_structure_row; start_past_the_last_structure = start_past_the_last_structure_row; message_of_the_last_structure = message_of_the_last_structure_row; message_past_the_last_structure = message_past_the_last_structure_row; start_of_the_last_shoen = start_of_the_last_shoen_row; start_past_the_last_shoen = start_past_the_last_shoen_row; order_past_the_last_shoen = order_past_the_last_shoen_row; start_of_the_last_name = start_of_the_last_name_row; start_past_the_last_name = start_past_the_last_name_row; start_of_a_known_name = start_of_a_known_name_row; load_past_the_last_name = load_past_the_last_name_row; codes_past_the_last_name = codes_past_the_last_name_row; codes_of_the_last_name = codes_of_the_last_name_row; name_of_a_failed_unification = name_of_a_failed_unification_row; codes_of_63_cells = codes_of_63_cells_row; codes_of_64_cells = codes_of_64_cells_row; load_of_the_last_module = load_of_the_last_module_row; load_past_the_last_module = load_past_the_last_module_row; names_before_limits = names_before_limits_row; exists_before_names = exists_before_names_row; limits_before_the_journal = limits_before_the_journal_row; message_to_a_full_journal = message_to_a_full_journal_row; message_past_limit_and_journal = message_past_limit_and_journal_row; message_to_an_ended_shoen = message_to_an_ended_shoen_row; message_to_no_shoen = message_to_no_shoen_row; message_of_64_bits = message_of_64_bits_row; reports_from_0 = reports_from_0_row; monitor_by_clause_1 = monitor_by_clause_1_row; monitor_by_clause_0 = monitor_by_clause_0_row; monitor_with_a_full_journal = monitor_with_a_full_journal_row; goal_of_a_stopped_shoen = goal_of_a_stopped_shoen_row; last_report = last_report_row; numbers_after_the_last_report = numbers_after_the_last_report_row; numbers_after_a_message = numbers_after_a_message_row; work_of_a_monitor = work_of_a_monitor_row; work_of_nested_shoens = work_of_nested_shoens_row; path_of_a_child = path_of_a_child_row }
+shoen_rows_hold = record { commit_to_the_last_goal = commit_to_the_last_goal_row; status_of_a_crowd = status_of_a_crowd_row; commit_past_the_last_goal = commit_past_the_last_goal_row; report_of_a_crowd = report_of_a_crowd_row; start_of_the_last_goal = start_of_the_last_goal_row; start_past_the_last_goal = start_past_the_last_goal_row; start_of_the_last_variable = start_of_the_last_variable_row; start_past_the_last_variable = start_past_the_last_variable_row; message_of_the_last_variable = message_of_the_last_variable_row; message_past_the_last_variable = message_past_the_last_variable_row; commit_of_the_last_variable = commit_of_the_last_variable_row; commit_past_the_last_variable = commit_past_the_last_variable_row; commit_of_the_last_structure = commit_of_the_last_structure_row; commit_past_the_last_structure = commit_past_the_last_structure_row; start_of_the_last_structure = start_of_the_last_structure_row; start_past_the_last_structure = start_past_the_last_structure_row; message_of_the_last_structure = message_of_the_last_structure_row; message_past_the_last_structure = message_past_the_last_structure_row; start_of_the_last_shoen = start_of_the_last_shoen_row; start_past_the_last_shoen = start_past_the_last_shoen_row; order_past_the_last_shoen = order_past_the_last_shoen_row; start_of_the_last_name = start_of_the_last_name_row; start_past_the_last_name = start_past_the_last_name_row; start_of_a_known_name = start_of_a_known_name_row; load_past_the_last_name = load_past_the_last_name_row; codes_past_the_last_name = codes_past_the_last_name_row; codes_of_the_last_name = codes_of_the_last_name_row; name_of_a_failed_unification = name_of_a_failed_unification_row; codes_of_63_cells = codes_of_63_cells_row; codes_of_64_cells = codes_of_64_cells_row; load_of_the_last_module = load_of_the_last_module_row; load_past_the_last_module = load_past_the_last_module_row; names_before_limits = names_before_limits_row; exists_before_names = exists_before_names_row; limits_before_the_journal = limits_before_the_journal_row; message_to_a_full_journal = message_to_a_full_journal_row; message_past_limit_and_journal = message_past_limit_and_journal_row; message_to_an_ended_shoen = message_to_an_ended_shoen_row; message_to_no_shoen = message_to_no_shoen_row; message_of_64_bits = message_of_64_bits_row; reports_from_0 = reports_from_0_row; monitor_by_clause_1 = monitor_by_clause_1_row; monitor_by_clause_0 = monitor_by_clause_0_row; monitor_with_a_full_journal = monitor_with_a_full_journal_row; goal_of_a_stopped_shoen = goal_of_a_stopped_shoen_row; last_report = last_report_row; numbers_after_the_last_report = numbers_after_the_last_report_row; numbers_after_a_message = numbers_after_a_message_row; work_of_a_monitor = work_of_a_monitor_row; work_of_nested_shoens = work_of_nested_shoens_row; path_of_a_child = path_of_a_child_row; exhausted_before_terminations = exhausted_before_terminations_row; exhausted_after_what_is_inside = exhausted_after_what_is_inside_row; many_reports = many_reports_row; last_of_many_reports = last_of_many_reports_row; reports_past_the_last = reports_past_the_last_row }

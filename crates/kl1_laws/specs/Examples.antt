@@ -274,6 +274,22 @@ ended_or_exhausted_script = codes "accounts alice" ++ 10 ∷ [] ++ codes "alice 
 abbrev pub ended_or_exhausted_output : List ℕ
 ended_or_exhausted_output = codes "alice + shoen 1" ++ 10 ∷ [] ++ codes "alice + 1" ++ 10 ∷ [] ++ codes "alice + 2" ++ 10 ∷ [] ++ codes "alice started" ++ 10 ∷ [] ++ codes "alice terminated" ++ 10 ∷ [] ++ codes "alice + terminated 1 1 0" ++ 10 ∷ [] ++ codes "alice + loaded r" ++ 10 ∷ [] ++ codes "alice + shoen 2" ++ 10 ∷ [] ++ codes "alice + 1" ++ 10 ∷ [] ++ codes "alice + 2" ++ 10 ∷ [] ++ codes "alice started" ++ 10 ∷ [] ++ codes "alice exhausted" ++ 10 ∷ [] ++ codes "alice + exhausted 1 1 2" ++ 10 ∷ [] ++ codes "alice + loaded s" ++ 10 ∷ [] ++ codes "alice + shoen 3" ++ 10 ∷ [] ++ codes "alice + 3" ++ 10 ∷ [] ++ codes "alice + terminated 1 1 0" ++ 10 ∷ [] ++ codes "alice + exhausted 3 3 1" ++ 10 ∷ [] ++ codes "alice + 2" ++ 10 ∷ [] ++ codes "alice started" ++ 10 ∷ [] ++ codes "alice exhausted" ++ 10 ∷ []
 
+-- the bytes of exhausted_innermost_first.script
+abbrev pub exhausted_innermost_first_script : List ℕ
+exhausted_innermost_first_script = codes "accounts alice" ++ 10 ∷ [] ++ codes "alice load 30" ++ 10 ∷ [] ++ codes ":- module r." ++ 10 ∷ [] ++ codes "r :- true | r, r." ++ 10 ∷ [] ++ codes "alice start 2 0 10 shoen:execute(r:r,0,10,1,C,R)" ++ 10 ∷ [] ++ codes "alice run 9" ++ 10 ∷ [] ++ codes "alice value 1" ++ 10 ∷ [] ++ codes "alice status 1" ++ 10 ∷ [] ++ codes "alice status 2" ++ 10 ∷ [] ++ codes "alice start 1 0 10 X = Y" ++ 10 ∷ [] ++ codes "alice run 9" ++ 10 ∷ [] ++ codes "alice value 3" ++ 10 ∷ []
+
+-- the bytes of exhausted_innermost_first.expected
+abbrev pub exhausted_innermost_first_output : List ℕ
+exhausted_innermost_first_output = codes "alice + loaded r" ++ 10 ∷ [] ++ codes "alice + shoen 1" ++ 10 ∷ [] ++ codes "alice + 2" ++ 10 ∷ [] ++ codes "alice + shoen:execute(r:r,0,10,1,_1,[started,exhausted|_7])" ++ 10 ∷ [] ++ codes "alice + exhausted 2 2 2" ++ 10 ∷ [] ++ codes "alice + exhausted 1 1 2" ++ 10 ∷ [] ++ codes "alice + shoen 3" ++ 10 ∷ [] ++ codes "alice + 1" ++ 10 ∷ [] ++ codes "alice + '='(_9,_9)" ++ 10 ∷ []
+
+-- the bytes of exhausted_parent_holds_back.script
+abbrev pub exhausted_parent_holds_back_script : List ℕ
+exhausted_parent_holds_back_script = codes "accounts alice" ++ 10 ∷ [] ++ codes "alice start 1 0 10 shoen:execute(true,0,10,5,C,R)" ++ 10 ∷ [] ++ codes "alice run 9" ++ 10 ∷ [] ++ codes "alice status 1" ++ 10 ∷ [] ++ codes "alice status 2" ++ 10 ∷ [] ++ codes "alice quiet" ++ 10 ∷ [] ++ codes "alice reduce 4 0" ++ 10 ∷ [] ++ codes "alice reports 1 1" ++ 10 ∷ [] ++ codes "alice allow 1 1" ++ 10 ∷ [] ++ codes "alice run 9" ++ 10 ∷ [] ++ codes "alice status 2" ++ 10 ∷ [] ++ codes "alice status 1" ++ 10 ∷ [] ++ codes "alice reports 1 1" ++ 10 ∷ []
+
+-- the bytes of exhausted_parent_holds_back.expected
+abbrev pub exhausted_parent_holds_back_output : List ℕ
+exhausted_parent_holds_back_output = codes "alice + shoen 1" ++ 10 ∷ [] ++ codes "alice + 1" ++ 10 ∷ [] ++ codes "alice + exhausted 1 1 1" ++ 10 ∷ [] ++ codes "alice + running 0 5 1" ++ 10 ∷ [] ++ codes "alice + yes" ++ 10 ∷ [] ++ codes "alice - 6 step" ++ 10 ∷ [] ++ codes "alice + 2" ++ 10 ∷ [] ++ codes "alice started" ++ 10 ∷ [] ++ codes "alice exhausted" ++ 10 ∷ [] ++ codes "alice + sent" ++ 10 ∷ [] ++ codes "alice + 2" ++ 10 ∷ [] ++ codes "alice + terminated 1 5 0" ++ 10 ∷ [] ++ codes "alice + terminated 2 2 0" ++ 10 ∷ [] ++ codes "alice + 3" ++ 10 ∷ [] ++ codes "alice started" ++ 10 ∷ [] ++ codes "alice exhausted" ++ 10 ∷ [] ++ codes "alice terminated" ++ 10 ∷ []
+
 -- the bytes of failure_is_reported.script
 abbrev pub failure_is_reported_script : List ℕ
 failure_is_reported_script = codes "accounts alice" ++ 10 ∷ [] ++ codes "alice load 20" ++ 10 ∷ [] ++ codes ":- module t." ++ 10 ∷ [] ++ codes "q(a,b)." ++ 10 ∷ [] ++ codes "alice start 10 0 10 t:q(X,c)" ++ 10 ∷ [] ++ codes "alice run 10" ++ 10 ∷ [] ++ codes "alice reports 1 1" ++ 10 ∷ []
@@ -642,6 +658,14 @@ stopped_once_script = codes "accounts alice" ++ 10 ∷ [] ++ codes "alice start 
 abbrev pub stopped_once_output : List ℕ
 stopped_once_output = codes "alice + shoen 1" ++ 10 ∷ [] ++ codes "alice + sent" ++ 10 ∷ [] ++ codes "alice + sent" ++ 10 ∷ [] ++ codes "alice + sent" ++ 10 ∷ [] ++ codes "alice + 3" ++ 10 ∷ [] ++ codes "alice + 2" ++ 10 ∷ [] ++ codes "alice started" ++ 10 ∷ [] ++ codes "alice stopped" ++ 10 ∷ [] ++ codes "alice + stopped 0 100 1" ++ 10 ∷ []
 
+-- the bytes of stopped_parent_holds_back.script
+abbrev pub stopped_parent_holds_back_script : List ℕ
+stopped_parent_holds_back_script = codes "accounts alice" ++ 10 ∷ [] ++ codes "alice start 9 0 10 shoen:execute(true,0,10,5,[allow(1)],R)" ++ 10 ∷ [] ++ codes "alice run 1" ++ 10 ∷ [] ++ codes "alice stop 1" ++ 10 ∷ [] ++ codes "alice reduce 1 0" ++ 10 ∷ [] ++ codes "alice reduce 4 0" ++ 10 ∷ [] ++ codes "alice run 9" ++ 10 ∷ [] ++ codes "alice status 2" ++ 10 ∷ [] ++ codes "alice resume 1" ++ 10 ∷ [] ++ codes "alice run 9" ++ 10 ∷ [] ++ codes "alice status 1" ++ 10 ∷ [] ++ codes "alice reports 1 1" ++ 10 ∷ []
+
+-- the bytes of stopped_parent_holds_back.expected
+abbrev pub stopped_parent_holds_back_output : List ℕ
+stopped_parent_holds_back_output = codes "alice + shoen 1" ++ 10 ∷ [] ++ codes "alice + 1" ++ 10 ∷ [] ++ codes "alice + sent" ++ 10 ∷ [] ++ codes "alice + reduced" ++ 10 ∷ [] ++ codes "alice - 6 step" ++ 10 ∷ [] ++ codes "alice + 2" ++ 10 ∷ [] ++ codes "alice + running 0 6 1" ++ 10 ∷ [] ++ codes "alice + sent" ++ 10 ∷ [] ++ codes "alice + 2" ++ 10 ∷ [] ++ codes "alice + terminated 2 9 0" ++ 10 ∷ [] ++ codes "alice + 4" ++ 10 ∷ [] ++ codes "alice started" ++ 10 ∷ [] ++ codes "alice stopped" ++ 10 ∷ [] ++ codes "alice resumed" ++ 10 ∷ [] ++ codes "alice terminated" ++ 10 ∷ []
+
 -- the bytes of stopped_shoen_terminates.script
 abbrev pub stopped_shoen_terminates_script : List ℕ
 stopped_shoen_terminates_script = codes "accounts alice" ++ 10 ∷ [] ++ codes "alice start 100 0 10 shoen:execute(X := Y,0,10,5,[abort],R)" ++ 10 ∷ [] ++ codes "alice run 1" ++ 10 ∷ [] ++ codes "alice reduce 3 0" ++ 10 ∷ [] ++ codes "alice status 1" ++ 10 ∷ [] ++ codes "alice stop 1" ++ 10 ∷ [] ++ codes "alice start 100 0 10 shoen:execute(X := Y,0,10,5,[abort],R)" ++ 10 ∷ [] ++ codes "alice stop 3" ++ 10 ∷ [] ++ codes "alice reduce 6 0" ++ 10 ∷ [] ++ codes "alice reduce 5 0" ++ 10 ∷ [] ++ codes "alice status 3" ++ 10 ∷ [] ++ codes "alice run 9" ++ 10 ∷ [] ++ codes "alice status 3" ++ 10 ∷ [] ++ codes "alice reports 3 1" ++ 10 ∷ []
@@ -790,6 +814,8 @@ pub record ExamplesHold : Type 0 where
   pub cyclic_term_is_reported : output cyclic_term_is_reported_script ≡ cyclic_term_is_reported_output
   pub doubled_account : output doubled_account_script ≡ doubled_account_output
   pub ended_or_exhausted : output ended_or_exhausted_script ≡ ended_or_exhausted_output
+  pub exhausted_innermost_first : output exhausted_innermost_first_script ≡ exhausted_innermost_first_output
+  pub exhausted_parent_holds_back : output exhausted_parent_holds_back_script ≡ exhausted_parent_holds_back_output
   pub failure_is_reported : output failure_is_reported_script ≡ failure_is_reported_output
   pub first_of_two_clauses : output first_of_two_clauses_script ≡ first_of_two_clauses_output
   pub forms_that_are_faults : output forms_that_are_faults_script ≡ forms_that_are_faults_output
@@ -836,6 +862,7 @@ pub record ExamplesHold : Type 0 where
   pub sixteen_accounts : output sixteen_accounts_script ≡ sixteen_accounts_output
   pub stopped_and_resumed : output stopped_and_resumed_script ≡ stopped_and_resumed_output
   pub stopped_once : output stopped_once_script ≡ stopped_once_output
+  pub stopped_parent_holds_back : output stopped_parent_holds_back_script ≡ stopped_parent_holds_back_output
   pub stopped_shoen_terminates : output stopped_shoen_terminates_script ≡ stopped_shoen_terminates_output
   pub stream_bound_by_the_program : output stream_bound_by_the_program_script ≡ stream_bound_by_the_program_output
   pub truncated_load : output truncated_load_script ≡ truncated_load_output

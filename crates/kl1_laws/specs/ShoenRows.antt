@@ -1,13 +1,13 @@
 -- Rows of shoens: accounts at their limits, and the order of refusals.
-use Rattle.std.specs.Prelude.{◌≡◌, ◌^◌, ℕ, zero, suc, codes, List, [], ◌∷◌, ◌++◌, pos, replicate, decimal}
+use Rattle.std.specs.Prelude.{◌≡◌, ◌^◌, ℕ, zero, suc, codes, List, [], ◌∷◌, ◌++◌, Some, pos, replicate, decimal, length, map}
 use Rattle.kl1_model.specs.declared.message.Message.TheVariants.{Stop, Allow}
 use Rattle.kl1_model.specs.declared.condition.Condition.TheVariants.{Running}
 use Rattle.kl1_model.specs.Term.{Term, variable, integer, atom}
 use Rattle.kl1_model.specs.Meaning.{nil, cell, pair}
 use Rattle.kl1_model.specs.Print.{print}
-use Rattle.kl1_model.specs.State.{monitor, reduces, Goal, State, fresh}
+use Rattle.kl1_model.specs.State.{monitor, reduces, Goal, Shoen, State, fresh}
 use Rattle.kl1_model.specs.Tree.{path, goals_alive}
-use Rattle.kl1_model.specs.Event.{load, start, control, reduce, read, status, reports, loaded, opened, sent, reduced, status_is, listed, refused, syntax, exists, no_shoen, shoen_ended, step_refused, too_many_names, limit_passed, journal_full}
+use Rattle.kl1_model.specs.Event.{Reply, load, start, control, reduce, read, status, reports, loaded, opened, sent, reduced, status_is, listed, refused, syntax, exists, no_shoen, shoen_ended, step_refused, too_many_names, limit_passed, journal_full}
 use Rattle.kl1_model.specs.Step.{step}
 use Rattle.kl1_laws.specs.AccountRows.{after_events, after_lines, equals, having, lines, numbers, stream, true_term, with_entries}
 
@@ -83,6 +83,19 @@ with_codes = after_lines nothing_done (codes "start 9 0 9 atom_from([104,105],A)
 -- an account with one shoen that has ended, and one whose goal waits
 abbrev pub ended_and_waiting : State
 ended_and_waiting = after_lines nothing_done (codes "start 9 0 9 true" ∷ codes "run 1" ∷ codes "start 9 0 9 X := Y" ∷ [])
+
+-- a shoen whose report stream at the console is a list of so many codes
+abbrev pub with_long_stream : ℕ → Shoen → Shoen
+with_long_stream n h = record h { origin = Some (record { goal = true_term; reports = letters n; control = nil }) }
+
+-- an account whose first shoen has made so many reports
+abbrev pub with_many_reports : ℕ → State
+with_many_reports n = let s = after_lines nothing_done (codes "start 9 0 9 true" ∷ []) in record s { shoens = map (with_long_stream n) s.shoens }
+
+-- how many texts a reply lists
+abbrev pub lines_listed : Reply → ℕ
+lines_listed (listed texts) = length texts
+lines_listed _ = 0
 
 -- what accounts come to at their limits
 pub record ShoenRowsHold : Type 0 where
@@ -188,3 +201,13 @@ pub record ShoenRowsHold : Type 0 where
   pub work_of_nested_shoens : (after_lines nothing_done (codes "start 9 0 9 shoen:execute(true,0,1,1,[foo],R)" ∷ codes "run 9" ∷ [])).work ≡ 2 ∷ 1 ∷ []
   -- a child's path goes on with its parent's
   pub path_of_a_child : path (after_lines nothing_done (codes "start 9 0 9 shoen:execute(true,0,1,1,C,R)" ∷ codes "run 9" ∷ [])).shoens 2 ≡ 2 ∷ 1 ∷ []
+  -- a shoen that has reached its allowance reports that before one inside it terminates
+  pub exhausted_before_terminations : stream 1 (after_lines (having (lines (codes ":- module s." ∷ codes "s :- true | shoen:execute(true,0,10,1,C,R), X := Y." ∷ []))) (codes "start 3 0 10 s:s" ∷ codes "run 9" ∷ [])) ≡ codes "[started,exhausted|_9]"
+  -- and after one inside it that has reached its own
+  pub exhausted_after_what_is_inside : stream 1 (after_lines (having twice_text) (codes "start 2 0 10 shoen:execute(r:r,0,10,1,C,R)" ∷ codes "run 9" ∷ [])) ≡ codes "[started,exhausted|_8]"
+  -- at most 64 reports are listed
+  pub many_reports : lines_listed (step (with_many_reports 70) (read (reports 1 1))).reply ≡ 64
+  -- and those from one on
+  pub last_of_many_reports : lines_listed (step (with_many_reports 70) (read (reports 1 67))).reply ≡ 4
+  -- and none past the last
+  pub reports_past_the_last : lines_listed (step (with_many_reports 70) (read (reports 1 71))).reply ≡ 0

@@ -26,6 +26,7 @@ pub mod VerdictWaits
 pub mod OpenSections
 pub mod TermStays
 pub mod ReadClauses
+pub mod ControlStays
 pub mod TreeKeeps
 pub mod TreeGrows
 pub mod TreeSteps
