@@ -31,3 +31,4 @@ pub mod TreeKeeps
 pub mod TreeGrows
 pub mod TreeSteps
 pub mod TreeEndings
+pub mod TreeLives

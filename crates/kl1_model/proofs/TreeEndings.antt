@@ -9,35 +9,47 @@ use Rattle.kl1_model.specs.declared.life.Life.TheVariants.{Terminated, Aborted}
 use Rattle.kl1_model.specs.Term.{Term, variable, integer, atom, structure, occurs}
 use Rattle.kl1_model.specs.Meaning.{nil, cell}
 use Rattle.kl1_model.specs.Module.{is_among}
-use Rattle.kl1_model.specs.State.{Goal, Shoen, State, shoen_at, replace_in_goal, replace_in_shoen, replace_in_state, change_shoen, is_living}
+use Rattle.kl1_model.specs.State.{Task, monitor, reduces, Goal, Shoen, State, shoen_at, replace_in_task, replace_in_goal, replace_in_shoen, replace_in_state, change_shoen, is_monitor, is_living}
 use Rattle.kl1_model.specs.Tree.{path, is_on_path}
 use Rattle.kl1_model.specs.Report.{broken_at, reported_at, report_of, report, report_each, closed_at, close_of, close, exhausted_report, terminated_report, aborted_report}
 use Rattle.kl1_model.specs.Ending.{has_goal, has_living_child, lives, ends_now, without_monitor, ended_at, terminate, terminate_each, ending_of, settle, has_reached, reached_of, settle_charged, aborted_below, ended_below, abort}
 use Rattle.kl1_model.specs.TreeLaws.{lives_of, numbers_of, AbortEndsAllBelow, AbortRemovesAllBelow, TerminationsEnd, TerminationsEndAlone, EndingHaveNoGoals, ReachedGoOn}
 
 -- a shoen's number and its life
-record Mark : Type 0 where
-  number : ℕ
-  life : Life
+pub record Mark : Type 0 where
+  pub number : ℕ
+  pub life : Life
 
-abbrev mark_of : Shoen → Mark
+abbrev pub mark_of : Shoen → Mark
 mark_of h = record { number = h.number; life = h.life }
 
-abbrev marks_of : List Shoen → List Mark
+abbrev pub marks_of : List Shoen → List Mark
 marks_of hs = map mark_of hs
 
--- an effect leaves the lives of shoens and the numbers of goals as they are
-record Leaves (s t : State) : Type 0 where
-  marks : marks_of t.shoens ≡ marks_of s.shoens
-  goals : numbers_of t.goals ≡ numbers_of s.goals
+-- whose a goal is, and whether it is a monitor
+pub record Post : Type 0 where
+  pub shoen : ℕ
+  pub is_monitor : Bool
 
-leaves_same : (s : State) → Leaves s s
-leaves_same s = record { marks = refl; goals = refl }
+abbrev pub post_of : Goal → Post
+post_of g = record { shoen = g.shoen; is_monitor = is_monitor g.task }
 
-leaves_both : (s t u : State) → Leaves s t → Leaves t u → Leaves s u
-leaves_both s t u p q = record { marks = q.marks ∙ p.marks; goals = q.goals ∙ p.goals }
+abbrev pub posts_of : List Goal → List Post
+posts_of gs = map post_of gs
 
-leaves_if : (c : Bool) (s t u : State) → Leaves s t → Leaves s u → Leaves s (if c then t else u)
+-- an effect leaves the lives of shoens, the numbers of goals, and whose they are
+pub record Leaves (s t : State) : Type 0 where
+  pub marks : marks_of t.shoens ≡ marks_of s.shoens
+  pub goals : numbers_of t.goals ≡ numbers_of s.goals
+  pub posts : posts_of t.goals ≡ posts_of s.goals
+
+pub leaves_same : (s : State) → Leaves s s
+leaves_same s = record { marks = refl; goals = refl; posts = refl }
+
+pub leaves_both : (s t u : State) → Leaves s t → Leaves t u → Leaves s u
+leaves_both s t u p q = record { marks = q.marks ∙ p.marks; goals = q.goals ∙ p.goals; posts = q.posts ∙ p.posts }
+
+pub leaves_if : (c : Bool) (s t u : State) → Leaves s t → Leaves s u → Leaves s (if c then t else u)
 leaves_if true s t u p q = p
 leaves_if false s t u p q = q
 
@@ -57,11 +69,19 @@ replaced_numbers : (v : ℕ) (t : Term) (gs : List Goal) → numbers_of (map (re
 replaced_numbers v t [] = refl
 replaced_numbers v t (g ∷ gs) = ap (λ (ns : List ℕ). g.number ∷ ns) (replaced_numbers v t gs)
 
-leaves_change : (n : ℕ) (f : Shoen → Shoen) (s : State) → ((h : Shoen) → mark_of (f h) ≡ mark_of h) → Leaves s (change_shoen n f s)
-leaves_change n f s e = record { marks = changed_marks n f e s.shoens; goals = refl }
+task_kept : (v : ℕ) (t : Term) (task : Task) → is_monitor (replace_in_task v t task) ≡ is_monitor task
+task_kept v t monitor = refl
+task_kept v t (reduces u) = refl
 
-leaves_replace : (v : ℕ) (t : Term) (s : State) → Leaves s (replace_in_state v t s)
-leaves_replace v t s = record { marks = replaced_marks v t s.shoens; goals = replaced_numbers v t s.goals }
+replaced_posts : (v : ℕ) (t : Term) (gs : List Goal) → posts_of (map (replace_in_goal v t) gs) ≡ posts_of gs
+replaced_posts v t [] = refl
+replaced_posts v t (g ∷ gs) = ap₂ (λ (b : Bool) (ps : List Post). (record { shoen = g.shoen; is_monitor = b }) ∷ ps) (task_kept v t g.task) (replaced_posts v t gs)
+
+pub leaves_change : (n : ℕ) (f : Shoen → Shoen) (s : State) → ((h : Shoen) → mark_of (f h) ≡ mark_of h) → Leaves s (change_shoen n f s)
+leaves_change n f s e = record { marks = changed_marks n f e s.shoens; goals = refl; posts = refl }
+
+pub leaves_replace : (v : ℕ) (t : Term) (s : State) → Leaves s (replace_in_state v t s)
+leaves_replace v t s = record { marks = replaced_marks v t s.shoens; goals = replaced_numbers v t s.goals; posts = replaced_posts v t s.goals }
 
 leaves_broken : (n : ℕ) (s : State) → Leaves s (broken_at n s)
 leaves_broken n s = leaves_change n (λ h. record h { is_broken = true }) s (λ h. refl)
@@ -71,7 +91,7 @@ reported_leaves n m (variable v) s =
     let next = suc s.last_variable in
     let bound = record (replace_in_state v (cell m (variable next)) s) { last_variable = next; reports = suc s.reports } in
     let k = leaves_replace v (cell m (variable next)) s in
-    let b : Leaves s bound = record { marks = k.marks; goals = k.goals } in
+    let b : Leaves s bound = record { marks = k.marks; goals = k.goals; posts = k.posts } in
     leaves_if (occurs v m || not (nat_lt s.reports most_reports)) s (broken_at n s) (change_shoen n (λ h. record h { tail = variable next }) bound) (leaves_broken n s)
     (leaves_both s bound (change_shoen n (λ h. record h { tail = variable next }) bound) b (leaves_change n (λ h. record h { tail = variable next }) bound (λ h. refl)))
 reported_leaves n m (integer i) s = leaves_broken n s
@@ -82,10 +102,10 @@ report_of_leaves : (o : Option Shoen) (n : ℕ) (m : Term) (s : State) → Leave
 report_of_leaves None n m s = leaves_same s
 report_of_leaves (Some h) n m s = leaves_if h.is_broken s s (reported_at n m h.tail s) (leaves_same s) (reported_leaves n m h.tail s)
 
-leaves_report : (n : ℕ) (m : Term) (s : State) → Leaves s (report n m s)
+pub leaves_report : (n : ℕ) (m : Term) (s : State) → Leaves s (report n m s)
 leaves_report n m s = report_of_leaves (shoen_at n s.shoens) n m s
 
-leaves_report_each : (ns : List ℕ) (m : Term) (s : State) → Leaves s (report_each ns m s)
+pub leaves_report_each : (ns : List ℕ) (m : Term) (s : State) → Leaves s (report_each ns m s)
 leaves_report_each [] m s = leaves_same s
 leaves_report_each (n ∷ ns) m s = leaves_both s (report n m s) (report_each ns m (report n m s)) (leaves_report n m s) (leaves_report_each ns m (report n m s))
 
@@ -99,7 +119,7 @@ close_of_leaves : (o : Option Shoen) (s : State) → Leaves s (close_of o s)
 close_of_leaves None s = leaves_same s
 close_of_leaves (Some h) s = leaves_if h.is_broken s s (closed_at h.tail s) (leaves_same s) (closed_leaves h.tail s)
 
-leaves_close : (n : ℕ) (s : State) → Leaves s (close n s)
+pub leaves_close : (n : ℕ) (s : State) → Leaves s (close n s)
 leaves_close n s = close_of_leaves (shoen_at n s.shoens) s
 
 life_of_marks : (hs : List Shoen) → lives_of hs ≡ map (λ (m : Mark). m.life) (marks_of hs)
@@ -111,7 +131,7 @@ same_lives hs ks e = life_of_marks hs ∙ ap (map (λ (m : Mark). m.life)) e ∙
 
 -- ---- aborts
 
-abort_leaves : (n : ℕ) (s : State) → Leaves (ended_below n s) (abort n s)
+pub abort_leaves : (n : ℕ) (s : State) → Leaves (ended_below n s) (abort n s)
 abort_leaves n s =
     let a = ended_below n s in
     let b = report n aborted_report a in
@@ -134,18 +154,18 @@ abort_removes_all_below n s = (abort_leaves n s).goals
 -- ---- terminations
 
 -- a mark where shoens of these numbers have terminated
-abbrev ended_mark : List ℕ → Mark → Mark
+abbrev pub ended_mark : List ℕ → Mark → Mark
 ended_mark ns m = record { number = m.number; life = if is_among m.number ns then Terminated else m.life }
 
 ended_by : (c : Bool) (h : Shoen) → mark_of (if c then record h { life = Terminated } else h) ≡ record { number = h.number; life = if c || false then Terminated else h.life }
 ended_by true h = refl
 ended_by false h = refl
 
-ended_marks : (n : ℕ) (hs : List Shoen) → marks_of (map (λ (h : Shoen). if h.number == n then record h { life = Terminated } else h) hs) ≡ map (ended_mark (n ∷ [])) (marks_of hs)
+pub ended_marks : (n : ℕ) (hs : List Shoen) → marks_of (map (λ (h : Shoen). if h.number == n then record h { life = Terminated } else h) hs) ≡ map (ended_mark (n ∷ [])) (marks_of hs)
 ended_marks n [] = refl
 ended_marks n (h ∷ hs) = ap₂ (λ (m : Mark) (ms : List Mark). m ∷ ms) (ended_by (h.number == n) h) (ended_marks n hs)
 
-terminate_marks : (n : ℕ) (s : State) → marks_of (terminate n s).shoens ≡ map (ended_mark (n ∷ [])) (marks_of s.shoens)
+pub terminate_marks : (n : ℕ) (s : State) → marks_of (terminate n s).shoens ≡ map (ended_mark (n ∷ [])) (marks_of s.shoens)
 terminate_marks n s =
     let a = without_monitor n (ended_at n s) in
     let b = report n terminated_report a in

@@ -7,7 +7,7 @@ use Rattle.kl1_model.specs.Module.{is_among}
 use Rattle.kl1_model.specs.State.{Goal, Shoen, State, fresh, goal_at, shoen_at, is_monitor, is_living}
 use Rattle.kl1_model.specs.Tree.{parents_of, path, is_on_path, charged_of, charge, is_blocking_at, is_enabled_in}
 use Rattle.kl1_model.specs.Event.{Event, reduce, Reply, reduced, refused}
-use Rattle.kl1_model.specs.Ending.{has_goal, ending_of, has_reached, reached_of, settle, settle_charged, abort}
+use Rattle.kl1_model.specs.Ending.{has_goal, lives, ending_of, has_reached, reached_of, settle, settle_charged, abort}
 use Rattle.kl1_model.specs.Step.{step}
 
 -- ---- trees
@@ -80,6 +80,20 @@ is_reduction _ = false
 -- no other event charges anybody
 abbrev pub OthersChargeNobody : Type 0
 OthersChargeNobody = (s : State) (e : Event) → IsTree s → is_reduction e ≡ false → (a : ℕ) → charged_of (step s e).state a ≡ charged_of s a
+
+-- ---- goals and lives
+
+-- the shoens of goals
+abbrev pub owners_of : List Goal → List ℕ
+owners_of goals = map (λ g. g.shoen) goals
+
+-- each goal and each monitor is of a living shoen
+abbrev pub AreOfLiving : State → Type 0
+AreOfLiving s = AllByRecursion (λ n. lives n s ≡ true) (owners_of s.goals)
+
+-- that stays so: a shoen that has ended has no goals and no monitor
+abbrev pub EndedHaveNoGoals : Type 0
+EndedHaveNoGoals = (s : State) (e : Event) → IsTree s → AreOfLiving s → AreOfLiving (step s e).state
 
 -- ---- refusals
 
