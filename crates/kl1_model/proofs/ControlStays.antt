@@ -1,8 +1,8 @@
 -- What stands at the front of a control stream when variables are replaced.
-use Rattle.std.proofs.Common.{◌≡◌, ℕ, Bool, true, false, if◌then◌else◌, List, [], ◌∷◌, refl, sym, ap, ◌∙◌}
+use Rattle.std.proofs.Common.{◌≡◌, ℕ, Bool, true, false, if◌then◌else◌, List, [], ◌∷◌, refl, ap, ◌∙◌}
 use Rattle.std.specs.Prelude.{codes, bytes_eq, pos, negsuc}
-use Rattle.kl1_model.specs.Term.{Term, variable, integer, atom, structure, Terms, none, more, substituted}
-use Rattle.kl1_model.specs.Control.{Word, says, says_other, unsaid, allow_word, word_of, Control, awaits_message, tells, tells_other, ends, breaks_off, control_by, control_of, awaited_by_control}
+use Rattle.kl1_model.specs.Term.{Term, variable, integer, atom, structure, none, more, substituted}
+use Rattle.kl1_model.specs.Control.{Word, says, says_other, unsaid, allow_word, word_of, ends, breaks_off, control_by, control_of, awaited_by_control}
 use Rattle.kl1_model.specs.Waits.{LeavesEach}
 use Rattle.kl1_model.specs.WaitsLaws.{control_substituted, ControlStays}
 

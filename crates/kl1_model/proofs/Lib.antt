@@ -32,3 +32,4 @@ pub mod TreeGrows
 pub mod TreeSteps
 pub mod TreeEndings
 pub mod TreeLives
+pub mod TreeLiving

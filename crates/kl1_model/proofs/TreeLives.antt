@@ -1,25 +1,23 @@
 -- Goals and monitors are of living shoens, after each event.
-use Rattle.std.proofs.Common.{◌≡◌, ◌≤◌, ◌<◌, ℕ, zero, suc, ◌+◌, ◌==◌, ◌||◌, not, ◌&&◌, Bool, true, false, if◌then◌else◌, List, [], ◌∷◌, ◌++◌, refl, sym, ap, ap₂, ◌∙◌, subst, arith}
-use Rattle.std.specs.Prelude.{map, filter, length, Option, Some, None, option_map, unwrap_or}
+use Rattle.std.proofs.Common.{◌≡◌, ℕ, ◌==◌, ◌||◌, not, ◌&&◌, Bool, true, false, if◌then◌else◌, List, [], ◌∷◌, refl, sym, ap, ap₂, ◌∙◌, subst}
+use Rattle.std.specs.Prelude.{map, filter, Option, Some, option_map, unwrap_or}
 use Rattle.std.specs.List.{AllByRecursion, list_any}
-use Rattle.std.proofs.lemmas.Bool.{false≢true, and_parts, eqb-true}
-use Rattle.kl1_model.specs.declared.life.Life.{Life}
-use Rattle.kl1_model.specs.declared.life.Life.TheVariants.{Living, Terminated, Aborted}
-use Rattle.kl1_model.specs.Module.{is_among}
+use Rattle.std.proofs.lemmas.Bool.{false≢true, eqb-true}
+use Rattle.kl1_model.specs.declared.life.Life.TheVariants.{Terminated, Aborted}
 use Rattle.kl1_model.specs.State.{Goal, Shoen, State, shoen_at, is_monitor, is_living}
 use Rattle.kl1_model.specs.Tree.{path, is_on_path}
 use Rattle.kl1_model.specs.Report.{report, report_each, close, exhausted_report, terminated_report}
 use Rattle.kl1_model.specs.Ending.{has_goal, lives, without_monitor, ended_at, terminate, terminate_each, ending_of, settle, reached_of, settle_charged, aborted_below, ended_below, abort}
 use Rattle.kl1_model.specs.TreeLaws.{AreOfLiving, owners_of}
-use Rattle.kl1_model.proofs.TreeEndings.{Mark, mark_of, marks_of, Post, post_of, posts_of, Leaves, leaves_same, leaves_both, leaves_report, leaves_report_each, leaves_close, abort_leaves, ended_mark, ended_marks, ending_have_no_goals}
+use Rattle.kl1_model.proofs.TreeEndings.{Mark, mark_of, marks_of, Post, post_of, posts_of, Leaves, leaves_both, leaves_report, leaves_report_each, leaves_close, abort_leaves, ended_mark, ended_marks, ending_have_no_goals}
 
 -- whether the shoen of a number lives, by marks
-abbrev lives_in : List Mark → ℕ → Bool
+abbrev pub lives_in : List Mark → ℕ → Bool
 lives_in [] n = false
 lives_in (m ∷ ms) n = if m.number == n then is_living m.life else lives_in ms n
 
 -- posts of living shoens
-abbrev Posted : List Mark → List Post → Type 0
+abbrev pub Posted : List Mark → List Post → Type 0
 Posted ms ps = AllByRecursion (λ (p : Post). lives_in ms p.shoen ≡ true) ps
 
 found_lives : (c : Bool) (h : Shoen) (o : Option Shoen) (b : Bool) → unwrap_or (option_map (λ (k : Shoen). is_living k.life) o) false ≡ b →
