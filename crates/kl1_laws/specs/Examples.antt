@@ -586,6 +586,14 @@ priorities_are_clipped_script = codes "accounts alice" ++ 10 ∷ [] ++ codes "al
 abbrev pub priorities_are_clipped_output : List ℕ
 priorities_are_clipped_output = codes "alice + loaded k" ++ 10 ∷ [] ++ codes "alice + shoen 1" ++ 10 ∷ [] ++ codes "alice + 2" ++ 10 ∷ [] ++ codes "alice - 6 step" ++ 10 ∷ [] ++ codes "alice + 3" ++ 10 ∷ [] ++ codes "alice + shoen 2" ++ 10 ∷ [] ++ codes "alice + reduced" ++ 10 ∷ [] ++ codes "alice + shoen 3" ++ 10 ∷ [] ++ codes "alice + 1" ++ 10 ∷ [] ++ codes "alice + terminated 1 10 0" ++ 10 ∷ []
 
+-- the bytes of priorities_are_clipped_upwards.script
+abbrev pub priorities_are_clipped_upwards_script : List ℕ
+priorities_are_clipped_upwards_script = codes "accounts alice" ++ 10 ∷ [] ++ codes "alice load 81" ++ 10 ∷ [] ++ codes ":- module k." ++ 10 ∷ [] ++ codes "g :- true | h(a)@priority(1), h(b)@priority(9)." ++ 10 ∷ [] ++ codes "h(X) :- true | true." ++ 10 ∷ [] ++ codes "alice start 10 3 5 k:g" ++ 10 ∷ [] ++ codes "alice run 3" ++ 10 ∷ [] ++ codes "alice start 10 2 2 true" ++ 10 ∷ [] ++ codes "alice run 1" ++ 10 ∷ [] ++ codes "alice reduce 3 1" ++ 10 ∷ [] ++ codes "alice status 2" ++ 10 ∷ [] ++ codes "alice run 9" ++ 10 ∷ [] ++ codes "alice status 2" ++ 10 ∷ []
+
+-- the bytes of priorities_are_clipped_upwards.expected
+abbrev pub priorities_are_clipped_upwards_output : List ℕ
+priorities_are_clipped_upwards_output = codes "alice + loaded k" ++ 10 ∷ [] ++ codes "alice + shoen 1" ++ 10 ∷ [] ++ codes "alice + 3" ++ 10 ∷ [] ++ codes "alice + shoen 2" ++ 10 ∷ [] ++ codes "alice + 1" ++ 10 ∷ [] ++ codes "alice - 6 step" ++ 10 ∷ [] ++ codes "alice + running 0 10 1" ++ 10 ∷ [] ++ codes "alice + 2" ++ 10 ∷ [] ++ codes "alice + terminated 1 10 0" ++ 10 ∷ []
+
 -- the bytes of producer_and_consumer.script
 abbrev pub producer_and_consumer_script : List ℕ
 producer_and_consumer_script = codes "accounts alice" ++ 10 ∷ [] ++ codes "alice load 277" ++ 10 ∷ [] ++ codes ":- module stream." ++ 10 ∷ [] ++ codes "make([],Out) :- true | Out = []." ++ 10 ∷ [] ++ codes "make([N|Ns],Out) :- true | Out = [item(N)|Rest], make(Ns,Rest)." ++ 10 ∷ [] ++ codes "take([],Sum) :- true | Sum = none." ++ 10 ∷ [] ++ codes "take([item(N)|Rest],Sum) :- true | Sum = some(N,More), take(Rest,More)." ++ 10 ∷ [] ++ codes "both(Ns,Sum) :- true | take(Items,Sum), make(Ns,Items)." ++ 10 ∷ [] ++ codes "alice start 100 0 10 stream:both([1,2],Sum)" ++ 10 ∷ [] ++ codes "alice run 100" ++ 10 ∷ [] ++ codes "alice value 1" ++ 10 ∷ []
@@ -649,6 +657,14 @@ stopped_and_resumed_script = codes "accounts alice" ++ 10 ∷ [] ++ codes "alice
 -- the bytes of stopped_and_resumed.expected
 abbrev pub stopped_and_resumed_output : List ℕ
 stopped_and_resumed_output = codes "alice + loaded app" ++ 10 ∷ [] ++ codes "alice + shoen 1" ++ 10 ∷ [] ++ codes "alice + sent" ++ 10 ∷ [] ++ codes "alice + 1" ++ 10 ∷ [] ++ codes "alice + stopped 0 100 1" ++ 10 ∷ [] ++ codes "alice + sent" ++ 10 ∷ [] ++ codes "alice + 5" ++ 10 ∷ [] ++ codes "alice + 4" ++ 10 ∷ [] ++ codes "alice started" ++ 10 ∷ [] ++ codes "alice stopped" ++ 10 ∷ [] ++ codes "alice resumed" ++ 10 ∷ [] ++ codes "alice terminated" ++ 10 ∷ []
+
+-- the bytes of stopped_before_exhausted.script
+abbrev pub stopped_before_exhausted_script : List ℕ
+stopped_before_exhausted_script = codes "accounts alice" ++ 10 ∷ [] ++ codes "alice start 0 0 10 true" ++ 10 ∷ [] ++ codes "alice stop 1" ++ 10 ∷ [] ++ codes "alice status 1" ++ 10 ∷ [] ++ codes "alice run 9" ++ 10 ∷ [] ++ codes "alice status 1" ++ 10 ∷ [] ++ codes "alice allow 1 5" ++ 10 ∷ [] ++ codes "alice run 9" ++ 10 ∷ [] ++ codes "alice status 1" ++ 10 ∷ [] ++ codes "alice resume 1" ++ 10 ∷ [] ++ codes "alice run 9" ++ 10 ∷ [] ++ codes "alice status 1" ++ 10 ∷ []
+
+-- the bytes of stopped_before_exhausted.expected
+abbrev pub stopped_before_exhausted_output : List ℕ
+stopped_before_exhausted_output = codes "alice + shoen 1" ++ 10 ∷ [] ++ codes "alice + sent" ++ 10 ∷ [] ++ codes "alice + exhausted 0 0 1" ++ 10 ∷ [] ++ codes "alice + 1" ++ 10 ∷ [] ++ codes "alice + stopped 0 0 1" ++ 10 ∷ [] ++ codes "alice + sent" ++ 10 ∷ [] ++ codes "alice + 1" ++ 10 ∷ [] ++ codes "alice + stopped 0 5 1" ++ 10 ∷ [] ++ codes "alice + sent" ++ 10 ∷ [] ++ codes "alice + 2" ++ 10 ∷ [] ++ codes "alice + terminated 1 5 0" ++ 10 ∷ []
 
 -- the bytes of stopped_once.script
 abbrev pub stopped_once_script : List ℕ
@@ -853,6 +869,7 @@ pub record ExamplesHold : Type 0 where
   pub overflow_is_reported : output overflow_is_reported_script ≡ overflow_is_reported_output
   pub places_of_one_variable : output places_of_one_variable_script ≡ places_of_one_variable_output
   pub priorities_are_clipped : output priorities_are_clipped_script ≡ priorities_are_clipped_output
+  pub priorities_are_clipped_upwards : output priorities_are_clipped_upwards_script ≡ priorities_are_clipped_upwards_output
   pub producer_and_consumer : output producer_and_consumer_script ≡ producer_and_consumer_output
   pub report_that_holds_its_tail : output report_that_holds_its_tail_script ≡ report_that_holds_its_tail_output
   pub reversed_list : output reversed_list_script ≡ reversed_list_output
@@ -861,6 +878,7 @@ pub record ExamplesHold : Type 0 where
   pub shoens_32_deep : output shoens_32_deep_script ≡ shoens_32_deep_output
   pub sixteen_accounts : output sixteen_accounts_script ≡ sixteen_accounts_output
   pub stopped_and_resumed : output stopped_and_resumed_script ≡ stopped_and_resumed_output
+  pub stopped_before_exhausted : output stopped_before_exhausted_script ≡ stopped_before_exhausted_output
   pub stopped_once : output stopped_once_script ≡ stopped_once_output
   pub stopped_parent_holds_back : output stopped_parent_holds_back_script ≡ stopped_parent_holds_back_output
   pub stopped_shoen_terminates : output stopped_shoen_terminates_script ≡ stopped_shoen_terminates_output

@@ -1,5 +1,5 @@
 //! Laws of shoens: of their tree, of what they are charged, and of how they end.
-ghost use Rattle.kl1_model.specs.TreeLaws.{PathsGoOn, PathsFollowParents, FreshIsTree, TreesStay, HeldBackBelow, ChargesPath, ReductionsCharge, MonitorsChargeNobody, OthersChargeNobody, EndedHaveNoGoals, RefusalsChangeNothing, AbortEndsAllBelow, AbortRemovesAllBelow, TerminationsEnd, TerminationsEndAlone, EndingHaveNoGoals, ReachedGoOn};
+ghost use Rattle.kl1_model.specs.TreeLaws.{PathsGoOn, PathsFollowParents, FreshIsTree, TreesStay, HeldBackBelow, ChargesPath, ReductionsCharge, MonitorsChargeNobody, OthersChargeNobody, FreshIsOfLiving, EndedHaveNoGoals, RefusalsChangeNothing, AbortEndsAllBelow, AbortRemovesAllBelow, TerminationsEnd, TerminationsEndAlone, EndingHaveNoGoals, ReachedGoOn};
 
 /// The path of a shoen is that shoen and then the path of its parent: by its place, where parents have lesser numbers, and by its
 /// number, where shoens are a tree. They are one in a fresh account, and after each event.
@@ -24,9 +24,10 @@ pub fn reductions_charge_their_path()
     ensures others { OthersChargeNobody }
 {}
 
-/// Goals and monitors are of living shoens, after each event: a shoen that has ended has none.
+/// Goals and monitors are of living shoens, in a fresh account and after each event: a shoen that has ended has none.
 pub fn ended_shoens_have_no_goals()
-    ensures { EndedHaveNoGoals }
+    ensures fresh { FreshIsOfLiving }
+    ensures stay { EndedHaveNoGoals }
 {}
 
 /// An event that is refused changes nothing.

@@ -24,7 +24,7 @@ use Rattle.kl1_model.specs.Reduction.{Move, commits, raises, unifies, names, ope
 use Rattle.kl1_model.specs.Sending.{may_send, has_room_to_send, with_control_tail, sent_on, send_by, send_to}
 use Rattle.kl1_model.specs.Asking.{origin_at, value_of, status_of, reports_of, answer}
 use Rattle.kl1_model.specs.Step.{with_module, load_module, step}
-use Rattle.kl1_model.specs.TreeLaws.{AreNumbered, IsTree, EndedHaveNoGoals}
+use Rattle.kl1_model.specs.TreeLaws.{AreNumbered, IsTree, FreshIsOfLiving, EndedHaveNoGoals}
 use Rattle.kl1_model.proofs.TreeKeeps.{Keeps, kept_tree, keeps_fewer}
 use Rattle.kl1_model.proofs.TreeGrows.{found_within}
 use Rattle.kl1_model.proofs.TreeEndings.{marks_of, Post, posts_of, Leaves, leaves_same, leaves_both, leaves_if, leaves_change, leaves_replace, leaves_report}
@@ -257,3 +257,6 @@ step_posts s (read q) tree a = answer_posts s q a
 
 pub ended_have_no_goals : EndedHaveNoGoals
 ended_have_no_goals s e tree a = from_posted (step s e).state (step_posts s e tree (to_posted s a))
+
+pub fresh_is_of_living : FreshIsOfLiving
+fresh_is_of_living name = tt

@@ -91,7 +91,11 @@ owners_of goals = map (λ g. g.shoen) goals
 abbrev pub AreOfLiving : State → Type 0
 AreOfLiving s = AllByRecursion (λ n. lives n s ≡ true) (owners_of s.goals)
 
--- that stays so: a shoen that has ended has no goals and no monitor
+-- so they are in a fresh account, which has none
+abbrev pub FreshIsOfLiving : Type 0
+FreshIsOfLiving = (name : List ℕ) → AreOfLiving (fresh name)
+
+-- and that stays so: a shoen that has ended has no goals and no monitor
 abbrev pub EndedHaveNoGoals : Type 0
 EndedHaveNoGoals = (s : State) (e : Event) → IsTree s → AreOfLiving s → AreOfLiving (step s e).state
 
