@@ -170,6 +170,14 @@ blanks_between_accounts_script = 9 ∷ [] ++ codes "accounts  alice" ++ 9 ∷ []
 abbrev pub blanks_between_accounts_output : List ℕ
 blanks_between_accounts_output = codes "alice + 0" ++ 10 ∷ []
 
+-- the bytes of body_goals_inherit_priority.script
+abbrev pub body_goals_inherit_priority_script : List ℕ
+body_goals_inherit_priority_script = codes "accounts alice" ++ 10 ∷ [] ++ codes "alice load 81" ++ 10 ∷ [] ++ codes ":- module k." ++ 10 ∷ [] ++ codes "g :- true | h(a)@priority(1), h(b)@priority(9)." ++ 10 ∷ [] ++ codes "h(X) :- true | true." ++ 10 ∷ [] ++ codes "alice start 10 3 5 k:g" ++ 10 ∷ [] ++ codes "alice run 3" ++ 10 ∷ [] ++ codes "alice reduce 5 0" ++ 10 ∷ [] ++ codes "alice reduce 3 1" ++ 10 ∷ [] ++ codes "alice run 9" ++ 10 ∷ [] ++ codes "alice status 1" ++ 10 ∷ []
+
+-- the bytes of body_goals_inherit_priority.expected
+abbrev pub body_goals_inherit_priority_output : List ℕ
+body_goals_inherit_priority_output = codes "alice + loaded k" ++ 10 ∷ [] ++ codes "alice + shoen 1" ++ 10 ∷ [] ++ codes "alice + 3" ++ 10 ∷ [] ++ codes "alice - 6 step" ++ 10 ∷ [] ++ codes "alice + reduced" ++ 10 ∷ [] ++ codes "alice + 1" ++ 10 ∷ [] ++ codes "alice + terminated 5 10 0" ++ 10 ∷ []
+
 -- the bytes of bytes_behind_a_load.script
 abbrev pub bytes_behind_a_load_script : List ℕ
 bytes_behind_a_load_script = codes "accounts alice bob" ++ 10 ∷ [] ++ codes "alice load 12" ++ 10 ∷ [] ++ codes ":- module e.x" ++ 10 ∷ [] ++ codes "alice load 12" ++ 10 ∷ [] ++ codes ":- module e." ++ 13 ∷ [] ++ 13 ∷ [] ++ 10 ∷ [] ++ codes "alice load 12" ++ 10 ∷ [] ++ codes ":- module e. " ++ 10 ∷ [] ++ codes "alice load 12" ++ 13 ∷ [] ++ 10 ∷ [] ++ codes ":- module e." ++ 13 ∷ [] ++ 10 ∷ [] ++ codes "alice run 0" ++ 10 ∷ []
@@ -817,6 +825,7 @@ pub record ExamplesHold : Type 0 where
   pub blank_first_line : output blank_first_line_script ≡ blank_first_line_output
   pub blank_lines : output blank_lines_script ≡ blank_lines_output
   pub blanks_between_accounts : output blanks_between_accounts_script ≡ blanks_between_accounts_output
+  pub body_goals_inherit_priority : output body_goals_inherit_priority_script ≡ body_goals_inherit_priority_output
   pub bytes_behind_a_load : output bytes_behind_a_load_script ≡ bytes_behind_a_load_output
   pub charges_go_up_the_tree : output charges_go_up_the_tree_script ≡ charges_go_up_the_tree_output
   pub clash_outweighs_waiting : output clash_outweighs_waiting_script ≡ clash_outweighs_waiting_output
