@@ -42,5 +42,5 @@ IsNoVariable (structure f ts) = Unit {0}
 
 -- what became of a message: where the end of the stream is no variable, nothing is new
 abbrev pub PutAs : {N : Type 0} → (BuiltIn → N) → Held N → Held N → Cell N → Message → Option ℕ → Type 0
-PutAs built old new tail message None = (new ≡ old) × ((f : _) → Reads built f → IsNoVariable (term_of f old tail))
+PutAs built old new tail message None = (f : _) → Reads built f → (new ≡ old) × IsNoVariable (term_of f old tail)
 PutAs built old new tail message (Some next) = HasPut built old new tail message next

@@ -33,7 +33,7 @@ fn message_cell<N: NameValue>(
         Message::Abort => Ok(Cell::Atom(N::of(BuiltIn::Abort))),
         Message::Allow(more) => {
             let name = N::of(BuiltIn::Allow);
-            let structure = store.build(name, &[Cell::Integer(more as i64)])?;
+            let structure = store.build_one(name, Cell::Integer(more as i64))?;
             Ok(Cell::Structure(structure))
         }
     }
