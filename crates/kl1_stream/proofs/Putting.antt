@@ -104,8 +104,8 @@ is_put f h mid new v m x next g means others s = record {
 pub put_as : {N : Type 0} (built : BuiltIn → N) (h mid new : Held N) (tail : Cell N) (v : ℕ) (m : Message) (x : Cell N) (o : Option ℕ) → IsWalked h (Variable v) → ((f : N → List ℕ) → term_of f h (Variable v) ≡ term_of f h tail) → Grown h mid →
     IsMessage built h mid m x → SentAs built mid new v x o → PutAs built h new tail m o
 put_as built h mid new tail v m x None u e g c s = λ f reads.
-let is : false ≡ true = sym (never_in v m) ∙ ap (occurs v) (sym (c.means f reads)) ∙ s.1 f reads in
-absurd (false≢true is)
+    let is : false ≡ true = sym (never_in v m) ∙ ap (occurs v) (sym (c.means f reads)) ∙ s.1 f reads in
+    absurd (false≢true is)
 put_as built h mid new tail v m x (Some next) u e g c s = record {
   number = v;
   tail_is = λ f. sym (e f) ∙ term_of-unbound f h v u;

@@ -1,14 +1,20 @@
-use Rattle.std.proofs.lemmas.Result.{if_ok_weaker}
+use Rattle.std.proofs.lemmas.Result.{IfOk-weaker}
 use Rattle.kl1_store.specs.declared.cell.Cell.TheVariants as cell
+use Rattle.kl1_stream.specs.Sendings.{SentAs}
+use Rattle.kl1_stream.specs.Messages.{PutAs}
 use Rattle.kl1_stream.proofs.Putting.{put_as, has_no_variable}
 use Rattle.kl1_stream.proofs.console.send_message.Goals as goal
 
 pub returns-in_ok-cell-in-Variable-clause-put : goal.returns-in_ok-cell-in-Variable-clause-put
 returns-in_ok-cell-in-Variable-clause-put g c =
-    if_ok_weaker c.send.result
-    (λ o. put_as g.N.NameValue.built c.args.store.now.held c.message_cell.new.store.held c.send.new.store.held c.args.tail c.in-Variable.variable c.args.message c.in_ok-cell-in-Variable.cell o
-    c.in-Variable.ensures.walked c.in-Variable.ensures.means c.in_ok-cell-in-Variable.ensures.grown c.in_ok-cell-in-Variable.ensures.message)
-    c.send.ensures.sent
+    let built = g.N.NameValue.built in
+    let mid = c.message_cell.new.store.held in
+    let new = c.send.new.store.held in
+    let v = c.in-Variable.variable in
+    let x = c.in_ok-cell-in-Variable.cell in
+    let e = c.in_ok-cell-in-Variable.ensures in
+    IfOk-weaker c.send.result (SentAs built mid new v x) (PutAs built c.args.store.now.held new c.args.tail c.args.message)
+    (λ o. put_as built c.args.store.now.held mid new c.args.tail v c.args.message x o c.in-Variable.ensures.walked c.in-Variable.ensures.means e.grown e.message) c.send.ensures.sent
 
 pub returns-in-Integer-clause-put : goal.returns-in-Integer-clause-put
 returns-in-Integer-clause-put g c =
