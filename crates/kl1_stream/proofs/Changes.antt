@@ -1,18 +1,22 @@
--- What a report and an end do to an account's state, by the definitions.
-use Rattle.std.proofs.Common.{◌≡◌, ℕ, suc, Bool, not, ◌||◌, if◌then◌else◌, List, refl, sym, ap, ◌∙◌}
-use Rattle.std.specs.Prelude.{Some, nat_lt}
+-- What a report, an end and a message of the console do to an account's state, by the definitions.
+use Rattle.std.proofs.Common.{◌≡◌, ℕ, suc, ◌+◌, Bool, not, ◌||◌, if◌then◌else◌, List, refl, sym, ap, ◌∙◌}
+use Rattle.std.specs.Prelude.{Some, None, nat_lt}
 use Rattle.kl1_model.specs.Limits.{most_reports}
 use Rattle.kl1_model.specs.declared.built_in.BuiltIn.{BuiltIn}
 use Rattle.kl1_model.specs.Term.{Term, variable, integer, atom, structure, occurs}
 use Rattle.kl1_model.specs.Meaning.{cell}
 use Rattle.kl1_model.specs.State.{Shoen, State, shoen_at, change_shoen, replace_in_state}
 use Rattle.kl1_model.specs.Report.{report, report_of, reported_at, broken_at, close, close_of, closed_at}
+use Rattle.kl1_model.specs.declared.message.Message.{Message}
+use Rattle.kl1_model.specs.Control.{message_term, message_nodes}
+use Rattle.kl1_model.specs.Sending.{with_control_tail, sent_on}
 use Rattle.kl1_text.specs.Reading.{Reads}
 use Rattle.kl1_store.specs.declared.cell.Cell.{Cell}
 use Rattle.kl1_store.specs.Held.{Held}
 use Rattle.kl1_store.specs.Meaning.{term_of}
 use Rattle.kl1_stream.specs.declared.told.Told.TheVariants.{Dropped, Broken, Sent}
 use Rattle.kl1_stream.specs.Reports.{Breaks, ToldAs}
+use Rattle.kl1_stream.specs.Messages.{IsNoVariable, PutAs}
 
 -- a state whose shoen of a number has the tail that a cell means, and whose variables are those of a store
 pub record IsStateOf {N : Type 0} (f : N → List ℕ) (old : Held N) (tail : Cell N) (is_broken is_last : Bool) (n : ℕ) (s : State) : Type 0 where
@@ -80,3 +84,27 @@ closes f old tail is_broken is_last n s p =
     ap (λ o. close_of o s) p.there
     ∙ ap (λ b. if b then s else closed_at p.shoen.tail s) p.broken_is
     ∙ ap (λ t. if is_broken then s else closed_at t s) p.tail_is
+
+-- a message that was put in place of a variable, the next of which has this number
+abbrev pub put_at : ℕ → ℕ → Message → ℕ → State → State
+put_at n v m next s =
+    change_shoen n (with_control_tail (variable next)) (record (replace_in_state v (cell (message_term m) (variable next)) s) {
+      last_variable = next;
+      variables = suc s.variables;
+      nodes = s.nodes + message_nodes m;
+    })
+
+-- a message of the console that was put at the end of a control stream
+pub puts : {N : Type 0} (built : BuiltIn → N) (f : N → List ℕ) (old new : Held N) (tail : Cell N) (m : Message) (next n : ℕ) (s : State) → suc s.last_variable ≡ old.variables → (d : PutAs built old new tail m (Some next)) →
+    sent_on n m (term_of f old tail) s ≡ put_at n d.number m next s
+puts built f old new tail m next n s e d = ap (λ t. sent_on n m t s) (d.tail_is f) ∙ ap (λ k. put_at n d.number m k s) (e ∙ sym d.next_is)
+
+no_end : (n : ℕ) (m : Message) (t : Term) (s : State) → IsNoVariable t → sent_on n m t s ≡ s
+no_end n m (variable v) s e = absurd e
+no_end n m (integer i) s e = refl
+no_end n m (atom a) s e = refl
+no_end n m (structure g ts) s e = refl
+
+-- where the end of the stream is no variable, nothing is put
+pub puts_nothing : {N : Type 0} (built : BuiltIn → N) (f : N → List ℕ) (old new : Held N) (tail : Cell N) (m : Message) (n : ℕ) (s : State) → Reads built f → PutAs built old new tail m None → sent_on n m (term_of f old tail) s ≡ s
+puts_nothing built f old new tail m n s reads d = no_end n m (term_of f old tail) s (d f reads).1

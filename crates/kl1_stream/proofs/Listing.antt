@@ -1,6 +1,5 @@
 -- The elements of a list that is walked.
-use Rattle.std.proofs.Common.{◌≡◌, ℕ, zero, suc, List, [], ◌∷◌, drop, refl, sym, ap, ◌∙◌}
-use Rattle.std.specs.Prelude.{codes, bytes_eq, false}
+use Rattle.std.proofs.Common.{◌≡◌, ℕ, zero, suc, List, [], drop, refl, sym, ap, ◌∙◌}
 use Rattle.kl1_model.specs.Term.{Term, structure, Terms, none, more, count_of}
 use Rattle.kl1_model.specs.Meaning.{cell}
 use Rattle.kl1_model.specs.Asking.{elements_of}

@@ -1,5 +1,5 @@
 -- Messages as cells, and at the end of control streams.
-use Rattle.std.proofs.Common.{◌≡◌, ℕ, suc, ◌≤◌, true, false, List, [], ◌∷◌, ◌++◌, length, take, length-append, refl, sym, ap, ◌∙◌, arith, subst, ℤ}
+use Rattle.std.proofs.Common.{◌≡◌, ℕ, suc, ◌≤◌, true, false, List, [], ◌∷◌, length, take, length-append, refl, sym, ap, ◌∙◌, arith, subst, ℤ}
 use Rattle.std.specs.Prelude.{Option, Some, None, pos, slice_get}
 use Rattle.std.proofs.lemmas.Bool.{false≢true}
 use Rattle.kl1_model.specs.declared.built_in.BuiltIn.{BuiltIn}
@@ -7,7 +7,7 @@ use Rattle.kl1_model.specs.declared.built_in.BuiltIn.TheVariants as built_in
 use Rattle.kl1_model.specs.declared.message.Message.{Message}
 use Rattle.kl1_model.specs.declared.message.Message.TheVariants.{Stop, Start, Abort, Allow}
 use Rattle.kl1_model.specs.Text.{text_of}
-use Rattle.kl1_model.specs.Term.{Term, variable, integer, atom, structure, none, more, occurs, replace}
+use Rattle.kl1_model.specs.Term.{variable, integer, atom, structure, none, more, occurs, replace}
 use Rattle.kl1_model.specs.Meaning.{cell}
 use Rattle.kl1_model.specs.Control.{message_term}
 use Rattle.kl1_text.specs.Reading.{Reads}
@@ -19,7 +19,7 @@ use Rattle.kl1_store.specs.Sound.{IsFormed, Grown}
 use Rattle.kl1_store.proofs.Growing.{IsFormed-structure}
 use Rattle.kl1_store.proofs.Terms.{term_of-structure, term_of-Structure, term_of-Atom, term_of-Integer, term_of-unbound}
 use Rattle.kl1_stream.specs.Sendings.{IsSent, SentAs}
-use Rattle.kl1_stream.specs.Messages.{IsMessage, IsPut, HasPut, IsNoVariable, PutAs}
+use Rattle.kl1_stream.specs.Messages.{IsMessage, IsPut, IsNoVariable, PutAs}
 use Rattle.kl1_stream.proofs.Pairs.{get_after}
 use Rattle.kl1_stream.proofs.Tails.{BreaksOff, off_is}
 

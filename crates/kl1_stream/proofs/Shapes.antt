@@ -1,7 +1,7 @@
 -- What stands at the top of a term, by the cell that it is.
-use Rattle.std.proofs.Common.{◌≡◌, ℕ, List, [], ◌∷◌, length, refl, sym, ap, ◌∙◌, subst, arith, ℤ}
+use Rattle.std.proofs.Common.{◌≡◌, ℕ, List, [], ◌∷◌, length, sym, ap, ◌∙◌, subst, arith, ℤ}
 use Rattle.std.specs.Prelude.{Some, slice_get}
-use Rattle.kl1_model.specs.Term.{Term, variable, integer, atom, structure, Terms, none, more}
+use Rattle.kl1_model.specs.Term.{variable, integer, atom, structure, none, more}
 use Rattle.kl1_store.specs.declared.cell.Cell.{Cell}
 use Rattle.kl1_store.specs.declared.cell.Cell.TheVariants.{Variable, Integer, Atom, Structure}
 use Rattle.kl1_store.specs.Held.{Held, IsIn, IsWalked, arguments_of}

@@ -10,7 +10,6 @@ use Rattle.kl1_store.specs.declared.cell.Cell.{Cell}
 use Rattle.kl1_store.specs.declared.cell.Cell.TheVariants.{Variable}
 use Rattle.kl1_store.specs.Held.{Held, IsIn}
 use Rattle.kl1_store.specs.Meaning.{term_of}
-use Rattle.kl1_store.specs.Sound.{IsFormed}
 
 -- a cell of a store means a message, no variable and no binding is new, and all that was there means what it meant
 pub record IsMessage {N : Type 0} (built : BuiltIn → N) (old new : Held N) (message : Message) (x : Cell N) : Type 0 where

@@ -15,10 +15,7 @@ use kl1_text::NameValue;
 use std::alloc::AllocError;
 
 /// The term of a message.
-fn message_cell<N: NameValue>(
-    store: &mut Store<N>,
-    message: Message,
-) -> Result<Cell<N>, AllocError>
+fn message_cell<N: NameValue>(store: &mut Store<N>, message: Message) -> Result<Cell<N>, AllocError>
     requires { IsTrue (is_message message) }
     ensures message { IfOk result (IsMessage N.built store.old.held store.new.held message) }
     ensures grown { Grown store.old.held store.new.held }

@@ -1,4 +1,4 @@
-use Rattle.std.proofs.Common.{refl, sym, ap, ◌∙◌, rules}
+use Rattle.std.proofs.Common.{ap, rules}
 use Rattle.kl1_model.specs.declared.built_in.BuiltIn.TheVariants as built_in
 use Rattle.kl1_model.specs.Control.{message_term}
 use Rattle.kl1_stream.proofs.Putting.{atom_message, allow_message}

@@ -13,9 +13,10 @@ returns-then-head-eq1-clause-top g c = λ f.
 
 pub returns-then-head-eq2-clause-inside : goal.returns-then-head-eq2-clause-inside
 returns-then-head-eq2-clause-inside g c =
-    let h = c.args.store.now.held in
-    (argument_in h c.in-Structure.structure 0 c.argument-then-head-eq2.result c.mark.ensures.formed c.argument-then-head-eq2.ensures,
-      argument_in h c.in-Structure.structure 1 c.argument-then-head-eq2-2.result c.mark.ensures.formed c.argument-then-head-eq2-2.ensures)
+    let h = c.args.store.now.held in (
+      argument_in h c.in-Structure.structure 0 c.argument-then-head-eq2.result c.mark.ensures.formed c.argument-then-head-eq2.ensures,
+      argument_in h c.in-Structure.structure 1 c.argument-then-head-eq2-2.result c.mark.ensures.formed c.argument-then-head-eq2-2.ensures,
+    )
 
 pub returns-then-head-eq2-clause-top : goal.returns-then-head-eq2-clause-top
 returns-then-head-eq2-clause-top g c = λ f.
