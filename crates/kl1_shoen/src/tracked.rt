@@ -39,6 +39,7 @@ impl<T: Copy> Model for TrackedList<T> {
 
 impl<T: Copy> TrackedList<T> {
     /// An empty list.
+    #[tactic(auto, using(crate::proofs::Putting::put_none))]
     pub fn new(alloc: Global) -> Self
         ensures now { result.now ≡ [] }
         ensures kept { result.kept ≡ [] }
@@ -58,6 +59,7 @@ impl<T: Copy> TrackedList<T> {
     }
 
     /// Marks the list as it is: `back` comes back to this.
+    #[tactic(auto, using(crate::proofs::Putting::put_whole))]
     pub fn begin(&mut self)
         ensures now { self.new.now ≡ self.old.now }
         ensures kept { self.new.kept ≡ self.old.now }
@@ -98,18 +100,25 @@ impl<T: Copy> TrackedList<T> {
     }
 
     /// Takes an item in.
+    #[tactic(auto, using(crate::proofs::Putting::take_push))]
     pub fn push(&mut self, item: T)
         requires room { 0 < self.old.room }
-        ensures { self.new ≡ record self.old { now = self.old.now ++ item ∷ []; room = self.old.room - 1 } }
+        ensures now { self.new.now ≡ self.old.now ++ item ∷ [] }
+        ensures kept { self.new.kept ≡ self.old.kept }
+        ensures room { self.new.room + 1 ≡ self.old.room }
     {
         self.items.push_reserved(item);
     }
 
     /// Puts an item in place of another.
+    #[tactic(auto, using(crate::proofs::Putting::put_more))]
     pub fn put(&mut self, place: usize, item: T)
         requires place { place < length self.old.now }
         requires changes { 0 < self.old.changes }
-        ensures { self.new ≡ record self.old { now = set self.old.now place item; changes = self.old.changes - 1 } }
+        ensures now { self.new.now ≡ set self.old.now place item }
+        ensures kept { self.new.kept ≡ self.old.kept }
+        ensures room { self.new.room ≡ self.old.room }
+        ensures changes { self.new.changes + 1 ≡ self.old.changes }
     {
         let value = self.items[place];
         self.was.push_reserved(Was { place, value });
@@ -118,6 +127,7 @@ impl<T: Copy> TrackedList<T> {
 }
 
 /// Puts back what stood at each of these places, the last first.
+#[tactic(auto, using(crate::proofs::Putting::put_last, crate::proofs::Putting::put_beyond, crate::proofs::Putting::put_none))]
 fn put_all_back<T: Copy>(items: &mut Vec<T>, was: &mut Vec<Was<T>>)
     ensures items { items.new.items ≡ put_back was.old.items items.old.items }
     ensures len { vec_len items.new ≡ vec_len items.old }

@@ -159,6 +159,14 @@ fn parent_of<N: NameValue>(shoens: &[Shoen<N>], number: u64) -> u64
     ensures path { 0 < number → path_in shoens.now number ≡ number ∷ path_in shoens.now result }
     ensures end { number ≡ 0 → path_in shoens.now number ≡ [] }
 {
+    parent_named(shoens, number)
+}
+
+/// The number of the parent that a shoen names.
+fn parent_named<N: NameValue>(shoens: &[Shoen<N>], number: u64) -> u64
+    requires { AreNumbered 0 shoens.now }
+    ensures { result ≡ unwrap_or (option_map (λ h. h.parent) (find (has_number number) shoens.now)) 0 }
+{
     let Some(shoen) = lent(shoens, number) else {
         return 0;
     };
