@@ -73,7 +73,7 @@ charged_open ss cs ws s a n few =
     let len = length_parents ss in
     record {
       numbered = numbered_push 0 ss s a.numbered (omega (arith, n));
-      lower = subst ParentsAreLower (sym (parents_after ss s)) (lower_after 0 s.parent (parents_in ss) a.lower (omega (arith, few, len)));
+      lower = subst ParentsAreLower (sym (parents_after ss s)) (λ k. let l = lower_after 0 s.parent (parents_in ss) (λ j. let m = a.lower j in omega (arith, m)) (omega (arith, few, len)) k in omega (arith, l));
       worked = wider (length ss) (length (ss ++ s ∷ [])) (let l = length_more ss s in omega (arith, l)) ws a.worked;
       count = length_more cs 0 ∙ ap suc a.count ∙ sym (length_more ss s);
       charged = λ k.
@@ -98,7 +98,7 @@ charged_more ss cs ds ws n a le len e = record {
 pub charged_few : {N : Type 0} (ss : List (Shoen N)) (cs ws : List ℕ) (most : ℕ) → AreCharged ss cs ws → length ws < most → (k : ℕ) → get_or cs k 0 < most
 charged_few ss cs ws most a lt k =
     let e = a.charged k in
-    let l = count_by-le-length {p = λ w. is_on_path_in ss (suc k) w} ws in
+    let l = count_by-le-length (λ w. is_on_path_in ss (suc k) w) ws in
     omega (arith, e, l, lt)
 
 count_no : (p : ℕ → Bool) → ((w : ℕ) → p w ≡ false) → (ws : List ℕ) → count_by p ws ≡ 0
@@ -127,13 +127,15 @@ flag_few false = omega arith
 
 raise_case : (c : Bool) (cs : List ℕ) (at k v : ℕ) (up : Bool) → (suc k == at) ≡ c → 0 < at → at - 1 < length cs → v ≡ get_or cs (at - 1) 0 → (at ≡ suc k → up ≡ false) →
     (if up then 1 else 0) + get_or (set cs (at - 1) (v + 1)) k 0 ≡ (if (c || up) then 1 else 0) + get_or cs k 0
-raise_case true cs at k v up d lt within e off =
+raise_case true cs at k v up d lt within e away =
     let is : suc k ≡ at = eqb-true (suc k) at d in
     let place : k ≡ at - 1 = omega (arith, is) in
-    let no : up ≡ false = off (sym is) in
+    let no : up ≡ false = away (sym is) in
     let same : get_or (set cs (at - 1) (v + 1)) k 0 ≡ v + 1 = ap (λ j. get_or (set cs (at - 1) (v + 1)) j 0) place ∙ get_or-set_same cs (at - 1) (v + 1) 0 within in
     let old : get_or cs k 0 ≡ v = ap (λ j. get_or cs j 0) place ∙ sym e in
-    ap (λ b. (if b then 1 else 0) + get_or (set cs (at - 1) (v + 1)) k 0) no ∙ same ∙ omega (arith, old)
+    let off : (if up then 1 else 0) ≡ 0 = ap (λ b. if b then 1 else 0) no in
+    let on : (if (true || up) then 1 else 0) ≡ 1 = refl in
+    omega (arith, off, on, same, old)
 raise_case false cs at k v up d lt within e off =
     let other : k ≡ at - 1 → ⊥ = λ f. false≢true (sym d ∙ eq-eqb (suc k) at (omega (arith, f, lt))) in
     ap (λ (m : ℕ). (if up then 1 else 0) + m) (get_or-set_other cs (at - 1) k (v + 1) 0 other)
@@ -144,3 +146,9 @@ pub raise_step : {N : Type 0} (ss : List (Shoen N)) (cs : List ℕ) (at up v : �
 raise_step ss cs at up v lower lt within e below path k =
     raise_case (suc k == at) cs at k v (is_on_path_in ss (suc k) up) refl lt within e (λ is. beyond_path (parents_in ss) lower up up (suc k) (omega (arith, is, below)))
     ∙ ap (λ ns. (if is_among (suc k) ns then 1 else 0) + get_or cs k 0) (sym path)
+
+-- an item in place of another leaves the length
+pub length_set : {A : Type 0} (xs : List A) (i : ℕ) (a : A) → length (set xs i a) ≡ length xs
+length_set [] i a = refl
+length_set (x ∷ xs) zero a = refl
+length_set (x ∷ xs) (suc i) a = ap suc (length_set xs i a)

@@ -1,5 +1,5 @@
 -- Shoens in order of number, found and exchanged by place.
-use Rattle.std.proofs.Common.{◌≡◌, ℕ, zero, suc, ◌+◌, ◌-◌, ◌<◌, ◌≤◌, if◌then◌else◌, List, [], ◌∷◌, ◌++◌, length, refl, sym, ap, ◌∙◌, arith, subst}
+use Rattle.std.proofs.Common.{◌≡◌, ℕ, zero, suc, ◌+◌, ◌-◌, ◌<◌, ◌≤◌, if◌then◌else◌, List, [], ◌∷◌, ◌++◌, length, get_or, refl, sym, ap, ◌∙◌, arith, subst}
 use Rattle.std.specs.Prelude.{Option, Some, None, find, option_copied, slice_get, slice_set, IfSome}
 use Rattle.std.specs.Borrow.{Bor}
 use Rattle.std.proofs.lemmas.Bool.{ne_eqb, eq-eqb}
@@ -59,4 +59,9 @@ some_number (Some r) s n e h = ap (λ (x : Shoen _). x.number) (sym (same_Some r
 -- a shoen that is found has that number
 pub number_is : {N : Type 0} (n : ℕ) (s : Shoen N) (ss : List (Shoen N)) → AreNumbered 0 ss → 0 < n → find (has_number n) ss ≡ Some s → s.number ≡ n
 number_is n s ss a lt e =
-    some_number (slice_get ss (n - 1)) s (suc (n - 1)) (sym (found_at n ss a lt) ∙ e) (number_from 0 (n - 1) ss a) ∙ omega (arith, lt)
+    some_number (slice_get ss (n - 1)) s (suc (0 + (n - 1))) (sym (found_at n ss a lt) ∙ e) (number_from 0 (n - 1) ss a) ∙ omega (arith, lt)
+
+pub numbered_get : {N : Type 0} (last i : ℕ) (ss : List (Shoen N)) (x : Shoen N) → AreNumbered last ss → i < length ss → x ≡ get_or ss i x → x.number ≡ suc (last + i)
+numbered_get last i [] x a lt e = absurd (omega (arith, lt))
+numbered_get last zero (s ∷ ss) x a lt e = ap (λ (y : Shoen _). y.number) e ∙ a.0 ∙ omega arith
+numbered_get last (suc i) (s ∷ ss) x a lt e = numbered_get (suc last) i ss x a.1 (omega (arith, lt)) e ∙ omega arith

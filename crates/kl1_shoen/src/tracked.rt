@@ -1,6 +1,6 @@
 // Lists that can be put back to what they were.
 
-ghost use Rattle.std.specs.Prelude.{◌≡◌, ◌<◌, ◌≤◌, ◌+◌, ◌-◌, [], ◌∷◌, ◌++◌, set, length, take, vec_len, vec_capacity, slice_get, option_copied, OnOk, OnErr};
+ghost use Rattle.std.specs.Prelude.{◌≡◌, ◌<◌, ◌≤◌, ◌+◌, ◌-◌, [], ◌∷◌, ◌++◌, set, get_or, length, take, vec_len, vec_capacity, slice_get, option_copied, OnOk, OnErr};
 ghost use Rattle.kl1_shoen.specs.Tracked.{Tracked, put_back};
 
 use std::alloc::{AllocError, Global};
@@ -111,7 +111,6 @@ impl<T: Copy> TrackedList<T> {
     }
 
     /// Puts an item in place of another.
-    #[tactic(auto, using(crate::proofs::Putting::put_more))]
     pub fn put(&mut self, place: usize, item: T)
         requires place { place < length self.old.now }
         requires changes { 0 < self.old.changes }
@@ -120,10 +119,18 @@ impl<T: Copy> TrackedList<T> {
         ensures room { self.new.room ≡ self.old.room }
         ensures changes { self.new.changes + 1 ≡ self.old.changes }
     {
-        let value = self.items[place];
+        let value = item_at(&self.items, place);
         self.was.push_reserved(Was { place, value });
         self.items[place] = item;
     }
+}
+
+/// The item at a place, from 0.
+fn item_at<T: Copy>(items: &Vec<T>, place: usize) -> T
+    requires { place < length items.now.items }
+    ensures { result ≡ get_or items.now.items place result }
+{
+    items[place]
 }
 
 /// Puts back what stood at each of these places, the last first.
