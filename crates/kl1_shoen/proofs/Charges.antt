@@ -133,8 +133,8 @@ raise_case true cs at k v up d lt within e away =
     let no : up ≡ false = away (sym is) in
     let same : get_or (set cs (at - 1) (v + 1)) k 0 ≡ v + 1 = ap (λ j. get_or (set cs (at - 1) (v + 1)) j 0) place ∙ get_or-set_same cs (at - 1) (v + 1) 0 within in
     let old : get_or cs k 0 ≡ v = ap (λ j. get_or cs j 0) place ∙ sym e in
-    let off : (if up then 1 else 0) ≡ 0 = ap (λ b. if b then 1 else 0) no in
-    let on : (if (true || up) then 1 else 0) ≡ 1 = refl in
+    let off : ◌≡◌ {A = ℕ} (if up then 1 else 0) 0 = ap (λ b. if b then 1 else 0) no in
+    let on : ◌≡◌ {A = ℕ} (if (true || up) then 1 else 0) 1 = refl in
     omega (arith, off, on, same, old)
 raise_case false cs at k v up d lt within e off =
     let other : k ≡ at - 1 → ⊥ = λ f. false≢true (sym d ∙ eq-eqb (suc k) at (omega (arith, f, lt))) in

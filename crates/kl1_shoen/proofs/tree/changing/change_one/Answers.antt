@@ -16,7 +16,7 @@ returns-in_default-clause-ok g c =
     let none : find (has_number c.args.number) c.args.shoens.now.now ≡ None = cc in
     sym (changed_none c.args.number (changed_by c.args.change) c.args.shoens.now.now none)
 
-found : (g : given.Over) (c : goal.After-in-Some g) → find (has_number c.args.number) c.args.shoens.now.now ≡ Some c.in-Some.shoen
+found : (g : given.Over) (c : goal.After-put g) → find (has_number c.args.number) c.args.shoens.now.now ≡ Some c.in-Some.shoen
 found g c =
     let p = c.items.ensures in
     let q = c.lent.ensures.value in
@@ -25,11 +25,23 @@ found g c =
     cc
 
 pub overflow_sub-number : goal.overflow_sub-number
-overflow_sub-number g c = let lt = number_some c.args.number c.in-Some.shoen c.args.shoens.now.now c.requires (found g c) in omega (arith, lt)
+overflow_sub-number g c =
+    let p = c.items.ensures in
+    let q = c.lent.ensures.value in
+    let r = c.copied.ensures in
+    let s = c.in-Some.is in
+    let found : find (has_number c.args.number) c.args.shoens.now.now ≡ Some c.in-Some.shoen = cc in
+    let lt = number_some c.args.number c.in-Some.shoen c.args.shoens.now.now c.requires found in
+    omega (arith, lt)
 
 pub put-requires-clause-place : goal.put-requires-clause-place
 put-requires-clause-place g c =
-    let lt = place_within c.args.number c.in-Some.shoen c.args.shoens.now.now c.requires (found g c) in
+    let p = c.items.ensures in
+    let q = c.lent.ensures.value in
+    let r = c.copied.ensures in
+    let s = c.in-Some.is in
+    let found : find (has_number c.args.number) c.args.shoens.now.now ≡ Some c.in-Some.shoen = cc in
+    let lt = place_within c.args.number c.in-Some.shoen c.args.shoens.now.now c.requires found in
     let e = ap (λ (l : List (Shoen g.row.N.Denot)). length l) c.reserve_changes.ensures.now in
     omega (arith, lt, e)
 

@@ -40,3 +40,6 @@ path-preserved g c =
       kept = c.put.ensures.kept ∙ i.kept;
       room = c.put.ensures.room ∙ i.room;
     }
+
+pub path-smaller : goal.path-smaller
+path-smaller g c = c.parent_of-up.ensures.below (omega (arith, c.if-at-eq0.false))
