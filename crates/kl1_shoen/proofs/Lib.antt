@@ -1,2 +1,5 @@
+pub mod Putting
 pub mod Numbered
-pub mod Meaning
+pub mod Paths
+pub mod Charges
+pub mod Changing
