@@ -5,7 +5,7 @@ use Rattle.kl1_queue.specs.Ranks.{rank_of}
 use Rattle.kl1_goals.specs.declared.goal.Goal.{Goal}
 use Rattle.kl1_goals.specs.declared.slot.Slot.{Slot}
 use Rattle.std.specs.List.{filter}
-use Rattle.kl1_goals.specs.Lists.{is_other, is_flagged, enabled_by}
+use Rattle.kl1_goals.specs.Lists.{is_other, is_flagged, is_counted_by, enabled_by}
 use Rattle.kl1_goals.specs.Readies.{stands}
 use Rattle.kl1_goals.specs.Tables.{Ascend}
 
@@ -50,6 +50,10 @@ enabled_in flags s = record s { goal = enabled_by flags s.goal }
 -- whether a place has a goal, and the flag of its shoen isn't set
 abbrev pub unflagged_in : {N : Type 0} → List Bool → Slot N → Bool
 unflagged_in flags s = s.is_held && not (is_flagged flags s.goal)
+
+-- whether a place has a goal that is no monitor, and the flag of its shoen is set
+abbrev pub counted_in : {N : Type 0} → List Bool → Slot N → Bool
+counted_in flags s = s.is_held && is_counted_by flags s.goal
 
 -- places of which one is changed
 abbrev pub changed_at : {N : Type 0} → (Slot N → Slot N) → ℕ → List (Slot N) → List (Slot N)

@@ -1,6 +1,6 @@
 -- What a table keeps of each shoen.
 use Rattle.std.specs.Prelude.{◌≡◌, ℕ, ◌+◌, ◌-◌, not, if◌then◌else◌, List, ◌∷◌, map, length, get_or, Some, None}
-use Rattle.std.specs.List.{filter, count_by}
+use Rattle.std.specs.List.{filter}
 use Rattle.std.specs.Option.{option_to_list}
 use Rattle.kl1_goals.specs.declared.goal.Goal.{Goal}
 use Rattle.kl1_goals.specs.declared.slot.Slot.{Slot}
@@ -29,8 +29,8 @@ pub record IsTally {N : Type 0} (n : ℕ) (gs : List (Goal N)) (t : Tally) : Typ
   pub goals : t.goals ≡ length (filter (is_goal_of n) gs)
   pub monitor : map number_of (filter (is_monitor_of n) gs) ≡ option_to_list t.monitor
 
--- what a table keeps
-pub record IsTable {N : Type 0} (ss : List (Slot N)) (empty : ℕ) (ranks : List ℕ) (ts : List Tally) (alive : ℕ) : Type 0 where
+-- what a table keeps, and how many goals it has other than monitors
+pub record IsTable {N : Type 0} (ss : List (Slot N)) (empty : ℕ) (ranks : List ℕ) (ts : List Tally) (count : ℕ) : Type 0 where
   pub slots : AreSlots ss empty ranks
   pub tallied : (n : ℕ) → IsTally n (goals_in ss) (tally_at ts n)
-  pub lives : alive ≡ count_by (λ g. not (is_monitor g)) (goals_in ss)
+  pub alive : count ≡ length (filter (λ g. not (is_monitor g)) (goals_in ss))

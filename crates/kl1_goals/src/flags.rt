@@ -1,10 +1,11 @@
 // Goals by flags of their shoens.
 
-ghost use Rattle.std.specs.Prelude.{◌≡◌, ◌-◌, ◌<◌, ◌≤◌, ◌&&◌, false, not, Bool, length, map, get_or, vec_len, vec_capacity};
+ghost use Rattle.std.specs.Prelude.{◌≡◌, ◌-◌, ◌<◌, ◌≤◌, ◌&&◌, ◌||◌, false, not, Bool, length, map, get_or, vec_len, vec_capacity};
 ghost use Rattle.std.specs.List.{filter, count_by};
 ghost use Rattle.kl1_goals.specs.Lists.{is_monitor, is_flagged, is_counted_by, enabled_by};
-ghost use Rattle.kl1_goals.specs.Slots.{goals_in, level_in, rank_in, enabled_in, changed_at, AreLow, AreSlots};
+ghost use Rattle.kl1_goals.specs.Slots.{goals_in, level_in, rank_in, counted_in, enabled_in, changed_at, AreLow, AreSlots};
 
+use crate::goal::Goal;
 use crate::places::rank_all;
 use crate::slot::Slot;
 use kl1_queue::ReadyQueue;
@@ -24,7 +25,7 @@ pub(crate) fn flag_of(flags: &[bool], shoen: u64) -> bool
 
 /// Whether a goal is in a place, is no monitor, and its shoen's flag is set.
 fn is_counted<N: NameValue>(slot: &Slot<N>, flags: &[bool]) -> bool
-    ensures { result ≡ (slot.now.is_held && is_counted_by flags.now slot.now.goal) }
+    ensures { result ≡ counted_in flags.now slot.now }
 {
     slot.is_held && !slot.goal.is_monitor() && flag_of(flags, slot.goal.shoen)
 }
@@ -40,6 +41,13 @@ pub(crate) fn count_flagged<N: NameValue>(slots: &Vec<Slot<N>>, flags: &[bool]) 
         }
     }
     count
+}
+
+/// Whether a goal is a monitor, or its shoen's flag is set.
+fn may_step<N: NameValue>(goal: &Goal<N>, flags: &[bool]) -> bool
+    ensures { result ≡ (is_monitor goal.now || is_flagged flags.now goal.now) }
+{
+    goal.is_monitor() || flag_of(flags, goal.shoen)
 }
 
 /// Lets the goal of a place step, where it is a monitor or its shoen's flag is set, and no other.
@@ -59,7 +67,7 @@ fn enable<N: NameValue>(
     ensures room { queue.new.room ≡ queue.old.room }
 {
     let slot = &mut slots[place];
-    let is_enabled = slot.goal.is_monitor() || flag_of(flags, slot.goal.shoen);
+    let is_enabled = may_step(&slot.goal, flags);
     if slot.goal.is_enabled == is_enabled {
         return;
     }

@@ -191,12 +191,7 @@ impl<N: NameValue> GoalTable<N> {
         ensures shoen_room { self.new.shoen_room ≡ self.old.shoen_room }
     {
         let gone = count_flagged(&self.slots, flags);
-        drop_flagged(
-            &mut self.slots,
-            &mut self.empty,
-            &mut self.queue,
-            flags,
-        );
+        drop_flagged(&mut self.slots, &mut self.empty, &mut self.queue, flags);
         clear(&mut self.tallies, flags);
         self.alive -= gone;
     }
