@@ -450,6 +450,14 @@ last_line_without_a_feed_script = codes "accounts alice bob" ++ 10 ∷ [] ++ cod
 abbrev pub last_line_without_a_feed_output : List ℕ
 last_line_without_a_feed_output = codes "alice + 0" ++ 10 ∷ []
 
+-- the bytes of least_priority_of_a_child_is_clipped.script
+abbrev pub least_priority_of_a_child_is_clipped_script : List ℕ
+least_priority_of_a_child_is_clipped_script = codes "accounts alice" ++ 10 ∷ [] ++ codes "alice load 81" ++ 10 ∷ [] ++ codes ":- module k." ++ 10 ∷ [] ++ codes "g :- true | h(a)@priority(1), h(b)@priority(9)." ++ 10 ∷ [] ++ codes "h(X) :- true | true." ++ 10 ∷ [] ++ codes "alice start 10 4 9 shoen:execute(k:g,0,9,10,C,R)" ++ 10 ∷ [] ++ codes "alice reduce 2 0" ++ 10 ∷ [] ++ codes "alice reduce 4 1" ++ 10 ∷ [] ++ codes "alice start 10 3 3 true" ++ 10 ∷ [] ++ codes "alice run 4" ++ 10 ∷ [] ++ codes "alice status 3" ++ 10 ∷ []
+
+-- the bytes of least_priority_of_a_child_is_clipped.expected
+abbrev pub least_priority_of_a_child_is_clipped_output : List ℕ
+least_priority_of_a_child_is_clipped_output = codes "alice + loaded k" ++ 10 ∷ [] ++ codes "alice + shoen 1" ++ 10 ∷ [] ++ codes "alice + reduced" ++ 10 ∷ [] ++ codes "alice + reduced" ++ 10 ∷ [] ++ codes "alice + shoen 3" ++ 10 ∷ [] ++ codes "alice + 4" ++ 10 ∷ [] ++ codes "alice + running 0 10 1" ++ 10 ∷ []
+
 -- the bytes of lines_of_4096_bytes.script
 abbrev pub lines_of_4096_bytes_script : List ℕ
 lines_of_4096_bytes_script = codes "accounts alice bob" ++ 10 ∷ [] ++ codes "alice run 0                                                                                                                                                                                                                                                                                                                                                                                                                                                                                                                                                                                                                                                                                                                                                                                                                                                                                                                                                                                                                                                                                                                                                                                                                                                                                                                                                                                                                                                                                                                                                                                                                                                                                                                                                                                                                                                                                                                                                                                                                                                                                                                                                                                                                                                                                                                                                                                                                                                                                                                                                                                                                                                                                                                                                                                                                                                                                                                                                                                                                                                                                                                                                                                                                                                                                                                                                                                                                                                                                                                                                                                                                                                                                                                                                                                                                                                                                                                                                                                                                                                                                                                                                                                                                                                           " ++ 10 ∷ [] ++ codes "alice run 0                                                                                                                                                                                                                                                                                                                                                                                                                                                                                                                                                                                                                                                                                                                                                                                                                                                                                                                                                                                                                                                                                                                                                                                                                                                                                                                                                                                                                                                                                                                                                                                                                                                                                                                                                                                                                                                                                                                                                                                                                                                                                                                                                                                                                                                                                                                                                                                                                                                                                                                                                                                                                                                                                                                                                                                                                                                                                                                                                                                                                                                                                                                                                                                                                                                                                                                                                                                                                                                                                                                                                                                                                                                                                                                                                                                                                                                                                                                                                                                                                                                                                                                                                                                                                                                            " ++ 10 ∷ [] ++ codes "alice run 0                                                                                                                                                                                                                                                                                                                                                                                                                                                                                                                                                                                                                                                                                                                                                                                                                                                                                                                                                                                                                                                                                                                                                                                                                                                                                                                                                                                                                                                                                                                                                                                                                                                                                                                                                                                                                                                                                                                                                                                                                                                                                                                                                                                                                                                                                                                                                                                                                                                                                                                                                                                                                                                                                                                                                                                                                                                                                                                                                                                                                                                                                                                                                                                                                                                                                                                                                                                                                                                                                                                                                                                                                                                                                                                                                                                                                                                                                                                                                                                                                                                                                                                                                                                                                                                           " ++ 13 ∷ [] ++ 10 ∷ [] ++ codes "alice run 0                                                                                                                                                                                                                                                                                                                                                                                                                                                                                                                                                                                                                                                                                                                                                                                                                                                                                                                                                                                                                                                                                                                                                                                                                                                                                                                                                                                                                                                                                                                                                                                                                                                                                                                                                                                                                                                                                                                                                                                                                                                                                                                                                                                                                                                                                                                                                                                                                                                                                                                                                                                                                                                                                                                                                                                                                                                                                                                                                                                                                                                                                                                                                                                                                                                                                                                                                                                                                                                                                                                                                                                                                                                                                                                                                                                                                                                                                                                                                                                                                                                                                                                                                                                                                                                            " ++ 13 ∷ [] ++ 10 ∷ [] ++ codes "carol run 0                                                                                                                                                                                                                                                                                                                                                                                                                                                                                                                                                                                                                                                                                                                                                                                                                                                                                                                                                                                                                                                                                                                                                                                                                                                                                                                                                                                                                                                                                                                                                                                                                                                                                                                                                                                                                                                                                                                                                                                                                                                                                                                                                                                                                                                                                                                                                                                                                                                                                                                                                                                                                                                                                                                                                                                                                                                                                                                                                                                                                                                                                                                                                                                                                                                                                                                                                                                                                                                                                                                                                                                                                                                                                                                                                                                                                                                                                                                                                                                                                                                                                                                                                                                                                                                            " ++ 10 ∷ []
@@ -996,6 +1004,7 @@ pub record ExamplesHold : Type 0 where
   pub inner_shoen_stays_stopped : output inner_shoen_stays_stopped_script ≡ inner_shoen_stays_stopped_output
   pub integers_are_no_atoms : output integers_are_no_atoms_script ≡ integers_are_no_atoms_output
   pub last_line_without_a_feed : output last_line_without_a_feed_script ≡ last_line_without_a_feed_output
+  pub least_priority_of_a_child_is_clipped : output least_priority_of_a_child_is_clipped_script ≡ least_priority_of_a_child_is_clipped_output
   pub lines_of_4096_bytes : output lines_of_4096_bytes_script ≡ lines_of_4096_bytes_output
   pub load_of_no_bytes : output load_of_no_bytes_script ≡ load_of_no_bytes_output
   pub load_without_a_last_feed : output load_without_a_last_feed_script ≡ load_without_a_last_feed_output
