@@ -7,12 +7,12 @@ use Rattle.kl1_model.specs.Term.{Term, list_of}
 use Rattle.kl1_model.specs.Grammar.{Numbered, Expression, Series, last, another, GoalTree, plain_goal, urgent_goal, Body, last_goal, another_goal}
 use Rattle.kl1_model.specs.Reader.{Answer, then_read, then_skip, if_there, behind_open, behind_close, behind_comma, behind_at, digits_in_front, priority_in_front, series_at, priority_at, body_at}
 use Rattle.kl1_model.specs.Meaning.{expression_term, series_terms, is_writable}
-use Rattle.kl1_model.specs.Module.{BodyGoal, without_priority, with_priority, trees_of}
+use Rattle.kl1_model.specs.Module.{BodyGoal, without_priority, trees_of}
 use Rattle.kl1_model.proofs.ReadSound.{at_is, comma_is, series_sound}
 use Rattle.kl1_model.proofs.ReadComplete.{series_steps_few}
 use Rattle.kl1_model.proofs.ReadSteps.{bodies_go_on, series_go_on, expressions_leave_less, whole_sound}
 use Rattle.kl1_read.specs.Meanings.{reading, answer_map, series_read, fit}
-use Rattle.kl1_read.specs.BodyGoals.{goal_named, goals_read, are_written, written, written_goals, goals_named, behind_word, priority_read, with_front, goals_after, terms_after}
+use Rattle.kl1_read.specs.BodyGoals.{goal_named, goals_read, are_written, written, written_goals, goals_named, priority_read, with_front, goals_after, terms_after}
 
 -- how many tokens are behind what was read
 abbrev behind_length : {A : Type 0} → Answer A → ℕ

@@ -7,7 +7,7 @@ use Rattle.kl1_model.specs.Goal.{is_called, is_pair_goal, is_execute_goal, is_bu
 use Rattle.kl1_term.specs.Nodes.{code_of, term_in, terms_in}
 use Rattle.kl1_term.specs.declared.node.Node.{Node}
 use Rattle.kl1_term.specs.declared.node.Node.TheVariants.{Variable, Integer, Atom, Structure}
-use Rattle.kl1_read.specs.GoalNodes.{is_execute_node, begins_named, begins_structure_goal, begins_goal, begins_execute, begins_built_in_structure, begins_built_in}
+use Rattle.kl1_read.specs.GoalNodes.{begins_named, begins_structure_goal, begins_goal, begins_execute, begins_built_in_structure, begins_built_in}
 use Rattle.kl1_read.proofs.Nodes.{term_of_nodes}
 
 -- so many terms in front are so many

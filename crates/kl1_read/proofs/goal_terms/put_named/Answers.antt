@@ -1,4 +1,4 @@
-use Rattle.std.proofs.Common.{map, ap, ◌∙◌, arith, refl}
+use Rattle.std.proofs.Common.{map, ap, ◌∙◌, arith}
 use Rattle.std.proofs.lemmas.List.{map-append}
 use Rattle.kl1_read.specs.BodyGoals.{goal_of_term}
 use Rattle.kl1_read.proofs.BodyGoals.{named_put}
