@@ -1,11 +1,11 @@
 -- What commands and parsed lines are in the definitions.
 use Rattle.std.specs.Prelude.{Option, Some, None}
 use Rattle.kl1_model.specs.Command as model
-use Rattle.kl1_account.specs.Views.{event_of}
-use Rattle.kl1_script.specs.declared.command.Command.{Command}
-use Rattle.kl1_script.specs.declared.command.Command.TheVariants as command
-use Rattle.kl1_script.specs.declared.parsed.Parsed.{Parsed}
-use Rattle.kl1_script.specs.declared.parsed.Parsed.TheVariants as parsed
+use Rattle.kl1_event.specs.Views.{event_of}
+use Rattle.kl1_command.specs.declared.command.Command.{Command}
+use Rattle.kl1_command.specs.declared.command.Command.TheVariants as command
+use Rattle.kl1_command.specs.declared.parsed.Parsed.{Parsed}
+use Rattle.kl1_command.specs.declared.parsed.Parsed.TheVariants as parsed
 
 -- the command that this one is
 abbrev pub command_view : Command → model.Command

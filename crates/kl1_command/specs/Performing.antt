@@ -4,21 +4,23 @@ use Rattle.kl1_model.specs.State.{State}
 use Rattle.kl1_model.specs.Event as model
 use Rattle.kl1_model.specs.Command.{Command, does, run, Going, run_choice, stopped_by, run_from, act}
 use Rattle.kl1_model.specs.Choice.{first}
-use Rattle.kl1_account.specs.Views.{refusal_of, reply_of}
-use Rattle.kl1_account.specs.Account.{Account}
-use Rattle.kl1_script.specs.declared.performed.Performed.{Performed}
-use Rattle.kl1_script.specs.declared.performed.Performed.TheVariants as performed
-use Rattle.kl1_script.specs.declared.first_step.FirstStep.{FirstStep}
-use Rattle.kl1_script.specs.declared.first_step.FirstStep.TheVariants as first_step
+use Rattle.kl1_event.specs.Views.{refusal_of, reply_of}
+use Rattle.kl1_command.specs.declared.performed.Performed.{Performed}
+use Rattle.kl1_command.specs.declared.performed.Performed.TheVariants as performed
+use Rattle.kl1_command.specs.declared.first_step.FirstStep.{FirstStep}
+use Rattle.kl1_command.specs.declared.first_step.FirstStep.TheVariants as first_step
 
 -- why an event was refused, where it was
 abbrev pub refusal_in : model.Reply → Option model.Refusal
 refusal_in (model.refused r) = Some r
 refusal_in (model.loaded name) = None
 refusal_in (model.opened n) = None
+refusal_in model.sent = None
 refusal_in model.reduced = None
 refusal_in (model.ran n) = None
 refusal_in (model.shown text) = None
+refusal_in (model.status_is c charged allowance alive) = None
+refusal_in (model.listed texts) = None
 refusal_in (model.quiet_is b) = None
 
 -- what became of a goal whose reduction has this reply
@@ -46,14 +48,14 @@ IsFirstStep s first_step.Done after = (next : Going) (n : ℕ) → run_choice ne
 IsFirstStep s (first_step.Refused r) after = ((next : Going) (n : ℕ) → run_choice next s n (first s) ≡ stopped_by s n (refusal_of r)) × (after ≡ s)
 IsFirstStep s first_step.Memory after = after ≡ s
 
--- where memory was refused at once, the account is as it was
-abbrev pub IsUntouched : Performed → Account → Account → Type 0
+-- where memory was refused at once, a host is as it was
+abbrev pub IsUntouched : {H : Type 0} → Performed → H → H → Type 0
 IsUntouched (performed.Whole reply) before after = Unit {0}
 IsUntouched (performed.Short n) before after = Unit {0}
 IsUntouched performed.Memory before after = after ≡ before
 
--- where memory was refused at the first step, the account is as it was
-abbrev pub IsStepUntouched : FirstStep → Account → Account → Type 0
+-- where memory was refused at the first step, a host is as it was
+abbrev pub IsStepUntouched : {H : Type 0} → FirstStep → H → H → Type 0
 IsStepUntouched first_step.Quiet before after = Unit {0}
 IsStepUntouched first_step.Done before after = Unit {0}
 IsStepUntouched (first_step.Refused r) before after = Unit {0}

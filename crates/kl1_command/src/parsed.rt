@@ -1,16 +1,18 @@
 // The commands of lines and records.
 
-ghost use Rattle.std.specs.Prelude.{◌≡◌, IfOk};
-ghost use Rattle.kl1_model.specs.Command.{parse, command_by, command_of, runs, asks_value, asks_quiet, start_command, start_with, reduce_command};
+ghost use Rattle.std.specs.Prelude.{◌≡◌, IfOk, Some};
+ghost use Rattle.kl1_model.specs.Command.{parse, command_by, command_of, does, runs, asks_value, asks_status, asks_modules, asks_quiet, start_command, start_with, reduce_command, allow_command, send_command, reports_command};
 ghost use Rattle.kl1_model.specs.Module.{read_goal};
 ghost use Rattle.kl1_lines.specs.Records.{request_of};
-ghost use Rattle.kl1_script.specs.Commands.{parsed_view};
+ghost use Rattle.kl1_event.specs.Views.{event_of};
+ghost use Rattle.kl1_command.specs.Commands.{parsed_view};
 
 use crate::command::Command;
+use kl1_event::{ClauseNo, Event, GoalNo, Query, ShoenNo};
 use kl1_lines::{Request, is_blank_line, is_same, number_in, only_number, split_word, up_to};
+use kl1_model::Message;
 use kl1_model::limits::{MOST_COMMAND_BYTES, MOST_PRIORITY, MOST_STEPS};
 use kl1_read::{ReadFault, read_goal};
-use kl1_user::{ClauseNo, Event, GoalNo, Query, ShoenNo};
 use std::alloc::{AllocError, Global};
 
 /// What a line or a record asks for.
@@ -29,7 +31,7 @@ pub fn command_in(alloc: Global, request: Request<'_>) -> Result<Parsed, AllocEr
     match request {
         Request::Load(source) => {
             let source = Vec::from_slice(alloc, source)?;
-            Ok(Parsed::Command(Command::Does(Event::Load { source })))
+            Ok(does(Event::Load { source }))
         }
         Request::SpoiledLoad => Ok(Parsed::Refused),
         Request::Line(line) => parse(alloc, line),
@@ -48,8 +50,22 @@ pub fn parse(alloc: Global, line: &[u8]) -> Result<Parsed, AllocError>
         parse_start(alloc, rest)
     } else if is_same(word, b"run") {
         Ok(parse_run(rest))
+    } else if is_same(word, b"stop") {
+        Ok(parse_send(Message::Stop, rest))
+    } else if is_same(word, b"resume") {
+        Ok(parse_send(Message::Start, rest))
+    } else if is_same(word, b"abort") {
+        Ok(parse_send(Message::Abort, rest))
+    } else if is_same(word, b"allow") {
+        Ok(parse_allow(rest))
     } else if is_same(word, b"value") {
         Ok(parse_value(rest))
+    } else if is_same(word, b"status") {
+        Ok(parse_status(rest))
+    } else if is_same(word, b"reports") {
+        Ok(parse_reports(rest))
+    } else if is_same(word, b"modules") {
+        Ok(parse_modules(rest))
     } else if is_same(word, b"quiet") {
         Ok(parse_quiet(rest))
     } else if is_same(word, b"reduce") {
@@ -57,6 +73,13 @@ pub fn parse(alloc: Global, line: &[u8]) -> Result<Parsed, AllocError>
     } else {
         Ok(Parsed::Refused)
     }
+}
+
+/// The command that is one event.
+fn does(event: Event) -> Parsed
+    ensures { parsed_view result ≡ Some (does (event_of event)) }
+{
+    Parsed::Command(Command::Does(event))
 }
 
 /// What stands after `run`.
@@ -69,13 +92,84 @@ fn parse_run(rest: &[u8]) -> Parsed
     }
 }
 
+/// What stands after `stop`, `resume` and `abort`, by which this message is sent.
+fn parse_send(message: Message, rest: &[u8]) -> Parsed
+    ensures { parsed_view result ≡ send_command message rest.now }
+{
+    match only_number(rest) {
+        Some(shoen) => does(Event::Control {
+            shoen: ShoenNo(shoen),
+            message,
+        }),
+        None => Parsed::Refused,
+    }
+}
+
+/// What stands after `allow`.
+fn parse_allow(rest: &[u8]) -> Parsed
+    ensures { parsed_view result ≡ allow_command rest.now }
+{
+    let (first, rest) = split_word(rest);
+    let Some(shoen) = number_in(first) else {
+        return Parsed::Refused;
+    };
+    let Some(more) = only_number(rest) else {
+        return Parsed::Refused;
+    };
+    does(Event::Control {
+        shoen: ShoenNo(shoen),
+        message: Message::Allow(more),
+    })
+}
+
 /// What stands after `value`.
 fn parse_value(rest: &[u8]) -> Parsed
     ensures { parsed_view result ≡ command_by asks_value rest.now }
 {
     match only_number(rest) {
-        Some(shoen) => { Parsed::Command(Command::Does(Event::Read(Query::Value(ShoenNo(shoen))))) }
+        Some(shoen) => does(Event::Read(Query::Value(ShoenNo(shoen)))),
         None => Parsed::Refused,
+    }
+}
+
+/// What stands after `status`.
+fn parse_status(rest: &[u8]) -> Parsed
+    ensures { parsed_view result ≡ command_by asks_status rest.now }
+{
+    match only_number(rest) {
+        Some(shoen) => does(Event::Read(Query::Status(ShoenNo(shoen)))),
+        None => Parsed::Refused,
+    }
+}
+
+/// What stands after `reports`: a shoen's number, and that of the first report, from 1.
+fn parse_reports(rest: &[u8]) -> Parsed
+    ensures { parsed_view result ≡ reports_command rest.now }
+{
+    let (first, rest) = split_word(rest);
+    let Some(shoen) = number_in(first) else {
+        return Parsed::Refused;
+    };
+    let Some(from) = only_number(rest) else {
+        return Parsed::Refused;
+    };
+    if from < 1 {
+        return Parsed::Refused;
+    }
+    does(Event::Read(Query::Reports {
+        shoen: ShoenNo(shoen),
+        from,
+    }))
+}
+
+/// What stands after `modules`.
+fn parse_modules(rest: &[u8]) -> Parsed
+    ensures { parsed_view result ≡ command_by asks_modules rest.now }
+{
+    if is_blank_line(rest) {
+        does(Event::Read(Query::Modules))
+    } else {
+        Parsed::Refused
     }
 }
 
@@ -84,7 +178,7 @@ fn parse_quiet(rest: &[u8]) -> Parsed
     ensures { parsed_view result ≡ command_by asks_quiet rest.now }
 {
     if is_blank_line(rest) {
-        Parsed::Command(Command::Does(Event::Read(Query::Quiet)))
+        does(Event::Read(Query::Quiet))
     } else {
         Parsed::Refused
     }
@@ -101,10 +195,10 @@ fn parse_reduce(rest: &[u8]) -> Parsed
     let Some(clause) = only_number(rest) else {
         return Parsed::Refused;
     };
-    Parsed::Command(Command::Does(Event::Reduce {
+    does(Event::Reduce {
         goal: GoalNo(goal),
         clause: ClauseNo(clause),
-    }))
+    })
 }
 
 /// What stands after `start`.
@@ -144,12 +238,12 @@ fn start_of(
         return Ok(Parsed::Refused);
     }
     match read_goal(alloc, goal) {
-        Ok(goal) => Ok(Parsed::Command(Command::Does(Event::Start {
+        Ok(goal) => Ok(does(Event::Start {
             allowance,
             low,
             high,
             goal,
-        }))),
+        })),
         Err(ReadFault::Bad { line: _line }) => Ok(Parsed::Refused),
         Err(ReadFault::Memory) => Err(AllocError),
     }

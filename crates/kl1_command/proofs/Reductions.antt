@@ -4,14 +4,14 @@ use Rattle.kl1_model.specs.Limits.{most_entries}
 use Rattle.kl1_model.specs.State.{State, Goal, goal_at}
 use Rattle.kl1_model.specs.Event as model
 use Rattle.kl1_model.specs.Event.{Stepped, refuse, is_number, syntax, journal_full, reduce}
-use Rattle.kl1_model.specs.Reduction.{Move, move_of, reduced_by, reduce_goal}
+use Rattle.kl1_model.specs.Reduction.{Action, action_of, reduced_by, reduce_goal}
 use Rattle.kl1_model.specs.Step.{step}
 use Rattle.kl1_model.specs.Choice.{Chosen, first}
 use Rattle.kl1_model.specs.Command.{Going, run_choice, run_on, stopped_by}
-use Rattle.kl1_account.specs.Views.{refusal_of}
-use Rattle.kl1_script.specs.declared.first_step.FirstStep.{FirstStep}
-use Rattle.kl1_script.specs.declared.first_step.FirstStep.TheVariants as first_step
-use Rattle.kl1_script.specs.Performing.{refusal_in, IsTold, IsFirstStep}
+use Rattle.kl1_event.specs.Views.{refusal_of}
+use Rattle.kl1_command.specs.declared.first_step.FirstStep.{FirstStep}
+use Rattle.kl1_command.specs.declared.first_step.FirstStep.TheVariants as first_step
+use Rattle.kl1_command.specs.Performing.{refusal_in, IsTold, IsFirstStep}
 
 -- what is refused leaves the account as it was
 abbrev StaysRefused : State → Stepped → Type 0
@@ -24,13 +24,13 @@ by_entries : (s : State) (after : Stepped) (v : Bool) → refusal_in after.reply
 by_entries s after true e = λ r h. none_is (after.state ≡ s) r (sym e ∙ h)
 by_entries s after false e = λ r h. refl
 
-by_move : (s : State) (g : Goal) (m : Option Move) → StaysRefused s (reduced_by s g m)
-by_move s g None = λ r h. refl
-by_move s g (Some m) = by_entries s _ (nat_lt s.entries most_entries) refl
+by_action : (s : State) (g : Goal) (a : Option Action) → StaysRefused s (reduced_by s g a)
+by_action s g None = λ r h. refl
+by_action s g (Some a) = by_entries s _ (nat_lt s.entries most_entries) refl
 
 by_goal : (s : State) (clause : ℕ) (g : Option Goal) → StaysRefused s (reduce_goal s clause g)
 by_goal s clause None = λ r h. refl
-by_goal s clause (Some g) = by_move s g (move_of s g clause)
+by_goal s clause (Some g) = by_action s g (action_of s g clause)
 
 by_numbers : (s : State) (goal clause : ℕ) (v : Bool) → StaysRefused s (if v then reduce_goal s clause (goal_at goal s.goals) else refuse s syntax)
 by_numbers s goal clause true = by_goal s clause (goal_at goal s.goals)
@@ -44,18 +44,24 @@ goes_by : (reply : model.Reply) (next : Going) (s after : State) (n : ℕ) → r
 goes_by (model.refused r) next s after n e = none_is _ r (sym e)
 goes_by (model.loaded name) next s after n e = refl
 goes_by (model.opened m) next s after n e = refl
+goes_by model.sent next s after n e = refl
 goes_by model.reduced next s after n e = refl
 goes_by (model.ran m) next s after n e = refl
 goes_by (model.shown text) next s after n e = refl
+goes_by (model.status_is c charged allowance alive) next s after n e = refl
+goes_by (model.listed texts) next s after n e = refl
 goes_by (model.quiet_is b) next s after n e = refl
 
 stops_by : (reply : model.Reply) (next : Going) (s after : State) (n : ℕ) (r : model.Refusal) → refusal_in reply ≡ Some r → run_on next s n after reply ≡ stopped_by s n r
 stops_by (model.refused q) next s after n r e = ap (stopped_by s n) (let same : q ≡ r = cc in same)
 stops_by (model.loaded name) next s after n r e = none_is _ r e
 stops_by (model.opened m) next s after n r e = none_is _ r e
+stops_by model.sent next s after n r e = none_is _ r e
 stops_by model.reduced next s after n r e = none_is _ r e
 stops_by (model.ran m) next s after n r e = none_is _ r e
 stops_by (model.shown text) next s after n r e = none_is _ r e
+stops_by (model.status_is c charged allowance alive) next s after n r e = none_is _ r e
+stops_by (model.listed texts) next s after n r e = none_is _ r e
 stops_by (model.quiet_is b) next s after n r e = none_is _ r e
 
 -- the first goal was reduced, or its reduction refused

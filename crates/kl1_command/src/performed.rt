@@ -3,18 +3,14 @@
 ghost use Rattle.std.specs.Prelude.{◌≡◌};
 ghost use Rattle.kl1_model.specs.Command as model;
 ghost use Rattle.kl1_model.specs.State.{State};
-ghost use Rattle.kl1_account.specs.Fitting.{Reading, Fits};
-ghost use Rattle.kl1_account.specs.Account.{state_of};
-ghost use Rattle.kl1_account.specs.Naming.{Grows};
-ghost use Rattle.kl1_account.specs.Views.{refusal_of, reply_of};
-ghost use Rattle.kl1_script.specs.Commands.{command_view};
-ghost use Rattle.kl1_script.specs.Performing.{IsUntouched, Performs};
+ghost use Rattle.kl1_event.specs.Views.{refusal_of, reply_of};
+ghost use Rattle.kl1_command.specs.Commands.{command_view};
+ghost use Rattle.kl1_command.specs.Performing.{IsUntouched, Performs};
 
 use crate::command::Command;
 use crate::first_step::{FirstStep, reduce_first};
-use crate::served::Served;
-use kl1_atoms::AtomSource;
-use kl1_user::{Refusal, Reply};
+use crate::host::Host;
+use kl1_event::{Refusal, Reply};
 
 /// What became of a command.
 #[derive(Drop)]
@@ -23,34 +19,34 @@ pub enum Performed {
     Whole(Reply),
     /// Memory was refused in the midst of a run, after so many of its steps, at least one.
     Short { steps: u64 },
-    /// Memory was refused, and the account is as it was.
+    /// Memory was refused, and the host is as it was.
     Memory,
 }
 
 /// Does a command.
-pub fn perform<A: AtomSource + Drop>(served: &mut Served<A>, command: &Command) -> Performed
-    ensures does { (f : Reading) → Fits served.new.names f → Performs (state_of f served.old) (command_view command.now) result (state_of f served.new) }
-    ensures memory { IsUntouched result served.old served.new }
-    ensures grows { Grows served.old.names served.new.names }
+pub fn perform<H: Host>(host: &mut H, command: &Command) -> Performed
+    ensures does { (f : H.Reading) → H.fits host.new f → Performs (H.state f host.old) (command_view command.now) result (H.state f host.new) }
+    ensures memory { IsUntouched result host.old host.new }
+    ensures before { (f : H.Reading) → H.fits host.new f → H.fits host.old f }
 {
     match command {
-        Command::Does(event) => match served.apply(event) {
+        Command::Does(event) => match host.apply(event) {
             Ok(reply) => Performed::Whole(reply),
             Err(_) => Performed::Memory,
         },
-        Command::Run(most) => run(served, *most),
+        Command::Run(most) => run(host, *most),
     }
 }
 
 /// Reduces the first goal that can step, again and again, at most so many times.
-fn run<A: AtomSource + Drop>(served: &mut Served<A>, most: u64) -> Performed
-    ensures does { (f : Reading) → Fits served.new.names f → Performs (state_of f served.old) (model.run most) result (state_of f served.new) }
-    ensures memory { IsUntouched result served.old served.new }
-    ensures grows { Grows served.old.names served.new.names }
+fn run<H: Host>(host: &mut H, most: u64) -> Performed
+    ensures does { (f : H.Reading) → H.fits host.new f → Performs (H.state f host.old) (model.run most) result (H.state f host.new) }
+    ensures memory { IsUntouched result host.old host.new }
+    ensures before { (f : H.Reading) → H.fits host.new f → H.fits host.old f }
 {
     let mut done = 0;
     while done < most {
-        match reduce_first(served) {
+        match reduce_first(host) {
             FirstStep::Quiet => return Performed::Whole(Reply::Ran(done)),
             FirstStep::Done => done += 1,
             FirstStep::Refused(refusal) => return Performed::Whole(stopped(done, refusal)),

@@ -1,6 +1,6 @@
 // Commands.
 
-use kl1_user::Event;
+use kl1_event::Event;
 
 /// What an account is asked to do.
 #[derive(Drop)]
