@@ -1,4 +1,3 @@
-use Rattle.std.proofs.Common.{sym}
 use Rattle.kl1_event.specs.Views.{reply_of}
 use Rattle.kl1_command.proofs.Reductions.{first_told}
 use Rattle.kl1_command.proofs.first_step.reduce_first.Goals as goal
