@@ -71,11 +71,7 @@ fn put_each(out: &mut Vec<u8>, prefix: Option<&[u8]>, reply: &Reply) -> Result<(
 }
 
 /// Puts the line of a refusal after the bytes. After an `Err` some of it may be there.
-fn put_refusal(
-    out: &mut Vec<u8>,
-    prefix: Option<&[u8]>,
-    refusal: Refusal,
-) -> Result<(), AllocError>
+fn put_refusal(out: &mut Vec<u8>, prefix: Option<&[u8]>, refusal: Refusal) -> Result<(), AllocError>
     ensures ok { OnOk result (out.new.items ≡ out.old.items ++ written_after (option_map (λ word. word.now) prefix.entry) (reply_lines (refused (refusal_of refusal)))) }
     ensures kept { take (length out.old.items) out.new.items ≡ out.old.items }
 {
@@ -140,12 +136,7 @@ fn put_condition(
 }
 
 /// Puts three numbers after the bytes, each after a space. After an `Err` some of them may be there.
-fn put_counts(
-    out: &mut Vec<u8>,
-    charged: u64,
-    allowance: u64,
-    alive: u64,
-) -> Result<(), AllocError>
+fn put_counts(out: &mut Vec<u8>, charged: u64, allowance: u64, alive: u64) -> Result<(), AllocError>
     ensures ok { OnOk result (out.new.items ≡ out.old.items ++ codes " " ++ decimal charged ++ codes " " ++ decimal allowance ++ codes " " ++ decimal alive) }
     ensures kept { take (length out.old.items) out.new.items ≡ out.old.items }
 {
@@ -166,11 +157,7 @@ fn put_count(out: &mut Vec<u8>, number: u64) -> Result<(), AllocError>
 
 /// Puts the line that tells how many texts there are after the bytes, and then a line for each. After an `Err` some of
 /// them may be there.
-fn put_listed(
-    out: &mut Vec<u8>,
-    prefix: Option<&[u8]>,
-    texts: &Listed,
-) -> Result<(), AllocError>
+fn put_listed(out: &mut Vec<u8>, prefix: Option<&[u8]>, texts: &Listed) -> Result<(), AllocError>
     ensures ok { OnOk result (out.new.items ≡ out.old.items ++ written_after (option_map (λ word. word.now) prefix.entry) (reply_lines (listed texts.now))) }
     ensures kept { take (length out.old.items) out.new.items ≡ out.old.items }
 {
@@ -180,11 +167,7 @@ fn put_listed(
 
 #[tactic(auto, using(crate::proofs::Lines::written_more))]
 /// Puts a line for each text after the bytes. After an `Err` some of them may be there.
-fn put_texts(
-    out: &mut Vec<u8>,
-    prefix: Option<&[u8]>,
-    texts: &[Vec<u8>],
-) -> Result<(), AllocError>
+fn put_texts(out: &mut Vec<u8>, prefix: Option<&[u8]>, texts: &[Vec<u8>]) -> Result<(), AllocError>
     ensures ok { OnOk result (out.new.items ≡ out.old.items ++ written_after (option_map (λ word. word.now) prefix.entry) (map (λ text. text.items) texts.now)) }
     ensures kept { take (length out.old.items) out.new.items ≡ out.old.items }
 {
