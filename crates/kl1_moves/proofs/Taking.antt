@@ -1,12 +1,13 @@
 -- What a call can do by the clause of a number, by cells.
 use Rattle.std.proofs.Common.{◌≡◌, ℕ, zero, suc, ◌+◌, ◌-◌, ◌<◌, ◌≤◌, Bool, true, false, List, [], ◌∷◌, ◌++◌, length, map, drop, get_or, refl, sym, ap, ◌∙◌, subst, arith, append-nil}
 use Rattle.std.specs.Prelude.{Option, Some, None, slice_get, slice_index_or}
+use Rattle.std.proofs.lemmas.List.{length-map}
 use Rattle.kl1_model.specs.declared.built_in.BuiltIn.{BuiltIn}
 use Rattle.kl1_model.specs.Term.{Term}
 use Rattle.kl1_model.specs.Module.{Clause, Module}
 use Rattle.kl1_model.specs.Match as model
 use Rattle.kl1_model.specs.Match.{call_of, clauses_of, Candidate}
-use Rattle.kl1_model.specs.Instance.{body_instance}
+use Rattle.kl1_model.specs.Instance.{body_instance, body_priorities}
 use Rattle.kl1_model.specs.declared.number.Number.{Number}
 use Rattle.kl1_model.specs.declared.number.Number.TheVariants.{Value, Overflow, ZeroDivisor}
 use Rattle.kl1_model.specs.Text.{text_of}
@@ -57,7 +58,7 @@ use Rattle.kl1_moves.specs.Orders.{order_at, IsOrder}
 use Rattle.kl1_moves.specs.Kinds.{IsKind, IsCall, IsUnification, IsAssignment, IsSpelling, IsExecution, IsTrueGoal}
 use Rattle.kl1_moves.specs.Moves.{HasPredicate, FailsAs, candidate_at, IsCandidate, CommitsAs, MovesAs}
 use Rattle.kl1_moves.specs.Standing.{StandsAs}
-use Rattle.kl1_moves.specs.Bodies.{IsBody}
+use Rattle.kl1_moves.specs.Bodies.{IsBody, AreNeeds}
 use Rattle.kl1_moves.proofs.Candidates.{none_behind, fails_by, goes_on_by, commits_by, by_zero}
 
 -- ---- compiled clauses of a predicate
@@ -365,3 +366,18 @@ body_of {N = N} built f p place compiled places at old new goals k r here same i
       variables = j.variables ∙ ap (λ n. old.variables + n) c.fresh_variables;
       kept = b.kept;
     }
+
+-- the clause at a place is the candidate's
+candidate_there : {N : Type 0} (f : N → List ℕ) (h : Held N) (p : Predicate N) (place : ℕ) (places : List (Place N)) (x : CompiledClause) (k : Candidate) → x ≡ slice_index_or p.clauses.now place x → IsCandidate f h p place places k → IsCompiled (map f p.names.now) x k.clause
+candidate_there {N = N} f h p place places x k here is =
+    let P : CompiledClause → Type 0 = λ c. IsCompiled (map f p.names.now) c k.clause in
+    subst P (sym (here ∙ at_place p.clauses.now place x is.compiled is.at)) is.is
+
+pub priorities_there : {N : Type 0} (f : N → List ℕ) (h : Held N) (p : Predicate N) (place : ℕ) (places : List (Place N)) (x : CompiledClause) (k : Candidate) (found : List (Option ℕ)) → x ≡ slice_index_or p.clauses.now place x → found ≡ x.priorities.items → IsCandidate f h p place places k → found ≡ body_priorities k.clause
+priorities_there f h p place places x k found here own is = own ∙ (candidate_there f h p place places x k here is).priorities
+
+pub needs_there : {N : Type 0} (f : N → List ℕ) (h : Held N) (p : Predicate N) (place : ℕ) (places : List (Place N)) (x : CompiledClause) (k : Candidate) (goals : ℕ) → x ≡ slice_index_or p.clauses.now place x → goals ≡ length x.priorities.items → IsCandidate f h p place places k →
+    AreNeeds k.clause (record { goals = goals; variables = x.fresh_variables; nodes = x.nodes })
+needs_there f h p place places x k goals here own is =
+    let c = candidate_there f h p place places x k here is in
+    record { goals = own ∙ ap length c.priorities ∙ length-map k.clause.body (λ g. g.priority); variables = c.fresh_variables; nodes = c.nodes }

@@ -59,16 +59,16 @@ pub fn standing_of<N: NameValue>(
         }
         Kind::Spells(codes, _) => match spell(store, codes, &mut trial.text) {
             Spelling::Spelled => Ok(Some(0)),
-            Spelling::Waits(first) => {
-                trial.awaited.push(first)?;
+            Spelling::Waits(code) => {
+                trial.awaited.push(code)?;
                 Ok(None)
             }
             Spelling::Misspelled => Ok(Some(0)),
         },
         Kind::Executes(structure) => match look_at_order(store, order_at(store, structure)) {
             Look::Right => Ok(Some(0)),
-            Look::Waits(first) => {
-                trial.awaited.push(first)?;
+            Look::Waits(argument) => {
+                trial.awaited.push(argument)?;
                 Ok(None)
             }
             Look::Wrong => Ok(Some(0)),
