@@ -1,0 +1,7 @@
+//! Scratch.
+#![tactic(auto)]
+
+/// Nothing.
+pub fn nothing() -> bool {
+    true
+}
