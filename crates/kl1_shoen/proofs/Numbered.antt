@@ -4,7 +4,7 @@ use Rattle.std.specs.Prelude.{Option, Some, None, find, option_copied, slice_get
 use Rattle.std.specs.Borrow.{Bor}
 use Rattle.std.proofs.lemmas.Bool.{ne_eqb, eq-eqb}
 use Rattle.kl1_shoen.specs.declared.shoen.Shoen.{Shoen}
-use Rattle.kl1_shoen.specs.Shoens.{has_number, exchanged, AreNumbered}
+use Rattle.kl1_shoen.specs.Shoens.{has_number, AreNumbered}
 
 pub numbered_push : {N : Type 0} (last : ℕ) (ss : List (Shoen N)) (s : Shoen N) → AreNumbered last ss → s.number ≡ suc (last + length ss) → AreNumbered last (ss ++ s ∷ [])
 numbered_push last [] s a e = (omega arith, tt)
@@ -50,35 +50,3 @@ number_at {N = N} n ss (Some s) a lt e =
     let P : ℕ → Type 0 = λ k. IfSome (slice_get ss (n - 1)) (λ (x : Shoen N). x.number ≡ k) in
     let Q : Option (Shoen N) → Type 0 = λ z. IfSome z (λ (x : Shoen N). x.number ≡ n) in
     subst Q (sym e) (subst P (omega arith) (number_from 0 (n - 1) ss a))
-
--- a shoen whose number none has leaves all as they are
-pub exchanged_low : {N : Type 0} (last : ℕ) (ss : List (Shoen N)) (s : Shoen N) → AreNumbered last ss → s.number ≤ last → exchanged s ss ≡ ss
-exchanged_low last [] s a le = refl
-exchanged_low last (r ∷ ss) s a le =
-    let m = a.0 in
-    ap (λ c. (if c then s else r) ∷ exchanged s ss) (ne_eqb r.number s.number (λ x. omega arith)) ∙ ap (λ rs. r ∷ rs) (exchanged_low (suc last) ss s a.1 (omega arith))
-
-exchanged_high : {N : Type 0} (last : ℕ) (ss : List (Shoen N)) (s : Shoen N) → AreNumbered last ss → last + length ss < s.number → exchanged s ss ≡ ss
-exchanged_high last [] s a le = refl
-exchanged_high last (r ∷ ss) s a le =
-    let m = a.0 in
-    ap (λ c. (if c then s else r) ∷ exchanged s ss) (ne_eqb r.number s.number (λ x. omega arith)) ∙ ap (λ rs. r ∷ rs) (exchanged_high (suc last) ss s a.1 (omega arith))
-
-exchanged_from : {N : Type 0} (last i : ℕ) (ss : List (Shoen N)) (s : Shoen N) → AreNumbered last ss → s.number ≡ suc (last + i) → exchanged s ss ≡ slice_set ss i s
-exchanged_from last i [] s a e = refl
-exchanged_from last zero (r ∷ ss) s a e =
-    let m = a.0 in
-    ap (λ c. (if c then s else r) ∷ exchanged s ss) (eq-eqb r.number s.number (omega arith)) ∙ ap (λ rs. s ∷ rs) (exchanged_low (suc last) ss s a.1 (omega arith))
-exchanged_from last (suc i) (r ∷ ss) s a e =
-    let m = a.0 in
-    ap (λ c. (if c then s else r) ∷ exchanged s ss) (ne_eqb r.number s.number (λ x. omega arith)) ∙ ap (λ rs. r ∷ rs) (exchanged_from (suc last) i ss s a.1 (omega arith))
-
--- a shoen is exchanged at the place of its number
-pub exchanged_at : {N : Type 0} (ss : List (Shoen N)) (s : Shoen N) → AreNumbered 0 ss → 0 < s.number → exchanged s ss ≡ slice_set ss (s.number - 1) s
-exchanged_at ss s a lt = exchanged_from 0 (s.number - 1) ss s a (omega arith)
-
-pub exchanged_none : {N : Type 0} (ss : List (Shoen N)) (s : Shoen N) → AreNumbered 0 ss → s.number ≡ 0 → exchanged s ss ≡ ss
-exchanged_none ss s a e = exchanged_low 0 ss s a (omega arith)
-
-pub exchanged_beyond : {N : Type 0} (ss : List (Shoen N)) (s : Shoen N) → AreNumbered 0 ss → length ss < s.number → exchanged s ss ≡ ss
-exchanged_beyond ss s a lt = exchanged_high 0 ss s a (omega arith)

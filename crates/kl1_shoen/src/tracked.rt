@@ -1,0 +1,132 @@
+// Lists that can be put back to what they were.
+
+ghost use Rattle.std.specs.Prelude.{◌≡◌, ◌<◌, ◌≤◌, ◌+◌, ◌-◌, [], ◌∷◌, ◌++◌, set, length, take, vec_len, vec_capacity, slice_get, option_copied, OnOk, OnErr};
+ghost use Rattle.kl1_shoen.specs.Tracked.{Tracked, put_back};
+
+use std::alloc::{AllocError, Global};
+use std::marker::Model;
+
+/// What stood at a place of a list, from 0.
+#[derive(Clone, Copy)]
+pub struct Was<T> {
+    pub place: usize,
+    pub value: T,
+}
+
+/// A list, and what it was when it was last marked.
+#[derive(Drop)]
+pub struct TrackedList<T: Copy> {
+    items: Vec<T>,
+    was: Vec<Was<T>>,
+    mark: usize,
+}
+
+impl<T: Copy> Model for TrackedList<T> {
+    ghost use Rattle.std.specs.Prelude.{◌≤◌, ◌-◌, take, vec_len, vec_capacity};
+    ghost use Rattle.kl1_shoen.specs.Tracked.{Tracked, put_back};
+
+    ghost Value = { Tracked T };
+
+    ghost view = { λ t. record {
+        now = t.items.items;
+        kept = put_back t.was.items (take t.mark t.items.items);
+        room = vec_capacity t.items - vec_len t.items;
+        changes = vec_capacity t.was - vec_len t.was;
+    } };
+
+    ghost invariant = { λ t. t.mark ≤ vec_len t.items };
+}
+
+impl<T: Copy> TrackedList<T> {
+    /// An empty list.
+    pub fn new(alloc: Global) -> Self
+        ensures now { result.now ≡ [] }
+        ensures kept { result.kept ≡ [] }
+    {
+        TrackedList {
+            items: Vec::new(alloc),
+            was: Vec::new(alloc),
+            mark: 0,
+        }
+    }
+
+    /// The items.
+    pub fn items(&self) -> &[T]
+        ensures { result.now ≡ self.now.now }
+    {
+        &self.items
+    }
+
+    /// Marks the list as it is: `back` comes back to this.
+    pub fn begin(&mut self)
+        ensures now { self.new.now ≡ self.old.now }
+        ensures kept { self.new.kept ≡ self.old.now }
+        ensures room { self.new.room ≡ self.old.room }
+    {
+        self.was.clear();
+        self.mark = self.items.len();
+    }
+
+    /// Puts the list back to what it was when it was last marked, without memory.
+    pub fn back(&mut self)
+        ensures now { self.new.now ≡ self.old.kept }
+        ensures kept { self.new.kept ≡ self.old.kept }
+        ensures room { self.old.room ≤ self.new.room }
+    {
+        self.items.truncate(self.mark);
+        put_all_back(&mut self.items, &mut self.was);
+    }
+
+    /// Makes room for `more` items, and `more` changes.
+    pub fn reserve(&mut self, more: usize) -> Result<(), AllocError>
+        ensures room { OnOk result (more ≤ self.new.room) }
+        ensures keeps { self.old.room ≤ self.new.room }
+        ensures now { self.new.now ≡ self.old.now }
+        ensures kept { self.new.kept ≡ self.old.kept }
+    {
+        self.items.reserve(more)
+    }
+
+    /// Makes room for `more` changes.
+    pub fn reserve_changes(&mut self, more: usize) -> Result<(), AllocError>
+        ensures changes { OnOk result (more ≤ self.new.changes) }
+        ensures now { self.new.now ≡ self.old.now }
+        ensures kept { self.new.kept ≡ self.old.kept }
+        ensures room { self.new.room ≡ self.old.room }
+    {
+        self.was.reserve(more)
+    }
+
+    /// Takes an item in.
+    pub fn push(&mut self, item: T)
+        requires room { 0 < self.old.room }
+        ensures { self.new ≡ record self.old { now = self.old.now ++ item ∷ []; room = self.old.room - 1 } }
+    {
+        self.items.push_reserved(item);
+    }
+
+    /// Puts an item in place of another.
+    pub fn put(&mut self, place: usize, item: T)
+        requires place { place < length self.old.now }
+        requires changes { 0 < self.old.changes }
+        ensures { self.new ≡ record self.old { now = set self.old.now place item; changes = self.old.changes - 1 } }
+    {
+        let value = self.items[place];
+        self.was.push_reserved(Was { place, value });
+        self.items[place] = item;
+    }
+}
+
+/// Puts back what stood at each of these places, the last first.
+fn put_all_back<T: Copy>(items: &mut Vec<T>, was: &mut Vec<Was<T>>)
+    ensures items { items.new.items ≡ put_back was.old.items items.old.items }
+    ensures len { vec_len items.new ≡ vec_len items.old }
+    ensures capacity { vec_capacity items.new ≡ vec_capacity items.old }
+    ensures was { was.new.items ≡ [] }
+{
+    while let Some(last) = was.pop() {
+        if last.place < items.len() {
+            items[last.place] = last.value;
+        }
+    }
+}

@@ -1,0 +1,122 @@
+// Charges, and what comes of them.
+
+ghost use Rattle.std.specs.Prelude.{ℕ, suc, get_or, if◌then◌else◌, ◌≡◌, ◌<◌, ◌≤◌, ◌+◌, ◌^◌, ◌∷◌, length, map, unwrap_or, option_map, OnOk, OnErr};
+ghost use Rattle.kl1_shoen.specs.Shoens.{AreNumbered, AreLower, path_in, is_on_path_in, charged_in, has_reached_in, is_blocking_at, is_enabled_at};
+
+use crate::shoen::Shoen;
+use crate::tracked::TrackedList;
+use crate::tree::{ShoenTree, is_living, parent_of};
+use kl1_text::NameValue;
+use std::alloc::AllocError;
+
+impl<N: NameValue> ShoenTree<N> {
+    /// Charges a reduction that was done in a shoen: to it, and to each of its ancestors.
+    pub fn charge(&mut self, number: u64) -> Result<(), AllocError>
+        requires some { 0 < number }
+        requires within { number ≤ length self.old.shoens }
+        requires few { length self.old.work + 1 < 2 ^ 63 }
+        ensures ok { OnOk result (self.new ≡ record self.old { work = number ∷ self.old.work }) }
+        ensures err { OnErr result (self.new ≡ self.old) }
+    {
+        let depth = self.depth(number);
+        self.charges.reserve_changes(depth as usize)?;
+        raise(self.shoens.items(), &mut self.charges, number);
+        self.work.add(number);
+        Ok(())
+    }
+
+    /// What the shoen of a number was charged, in reductions; 0 where no shoen has the number.
+    pub fn charged(&self, number: u64) -> u64
+        ensures { result ≡ charged_in self.now.shoens self.now.work number }
+    {
+        if number == 0 {
+            return 0;
+        }
+        let charges = self.charges.items();
+        let place = (number - 1) as usize;
+        if place < charges.len() {
+            return charges[place];
+        }
+        0
+    }
+
+    /// Whether the shoen of a number was charged just what it may be.
+    pub fn has_reached(&self, number: u64) -> bool
+        ensures { result ≡ has_reached_in self.now.shoens self.now.work number }
+    {
+        let Some(shoen) = self.lend(number) else {
+            return false;
+        };
+        shoen.allowance == self.charged(number)
+    }
+
+    /// Whether the shoen of a number holds back the goals in it and below it.
+    fn is_blocking(&self, number: u64) -> bool
+        ensures { result ≡ is_blocking_at self.now.shoens self.now.work number }
+    {
+        let Some(shoen) = self.lend(number) else {
+            return false;
+        };
+        if shoen.is_stopped {
+            return true;
+        }
+        if !is_living(shoen.life) {
+            return true;
+        }
+        shoen.allowance <= self.charged(number)
+    }
+
+    /// Whether the goals of a shoen are enabled: no shoen on its path is stopped, has ended, or was charged what it may be.
+    pub fn is_enabled(&self, number: u64) -> bool
+        ensures { result ≡ is_enabled_at self.now.shoens self.now.work number }
+    {
+        let mut at = number;
+        'path: loop {
+            let up = self.parent(at);
+            if at == 0 {
+                return true;
+            }
+            if self.is_blocking(at) {
+                return false;
+            }
+            at = up;
+        }
+    }
+
+    /// Whether the goals of each shoen are enabled, in order of number.
+    pub fn flags(&self, out: &mut Vec<bool>) -> Result<(), AllocError>
+        ensures { OnOk result (out.new.items ≡ map (λ h. is_enabled_at self.now.shoens self.now.work h.number) self.now.shoens) }
+    {
+        out.clear();
+        for shoen in self.shoens.items() {
+            out.push(self.is_enabled(shoen.number))?;
+        }
+        Ok(())
+    }
+}
+
+/// Charges one reduction more to each shoen on the path of one.
+fn raise<N: NameValue>(shoens: &[Shoen<N>], charges: &mut TrackedList<u64>, number: u64)
+    requires numbered { AreNumbered 0 shoens.now }
+    requires lower { AreLower shoens.now }
+    requires count { length charges.old.now ≡ length shoens.now }
+    requires within { number ≤ length shoens.now }
+    requires few { (k : ℕ) → get_or charges.old.now k 0 < 2 ^ 63 }
+    requires changes { length (path_in shoens.now number) ≤ charges.old.changes }
+    ensures charged { (k : ℕ) → get_or charges.new.now k 0 ≡ (if is_on_path_in shoens.now (suc k) number then 1 else 0) + get_or charges.old.now k 0 }
+    ensures count { length charges.new.now ≡ length charges.old.now }
+    ensures kept { charges.new.kept ≡ charges.old.kept }
+    ensures room { charges.new.room ≡ charges.old.room }
+{
+    let mut at = number;
+    'path: loop {
+        let up = parent_of(shoens, at);
+        if at == 0 {
+            return;
+        }
+        let place = (at - 1) as usize;
+        let charged = charges.items()[place];
+        charges.put(place, charged + 1);
+        at = up;
+    }
+}

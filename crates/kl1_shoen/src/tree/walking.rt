@@ -1,0 +1,67 @@
+// Paths.
+
+ghost use Rattle.std.specs.Prelude.{◌≡◌, length, map, OnOk, ◌<◌};
+ghost use Rattle.std.specs.List.{list_any};
+ghost use Rattle.kl1_shoen.specs.Shoens.{path_in, is_on_path_in, is_living_child_of};
+
+use crate::tree::{ShoenTree, is_living};
+use kl1_text::NameValue;
+use std::alloc::AllocError;
+
+impl<N: NameValue> ShoenTree<N> {
+    /// How deep a shoen is: 1 where the console started it, and 0 at the number 0.
+    pub fn depth(&self, number: u64) -> u64
+        ensures value { result ≡ length (path_in self.now.shoens number) }
+    {
+        let mut depth = 0;
+        let mut at = number;
+        'path: loop {
+            let up = self.parent(at);
+            if at == 0 {
+                return depth;
+            }
+            depth += 1;
+            at = up;
+        }
+    }
+
+    /// Whether a shoen is on the path of another: it is that one, or one of its ancestors.
+    pub fn is_on_path(&self, ancestor: u64, number: u64) -> bool
+        ensures { result ≡ is_on_path_in self.now.shoens ancestor number }
+    {
+        let mut at = number;
+        'path: loop {
+            let up = self.parent(at);
+            if at == 0 {
+                return false;
+            }
+            if at == ancestor {
+                return true;
+            }
+            at = up;
+        }
+    }
+
+    /// Whether a shoen has a child that lives.
+    pub fn has_living_child(&self, number: u64) -> bool
+        ensures { result ≡ list_any (is_living_child_of number) self.now.shoens }
+    {
+        for shoen in self.shoens.items() {
+            if shoen.parent == number && is_living(shoen.life) {
+                return true;
+            }
+        }
+        false
+    }
+
+    /// Whether each shoen is that of a number, or below it, in order of number.
+    pub fn below(&self, number: u64, out: &mut Vec<bool>) -> Result<(), AllocError>
+        ensures { OnOk result (out.new.items ≡ map (λ h. is_on_path_in self.now.shoens number h.number) self.now.shoens) }
+    {
+        out.clear();
+        for shoen in self.shoens.items() {
+            out.push(self.is_on_path(number, shoen.number))?;
+        }
+        Ok(())
+    }
+}
