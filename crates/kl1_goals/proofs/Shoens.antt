@@ -89,7 +89,7 @@ stood_on : {N : Type 0} (f : Goal N → Goal N) (b : Bool) (g : Goal N) (gs : Li
 stood_on f false g gs = refl
 stood_on f true g gs = refl
 
-filter_stood : {N : Type 0} (p : Goal N → Bool) (f : Goal N → Goal N) → ((g : Goal N) → p (f g) ≡ p g) → (gs : List (Goal N)) → filter p (map f gs) ≡ map f (filter p gs)
+pub filter_stood : {N : Type 0} (p : Goal N → Bool) (f : Goal N → Goal N) → ((g : Goal N) → p (f g) ≡ p g) → (gs : List (Goal N)) → filter p (map f gs) ≡ map f (filter p gs)
 filter_stood p f same [] = refl
 filter_stood p f same (g ∷ gs) = rw (same g, filter_stood p f same gs) (stood_on f (p g) g (filter p gs))
 
