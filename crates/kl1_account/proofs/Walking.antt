@@ -15,13 +15,13 @@ use Rattle.kl1_store.specs.Held.{Held}
 use Rattle.kl1_goals.specs.declared.goal.Goal.{Goal}
 use Rattle.kl1_goals.specs.Lists.{is_goal_of}
 use Rattle.kl1_shoen.specs.declared.shoen.Shoen.{Shoen}
-use Rattle.kl1_shoen.specs.Shoens.{has_number, changed, parents_in, path_in, charged_in, is_living_child}
+use Rattle.kl1_shoen.specs.Shoens.{has_number, changed, parents_in, path_in, charged_in, is_living_child_of, lives_in, has_reached_in}
 use Rattle.kl1_modules.specs.Numbered.{Numbered}
 use Rattle.kl1_account.specs.Fitting.{Reading}
 use Rattle.kl1_account.specs.Account.{Means, meaning, shoen_with}
 use Rattle.kl1_account.specs.Works.{Made, worked, IsMadeIn, Turns}
 use Rattle.kl1_account.specs.Endings.{ended_each}
-use Rattle.kl1_account.specs.Walks.{terminated, lives_in, ends_in, ending_in, ended_in, has_reached_in, reached_in}
+use Rattle.kl1_account.specs.Walks.{terminated, ends_in, ending_in, ended_in, reached_in}
 use Rattle.kl1_account.proofs.States.{found_in, shoens_changed}
 use Rattle.kl1_account.proofs.Works.{read_as, with_changed, changes, finds, turns_then, changed_turns, turns_none}
 use Rattle.kl1_account.proofs.Goals.{has_goal_read}
@@ -57,20 +57,20 @@ living_by : (o : Option (Shoen CellName)) (t : Means) → unwrap_or (option_map 
 living_by None t = refl
 living_by (Some h) t = refl
 
-pub lives_read : (f : Reading) (s : State) (h : Held CellName) (w : Made) (n : ℕ) → lives n (worked f s h w) ≡ lives_in n w.shoens
+pub lives_read : (f : Reading) (s : State) (h : Held CellName) (w : Made) (n : ℕ) → lives n (worked f s h w) ≡ lives_in w.shoens n
 lives_read f s h w n =
     ap (λ (o : Option model.Shoen). unwrap_or (option_map (λ (x : model.Shoen). is_living x.life) o) false) (found_in (meaning f h) n w.shoens)
     ∙ living_by (find (has_number n) w.shoens) (meaning f h)
 
-children_read : (t : Means) (n : ℕ) (ss : List (Shoen CellName)) → list_any (tree.is_living_child n) (map (shoen_with t) ss) ≡ list_any (is_living_child n) ss
+children_read : (t : Means) (n : ℕ) (ss : List (Shoen CellName)) → list_any (tree.is_living_child n) (map (shoen_with t) ss) ≡ list_any (is_living_child_of n) ss
 children_read t n [] = refl
-children_read t n (h ∷ ss) = ap (λ b. is_living_child n h || b) (children_read t n ss)
+children_read t n (h ∷ ss) = ap (λ b. is_living_child_of n h || b) (children_read t n ss)
 
 pub ends_read : (f : Reading) (s : State) (h : Held CellName) (w : Made) (n : ℕ) → ends_now n (worked f s h w) ≡ ends_in w.goals w.shoens n
 ends_read f s h w n =
     ap (λ b. b && not (ending.has_goal n (worked f s h w)) && not (has_living_child n (worked f s h w))) (lives_read f s h w n)
-    ∙ ap (λ b. lives_in n w.shoens && not b && not (has_living_child n (worked f s h w))) (has_goal_read (meaning f h) n w.goals)
-    ∙ ap (λ b. lives_in n w.shoens && not (list_any (is_goal_of n) w.goals) && not b) (children_read (meaning f h) n w.shoens)
+    ∙ ap (λ b. lives_in w.shoens n && not b && not (has_living_child n (worked f s h w))) (has_goal_read (meaning f h) n w.goals)
+    ∙ ap (λ b. lives_in w.shoens n && not (list_any (is_goal_of n) w.goals) && not b) (children_read (meaning f h) n w.shoens)
 
 pub ended_read : (f : Reading) (s : State) (h : Held CellName) (w : Made) (n : ℕ) → ended_at n (worked f s h w) ≡ worked f s h (with_changed n terminated w)
 ended_read f s h w n = changes s (meaning f h) (h.variables - 1) w n terminated (λ x. record x { life = Terminated }) (λ x. refl)

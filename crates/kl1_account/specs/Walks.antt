@@ -1,26 +1,21 @@
 -- Which shoens of a path terminate and which have just reached their allowance, by the lists that an account keeps.
-use Rattle.std.specs.Prelude.{◌≡◌, ℕ, ◌==◌, not, ◌&&◌, Bool, false, if◌then◌else◌, List, [], ◌∷◌, find, filter, option_map, unwrap_or}
+use Rattle.std.specs.Prelude.{◌≡◌, ℕ, not, ◌&&◌, Bool, if◌then◌else◌, List, [], ◌∷◌, filter}
 use Rattle.std.specs.List.{list_any}
 use Rattle.kl1_model.specs.declared.life.Life.TheVariants.{Terminated}
 use Rattle.kl1_model.specs.Module.{is_among}
-use Rattle.kl1_model.specs.State.{is_living}
 use Rattle.kl1_text.specs.declared.cell_name.CellName.{CellName}
 use Rattle.kl1_goals.specs.declared.goal.Goal.{Goal}
 use Rattle.kl1_goals.specs.Lists.{is_goal_of}
 use Rattle.kl1_shoen.specs.declared.shoen.Shoen.{Shoen}
-use Rattle.kl1_shoen.specs.Shoens.{has_number, changed, charged_in, is_living_child}
+use Rattle.kl1_shoen.specs.Shoens.{Tree, path_in, changed, has_reached_in, lives_in, is_living_child_of}
 
 -- a shoen that has terminated
 abbrev pub terminated : Shoen CellName → Shoen CellName
 terminated h = record h { life = Terminated }
 
--- whether the shoen of a number lives
-abbrev pub lives_in : ℕ → List (Shoen CellName) → Bool
-lives_in n shoens = unwrap_or (option_map (λ h. is_living h.life) (find (has_number n) shoens)) false
-
 -- whether a shoen of an account with these goals terminates
 abbrev pub ends_in : List (Goal CellName) → List (Shoen CellName) → ℕ → Bool
-ends_in goals shoens n = lives_in n shoens && not (list_any (is_goal_of n) goals) && not (list_any (is_living_child n) shoens)
+ends_in goals shoens n = lives_in shoens n && not (list_any (is_goal_of n) goals) && not (list_any (is_living_child_of n) shoens)
 
 -- those of these shoens that terminate, in order, each where those before it have
 abbrev pub ending_in : List (Goal CellName) → List ℕ → List (Shoen CellName) → List ℕ
@@ -32,10 +27,11 @@ abbrev pub ended_in : List ℕ → List (Shoen CellName) → List (Shoen CellNam
 ended_in [] shoens = shoens
 ended_in (n ∷ ns) shoens = ended_in ns (changed n terminated shoens)
 
--- whether the shoen of a number was charged just what it may be
-abbrev pub has_reached_in : List (Shoen CellName) → List ℕ → ℕ → Bool
-has_reached_in shoens work n = unwrap_or (option_map (λ h. h.allowance == charged_in shoens work n) (find (has_number n) shoens)) false
-
 -- of these shoens those that have reached their allowance and don't end now
 abbrev pub reached_in : List (Shoen CellName) → List ℕ → List ℕ → List ℕ → List ℕ
 reached_in shoens work ending ns = filter (λ n. has_reached_in shoens work n && not (is_among n ending)) ns
+
+-- shoens on the path of a number have terminated: those that do for an account with these goals
+pub record EndsLives (goals : List (Goal CellName)) (old new : Tree CellName) (n : ℕ) (ending : List ℕ) : Type 0 where
+  pub ending_is : ending ≡ ending_in goals (path_in old.shoens n) old.shoens
+  pub tree_is : new ≡ record old { shoens = ended_in ending old.shoens }
