@@ -1,8 +1,12 @@
 -- What a draft stands for.
-use Rattle.std.specs.Prelude.{◌≡◌, ℕ, ◌==◌, not, Bool, if◌then◌else◌, List, [], ◌∷◌, ◌++◌, filter, map, Option, Some, None}
+use Rattle.std.specs.Prelude.{◌≡◌, ℕ, suc, ◌≤◌, ◌==◌, not, Bool, true, false, if◌then◌else◌, List, [], ◌∷◌, ◌++◌, filter, map, Option, Some, None}
+use Rattle.kl1_model.specs.Limits.{monitor_priority}
 use Rattle.kl1_model.specs.State.{State}
 use Rattle.kl1_text.specs.declared.cell_name.CellName.{CellName}
+use Rattle.kl1_store.specs.declared.cell.Cell.{Cell}
+use Rattle.kl1_store.specs.declared.qualified.Qualified.{Qualified}
 use Rattle.kl1_store.specs.Held.{Held}
+use Rattle.kl1_goals.specs.declared.task.Task.TheVariants.{Monitor, Reduces}
 use Rattle.kl1_goals.specs.declared.goal.Goal.{Goal}
 use Rattle.kl1_goals.specs.Lists.{is_other, is_monitor_of, is_flagged}
 use Rattle.kl1_shoen.specs.Shoens.{Tree}
@@ -10,6 +14,7 @@ use Rattle.kl1_modules.specs.Numbered.{Numbered}
 use Rattle.kl1_account.specs.declared.draft.Draft.{Draft}
 use Rattle.kl1_account.specs.declared.draft.Change.{Change}
 use Rattle.kl1_account.specs.Fitting.{Reading}
+use Rattle.kl1_account.specs.Account.{whole}
 use Rattle.kl1_account.specs.Works.{Made, IsMadeIn, Turns}
 
 -- goals without the monitors of these shoens
@@ -66,3 +71,22 @@ restood_by c g = if g.number == c.number then record g { standing = c.standing }
 abbrev pub restood : List Change → List (Goal CellName) → List (Goal CellName)
 restood [] goals = goals
 restood (c ∷ cs) goals = restood cs (map (restood_by c) goals)
+
+-- a draft in which nothing has ended yet, and whose goal that goes isn't one that comes
+pub record HasBegun (d : Draft) : Type 0 where
+  pub aborted : d.aborted.items ≡ []
+  pub ended : d.ended.items ≡ []
+  pub removed : d.removed ≤ d.last_goal
+
+-- goals for cells, with the numbers after the last, in a shoen, each with its priority; none can step as yet
+abbrev pub goals_for : ℕ → ℕ → List ℕ → List (Qualified CellName) → List (Goal CellName)
+goals_for last shoen priorities [] = []
+goals_for last shoen [] (x ∷ xs) = []
+goals_for last shoen (p ∷ ps) (x ∷ xs) =
+    record { number = suc last; task = Reduces x; shoen = shoen; priority = p; standing = None; is_enabled = false } ∷ goals_for (suc last) shoen ps xs
+
+-- the monitor of a shoen that opens, with the number after the last, and its goal with the number after that
+abbrev pub two_for : ℕ → ℕ → ℕ → Cell CellName → List (Goal CellName)
+two_for last shoen high x =
+    record { number = suc last; task = Monitor; shoen = shoen; priority = monitor_priority; standing = None; is_enabled = true }
+    ∷ record { number = suc (suc last); task = Reduces (whole x); shoen = shoen; priority = high; standing = None; is_enabled = false } ∷ []

@@ -1,7 +1,0 @@
-//! Scratch.
-#![tactic(auto)]
-
-/// Nothing.
-pub fn nothing() -> bool {
-    true
-}
