@@ -77,10 +77,10 @@ charged_open ss cs ws s a n few =
       worked = wider (length ss) (length (ss ++ s ∷ [])) (let l = length_more ss s in omega (arith, l)) ws a.worked;
       count = length_more cs 0 ∙ ap suc a.count ∙ sym (length_more ss s);
       charged = λ k.
-        zero_more cs k ∙ a.charged k
-        ∙ count_same (λ w. is_among (suc k) (path_within w (parents_in ss) w)) (λ w. is_among (suc k) (path_within w (parents_in ss ++ s.parent ∷ []) w)) (length ss)
-        (λ w le. ap (is_among (suc k)) (sym (path_among (parents_in ss) (s.parent ∷ []) a.lower w w (omega (arith, le, len))))) ws a.worked
-        ∙ ap (λ ps. count_by (λ w. is_among (suc k) (path_within w ps w)) ws) (sym (parents_after ss s));
+          zero_more cs k ∙ a.charged k
+          ∙ count_same (λ w. is_among (suc k) (path_within w (parents_in ss) w)) (λ w. is_among (suc k) (path_within w (parents_in ss ++ s.parent ∷ []) w)) (length ss)
+          (λ w le. ap (is_among (suc k)) (sym (path_among (parents_in ss) (s.parent ∷ []) a.lower w w (omega (arith, le, len))))) ws a.worked
+          ∙ ap (λ ps. count_by (λ w. is_among (suc k) (path_within w ps w)) ws) (sym (parents_after ss s));
     }
 
 -- one reduction more charges a path
