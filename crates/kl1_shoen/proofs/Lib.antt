@@ -1,1 +1,6 @@
+pub mod Putting
 pub mod Numbered
+pub mod Paths
+pub mod Charges
+pub mod Changing
+pub mod Meaning

@@ -1,8 +1,9 @@
 -- Shoens in order of number, found and exchanged by place.
-use Rattle.std.proofs.Common.{◌≡◌, ℕ, zero, suc, ◌+◌, ◌-◌, ◌<◌, ◌≤◌, if◌then◌else◌, List, [], ◌∷◌, ◌++◌, length, refl, sym, ap, ◌∙◌, arith, subst}
+use Rattle.std.proofs.Common.{◌≡◌, ℕ, zero, suc, ◌+◌, ◌-◌, ◌<◌, ◌≤◌, if◌then◌else◌, List, [], ◌∷◌, ◌++◌, length, get_or, refl, sym, ap, ◌∙◌, arith, subst}
 use Rattle.std.specs.Prelude.{Option, Some, None, find, option_copied, slice_get, slice_set, IfSome}
 use Rattle.std.specs.Borrow.{Bor}
 use Rattle.std.proofs.lemmas.Bool.{ne_eqb, eq-eqb}
+use Rattle.std.proofs.lemmas.Option.{none-some, same_Some}
 use Rattle.kl1_shoen.specs.declared.shoen.Shoen.{Shoen}
 use Rattle.kl1_shoen.specs.Shoens.{has_number, AreNumbered}
 
@@ -50,3 +51,17 @@ number_at {N = N} n ss (Some s) a lt e =
     let P : ℕ → Type 0 = λ k. IfSome (slice_get ss (n - 1)) (λ (x : Shoen N). x.number ≡ k) in
     let Q : Option (Shoen N) → Type 0 = λ z. IfSome z (λ (x : Shoen N). x.number ≡ n) in
     subst Q (sym e) (subst P (omega arith) (number_from 0 (n - 1) ss a))
+
+some_number : {N : Type 0} (o : Option (Shoen N)) (s : Shoen N) (n : ℕ) → o ≡ Some s → IfSome o (λ r. r.number ≡ n) → s.number ≡ n
+some_number None s n e h = absurd (none-some s e)
+some_number (Some r) s n e h = ap (λ (x : Shoen _). x.number) (sym (same_Some r s e)) ∙ h
+
+-- a shoen that is found has that number
+pub number_is : {N : Type 0} (n : ℕ) (s : Shoen N) (ss : List (Shoen N)) → AreNumbered 0 ss → 0 < n → find (has_number n) ss ≡ Some s → s.number ≡ n
+number_is n s ss a lt e =
+    some_number (slice_get ss (n - 1)) s (suc (0 + (n - 1))) (sym (found_at n ss a lt) ∙ e) (number_from 0 (n - 1) ss a) ∙ omega (arith, lt)
+
+pub numbered_get : {N : Type 0} (last i : ℕ) (ss : List (Shoen N)) (x : Shoen N) → AreNumbered last ss → i < length ss → x ≡ get_or ss i x → x.number ≡ suc (last + i)
+numbered_get last i [] x a lt e = absurd (omega (arith, lt))
+numbered_get last zero (s ∷ ss) x a lt e = ap (λ (y : Shoen _). y.number) e ∙ a.0 ∙ omega arith
+numbered_get last (suc i) (s ∷ ss) x a lt e = numbered_get (suc last) i ss x a.1 (omega (arith, lt)) e ∙ omega arith

@@ -10,6 +10,6 @@ pub record Tracked (A : Type 0) : Type 0 where
   pub changes : ℕ
 
 -- a list after what stood at these places is put back, the last first
-pub put_back : {A : Type 0} → List (Was A) → List A → List A
+abbrev pub put_back : {A : Type 0} → List (Was A) → List A → List A
 put_back [] xs = xs
 put_back (w ∷ ws) xs = set (put_back ws xs) w.place w.value

@@ -2,7 +2,7 @@
 
 ghost use Rattle.std.specs.Prelude.{◌≡◌, ◌+◌, min, option_map};
 ghost use Rattle.kl1_model.specs.Limits.{most_allowance};
-ghost use Rattle.kl1_shoen.specs.Changes.{changed_by};
+ghost use Rattle.kl1_shoen.specs.Changes.{changed_by, with_control as kept_with};
 
 use crate::shoen::{Origin, Shoen};
 use kl1_model::Life;
@@ -44,7 +44,7 @@ fn raised(allowance: u64, extra: u64) -> u64
 
 /// What the console keeps, with this tail of the control stream.
 fn with_control<N: NameValue>(origin: Option<Origin<N>>, control: Cell<N>) -> Option<Origin<N>>
-    ensures { result ≡ option_map (λ o. record o { control = control }) origin }
+    ensures { result ≡ option_map (kept_with control) origin }
 {
     match origin {
         None => None,

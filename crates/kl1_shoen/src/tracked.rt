@@ -1,6 +1,6 @@
 // Lists that can be put back to what they were.
 
-ghost use Rattle.std.specs.Prelude.{◌≡◌, ◌<◌, ◌≤◌, ◌+◌, ◌-◌, [], ◌∷◌, ◌++◌, set, length, take, vec_len, vec_capacity, slice_get, option_copied, OnOk, OnErr};
+ghost use Rattle.std.specs.Prelude.{◌≡◌, ◌<◌, ◌≤◌, ◌+◌, ◌-◌, [], ◌∷◌, ◌++◌, set, get_or, length, take, vec_len, vec_capacity, slice_get, option_copied, OnOk, OnErr};
 ghost use Rattle.kl1_shoen.specs.Tracked.{Tracked, put_back};
 
 use std::alloc::{AllocError, Global};
@@ -28,10 +28,10 @@ impl<T: Copy> Model for TrackedList<T> {
     ghost Value = { Tracked T };
 
     ghost view = { λ t. record {
-        now = t.items.items;
-        kept = put_back t.was.items (take t.mark t.items.items);
-        room = vec_capacity t.items - vec_len t.items;
-        changes = vec_capacity t.was - vec_len t.was;
+      now = t.items.items;
+      kept = put_back t.was.items (take t.mark t.items.items);
+      room = vec_capacity t.items - vec_len t.items;
+      changes = vec_capacity t.was - vec_len t.was;
     } };
 
     ghost invariant = { λ t. t.mark ≤ vec_len t.items };
@@ -39,6 +39,7 @@ impl<T: Copy> Model for TrackedList<T> {
 
 impl<T: Copy> TrackedList<T> {
     /// An empty list.
+    #[tactic(auto, using(crate::proofs::Putting::put_none))]
     pub fn new(alloc: Global) -> Self
         ensures now { result.now ≡ [] }
         ensures kept { result.kept ≡ [] }
@@ -58,6 +59,7 @@ impl<T: Copy> TrackedList<T> {
     }
 
     /// Marks the list as it is: `back` comes back to this.
+    #[tactic(auto, using(crate::proofs::Putting::put_whole))]
     pub fn begin(&mut self)
         ensures now { self.new.now ≡ self.old.now }
         ensures kept { self.new.kept ≡ self.old.now }
@@ -98,9 +100,12 @@ impl<T: Copy> TrackedList<T> {
     }
 
     /// Takes an item in.
+    #[tactic(auto, using(crate::proofs::Putting::take_push))]
     pub fn push(&mut self, item: T)
         requires room { 0 < self.old.room }
-        ensures { self.new ≡ record self.old { now = self.old.now ++ item ∷ []; room = self.old.room - 1 } }
+        ensures now { self.new.now ≡ self.old.now ++ item ∷ [] }
+        ensures kept { self.new.kept ≡ self.old.kept }
+        ensures room { self.new.room + 1 ≡ self.old.room }
     {
         self.items.push_reserved(item);
     }
@@ -109,15 +114,27 @@ impl<T: Copy> TrackedList<T> {
     pub fn put(&mut self, place: usize, item: T)
         requires place { place < length self.old.now }
         requires changes { 0 < self.old.changes }
-        ensures { self.new ≡ record self.old { now = set self.old.now place item; changes = self.old.changes - 1 } }
+        ensures now { self.new.now ≡ set self.old.now place item }
+        ensures kept { self.new.kept ≡ self.old.kept }
+        ensures room { self.new.room ≡ self.old.room }
+        ensures changes { self.new.changes + 1 ≡ self.old.changes }
     {
-        let value = self.items[place];
+        let value = item_at(&self.items, place);
         self.was.push_reserved(Was { place, value });
         self.items[place] = item;
     }
 }
 
+/// The item at a place, from 0.
+fn item_at<T: Copy>(items: &Vec<T>, place: usize) -> T
+    requires { place < length items.now.items }
+    ensures { result ≡ get_or items.now.items place result }
+{
+    items[place]
+}
+
 /// Puts back what stood at each of these places, the last first.
+#[tactic(auto, using(crate::proofs::Putting::put_last, crate::proofs::Putting::put_beyond, crate::proofs::Putting::put_none))]
 fn put_all_back<T: Copy>(items: &mut Vec<T>, was: &mut Vec<Was<T>>)
     ensures items { items.new.items ≡ put_back was.old.items items.old.items }
     ensures len { vec_len items.new ≡ vec_len items.old }

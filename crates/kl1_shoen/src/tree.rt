@@ -41,11 +41,11 @@ impl<N: NameValue> Model for ShoenTree<N> {
     ghost Value = { Tree N };
 
     ghost view = { λ t. record {
-        shoens = t.shoens.now;
-        work = t.work;
-        kept = t.shoens.kept;
-        kept_work = t.kept_work;
-        room = min t.shoens.room t.charges.room;
+      shoens = t.shoens.now;
+      work = t.work;
+      kept = t.shoens.kept;
+      kept_work = t.kept_work;
+      room = min t.shoens.room t.charges.room;
     } };
 
     ghost invariant = { λ t. AreCharged t.shoens.now t.charges.now t.work × AreCharged t.shoens.kept t.charges.kept t.kept_work };
@@ -158,6 +158,14 @@ fn parent_of<N: NameValue>(shoens: &[Shoen<N>], number: u64) -> u64
     ensures below { 0 < number → result < number }
     ensures path { 0 < number → path_in shoens.now number ≡ number ∷ path_in shoens.now result }
     ensures end { number ≡ 0 → path_in shoens.now number ≡ [] }
+{
+    parent_named(shoens, number)
+}
+
+/// The number of the parent that a shoen names.
+fn parent_named<N: NameValue>(shoens: &[Shoen<N>], number: u64) -> u64
+    requires { AreNumbered 0 shoens.now }
+    ensures { result ≡ unwrap_or (option_map (λ h. h.parent) (find (has_number number) shoens.now)) 0 }
 {
     let Some(shoen) = lent(shoens, number) else {
         return 0;

@@ -1,13 +1,15 @@
 // Changes of shoens.
 
-ghost use Rattle.std.specs.Prelude.{◌≡◌, ◌+◌, min, map, option_map, true, OnOk, OnErr, find};
+ghost use Rattle.std.specs.Prelude.{◌≡◌, ◌≤◌, ◌+◌, min, map, length, option_map, true, OnOk, OnErr, find};
 ghost use Rattle.kl1_model.specs.Limits.{most_allowance};
-ghost use Rattle.kl1_shoen.specs.Shoens.{has_number, changed, aborted_below_in};
-ghost use Rattle.kl1_shoen.specs.Changes.{changed_by};
+ghost use Rattle.kl1_shoen.specs.Shoens.{has_number, changed, aborted_below_in, parents_in, AreNumbered, AreLower};
+ghost use Rattle.kl1_shoen.specs.Changes.{changed_by, with_control};
 
 use crate::change::{Change, changed};
 use crate::shoen::Shoen;
-use crate::tree::{ShoenTree, is_living};
+use crate::tracked::TrackedList;
+use crate::tree::walking::is_on_path_of;
+use crate::tree::{ShoenTree, is_living, lent};
 use kl1_model::Life;
 use kl1_store::Cell;
 use kl1_text::NameValue;
@@ -19,11 +21,7 @@ impl<N: NameValue> ShoenTree<N> {
         ensures ok { OnOk result (self.new ≡ record self.old { shoens = changed number (changed_by change) self.old.shoens }) }
         ensures err { OnErr result (self.new ≡ self.old) }
     {
-        let Some(shoen) = self.lend(number).copied() else {
-            return Ok(());
-        };
-        self.shoens.reserve_changes(1)?;
-        self.shoens.put((number - 1) as usize, changed(shoen, change));
+        change_one(&mut self.shoens, number, change)?;
         Ok(())
     }
 
@@ -45,7 +43,7 @@ impl<N: NameValue> ShoenTree<N> {
 
     /// Sets the tail of the control stream that the console keeps, if the console started the shoen.
     pub fn set_origin_control(&mut self, number: u64, control: Cell<N>) -> Result<(), AllocError>
-        ensures ok { OnOk result (self.new ≡ record self.old { shoens = changed number (λ h. record h { origin = option_map (λ o. record o { control = control }) h.origin }) self.old.shoens }) }
+        ensures ok { OnOk result (self.new ≡ record self.old { shoens = changed number (λ h. record h { origin = option_map (with_control control) h.origin }) self.old.shoens }) }
         ensures err { OnErr result (self.new ≡ self.old) }
     {
         self.change(number, Change::OriginControl(control))
@@ -88,24 +86,66 @@ impl<N: NameValue> ShoenTree<N> {
         ensures ok { OnOk result (self.new ≡ record self.old { shoens = map (aborted_below_in self.old.shoens number) self.old.shoens }) }
         ensures err { OnErr result (self.new ≡ self.old) }
     {
-        let count = self.shoens.items().len();
-        self.shoens.reserve_changes(count)?;
-        for place in 0..count {
-            let shoen = self.shoens.items()[place];
-            let is_below = self.is_on_path(number, shoen.number);
-            self.shoens.put(place, ended(shoen, is_below));
-        }
+        self.shoens.reserve_changes(self.shoens.items().len())?;
+        abort_all(&mut self.shoens, number);
         Ok(())
     }
 }
 
-/// A shoen, ended as aborted where it lives and is below what is aborted.
-fn ended<N: NameValue>(shoen: Shoen<N>, is_below: bool) -> Shoen<N> {
-    if is_below && is_living(shoen.life) {
-        return Shoen {
-            life: Life::Aborted,
-            ..shoen
-        };
+/// A shoen after an abort of one: it is ended, where it lives and is that one or below it.
+fn aborted<N: NameValue>(shoens: &[Shoen<N>], number: u64, shoen: Shoen<N>) -> Shoen<N>
+    requires numbered { AreNumbered 0 shoens.now }
+    requires lower { AreLower shoens.now }
+    ensures { result ≡ aborted_below_in shoens.now number shoen }
+{
+    if !is_living(shoen.life) {
+        return shoen;
     }
-    shoen
+    if !is_on_path_of(shoens, number, shoen.number) {
+        return shoen;
+    }
+    Shoen {
+        life: Life::Aborted,
+        ..shoen
+    }
+}
+
+/// Changes the shoen of a number, if there is one.
+fn change_one<N: NameValue>(
+    shoens: &mut TrackedList<Shoen<N>>,
+    number: u64,
+    change: Change<N>,
+) -> Result<(), AllocError>
+    requires { AreNumbered 0 shoens.old.now }
+    ensures ok { OnOk result (shoens.new.now ≡ changed number (changed_by change) shoens.old.now) }
+    ensures err { OnErr result (shoens.new.now ≡ shoens.old.now) }
+    ensures kept { shoens.new.kept ≡ shoens.old.kept }
+    ensures room { shoens.new.room ≡ shoens.old.room }
+    ensures numbered { AreNumbered 0 shoens.new.now }
+    ensures parents { parents_in shoens.new.now ≡ parents_in shoens.old.now }
+{
+    let Some(shoen) = lent(shoens.items(), number).copied() else {
+        return Ok(());
+    };
+    shoens.reserve_changes(1)?;
+    shoens.put((number - 1) as usize, changed(shoen, change));
+    Ok(())
+}
+
+/// Ends a shoen and all below it that live, as aborted.
+fn abort_all<N: NameValue>(shoens: &mut TrackedList<Shoen<N>>, number: u64)
+    requires numbered { AreNumbered 0 shoens.old.now }
+    requires lower { AreLower shoens.old.now }
+    requires changes { length shoens.old.now ≤ shoens.old.changes }
+    ensures now { shoens.new.now ≡ map (aborted_below_in shoens.old.now number) shoens.old.now }
+    ensures kept { shoens.new.kept ≡ shoens.old.kept }
+    ensures room { shoens.new.room ≡ shoens.old.room }
+    ensures numbered { AreNumbered 0 shoens.new.now }
+    ensures parents { parents_in shoens.new.now ≡ parents_in shoens.old.now }
+{
+    for place in 0..shoens.items().len() {
+        let shoen = shoens.items()[place];
+        let shoen = aborted(shoens.items(), number, shoen);
+        shoens.put(place, shoen);
+    }
 }

@@ -2,9 +2,10 @@
 
 ghost use Rattle.std.specs.Prelude.{◌≡◌, length, map, OnOk, ◌<◌};
 ghost use Rattle.std.specs.List.{list_any};
-ghost use Rattle.kl1_shoen.specs.Shoens.{path_in, is_on_path_in, is_living_child_of};
+ghost use Rattle.kl1_shoen.specs.Shoens.{path_in, is_on_path_in, is_living_child_of, AreNumbered, AreLower};
 
-use crate::tree::{ShoenTree, is_living};
+use crate::shoen::Shoen;
+use crate::tree::{ShoenTree, is_living, parent_of};
 use kl1_text::NameValue;
 use std::alloc::AllocError;
 
@@ -29,17 +30,8 @@ impl<N: NameValue> ShoenTree<N> {
     pub fn is_on_path(&self, ancestor: u64, number: u64) -> bool
         ensures { result ≡ is_on_path_in self.now.shoens ancestor number }
     {
-        let mut at = number;
-        'path: loop {
-            let up = self.parent(at);
-            if at == 0 {
-                return false;
-            }
-            if at == ancestor {
-                return true;
-            }
-            at = up;
-        }
+        let _lower = self.len();
+        is_on_path_of(self.shoens.items(), ancestor, number)
     }
 
     /// Whether a shoen has a child that lives.
@@ -47,7 +39,7 @@ impl<N: NameValue> ShoenTree<N> {
         ensures { result ≡ list_any (is_living_child_of number) self.now.shoens }
     {
         for shoen in self.shoens.items() {
-            if shoen.parent == number && is_living(shoen.life) {
+            if is_child(shoen, number) {
                 return true;
             }
         }
@@ -63,5 +55,31 @@ impl<N: NameValue> ShoenTree<N> {
             out.push(self.is_on_path(number, shoen.number))?;
         }
         Ok(())
+    }
+}
+
+/// Whether a shoen lives and is a child of that of a number.
+fn is_child<N: NameValue>(shoen: &Shoen<N>, number: u64) -> bool
+    ensures { result ≡ is_living_child_of number shoen.now }
+{
+    shoen.parent == number && is_living(shoen.life)
+}
+
+/// Whether a shoen is on the path of another, as `is_on_path`.
+pub(super) fn is_on_path_of<N: NameValue>(shoens: &[Shoen<N>], ancestor: u64, number: u64) -> bool
+    requires numbered { AreNumbered 0 shoens.now }
+    requires lower { AreLower shoens.now }
+    ensures { result ≡ is_on_path_in shoens.now ancestor number }
+{
+    let mut at = number;
+    'path: loop {
+        let up = parent_of(shoens, at);
+        if at == 0 {
+            return false;
+        }
+        if at == ancestor {
+            return true;
+        }
+        at = up;
     }
 }
