@@ -2,6 +2,7 @@
 
 mod acts;
 mod answer;
+mod controls;
 mod operands;
 mod rooms;
 mod sheet;

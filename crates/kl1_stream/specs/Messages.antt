@@ -10,7 +10,6 @@ use Rattle.kl1_store.specs.declared.cell.Cell.{Cell}
 use Rattle.kl1_store.specs.declared.cell.Cell.TheVariants.{Variable}
 use Rattle.kl1_store.specs.Held.{Held, IsIn}
 use Rattle.kl1_store.specs.Meaning.{term_of}
-use Rattle.kl1_store.specs.Sound.{IsFormed}
 
 -- a cell of a store means a message, no variable and no binding is new, and all that was there means what it meant
 pub record IsMessage {N : Type 0} (built : BuiltIn → N) (old new : Held N) (message : Message) (x : Cell N) : Type 0 where
@@ -42,5 +41,5 @@ IsNoVariable (structure f ts) = Unit {0}
 
 -- what became of a message: where the end of the stream is no variable, nothing is new
 abbrev pub PutAs : {N : Type 0} → (BuiltIn → N) → Held N → Held N → Cell N → Message → Option ℕ → Type 0
-PutAs built old new tail message None = (new ≡ old) × ((f : _) → Reads built f → IsNoVariable (term_of f old tail))
+PutAs built old new tail message None = (f : _) → Reads built f → (new ≡ old) × IsNoVariable (term_of f old tail)
 PutAs built old new tail message (Some next) = HasPut built old new tail message next

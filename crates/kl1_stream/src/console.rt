@@ -15,10 +15,7 @@ use kl1_text::NameValue;
 use std::alloc::AllocError;
 
 /// The term of a message.
-fn message_cell<N: NameValue>(
-    store: &mut Store<N>,
-    message: Message,
-) -> Result<Cell<N>, AllocError>
+fn message_cell<N: NameValue>(store: &mut Store<N>, message: Message) -> Result<Cell<N>, AllocError>
     requires { IsTrue (is_message message) }
     ensures message { IfOk result (IsMessage N.built store.old.held store.new.held message) }
     ensures grown { Grown store.old.held store.new.held }
@@ -33,7 +30,7 @@ fn message_cell<N: NameValue>(
         Message::Abort => Ok(Cell::Atom(N::of(BuiltIn::Abort))),
         Message::Allow(more) => {
             let name = N::of(BuiltIn::Allow);
-            let structure = store.build(name, &[Cell::Integer(more as i64)])?;
+            let structure = store.build_one(name, Cell::Integer(more as i64))?;
             Ok(Cell::Structure(structure))
         }
     }

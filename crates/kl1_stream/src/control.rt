@@ -3,7 +3,7 @@
 ghost use Rattle.std.specs.Prelude.{◌≡◌, ℕ, List};
 ghost use Rattle.kl1_model.specs.Control.{word_of, allow_word, atom_word, control_of};
 ghost use Rattle.kl1_text.specs.Reading.{Reads};
-ghost use Rattle.kl1_store.specs.Held.{IsIn};
+ghost use Rattle.kl1_store.specs.Held.{Held, IsIn};
 ghost use Rattle.kl1_store.specs.Meaning.{term_of};
 ghost use Rattle.kl1_stream.specs.Controls.{word_as, WordIn, control_as, ControlIn};
 
@@ -34,7 +34,8 @@ pub(crate) enum Word {
 
 /// What an atom says.
 fn atom_said<N: NameValue>(name: N) -> Word
-    ensures { (f : N → List ℕ) → Reads N.built f → word_as result ≡ atom_word (f name) }
+    ensures inside { (h : Held N) → WordIn h result }
+    ensures says { (f : N → List ℕ) → Reads N.built f → word_as result ≡ atom_word (f name) }
 {
     if is_built_in(name, BuiltIn::Stop) {
         return Word::Says(Message::Stop);
