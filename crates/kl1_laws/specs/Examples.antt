@@ -18,6 +18,14 @@ abort_ends_what_is_below_script = codes "accounts alice" ++ 10 ∷ [] ++ codes "
 abbrev pub abort_ends_what_is_below_output : List ℕ
 abort_ends_what_is_below_output = codes "alice + loaded n" ++ 10 ∷ [] ++ codes "alice + shoen 1" ++ 10 ∷ [] ++ codes "alice + 4" ++ 10 ∷ [] ++ codes "alice + sent" ++ 10 ∷ [] ++ codes "alice + 1" ++ 10 ∷ [] ++ codes "alice + aborted 0 50 0" ++ 10 ∷ [] ++ codes "alice + aborted 4 100 0" ++ 10 ∷ [] ++ codes "alice + 2" ++ 10 ∷ [] ++ codes "alice started" ++ 10 ∷ [] ++ codes "alice aborted" ++ 10 ∷ [] ++ codes "alice - 5 ended" ++ 10 ∷ [] ++ codes "alice - 4 noshoen" ++ 10 ∷ []
 
+-- the bytes of abort_tells_nothing_below.script
+abbrev pub abort_tells_nothing_below_script : List ℕ
+abort_tells_nothing_below_script = codes "accounts alice" ++ 10 ∷ [] ++ codes "alice start 100 0 10 shoen:execute(X := Y,0,10,5,C,R)" ++ 10 ∷ [] ++ codes "alice run 9" ++ 10 ∷ [] ++ codes "alice abort 1" ++ 10 ∷ [] ++ codes "alice run 9" ++ 10 ∷ [] ++ codes "alice value 1" ++ 10 ∷ [] ++ codes "alice status 2" ++ 10 ∷ []
+
+-- the bytes of abort_tells_nothing_below.expected
+abbrev pub abort_tells_nothing_below_output : List ℕ
+abort_tells_nothing_below_output = codes "alice + shoen 1" ++ 10 ∷ [] ++ codes "alice + 1" ++ 10 ∷ [] ++ codes "alice + sent" ++ 10 ∷ [] ++ codes "alice + 1" ++ 10 ∷ [] ++ codes "alice + shoen:execute(':='(_1,_2),0,10,5,_3,[started|_8])" ++ 10 ∷ [] ++ codes "alice + aborted 0 5 0" ++ 10 ∷ []
+
 -- the bytes of abort_with_two_children.script
 abbrev pub abort_with_two_children_script : List ℕ
 abort_with_two_children_script = codes "accounts alice" ++ 10 ∷ [] ++ codes "alice load 90" ++ 10 ∷ [] ++ codes ":- module v." ++ 10 ∷ [] ++ codes "p :- true | shoen:execute(true,0,10,5,C,R), shoen:execute(X := Y,0,10,5,D,S)." ++ 10 ∷ [] ++ codes "alice start 100 0 10 v:p" ++ 10 ∷ [] ++ codes "alice run 100" ++ 10 ∷ [] ++ codes "alice status 1" ++ 10 ∷ [] ++ codes "alice abort 1" ++ 10 ∷ [] ++ codes "alice run 100" ++ 10 ∷ [] ++ codes "alice status 2" ++ 10 ∷ [] ++ codes "alice status 3" ++ 10 ∷ [] ++ codes "alice status 1" ++ 10 ∷ [] ++ codes "alice quiet" ++ 10 ∷ []
@@ -105,6 +113,14 @@ allowance_runs_out_script = codes "accounts alice" ++ 10 ∷ [] ++ codes "alice 
 -- the bytes of allowance_runs_out.expected
 abbrev pub allowance_runs_out_output : List ℕ
 allowance_runs_out_output = codes "alice + loaded app" ++ 10 ∷ [] ++ codes "alice + shoen 1" ++ 10 ∷ [] ++ codes "alice + 2" ++ 10 ∷ [] ++ codes "alice + exhausted 2 2 1" ++ 10 ∷ [] ++ codes "alice + sent" ++ 10 ∷ [] ++ codes "alice + 3" ++ 10 ∷ [] ++ codes "alice + terminated 4 12 0" ++ 10 ∷ []
+
+-- the bytes of allowance_runs_out_twice.script
+abbrev pub allowance_runs_out_twice_script : List ℕ
+allowance_runs_out_twice_script = codes "accounts alice" ++ 10 ∷ [] ++ codes "alice load 30" ++ 10 ∷ [] ++ codes ":- module r." ++ 10 ∷ [] ++ codes "r :- true | r, r." ++ 10 ∷ [] ++ codes "alice start 1 0 10 r:r" ++ 10 ∷ [] ++ codes "alice run 9" ++ 10 ∷ [] ++ codes "alice allow 1 1" ++ 10 ∷ [] ++ codes "alice run 9" ++ 10 ∷ [] ++ codes "alice reports 1 1" ++ 10 ∷ []
+
+-- the bytes of allowance_runs_out_twice.expected
+abbrev pub allowance_runs_out_twice_output : List ℕ
+allowance_runs_out_twice_output = codes "alice + loaded r" ++ 10 ∷ [] ++ codes "alice + shoen 1" ++ 10 ∷ [] ++ codes "alice + 1" ++ 10 ∷ [] ++ codes "alice + sent" ++ 10 ∷ [] ++ codes "alice + 2" ++ 10 ∷ [] ++ codes "alice + 3" ++ 10 ∷ [] ++ codes "alice started" ++ 10 ∷ [] ++ codes "alice exhausted" ++ 10 ∷ [] ++ codes "alice exhausted" ++ 10 ∷ []
 
 -- the bytes of append_by_single_reductions.script
 abbrev pub append_by_single_reductions_script : List ℕ
@@ -202,6 +218,14 @@ charges_go_up_the_tree_script = codes "accounts alice" ++ 10 ∷ [] ++ codes "al
 abbrev pub charges_go_up_the_tree_output : List ℕ
 charges_go_up_the_tree_output = codes "alice + loaded n" ++ 10 ∷ [] ++ codes "alice + shoen 1" ++ 10 ∷ [] ++ codes "alice + 9" ++ 10 ∷ [] ++ codes "alice + terminated 5 50 0" ++ 10 ∷ [] ++ codes "alice + terminated 7 50 0" ++ 10 ∷ [] ++ codes "alice + terminated 9 100 0" ++ 10 ∷ []
 
+-- the bytes of child_stopped_below_an_exhausted_shoen.script
+abbrev pub child_stopped_below_an_exhausted_shoen_script : List ℕ
+child_stopped_below_an_exhausted_shoen_script = codes "accounts alice" ++ 10 ∷ [] ++ codes "alice start 1 0 10 shoen:execute(true,0,10,5,[stop|T],R)" ++ 10 ∷ [] ++ codes "alice run 9" ++ 10 ∷ [] ++ codes "alice reports 1 1" ++ 10 ∷ [] ++ codes "alice value 1" ++ 10 ∷ []
+
+-- the bytes of child_stopped_below_an_exhausted_shoen.expected
+abbrev pub child_stopped_below_an_exhausted_shoen_output : List ℕ
+child_stopped_below_an_exhausted_shoen_output = codes "alice + shoen 1" ++ 10 ∷ [] ++ codes "alice + 2" ++ 10 ∷ [] ++ codes "alice + 2" ++ 10 ∷ [] ++ codes "alice started" ++ 10 ∷ [] ++ codes "alice exhausted" ++ 10 ∷ [] ++ codes "alice + shoen:execute(true,0,10,5,[stop|_1],[started,stopped|_8])" ++ 10 ∷ []
+
 -- the bytes of clash_outweighs_waiting.script
 abbrev pub clash_outweighs_waiting_script : List ℕ
 clash_outweighs_waiting_script = codes "accounts alice" ++ 10 ∷ [] ++ codes "alice load 20" ++ 10 ∷ [] ++ codes ":- module t." ++ 10 ∷ [] ++ codes "q(a,b)." ++ 10 ∷ [] ++ codes "alice start 10 0 10 t:q(X,c)" ++ 10 ∷ [] ++ codes "alice run 10" ++ 10 ∷ [] ++ codes "alice value 1" ++ 10 ∷ []
@@ -217,6 +241,14 @@ clause_below_otherwise_closes_script = codes "accounts alice" ++ 10 ∷ [] ++ co
 -- the bytes of clause_below_otherwise_closes.expected
 abbrev pub clause_below_otherwise_closes_output : List ℕ
 clause_below_otherwise_closes_output = codes "alice + loaded m" ++ 10 ∷ [] ++ codes "alice + shoen 1" ++ 10 ∷ [] ++ codes "alice + 1" ++ 10 ∷ [] ++ codes "alice + reduced" ++ 10 ∷ [] ++ codes "alice + yes" ++ 10 ∷ [] ++ codes "alice - 6 step" ++ 10 ∷ [] ++ codes "alice + shoen 2" ++ 10 ∷ [] ++ codes "alice + 1" ++ 10 ∷ [] ++ codes "alice + reduced" ++ 10 ∷ []
+
+-- the bytes of codes_cell_by_cell.script
+abbrev pub codes_cell_by_cell_script : List ℕ
+codes_cell_by_cell_script = codes "accounts alice" ++ 10 ∷ [] ++ codes "alice start 9 0 9 atom_from([X|foo],A)" ++ 10 ∷ [] ++ codes "alice run 9" ++ 10 ∷ [] ++ codes "alice start 9 0 9 atom_from([a|T],A)" ++ 10 ∷ [] ++ codes "alice run 9" ++ 10 ∷ [] ++ codes "alice reports 2 1" ++ 10 ∷ []
+
+-- the bytes of codes_cell_by_cell.expected
+abbrev pub codes_cell_by_cell_output : List ℕ
+codes_cell_by_cell_output = codes "alice + shoen 1" ++ 10 ∷ [] ++ codes "alice + 0" ++ 10 ∷ [] ++ codes "alice + shoen 2" ++ 10 ∷ [] ++ codes "alice + 1" ++ 10 ∷ [] ++ codes "alice + 3" ++ 10 ∷ [] ++ codes "alice started" ++ 10 ∷ [] ++ codes "alice exception(illegal_input,atom_from([a|_6],_7))" ++ 10 ∷ [] ++ codes "alice terminated" ++ 10 ∷ []
 
 -- the bytes of codes_that_are_wrong.script
 abbrev pub codes_that_are_wrong_script : List ℕ
@@ -338,6 +370,14 @@ fresh_variables_script = codes "accounts alice bob" ++ 10 ∷ [] ++ codes "alice
 abbrev pub fresh_variables_output : List ℕ
 fresh_variables_output = codes "alice + loaded t" ++ 10 ∷ [] ++ codes "alice + shoen 1" ++ 10 ∷ [] ++ codes "alice + 4" ++ 10 ∷ [] ++ codes "alice + t:p(f(_6,_5,_7,_8,_9))" ++ 10 ∷ []
 
+-- the bytes of goal_of_a_child_has_its_greatest_priority.script
+abbrev pub goal_of_a_child_has_its_greatest_priority_script : List ℕ
+goal_of_a_child_has_its_greatest_priority_script = codes "accounts alice" ++ 10 ∷ [] ++ codes "alice start 9 0 9 shoen:execute(true,0,2,5,C,R)" ++ 10 ∷ [] ++ codes "alice reduce 2 0" ++ 10 ∷ [] ++ codes "alice start 9 5 5 true" ++ 10 ∷ [] ++ codes "alice run 1" ++ 10 ∷ [] ++ codes "alice status 3" ++ 10 ∷ []
+
+-- the bytes of goal_of_a_child_has_its_greatest_priority.expected
+abbrev pub goal_of_a_child_has_its_greatest_priority_output : List ℕ
+goal_of_a_child_has_its_greatest_priority_output = codes "alice + shoen 1" ++ 10 ∷ [] ++ codes "alice + reduced" ++ 10 ∷ [] ++ codes "alice + shoen 3" ++ 10 ∷ [] ++ codes "alice + 1" ++ 10 ∷ [] ++ codes "alice + terminated 1 9 0" ++ 10 ∷ []
+
 -- the bytes of goal_waits_for_ever.script
 abbrev pub goal_waits_for_ever_script : List ℕ
 goal_waits_for_ever_script = codes "accounts alice" ++ 10 ∷ [] ++ codes "alice load 91" ++ 10 ∷ [] ++ codes ":- module app." ++ 10 ∷ [] ++ codes "app([],Y,Z) :- true | Z = Y." ++ 10 ∷ [] ++ codes "app([A|X],Y,Z) :- true | Z = [A|W], app(X,Y,W)." ++ 10 ∷ [] ++ codes "alice start 100 0 10 app:app(X,[2],R)" ++ 10 ∷ [] ++ codes "alice run 100" ++ 10 ∷ [] ++ codes "alice quiet" ++ 10 ∷ [] ++ codes "alice value 1" ++ 10 ∷ []
@@ -410,6 +450,14 @@ last_line_without_a_feed_script = codes "accounts alice bob" ++ 10 ∷ [] ++ cod
 abbrev pub last_line_without_a_feed_output : List ℕ
 last_line_without_a_feed_output = codes "alice + 0" ++ 10 ∷ []
 
+-- the bytes of least_priority_of_a_child_is_clipped.script
+abbrev pub least_priority_of_a_child_is_clipped_script : List ℕ
+least_priority_of_a_child_is_clipped_script = codes "accounts alice" ++ 10 ∷ [] ++ codes "alice load 81" ++ 10 ∷ [] ++ codes ":- module k." ++ 10 ∷ [] ++ codes "g :- true | h(a)@priority(1), h(b)@priority(9)." ++ 10 ∷ [] ++ codes "h(X) :- true | true." ++ 10 ∷ [] ++ codes "alice start 10 4 9 shoen:execute(k:g,0,9,10,C,R)" ++ 10 ∷ [] ++ codes "alice reduce 2 0" ++ 10 ∷ [] ++ codes "alice reduce 4 1" ++ 10 ∷ [] ++ codes "alice start 10 3 3 true" ++ 10 ∷ [] ++ codes "alice run 4" ++ 10 ∷ [] ++ codes "alice status 3" ++ 10 ∷ []
+
+-- the bytes of least_priority_of_a_child_is_clipped.expected
+abbrev pub least_priority_of_a_child_is_clipped_output : List ℕ
+least_priority_of_a_child_is_clipped_output = codes "alice + loaded k" ++ 10 ∷ [] ++ codes "alice + shoen 1" ++ 10 ∷ [] ++ codes "alice + reduced" ++ 10 ∷ [] ++ codes "alice + reduced" ++ 10 ∷ [] ++ codes "alice + shoen 3" ++ 10 ∷ [] ++ codes "alice + 4" ++ 10 ∷ [] ++ codes "alice + running 0 10 1" ++ 10 ∷ []
+
 -- the bytes of lines_of_4096_bytes.script
 abbrev pub lines_of_4096_bytes_script : List ℕ
 lines_of_4096_bytes_script = codes "accounts alice bob" ++ 10 ∷ [] ++ codes "alice run 0                                                                                                                                                                                                                                                                                                                                                                                                                                                                                                                                                                                                                                                                                                                                                                                                                                                                                                                                                                                                                                                                                                                                                                                                                                                                                                                                                                                                                                                                                                                                                                                                                                                                                                                                                                                                                                                                                                                                                                                                                                                                                                                                                                                                                                                                                                                                                                                                                                                                                                                                                                                                                                                                                                                                                                                                                                                                                                                                                                                                                                                                                                                                                                                                                                                                                                                                                                                                                                                                                                                                                                                                                                                                                                                                                                                                                                                                                                                                                                                                                                                                                                                                                                                                                                                           " ++ 10 ∷ [] ++ codes "alice run 0                                                                                                                                                                                                                                                                                                                                                                                                                                                                                                                                                                                                                                                                                                                                                                                                                                                                                                                                                                                                                                                                                                                                                                                                                                                                                                                                                                                                                                                                                                                                                                                                                                                                                                                                                                                                                                                                                                                                                                                                                                                                                                                                                                                                                                                                                                                                                                                                                                                                                                                                                                                                                                                                                                                                                                                                                                                                                                                                                                                                                                                                                                                                                                                                                                                                                                                                                                                                                                                                                                                                                                                                                                                                                                                                                                                                                                                                                                                                                                                                                                                                                                                                                                                                                                                            " ++ 10 ∷ [] ++ codes "alice run 0                                                                                                                                                                                                                                                                                                                                                                                                                                                                                                                                                                                                                                                                                                                                                                                                                                                                                                                                                                                                                                                                                                                                                                                                                                                                                                                                                                                                                                                                                                                                                                                                                                                                                                                                                                                                                                                                                                                                                                                                                                                                                                                                                                                                                                                                                                                                                                                                                                                                                                                                                                                                                                                                                                                                                                                                                                                                                                                                                                                                                                                                                                                                                                                                                                                                                                                                                                                                                                                                                                                                                                                                                                                                                                                                                                                                                                                                                                                                                                                                                                                                                                                                                                                                                                                           " ++ 13 ∷ [] ++ 10 ∷ [] ++ codes "alice run 0                                                                                                                                                                                                                                                                                                                                                                                                                                                                                                                                                                                                                                                                                                                                                                                                                                                                                                                                                                                                                                                                                                                                                                                                                                                                                                                                                                                                                                                                                                                                                                                                                                                                                                                                                                                                                                                                                                                                                                                                                                                                                                                                                                                                                                                                                                                                                                                                                                                                                                                                                                                                                                                                                                                                                                                                                                                                                                                                                                                                                                                                                                                                                                                                                                                                                                                                                                                                                                                                                                                                                                                                                                                                                                                                                                                                                                                                                                                                                                                                                                                                                                                                                                                                                                                            " ++ 13 ∷ [] ++ 10 ∷ [] ++ codes "carol run 0                                                                                                                                                                                                                                                                                                                                                                                                                                                                                                                                                                                                                                                                                                                                                                                                                                                                                                                                                                                                                                                                                                                                                                                                                                                                                                                                                                                                                                                                                                                                                                                                                                                                                                                                                                                                                                                                                                                                                                                                                                                                                                                                                                                                                                                                                                                                                                                                                                                                                                                                                                                                                                                                                                                                                                                                                                                                                                                                                                                                                                                                                                                                                                                                                                                                                                                                                                                                                                                                                                                                                                                                                                                                                                                                                                                                                                                                                                                                                                                                                                                                                                                                                                                                                                                            " ++ 10 ∷ []
@@ -457,6 +505,14 @@ loads_of_others_are_skipped_script = codes "accounts alice bob" ++ 10 ∷ [] ++ 
 -- the bytes of loads_of_others_are_skipped.expected
 abbrev pub loads_of_others_are_skipped_output : List ℕ
 loads_of_others_are_skipped_output = codes "! account" ++ 10 ∷ [] ++ codes "alice + 0" ++ 10 ∷ [] ++ codes "alice - 1 syntax" ++ 10 ∷ [] ++ codes "alice + loaded e" ++ 10 ∷ []
+
+-- the bytes of module_name_in_quotes.script
+abbrev pub module_name_in_quotes_script : List ℕ
+module_name_in_quotes_script = codes "accounts alice" ++ 10 ∷ [] ++ codes "alice load 16" ++ 10 ∷ [] ++ codes ":- module 'A b'." ++ 10 ∷ [] ++ codes "alice modules" ++ 10 ∷ []
+
+-- the bytes of module_name_in_quotes.expected
+abbrev pub module_name_in_quotes_output : List ℕ
+module_name_in_quotes_output = codes "alice + loaded 'A b'" ++ 10 ∷ [] ++ codes "alice + 1" ++ 10 ∷ [] ++ codes "alice 'A b' 16 0" ++ 10 ∷ []
 
 -- the bytes of module_without_clauses.script
 abbrev pub module_without_clauses_script : List ℕ
@@ -626,6 +682,22 @@ priorities_are_clipped_script = codes "accounts alice" ++ 10 ∷ [] ++ codes "al
 abbrev pub priorities_are_clipped_output : List ℕ
 priorities_are_clipped_output = codes "alice + loaded k" ++ 10 ∷ [] ++ codes "alice + shoen 1" ++ 10 ∷ [] ++ codes "alice + 2" ++ 10 ∷ [] ++ codes "alice - 6 step" ++ 10 ∷ [] ++ codes "alice + 3" ++ 10 ∷ [] ++ codes "alice + shoen 2" ++ 10 ∷ [] ++ codes "alice + reduced" ++ 10 ∷ [] ++ codes "alice + shoen 3" ++ 10 ∷ [] ++ codes "alice + 1" ++ 10 ∷ [] ++ codes "alice + terminated 1 10 0" ++ 10 ∷ []
 
+-- the bytes of priorities_are_clipped_downwards.script
+abbrev pub priorities_are_clipped_downwards_script : List ℕ
+priorities_are_clipped_downwards_script = codes "accounts alice" ++ 10 ∷ [] ++ codes "alice load 81" ++ 10 ∷ [] ++ codes ":- module k." ++ 10 ∷ [] ++ codes "g :- true | h(a)@priority(1), h(b)@priority(9)." ++ 10 ∷ [] ++ codes "h(X) :- true | true." ++ 10 ∷ [] ++ codes "alice start 10 3 5 k:g" ++ 10 ∷ [] ++ codes "alice reduce 2 1" ++ 10 ∷ [] ++ codes "alice start 10 6 6 true" ++ 10 ∷ [] ++ codes "alice run 1" ++ 10 ∷ [] ++ codes "alice status 2" ++ 10 ∷ []
+
+-- the bytes of priorities_are_clipped_downwards.expected
+abbrev pub priorities_are_clipped_downwards_output : List ℕ
+priorities_are_clipped_downwards_output = codes "alice + loaded k" ++ 10 ∷ [] ++ codes "alice + shoen 1" ++ 10 ∷ [] ++ codes "alice + reduced" ++ 10 ∷ [] ++ codes "alice + shoen 2" ++ 10 ∷ [] ++ codes "alice + 1" ++ 10 ∷ [] ++ codes "alice + terminated 1 10 0" ++ 10 ∷ []
+
+-- the bytes of priorities_are_clipped_to_a_childs_range.script
+abbrev pub priorities_are_clipped_to_a_childs_range_script : List ℕ
+priorities_are_clipped_to_a_childs_range_script = codes "accounts alice" ++ 10 ∷ [] ++ codes "alice load 81" ++ 10 ∷ [] ++ codes ":- module k." ++ 10 ∷ [] ++ codes "g :- true | h(a)@priority(1), h(b)@priority(9)." ++ 10 ∷ [] ++ codes "h(X) :- true | true." ++ 10 ∷ [] ++ codes "alice start 10 0 9 shoen:execute(k:g,3,5,10,C,R)" ++ 10 ∷ [] ++ codes "alice reduce 2 0" ++ 10 ∷ [] ++ codes "alice reduce 4 1" ++ 10 ∷ [] ++ codes "alice start 10 7 7 true" ++ 10 ∷ [] ++ codes "alice run 1" ++ 10 ∷ [] ++ codes "alice status 3" ++ 10 ∷ []
+
+-- the bytes of priorities_are_clipped_to_a_childs_range.expected
+abbrev pub priorities_are_clipped_to_a_childs_range_output : List ℕ
+priorities_are_clipped_to_a_childs_range_output = codes "alice + loaded k" ++ 10 ∷ [] ++ codes "alice + shoen 1" ++ 10 ∷ [] ++ codes "alice + reduced" ++ 10 ∷ [] ++ codes "alice + reduced" ++ 10 ∷ [] ++ codes "alice + shoen 3" ++ 10 ∷ [] ++ codes "alice + 1" ++ 10 ∷ [] ++ codes "alice + terminated 1 10 0" ++ 10 ∷ []
+
 -- the bytes of priorities_are_clipped_upwards.script
 abbrev pub priorities_are_clipped_upwards_script : List ℕ
 priorities_are_clipped_upwards_script = codes "accounts alice" ++ 10 ∷ [] ++ codes "alice load 81" ++ 10 ∷ [] ++ codes ":- module k." ++ 10 ∷ [] ++ codes "g :- true | h(a)@priority(1), h(b)@priority(9)." ++ 10 ∷ [] ++ codes "h(X) :- true | true." ++ 10 ∷ [] ++ codes "alice start 10 3 5 k:g" ++ 10 ∷ [] ++ codes "alice run 3" ++ 10 ∷ [] ++ codes "alice start 10 2 2 true" ++ 10 ∷ [] ++ codes "alice run 1" ++ 10 ∷ [] ++ codes "alice reduce 3 1" ++ 10 ∷ [] ++ codes "alice status 2" ++ 10 ∷ [] ++ codes "alice run 9" ++ 10 ∷ [] ++ codes "alice status 2" ++ 10 ∷ []
@@ -657,6 +729,14 @@ quiet_with_many_blanks_script = codes "accounts alice bob" ++ 10 ∷ [] ++ codes
 -- the bytes of quiet_with_many_blanks.expected
 abbrev pub quiet_with_many_blanks_output : List ℕ
 quiet_with_many_blanks_output = codes "alice + yes" ++ 10 ∷ [] ++ codes "alice - 1 syntax" ++ 10 ∷ []
+
+-- the bytes of range_of_a_child_is_clipped.script
+abbrev pub range_of_a_child_is_clipped_script : List ℕ
+range_of_a_child_is_clipped_script = codes "accounts alice" ++ 10 ∷ [] ++ codes "alice start 10 0 5 shoen:execute(true,0,9,5,C,R)" ++ 10 ∷ [] ++ codes "alice reduce 2 0" ++ 10 ∷ [] ++ codes "alice start 10 7 7 true" ++ 10 ∷ [] ++ codes "alice run 1" ++ 10 ∷ [] ++ codes "alice status 3" ++ 10 ∷ []
+
+-- the bytes of range_of_a_child_is_clipped.expected
+abbrev pub range_of_a_child_is_clipped_output : List ℕ
+range_of_a_child_is_clipped_output = codes "alice + shoen 1" ++ 10 ∷ [] ++ codes "alice + reduced" ++ 10 ∷ [] ++ codes "alice + shoen 3" ++ 10 ∷ [] ++ codes "alice + 1" ++ 10 ∷ [] ++ codes "alice + terminated 1 10 0" ++ 10 ∷ []
 
 -- the bytes of report_that_holds_its_tail.script
 abbrev pub report_that_holds_its_tail_script : List ℕ
@@ -753,6 +833,14 @@ stopped_shoen_terminates_script = codes "accounts alice" ++ 10 ∷ [] ++ codes "
 -- the bytes of stopped_shoen_terminates.expected
 abbrev pub stopped_shoen_terminates_output : List ℕ
 stopped_shoen_terminates_output = codes "alice + shoen 1" ++ 10 ∷ [] ++ codes "alice + 1" ++ 10 ∷ [] ++ codes "alice + reduced" ++ 10 ∷ [] ++ codes "alice + terminated 1 100 0" ++ 10 ∷ [] ++ codes "alice - 5 ended" ++ 10 ∷ [] ++ codes "alice + shoen 3" ++ 10 ∷ [] ++ codes "alice + sent" ++ 10 ∷ [] ++ codes "alice + reduced" ++ 10 ∷ [] ++ codes "alice + reduced" ++ 10 ∷ [] ++ codes "alice + stopped 1 100 1" ++ 10 ∷ [] ++ codes "alice + 1" ++ 10 ∷ [] ++ codes "alice + terminated 1 100 0" ++ 10 ∷ [] ++ codes "alice + 3" ++ 10 ∷ [] ++ codes "alice started" ++ 10 ∷ [] ++ codes "alice stopped" ++ 10 ∷ [] ++ codes "alice terminated" ++ 10 ∷ []
+
+-- the bytes of stopped_while_exhausted.script
+abbrev pub stopped_while_exhausted_script : List ℕ
+stopped_while_exhausted_script = codes "accounts alice" ++ 10 ∷ [] ++ codes "alice start 0 0 10 true" ++ 10 ∷ [] ++ codes "alice stop 1" ++ 10 ∷ [] ++ codes "alice run 9" ++ 10 ∷ [] ++ codes "alice reports 1 1" ++ 10 ∷ []
+
+-- the bytes of stopped_while_exhausted.expected
+abbrev pub stopped_while_exhausted_output : List ℕ
+stopped_while_exhausted_output = codes "alice + shoen 1" ++ 10 ∷ [] ++ codes "alice + sent" ++ 10 ∷ [] ++ codes "alice + 1" ++ 10 ∷ [] ++ codes "alice + 3" ++ 10 ∷ [] ++ codes "alice started" ++ 10 ∷ [] ++ codes "alice exhausted" ++ 10 ∷ [] ++ codes "alice stopped" ++ 10 ∷ []
 
 -- the bytes of stream_bound_by_the_program.script
 abbrev pub stream_bound_by_the_program_script : List ℕ
@@ -862,6 +950,7 @@ words_and_line_ends_output = codes "alice + 0" ++ 10 ∷ [] ++ codes "alice - 1 
 pub record ExamplesHold : Type 0 where
   pub a_failure_stops_nothing_else : output a_failure_stops_nothing_else_script ≡ a_failure_stops_nothing_else_output
   pub abort_ends_what_is_below : output abort_ends_what_is_below_script ≡ abort_ends_what_is_below_output
+  pub abort_tells_nothing_below : output abort_tells_nothing_below_script ≡ abort_tells_nothing_below_output
   pub abort_with_two_children : output abort_with_two_children_script ≡ abort_with_two_children_output
   pub aborted_child_ends_its_parent : output aborted_child_ends_its_parent_script ≡ aborted_child_ends_its_parent_output
   pub account_name_of_16_bytes : output account_name_of_16_bytes_script ≡ account_name_of_16_bytes_output
@@ -873,6 +962,7 @@ pub record ExamplesHold : Type 0 where
   pub allowance_has_a_greatest : output allowance_has_a_greatest_script ≡ allowance_has_a_greatest_output
   pub allowance_of_0 : output allowance_of_0_script ≡ allowance_of_0_output
   pub allowance_runs_out : output allowance_runs_out_script ≡ allowance_runs_out_output
+  pub allowance_runs_out_twice : output allowance_runs_out_twice_script ≡ allowance_runs_out_twice_output
   pub append_by_single_reductions : output append_by_single_reductions_script ≡ append_by_single_reductions_output
   pub append_two_lists : output append_two_lists_script ≡ append_two_lists_output
   pub append_with_its_status : output append_with_its_status_script ≡ append_with_its_status_output
@@ -885,8 +975,10 @@ pub record ExamplesHold : Type 0 where
   pub body_goals_inherit_priority : output body_goals_inherit_priority_script ≡ body_goals_inherit_priority_output
   pub bytes_behind_a_load : output bytes_behind_a_load_script ≡ bytes_behind_a_load_output
   pub charges_go_up_the_tree : output charges_go_up_the_tree_script ≡ charges_go_up_the_tree_output
+  pub child_stopped_below_an_exhausted_shoen : output child_stopped_below_an_exhausted_shoen_script ≡ child_stopped_below_an_exhausted_shoen_output
   pub clash_outweighs_waiting : output clash_outweighs_waiting_script ≡ clash_outweighs_waiting_output
   pub clause_below_otherwise_closes : output clause_below_otherwise_closes_script ≡ clause_below_otherwise_closes_output
+  pub codes_cell_by_cell : output codes_cell_by_cell_script ≡ codes_cell_by_cell_output
   pub codes_that_are_wrong : output codes_that_are_wrong_script ≡ codes_that_are_wrong_output
   pub commands_that_are_none : output commands_that_are_none_script ≡ commands_that_are_none_output
   pub commands_to_shoens_that_are_none : output commands_to_shoens_that_are_none_script ≡ commands_to_shoens_that_are_none_output
@@ -902,6 +994,7 @@ pub record ExamplesHold : Type 0 where
   pub first_of_two_clauses : output first_of_two_clauses_script ≡ first_of_two_clauses_output
   pub forms_that_are_faults : output forms_that_are_faults_script ≡ forms_that_are_faults_output
   pub fresh_variables : output fresh_variables_script ≡ fresh_variables_output
+  pub goal_of_a_child_has_its_greatest_priority : output goal_of_a_child_has_its_greatest_priority_script ≡ goal_of_a_child_has_its_greatest_priority_output
   pub goal_waits_for_ever : output goal_waits_for_ever_script ≡ goal_waits_for_ever_output
   pub goals_of_a_start : output goals_of_a_start_script ≡ goals_of_a_start_output
   pub greater_priority_of_a_body : output greater_priority_of_a_body_script ≡ greater_priority_of_a_body_output
@@ -911,12 +1004,14 @@ pub record ExamplesHold : Type 0 where
   pub inner_shoen_stays_stopped : output inner_shoen_stays_stopped_script ≡ inner_shoen_stays_stopped_output
   pub integers_are_no_atoms : output integers_are_no_atoms_script ≡ integers_are_no_atoms_output
   pub last_line_without_a_feed : output last_line_without_a_feed_script ≡ last_line_without_a_feed_output
+  pub least_priority_of_a_child_is_clipped : output least_priority_of_a_child_is_clipped_script ≡ least_priority_of_a_child_is_clipped_output
   pub lines_of_4096_bytes : output lines_of_4096_bytes_script ≡ lines_of_4096_bytes_output
   pub load_of_no_bytes : output load_of_no_bytes_script ≡ load_of_no_bytes_output
   pub load_without_a_last_feed : output load_without_a_last_feed_script ≡ load_without_a_last_feed_output
   pub loaded_twice : output loaded_twice_script ≡ loaded_twice_output
   pub loads_of_other_names : output loads_of_other_names_script ≡ loads_of_other_names_output
   pub loads_of_others_are_skipped : output loads_of_others_are_skipped_script ≡ loads_of_others_are_skipped_output
+  pub module_name_in_quotes : output module_name_in_quotes_script ≡ module_name_in_quotes_output
   pub module_without_clauses : output module_without_clauses_script ≡ module_without_clauses_output
   pub modules_are_listed : output modules_are_listed_script ≡ modules_are_listed_output
   pub modules_loaded_at_that_moment : output modules_loaded_at_that_moment_script ≡ modules_loaded_at_that_moment_output
@@ -938,10 +1033,13 @@ pub record ExamplesHold : Type 0 where
   pub overflow_is_reported : output overflow_is_reported_script ≡ overflow_is_reported_output
   pub places_of_one_variable : output places_of_one_variable_script ≡ places_of_one_variable_output
   pub priorities_are_clipped : output priorities_are_clipped_script ≡ priorities_are_clipped_output
+  pub priorities_are_clipped_downwards : output priorities_are_clipped_downwards_script ≡ priorities_are_clipped_downwards_output
+  pub priorities_are_clipped_to_a_childs_range : output priorities_are_clipped_to_a_childs_range_script ≡ priorities_are_clipped_to_a_childs_range_output
   pub priorities_are_clipped_upwards : output priorities_are_clipped_upwards_script ≡ priorities_are_clipped_upwards_output
   pub producer_and_consumer : output producer_and_consumer_script ≡ producer_and_consumer_output
   pub quiet_or_not : output quiet_or_not_script ≡ quiet_or_not_output
   pub quiet_with_many_blanks : output quiet_with_many_blanks_script ≡ quiet_with_many_blanks_output
+  pub range_of_a_child_is_clipped : output range_of_a_child_is_clipped_script ≡ range_of_a_child_is_clipped_output
   pub report_that_holds_its_tail : output report_that_holds_its_tail_script ≡ report_that_holds_its_tail_output
   pub reversed_list : output reversed_list_script ≡ reversed_list_output
   pub second_variable_wakes : output second_variable_wakes_script ≡ second_variable_wakes_output
@@ -954,6 +1052,7 @@ pub record ExamplesHold : Type 0 where
   pub stopped_once : output stopped_once_script ≡ stopped_once_output
   pub stopped_parent_holds_back : output stopped_parent_holds_back_script ≡ stopped_parent_holds_back_output
   pub stopped_shoen_terminates : output stopped_shoen_terminates_script ≡ stopped_shoen_terminates_output
+  pub stopped_while_exhausted : output stopped_while_exhausted_script ≡ stopped_while_exhausted_output
   pub stream_bound_by_the_program : output stream_bound_by_the_program_script ≡ stream_bound_by_the_program_output
   pub truncated_load : output truncated_load_script ≡ truncated_load_output
   pub truncated_load_of_another_name : output truncated_load_of_another_name_script ≡ truncated_load_of_another_name_output

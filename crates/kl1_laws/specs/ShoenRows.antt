@@ -2,7 +2,7 @@
 use Rattle.std.specs.Prelude.{◌≡◌, ◌^◌, ℕ, zero, suc, codes, List, [], ◌∷◌, ◌++◌, Some, pos, replicate, decimal, length, map}
 use Rattle.kl1_model.specs.declared.message.Message.TheVariants.{Stop, Allow}
 use Rattle.kl1_model.specs.declared.condition.Condition.TheVariants.{Running}
-use Rattle.kl1_model.specs.Term.{Term, variable, integer, atom}
+use Rattle.kl1_model.specs.Term.{Term, variable, integer, atom, structure, none, more}
 use Rattle.kl1_model.specs.Meaning.{nil, cell, pair}
 use Rattle.kl1_model.specs.Print.{print}
 use Rattle.kl1_model.specs.State.{monitor, reduces, Goal, Shoen, State, fresh}
@@ -91,6 +91,37 @@ with_long_stream n h = record h { origin = Some (record { goal = true_term; repo
 -- an account whose first shoen has made so many reports
 abbrev pub with_many_reports : ℕ → State
 with_many_reports n = let s = after_lines nothing_done (codes "start 9 0 9 true" ∷ []) in record s { shoens = map (with_long_stream n) s.shoens }
+
+-- an account whose goal holds a structure and becomes one that holds what it held
+abbrev pub with_head_variable : State
+with_head_variable = after_lines (having (lines (codes ":- module m." ∷ codes "p(X) :- true | q(X)." ∷ []))) (codes "start 9 0 9 m:p([1,2])" ∷ [])
+
+-- an account whose only goal makes a name of two codes, which name x7
+abbrev pub with_known_codes : State
+with_known_codes = after_lines nothing_done (codes "start 9 0 9 atom_from([120,55],A)" ∷ [])
+
+-- an account whose only goal makes a name of four codes, which name the built-in stop
+abbrev pub with_built_in_codes : State
+with_built_in_codes = after_lines nothing_done (codes "start 9 0 9 atom_from([115,116,111,112],A)" ∷ [])
+
+-- how many variables and structures an account's starts, messages and commits had
+abbrev pub counts : State → List ℕ
+counts s = s.variables ∷ s.nodes ∷ []
+
+-- a text, so many times
+abbrev pub repeated : ℕ → List ℕ → List ℕ
+repeated zero text = []
+repeated (suc n) text = text ++ repeated n text
+
+-- a shoen whose report stream at the console has one report, of a goal with a list of 2,000 codes
+abbrev pub with_long_report : Shoen → Shoen
+with_long_report h =
+    let goal = pair (codes ":") (atom (codes "m")) (structure (codes "p") (more (letters 2000) none)) in
+    record h { origin = Some (record { goal = true_term; reports = cell (pair (codes "exception") (atom (codes "failure")) goal) nil; control = nil }) }
+
+-- an account whose first shoen has made one report that is long
+abbrev pub with_one_long_report : State
+with_one_long_report = let s = after_lines nothing_done (codes "start 9 0 9 true" ∷ []) in record s { shoens = map with_long_report s.shoens }
 
 -- how many texts a reply lists
 abbrev pub lines_listed : Reply → ℕ
@@ -211,3 +242,37 @@ pub record ShoenRowsHold : Type 0 where
   pub last_of_many_reports : lines_listed (step (with_many_reports 70) (read (reports 1 67))).reply ≡ 4
   -- and none past the last
   pub reports_past_the_last : lines_listed (step (with_many_reports 70) (read (reports 1 71))).reply ≡ 0
+  -- a start counts its goal's variables and two more
+  pub counts_of_a_start : counts with_fresh_variable ≡ 2 ∷ 0 ∷ []
+  -- and the structures in its goal's arguments
+  pub counts_of_a_start_with_a_structure : counts (after_events nothing_done (start 1 0 1 (equals (variable 1) (cell (variable 2) nil)) ∷ [])) ≡ 4 ∷ 1 ∷ []
+  -- a commit counts its fresh variables and its structures
+  pub counts_of_a_commit : counts (after_events with_fresh_variable (reduce 2 1 ∷ [])) ≡ 3 ∷ 1 ∷ []
+  -- a message counts one of each
+  pub counts_of_a_message : counts (after_events with_fresh_variable (control 1 Stop ∷ [])) ≡ 3 ∷ 1 ∷ []
+  -- and `allow` two structures
+  pub counts_of_allow : counts (after_events with_fresh_variable (reduce 2 1 ∷ control 1 (Allow 1) ∷ [])) ≡ 4 ∷ 3 ∷ []
+  -- neither a variable of the head nor a structure that it stands for counts at a commit
+  pub commit_of_head_variables : stream 1 (after_events (with_counts 262144 1048576 with_head_variable) (reduce 2 1 ∷ [])) ≡ codes "[started|_3]"
+  -- for a start too, too many names go before another limit
+  pub names_before_limits_of_a_start : (step (with_many_names 1024 (crowded 8192 0)) (start 1 0 1 (equals (variable 1) (atom (codes "new"))))).reply ≡ refused too_many_names
+  -- and a limit before a full journal
+  pub limits_before_the_journal_of_a_start : (step (with_entries 262144 (crowded 8192 0)) (start 1 0 1 true_term)).reply ≡ refused limit_passed
+  -- and too many names before both
+  pub names_before_all_of_a_start : (step (with_entries 262144 (with_many_names 1024 (crowded 8192 0))) (start 1 0 1 (equals (variable 1) (atom (codes "new"))))).reply ≡ refused too_many_names
+  -- codes of a name that is known make none more
+  pub codes_of_a_known_name : stream 1 (after_events (with_many_names 1024 with_known_codes) (reduce 2 0 ∷ [])) ≡ codes "[started,terminated]"
+  -- nor do codes of a built-in name
+  pub codes_of_a_built_in_name : stream 1 (after_events (with_many_names 1024 with_built_in_codes) (reduce 2 0 ∷ [])) ≡ codes "[started,terminated]"
+  -- where one report is left, the innermost of two shoens that terminate makes it
+  pub innermost_terminates_first : stream 1 (after_lines (with_reports 65533 nothing_done) (codes "start 9 0 9 shoen:execute(true,0,9,5,C,R)" ∷ codes "run 2" ∷ [])) ≡ codes "[started|_5]"
+  -- a start that makes the last report can't tell that it is exhausted
+  pub last_report_of_a_start : stream 1 (after_lines (with_reports 65535 nothing_done) (codes "start 0 0 9 true" ∷ [])) ≡ codes "[started|_3]"
+  -- by which its stream is broken, and nothing takes a number
+  pub numbers_after_the_last_report_of_a_start : numbers (after_lines (with_reports 65535 nothing_done) (codes "start 0 0 9 true" ∷ [])) ≡ 3 ∷ 2 ∷ 1 ∷ 1 ∷ []
+  -- where none is left, a start's stream is broken from the beginning
+  pub no_report_of_a_start : stream 1 (after_lines (with_reports 65536 nothing_done) (codes "start 0 0 9 true" ∷ [])) ≡ codes "_2"
+  -- and takes one number less
+  pub numbers_without_a_report_of_a_start : numbers (after_lines (with_reports 65536 nothing_done) (codes "start 0 0 9 true" ∷ [])) ≡ 2 ∷ 2 ∷ 1 ∷ 1 ∷ []
+  -- a report of more than 4,000 bytes is cut behind them
+  pub long_report_is_cut : (step with_one_long_report (read (reports 1 1))).reply ≡ listed ((codes "exception(failure,m:p([" ++ repeated 1325 (codes "97,") ++ codes "97...") ∷ [])
