@@ -1,5 +1,5 @@
 -- What holds of the goals and the shoens that an account keeps.
-use Rattle.std.specs.Prelude.{◌≡◌, ℕ, suc, ◌<◌, ◌≤◌, List, [], ◌∷◌, Option, Some, None}
+use Rattle.std.specs.Prelude.{ℕ, suc, ◌<◌, ◌≤◌, List, Option, Some, None}
 use Rattle.std.specs.List.{AllByRecursion}
 use Rattle.kl1_text.specs.declared.cell_name.CellName.{CellName}
 use Rattle.kl1_store.specs.Held.{Held, IsIn}
@@ -51,8 +51,3 @@ pub record IsShoenIn (h : Held CellName) (s : Shoen CellName) : Type 0 where
 -- the cells of shoens are of the store
 abbrev pub AreShoensIn : Held CellName → List (Shoen CellName) → Type 0
 AreShoensIn h shoens = AllByRecursion (IsShoenIn h) shoens
-
--- shoens have the numbers after this one, in order
-abbrev pub AreNumbered : ℕ → List (Shoen CellName) → Type 0
-AreNumbered last [] = Unit {0}
-AreNumbered last (s ∷ ss) = (s.number ≡ suc last) × AreNumbered (suc last) ss

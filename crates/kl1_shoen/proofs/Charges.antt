@@ -1,9 +1,9 @@
 -- What shoens in order of number are charged.
-use Rattle.std.proofs.Common.{◌≡◌, ℕ, zero, suc, ◌+◌, ◌-◌, ◌<◌, ◌≤◌, Bool, true, false, ◌==◌, ◌||◌, if◌then◌else◌, List, [], ◌∷◌, ◌++◌, map, length, get_or, set, count_by, refl, sym, ap, ap₂, ◌∙◌, arith, subst}
+use Rattle.std.proofs.Common.{◌≡◌, ℕ, zero, suc, ◌+◌, ◌-◌, ◌<◌, ◌≤◌, Bool, true, false, ◌==◌, ◌||◌, if◌then◌else◌, List, [], ◌∷◌, ◌++◌, length, get_or, set, count_by, refl, sym, ap, ap₂, ◌∙◌, arith, subst}
 use Rattle.std.specs.Prelude.{cond}
 use Rattle.std.specs.List.{AllByRecursion}
 use Rattle.std.proofs.lemmas.Bool.{false≢true, eq-eqb, eqb-true}
-use Rattle.std.proofs.lemmas.List.{get_or_append_left, get_or-set_same, get_or-set_other}
+use Rattle.std.proofs.lemmas.List.{get_or-set_same, get_or-set_other}
 use Rattle.std.proofs.lemmas.List.Sums.{sum_by-cons, count_by-le-length}
 use Rattle.kl1_model.specs.Module.{is_among}
 use Rattle.kl1_model.specs.Tree.{path_within}
@@ -77,10 +77,10 @@ charged_open ss cs ws s a n few =
       worked = wider (length ss) (length (ss ++ s ∷ [])) (let l = length_more ss s in omega (arith, l)) ws a.worked;
       count = length_more cs 0 ∙ ap suc a.count ∙ sym (length_more ss s);
       charged = λ k.
-        zero_more cs k ∙ a.charged k
-        ∙ count_same (λ w. is_among (suc k) (path_within w (parents_in ss) w)) (λ w. is_among (suc k) (path_within w (parents_in ss ++ s.parent ∷ []) w)) (length ss)
-        (λ w le. ap (is_among (suc k)) (sym (path_among (parents_in ss) (s.parent ∷ []) a.lower w w (omega (arith, le, len))))) ws a.worked
-        ∙ ap (λ ps. count_by (λ w. is_among (suc k) (path_within w ps w)) ws) (sym (parents_after ss s));
+          zero_more cs k ∙ a.charged k
+          ∙ count_same (λ w. is_among (suc k) (path_within w (parents_in ss) w)) (λ w. is_among (suc k) (path_within w (parents_in ss ++ s.parent ∷ []) w)) (length ss)
+          (λ w le. ap (is_among (suc k)) (sym (path_among (parents_in ss) (s.parent ∷ []) a.lower w w (omega (arith, le, len))))) ws a.worked
+          ∙ ap (λ ps. count_by (λ w. is_among (suc k) (path_within w ps w)) ws) (sym (parents_after ss s));
     }
 
 -- one reduction more charges a path

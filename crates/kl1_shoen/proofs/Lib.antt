@@ -3,3 +3,4 @@ pub mod Numbered
 pub mod Paths
 pub mod Charges
 pub mod Changing
+pub mod Meaning

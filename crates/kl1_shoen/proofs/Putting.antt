@@ -1,5 +1,5 @@
 -- Lists that are put back to what they were.
-use Rattle.std.proofs.Common.{◌≡◌, ℕ, zero, suc, ◌<◌, ◌≤◌, List, [], ◌∷◌, ◌++◌, length, get_or, take, set, refl, sym, ap, ◌∙◌, arith}
+use Rattle.std.proofs.Common.{◌≡◌, ℕ, zero, suc, ◌≤◌, List, [], ◌∷◌, ◌++◌, length, get_or, take, set, refl, sym, ap, ◌∙◌, arith}
 use Rattle.std.proofs.lemmas.List.{set-set, set-get_or, take_all, take-append-le}
 use Rattle.kl1_shoen.specs.declared.tracked.Was.{Was}
 use Rattle.kl1_shoen.specs.Tracked.{put_back}

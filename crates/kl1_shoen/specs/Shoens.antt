@@ -1,9 +1,7 @@
 -- Shoens in order of number, as a tree: paths, charges, and which are enabled.
-use Rattle.std.specs.Prelude.{◌≡◌, ◌≤◌, ℕ, suc, ◌==◌, ◌+◌, min, nat_le, not, ◌&&◌, ◌||◌, Bool, true, false, if◌then◌else◌, Option, List, [], ◌∷◌, map, length, find, get_or, count_by, option_map, unwrap_or}
+use Rattle.std.specs.Prelude.{◌≡◌, ◌≤◌, ℕ, suc, ◌==◌, nat_le, not, ◌&&◌, ◌||◌, Bool, false, if◌then◌else◌, Option, List, [], ◌∷◌, map, length, find, get_or, count_by, option_map, unwrap_or}
 use Rattle.std.specs.List.{AllByRecursion, list_any}
-use Rattle.kl1_model.specs.declared.life.Life.{Life}
 use Rattle.kl1_model.specs.declared.life.Life.TheVariants.{Aborted}
-use Rattle.kl1_model.specs.Limits.{most_allowance}
 use Rattle.kl1_model.specs.Module.{is_among}
 use Rattle.kl1_model.specs.State.{is_living}
 use Rattle.kl1_model.specs.Tree.{path_within}

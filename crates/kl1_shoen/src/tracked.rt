@@ -28,10 +28,10 @@ impl<T: Copy> Model for TrackedList<T> {
     ghost Value = { Tracked T };
 
     ghost view = { λ t. record {
-        now = t.items.items;
-        kept = put_back t.was.items (take t.mark t.items.items);
-        room = vec_capacity t.items - vec_len t.items;
-        changes = vec_capacity t.was - vec_len t.was;
+      now = t.items.items;
+      kept = put_back t.was.items (take t.mark t.items.items);
+      room = vec_capacity t.items - vec_len t.items;
+      changes = vec_capacity t.was - vec_len t.was;
     } };
 
     ghost invariant = { λ t. t.mark ≤ vec_len t.items };

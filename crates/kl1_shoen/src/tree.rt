@@ -41,11 +41,11 @@ impl<N: NameValue> Model for ShoenTree<N> {
     ghost Value = { Tree N };
 
     ghost view = { λ t. record {
-        shoens = t.shoens.now;
-        work = t.work;
-        kept = t.shoens.kept;
-        kept_work = t.kept_work;
-        room = min t.shoens.room t.charges.room;
+      shoens = t.shoens.now;
+      work = t.work;
+      kept = t.shoens.kept;
+      kept_work = t.kept_work;
+      room = min t.shoens.room t.charges.room;
     } };
 
     ghost invariant = { λ t. AreCharged t.shoens.now t.charges.now t.work × AreCharged t.shoens.kept t.charges.kept t.kept_work };

@@ -2,18 +2,22 @@
 
 ghost use Rattle.std.specs.Prelude.{◌≡◌, ◌≤◌, []};
 
-use kl1_shoen::{Life, Origin, Shoen, ShoenTree};
+use kl1_model::Life;
+use kl1_shoen::{Origin, Shoen, ShoenTree};
 use kl1_store::Cell;
 use kl1_text::AtomNo;
 use std::alloc::{AllocError, Global};
 
 /// A living shoen with this allowance; the console keeps the goal of a number of one that it started.
 fn living(number: u64, allowance: u64, origin: Option<Origin<AtomNo>>) -> Shoen<AtomNo>
-    ensures { result.number ≡ number }
+    ensures number { result.number ≡ number }
+    ensures parent { result.parent ≡ 0 }
 {
     Shoen {
         number,
+        parent: 0,
         life: Life::Living,
+        is_stopped: false,
         allowance,
         low: 0,
         high: 100,
@@ -47,6 +51,7 @@ fn has(tree: &ShoenTree<AtomNo>, number: u64, is_living: bool, allowance: u64) -
     let lives = match shoen.life {
         Life::Living => true,
         Life::Terminated => false,
+        Life::Aborted => false,
     };
     shoen.number == number && lives == is_living && shoen.allowance == allowance
 }
@@ -73,11 +78,15 @@ pub fn shoens_are_found(alloc: Global) -> Result<bool, AllocError> {
     let started = tree.origin_at(1).is_none()
         & has_origin(&tree, 2, 7)
         & tree.origin_at(4).is_none();
-    let mut ended = living(3, 35, None);
-    ended.life = Life::Terminated;
-    tree.set(&ended);
-    tree.set(&living(4, 40, None));
+    tree.begin();
+    tree.end(3, Life::Terminated)?;
+    tree.allow(3, 5)?;
+    tree.allow(4, 5)?;
     let changed = has(&tree, 1, true, 10) & has(&tree, 2, true, 20) & has(&tree, 3, false, 35);
     let same = has_origin(&tree, 2, 7) & tree.lend(4).is_none() & (tree.len() == 3);
-    Ok(is_empty & opened & no_others & started & changed & same)
+    tree.charge(1)?;
+    let charged = (tree.charged(1) == 1) & (tree.charged(2) == 0);
+    tree.back();
+    let back = has(&tree, 3, true, 30) & (tree.charged(1) == 0) & (tree.len() == 3);
+    Ok(is_empty & opened & no_others & started & changed & same & charged & back)
 }

@@ -111,7 +111,11 @@ fn aborted<N: NameValue>(shoens: &[Shoen<N>], number: u64, shoen: Shoen<N>) -> S
 }
 
 /// Changes the shoen of a number, if there is one.
-fn change_one<N: NameValue>(shoens: &mut TrackedList<Shoen<N>>, number: u64, change: Change<N>) -> Result<(), AllocError>
+fn change_one<N: NameValue>(
+    shoens: &mut TrackedList<Shoen<N>>,
+    number: u64,
+    change: Change<N>,
+) -> Result<(), AllocError>
     requires { AreNumbered 0 shoens.old.now }
     ensures ok { OnOk result (shoens.new.now ≡ changed number (changed_by change) shoens.old.now) }
     ensures err { OnErr result (shoens.new.now ≡ shoens.old.now) }

@@ -1,4 +1,4 @@
-use Rattle.std.proofs.Common.{◌≡◌, length, vec_len, vec_capacity}
+use Rattle.std.proofs.Common.{◌≡◌, vec_len, vec_capacity}
 use Rattle.kl1_shoen.specs.Tracked.{put_back}
 use Rattle.kl1_shoen.proofs.tracked.put_all_back.Given as goal
 

@@ -31,9 +31,9 @@ path-preserved g c =
     let e : length (path_in sh at) ≡ suc (length (path_in sh up)) = ap (λ (l : List ℕ). length l) path in
     record {
       charged = λ k.
-        ap (λ (l : List ℕ). (if is_on_path_in sh (suc k) up then 1 else 0) + get_or l k 0) c.put.ensures.now
-        ∙ raise_step sh cs at up v c.requires.lower lt (omega (arith, lt, i.within, i.count, c.requires.count)) (ap (λ (l : List ℕ). get_or l (at - 1) 0) c.items.ensures) below path k
-        ∙ i.charged k;
+          ap (λ (l : List ℕ). (if is_on_path_in sh (suc k) up then 1 else 0) + get_or l k 0) c.put.ensures.now
+          ∙ raise_step sh cs at up v c.requires.lower lt (omega (arith, lt, i.within, i.count, c.requires.count)) (ap (λ (l : List ℕ). get_or l (at - 1) 0) c.items.ensures) below path k
+          ∙ i.charged k;
       count = ap (λ (l : List ℕ). length l) c.put.ensures.now ∙ length_set cs (at - 1) (v + 1) ∙ i.count;
       changes = omega (arith, e, i.changes, c.put.ensures.changes);
       within = omega (arith, below, i.within);

@@ -1,0 +1,142 @@
+-- What messages to a shoen make of drafts.
+use Rattle.std.proofs.Common.{◌≡◌, ℕ, zero, suc, ◌+◌, ◌-◌, ◌<◌, ◌≤◌, ◌==◌, not, ◌&&◌, true, false, if◌then◌else◌, Bool, List, [], ◌∷◌, ◌++◌, length, map, get_or, refl, sym, ap, ap₂, ◌∙◌, subst, arith}
+use Rattle.std.specs.Prelude.{filter, find, Option, Some, None, option_map}
+use Rattle.std.specs.List.{AllByRecursion}
+use Rattle.kl1_model.specs.declared.life.Life.TheVariants.{Aborted}
+use Rattle.kl1_model.specs.Module.{is_among}
+use Rattle.kl1_model.specs.State as model
+use Rattle.kl1_model.specs.State.{State, change_shoen, is_living}
+use Rattle.kl1_model.specs.Tree as tree
+use Rattle.kl1_model.specs.Tree.{path_within, charge}
+use Rattle.kl1_model.specs.Report.{report, close, stopped_report, resumed_report, aborted_report}
+use Rattle.kl1_model.specs.Ending as ending
+use Rattle.kl1_model.specs.Ending.{ended_below, abort}
+use Rattle.kl1_model.specs.Reduction.{stopped_of, resumed_of}
+use Rattle.kl1_text.specs.declared.cell_name.CellName.{CellName}
+use Rattle.kl1_store.specs.Held.{Held}
+use Rattle.kl1_goals.specs.declared.goal.Goal.{Goal}
+use Rattle.kl1_goals.specs.Lists.{is_other, is_flagged}
+use Rattle.kl1_shoen.specs.declared.shoen.Shoen.{Shoen}
+use Rattle.kl1_shoen.specs.Shoens.{Tree, has_number, changed, path_in, is_on_path_in, aborted_below_in, AreNumbered}
+use Rattle.kl1_modules.specs.Numbered.{Numbered}
+use Rattle.kl1_account.specs.declared.draft.Draft.{Draft}
+use Rattle.kl1_account.specs.Fitting.{Reading}
+use Rattle.kl1_account.specs.Account.{Means, meaning, goal_with, shoen_with}
+use Rattle.kl1_account.specs.Kept.{AreGoalsIn, AreOwned, IsShoenIn, AreShoensIn}
+use Rattle.kl1_account.specs.Drafts.{staying, without_monitors, goals_left, made_of, Drafts, DraftsAll}
+use Rattle.kl1_account.specs.Works.{Made, worked, IsMadeIn, Turns}
+use Rattle.kl1_account.proofs.Works.{turns_then, turns_as, turns_none, finds, with_changed, changed_turns}
+use Rattle.kl1_account.proofs.Goals.{filter_in, filter_owned, all_stay, below_read}
+use Rattle.kl1_account.proofs.Walking.{parents_read, path_read}
+use Rattle.kl1_account.proofs.Finishing.{drafts_then, drafts_as}
+
+-- ---- a shoen that changes
+
+-- drafts that stand for the same
+pub same_drafts : (f : Reading → State → State) (h k : Held CellName) (t u : Tree CellName) (d e x : Draft) → ((goals : List (Goal CellName)) (names : List (List ℕ)) → made_of goals names u e ≡ made_of goals names u x) → DraftsAll f h k t u d e → DraftsAll f h k t u d x
+same_drafts f h k t u d e x same p ms goals names i =
+    let T : Made → Type 0 = λ m. Turns ms f h k (made_of goals names t d) m in
+    subst T (same goals names) (p ms goals names i)
+
+pub drafts_changed : (h : Held CellName) (t u : Tree CellName) (d : Draft) (n : ℕ) (f : Shoen CellName → Shoen CellName) (g : model.Shoen → model.Shoen) → u ≡ record t { shoens = changed n f t.shoens } → ((s : Shoen CellName) → IsShoenIn h s → IsShoenIn h (f s)) →
+    ((r : Reading) → (s : Shoen CellName) → g (shoen_with (meaning r h) s) ≡ shoen_with (meaning r h) (f s)) → DraftsAll (λ r. change_shoen n g) h h t u d d
+drafts_changed h t u d n f g is inside same ms goals names i =
+    let w = made_of goals names t d in
+    let T : Tree CellName → Type 0 = λ x. Turns ms (λ r. change_shoen n g) h h w (made_of goals names x d) in
+    subst T (sym is) (changed_turns ms h w n f g i inside same)
+
+-- shoens with cells of the store, of which one changes
+pub tree_in : (h : Held CellName) (t u : Tree CellName) (ss : List (Shoen CellName)) → u ≡ record t { shoens = ss } → AreShoensIn h ss → AreShoensIn h u.shoens
+tree_in h t u ss is i = let P : List (Shoen CellName) → Type 0 = λ x. AreShoensIn h x in subst P (sym (ap (λ (x : Tree CellName). x.shoens) is)) i
+
+-- what a shoen that is found leads to
+pub drafts_found : (after : Option model.Shoen → State → State) (h k : Held CellName) (t u : Tree CellName) (d e : Draft) (n : ℕ) (o : Option (Shoen CellName)) → find (has_number n) t.shoens ≡ o →
+    DraftsAll (λ f. after (option_map (shoen_with (meaning f h)) o)) h k t u d e → DraftsAll (λ f s. after (model.shoen_at n s.shoens) s) h k t u d e
+drafts_found after h k t u d e n o is p ms goals names i =
+    turns_as ms (λ f. after (option_map (shoen_with (meaning f h)) o)) (λ f s. after (model.shoen_at n s.shoens) s) h k (made_of goals names t d) (made_of goals names u e)
+    (λ f knows s. ap (λ (x : Option model.Shoen). after x (worked f s h (made_of goals names t d))) (finds s (meaning f h) (h.variables - 1) (made_of goals names t d) n o is)) (p ms goals names i)
+
+-- ---- charges
+
+pub drafts_charged : (h : Held CellName) (t u : Tree CellName) (d : Draft) (n : ℕ) → u ≡ record t { work = n ∷ t.work } → DraftsAll (λ f. charge n) h h t u d d
+drafts_charged h t u d n is ms goals names i =
+    let w = made_of goals names t d in
+    let T : Tree CellName → Type 0 = λ x. Turns ms (λ r. charge n) h h w (made_of goals names x d) in
+    subst T (sym is) (record { inside = record { some = i.some; goals = i.goals; shoens = i.shoens; owned = i.owned }; states = λ f knows s. refl })
+
+-- ---- aborts
+
+-- a flag of each shoen, of one that is numbered
+flag_at : (p : ℕ → Bool) (last k : ℕ) (ss : List (Shoen CellName)) → AreNumbered last ss → k < length ss → get_or (map (λ (h : Shoen CellName). p h.number) ss) k false ≡ p (suc (last + k))
+flag_at p last k [] a lt = absurd (omega arith)
+flag_at p last zero (h ∷ ss) a lt = ap p (let e = a.0 in omega arith)
+flag_at p last (suc k) (h ∷ ss) a lt = flag_at p (suc last) k ss a.1 (omega arith) ∙ ap p (omega arith)
+
+-- flags of goals tell which shoens are below
+pub flags_tell : (p : ℕ → Bool) (ss : List (Shoen CellName)) (flags : List Bool) (gs : List (Goal CellName)) → AreNumbered 0 ss → flags ≡ map (λ (h : Shoen CellName). p h.number) ss → AreOwned (length ss) gs → AllByRecursion (λ g. p g.shoen ≡ is_flagged flags g) gs
+flags_tell p ss flags [] a e o = tt
+flags_tell p ss flags (g ∷ gs) a e o =
+    let low = o.0.low in
+    let high = o.0.high in
+    (ap p (omega arith) ∙ sym (flag_at p 0 (g.shoen - 1) ss a (omega arith)) ∙ ap (λ (fs : List Bool). get_or fs (g.shoen - 1) false) (sym e), flags_tell p ss flags gs a e o.1)
+
+if_aborted : (c : Bool) (t : Means) (h : Shoen CellName) → (if c then record (shoen_with t h) { life = Aborted } else shoen_with t h) ≡ shoen_with t (if c then record h { life = Aborted } else h)
+if_aborted true t h = refl
+if_aborted false t h = refl
+
+aborted_read : (t : Means) (all : List (Shoen CellName)) (n : ℕ) (ss : List (Shoen CellName)) → map (ending.aborted_below (map (shoen_with t) all) n) (map (shoen_with t) ss) ≡ map (shoen_with t) (map (aborted_below_in all n) ss)
+aborted_read t all n [] = refl
+aborted_read t all n (h ∷ ss) =
+    ap₂ (λ (k : model.Shoen) (ks : List model.Shoen). k ∷ ks)
+    (ap (λ (ns : List ℕ). if is_living h.life && is_among n ns then record (shoen_with t h) { life = Aborted } else shoen_with t h) (path_read t all h.number) ∙ if_aborted (is_living h.life && is_on_path_in all n h.number) t h)
+    (aborted_read t all n ss)
+
+if_in : (c : Bool) (h : Held CellName) (s : Shoen CellName) → IsShoenIn h s → IsShoenIn h (if c then record s { life = Aborted } else s)
+if_in true h s i = record { control = i.control; tail = i.tail; origin = i.origin }
+if_in false h s i = i
+
+pub aborted_in : (h : Held CellName) (all : List (Shoen CellName)) (n : ℕ) (ss : List (Shoen CellName)) → AreShoensIn h ss → AreShoensIn h (map (aborted_below_in all n) ss)
+aborted_in h all n [] i = tt
+aborted_in h all n (s ∷ ss) i = (if_in (is_living s.life && is_on_path_in all n s.number) h s i.0, aborted_in h all n ss i.1)
+
+aborted_count : (all : List (Shoen CellName)) (n : ℕ) (ss : List (Shoen CellName)) → length (map (aborted_below_in all n) ss) ≡ length ss
+aborted_count all n [] = refl
+aborted_count all n (s ∷ ss) = ap suc (aborted_count all n ss)
+
+-- what is made with a shoen and all below it aborted
+abbrev pub with_aborted : ℕ → List Bool → Made → Made
+with_aborted n flags w = record w { goals = filter (λ g. not (is_flagged flags g)) w.goals; shoens = map (aborted_below_in w.shoens n) w.shoens }
+
+aborts_turn : (ms : List Numbered) (h : Held CellName) (w : Made) (n : ℕ) (flags : List Bool) → AreNumbered 0 w.shoens → flags ≡ map (λ (x : Shoen CellName). is_on_path_in w.shoens n x.number) w.shoens → IsMadeIn h w → Turns ms (λ f. ended_below n) h h w (with_aborted n flags w)
+aborts_turn ms h w n flags a e i =
+    let O : ℕ → Type 0 = λ c. AreOwned c (with_aborted n flags w).goals in
+    record {
+      inside = record {
+        some = i.some;
+        goals = filter_in h (λ g. not (is_flagged flags g)) w.goals i.goals;
+        shoens = aborted_in h w.shoens n w.shoens i.shoens;
+        owned = subst O (sym (aborted_count w.shoens n w.shoens)) (filter_owned (length w.shoens) (λ g. not (is_flagged flags g)) w.goals i.owned);
+      };
+      states = λ f knows s.
+          let t = meaning f h in
+          let S = worked f s h w in
+          ap (λ (ps : List ℕ). let z : State = record S { goals = filter (λ g. not (is_among n (path_within g.shoen ps g.shoen))) S.goals; shoens = map (ending.aborted_below S.shoens n) S.shoens } in z) (parents_read t w.shoens)
+          ∙ ap (λ (gs : List model.Goal). let z : State = record S { goals = gs; shoens = map (ending.aborted_below S.shoens n) S.shoens } in z) (below_read t (is_on_path_in w.shoens n) flags w.goals (flags_tell (is_on_path_in w.shoens n) w.shoens flags w.goals a e i.owned))
+          ∙ ap (λ (xs : List model.Shoen). let z : State = record S { goals = map (goal_with t) (with_aborted n flags w).goals; shoens = xs } in z) (aborted_read t w.shoens n w.shoens)
+          ∙ ap (λ c. let z : State = record S { goals = map (goal_with t) (with_aborted n flags w).goals; shoens = map (shoen_with t) (with_aborted n flags w).shoens; last_shoen = c } in z) (sym (aborted_count w.shoens n w.shoens));
+    }
+
+-- a draft without flags, and one with them
+pub drafts_ended_below : (h : Held CellName) (t u : Tree CellName) (d e : Draft) (n : ℕ) → AreNumbered 0 t.shoens → d.aborted.items ≡ [] → d.ended.items ≡ [] → e.aborted.items ≡ map (λ (x : Shoen CellName). is_on_path_in t.shoens n x.number) t.shoens →
+    e ≡ record d { aborted = e.aborted; shifts = e.shifts } → u ≡ record t { shoens = map (aborted_below_in t.shoens n) t.shoens } → DraftsAll (λ f. ended_below n) h h t u d e
+drafts_ended_below h t u d e n a none early flags is tree ms goals names i =
+    let w = made_of goals names t d in
+    let all = filter (is_other d.removed) (goals ++ d.added.items) in
+    let T : Made → Type 0 = λ m. Turns ms (λ f. ended_below n) h h w m in
+    let left : w.goals ≡ all = ap (λ (ns : List ℕ). staying d.removed d.aborted.items ns (goals ++ d.added.items)) early ∙ ap (λ (fs : List Bool). filter (λ g. not (is_flagged fs g)) all) none ∙ all_stay all in
+    let same : with_aborted n e.aborted.items w ≡ made_of goals names u e =
+    ap (λ (gs : List (Goal CellName)). let z : Made = record (with_aborted n e.aborted.items w) { goals = filter (λ g. not (is_flagged e.aborted.items g)) gs } in z) left
+    ∙ ap (λ (ns : List ℕ). let z : Made = record (with_aborted n e.aborted.items w) { goals = without_monitors ns (filter (λ g. not (is_flagged e.aborted.items g)) all) } in z) (sym early)
+    ∙ ap (λ (x : Tree CellName). made_of goals names x (record d { aborted = e.aborted; shifts = e.shifts })) (sym tree)
+    ∙ ap (made_of goals names u) (sym is) in
+    subst T same (aborts_turn ms h w n e.aborted.items a flags i)
