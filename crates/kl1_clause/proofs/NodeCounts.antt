@@ -10,7 +10,7 @@ use Rattle.kl1_term.specs.declared.node.Node.TheVariants.{Variable, Integer, Ato
 use Rattle.kl1_clause.specs.declared.instruction.Instruction.{Instruction}
 use Rattle.kl1_clause.specs.BareGoals.{bare}
 use Rattle.kl1_clause.specs.NodeCounts.{structures_counted, arguments_counted, behind_terms, nodes_counted}
-use Rattle.kl1_clause.proofs.BareGoals.{Parts, alone, inside, parts, three}
+use Rattle.kl1_clause.proofs.BareGoals.{alone, inside, parts, three}
 
 -- the structures of a term, and of terms, with those of other nodes behind them
 mutual

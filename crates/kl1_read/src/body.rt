@@ -74,11 +74,7 @@ fn may_have(priority: Option<u64>, term: &Term) -> bool
 }
 
 /// The goal that a term is in the body of a clause, in a module of this name: with the module's name where it names none.
-fn whole_goal(
-    alloc: Global,
-    module_name: AtomText,
-    term: Term,
-) -> Result<Option<Term>, AllocError>
+fn whole_goal(alloc: Global, module_name: AtomText, term: Term) -> Result<Option<Term>, AllocError>
     ensures { IfOk result (λ goal. goal ≡ body_goal module_name term) }
 {
     if is_goal(&term) {

@@ -43,8 +43,7 @@ fn begins_goal(nodes: &[Node]) -> bool
 fn begins_structure_goal(name: &AtomText, count: usize, nodes: &[Node]) -> bool
     ensures { result ≡ begins_structure_goal name.now count nodes.now }
 {
-    is_pair_goal(name, count)
-        || (count == 2 && name.is(&AtomText::of(b":")) && begins_named(nodes))
+    is_pair_goal(name, count) || (count == 2 && name.is(&AtomText::of(b":")) && begins_named(nodes))
 }
 
 /// Whether the nodes of two terms begin with the name of a module and a goal that may stand after it.

@@ -116,6 +116,7 @@ fn put_named(
     ensures { OnOk result (map goal_of_term goals.new.items ≡ map goal_of_term goals.old.items ++ goals_named priority terms.items) }
 {
     let mut terms = terms;
+    goals.reserve(terms.len())?;
     match terms.pop() {
         None => Ok(()),
         Some(last) => {

@@ -45,7 +45,7 @@ pub goals_nodes-nodes-requires : goal.goals_nodes-nodes-requires
 goals_nodes-nodes-requires c =
     let p = c.args.parts.now in
     rw c.deref-7.ensures.value (
-      goals_fit (goals_of (map goal_of_parts p.body.items)) c.in_ok-body.body.goals.items (code_in c.body_of.new.names)
-      (rw c.deref-3.ensures.value at c.in_ok-body.ensures.row_is.nodes_are)
-      (omega (arith, c.in_ok-body.body.goals.ok.0))
+    goals_fit (goals_of (map goal_of_parts p.body.items)) c.in_ok-body.body.goals.items (code_in c.body_of.new.names)
+    (rw c.deref-3.ensures.value at c.in_ok-body.ensures.row_is.nodes_are)
+    (omega (arith, c.in_ok-body.body.goals.ok.0))
     )

@@ -15,10 +15,13 @@ returns-in-None c =
 
 pub goals-smaller : goal.goals-smaller
 goals-smaller c =
-    omega (arith, subst (FollowsLess (length c.goals.rest.now)) c.in-More.is c.in_ok-put_terms.ensures.less,
+    omega (
+      arith,
+      subst (FollowsLess (length c.goals.rest.now)) c.in-More.is c.in_ok-put_terms.ensures.less,
       series_few (map numbered_token c.in-More.behind.now) (map numbered_token c.in-Some.left.now) c.in-Some.read.items (sym (ap series_view c.in-Some.is) ∙ c.in_ok-read_series-in-More.ensures),
       length-map c.in-More.behind.now numbered_token,
-      length-map c.in-Some.left.now numbered_token)
+      length-map c.in-Some.left.now numbered_token,
+    )
 
 pub goals-preserved : goal.goals-preserved
 goals-preserved c =
