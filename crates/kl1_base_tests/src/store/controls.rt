@@ -42,6 +42,9 @@ fn put<N: NameValue>(
             return Ok(Answer::Nothing);
         }
     }
+    if !store.holds(tail) {
+        return Ok(Answer::Nothing);
+    }
     match send_message(store, tail, message)? {
         Some(next) => Ok(Answer::Is(Cell::Variable(next))),
         None => Ok(Answer::No),
@@ -50,6 +53,9 @@ fn put<N: NameValue>(
 
 /// What stands at the front of a control stream: a message; or no message, with what follows it where it is an element.
 fn read<N: NameValue>(store: &Store<N>, cell: Cell<N>) -> Answer<N> {
+    if !store.holds(cell) {
+        return Answer::Nothing;
+    }
     match read_control(store, cell) {
         Control::Awaits(_) => Answer::Wait(1),
         Control::Tells(message, _) => written(message),
@@ -61,6 +67,9 @@ fn read<N: NameValue>(store: &Store<N>, cell: Cell<N>) -> Answer<N> {
 
 /// What follows the element at the front of a control stream.
 fn rest<N: NameValue>(store: &Store<N>, cell: Cell<N>) -> Answer<N> {
+    if !store.holds(cell) {
+        return Answer::Nothing;
+    }
     match read_control(store, cell) {
         Control::Tells(_, rest) => Answer::Is(rest),
         Control::TellsOther(_, rest) => Answer::Is(rest),
@@ -70,10 +79,21 @@ fn rest<N: NameValue>(store: &Store<N>, cell: Cell<N>) -> Answer<N> {
 
 /// The first element of a list.
 fn first<N: NameValue>(store: &Store<N>, cell: Cell<N>) -> Answer<N> {
+    if !store.holds(cell) {
+        return Answer::Nothing;
+    }
     match next_element(store, cell) {
         Some((element, _)) => Answer::Is(element),
         None => Answer::No,
     }
+}
+
+/// What is left of a list after so many elements.
+fn skip<N: NameValue>(store: &Store<N>, cell: Cell<N>, count: Cell<N>) -> Answer<N> {
+    if !store.holds(cell) {
+        return Answer::Nothing;
+    }
+    Answer::Is(nth_cell(store, cell, size_of(count) as u64))
 }
 
 /// What an act on a control stream or a list comes to: `put`, `skip`, `go`, `first` or `read`, by its first letter.
@@ -82,19 +102,14 @@ pub fn answer<N: NameValue>(
     letter: u8,
     cells: &[Cell<N>],
 ) -> Result<Answer<N>, AllocError> {
-    let [cell, operands @ ..] = cells else {
-        return Ok(Answer::Nothing);
-    };
-    if !store.holds(*cell) {
-        return Ok(Answer::Nothing);
-    }
-    match operands {
-        [message] if letter == b'p' => put(store, *cell, message_of(*message)),
-        [count] => Ok(Answer::Is(nth_cell(store, *cell, size_of(*count) as u64))),
-        _ => Ok(match letter {
+    match cells {
+        [cell] => Ok(match letter {
             b'g' => rest(store, *cell),
             b'f' => first(store, *cell),
             _ => read(store, *cell),
         }),
+        [cell, message] if letter == b'p' => put(store, *cell, message_of(*message)),
+        [cell, count] => Ok(skip(store, *cell, *count)),
+        _ => Ok(Answer::Nothing),
     }
 }
