@@ -1,8 +1,8 @@
 -- Lists of codes, cell by cell.
 use Rattle.std.proofs.Common.{◌≡◌, ℕ, zero, suc, ◌+◌, ◌-◌, ◌<◌, ◌≤◌, Bool, true, false, if◌then◌else◌, List, [], ◌∷◌, ◌++◌, length, length-append, refl, sym, ap, ◌∙◌, subst, arith, append_assoc}
-use Rattle.std.specs.Prelude.{pos, negsuc, nat_le, ◌&&◌, codes, bytes_eq}
+use Rattle.std.specs.Prelude.{pos, negsuc, ◌&&◌, codes, bytes_eq}
 use Rattle.std.specs.List.{list_all}
-use Rattle.std.proofs.lemmas.Bool.{cond-true, cond-false, le-leb}
+use Rattle.std.proofs.lemmas.Bool.{cond-true, le-leb}
 use Rattle.kl1_model.specs.Text.{is_name_byte, is_text}
 use Rattle.kl1_model.specs.Term.{Term, variable, integer, atom, structure, none, more}
 use Rattle.kl1_model.specs.Look as model
@@ -18,7 +18,7 @@ use Rattle.kl1_moves.specs.Shapes.{two_terms}
 use Rattle.kl1_moves.specs.declared.codes.Code.{Code}
 use Rattle.kl1_moves.specs.declared.codes.Code.TheVariants.{Byte, Waits, Wrong}
 use Rattle.kl1_moves.specs.declared.codes.Front.{Front}
-use Rattle.kl1_moves.specs.Spellings.{code_in, code_by, front_by, HasFront, spelled_after}
+use Rattle.kl1_moves.specs.Spellings.{code_by, front_by, HasFront, spelled_after}
 
 -- what an element of a list of codes makes of what is spelled after it
 abbrev code_before : Code → model.Spelling → model.Spelling

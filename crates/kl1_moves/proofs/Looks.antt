@@ -1,5 +1,5 @@
 -- What looks at cells come to, by what stands at their tops.
-use Rattle.std.proofs.Common.{◌≡◌, ℕ, Bool, true, false, if◌then◌else◌, List, refl, sym, ap, ap₂, ◌∙◌, ℤ}
+use Rattle.std.proofs.Common.{◌≡◌, ℕ, Bool, true, false, List, refl, sym, ap, ap₂, ◌∙◌, ℤ}
 use Rattle.std.specs.Prelude.{pos, negsuc, nat_le, ◌||◌, codes, bytes_eq}
 use Rattle.std.proofs.lemmas.Bool.{cond-true, cond-false}
 use Rattle.kl1_model.specs.Term.{Term, variable, integer, atom, structure, Terms, none, more}
@@ -10,8 +10,8 @@ use Rattle.kl1_store.specs.declared.cell.Cell.{Cell}
 use Rattle.kl1_store.specs.declared.cell.Cell.TheVariants.{Variable, Integer, Atom, Structure}
 use Rattle.kl1_store.specs.Held.{Held}
 use Rattle.kl1_store.specs.Meaning.{term_of}
-use Rattle.kl1_moves.specs.Tops.{is_structure, HasTop}
-use Rattle.kl1_moves.specs.Shapes.{is_other, two_terms}
+use Rattle.kl1_moves.specs.Tops.{HasTop}
+use Rattle.kl1_moves.specs.Shapes.{is_other}
 use Rattle.kl1_moves.specs.declared.look.Look.{Look}
 use Rattle.kl1_moves.specs.declared.look.Look.TheVariants.{Right, Waits, Wrong}
 use Rattle.kl1_moves.specs.Looks.{look_of, right_if, then_look, priority_by, allowance_by, number_by, callee_in, callee_outside, callee_by}

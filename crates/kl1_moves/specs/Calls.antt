@@ -3,7 +3,7 @@ use Rattle.std.specs.Prelude.{◌≡◌, ℕ, ◌==◌, ◌&&◌, Bool, List, []
 use Rattle.kl1_model.specs.Term.{Term, variable, integer, atom, structure, Terms, none, more, count_of}
 use Rattle.kl1_model.specs.Match as model
 use Rattle.kl1_model.specs.Match.{call_of}
-use Rattle.kl1_model.specs.Reduction.{Move, execute_move}
+use Rattle.kl1_model.specs.Reduction.{execute_move}
 use Rattle.kl1_model.specs.Waits.{awaited_in_call, awaited_by_execute}
 use Rattle.kl1_store.specs.declared.cell.Cell.{Cell}
 use Rattle.kl1_store.specs.declared.cell.Cell.TheVariants.{Atom, Structure}

@@ -1,5 +1,5 @@
 -- What looks at cells come to.
-use Rattle.std.specs.Prelude.{◌≡◌, ℕ, nat_le, Bool, if◌then◌else◌, ℤ, pos, negsuc, List, Option, Some, None, slice_get}
+use Rattle.std.specs.Prelude.{ℕ, nat_le, Bool, if◌then◌else◌, ℤ, pos, negsuc, Option, Some, None}
 use Rattle.kl1_model.specs.Limits.{most_priority}
 use Rattle.kl1_model.specs.Look as model
 use Rattle.kl1_store.specs.declared.cell.Cell.{Cell}

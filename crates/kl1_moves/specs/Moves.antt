@@ -1,5 +1,5 @@
 -- What a goal can do, by the definitions, told of cells and compiled clauses.
-use Rattle.std.specs.Prelude.{◌≡◌, ℕ, ◌<◌, true, List, length, map, Option, Some, None, slice_get, if◌then◌else◌}
+use Rattle.std.specs.Prelude.{◌≡◌, ℕ, ◌<◌, IsTrue, List, length, map, Option, Some, None, slice_get, if◌then◌else◌}
 use Rattle.kl1_model.specs.declared.built_in.BuiltIn.TheVariants.{Failure}
 use Rattle.kl1_model.specs.Text.{is_text, text_of}
 use Rattle.kl1_model.specs.Term.{Term}
@@ -47,7 +47,7 @@ MoveIn h p places text None = Unit {0}
 MoveIn h p places text (Some (move.Commits place)) = (place < length p.clauses.now) × AreThere h places
 MoveIn h p places text (Some (move.Raises b)) = Unit {0}
 MoveIn h p places text (Some (move.Unifies a b)) = IsIn h a × IsIn h b
-MoveIn h p places text (Some (move.Names a)) = (is_text text ≡ true) × IsIn h a
+MoveIn h p places text (Some (move.Names a)) = IsTrue (is_text text) × IsIn h a
 MoveIn h p places text (Some (move.Opens s)) = (s < length h.structures) × (length (arguments_of h s) ≡ 6)
 MoveIn h p places text (Some move.Goes) = Unit {0}
 

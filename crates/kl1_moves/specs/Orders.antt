@@ -1,7 +1,6 @@
 -- Orders for new shoens.
 use Rattle.std.specs.Prelude.{◌≡◌, ℕ, List, Some, slice_get}
 use Rattle.kl1_model.specs.Look as model
-use Rattle.kl1_store.specs.declared.cell.Cell.{Cell}
 use Rattle.kl1_store.specs.Held.{Held, IsIn, arguments_of}
 use Rattle.kl1_store.specs.Meaning.{term_of}
 use Rattle.kl1_moves.specs.declared.order.Order.{Order}

@@ -1,5 +1,5 @@
 -- What lists of codes spell, told of cells.
-use Rattle.std.specs.Prelude.{◌≡◌, ℕ, ◌-◌, ◌<◌, ◌&&◌, nat_le, Bool, true, if◌then◌else◌, pos, List, [], ◌++◌, Option, Some, None}
+use Rattle.std.specs.Prelude.{◌≡◌, ℕ, ◌-◌, ◌<◌, IsTrue, if◌then◌else◌, List, [], ◌++◌, Option, Some, None}
 use Rattle.kl1_model.specs.Text.{is_name_byte, is_text}
 use Rattle.kl1_model.specs.Look as model
 use Rattle.kl1_model.specs.Look.{spelled, awaits_code, misspelled, spelled_before, spelling}
@@ -25,7 +25,7 @@ spelling_of Misspelled text = misspelled
 
 -- what is spelled is a name, and the variable that is waited for is unbound
 abbrev pub SpellingIn : {N : Type 0} → Held N → List ℕ → Spelling → Type 0
-SpellingIn h text Spelled = is_text text ≡ true
+SpellingIn h text Spelled = IsTrue (is_text text)
 SpellingIn h text (Waits v) = IsUnbound h v
 SpellingIn h text Misspelled = Unit {0}
 
@@ -65,4 +65,4 @@ abbrev pub FrontIn : {N : Type 0} → Held N → ℕ → Front N → Type 0
 FrontIn h left front.Ends = Unit {0}
 FrontIn h left (front.Waits v) = IsUnbound h v
 FrontIn h left front.Wrong = Unit {0}
-FrontIn h left (front.Code n rest) = (0 < left) × ((is_name_byte n ≡ true) × IsIn h rest)
+FrontIn h left (front.Code n rest) = (0 < left) × (IsTrue (is_name_byte n) × IsIn h rest)

@@ -1,4 +1,3 @@
-use Rattle.std.proofs.Common.{subst, ap}
 use Rattle.kl1_moves.proofs.Callees.{call_inside}
 use Rattle.kl1_moves.proofs.kind.kind_of_callee.Goals as goal
 
