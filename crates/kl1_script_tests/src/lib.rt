@@ -1,0 +1,18 @@
+//! Rows on scripts, from their lines to what is written for them.
+#![tactic(auto)]
+
+mod accounts;
+mod commands;
+mod devices;
+mod kind;
+mod lines;
+mod over_both;
+mod records;
+mod replies;
+mod rows;
+mod scripts;
+mod streams;
+mod told;
+
+pub use kind::Kind;
+pub use rows::is_right;

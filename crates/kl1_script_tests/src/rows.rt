@@ -1,0 +1,36 @@
+// The answers to rows, by the kinds of their groups.
+
+use crate::accounts::{is_account, is_accounts};
+use crate::commands::{is_command, is_load};
+use crate::devices::{is_read, is_written};
+use crate::kind::Kind;
+use crate::lines::{is_blank, is_line, is_name, is_number, is_source, is_word};
+use crate::over_both::is_over_both;
+use crate::records::is_record;
+use crate::replies::{is_fault, is_reply};
+use crate::scripts::{is_run, is_script};
+use std::alloc::Global;
+
+/// Whether an act of a kind comes to the answer that is wanted.
+pub fn is_right(alloc: Global, kind: Kind, act: &[u8], wanted: &[u8]) -> bool {
+    match kind {
+        Kind::Line => is_line(act, wanted),
+        Kind::Name => is_name(act, wanted),
+        Kind::Word => is_word(act, wanted),
+        Kind::Blank => is_blank(act, wanted),
+        Kind::Number => is_number(act, wanted),
+        Kind::Source => is_source(act, wanted),
+        Kind::Record => is_record(act, wanted),
+        Kind::Accounts => is_accounts(alloc, act, wanted),
+        Kind::Account => is_account(act, wanted),
+        Kind::Command => is_command(alloc, act, wanted),
+        Kind::Load => is_load(alloc, act, wanted),
+        Kind::Reply => is_reply(alloc, act, wanted),
+        Kind::Fault => is_fault(alloc, act, wanted),
+        Kind::Read => is_read(alloc, act, wanted),
+        Kind::Write => is_written(alloc, act, wanted),
+        Kind::Script => is_script(alloc, act, wanted),
+        Kind::Both => is_over_both(alloc, act, wanted),
+        Kind::Run => is_run(alloc, act, wanted),
+    }
+}

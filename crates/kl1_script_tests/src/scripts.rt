@@ -1,0 +1,62 @@
+// Scripts from their bytes to what is written for them.
+
+use crate::streams::{Faulty, cause_of};
+use crate::told::{are_told, end_of};
+use kl1_rows::{cut, number_of};
+use kl1_script::{Counted, run_script};
+use std::alloc::Global;
+
+/// Whether this is told, and this written, where a script is run between streams that give and take at most so many bytes a
+/// call, and the reads and the writes of these numbers fail, counted from 1.
+fn is_between(
+    alloc: Global,
+    most: u64,
+    read: u64,
+    write: u64,
+    script: &[u8],
+    told: &[u8],
+    output: &[u8],
+) -> bool {
+    let mut source = Counted::new(Faulty {
+        inner: script,
+        most,
+        calls: read,
+        cause: cause_of(b"other"),
+    });
+    let mut sink = Counted::new(Faulty {
+        inner: Vec::new(alloc),
+        most,
+        calls: write,
+        cause: cause_of(b"other"),
+    });
+    let end = match run_script(alloc, &mut source, &mut sink) {
+        Ok(()) => b"ok",
+        Err(fault) => end_of(fault),
+    };
+    let left = source.inner.inner.len() as u64;
+    let counts = [source.failures, sink.failures, left];
+    are_told(told, end, &counts) && sink.inner.inner.as_slice() == output
+}
+
+/// Whether a script is run to its end, and these bytes are written for it.
+pub fn is_script(alloc: Global, script: &[u8], output: &[u8]) -> bool {
+    is_between(alloc, u64::MAX, 0, 0, script, b"ok 0 0 0", output)
+}
+
+/// Whether this is told of running a script between streams: the most bytes of a call, the number of the read and that of the
+/// write that fails, and the script, parted by a space each.
+pub fn is_run(alloc: Global, act: &[u8], wanted: &[u8]) -> bool {
+    let (most, rest) = cut(act, b' ');
+    let (read, rest) = cut(rest, b' ');
+    let (write, script) = cut(rest, b' ');
+    let (told, output) = cut(wanted, b'|');
+    is_between(
+        alloc,
+        number_of(most),
+        number_of(read),
+        number_of(write),
+        script,
+        told,
+        output,
+    )
+}
