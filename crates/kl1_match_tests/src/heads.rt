@@ -1,6 +1,6 @@
 // What the clauses of a code make of goals.
 
-ghost use Rattle.std.specs.Prelude.{◌<◌, [], IfSome, IfOk};
+ghost use Rattle.std.specs.Prelude.{◌≡◌, ◌<◌, [], IfSome, IfOk};
 ghost use Rattle.kl1_model.specs.State.{names_of_module, with_names};
 ghost use Rattle.kl1_store.specs.Held.{IsIn};
 ghost use Rattle.kl1_match.specs.Instances.{IsClause, AreThere};
@@ -17,7 +17,7 @@ use kl1_rows::Text;
 use kl1_store::{Cell, Store};
 use kl1_term::Term;
 use kl1_text::{AtomText, NameValue};
-use std::alloc::AllocError;
+use std::alloc::{AllocError, Global};
 
 /// Puts the second of two goals in a new store that is given both.
 pub fn put_built(answer: &mut Text, store: &mut Store<AtomText>, front: &[u8], behind: &[u8]) {
@@ -65,11 +65,39 @@ pub fn cell_of(
         return Err(AllocError);
     }
     let code = GoalCode::compile(answer.alloc, goal)?;
-    let mut scratch = Scratch::new(answer.alloc);
+    cell_of_code(answer.alloc, store, &code, goal)
+}
+
+/// The cell of a goal in a store, by the goal's code.
+fn cell_of_code(
+    alloc: Global,
+    store: &mut Store<AtomText>,
+    code: &GoalCode,
+    goal: &Term,
+) -> Result<Cell<AtomText>, AllocError>
+    requires some { 0 < store.old.held.variables }
+    requires code { code.now ≡ goal.now }
+    ensures { 0 < store.new.held.variables }
+{
+    let mut scratch = Scratch::new(alloc);
+    put_by_code(store, code, goal, &mut scratch)
+}
+
+/// The same, with room for what is to be put.
+fn put_by_code(
+    store: &mut Store<AtomText>,
+    code: &GoalCode,
+    goal: &Term,
+    scratch: &mut Scratch<AtomText>,
+) -> Result<Cell<AtomText>, AllocError>
+    requires some { 0 < store.old.held.variables }
+    requires code { code.now ≡ goal.now }
+    ensures { 0 < store.new.held.variables }
+{
     let row = code.row();
-    put_goal_variables(store, goal.highest(), &mut scratch)?;
-    reserve_goal(store, row, &mut scratch)?;
-    Ok(put_goal(store, code.names(), row, &mut scratch))
+    put_goal_variables(store, goal.highest(), scratch)?;
+    reserve_goal(store, row, scratch)?;
+    Ok(put_goal(store, code.names(), row, scratch))
 }
 
 /// Puts the verdict of the first clause of a code on the goal behind the colon of a goal in a new store, and what belongs to a

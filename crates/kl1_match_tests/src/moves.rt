@@ -119,13 +119,26 @@ fn put_of_kind(
     requires { KindIn store.old.held kind.now }
 {
     put_kind(answer, kind);
-    let predicate = predicate_of(code, kind);
     let mut trial = Trial::new(answer.alloc);
+    put_tried(answer, store, kind, predicate_of(code, kind), &mut trial)
+}
+
+/// Puts the variables that a goal of a kind waits for, or what it does, with a trial for what is tried.
+fn put_tried(
+    answer: &mut Text,
+    store: &mut Store<AtomText>,
+    kind: &Kind<AtomText>,
+    predicate: Predicate<'_, AtomText>,
+    trial: &mut Trial<AtomText>,
+) -> Result<(), AllocError>
+    requires kind { KindIn store.old.held kind.now }
+    requires predicate { AreSome predicate.names.now predicate.clauses.now }
+{
     let tried = *kind;
-    match standing_of(store, tried, predicate, &mut trial)? {
+    match standing_of(store, tried, predicate, trial)? {
         Some(clause) => {
             let moved = *kind;
-            put_done(answer, store, moved, predicate, clause, &mut trial)
+            put_done(answer, store, moved, predicate, clause, trial)
         }
         None => {
             answer.put(b" waits");

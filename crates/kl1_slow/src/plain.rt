@@ -159,10 +159,16 @@ impl Plain {
         Ok(())
     }
 
+    /// Puts a module behind the others.
+    fn put_module(&mut self, module: Source) -> Result<(), AllocError> {
+        self.modules.push(module)?;
+        Ok(())
+    }
+
     /// Loads a module, and says whether its source is good and memory suffices.
     pub fn load(&mut self, source: &[u8]) -> bool {
         match read_module(self.alloc, source) {
-            Ok(module) => self.modules.push(module).is_ok(),
+            Ok(module) => self.put_module(module).is_ok(),
             Err(_fault) => false,
         }
     }

@@ -8,7 +8,7 @@ use crate::player::Player;
 use kl1_rows::cut;
 use kl1_slow::Plain;
 use kl1_user::Event;
-use std::alloc::Global;
+use std::alloc::{AllocError, Global};
 
 /// An account, and a slow one over whole terms beside it: at most one of each, in lists, which are dropped by calls.
 #[derive(Drop)]
@@ -83,23 +83,21 @@ impl Accounts {
         }
     }
 
-    /// Puts an account in which nothing has happened, and says whether memory sufficed.
-    fn put_user(&mut self, alloc: Global) -> bool {
-        match Player::fresh(alloc) {
-            Some(player) => self.user.push(player).is_ok(),
-            None => false,
-        }
+    /// Puts a slow account in which nothing has happened.
+    fn put_plain(&mut self, alloc: Global) -> Result<(), AllocError> {
+        self.plain.push(Plain::fresh(alloc))?;
+        Ok(())
     }
 
     /// Begins anew, with an account in which nothing has happened, and a slow one beside it or none. Where memory is refused,
     /// it is tried once more.
     pub fn begin(&mut self, alloc: Global, has_plain: bool) {
         self.user.clear();
-        if !self.put_user(alloc) {
-            self.put_user(alloc);
+        if Player::put_fresh(alloc, &mut self.user).is_err() {
+            let _ = Player::put_fresh(alloc, &mut self.user);
         }
         self.plain.clear();
-        if has_plain && self.plain.push(Plain::fresh(alloc)).is_err() {
+        if has_plain && self.put_plain(alloc).is_err() {
             self.user.clear();
         }
     }

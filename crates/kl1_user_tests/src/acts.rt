@@ -69,17 +69,31 @@ fn made_start(alloc: Global, words: &[u8]) -> Option<Event> {
     Some(start_event(10, 0, 10, goal))
 }
 
+/// The question that an act is.
+fn question_of(word: &[u8], words: &[u8]) -> Option<Event> {
+    if word == b"value".as_slice() {
+        Some(Event::Read(Query::Value(ShoenNo(number_of(words)))))
+    } else if word == b"quiet".as_slice() {
+        Some(Event::Read(Query::Quiet))
+    } else {
+        None
+    }
+}
+
 /// The event that an act is.
 pub fn event_of(alloc: Global, user: &Player, word: &[u8], words: &[u8]) -> Option<Event> {
-    match word {
-        b"load" => load_of(alloc, words),
-        b"start" => start_of(alloc, words),
-        b"made" => made_start(alloc, words),
-        b"reduce" => Some(reduction_of(words)),
-        b"step" => first_step(user),
-        b"value" => Some(Event::Read(Query::Value(ShoenNo(number_of(words))))),
-        b"quiet" => Some(Event::Read(Query::Quiet)),
-        _ => None,
+    if word == b"load".as_slice() {
+        load_of(alloc, words)
+    } else if word == b"start".as_slice() {
+        start_of(alloc, words)
+    } else if word == b"made".as_slice() {
+        made_start(alloc, words)
+    } else if word == b"reduce".as_slice() {
+        Some(reduction_of(words))
+    } else if word == b"step".as_slice() {
+        first_step(user)
+    } else {
+        question_of(word, words)
     }
 }
 

@@ -29,24 +29,30 @@ impl Model for Player {
 }
 
 impl Player {
-    /// An account in which nothing has happened.
-    pub fn fresh(alloc: Global) -> Option<Self> {
-        let name = AccountName::read(b"alice")?;
-        match names_of_one(alloc) {
-            Ok((names, seat)) => Player::seated(alloc, name, names, seat),
-            Err(_refused) => None,
-        }
+    /// Puts an account in which nothing has happened behind others.
+    pub fn put_fresh(alloc: Global, players: &mut Vec<Self>) -> Result<(), AllocError> {
+        let Some(name) = AccountName::read(b"alice") else {
+            return Err(AllocError);
+        };
+        let (names, seat) = names_of_one(alloc)?;
+        Player::put_seated(alloc, name, names, seat, players)
     }
 
-    /// An account of this name in which nothing has happened, over a table of names whose seat knows the built-in names alone.
-    fn seated(alloc: Global, name: AccountName, names: PlainTable, seat: PlainSeat) -> Option<Self>
+    /// Puts an account of this name in which nothing has happened behind others, over a table of names whose seat knows the
+    /// built-in names alone.
+    fn put_seated(
+        alloc: Global,
+        name: AccountName,
+        names: PlainTable,
+        seat: PlainSeat,
+        players: &mut Vec<Self>,
+    ) -> Result<(), AllocError>
         requires of { IsSeatOf names.places.items seat.account seat.used seat.known.items }
         requires nothing { seat.known.items ≡ [] }
     {
-        match UserState::fresh(alloc, name) {
-            Ok(user) => Some(Player { user, names, seat }),
-            Err(_refused) => None,
-        }
+        let user = UserState::fresh(alloc, name)?;
+        players.push(Player { user, names, seat })?;
+        Ok(())
     }
 
     /// Does an event to the account.
