@@ -4,10 +4,11 @@
 
 mod part;
 mod parts;
+mod script;
 
 use crate::parts::Parts;
 use kl1_rows::{Text, put_report};
-use kl1_user_tests::put_times;
+use kl1_user_tests::{Accounts, OverAccounts, put_over, put_times};
 use std::io;
 use std::io::{Error, ErrorKind, Read, Write};
 use std::rt::Clock;
@@ -16,17 +17,24 @@ use std::thread::Threads;
 /// The line with which rows end behind which checks follow.
 const CHECKS: &[u8] = b"== checks\n";
 
-/// Puts the report on rows.
-fn put_rows(out: &mut Text, rows: &[u8]) {
-    put_report(out, &mut Parts::new(out.alloc), rows);
+/// Rows, of which some are tried on accounts.
+#[derive(Drop)]
+struct Rows<'a> {
+    text: &'a [u8],
+}
+
+impl OverAccounts for Rows<'_> {
+    fn put(&self, out: &mut Text, accounts: &mut Accounts) {
+        put_report(out, &mut Parts::new(out.alloc, accounts), self.text);
+    }
 }
 
 /// Puts the report on rows, and the line on each check behind it where the rows end with the heading of checks.
 fn put_tried<R: Threads + Sync>(rt: &R, out: &mut Text, text: &[u8]) {
     match text.strip_suffix(CHECKS) {
-        None => put_rows(out, text),
-        Some(rows) => {
-            put_rows(out, rows);
+        None => put_over(&Rows { text }, out),
+        Some(text) => {
+            put_over(&Rows { text }, out);
             kl1_sharing_tests::put_checks(rt, out);
             kl1_goals_tests::put_checks(out);
         }

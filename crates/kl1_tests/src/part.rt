@@ -1,5 +1,7 @@
 // What the rows of a group are tried on, and what is asked there.
 
+use crate::script;
+
 /// What the rows of a group are tried on.
 #[derive(Clone, Copy)]
 pub enum Part {
@@ -20,7 +22,7 @@ pub enum Part {
     /// An account, and a slow one beside it.
     Both,
     /// Scripts and what they are made of, by what is asked of them.
-    Script(kl1_script_tests::Kind),
+    Script(script::Kind),
 }
 
 /// The parts by the two words that name them at the front of a heading.
@@ -67,57 +69,24 @@ const PARTS: [(&[u8], Part); 48] = [
     (b"user one ", Part::One),
     (b"user again ", Part::Again),
     (b"user both ", Part::Both),
-    (b"script line ", Part::Script(kl1_script_tests::Kind::Line)),
-    (b"script name ", Part::Script(kl1_script_tests::Kind::Name)),
-    (b"script word ", Part::Script(kl1_script_tests::Kind::Word)),
-    (
-        b"script blank ",
-        Part::Script(kl1_script_tests::Kind::Blank),
-    ),
-    (
-        b"script number ",
-        Part::Script(kl1_script_tests::Kind::Number),
-    ),
-    (
-        b"script source ",
-        Part::Script(kl1_script_tests::Kind::Source),
-    ),
-    (
-        b"script record ",
-        Part::Script(kl1_script_tests::Kind::Record),
-    ),
-    (
-        b"script accounts ",
-        Part::Script(kl1_script_tests::Kind::Accounts),
-    ),
-    (
-        b"script account ",
-        Part::Script(kl1_script_tests::Kind::Account),
-    ),
-    (
-        b"script command ",
-        Part::Script(kl1_script_tests::Kind::Command),
-    ),
-    (b"script load ", Part::Script(kl1_script_tests::Kind::Load)),
-    (
-        b"script reply ",
-        Part::Script(kl1_script_tests::Kind::Reply),
-    ),
-    (
-        b"script fault ",
-        Part::Script(kl1_script_tests::Kind::Fault),
-    ),
-    (b"script read ", Part::Script(kl1_script_tests::Kind::Read)),
-    (
-        b"script write ",
-        Part::Script(kl1_script_tests::Kind::Write),
-    ),
-    (
-        b"script script ",
-        Part::Script(kl1_script_tests::Kind::Script),
-    ),
-    (b"script both ", Part::Script(kl1_script_tests::Kind::Both)),
-    (b"script run ", Part::Script(kl1_script_tests::Kind::Run)),
+    (b"script line ", Part::Script(script::Kind::Line)),
+    (b"script name ", Part::Script(script::Kind::Name)),
+    (b"script word ", Part::Script(script::Kind::Word)),
+    (b"script blank ", Part::Script(script::Kind::Blank)),
+    (b"script number ", Part::Script(script::Kind::Number)),
+    (b"script source ", Part::Script(script::Kind::Source)),
+    (b"script record ", Part::Script(script::Kind::Record)),
+    (b"script accounts ", Part::Script(script::Kind::Accounts)),
+    (b"script account ", Part::Script(script::Kind::Account)),
+    (b"script command ", Part::Script(script::Kind::Command)),
+    (b"script load ", Part::Script(script::Kind::Load)),
+    (b"script reply ", Part::Script(script::Kind::Reply)),
+    (b"script fault ", Part::Script(script::Kind::Fault)),
+    (b"script read ", Part::Script(script::Kind::Read)),
+    (b"script write ", Part::Script(script::Kind::Write)),
+    (b"script script ", Part::Script(script::Kind::Script)),
+    (b"script both ", Part::Script(script::Kind::Both)),
+    (b"script run ", Part::Script(script::Kind::Run)),
 ];
 
 /// The part that the heading of a group names.

@@ -1,6 +1,7 @@
 // What rows are tried on.
 
 use crate::part::{Part, part_of};
+use crate::script;
 use kl1_rows::Tried;
 use kl1_store_tests::Stores;
 use kl1_user_tests::Accounts;
@@ -8,26 +9,26 @@ use std::alloc::Global;
 
 /// What the rows of a group are tried on, and the stores and accounts as those before them left them.
 #[derive(Drop)]
-pub struct Parts {
+pub struct Parts<'a> {
     alloc: Global,
     part: Part,
     stores: Stores,
-    accounts: Accounts,
+    accounts: &'a mut Accounts,
 }
 
-impl Parts {
-    /// Empty stores and no account, before the first group.
-    pub fn new(alloc: Global) -> Self {
+impl<'a> Parts<'a> {
+    /// Empty stores and accounts that are lent, before the first group.
+    pub fn new(alloc: Global, accounts: &'a mut Accounts) -> Self {
         Parts {
             alloc,
             part: Part::Unknown,
             stores: Stores::new(alloc),
-            accounts: Accounts::none(alloc),
+            accounts,
         }
     }
 }
 
-impl Tried for Parts {
+impl Tried for Parts<'_> {
     fn begin(&mut self, heading: &[u8]) {
         self.part = part_of(heading);
         match self.part {
@@ -47,7 +48,7 @@ impl Tried for Parts {
             Part::Match(kind) => kl1_match_tests::is_right(self.alloc, kind, act, wanted),
             Part::One | Part::Both => self.accounts.is_right(self.alloc, act, wanted),
             Part::Again => self.accounts.is_right_again(self.alloc, act, wanted),
-            Part::Script(kind) => kl1_script_tests::is_right(self.alloc, kind, act, wanted),
+            Part::Script(kind) => script::is_right(self.alloc, kind, act, wanted),
         }
     }
 }

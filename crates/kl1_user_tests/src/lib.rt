@@ -7,10 +7,12 @@ mod again;
 mod answers;
 mod beside;
 mod made;
+mod over_accounts;
 mod player;
 mod reductions;
 mod seats;
 
 pub use accounts::Accounts;
+pub use over_accounts::{OverAccounts, put_over};
 pub use reductions::put_times;
 pub use seats::names_of_one;

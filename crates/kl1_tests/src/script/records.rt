@@ -1,6 +1,6 @@
 // The records of a script.
 
-use crate::told::is_told;
+use crate::script::told::is_told;
 use kl1_lines::{NextRecord, Record, Request, is_same, next_record};
 use kl1_rows::cut;
 

@@ -1,6 +1,6 @@
 // Lines as commands.
 
-use crate::told::is_told;
+use crate::script::told::is_told;
 use kl1_lines::Request;
 use kl1_script::{Command, Parsed, command_in, parse};
 use kl1_user::{Event, Query};

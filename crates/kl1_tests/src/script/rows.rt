@@ -1,14 +1,14 @@
 // The answers to rows, by the kinds of their groups.
 
-use crate::accounts::{is_account, is_accounts};
-use crate::commands::{is_command, is_load};
-use crate::devices::{is_read, is_written};
-use crate::kind::Kind;
-use crate::lines::{is_blank, is_line, is_name, is_number, is_source, is_word};
-use crate::over_both::is_over_both;
-use crate::records::is_record;
-use crate::replies::{is_fault, is_reply};
-use crate::scripts::{is_run, is_script};
+use crate::script::accounts::{is_account, is_accounts};
+use crate::script::commands::{is_command, is_load};
+use crate::script::devices::{is_read, is_written};
+use crate::script::kind::Kind;
+use crate::script::lines::{is_blank, is_line, is_name, is_number, is_source, is_word};
+use crate::script::over_both::is_over_both;
+use crate::script::records::is_record;
+use crate::script::replies::{is_fault, is_reply};
+use crate::script::scripts::{is_run, is_script};
 use std::alloc::Global;
 
 /// Whether an act of a kind comes to the answer that is wanted.

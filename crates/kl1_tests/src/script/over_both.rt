@@ -1,6 +1,6 @@
 // Scripts over a plain table of names and over a shared one.
 
-use crate::scripts::is_script;
+use crate::script::scripts::is_script;
 use kl1_lines::split_line;
 use kl1_script::{Counted, accounts_in, answer_over};
 use kl1_user::AccountName;

@@ -1,5 +1,4 @@
-//! Rows on scripts, from their lines to what is written for them.
-#![tactic(auto)]
+// Rows on scripts, from their lines to what is written for them.
 
 mod accounts;
 mod commands;
