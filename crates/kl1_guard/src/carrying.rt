@@ -18,6 +18,7 @@ pub(crate) enum Carried<A> {
 }
 
 /// Applies the operations that wait, the last one first, as long as they have both operands.
+#[inline(always)]
 pub(crate) fn carry<A: Copy>(stack: &mut Vec<Pending<A>>, number: Number) -> Carried<A>
     ensures means { (term : A → Term) (left : ℕ) → CarriesAs term left (after term stack.old.items number left) result stack.new.items }
     ensures rights { TakesRight (rights_of stack.old.items) (rights_of stack.new.items) result }

@@ -16,6 +16,7 @@ use kl1_text::NameValue;
 use std::alloc::AllocError;
 
 /// What a term comes to, over an empty list with room for as many operations as an expression may have.
+#[inline(always)]
 fn scan<N: NameValue, T: View<N>>(
     view: &T,
     whole: T::At,
@@ -52,6 +53,7 @@ fn scan<N: NameValue, T: View<N>>(
 
 /// What a term comes to as an expression. Want of memory is the only error; where the scratch has served a call before, there is
 /// none.
+#[inline(always)]
 pub fn evaluate<N: NameValue, T: View<N>>(
     view: &T,
     at: T::At,

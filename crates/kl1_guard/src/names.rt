@@ -18,6 +18,7 @@ pub(crate) fn is_built_in<N: NameValue>(name: N, built_in: BuiltIn) -> bool
 }
 
 /// The operator of a name, if it is one's.
+#[inline(always)]
 pub(crate) fn operator_of<N: NameValue>(name: N) -> Option<Operator>
     ensures { (f : N → List ℕ) → Reads N.built f → result ≡ operator_named (f name) }
 {
@@ -40,6 +41,7 @@ pub(crate) fn operator_of<N: NameValue>(name: N) -> Option<Operator>
 }
 
 /// The test of one term that has this name, if one has.
+#[inline(always)]
 pub(crate) fn inspection_of<N: NameValue>(name: N) -> Option<Inspection>
     ensures { (f : N → List ℕ) → Reads N.built f → result ≡ inspection_named (f name) }
 {
@@ -59,6 +61,7 @@ pub(crate) fn inspection_of<N: NameValue>(name: N) -> Option<Inspection>
 }
 
 /// The comparison of a name, if it is one's.
+#[inline(always)]
 pub(crate) fn comparison_of<N: NameValue>(name: N) -> Option<Comparison>
     ensures { (f : N → List ℕ) → Reads N.built f → result ≡ comparison_named (f name) }
 {

@@ -23,7 +23,7 @@ pub(crate) enum Part<V, A> {
 }
 
 /// What a term is as a part of an expression.
-#[inline]
+#[inline(always)]
 pub(crate) fn part_of<N: NameValue, T: View<N>>(view: &T, at: T::At) -> Part<T::Variable, T::At>
     requires { T.IsAt view.now at }
     ensures inside { IsPartIn (T.IsFree view.now) (T.IsAt view.now) result }

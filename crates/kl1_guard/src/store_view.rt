@@ -33,6 +33,7 @@ impl<N: NameValue> View<N> for Store<N> {
 
     ghost term = { λ f s x. term_of f s.held x };
 
+    #[inline(always)]
     fn form_of(&self, at: Cell<N>) -> Form<N, u32, u32> {
         // It gives the proof that what the store holds is formed.
         let _ = self.mark();
@@ -47,6 +48,7 @@ impl<N: NameValue> View<N> for Store<N> {
         }
     }
 
+    #[inline(always)]
     fn argument(&self, structure: u32, index: u32) -> Cell<N> {
         let _ = self.mark();
         Store::argument(self, structure, index)

@@ -28,6 +28,7 @@ pub enum Test<A> {
 }
 
 /// The test of two terms that has this name, if one has.
+#[inline(always)]
 fn test_of_two<N: NameValue, A: Copy>(name: N, left: A, right: A) -> Option<Test<A>>
     ensures two { IfSome result (IsOfTwo left right) }
     ensures means { (f : N → List ℕ) (term : A → Term) → Reads N.built f → option_map (test_in term) result ≡ test_of_two (f name) (term left) (term right) }
@@ -45,6 +46,7 @@ fn test_of_two<N: NameValue, A: Copy>(name: N, left: A, right: A) -> Option<Test
 }
 
 /// The test that a term is, if it is one.
+#[inline(always)]
 pub fn test_at<N: NameValue, T: View<N>>(view: &T, at: T::At) -> Option<Test<T::At>>
     requires { T.IsAt view.now at }
     ensures inside { IfSome result (IsTestAt (T.IsAt view.now)) }

@@ -23,6 +23,7 @@ pub(crate) fn arguments_of(instruction: Instruction) -> usize
 }
 
 /// The place in a row, from 0, behind so many terms from a place on.
+#[inline(always)]
 pub(crate) fn behind_terms(row: &[Instruction], from: usize, terms: usize) -> usize
     requires { from ≤ length row.now }
     ensures above { from ≤ result }
@@ -44,6 +45,7 @@ pub(crate) fn behind_terms(row: &[Instruction], from: usize, terms: usize) -> us
 }
 
 /// The place in a row, from 0, behind the term at a place.
+#[inline(always)]
 pub(crate) fn behind_term(row: &[Instruction], from: usize) -> usize
     requires { from < length row.now }
     ensures above { from < result }

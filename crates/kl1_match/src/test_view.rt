@@ -53,6 +53,7 @@ pub(crate) fn instruction_at(row: &[Instruction], place: usize) -> Instruction
 }
 
 /// The cell at the first place of a variable.
+#[inline(always)]
 fn cell_of<N: NameValue>(places: &[Place<N>], variable: u64) -> Option<Cell<N>>
     ensures { result ≡ first_cell places.now variable }
 {
@@ -104,6 +105,7 @@ impl<'a, N: NameValue> View<N> for TestView<'a, N> {
 
     ghost term = { λ f s x. test_term N.built f (tests_of s) x };
 
+    #[inline(always)]
     fn form_of(&self, at: TestAt<N>) -> Form<N, TestVariable, TestStructure> {
         match at {
             TestAt::Cell(cell) => moved(self.store.form_of(cell)),
@@ -123,6 +125,7 @@ impl<'a, N: NameValue> View<N> for TestView<'a, N> {
         }
     }
 
+    #[inline(always)]
     fn argument(&self, structure: TestStructure, index: u32) -> TestAt<N> {
         match structure {
             TestStructure::Cell(number) => TestAt::Cell(View::argument(self.store, number, index)),

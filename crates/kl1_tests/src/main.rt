@@ -1,27 +1,52 @@
-//! Rows of acts on what clauses make of goals, on accounts and on scripts, and whether each comes to what is wanted; and what a reduction costs.
+//! Rows of acts on the public calls of all crates below the program, and checks, also with two threads, and whether each comes to
+//! what is wanted; and what a reduction costs.
 #![tactic(auto)]
 
 mod part;
 mod parts;
-mod read;
-mod reductions;
-mod rows;
 mod script;
-mod seats;
-mod user;
 
 use crate::parts::Parts;
-use crate::rows::{Text, put_report};
+use kl1_rows::{Text, put_report};
+use kl1_user_tests::{Accounts, OverAccounts, put_over, put_times};
 use std::io;
 use std::io::{Error, ErrorKind, Read, Write};
 use std::rt::Clock;
+use std::thread::Threads;
 
-/// Puts the report on rows; where they are the word `reductions` and a line feed, what is measured.
-fn put_all<R: Clock>(rt: &R, out: &mut Text, rows: &[u8]) {
+/// The line with which rows end behind which checks follow.
+const CHECKS: &[u8] = b"== checks\n";
+
+/// Rows, of which some are tried on accounts.
+#[derive(Drop)]
+struct Rows<'a> {
+    text: &'a [u8],
+}
+
+impl OverAccounts for Rows<'_> {
+    fn put(&self, out: &mut Text, accounts: &mut Accounts) {
+        put_report(out, &mut Parts::new(out.alloc, accounts), self.text);
+    }
+}
+
+/// Puts the report on rows, and the line on each check behind it where the rows end with the heading of checks.
+fn put_tried<R: Threads + Sync>(rt: &R, out: &mut Text, text: &[u8]) {
+    match text.strip_suffix(CHECKS) {
+        None => put_over(&Rows { text }, out),
+        Some(text) => {
+            put_over(&Rows { text }, out);
+            kl1_sharing_tests::put_checks(rt, out);
+            kl1_goals_tests::put_checks(out);
+        }
+    }
+}
+
+/// Puts the report on rows and checks, or what is measured, where the word `reductions` and a line feed stand for rows.
+fn put_all<R: Threads + Clock + Sync>(rt: &R, out: &mut Text, rows: &[u8]) {
     if rows == b"reductions\n".as_slice() {
-        reductions::put_times(rt, out);
+        put_times(rt, out);
     } else {
-        put_report(out, &mut Parts::new(out.alloc), rows);
+        put_tried(rt, out, rows);
     }
 }
 

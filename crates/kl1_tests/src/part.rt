@@ -1,14 +1,20 @@
 // What the rows of a group are tried on, and what is asked there.
 
-use crate::{read, script};
+use crate::script;
 
 /// What the rows of a group are tried on.
 #[derive(Clone, Copy)]
 pub enum Part {
     /// Nothing that there is: no row is right.
     Unknown,
+    /// A store with names that are numbers.
+    Numbers,
+    /// A store with names that are texts.
+    Texts,
+    /// Names, terms, texts and code, by what is asked of them.
+    Read(kl1_read_tests::Kind),
     /// Clauses on goals, by what is asked of them.
-    Read(read::Kind),
+    Match(kl1_match_tests::Kind),
     /// An account.
     One,
     /// An account, to which an event is done again where memory was refused.
@@ -20,12 +26,46 @@ pub enum Part {
 }
 
 /// The parts by the two words that name them at the front of a heading.
-const PARTS: [(&[u8], Part); 26] = [
-    (b"read verdict ", Part::Read(read::Kind::Verdict)),
-    (b"read bound ", Part::Read(read::Kind::Bound)),
-    (b"read places ", Part::Read(read::Kind::Places)),
-    (b"read moves ", Part::Read(read::Kind::Moves)),
-    (b"read built ", Part::Read(read::Kind::Built)),
+const PARTS: [(&[u8], Part); 48] = [
+    (b"store numbers ", Part::Numbers),
+    (b"store texts ", Part::Texts),
+    (b"read name ", Part::Read(kl1_read_tests::Kind::Name)),
+    (b"read place ", Part::Read(kl1_read_tests::Kind::Place)),
+    (b"read built_in ", Part::Read(kl1_read_tests::Kind::BuiltIn)),
+    (b"read text_is ", Part::Read(kl1_read_tests::Kind::TextIs)),
+    (
+        b"read number_is ",
+        Part::Read(kl1_read_tests::Kind::NumberIs),
+    ),
+    (b"read integer ", Part::Read(kl1_read_tests::Kind::Integer)),
+    (b"read print ", Part::Read(kl1_read_tests::Kind::Print)),
+    (b"read put ", Part::Read(kl1_read_tests::Kind::Put)),
+    (b"read copy ", Part::Read(kl1_read_tests::Kind::Copy)),
+    (
+        b"read variables ",
+        Part::Read(kl1_read_tests::Kind::Variables),
+    ),
+    (b"read depth ", Part::Read(kl1_read_tests::Kind::Depth)),
+    (b"read of_nodes ", Part::Read(kl1_read_tests::Kind::OfNodes)),
+    (b"read nodes ", Part::Read(kl1_read_tests::Kind::Nodes)),
+    (b"read goal ", Part::Read(kl1_read_tests::Kind::Goal)),
+    (b"read module ", Part::Read(kl1_read_tests::Kind::Module)),
+    (b"read items ", Part::Read(kl1_read_tests::Kind::Items)),
+    (b"read clauses ", Part::Read(kl1_read_tests::Kind::Clauses)),
+    (b"read code ", Part::Read(kl1_read_tests::Kind::Code)),
+    (
+        b"read predicate ",
+        Part::Read(kl1_read_tests::Kind::Predicate),
+    ),
+    (b"read sizes ", Part::Read(kl1_read_tests::Kind::Sizes)),
+    (
+        b"read verdict ",
+        Part::Match(kl1_match_tests::Kind::Verdict),
+    ),
+    (b"read bound ", Part::Match(kl1_match_tests::Kind::Bound)),
+    (b"read places ", Part::Match(kl1_match_tests::Kind::Places)),
+    (b"read moves ", Part::Match(kl1_match_tests::Kind::Moves)),
+    (b"read built ", Part::Match(kl1_match_tests::Kind::Built)),
     (b"user one ", Part::One),
     (b"user again ", Part::Again),
     (b"user both ", Part::Both),

@@ -1,34 +1,39 @@
 // What rows are tried on.
 
 use crate::part::{Part, part_of};
-use crate::rows::Tried;
-use crate::user::Accounts;
-use crate::{read, script};
+use crate::script;
+use kl1_rows::Tried;
+use kl1_store_tests::Stores;
+use kl1_user_tests::Accounts;
 use std::alloc::Global;
 
-/// What the rows of a group are tried on, and the accounts as those before them left them.
+/// What the rows of a group are tried on, and the stores and accounts as those before them left them.
 #[derive(Drop)]
-pub struct Parts {
+pub struct Parts<'a> {
     alloc: Global,
     part: Part,
-    accounts: Accounts,
+    stores: Stores,
+    accounts: &'a mut Accounts,
 }
 
-impl Parts {
-    /// No account, before the first group.
-    pub fn new(alloc: Global) -> Self {
+impl<'a> Parts<'a> {
+    /// Empty stores and accounts that are lent, before the first group.
+    pub fn new(alloc: Global, accounts: &'a mut Accounts) -> Self {
         Parts {
             alloc,
             part: Part::Unknown,
-            accounts: Accounts::none(alloc),
+            stores: Stores::new(alloc),
+            accounts,
         }
     }
 }
 
-impl Tried for Parts {
+impl Tried for Parts<'_> {
     fn begin(&mut self, heading: &[u8]) {
         self.part = part_of(heading);
         match self.part {
+            Part::Numbers => self.stores.begin(self.alloc, false),
+            Part::Texts => self.stores.begin(self.alloc, true),
             Part::One | Part::Again => self.accounts.begin(self.alloc, false),
             Part::Both => self.accounts.begin(self.alloc, true),
             _ => (),
@@ -38,7 +43,9 @@ impl Tried for Parts {
     fn is_right(&mut self, act: &[u8], wanted: &[u8]) -> bool {
         match self.part {
             Part::Unknown => false,
-            Part::Read(kind) => read::is_right(self.alloc, kind, act, wanted),
+            Part::Numbers | Part::Texts => self.stores.is_right(act, wanted),
+            Part::Read(kind) => kl1_read_tests::is_right(self.alloc, kind, act, wanted),
+            Part::Match(kind) => kl1_match_tests::is_right(self.alloc, kind, act, wanted),
             Part::One | Part::Both => self.accounts.is_right(self.alloc, act, wanted),
             Part::Again => self.accounts.is_right_again(self.alloc, act, wanted),
             Part::Script(kind) => script::is_right(self.alloc, kind, act, wanted),

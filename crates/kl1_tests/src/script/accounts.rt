@@ -1,7 +1,7 @@
 // The names of accounts.
 
-use crate::rows::cut;
 use kl1_lines::is_same;
+use kl1_rows::cut;
 use kl1_script::accounts_in;
 use kl1_user::AccountName;
 use std::alloc::Global;

@@ -1,9 +1,9 @@
 // What is read from streams that give little, and written to ones that take little, and fail.
 
-use crate::rows::{cut, number_of};
 use crate::script::streams::{Faulty, cause_of};
 use crate::script::told::{end_of, is_told};
 use kl1_lines::{Counted, Sink, read_all, write_all};
+use kl1_rows::{cut, number_of};
 use std::alloc::Global;
 
 /// How many reads failed, and how many bytes are left.

@@ -1,10 +1,10 @@
 // Scripts over a plain table of names and over a shared one.
 
 use crate::script::scripts::is_script;
-use crate::seats::names_of_one;
 use kl1_lines::split_line;
 use kl1_script::{Counted, accounts_in, answer_over};
 use kl1_user::AccountName;
+use kl1_user_tests::names_of_one;
 use std::alloc::Global;
 
 /// Whether these bytes are written for the records of a text, over a plain table of names.

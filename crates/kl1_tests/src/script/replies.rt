@@ -1,7 +1,7 @@
 // What is written for replies and faults.
 
-use crate::rows::{cut, is_joined, number_of};
 use kl1_lines::is_same;
+use kl1_rows::{cut, is_joined, number_of};
 use kl1_script::{ScriptFault, put_reply, put_reply_of};
 use kl1_text::AtomText;
 use kl1_user::{Refusal, Reply, ShoenNo};

@@ -1,8 +1,8 @@
 // Scripts from their bytes to what is written for them.
 
-use crate::rows::{cut, number_of};
 use crate::script::streams::{Faulty, cause_of};
 use crate::script::told::{are_told, end_of};
+use kl1_rows::{cut, number_of};
 use kl1_script::{Counted, run_script};
 use std::alloc::Global;
 

@@ -1,9 +1,0 @@
-// Checks of the table of names, also with two threads.
-
-mod agreement;
-mod checks;
-mod names;
-mod seats;
-mod sources;
-
-pub use checks::put_checks;

@@ -1,0 +1,120 @@
+// The accounts that rows are tried on: one, and in the groups of the kind `both` a slow one beside it.
+
+use crate::acts::{event_of, is_run_right};
+use crate::again::is_right_again;
+use crate::answers::{is_answered, is_first, is_first_by, is_shown};
+use crate::beside::is_answered_beside;
+use crate::player::Player;
+use kl1_rows::cut;
+use kl1_slow::Plain;
+use kl1_user::Event;
+use std::alloc::{AllocError, Global};
+
+/// An account, and a slow one over whole terms beside it: at most one of each, in lists, which are dropped by calls.
+#[derive(Drop)]
+pub struct Accounts {
+    user: Vec<Player>,
+    plain: Vec<Plain>,
+}
+
+/// Whether an account shows the goal of each shoen as a slow one does.
+fn are_shown_alike(user: &mut Player, plain: &Plain) -> Option<bool> {
+    for number in 1..=plain.count() {
+        let wanted = plain.value(number)?;
+        if !is_shown(user, number, wanted.as_slice()) {
+            return Some(false);
+        }
+    }
+    Some(true)
+}
+
+/// Whether an event does to a slow account what is wanted of it, and an account that it has been done to is like that one then:
+/// they have the same first goal, and show the same goals of shoens.
+fn are_alike(user: &mut Player, plain: &mut Plain, event: &Event, wanted: &[u8]) -> Option<bool> {
+    if !is_answered_beside(plain, event, wanted)? {
+        return Some(false);
+    }
+    let (goal, clause) = plain.first()?;
+    if !is_first_by(user, goal, clause) {
+        return Some(false);
+    }
+    are_shown_alike(user, plain)
+}
+
+/// Whether an event is answered so by an account, and by a slow one where there is one.
+fn is_event_right(user: &mut Player, plain: &mut [Plain], event: &Event, wanted: &[u8]) -> bool {
+    if !is_answered(user, event, wanted) {
+        return false;
+    }
+    match plain {
+        [] => true,
+        [plain, ..] => match are_alike(user, plain, event, wanted) {
+            Some(are_alike) => are_alike,
+            None => false,
+        },
+    }
+}
+
+/// Whether an act comes to what is wanted.
+fn is_act_right(
+    alloc: Global,
+    user: &mut Player,
+    plain: &mut [Plain],
+    act: &[u8],
+    wanted: &[u8],
+) -> bool {
+    let (word, words) = cut(act, b' ');
+    match word {
+        b"first" => is_first(user, wanted),
+        b"run" => is_run_right(user, words, wanted),
+        _ => match event_of(alloc, user, word, words) {
+            Some(event) => is_event_right(user, plain, &event, wanted),
+            None => false,
+        },
+    }
+}
+
+impl Accounts {
+    /// No account, before the first group.
+    pub fn none(alloc: Global) -> Self {
+        Accounts {
+            user: Vec::new(alloc),
+            plain: Vec::new(alloc),
+        }
+    }
+
+    /// Puts a slow account in which nothing has happened.
+    fn put_plain(&mut self, alloc: Global) -> Result<(), AllocError> {
+        self.plain.push(Plain::fresh(alloc))?;
+        Ok(())
+    }
+
+    /// Begins anew, with an account in which nothing has happened, and a slow one beside it or none. Where memory is refused,
+    /// it is tried once more.
+    pub fn begin(&mut self, alloc: Global, has_plain: bool) {
+        self.user.clear();
+        if Player::put_fresh(alloc, &mut self.user).is_err() {
+            let _ = Player::put_fresh(alloc, &mut self.user);
+        }
+        self.plain.clear();
+        if has_plain && self.put_plain(alloc).is_err() {
+            self.user.clear();
+        }
+    }
+
+    /// Whether an act comes to the answer that is wanted.
+    pub fn is_right(&mut self, alloc: Global, act: &[u8], wanted: &[u8]) -> bool {
+        match self.user.as_mut_slice() {
+            [] => false,
+            [user, ..] => is_act_right(alloc, user, self.plain.as_mut_slice(), act, wanted),
+        }
+    }
+
+    /// Whether an act comes to the answer that is wanted, also where memory is refused once.
+    pub fn is_right_again(&mut self, alloc: Global, act: &[u8], wanted: &[u8]) -> bool {
+        match self.user.as_mut_slice() {
+            [] => false,
+            [user, ..] => is_right_again(alloc, user, act, wanted),
+        }
+    }
+}

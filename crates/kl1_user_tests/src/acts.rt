@@ -1,0 +1,117 @@
+// Acts of rows: a word, and words behind it.
+//
+// | Act | What is done |
+// |---|---|
+// | `load TEXT` | a module is loaded from the text |
+// | `start A L H GOAL` | a goal is started with an allowance of A and priorities from L to H |
+// | `made LEFT LEVELS RIGHT` | a goal that no text may write is started |
+// | `reduce G C` | goal G is reduced by clause C |
+// | `step` | the first goal is reduced |
+// | `value S` | the goal of shoen S is shown |
+// | `quiet` | whether no goal can step is asked |
+// | `run N` | the first goal is reduced, again and again, at most N times; the answer is how often |
+// | `first` | nothing; the answer is the first goal with its clause, as `2 by 1`, or `quiet` |
+
+use crate::answers::is_answered;
+use crate::made::made_goal;
+use crate::player::Player;
+use kl1_read::read_goal;
+use kl1_rows::{cut, is_counted, number_of};
+use kl1_term::Term;
+use kl1_user::{ClauseNo, Event, GoalNo, Query, ShoenNo};
+use std::alloc::Global;
+
+/// The start of a goal with an allowance and priorities.
+fn start_event(allowance: u64, low: u64, high: u64, goal: Term) -> Event {
+    Event::Start {
+        allowance,
+        low,
+        high,
+        goal,
+    }
+}
+
+/// The start of a goal's text, before which its allowance and priorities stand.
+fn start_of(alloc: Global, words: &[u8]) -> Option<Event> {
+    let (allowance, behind) = cut(words, b' ');
+    let (low, behind) = cut(behind, b' ');
+    let (high, text) = cut(behind, b' ');
+    let goal = read_goal(alloc, text).ok()?;
+    Some(start_event(number_of(allowance), number_of(low), number_of(high), goal))
+}
+
+/// The reduction of a goal by a clause, whose numbers a text has.
+fn reduction_of(words: &[u8]) -> Event {
+    let (goal, clause) = cut(words, b' ');
+    Event::Reduce {
+        goal: GoalNo(number_of(goal)),
+        clause: ClauseNo(number_of(clause)),
+    }
+}
+
+/// The reduction of the first goal.
+fn first_step(user: &Player) -> Option<Event> {
+    let (goal, clause) = user.pick()?;
+    Some(Event::Reduce { goal, clause })
+}
+
+/// The load of a source.
+fn load_of(alloc: Global, words: &[u8]) -> Option<Event> {
+    match Vec::from_slice(alloc, words) {
+        Ok(source) => Some(Event::Load { source }),
+        Err(_refused) => None,
+    }
+}
+
+/// The start of a goal that is made.
+fn made_start(alloc: Global, words: &[u8]) -> Option<Event> {
+    let goal = made_goal(alloc, words)?;
+    Some(start_event(10, 0, 10, goal))
+}
+
+/// The question that an act is.
+fn question_of(word: &[u8], words: &[u8]) -> Option<Event> {
+    if word == b"value".as_slice() {
+        Some(Event::Read(Query::Value(ShoenNo(number_of(words)))))
+    } else if word == b"quiet".as_slice() {
+        Some(Event::Read(Query::Quiet))
+    } else {
+        None
+    }
+}
+
+/// The event that an act is.
+pub fn event_of(alloc: Global, user: &Player, word: &[u8], words: &[u8]) -> Option<Event> {
+    if word == b"load".as_slice() {
+        load_of(alloc, words)
+    } else if word == b"start".as_slice() {
+        start_of(alloc, words)
+    } else if word == b"made".as_slice() {
+        made_start(alloc, words)
+    } else if word == b"reduce".as_slice() {
+        Some(reduction_of(words))
+    } else if word == b"step".as_slice() {
+        first_step(user)
+    } else {
+        question_of(word, words)
+    }
+}
+
+/// Whether the first goal is reduced.
+fn is_stepped(user: &mut Player) -> bool {
+    match first_step(user) {
+        None => false,
+        Some(event) => is_answered(user, &event, b"+ reduced"),
+    }
+}
+
+/// Whether so many first steps can be done as is wanted, at most those of a text.
+pub fn is_run_right(user: &mut Player, words: &[u8], wanted: &[u8]) -> bool {
+    let most = number_of(words);
+    for steps in 0..most {
+        if !is_stepped(user) {
+            return is_counted(wanted, b"+ ", steps);
+        }
+    }
+    is_counted(wanted, b"+ ", most)
+}

@@ -1,0 +1,94 @@
+// Answers of an account beside the texts that are wanted.
+
+use crate::player::Player;
+use kl1_rows::{cut, is_counted, is_joined, number_of};
+use kl1_text::AtomText;
+use kl1_user::{Event, Query, Refusal, Reply, ShoenNo};
+
+/// The number and word of a refusal; for the line of a source nothing.
+fn word_of(refusal: Refusal) -> &'static [u8] {
+    match refusal {
+        Refusal::Syntax => b"- 1 syntax",
+        Refusal::Source { line: _ } => b"",
+        Refusal::Exists => b"- 3 exists",
+        Refusal::NoShoen => b"- 4 noshoen",
+        Refusal::Step => b"- 6 step",
+        Refusal::Names => b"- 7 names",
+        Refusal::Journal => b"- 9 journal",
+    }
+}
+
+/// Whether a refusal has this text.
+fn is_refusal(refusal: Refusal, wanted: &[u8]) -> bool {
+    if let Refusal::Source { line } = refusal {
+        return is_counted(wanted, b"- 2 source ", line);
+    }
+    word_of(refusal) == wanted
+}
+
+/// Whether a text says that a module of this name is loaded.
+fn is_loaded(name: &AtomText, wanted: &[u8]) -> bool {
+    is_joined(wanted, b"+ loaded ", name.unpacked().as_slice())
+}
+
+/// Whether a reply that a change is done has this text.
+fn is_change(reply: &Reply, wanted: &[u8]) -> bool {
+    match reply {
+        Reply::Loaded(name) => is_loaded(name, wanted),
+        Reply::Opened(shoen) => is_counted(wanted, b"+ shoen ", shoen.0),
+        Reply::Reduced => wanted == b"+ reduced".as_slice(),
+        _ => false,
+    }
+}
+
+/// Whether a text says whether no goal can step.
+pub fn is_told_quiet(is_quiet: bool, wanted: &[u8]) -> bool {
+    let word: &[u8] = if is_quiet { b"+ yes" } else { b"+ no" };
+    word == wanted
+}
+
+/// Whether a reply has this text.
+pub fn is_reply(reply: &Reply, wanted: &[u8]) -> bool {
+    match reply {
+        Reply::Shown(text) => is_joined(wanted, b"+ ", text.as_slice()),
+        Reply::Quiet(is_quiet) => is_told_quiet(*is_quiet, wanted),
+        Reply::Refused(refusal) => is_refusal(*refusal, wanted),
+        _ => is_change(reply, wanted),
+    }
+}
+
+/// Whether an account answers an event so.
+pub fn is_answered(user: &mut Player, event: &Event, wanted: &[u8]) -> bool {
+    match user.apply(event) {
+        Ok(reply) => is_reply(&reply, wanted),
+        Err(_refused) => false,
+    }
+}
+
+/// Whether an account shows the goal of a shoen so.
+pub fn is_shown(user: &mut Player, shoen: u64, text: &[u8]) -> bool {
+    match user.apply(&Event::Read(Query::Value(ShoenNo(shoen)))) {
+        Ok(Reply::Shown(shown)) => shown.as_slice() == text,
+        _ => false,
+    }
+}
+
+/// Whether the first goal and its clause have these numbers, or the goal's is 0 and there is none.
+pub fn is_first_by(user: &Player, first: u64, second: u64) -> bool {
+    let (goal, clause) = match user.pick() {
+        None => (0, 0),
+        Some((goal, clause)) => (goal.0, clause.0),
+    };
+    let is_quiet = user.quiet();
+    goal == first && clause == second && is_quiet == (goal == 0)
+}
+
+/// Whether the first goal and its clause are those of a text such as `2 by 1`, or the text is `quiet` and there is none.
+pub fn is_first(user: &Player, wanted: &[u8]) -> bool {
+    if wanted == b"quiet".as_slice() {
+        return is_first_by(user, 0, 0);
+    }
+    let (goal, behind) = cut(wanted, b' ');
+    let (by, clause) = cut(behind, b' ');
+    by == b"by".as_slice() && is_first_by(user, number_of(goal), number_of(clause))
+}
