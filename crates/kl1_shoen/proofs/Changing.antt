@@ -101,7 +101,8 @@ numbered_changed n c s ss a e =
     let kept = number_kept c s in
     numbered_set 0 ss (n - 1) (changed_by c s) a (omega (arith, lt, is, kept))
 
-parents_put : {N : Type 0} (i : ℕ) (ss : List (Shoen N)) (x a : Shoen N) → i < length ss → x ≡ get_or ss i x → a.parent ≡ x.parent → parents_in (set ss i a) ≡ parents_in ss
+-- a shoen in place of another of the same parent leaves the parents
+pub parents_put : {N : Type 0} (i : ℕ) (ss : List (Shoen N)) (x a : Shoen N) → i < length ss → x ≡ get_or ss i x → a.parent ≡ x.parent → parents_in (set ss i a) ≡ parents_in ss
 parents_put i [] x a lt e p = refl
 parents_put zero (s ∷ ss) x a lt e p = ap (λ (q : ℕ). q ∷ parents_in ss) (p ∙ ap (λ (y : Shoen _). y.parent) e)
 parents_put (suc i) (s ∷ ss) x a lt e p = ap (λ (qs : List ℕ). s.parent ∷ qs) (parents_put i ss x a (omega (arith, lt)) e p)
