@@ -1,6 +1,6 @@
 // Charges, and what comes of them.
 
-ghost use Rattle.std.specs.Prelude.{ℕ, suc, get_or, if◌then◌else◌, ◌≡◌, ◌<◌, ◌≤◌, ◌+◌, ◌-◌, ◌^◌, ◌∷◌, length, set, map, unwrap_or, option_map, OnOk, OnErr};
+ghost use Rattle.std.specs.Prelude.{ℕ, suc, get_or, if◌then◌else◌, ◌≡◌, ◌<◌, ◌≤◌, ◌+◌, ◌-◌, ◌^◌, ◌∷◌, length, set, map, unwrap_or, option_map, not, ◌&&◌, OnOk, OnErr};
 ghost use Rattle.kl1_shoen.specs.Shoens.{AreNumbered, AreLower, path_in, is_on_path_in, charged_in, has_reached_in, is_blocking_at, is_enabled_at};
 
 use crate::shoen::{Shoen, is_living};
@@ -92,10 +92,17 @@ impl<N: NameValue> ShoenTree<N> {
         for shoen in self.shoens.items() {
             let is_blocking = self.is_blocking(shoen.number);
             let is_parent_enabled = flag_of(out, shoen.parent, true);
-            out.push(!is_blocking && is_parent_enabled)?;
+            out.push(is_enabled_with(is_blocking, is_parent_enabled))?;
         }
         Ok(())
     }
+}
+
+/// Whether the goals of a shoen are enabled, which holds them back or not, and whose parent's are enabled or not.
+fn is_enabled_with(is_blocking: bool, is_parent_enabled: bool) -> bool
+    ensures { result ≡ (not is_blocking && is_parent_enabled) }
+{
+    !is_blocking && is_parent_enabled
 }
 
 /// Charges one reduction more to each shoen on the path of one.
@@ -123,7 +130,7 @@ fn raise_at<N: NameValue>(shoens: &[Shoen<N>], charges: &mut TrackedList<u64>, n
     requires lower { AreLower shoens.now }
     requires some { 0 < number }
     requires within { number ≤ length charges.old.now }
-    requires few { get_or charges.old.now (number - 1) 0 < 2 ^ 63 }
+    requires few { get_or charges.old.now (number - 1) 0 ≤ 2 ^ 63 }
     requires changes { 0 < charges.old.changes }
     ensures charged { charges.new.now ≡ set charges.old.now (number - 1) (get_or charges.old.now (number - 1) 0 + 1) }
     ensures below { result < number }
