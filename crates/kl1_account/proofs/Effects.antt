@@ -45,10 +45,6 @@ drafts_changed h t u d n f g is inside same ms goals names i =
     let T : Tree CellName → Type 0 = λ x. Turns ms (λ r. change_shoen n g) h h w (made_of goals names x d) in
     subst T (sym is) (changed_turns ms h w n f g i inside same)
 
--- shoens with cells of the store, of which one changes
-pub tree_in : (h : Held CellName) (t u : Tree CellName) (ss : List (Shoen CellName)) → u ≡ record t { shoens = ss } → AreShoensIn h ss → AreShoensIn h u.shoens
-tree_in h t u ss is i = let P : List (Shoen CellName) → Type 0 = λ x. AreShoensIn h x in subst P (sym (ap (λ (x : Tree CellName). x.shoens) is)) i
-
 -- what a shoen that is found leads to
 pub drafts_found : (after : Option model.Shoen → State → State) (h k : Held CellName) (t u : Tree CellName) (d e : Draft) (n : ℕ) (o : Option (Shoen CellName)) → find (has_number n) t.shoens ≡ o →
     DraftsAll (λ f. after (option_map (shoen_with (meaning f h)) o)) h k t u d e → DraftsAll (λ f s. after (model.shoen_at n s.shoens) s) h k t u d e
