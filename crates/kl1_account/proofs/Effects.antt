@@ -8,12 +8,14 @@ use Rattle.kl1_model.specs.State as model
 use Rattle.kl1_model.specs.State.{State, change_shoen, is_living}
 use Rattle.kl1_model.specs.Tree as tree
 use Rattle.kl1_model.specs.Tree.{path_within, charge}
-use Rattle.kl1_model.specs.Report.{report, close, stopped_report, resumed_report, aborted_report}
+use Rattle.kl1_model.specs.Report.{report, close, exception, illegal_input, stopped_report, resumed_report, aborted_report}
 use Rattle.kl1_model.specs.Ending as ending
-use Rattle.kl1_model.specs.Ending.{ended_below, abort}
+use Rattle.kl1_model.specs.Ending.{without_monitor, ended_below}
 use Rattle.kl1_model.specs.declared.message.Message.TheVariants.{Stop, Start, Abort, Allow}
 use Rattle.kl1_model.specs.Limits.{most_allowance}
-use Rattle.kl1_model.specs.Reduction.{stopped_of, resumed_of, obeyed, allowed_more, with_control}
+use Rattle.kl1_model.specs.declared.message.Message.{Message}
+use Rattle.kl1_model.specs.Control.{awaits_message, tells, tells_other, ends, breaks_off}
+use Rattle.kl1_model.specs.Reduction.{stopped_of, resumed_of, obeyed, heard, allowed_more, with_control}
 use Rattle.kl1_text.specs.declared.cell_name.CellName.{CellName}
 use Rattle.kl1_store.specs.declared.cell.Cell.{Cell}
 use Rattle.kl1_store.specs.Held.{Held, IsIn}
@@ -208,3 +210,34 @@ drafts_controlled h t u d n x j is ms goals names i =
       inside = changed_made h w n (controlled x) (λ s a. record { control = j; tail = a.tail; origin = a.origin }) i;
       states = λ f knows s. changes s (meaning f h) (h.variables - 1) w n (controlled x) (λ y. record y { control = meaning f h x }) (λ y. refl);
     })
+
+-- ---- tests turned round
+
+pub not_so : (b : Bool) → not b ≡ true → b ≡ false
+not_so true e = sym e
+not_so false e = refl
+
+pub so_after_all : (b : Bool) → not b ≡ false → b ≡ true
+so_after_all true e = refl
+so_after_all false e = sym e
+
+-- ---- what is heard
+
+-- a message, and what is left of the stream
+pub drafts_told : (h k : Held CellName) (t u v : Tree CellName) (d e : Draft) (n : ℕ) (m : Message) (x : Cell CellName) → DraftsAll (λ f. with_control n (meaning f h x)) h h t u d d → DraftsAll (λ f. obeyed n m) h k u v d e →
+    DraftsAll (λ f. heard n (tells m (meaning f h x))) h k t v d e
+drafts_told h k t u v d e n m x p q = drafts_then (λ f. with_control n (meaning f h x)) (λ f. obeyed n m) h h k t u v d d e p q
+
+-- another element, and what is left of the stream
+pub drafts_told_other : (h k : Held CellName) (t u v : Tree CellName) (d e : Draft) (n : ℕ) (y x : Cell CellName) → DraftsAll (λ f. with_control n (meaning f h x)) h h t u d d → DraftsAll (λ f. report n (exception illegal_input (meaning f h y))) h k u v d e →
+    DraftsAll (λ f. heard n (tells_other (meaning f h y) (meaning f h x))) h k t v d e
+drafts_told_other h k t u v d e n y x p q = drafts_then (λ f. with_control n (meaning f h x)) (λ f. report n (exception illegal_input (meaning f h y))) h h k t u v d d e p q
+
+-- what is no stream
+pub drafts_broken_off : (h k : Held CellName) (t v : Tree CellName) (d e x : Draft) (n : ℕ) (y : Cell CellName) → DraftsAll (λ f. without_monitor n) h h t t d e → DraftsAll (λ f. report n (exception illegal_input (meaning f h y))) h k t v e x →
+    DraftsAll (λ f. heard n (breaks_off (meaning f h y))) h k t v d x
+drafts_broken_off h k t v d e x n y p q = drafts_then (λ f. without_monitor n) (λ f. report n (exception illegal_input (meaning f h y))) h h k t t v d e x p q
+
+-- nothing yet
+pub drafts_unheard_yet : (h : Held CellName) (t : Tree CellName) (d : Draft) (n v : ℕ) → DraftsAll (λ f. heard n (awaits_message v)) h h t t d d
+drafts_unheard_yet h t d n v ms goals names i = turns_none ms (λ f s. s) h (made_of goals names t d) i (λ f knows s. refl)
