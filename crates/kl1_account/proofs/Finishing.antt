@@ -1,7 +1,7 @@
 -- Terminations and what comes after effects, on drafts.
-use Rattle.std.proofs.Common.{◌≡◌, ℕ, suc, ◌+◌, ◌-◌, ◌<◌, not, true, false, if◌then◌else◌, Bool, List, [], ◌∷◌, ◌++◌, length, take, get_or, refl, sym, ap, ◌∙◌, subst}
+use Rattle.std.proofs.Common.{◌≡◌, ℕ, suc, ◌+◌, ◌-◌, ◌<◌, ◌≤◌, not, true, false, if◌then◌else◌, Bool, List, [], ◌∷◌, ◌++◌, length, take, get_or, refl, sym, ap, ◌∙◌, subst}
 use Rattle.std.specs.Prelude.{filter}
-use Rattle.std.proofs.lemmas.List.{take_more}
+use Rattle.std.proofs.lemmas.List.{take_more, take_all}
 use Rattle.kl1_model.specs.Term.{Term}
 use Rattle.kl1_model.specs.State as model
 use Rattle.kl1_model.specs.State.{State}
@@ -17,7 +17,7 @@ use Rattle.kl1_modules.specs.Numbered.{Numbered}
 use Rattle.kl1_account.specs.declared.draft.Draft.{Draft}
 use Rattle.kl1_account.specs.Fitting.{Reading}
 use Rattle.kl1_account.specs.Account.{meaning, goal_with}
-use Rattle.kl1_account.specs.Drafts.{staying, goals_left, made_of, Drafts, DraftsAll}
+use Rattle.kl1_account.specs.Drafts.{staying, goals_left, made_of, Drafts, DraftsAll, CanGoBack}
 use Rattle.kl1_account.specs.Works.{Made, worked, IsMadeIn, Turns}
 use Rattle.kl1_account.specs.Endings.{ended_each, finished, finished_each}
 use Rattle.kl1_account.specs.Walks.{ending_in, ended_in, reached_in, EndsLives}
@@ -91,6 +91,27 @@ next_finish h k l t u v d e x ns i lt p q =
     drafts_as (λ f s. finished (get_or ns i 0) (finished_each (take i ns) s)) (λ f. finished_each (take (i + 1) ns)) h l t v d x
     (λ f s. ap (λ (ks : List ℕ). finished_each ks s) (take_more ns i 0 lt) ∙ finishes_more (take i ns) (get_or ns i 0) s)
     (drafts_then (λ f. finished_each (take i ns)) (λ f. finished (get_or ns i 0)) h k l t u v d e x p q)
+
+-- all reports
+pub all_reports : (h k : Held CellName) (t u : Tree CellName) (d e : Draft) (ns : List ℕ) (i : ℕ) (m : Term) → length ns ≤ i → DraftsAll (λ f. report_each (take i ns) m) h k t u d e → DraftsAll (λ f. report_each ns m) h k t u d e
+all_reports h k t u d e ns i m le p = let P : List ℕ → Type 0 = λ ks. DraftsAll (λ f. report_each ks m) h k t u d e in subst P (take_all i ns le) p
+
+-- the rest of all terminations
+pub all_finished : (h k : Held CellName) (t u : Tree CellName) (d e : Draft) (ns : List ℕ) (i : ℕ) → length ns ≤ i → DraftsAll (λ f. finished_each (take i ns)) h k t u d e → DraftsAll (λ f. finished_each ns) h k t u d e
+all_finished h k t u d e ns i le p = let P : List ℕ → Type 0 = λ ks. DraftsAll (λ f. finished_each ks) h k t u d e in subst P (take_all i ns le) p
+
+-- ---- what stays
+
+pub back_then : (t u v : Tree CellName) → CanGoBack t u → CanGoBack u v → CanGoBack t v
+back_then t u v p q = record { shoens = q.shoens ∙ p.shoens; work = q.work ∙ p.work }
+
+-- drafts of which only the count of reports is another
+pub told_then : (d e x : Draft) → e ≡ record d { reports = e.reports } → x ≡ record e { reports = x.reports } → x ≡ record d { reports = x.reports }
+told_then d e x p q = q ∙ ap (λ (y : Draft). let z : Draft = record y { reports = x.reports } in z) p
+
+-- and the shoens whose monitors go
+pub done_then : (d e x : Draft) → e ≡ record d { reports = e.reports; ended = e.ended } → x ≡ record e { reports = x.reports; ended = x.ended } → x ≡ record d { reports = x.reports; ended = x.ended }
+done_then d e x p q = q ∙ ap (λ (y : Draft). let z : Draft = record y { reports = x.reports; ended = x.ended } in z) p
 
 -- ---- what comes after effects
 

@@ -113,7 +113,7 @@ reports_as : (s : State) (t : Means) (last : ℕ) (w : Made) (n : ℕ) (sh : Sho
     report n m (read_as s t last w) ≡ (if sh.is_broken then read_as s t last w else reported_at n m (t sh.tail) (read_as s t last w))
 reports_as s t last w n sh m e = ap (λ o. report_of o n m (read_as s t last w)) (finds s t last w n (Some sh) e)
 
-next_in : (h k : Held CellName) (next : ℕ) → next ≡ h.variables → k.variables ≡ suc h.variables → IsIn k (Variable next)
+pub next_in : (h k : Held CellName) (next : ℕ) → next ≡ h.variables → k.variables ≡ suc h.variables → IsIn k (Variable next)
 next_in h k next a b = omega arith
 
 both_false : (a b : Bool) → a ≡ false → b ≡ false → (a || b) ≡ false

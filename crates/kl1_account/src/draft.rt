@@ -36,10 +36,6 @@ pub(crate) struct Draft {
     pub reports: u64,
     /// A name that is new to the account.
     pub name: Option<AtomText>,
-    /// The shoens that terminate, in order.
-    pub ending: Vec<u64>,
-    /// The shoens that have just been charged what they may be and go on, in order.
-    pub reached: Vec<u64>,
     /// Whether goals that stay may be let or held back other than before.
     pub shifts: bool,
     /// Which shoens let their goals step, the first of them shoen 1, where that may be other than before.
@@ -65,8 +61,6 @@ impl Draft {
             nodes: 0,
             reports: 0,
             name: None,
-            ending: Vec::new(alloc),
-            reached: Vec::new(alloc),
             shifts: false,
             enabled: Vec::new(alloc),
             changes: Vec::new(alloc),

@@ -5,9 +5,7 @@ use Rattle.std.proofs.lemmas.Bool.{ne_eqb, eq-eqb}
 use Rattle.std.proofs.lemmas.Option.{none-some, same_Some}
 use Rattle.std.proofs.lemmas.List.Edits.{map_over_more}
 use Rattle.kl1_model.specs.declared.life.Life.TheVariants.{Aborted}
-use Rattle.kl1_model.specs.Module.{is_among}
 use Rattle.kl1_model.specs.State.{is_living}
-use Rattle.kl1_model.specs.Tree.{path_within}
 use Rattle.kl1_shoen.specs.declared.shoen.Shoen.{Shoen}
 use Rattle.kl1_shoen.specs.declared.change.Change.{Change}
 use Rattle.kl1_shoen.specs.declared.change.Change.TheVariants.{Tail, Control, OriginControl, Breaks, Stopped, Allows, Ends}
@@ -50,6 +48,15 @@ found_get n s ss a e = sym (found_at n ss a (number_some n s ss a e)) ∙ e
 -- and stands within them
 pub place_within : {N : Type 0} (n : ℕ) (s : Shoen N) (ss : List (Shoen N)) → AreNumbered 0 ss → find (has_number n) ss ≡ Some s → n - 1 < length ss
 place_within n s ss a e = get_within ss (n - 1) s (found_get n s ss a e)
+
+got_found : {A : Type 0} (xs : List A) (i : ℕ) (x y : A) → slice_get xs i ≡ Some x → get_or xs i y ≡ x
+got_found [] i x y e = absurd (none-some x e)
+got_found (z ∷ xs) zero x y e = same_Some z x e
+got_found (z ∷ xs) (suc i) x y e = got_found xs i x y e
+
+-- a change leaves the parent that stands there
+pub changed_parent : {N : Type 0} (n : ℕ) (c : Change N) (s y : Shoen N) (ss : List (Shoen N)) → AreNumbered 0 ss → find (has_number n) ss ≡ Some s → (changed_by c s).parent ≡ (get_or ss (n - 1) y).parent
+changed_parent {N = N} n c s y ss a e = parent_kept c s ∙ sym (ap (λ (x : Shoen N). x.parent) (got_found ss (n - 1) s y (found_get n s ss a e)))
 
 changed_case : {N : Type 0} (n : ℕ) (f : Shoen N → Shoen N) (s : Shoen N) (ss : List (Shoen N)) (c : Bool) → (if c then Some s else find (has_number n) ss) ≡ None → (find (has_number n) ss ≡ None → changed n f ss ≡ ss) →
     (if c then f s else s) ∷ changed n f ss ≡ s ∷ ss
@@ -101,7 +108,8 @@ numbered_changed n c s ss a e =
     let kept = number_kept c s in
     numbered_set 0 ss (n - 1) (changed_by c s) a (omega (arith, lt, is, kept))
 
-parents_put : {N : Type 0} (i : ℕ) (ss : List (Shoen N)) (x a : Shoen N) → i < length ss → x ≡ get_or ss i x → a.parent ≡ x.parent → parents_in (set ss i a) ≡ parents_in ss
+-- a shoen in place of another of the same parent leaves the parents
+pub parents_put : {N : Type 0} (i : ℕ) (ss : List (Shoen N)) (x a : Shoen N) → i < length ss → x ≡ get_or ss i x → a.parent ≡ x.parent → parents_in (set ss i a) ≡ parents_in ss
 parents_put i [] x a lt e p = refl
 parents_put zero (s ∷ ss) x a lt e p = ap (λ (q : ℕ). q ∷ parents_in ss) (p ∙ ap (λ (y : Shoen _). y.parent) e)
 parents_put (suc i) (s ∷ ss) x a lt e p = ap (λ (qs : List ℕ). s.parent ∷ qs) (parents_put i ss x a (omega (arith, lt)) e p)
@@ -122,10 +130,9 @@ pub record AbortsSo {N : Type 0} (xs zs : List (Shoen N)) (n i : ℕ) : Type 0 w
   pub len : length zs ≡ length xs
 
 -- one shoen more of an abort
-pub abort_step : {N : Type 0} (xs ys zs : List (Shoen N)) (n i : ℕ) (x a : Shoen N) → AbortsSo xs ys n i → i < length ys → x ≡ get_or ys i x → a ≡ aborted_below_in ys n x → zs ≡ set ys i a → AbortsSo xs zs n (i + 1)
-abort_step {N = N} xs ys zs n i x a so lt e f g =
-    let same : aborted_below_in ys n x ≡ aborted_below_in xs n x = ap (λ ps. if is_living x.life && is_among n (path_within x.number ps x.number) then record x { life = Aborted } else x) so.parents in
-    let is : a ≡ aborted_below_in xs n x = f ∙ same in
+pub abort_step : {N : Type 0} (xs ys zs : List (Shoen N)) (n i : ℕ) (x a : Shoen N) (b : Bool) → AbortsSo xs ys n i → i < length ys → x ≡ get_or ys i x → b ≡ is_on_path_in xs n x.number → a ≡ (if is_living x.life && b then record x { life = Aborted } else x) → zs ≡ set ys i a → AbortsSo xs zs n (i + 1)
+abort_step {N = N} xs ys zs n i x a b so lt e d f g =
+    let is : a ≡ aborted_below_in xs n x = f ∙ ap (λ c. if is_living x.life && c then record x { life = Aborted } else x) d in
     let below : Bool = is_living x.life && is_on_path_in xs n x.number in
     let ended : Shoen N = record x { life = Aborted } in
     let number : a.number ≡ x.number = ap (λ (y : Shoen N). y.number) is ∙ if_number below x ended refl in

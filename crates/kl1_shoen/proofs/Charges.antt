@@ -20,7 +20,7 @@ charged_none {N = N} ss cs ws e f g =
     let start : AreCharged none [] [] = record { numbered = tt; lower = λ k. omega arith; worked = tt; count = refl; charged = λ k. refl } in
     subst (λ (xs : List (Shoen N)). AreCharged xs cs ws) (sym e) (subst (λ ys. AreCharged none ys ws) (sym f) (subst (λ zs. AreCharged none [] zs) (sym g) start))
 
-length_parents : {N : Type 0} (ss : List (Shoen N)) → length (parents_in ss) ≡ length ss
+pub length_parents : {N : Type 0} (ss : List (Shoen N)) → length (parents_in ss) ≡ length ss
 length_parents [] = refl
 length_parents (s ∷ ss) = ap suc (length_parents ss)
 
@@ -41,7 +41,7 @@ count_same p q most e [] a = refl
 count_same p q most e (w ∷ ws) a =
     sum_by-cons (λ x. cond (p x) 1 0) w ws ∙ ap₂ (λ b (n : ℕ). cond b 1 0 + n) (e w a.0) (count_same p q most e ws a.1) ∙ sym (sum_by-cons (λ x. cond (q x) 1 0) w ws)
 
-parents_after : {N : Type 0} (ss : List (Shoen N)) (s : Shoen N) → parents_in (ss ++ s ∷ []) ≡ parents_in ss ++ s.parent ∷ []
+pub parents_after : {N : Type 0} (ss : List (Shoen N)) (s : Shoen N) → parents_in (ss ++ s ∷ []) ≡ parents_in ss ++ s.parent ∷ []
 parents_after [] s = refl
 parents_after (r ∷ ss) s = ap (λ (ps : List ℕ). r.parent ∷ ps) (parents_after ss s)
 
@@ -53,15 +53,21 @@ lower_after b p (q ∷ qs) lower few (suc k) =
     let l = lower_after (suc b) p qs (λ j. let m = lower (suc j) in omega (arith, m)) (omega (arith, few)) k in
     omega (arith, l)
 
+-- parents are lower still where a shoen is opened
+pub lower_open : {N : Type 0} (ss : List (Shoen N)) (s : Shoen N) → AreLower ss → s.parent ≤ length ss → AreLower (ss ++ s ∷ [])
+lower_open ss s lower few =
+    let len = length_parents ss in
+    subst ParentsAreLower (sym (parents_after ss s)) (λ k. let l = lower_after 0 s.parent (parents_in ss) (λ j. let m = lower j in omega (arith, m)) (omega (arith, few, len)) k in omega (arith, l))
+
 wider : (n m : ℕ) → n ≤ m → (ws : List ℕ) → AllByRecursion (λ w. w ≤ n) ws → AllByRecursion (λ w. w ≤ m) ws
 wider n m few [] a = tt
 wider n m few (w ∷ ws) a = (omega (arith, few, a.0), wider n m few ws a.1)
 
-length_more : {A : Type 0} (xs : List A) (x : A) → length (xs ++ x ∷ []) ≡ suc (length xs)
+pub length_more : {A : Type 0} (xs : List A) (x : A) → length (xs ++ x ∷ []) ≡ suc (length xs)
 length_more [] x = refl
 length_more (y ∷ xs) x = ap suc (length_more xs x)
 
-zero_more : (cs : List ℕ) (k : ℕ) → get_or (cs ++ 0 ∷ []) k 0 ≡ get_or cs k 0
+pub zero_more : (cs : List ℕ) (k : ℕ) → get_or (cs ++ 0 ∷ []) k 0 ≡ get_or cs k 0
 zero_more [] zero = refl
 zero_more [] (suc k) = refl
 zero_more (c ∷ cs) zero = refl
@@ -73,7 +79,7 @@ charged_open ss cs ws s a n few =
     let len = length_parents ss in
     record {
       numbered = numbered_push 0 ss s a.numbered (omega (arith, n));
-      lower = subst ParentsAreLower (sym (parents_after ss s)) (λ k. let l = lower_after 0 s.parent (parents_in ss) (λ j. let m = a.lower j in omega (arith, m)) (omega (arith, few, len)) k in omega (arith, l));
+      lower = lower_open ss s a.lower few;
       worked = wider (length ss) (length (ss ++ s ∷ [])) (let l = length_more ss s in omega (arith, l)) ws a.worked;
       count = length_more cs 0 ∙ ap suc a.count ∙ sym (length_more ss s);
       charged = λ k.
@@ -110,7 +116,7 @@ pub charged_zero : {N : Type 0} (ss : List (Shoen N)) (ws : List ℕ) (n : ℕ) 
 charged_zero ss ws n e =
     sym (ap (charged_in ss ws) e ∙ count_no (λ w. is_on_path_in ss 0 w) (λ w. zero_off_path (parents_in ss) w w) ws)
 
-get_beyond : (cs : List ℕ) (k : ℕ) → length cs ≤ k → get_or cs k 0 ≡ 0
+pub get_beyond : (cs : List ℕ) (k : ℕ) → length cs ≤ k → get_or cs k 0 ≡ 0
 get_beyond [] k le = refl
 get_beyond (c ∷ cs) zero le = absurd (omega (arith, le))
 get_beyond (c ∷ cs) (suc k) le = get_beyond cs k (omega (arith, le))

@@ -30,7 +30,8 @@ path_none : (parents : List ℕ) → path_within 0 parents 0 ≡ []
 unfolding path_within
 path_none parents = refl
 
-go_on : (parents : List ℕ) → ParentsAreLower parents → (n : ℕ) → path_within (suc n) parents (suc n) ≡ suc n ∷ path_within (get_or parents n 0) parents (get_or parents n 0)
+-- the path of a shoen is that shoen, and then the path of its parent, by places
+pub go_on : (parents : List ℕ) → ParentsAreLower parents → (n : ℕ) → path_within (suc n) parents (suc n) ≡ suc n ∷ path_within (get_or parents n 0) parents (get_or parents n 0)
 go_on parents lower n =
     path_step parents n ∙ ap (λ (ps : List ℕ). suc n ∷ ps) (path_enough parents lower n (get_or parents n 0) (get_or parents n 0) (lower n) (omega arith))
 
@@ -51,7 +52,7 @@ parent_at {N = N} n p ss a e lt = e ∙ ap (λ (o : Option (Shoen N)). unwrap_or
 pub parent_below : {N : Type 0} (n p : ℕ) (ss : List (Shoen N)) → AreNumbered 0 ss → AreLower ss → p ≡ unwrap_or (option_map (λ (h : Shoen N). h.parent) (find (has_number n) ss)) 0 → 0 < n → p < n
 parent_below n p ss a lower e lt = let at = parent_at n p ss a e lt in let l = lower (n - 1) in omega (arith, at, l, lt)
 
--- the path of a shoen is that shoen, and then the path of its parent
+-- the same for the parent that is found
 pub path_parent : {N : Type 0} (n p : ℕ) (ss : List (Shoen N)) → AreNumbered 0 ss → AreLower ss → p ≡ unwrap_or (option_map (λ (h : Shoen N). h.parent) (find (has_number n) ss)) 0 → 0 < n → path_in ss n ≡ n ∷ path_in ss p
 path_parent n p ss a lower e lt =
     let is : n ≡ suc (n - 1) = omega (arith, lt) in

@@ -1,12 +1,14 @@
 -- Shoens in order of number, as a tree: paths, charges, and which are enabled.
 use Rattle.std.specs.Prelude.{◌≡◌, ◌≤◌, ℕ, suc, ◌==◌, nat_le, not, ◌&&◌, ◌||◌, Bool, false, if◌then◌else◌, Option, List, [], ◌∷◌, map, length, find, get_or, count_by, option_map, unwrap_or}
 use Rattle.std.specs.List.{AllByRecursion, list_any}
+use Rattle.kl1_model.specs.declared.life.Life.{Life}
 use Rattle.kl1_model.specs.declared.life.Life.TheVariants.{Aborted}
 use Rattle.kl1_model.specs.Module.{is_among}
 use Rattle.kl1_model.specs.State.{is_living}
 use Rattle.kl1_model.specs.Tree.{path_within}
 use Rattle.kl1_model.specs.TreeLaws.{ParentsAreLower}
 use Rattle.kl1_shoen.specs.declared.shoen.Shoen.{Shoen}
+use Rattle.kl1_shoen.specs.Tracked.{Tracked}
 
 -- the shoens of an account in order of number, from 1; for each charged reduction the number of its shoen, the newest first; both as
 -- they were when the event began; and how many more shoens can be opened without asking for memory
@@ -93,3 +95,21 @@ pub record AreCharged {N : Type 0} (shoens : List (Shoen N)) (charges work : Lis
   pub worked : AllByRecursion (λ w. w ≤ length shoens) work
   pub count : length charges ≡ length shoens
   pub charged : (k : ℕ) → get_or charges k 0 ≡ charged_in shoens work (suc k)
+
+-- of a shoen of this parent and life, 1 where it is a living child of that of a number
+abbrev pub counted_under : ℕ → ℕ → Life → ℕ
+counted_under n parent life = if parent == n && is_living life then 1 else 0
+
+-- of each number, from 0, how many shoens live whose parent has it
+pub record AreCounted {N : Type 0} (shoens : List (Shoen N)) (children : List ℕ) : Type 0 where
+  pub lower : AreLower shoens
+  pub count : length children ≡ length shoens
+  pub counted : (n : ℕ) → get_or children n 0 ≡ count_by (is_living_child_of n) shoens
+
+-- shoens with their counts, now and as they were, and room in each list for what is promised
+pub record IsCounted {N : Type 0} (shoens : Tracked (Shoen N)) (children : Tracked ℕ) (room : ℕ) : Type 0 where
+  pub now : AreCounted shoens.now children.now
+  pub kept : AreCounted shoens.kept children.kept
+  pub shoens_room : room ≤ shoens.room
+  pub children_room : room ≤ children.room
+  pub changes : room ≤ children.changes

@@ -2,6 +2,7 @@
 #![tactic(auto)]
 
 mod change;
+mod counted;
 mod shoen;
 mod tracked;
 mod tree;

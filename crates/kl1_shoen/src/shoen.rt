@@ -1,5 +1,8 @@
 // Shoens, and what the console keeps of them.
 
+ghost use Rattle.std.specs.Prelude.{◌≡◌};
+ghost use Rattle.kl1_model.specs.State.{is_living as living};
+
 use kl1_model::Life;
 use kl1_store::Cell;
 
@@ -28,4 +31,15 @@ pub struct Shoen<N> {
     pub is_stopped: bool,
     pub is_broken: bool,
     pub origin: Option<Origin<N>>,
+}
+
+/// Whether a shoen of this life lives.
+pub fn is_living(life: Life) -> bool
+    ensures { result ≡ living life }
+{
+    match life {
+        Life::Living => true,
+        Life::Terminated => false,
+        Life::Aborted => false,
+    }
 }

@@ -64,6 +64,7 @@ impl<T: Copy> TrackedList<T> {
         ensures now { self.new.now ≡ self.old.now }
         ensures kept { self.new.kept ≡ self.old.now }
         ensures room { self.new.room ≡ self.old.room }
+        ensures changes { self.old.changes ≤ self.new.changes }
     {
         self.was.clear();
         self.mark = self.items.len();
@@ -74,17 +75,19 @@ impl<T: Copy> TrackedList<T> {
         ensures now { self.new.now ≡ self.old.kept }
         ensures kept { self.new.kept ≡ self.old.kept }
         ensures room { self.old.room ≤ self.new.room }
+        ensures changes { self.old.changes ≤ self.new.changes }
     {
         self.items.truncate(self.mark);
         put_all_back(&mut self.items, &mut self.was);
     }
 
-    /// Makes room for `more` items, and `more` changes.
+    /// Makes room for `more` items.
     pub fn reserve(&mut self, more: usize) -> Result<(), AllocError>
         ensures room { OnOk result (more ≤ self.new.room) }
         ensures keeps { self.old.room ≤ self.new.room }
         ensures now { self.new.now ≡ self.old.now }
         ensures kept { self.new.kept ≡ self.old.kept }
+        ensures changes { self.new.changes ≡ self.old.changes }
     {
         self.items.reserve(more)
     }
@@ -92,6 +95,7 @@ impl<T: Copy> TrackedList<T> {
     /// Makes room for `more` changes.
     pub fn reserve_changes(&mut self, more: usize) -> Result<(), AllocError>
         ensures changes { OnOk result (more ≤ self.new.changes) }
+        ensures keeps { self.old.changes ≤ self.new.changes }
         ensures now { self.new.now ≡ self.old.now }
         ensures kept { self.new.kept ≡ self.old.kept }
         ensures room { self.new.room ≡ self.old.room }
@@ -106,6 +110,7 @@ impl<T: Copy> TrackedList<T> {
         ensures now { self.new.now ≡ self.old.now ++ item ∷ [] }
         ensures kept { self.new.kept ≡ self.old.kept }
         ensures room { self.new.room + 1 ≡ self.old.room }
+        ensures changes { self.new.changes ≡ self.old.changes }
     {
         self.items.push_reserved(item);
     }
@@ -126,9 +131,9 @@ impl<T: Copy> TrackedList<T> {
 }
 
 /// The item at a place, from 0.
-fn item_at<T: Copy>(items: &Vec<T>, place: usize) -> T
-    requires { place < length items.now.items }
-    ensures { result ≡ get_or items.now.items place result }
+pub fn item_at<T: Copy>(items: &[T], place: usize) -> T
+    requires { place < length items.now }
+    ensures { result ≡ get_or items.now place result }
 {
     items[place]
 }
@@ -140,6 +145,7 @@ fn put_all_back<T: Copy>(items: &mut Vec<T>, was: &mut Vec<Was<T>>)
     ensures len { vec_len items.new ≡ vec_len items.old }
     ensures capacity { vec_capacity items.new ≡ vec_capacity items.old }
     ensures was { was.new.items ≡ [] }
+    ensures was_capacity { vec_capacity was.new ≡ vec_capacity was.old }
 {
     while let Some(last) = was.pop() {
         if last.place < items.len() {

@@ -6,13 +6,12 @@ mod marking;
 mod walking;
 
 ghost use Rattle.std.specs.Prelude.{◌≡◌, ◌<◌, ◌≤◌, ◌+◌, ◌-◌, [], ◌∷◌, ◌++◌, suc, min, length, find, option_and_then, option_copied, option_map, unwrap_or, slice_get, IfSome, OnOk};
-ghost use Rattle.kl1_model.specs.State.{is_living as living};
 ghost use Rattle.kl1_shoen.specs.Shoens.{has_number, shoen_in, path_in, lives_in, AreNumbered, AreLower};
 
-use crate::shoen::{Origin, Shoen};
+use crate::counted::CountedShoens;
+use crate::shoen::{Origin, Shoen, is_living};
 use crate::tracked::TrackedList;
 use crate::work::Work;
-use kl1_model::Life;
 use kl1_text::NameValue;
 use std::alloc::{AllocError, Global};
 use std::marker::Model;
@@ -25,13 +24,14 @@ fn at<N: NameValue>(shoens: &[Shoen<N>], place: usize) -> Option<&Shoen<N>>
 }
 
 /// The shoens of an account, each at the place of its number, with what each was charged, and both as they were when the event
-/// began.
+/// began; and the list that an abort writes, kept from one to the next.
 #[derive(Drop)]
 pub struct ShoenTree<N: NameValue> {
-    shoens: TrackedList<Shoen<N>>,
+    shoens: CountedShoens<N>,
     charges: TrackedList<u64>,
     work: Work,
     kept_work: Work,
+    are_below: Vec<bool>,
 }
 
 impl<N: NameValue> Model for ShoenTree<N> {
@@ -60,10 +60,11 @@ impl<N: NameValue> ShoenTree<N> {
         ensures kept_work { result.kept_work ≡ [] }
     {
         ShoenTree {
-            shoens: TrackedList::new(alloc),
+            shoens: CountedShoens::new(alloc),
             charges: TrackedList::new(alloc),
             work: Work::new(),
             kept_work: Work::new(),
+            are_below: Vec::new(alloc),
         }
     }
 
@@ -171,15 +172,4 @@ fn parent_named<N: NameValue>(shoens: &[Shoen<N>], number: u64) -> u64
         return 0;
     };
     shoen.parent
-}
-
-/// Whether a shoen lives.
-fn is_living(life: Life) -> bool
-    ensures { result ≡ living life }
-{
-    match life {
-        Life::Living => true,
-        Life::Terminated => false,
-        Life::Aborted => false,
-    }
 }

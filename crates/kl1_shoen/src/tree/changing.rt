@@ -1,15 +1,17 @@
 // Changes of shoens.
 
-ghost use Rattle.std.specs.Prelude.{◌≡◌, ◌≤◌, ◌+◌, min, map, length, option_map, true, OnOk, OnErr, find};
+ghost use Rattle.std.specs.Prelude.{◌≡◌, ◌<◌, ◌≤◌, ◌+◌, ◌&&◌, if◌then◌else◌, min, map, length, get_or, set, option_map, true, OnOk, OnErr, find};
 ghost use Rattle.kl1_model.specs.Limits.{most_allowance};
+ghost use Rattle.kl1_model.specs.State.{is_living as living};
+ghost use Rattle.kl1_model.specs.declared.life.Life.TheVariants.{Aborted};
 ghost use Rattle.kl1_shoen.specs.Shoens.{has_number, changed, aborted_below_in, parents_in, AreNumbered, AreLower};
 ghost use Rattle.kl1_shoen.specs.Changes.{changed_by, with_control};
 
 use crate::change::{Change, changed};
-use crate::shoen::Shoen;
-use crate::tracked::TrackedList;
-use crate::tree::walking::is_on_path_of;
-use crate::tree::{ShoenTree, is_living, lent};
+use crate::counted::CountedShoens;
+use crate::shoen::{Shoen, is_living};
+use crate::tree::walking::tell_below;
+use crate::tree::{ShoenTree, lent};
 use kl1_model::Life;
 use kl1_store::Cell;
 use kl1_text::NameValue;
@@ -86,33 +88,14 @@ impl<N: NameValue> ShoenTree<N> {
         ensures ok { OnOk result (self.new ≡ record self.old { shoens = map (aborted_below_in self.old.shoens number) self.old.shoens }) }
         ensures err { OnErr result (self.new ≡ self.old) }
     {
-        self.shoens.reserve_changes(self.shoens.items().len())?;
-        abort_all(&mut self.shoens, number);
+        abort_all(&mut self.shoens, number, &mut self.are_below)?;
         Ok(())
-    }
-}
-
-/// A shoen after an abort of one: it is ended, where it lives and is that one or below it.
-fn aborted<N: NameValue>(shoens: &[Shoen<N>], number: u64, shoen: Shoen<N>) -> Shoen<N>
-    requires numbered { AreNumbered 0 shoens.now }
-    requires lower { AreLower shoens.now }
-    ensures { result ≡ aborted_below_in shoens.now number shoen }
-{
-    if !is_living(shoen.life) {
-        return shoen;
-    }
-    if !is_on_path_of(shoens, number, shoen.number) {
-        return shoen;
-    }
-    Shoen {
-        life: Life::Aborted,
-        ..shoen
     }
 }
 
 /// Changes the shoen of a number, if there is one.
 fn change_one<N: NameValue>(
-    shoens: &mut TrackedList<Shoen<N>>,
+    shoens: &mut CountedShoens<N>,
     number: u64,
     change: Change<N>,
 ) -> Result<(), AllocError>
@@ -133,19 +116,54 @@ fn change_one<N: NameValue>(
 }
 
 /// Ends a shoen and all below it that live, as aborted.
-fn abort_all<N: NameValue>(shoens: &mut TrackedList<Shoen<N>>, number: u64)
+fn abort_all<N: NameValue>(
+    shoens: &mut CountedShoens<N>,
+    number: u64,
+    are_below: &mut Vec<bool>,
+) -> Result<(), AllocError>
     requires numbered { AreNumbered 0 shoens.old.now }
     requires lower { AreLower shoens.old.now }
-    requires changes { length shoens.old.now ≤ shoens.old.changes }
-    ensures now { shoens.new.now ≡ map (aborted_below_in shoens.old.now number) shoens.old.now }
+    ensures ok { OnOk result (shoens.new.now ≡ map (aborted_below_in shoens.old.now number) shoens.old.now) }
+    ensures err { OnErr result (shoens.new.now ≡ shoens.old.now) }
     ensures kept { shoens.new.kept ≡ shoens.old.kept }
     ensures room { shoens.new.room ≡ shoens.old.room }
     ensures numbered { AreNumbered 0 shoens.new.now }
     ensures parents { parents_in shoens.new.now ≡ parents_in shoens.old.now }
 {
+    tell_below(shoens.items(), number, are_below)?;
+    shoens.reserve_changes(shoens.items().len())?;
     for place in 0..shoens.items().len() {
         let shoen = shoens.items()[place];
-        let shoen = aborted(shoens.items(), number, shoen);
-        shoens.put(place, shoen);
+        abort_at(shoens, place, shoen, are_below[place]);
     }
+    Ok(())
+}
+
+/// Ends the shoen at a place as aborted, where it lives and is the one that is aborted, or below that.
+#[tactic(auto, using(crate::proofs::Counting::got_any, crate::proofs::Counting::put_itself))]
+fn abort_at<N: NameValue>(
+    shoens: &mut CountedShoens<N>,
+    place: usize,
+    shoen: Shoen<N>,
+    is_below: bool,
+)
+    requires place { place < length shoens.old.now }
+    requires shoen { shoen ≡ get_or shoens.old.now place shoen }
+    requires changes { 0 < shoens.old.changes }
+    ensures now { shoens.new.now ≡ set shoens.old.now place (if living shoen.life && is_below then record shoen { life = Aborted } else shoen) }
+    ensures kept { shoens.new.kept ≡ shoens.old.kept }
+    ensures room { shoens.new.room ≡ shoens.old.room }
+    ensures changes { shoens.old.changes ≤ shoens.new.changes + 1 }
+{
+    if !is_living(shoen.life) {
+        return;
+    }
+    if !is_below {
+        return;
+    }
+    let aborted = Shoen {
+        life: Life::Aborted,
+        ..shoen
+    };
+    shoens.put(place, aborted);
 }

@@ -1,11 +1,12 @@
 // Charges, and what comes of them.
 
-ghost use Rattle.std.specs.Prelude.{ℕ, suc, get_or, if◌then◌else◌, ◌≡◌, ◌<◌, ◌≤◌, ◌+◌, ◌^◌, ◌∷◌, length, map, unwrap_or, option_map, OnOk, OnErr};
+ghost use Rattle.std.specs.Prelude.{ℕ, suc, get_or, if◌then◌else◌, ◌≡◌, ◌<◌, ◌≤◌, ◌+◌, ◌-◌, ◌^◌, ◌∷◌, length, set, map, unwrap_or, option_map, not, ◌&&◌, OnOk, OnErr};
 ghost use Rattle.kl1_shoen.specs.Shoens.{AreNumbered, AreLower, path_in, is_on_path_in, charged_in, has_reached_in, is_blocking_at, is_enabled_at};
 
-use crate::shoen::Shoen;
+use crate::shoen::{Shoen, is_living};
 use crate::tracked::TrackedList;
-use crate::tree::{ShoenTree, is_living, parent_of};
+use crate::tree::walking::flag_of;
+use crate::tree::{ShoenTree, parent_of};
 use kl1_text::NameValue;
 use std::alloc::AllocError;
 
@@ -18,8 +19,7 @@ impl<N: NameValue> ShoenTree<N> {
         ensures ok { OnOk result (self.new ≡ record self.old { work = number ∷ self.old.work }) }
         ensures err { OnErr result (self.new ≡ self.old) }
     {
-        let depth = self.depth(number);
-        self.charges.reserve_changes(depth as usize)?;
+        self.charges.reserve_changes(number as usize)?;
         raise(self.shoens.items(), &mut self.charges, number);
         self.work.add(number);
         Ok(())
@@ -87,12 +87,22 @@ impl<N: NameValue> ShoenTree<N> {
     pub fn flags(&self, out: &mut Vec<bool>) -> Result<(), AllocError>
         ensures { OnOk result (out.new.items ≡ map (λ h. is_enabled_at self.now.shoens self.now.work h.number) self.now.shoens) }
     {
+        let _lower = self.len();
         out.clear();
         for shoen in self.shoens.items() {
-            out.push(self.is_enabled(shoen.number))?;
+            let is_blocking = self.is_blocking(shoen.number);
+            let is_parent_enabled = flag_of(out, shoen.parent, true);
+            out.push(is_enabled_with(is_blocking, is_parent_enabled))?;
         }
         Ok(())
     }
+}
+
+/// Whether the goals of a shoen are enabled, which holds them back or not, and whose parent's are enabled or not.
+fn is_enabled_with(is_blocking: bool, is_parent_enabled: bool) -> bool
+    ensures { result ≡ (not is_blocking && is_parent_enabled) }
+{
+    !is_blocking && is_parent_enabled
 }
 
 /// Charges one reduction more to each shoen on the path of one.
@@ -102,21 +112,35 @@ fn raise<N: NameValue>(shoens: &[Shoen<N>], charges: &mut TrackedList<u64>, numb
     requires count { length charges.old.now ≡ length shoens.now }
     requires within { number ≤ length shoens.now }
     requires few { (k : ℕ) → get_or charges.old.now k 0 < 2 ^ 63 }
-    requires changes { length (path_in shoens.now number) ≤ charges.old.changes }
+    requires changes { number ≤ charges.old.changes }
     ensures charged { (k : ℕ) → get_or charges.new.now k 0 ≡ (if is_on_path_in shoens.now (suc k) number then 1 else 0) + get_or charges.old.now k 0 }
     ensures count { length charges.new.now ≡ length charges.old.now }
     ensures kept { charges.new.kept ≡ charges.old.kept }
     ensures room { charges.new.room ≡ charges.old.room }
 {
     let mut at = number;
-    'path: loop {
-        let up = parent_of(shoens, at);
-        if at == 0 {
-            return;
-        }
-        let place = (at - 1) as usize;
-        let charged = charges.items()[place];
-        charges.put(place, charged + 1);
-        at = up;
+    while at > 0 {
+        at = raise_at(shoens, charges, at);
     }
+}
+
+/// Charges one reduction more to the shoen of a number alone, and gives the number of its parent.
+fn raise_at<N: NameValue>(shoens: &[Shoen<N>], charges: &mut TrackedList<u64>, number: u64) -> u64
+    requires numbered { AreNumbered 0 shoens.now }
+    requires lower { AreLower shoens.now }
+    requires some { 0 < number }
+    requires within { number ≤ length charges.old.now }
+    requires few { get_or charges.old.now (number - 1) 0 ≤ 2 ^ 63 }
+    requires changes { 0 < charges.old.changes }
+    ensures charged { charges.new.now ≡ set charges.old.now (number - 1) (get_or charges.old.now (number - 1) 0 + 1) }
+    ensures below { result < number }
+    ensures path { path_in shoens.now number ≡ number ∷ path_in shoens.now result }
+    ensures kept { charges.new.kept ≡ charges.old.kept }
+    ensures room { charges.new.room ≡ charges.old.room }
+    ensures changes { charges.new.changes + 1 ≡ charges.old.changes }
+{
+    let place = (number - 1) as usize;
+    let charged = charges.items()[place];
+    charges.put(place, charged + 1);
+    parent_of(shoens, number)
 }

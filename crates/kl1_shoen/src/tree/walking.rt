@@ -1,11 +1,12 @@
 // Paths.
 
-ghost use Rattle.std.specs.Prelude.{◌≡◌, length, map, OnOk, ◌<◌};
+ghost use Rattle.std.specs.Prelude.{◌≡◌, ◌<◌, ◌≤◌, ◌-◌, ◌==◌, ◌||◌, length, map, get_or, OnOk};
 ghost use Rattle.std.specs.List.{list_any};
 ghost use Rattle.kl1_shoen.specs.Shoens.{path_in, is_on_path_in, is_living_child_of, AreNumbered, AreLower};
 
 use crate::shoen::Shoen;
-use crate::tree::{ShoenTree, is_living, parent_of};
+use crate::tracked::item_at;
+use crate::tree::{ShoenTree, parent_of};
 use kl1_text::NameValue;
 use std::alloc::AllocError;
 
@@ -34,39 +35,61 @@ impl<N: NameValue> ShoenTree<N> {
         is_on_path_of(self.shoens.items(), ancestor, number)
     }
 
-    /// Whether a shoen has a child that lives.
+    /// Whether a shoen has a child that lives, in constant time.
     pub fn has_living_child(&self, number: u64) -> bool
         ensures { result ≡ list_any (is_living_child_of number) self.now.shoens }
     {
-        for shoen in self.shoens.items() {
-            if is_child(shoen, number) {
-                return true;
-            }
-        }
-        false
+        self.shoens.has_living_child(number)
     }
 
     /// Whether each shoen is that of a number, or below it, in order of number.
     pub fn below(&self, number: u64, out: &mut Vec<bool>) -> Result<(), AllocError>
         ensures { OnOk result (out.new.items ≡ map (λ h. is_on_path_in self.now.shoens number h.number) self.now.shoens) }
     {
-        out.clear();
-        for shoen in self.shoens.items() {
-            out.push(self.is_on_path(number, shoen.number))?;
-        }
-        Ok(())
+        let _lower = self.len();
+        tell_below(self.shoens.items(), number, out)
     }
 }
 
-/// Whether a shoen lives and is a child of that of a number.
-fn is_child<N: NameValue>(shoen: &Shoen<N>, number: u64) -> bool
-    ensures { result ≡ is_living_child_of number shoen.now }
+/// Whether each shoen is that of a number, or below it, in order of number.
+pub(super) fn tell_below<N: NameValue>(
+    shoens: &[Shoen<N>],
+    number: u64,
+    out: &mut Vec<bool>,
+) -> Result<(), AllocError>
+    requires numbered { AreNumbered 0 shoens.now }
+    requires lower { AreLower shoens.now }
+    ensures { OnOk result (out.new.items ≡ map (λ h. is_on_path_in shoens.now number h.number) shoens.now) }
 {
-    shoen.parent == number && is_living(shoen.life)
+    out.clear();
+    for shoen in shoens {
+        let is_parent_below = flag_of(out, shoen.parent, false);
+        out.push(is_below(shoen, number, is_parent_below))?;
+    }
+    Ok(())
+}
+
+/// Whether a shoen is that of a number or below it, where its parent is or isn't.
+fn is_below<N: NameValue>(shoen: &Shoen<N>, number: u64, is_parent_below: bool) -> bool
+    ensures { result ≡ (number == shoen.now.number || is_parent_below) }
+{
+    number == shoen.number || is_parent_below
+}
+
+/// The flag of the shoen of a number, where they stand in order of number; that which is given for the number 0.
+pub(super) fn flag_of(flags: &[bool], number: u64, of_none: bool) -> bool
+    requires { number ≤ length flags.now }
+    ensures none { number ≡ 0 → result ≡ of_none }
+    ensures some { 0 < number → result ≡ get_or flags.now (number - 1) result }
+{
+    if number == 0 {
+        return of_none;
+    }
+    item_at(flags, (number - 1) as usize)
 }
 
 /// Whether a shoen is on the path of another, as `is_on_path`.
-pub(super) fn is_on_path_of<N: NameValue>(shoens: &[Shoen<N>], ancestor: u64, number: u64) -> bool
+fn is_on_path_of<N: NameValue>(shoens: &[Shoen<N>], ancestor: u64, number: u64) -> bool
     requires numbered { AreNumbered 0 shoens.now }
     requires lower { AreLower shoens.now }
     ensures { result ≡ is_on_path_in shoens.now ancestor number }

@@ -8,6 +8,7 @@ invariant-loop-last g l = record {
   items : put_back l.was.items l.items.items ≡ put_back l.fn.was.items l.fn.items.items;
   len : vec_len l.items ≡ vec_len l.fn.items;
   capacity : vec_capacity l.items ≡ vec_capacity l.fn.items;
+  was : vec_capacity l.was ≡ vec_capacity l.fn.was;
 }
 
 abbrev pub decreases-loop-last : goal.decreases-loop-last

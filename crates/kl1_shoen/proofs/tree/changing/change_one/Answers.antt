@@ -1,9 +1,9 @@
-use Rattle.std.proofs.Common.{◌≡◌, ◌-◌, List, length, set, sym, ap, ◌∙◌, arith, subst}
+use Rattle.std.proofs.Common.{◌≡◌, ◌-◌, List, length, get_or, set, sym, ap, ◌∙◌, arith, subst}
 use Rattle.std.specs.Prelude.{Some, None, find}
 use Rattle.kl1_shoen.specs.declared.shoen.Shoen.{Shoen}
 use Rattle.kl1_shoen.specs.Changes.{changed_by}
 use Rattle.kl1_shoen.specs.Shoens.{has_number, AreNumbered, parents_in}
-use Rattle.kl1_shoen.proofs.Changing.{number_some, place_within, changed_none, changed_at, parents_changed, numbered_changed}
+use Rattle.kl1_shoen.proofs.Changing.{number_some, place_within, changed_parent, changed_none, changed_at, parents_changed, numbered_changed}
 use Rattle.kl1_shoen.proofs.tree.changing.change_one.Given as given
 use Rattle.kl1_shoen.proofs.tree.changing.change_one.Goals as goal
 
@@ -44,6 +44,17 @@ put-requires-clause-place g c =
     let lt = place_within c.args.number c.in-Some.shoen c.args.shoens.now.now c.requires found in
     let e = ap (λ (l : List (Shoen g.row.N.Denot)). length l) c.reserve_changes.ensures.now in
     omega (arith, lt, e)
+
+pub put-requires-clause-parent : goal.put-requires-clause-parent
+put-requires-clause-parent g c =
+    let p = c.items.ensures in
+    let q = c.lent.ensures.value in
+    let r = c.copied.ensures in
+    let s = c.in-Some.is in
+    let found : find (has_number c.args.number) c.args.shoens.now.now ≡ Some c.in-Some.shoen = cc in
+    ap (λ (x : Shoen g.row.N.Denot). x.parent) c.changed.ensures
+    ∙ changed_parent c.args.number c.args.change c.in-Some.shoen c.changed.result c.args.shoens.now.now c.requires found
+    ∙ sym (ap (λ (l : List (Shoen g.row.N.Denot)). (get_or l (c.args.number - 1) c.changed.result).parent) c.reserve_changes.ensures.now)
 
 put_at : (g : given.Over) (c : goal.After-put g) → c.put.new.self.now ≡ set c.args.shoens.now.now (c.args.number - 1) (changed_by c.args.change c.in-Some.shoen)
 put_at g c =

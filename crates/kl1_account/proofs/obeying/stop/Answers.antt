@@ -1,0 +1,24 @@
+use Rattle.std.proofs.Common.{true, refl, sym, ◌∙◌}
+use Rattle.std.specs.Prelude.{Some, None}
+use Rattle.std.proofs.lemmas.Result.{on_ok_weaker}
+use Rattle.kl1_store.proofs.Grows.{Grown-same}
+use Rattle.kl1_account.proofs.TreesIn.{changed_in}
+use Rattle.kl1_account.proofs.Effects.{drafts_not_stopped, is_stopped_already, halted, drafts_stopped}
+use Rattle.kl1_account.proofs.obeying.stop.Goals as goal
+
+pub returns-in_default-clause-ok : goal.returns-in_default-clause-ok
+returns-in_default-clause-ok c = drafts_not_stopped c.args.store.now.held c.args.shoens.now c.args.draft.now c.args.number None (sym c.lend.ensures.value ∙ (sym c.copied.ensures ∙ c.in_default.is)) (λ t s. refl)
+
+pub returns-then-shoen-clause-ok : goal.returns-then-shoen-clause-ok
+returns-then-shoen-clause-ok c =
+    drafts_not_stopped c.args.store.now.held c.args.shoens.now c.args.draft.now c.args.number (Some c.in-Some.shoen) (sym c.lend.ensures.value ∙ (sym c.copied.ensures ∙ c.in-Some.is)) (is_stopped_already c.in-Some.shoen c.args.number c.if-shoen.true)
+
+pub report_name-requires : goal.report_name-requires
+report_name-requires c =
+    record { shoens = changed_in c.args.store.now.held c.args.store.now.held c.args.shoens.now c.set_stopped.new.self c.args.number (halted true) (Grown-same c.args.store.now.held) (λ s i. record { control = i.control; tail = i.tail; origin = i.origin }) c.requires.shoens c.in_ok-set_stopped.ensures.ok }
+
+pub returns-clause-ok : goal.returns-clause-ok
+returns-clause-ok c =
+    on_ok_weaker c.report_name.result
+    (λ told. drafts_stopped c.args.store.now.held c.report_name.new.store.held c.args.shoens.now c.set_stopped.new.self c.report_name.new.shoens c.args.draft.now c.report_name.new.draft c.args.number c.in-Some.shoen (sym c.lend.ensures.value ∙ (sym c.copied.ensures ∙ c.in-Some.is)) c.if-shoen.false c.in_ok-set_stopped.ensures.ok told)
+    c.report_name.ensures.ok

@@ -1,0 +1,12 @@
+use Rattle.std.proofs.Common.{refl}
+use Rattle.std.proofs.lemmas.Result.{on_ok_weaker}
+use Rattle.kl1_account.proofs.Finishing.{drafts_finished}
+use Rattle.kl1_account.proofs.settling.finish.Goals as goal
+
+pub returns-clause-ok : goal.returns-clause-ok
+returns-clause-ok c =
+    let d = c.args.draft.now in
+    let x = c.report_name.new.draft in
+    on_ok_weaker c.close.result
+    (λ closing. drafts_finished c.args.store.now.held c.report_name.new.store.held c.close.new.store.held c.args.shoens.now c.report_name.new.shoens d (record d { ended = c.push.new.self }) x c.args.number c.in_ok-push.ensures.items refl c.in_ok-report_name.ensures.ok (closing x))
+    c.close.ensures.ok
