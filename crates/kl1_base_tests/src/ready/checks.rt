@@ -5,7 +5,6 @@ use crate::ready::goals::{
     ends_of_shoens_are_seen, goals_are_found, the_greatest_priority_then_the_least_number,
 };
 use crate::ready::queue::{places_come_in_order, the_greatest_priority_then_the_least_place};
-use crate::ready::shoens::shoens_are_found;
 use kl1_rows::Text;
 
 /// Puts a line on each check behind a report.
@@ -31,12 +30,6 @@ pub fn put_ready_checks(out: &mut Text) {
     put_check(
         out,
         b"ready the_last_goal_of_a_shoen_is_told_from_others",
-        done,
-    );
-    let done = shoens_are_found(alloc);
-    put_check(
-        out,
-        b"ready shoens_are_found_and_changed_by_their_numbers",
         done,
     );
 }
