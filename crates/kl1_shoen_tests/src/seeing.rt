@@ -3,7 +3,7 @@
 use crate::words::{Act, Word};
 use kl1_model::Life;
 use kl1_rows::Text;
-use kl1_shoen::{Shoen, ShoenTree};
+use kl1_shoen::{Origin, Shoen, ShoenTree};
 use kl1_store::Cell;
 use kl1_text::AtomNo;
 
@@ -29,7 +29,7 @@ fn put_cell(told: &mut Text, cell: Cell<AtomNo>) {
 
 /// Puts a shoen: its number, its parent and its allowance, its tail, its control stream and that at the console, and letters for
 /// its life, a stop and a broken stream.
-fn put_shoen(told: &mut Text, shoen: &Shoen<AtomNo>) {
+fn put_shoen(told: &mut Text, shoen: &Shoen<AtomNo>, origin: Option<Origin<AtomNo>>) {
     for number in &[shoen.number, shoen.parent, shoen.allowance] {
         told.put_number(*number);
         told.put(b",");
@@ -38,7 +38,7 @@ fn put_shoen(told: &mut Text, shoen: &Shoen<AtomNo>) {
     told.put(b",");
     put_cell(told, shoen.control);
     told.put(b",");
-    match shoen.origin {
+    match origin {
         None => told.put(b"-"),
         Some(origin) => put_cell(told, origin.control),
     }
@@ -55,7 +55,7 @@ fn put_shoen(told: &mut Text, shoen: &Shoen<AtomNo>) {
 fn put_found(told: &mut Text, tree: &ShoenTree<AtomNo>, number: u64) {
     match tree.lend(number) {
         None => told.put(b"none"),
-        Some(shoen) => put_shoen(told, shoen),
+        Some(shoen) => put_shoen(told, shoen, tree.origin_at(number)),
     }
 }
 

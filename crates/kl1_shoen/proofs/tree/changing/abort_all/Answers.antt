@@ -1,4 +1,4 @@
-use Rattle.std.proofs.Common.{◌≡◌, ◌<◌, suc, Bool, false, List, map, length, get_or, refl, sym, ap, ◌∙◌, arith}
+use Rattle.std.proofs.Common.{◌≡◌, ◌<◌, suc, Bool, List, map, length, get_or, refl, sym, ap, ◌∙◌, arith}
 use Rattle.kl1_shoen.specs.declared.shoen.Shoen.{Shoen}
 use Rattle.kl1_shoen.specs.Shoens.{is_on_path_in}
 use Rattle.kl1_shoen.proofs.Numbered.{numbered_get}
