@@ -1,15 +1,14 @@
 -- Counts of living children.
-use Rattle.std.proofs.Common.{◌≡◌, ℕ, zero, suc, ◌+◌, ◌-◌, ◌<◌, ◌≤◌, Bool, true, false, ◌==◌, ◌&&◌, ◌||◌, if◌then◌else◌, List, [], ◌∷◌, ◌++◌, length, get_or, set, count_by, sum_by, refl, sym, ap, ap₂, ◌∙◌, arith, subst}
+use Rattle.std.proofs.Common.{◌≡◌, ℕ, zero, suc, ◌+◌, ◌<◌, ◌≤◌, Bool, true, false, ◌==◌, ◌&&◌, ◌||◌, if◌then◌else◌, List, [], ◌∷◌, ◌++◌, length, get_or, set, count_by, sum_by, refl, sym, ap, ◌∙◌, arith, subst}
 use Rattle.std.specs.Prelude.{cond}
 use Rattle.std.specs.List.{list_any}
 use Rattle.std.proofs.lemmas.List.{set-get_or}
 use Rattle.std.proofs.lemmas.List.Sums.{sum_by-cons, sum_by-set, count_by-le-length}
 use Rattle.kl1_model.specs.declared.life.Life.TheVariants.{Aborted}
-use Rattle.kl1_model.specs.State.{is_living}
 use Rattle.kl1_model.specs.TreeLaws.{ParentsAreLower}
 use Rattle.kl1_shoen.specs.declared.shoen.Shoen.{Shoen}
 use Rattle.kl1_shoen.specs.Shoens.{AreLower, AreCounted, counted_under, is_living_child_of, parents_in}
-use Rattle.kl1_shoen.proofs.Charges.{length_parents, length_more, zero_more, length_set, lower_open, get_beyond}
+use Rattle.kl1_shoen.proofs.Charges.{length_more, zero_more, length_set, lower_open, get_beyond}
 use Rattle.kl1_shoen.proofs.Changing.{parents_put}
 
 -- nobody is counted where there are no shoens

@@ -29,7 +29,7 @@ flag_is : {N : Type 0} (g : ℕ → Bool) (i p : ℕ) (ss : List (Shoen N)) (fla
     g 0 ≡ none → (p ≡ 0 → b ≡ none) → (0 < p → b ≡ get_or flags (p - 1) b) → b ≡ g p
 flag_is {N = N} g i p ss flags b none a is few within zero_is e f =
     by_zero p g b (λ z. e z ∙ sym zero_is ∙ ap g (sym z)) (λ lt.
-        f lt ∙ ap (λ (l : List Bool). get_or l (p - 1) b) is ∙ flag_get g 0 i (p - 1) ss b a (omega (arith, lt, few)) within ∙ ap g (omega (arith, lt)))
+    f lt ∙ ap (λ (l : List Bool). get_or l (p - 1) b) is ∙ flag_get g 0 i (p - 1) ss b a (omega (arith, lt, few)) within ∙ ap g (omega (arith, lt)))
 
 length_flags : {N : Type 0} (g : ℕ → Bool) (i : ℕ) (ss : List (Shoen N)) → i ≤ length ss → length (map (λ (h : Shoen N). g h.number) (take i ss)) ≡ i
 length_flags g zero [] few = refl

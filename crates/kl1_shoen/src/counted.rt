@@ -117,12 +117,7 @@ impl<N: NameValue> CountedShoens<N> {
     {
         self.shoens.push(shoen);
         self.children.push(0);
-        recount(
-            &mut self.children,
-            shoen.parent,
-            Life::Aborted,
-            shoen.life,
-        );
+        recount(&mut self.children, shoen.parent, Life::Aborted, shoen.life);
         self.room -= 1;
     }
 

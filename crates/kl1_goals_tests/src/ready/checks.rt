@@ -5,7 +5,6 @@ use crate::ready::goals::{
     the_greatest_priority_then_the_least_number,
 };
 use crate::ready::queue::{places_come_in_order, the_greatest_priority_then_the_least_place};
-use crate::ready::shoens::shoens_are_found;
 use kl1_rows::{Text, put_check};
 
 /// Puts a line on each check behind a report.
@@ -43,12 +42,6 @@ pub fn put_ready_checks(out: &mut Text) {
     put_check(
         out,
         b"ready goals_of_shoens_with_their_flags_are_removed",
-        done,
-    );
-    let done = shoens_are_found(alloc);
-    put_check(
-        out,
-        b"ready shoens_are_found_and_changed_by_their_numbers",
         done,
     );
 }

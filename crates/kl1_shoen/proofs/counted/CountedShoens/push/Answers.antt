@@ -1,4 +1,4 @@
-use Rattle.std.proofs.Common.{◌+◌, ℕ, List, [], ◌∷◌, ◌++◌, length, get_or, sym, ap, ◌∙◌, arith, subst}
+use Rattle.std.proofs.Common.{◌+◌, ℕ, List, length, get_or, sym, ap, ◌∙◌, arith, subst}
 use Rattle.kl1_shoen.specs.declared.shoen.Shoen.{Shoen}
 use Rattle.kl1_shoen.specs.Tracked.{Tracked}
 use Rattle.kl1_shoen.specs.Shoens.{AreCounted, counted_under}

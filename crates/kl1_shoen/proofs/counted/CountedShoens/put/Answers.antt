@@ -1,4 +1,4 @@
-use Rattle.std.proofs.Common.{◌≡◌, ◌<◌, ◌+◌, ℕ, List, length, get_or, set, sym, ap, ◌∙◌, arith, subst}
+use Rattle.std.proofs.Common.{◌≡◌, ◌<◌, ℕ, List, length, get_or, sym, ap, ◌∙◌, arith, subst}
 use Rattle.kl1_shoen.specs.declared.shoen.Shoen.{Shoen}
 use Rattle.kl1_shoen.specs.Tracked.{Tracked}
 use Rattle.kl1_shoen.specs.Shoens.{AreCounted}
@@ -34,9 +34,9 @@ invariant_of-self g c =
     let within : c.args.place < length i.shoens.now = omega (arith, len, c.requires.place) in
     let was : x ≡ get_or i.shoens.now c.args.place x = c.item_at-was.ensures ∙ ap (λ (l : List (Shoen g.row.N.Denot)). get_or l c.args.place x) c.items.ensures in
     let parent : c.args.shoen.parent ≡ x.parent =
-        c.requires.parent
-        ∙ ap (λ (t : Tracked (Shoen g.row.N.Denot)). (get_or t.now c.args.place c.args.shoen).parent) (sym c.self.view_is)
-        ∙ ap (λ (s : Shoen g.row.N.Denot). s.parent) (got_any i.shoens.now c.args.place x c.args.shoen within was) in
+    c.requires.parent
+    ∙ ap (λ (t : Tracked (Shoen g.row.N.Denot)). (get_or t.now c.args.place c.args.shoen).parent) (sym c.self.view_is)
+    ∙ ap (λ (s : Shoen g.row.N.Denot). s.parent) (got_any i.shoens.now c.args.place x c.args.shoen within was) in
     let v = c.self.invariant in
     record {
       now = subst (λ (ss : List (Shoen g.row.N.Denot)). AreCounted ss c.recount.new.children.now) (sym c.put.ensures.now)

@@ -1,4 +1,4 @@
-use Rattle.std.proofs.Common.{◌≡◌, ◌<◌, suc, Bool, false, List, map, length, get_or, refl, sym, ap, ◌∙◌, arith}
+use Rattle.std.proofs.Common.{◌≡◌, ◌<◌, suc, Bool, List, map, length, get_or, refl, sym, ap, ◌∙◌, arith}
 use Rattle.kl1_shoen.specs.declared.shoen.Shoen.{Shoen}
 use Rattle.kl1_shoen.specs.Shoens.{is_on_path_in}
 use Rattle.kl1_shoen.proofs.Numbered.{numbered_get}
@@ -20,9 +20,9 @@ loop-place-preserved g c =
     let is : x ≡ get_or ys p x = c.index-items-place.is ∙ ap (λ (l : List (Shoen g.row.N.Denot)). get_or l p x) c.items-in-loop-place.ensures in
     let number : x.number ≡ suc p = numbered_get 0 p ys x i.numbered lt is ∙ omega arith in
     let flag : b ≡ is_on_path_in xs n x.number =
-        c.index.ensures ∙ ap (λ (l : List Bool). get_or l p b) (c.in_ok-tell_below.ensures ∙ ap (λ (l : List (Shoen g.row.N.Denot)). map (λ (h : Shoen g.row.N.Denot). is_on_path_in l n h.number) l) c.items.ensures)
-        ∙ flag_at (is_on_path_in xs n) 0 p xs b c.requires.numbered (omega (arith, lt, i.len))
-        ∙ ap (is_on_path_in xs n) (omega arith ∙ sym number) in
+    c.index.ensures ∙ ap (λ (l : List Bool). get_or l p b) (c.in_ok-tell_below.ensures ∙ ap (λ (l : List (Shoen g.row.N.Denot)). map (λ (h : Shoen g.row.N.Denot). is_on_path_in l n h.number) l) c.items.ensures)
+    ∙ flag_at (is_on_path_in xs n) 0 p xs b c.requires.numbered (omega (arith, lt, i.len))
+    ∙ ap (is_on_path_in xs n) (omega arith ∙ sym number) in
     let so = abort_step xs ys c.abort_at.new.shoens.now n p x _ b (record { now = i.now; numbered = i.numbered; parents = i.parents; len = i.len }) lt is flag refl c.abort_at.ensures.now in
     record {
       now = so.now;

@@ -1,4 +1,4 @@
-use Rattle.std.proofs.Common.{◌≡◌, Bool, List, map, get_or, refl, ap, ◌∙◌, ◌-◌, arith}
+use Rattle.std.proofs.Common.{Bool, List, map, get_or, refl, ap, ◌∙◌, ◌-◌, arith}
 use Rattle.std.proofs.lemmas.List.{take_all}
 use Rattle.kl1_shoen.specs.declared.shoen.Shoen.{Shoen}
 use Rattle.kl1_shoen.specs.Shoens.{is_on_path_in}
