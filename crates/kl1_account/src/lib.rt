@@ -3,6 +3,8 @@
 
 mod account;
 mod account_name;
+mod acting;
+mod children;
 mod committing;
 mod draft;
 mod event;
@@ -15,6 +17,7 @@ mod looking_beside;
 mod moving;
 mod names;
 mod numbers;
+mod obeying;
 mod opening;
 mod placing;
 mod printing;
