@@ -49,3 +49,5 @@ pub mod Effects
 pub mod Ends
 pub mod Joining
 pub mod Moved
+pub mod MonitorStays
+pub mod FlagsStay

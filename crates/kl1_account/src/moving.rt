@@ -58,9 +58,7 @@ pub(crate) fn do_move(
             store, goals, shoens, draft, alive, predicate, place, trial, goal, cell,
         ),
         Move::Raises(kind) => raise(store, shoens, draft, goal.shoen, kind, cell),
-        Move::Unifies(left, right) => {
-            unify(store, shoens, draft, goal.shoen, cell, left, right)
-        }
+        Move::Unifies(left, right) => { unify(store, shoens, draft, goal.shoen, cell, left, right) }
         Move::Names(_target) => unreachable!(),
         Move::Opens(structure) => {
             let _order = order_at(store, structure);
