@@ -9,7 +9,6 @@ pub mod Walks
 pub mod Endings
 pub mod Settled
 pub mod Waking
-pub mod Views
 pub mod Naming
 pub mod Shelving
 pub mod Keeping
