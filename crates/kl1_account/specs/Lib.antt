@@ -3,9 +3,12 @@ pub mod Account
 pub mod Kept
 pub mod Works
 pub mod Drafts
+pub mod Installing
+pub mod Acting
+pub mod Walks
+pub mod Endings
 pub mod Settled
 pub mod Waking
-pub mod Views
 pub mod Naming
 pub mod Shelving
 pub mod Keeping
