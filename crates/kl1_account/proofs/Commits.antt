@@ -1,10 +1,10 @@
 -- Goals that commit, and goals that go.
-use Rattle.std.proofs.Common.{◌≡◌, ℕ, suc, ◌+◌, ◌-◌, ◌<◌, ◌≤◌, ◌==◌, not, ◌&&◌, true, false, if◌then◌else◌, Bool, List, [], ◌∷◌, ◌++◌, length, map, drop, get_or, refl, sym, ap, ap₂, ◌∙◌, subst, arith}
-use Rattle.std.specs.Prelude.{cond, unwrap_or, nat_le, nat_lt, filter, find, count_by, Option, Some, None, option_map}
+use Rattle.std.proofs.Common.{◌≡◌, ℕ, suc, ◌+◌, ◌-◌, ◌<◌, ◌≤◌, not, ◌&&◌, true, false, List, [], ◌∷◌, ◌++◌, length, map, drop, get_or, refl, sym, ap, ap₂, ◌∙◌, subst, arith}
+use Rattle.std.specs.Prelude.{cond, unwrap_or, nat_le, filter, find, count_by, Option, Some, None, option_map}
 use Rattle.std.specs.List.{AllByRecursion}
 use Rattle.std.proofs.lemmas.List.{map-append, append-nil, drop_more, drop_all}
 use Rattle.std.proofs.lemmas.List.Sums.{sum_by-cons}
-use Rattle.kl1_model.specs.Limits.{most_goals, most_variables, most_nodes, most_shoens, most_shoen_depth}
+use Rattle.kl1_model.specs.Limits.{most_goals, most_variables, most_nodes}
 use Rattle.kl1_model.specs.Term.{Term}
 use Rattle.kl1_model.specs.Module.{Clause, goals_of}
 use Rattle.kl1_model.specs.Match.{Candidate}
@@ -12,16 +12,12 @@ use Rattle.kl1_model.specs.Instance.{body_instance, body_priorities, fresh_varia
 use Rattle.kl1_model.specs.Nodes.{goals_nodes}
 use Rattle.kl1_model.specs.State as model
 use Rattle.kl1_model.specs.State.{State, shoen_at, without_goal}
-use Rattle.kl1_model.specs.Tree.{goals_alive, depth_of}
-use Rattle.kl1_model.specs.Opening.{clipped, clipped_to, has_room_for_child, child_shoen, open_child, open_shoen}
-use Rattle.kl1_model.specs.Look as look
-use Rattle.kl1_model.specs.Look.{number_of_term}
+use Rattle.kl1_model.specs.Opening.{clipped}
 use Rattle.kl1_model.specs.Reduction.{priority_of, goals_from, has_room_for, commits, or_exhaustion, committed, moved}
 use Rattle.kl1_model.specs.Report.{report, exception, exhaustion}
 use Rattle.kl1_text.specs.declared.cell_name.CellName.{CellName}
 use Rattle.kl1_store.specs.declared.qualified.Qualified.{Qualified}
-use Rattle.kl1_store.specs.declared.cell.Cell.{Cell}
-use Rattle.kl1_store.specs.Held.{Held, IsIn}
+use Rattle.kl1_store.specs.Held.{Held}
 use Rattle.kl1_store.specs.InModules.{qualified_list, AreQualifiedIn}
 use Rattle.kl1_store.specs.Sound.{Grown}
 use Rattle.kl1_goals.specs.declared.task.Task.{Task}
@@ -29,27 +25,24 @@ use Rattle.kl1_goals.specs.declared.task.Task.TheVariants.{Monitor, Reduces}
 use Rattle.kl1_goals.specs.declared.goal.Goal.{Goal}
 use Rattle.kl1_goals.specs.Lists.{is_other, is_monitor, is_monitor_task}
 use Rattle.kl1_shoen.specs.declared.shoen.Shoen.{Shoen}
-use Rattle.kl1_shoen.specs.Shoens.{Tree, has_number, path_in}
-use Rattle.kl1_moves.specs.declared.order.Order.{Order}
+use Rattle.kl1_shoen.specs.Shoens.{Tree, has_number}
 use Rattle.kl1_clause.specs.declared.predicate.Predicate.{Predicate}
 use Rattle.kl1_match.specs.declared.place.Place.{Place}
 use Rattle.kl1_moves.specs.Moves.{IsCandidate}
 use Rattle.kl1_moves.specs.Bodies.{IsBody}
-use Rattle.kl1_moves.specs.Orders.{order_at}
 use Rattle.kl1_modules.specs.Numbered.{Numbered}
 use Rattle.kl1_account.specs.declared.draft.Draft.{Draft}
 use Rattle.kl1_text.specs.Reading.{Reads}
 use Rattle.kl1_account.specs.Fitting.{Reading, built}
 use Rattle.kl1_account.specs.Account.{Means, meaning, task_with, goal_with, shoen_with, aim}
 use Rattle.kl1_account.specs.Kept.{AreGoalsIn, IsOwned, AreOwned}
-use Rattle.kl1_account.specs.Drafts.{goals_left, goals_for, made_of, Drafts, DraftsAll, HasBegun}
+use Rattle.kl1_account.specs.Drafts.{goals_left, goals_for, made_of, DraftsAll, HasBegun}
 use Rattle.kl1_account.specs.Moving.{priorities_by, Commits}
 use Rattle.kl1_account.specs.Works.{Made, worked, IsMadeIn, Knows, Turns}
 use Rattle.kl1_account.proofs.Aims.{aim_is}
-use Rattle.kl1_account.proofs.States.{Agree, same_goals, same_shoens, goals_grown, shoens_grown, found_in}
-use Rattle.kl1_account.proofs.Works.{read_as, base, finds, turns_as, grown_made}
-use Rattle.kl1_account.proofs.Goals.{others_read, goals_in_append, owned_append, count_read}
-use Rattle.kl1_account.proofs.Walking.{path_read}
+use Rattle.kl1_account.proofs.States.{Agree, same_goals, same_shoens}
+use Rattle.kl1_account.proofs.Works.{finds, turns_as, grown_made}
+use Rattle.kl1_account.proofs.Goals.{goals_in_append, owned_append, count_read}
 use Rattle.kl1_account.proofs.Joining.{early_left, left_more}
 
 -- ---- a goal that goes

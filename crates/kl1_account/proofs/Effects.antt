@@ -1,12 +1,11 @@
 -- What messages to a shoen make of drafts.
-use Rattle.std.proofs.Common.{◌≡◌, ℕ, zero, suc, ◌+◌, ◌-◌, ◌<◌, ◌≤◌, ◌==◌, not, ◌&&◌, true, false, if◌then◌else◌, Bool, List, [], ◌∷◌, ◌++◌, length, map, get_or, refl, sym, ap, ap₂, ◌∙◌, subst, arith}
-use Rattle.std.specs.Prelude.{min, filter, find, Option, Some, None, option_map}
+use Rattle.std.proofs.Common.{◌≡◌, ℕ, zero, suc, ◌+◌, ◌-◌, ◌<◌, not, ◌&&◌, true, false, if◌then◌else◌, Bool, List, [], ◌∷◌, ◌++◌, length, map, get_or, refl, sym, ap, ap₂, ◌∙◌, subst, arith}
+use Rattle.std.specs.Prelude.{min, filter, find, Option, Some, option_map}
 use Rattle.std.specs.List.{AllByRecursion}
 use Rattle.kl1_model.specs.declared.life.Life.TheVariants.{Aborted}
 use Rattle.kl1_model.specs.Module.{is_among}
 use Rattle.kl1_model.specs.State as model
 use Rattle.kl1_model.specs.State.{State, change_shoen, is_living}
-use Rattle.kl1_model.specs.Tree as tree
 use Rattle.kl1_model.specs.Tree.{path_within, charge}
 use Rattle.kl1_model.specs.Report.{report, close, exception, illegal_input, stopped_report, resumed_report, aborted_report}
 use Rattle.kl1_model.specs.Ending as ending
@@ -14,7 +13,7 @@ use Rattle.kl1_model.specs.Ending.{without_monitor, ended_below}
 use Rattle.kl1_model.specs.declared.message.Message.TheVariants.{Stop, Start, Abort, Allow}
 use Rattle.kl1_model.specs.Limits.{most_allowance}
 use Rattle.kl1_model.specs.declared.message.Message.{Message}
-use Rattle.kl1_model.specs.Control.{awaits_message, tells, tells_other, ends, breaks_off}
+use Rattle.kl1_model.specs.Control.{awaits_message, tells, tells_other, breaks_off}
 use Rattle.kl1_model.specs.Reduction.{stopped_of, resumed_of, obeyed, heard, allowed_more, with_control}
 use Rattle.kl1_text.specs.declared.cell_name.CellName.{CellName}
 use Rattle.kl1_store.specs.declared.cell.Cell.{Cell}
@@ -22,15 +21,15 @@ use Rattle.kl1_store.specs.Held.{Held, IsIn}
 use Rattle.kl1_goals.specs.declared.goal.Goal.{Goal}
 use Rattle.kl1_goals.specs.Lists.{is_other, is_flagged}
 use Rattle.kl1_shoen.specs.declared.shoen.Shoen.{Shoen}
-use Rattle.kl1_shoen.specs.Shoens.{Tree, has_number, changed, path_in, is_on_path_in, aborted_below_in, AreNumbered}
+use Rattle.kl1_shoen.specs.Shoens.{Tree, has_number, changed, is_on_path_in, aborted_below_in, AreNumbered}
 use Rattle.kl1_modules.specs.Numbered.{Numbered}
 use Rattle.kl1_account.specs.declared.draft.Draft.{Draft}
 use Rattle.kl1_account.specs.Fitting.{Reading}
 use Rattle.kl1_account.specs.Account.{Means, meaning, goal_with, shoen_with}
-use Rattle.kl1_account.specs.Kept.{AreGoalsIn, AreOwned, IsShoenIn, AreShoensIn}
-use Rattle.kl1_account.specs.Drafts.{staying, without_monitors, goals_left, made_of, Drafts, DraftsAll}
+use Rattle.kl1_account.specs.Kept.{AreOwned, IsShoenIn, AreShoensIn}
+use Rattle.kl1_account.specs.Drafts.{staying, without_monitors, made_of, DraftsAll}
 use Rattle.kl1_account.specs.Works.{Made, worked, IsMadeIn, Turns}
-use Rattle.kl1_account.proofs.Works.{turns_then, turns_as, turns_none, finds, changes, changed_made, with_changed, changed_turns}
+use Rattle.kl1_account.proofs.Works.{turns_as, turns_none, finds, changes, changed_made, changed_turns}
 use Rattle.kl1_account.proofs.Goals.{filter_in, filter_owned, all_stay, below_read}
 use Rattle.kl1_account.proofs.Walking.{parents_read, path_read}
 use Rattle.kl1_account.proofs.Finishing.{drafts_then, drafts_as}

@@ -1,5 +1,5 @@
 -- Walks along the path of a shoen, and which goals it has.
-use Rattle.std.proofs.Common.{◌≡◌, ℕ, zero, suc, ◌-◌, ◌==◌, ◌||◌, not, ◌&&◌, Bool, true, false, if◌then◌else◌, List, [], ◌∷◌, ◌++◌, get_or, refl, sym, ap, ap₂, ◌∙◌, subst}
+use Rattle.std.proofs.Common.{◌≡◌, ℕ, ◌-◌, ◌==◌, ◌||◌, not, ◌&&◌, Bool, true, false, if◌then◌else◌, List, [], ◌∷◌, ◌++◌, get_or, refl, sym, ap, ◌∙◌, subst}
 use Rattle.std.specs.Prelude.{filter}
 use Rattle.std.specs.List.{list_any}
 use Rattle.std.proofs.lemmas.Bool.{eqb-true}
@@ -12,7 +12,7 @@ use Rattle.kl1_goals.specs.Lists.{is_monitor, is_monitor_of, is_goal_of, is_othe
 use Rattle.kl1_shoen.specs.declared.shoen.Shoen.{Shoen}
 use Rattle.kl1_shoen.specs.Shoens.{Tree, changed, path_in, has_reached_in}
 use Rattle.kl1_account.specs.declared.draft.Draft.{Draft}
-use Rattle.kl1_account.specs.Drafts.{without_monitors, staying, goals_left, CanGoBack}
+use Rattle.kl1_account.specs.Drafts.{without_monitors, goals_left, CanGoBack}
 use Rattle.kl1_account.specs.Walks.{terminated, ends_in, ending_in, ended_in, reached_in, EndsOne, EndsLives}
 use Rattle.kl1_account.specs.Kept.{AreShoensIn}
 use Rattle.kl1_account.proofs.States.{shoens_changed}

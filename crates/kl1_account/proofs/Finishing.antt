@@ -1,5 +1,5 @@
 -- Terminations and what comes after effects, on drafts.
-use Rattle.std.proofs.Common.{◌≡◌, ℕ, suc, ◌+◌, ◌-◌, ◌<◌, ◌≤◌, not, true, false, if◌then◌else◌, Bool, List, [], ◌∷◌, ◌++◌, length, take, get_or, refl, sym, ap, ◌∙◌, subst}
+use Rattle.std.proofs.Common.{◌≡◌, ℕ, ◌+◌, ◌<◌, ◌≤◌, not, List, [], ◌∷◌, ◌++◌, length, take, get_or, refl, sym, ap, ◌∙◌, subst}
 use Rattle.std.specs.Prelude.{filter}
 use Rattle.std.proofs.lemmas.List.{take_more, take_all}
 use Rattle.kl1_model.specs.Term.{Term}
@@ -7,7 +7,7 @@ use Rattle.kl1_model.specs.State as model
 use Rattle.kl1_model.specs.State.{State}
 use Rattle.kl1_model.specs.Tree.{path}
 use Rattle.kl1_model.specs.Report.{report, report_each, close, exhausted_report, terminated_report}
-use Rattle.kl1_model.specs.Ending.{without_monitor, ended_at, ending_of, reached_of, settle, settle_charged, terminate_each}
+use Rattle.kl1_model.specs.Ending.{without_monitor, ending_of, reached_of, settle, settle_charged, terminate_each}
 use Rattle.kl1_text.specs.declared.cell_name.CellName.{CellName}
 use Rattle.kl1_store.specs.Held.{Held}
 use Rattle.kl1_goals.specs.declared.goal.Goal.{Goal}
@@ -16,15 +16,15 @@ use Rattle.kl1_shoen.specs.Shoens.{Tree, path_in}
 use Rattle.kl1_modules.specs.Numbered.{Numbered}
 use Rattle.kl1_account.specs.declared.draft.Draft.{Draft}
 use Rattle.kl1_account.specs.Fitting.{Reading}
-use Rattle.kl1_account.specs.Account.{meaning, goal_with}
+use Rattle.kl1_account.specs.Account.{meaning}
 use Rattle.kl1_account.specs.Drafts.{staying, goals_left, made_of, Drafts, DraftsAll, CanGoBack}
 use Rattle.kl1_account.specs.Works.{Made, worked, IsMadeIn, Turns}
 use Rattle.kl1_account.specs.Endings.{ended_each, finished, finished_each}
-use Rattle.kl1_account.specs.Walks.{ending_in, ended_in, reached_in, EndsLives}
+use Rattle.kl1_account.specs.Walks.{ended_in, reached_in, EndsLives}
 use Rattle.kl1_account.proofs.Apart.{terminates_apart, settles_apart}
 use Rattle.kl1_account.proofs.Works.{turns_then, turns_as, turns_none}
 use Rattle.kl1_account.proofs.Goals.{no_monitor, monitors_read, filter_in, filter_owned, one_more}
-use Rattle.kl1_account.proofs.Walking.{path_read, ending_read, reached_read, with_ended, ends_turn, reached_after, paths_all}
+use Rattle.kl1_account.proofs.Walking.{path_read, ending_read, reached_read, ends_turn, reached_after, paths_all}
 
 -- ---- drafts one after another
 

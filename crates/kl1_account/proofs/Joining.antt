@@ -1,5 +1,5 @@
 -- Goals and shoens that come after the others.
-use Rattle.std.proofs.Common.{◌≡◌, ℕ, suc, ◌+◌, ◌-◌, ◌<◌, ◌≤◌, ◌==◌, not, ◌&&◌, true, false, if◌then◌else◌, Bool, List, [], ◌∷◌, ◌++◌, length, map, length-append, refl, sym, ap, ap₂, ◌∙◌, subst, arith}
+use Rattle.std.proofs.Common.{◌≡◌, ℕ, suc, ◌-◌, ◌<◌, ◌≤◌, ◌==◌, not, ◌&&◌, true, false, if◌then◌else◌, Bool, List, [], ◌∷◌, ◌++◌, length, map, length-append, refl, sym, ap, ◌∙◌, subst, arith}
 use Rattle.std.specs.Prelude.{nat_lt, filter, find, slice_get, Option, Some, None}
 use Rattle.std.specs.List.{AllByRecursion}
 use Rattle.std.proofs.lemmas.Bool.{ne_eqb}
@@ -27,12 +27,12 @@ use Rattle.kl1_shoen.specs.Shoens.{Tree, has_number, path_in}
 use Rattle.kl1_modules.specs.Numbered.{Numbered}
 use Rattle.kl1_account.specs.declared.draft.Draft.{Draft}
 use Rattle.kl1_account.specs.Fitting.{Reading}
-use Rattle.kl1_account.specs.Account.{Means, meaning, goal_with, shoen_with, aim}
-use Rattle.kl1_account.specs.Kept.{AreGoalsIn, IsOwned, AreOwned, IsShoenIn, AreShoensIn}
-use Rattle.kl1_account.specs.Drafts.{staying, goals_left, made_of, Drafts, DraftsAll, HasBegun, two_for}
+use Rattle.kl1_account.specs.Account.{meaning, goal_with, shoen_with, aim}
+use Rattle.kl1_account.specs.Kept.{IsOwned, AreOwned, IsShoenIn, AreShoensIn}
+use Rattle.kl1_account.specs.Drafts.{staying, goals_left, made_of, DraftsAll, HasBegun, two_for}
 use Rattle.kl1_account.specs.Moving.{OpensChild}
 use Rattle.kl1_account.specs.Works.{Made, worked, IsMadeIn, Turns}
-use Rattle.kl1_account.proofs.Works.{finds, turns_then, turns_as}
+use Rattle.kl1_account.proofs.Works.{finds, turns_as}
 use Rattle.kl1_account.proofs.Walking.{path_read}
 use Rattle.kl1_account.proofs.Goals.{filter_append, all_stay, goals_in_append, owned_append}
 use Rattle.kl1_account.proofs.Finishing.{drafts_then, drafts_as}

@@ -1,5 +1,5 @@
 -- What monitors could step by, and what they wait for, when variables are replaced.
-use Rattle.std.proofs.Common.{◌≡◌, ℕ, List, refl, ap, ◌∙◌}
+use Rattle.std.proofs.Common.{◌≡◌, ℕ, refl, ap, ◌∙◌}
 use Rattle.kl1_model.specs.Term.{Term, substituted}
 use Rattle.kl1_model.specs.Control.{Control, awaits_message, tells, tells_other, ends, breaks_off, control_of, awaited_by_control}
 use Rattle.kl1_model.specs.Waits.{LeavesEach}

@@ -1,6 +1,6 @@
 -- Reports, the end of a stream, exceptions and unifications.
 use Rattle.std.proofs.Common.{◌≡◌, ℕ, suc, ◌-◌, not, true, false, if◌then◌else◌, Bool, List, refl, sym, ap, ◌∙◌, subst}
-use Rattle.std.specs.Prelude.{nat_lt, find, Option, Some, None}
+use Rattle.std.specs.Prelude.{nat_lt, find, Some, None}
 use Rattle.kl1_model.specs.declared.built_in.BuiltIn.{BuiltIn}
 use Rattle.kl1_model.specs.Limits.{most_reports}
 use Rattle.kl1_model.specs.Text.{text_of}
@@ -14,27 +14,24 @@ use Rattle.kl1_text.specs.Reading.{Reads}
 use Rattle.kl1_text.specs.declared.cell_name.CellName.{CellName}
 use Rattle.kl1_store.specs.declared.qualified.Qualified.{Qualified}
 use Rattle.kl1_store.specs.declared.cell.Cell.{Cell}
-use Rattle.kl1_store.specs.declared.cell.Cell.TheVariants.{Variable}
 use Rattle.kl1_store.specs.declared.unified.Unified.TheVariants.{Bound, Clash}
 use Rattle.kl1_store.specs.Held.{Held, IsIn}
 use Rattle.kl1_store.specs.Sound.{Grown}
 use Rattle.kl1_store.specs.Unification.{UnifiesAs}
-use Rattle.kl1_stream.specs.declared.told.Told.{Told}
 use Rattle.kl1_stream.specs.declared.told.Told.TheVariants.{Dropped, Broken, Sent}
 use Rattle.kl1_stream.specs.Reports.{ToldAs, EndsAt, ClosedAs}
 use Rattle.kl1_stream.specs.Exceptions.{IsException}
 use Rattle.kl1_shoen.specs.declared.shoen.Shoen.{Shoen}
 use Rattle.kl1_shoen.specs.Shoens.{Tree, has_number, changed}
-use Rattle.kl1_goals.specs.declared.goal.Goal.{Goal}
 use Rattle.kl1_modules.specs.Numbered.{Numbered}
 use Rattle.kl1_account.specs.declared.draft.Draft.{Draft}
 use Rattle.kl1_account.specs.Fitting.{Reading, built}
 use Rattle.kl1_account.specs.Account.{meaning, aim}
 use Rattle.kl1_account.specs.Wholes.{IsWhole}
-use Rattle.kl1_account.specs.Drafts.{made_of, Drafts, DraftsAll}
+use Rattle.kl1_account.specs.Drafts.{made_of, DraftsAll}
 use Rattle.kl1_account.specs.Works.{Made, worked, IsMadeIn, Turns}
 use Rattle.kl1_account.proofs.States.{replaced_state, all_replaced}
-use Rattle.kl1_account.proofs.Works.{base, read_as, finds, rereads, turns_then, turns_as, turns_none, grown_made, torn, tailed, after_report, report_turns, no_report_turns}
+use Rattle.kl1_account.proofs.Works.{base, read_as, finds, rereads, turns_then, turns_as, turns_none, grown_made, torn, tailed, report_turns, no_report_turns}
 
 -- ---- reports
 

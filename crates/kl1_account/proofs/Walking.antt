@@ -1,6 +1,6 @@
 -- Paths, charges and ends of shoens as they are kept, and as the definitions have them.
-use Rattle.std.proofs.Common.{◌≡◌, ℕ, ◌-◌, ◌==◌, ◌||◌, not, ◌&&◌, Bool, true, false, if◌then◌else◌, List, [], ◌∷◌, ◌++◌, length, map, refl, sym, ap, ap₂, ◌∙◌, subst}
-use Rattle.std.specs.Prelude.{Option, Some, None, option_map, unwrap_or, find, filter, get_or, count_by}
+use Rattle.std.proofs.Common.{◌≡◌, ℕ, ◌-◌, ◌==◌, ◌||◌, not, ◌&&◌, Bool, true, false, if◌then◌else◌, List, [], ◌∷◌, map, refl, sym, ap, ap₂, ◌∙◌}
+use Rattle.std.specs.Prelude.{Option, Some, None, option_map, unwrap_or, find, count_by}
 use Rattle.std.specs.List.{list_any}
 use Rattle.kl1_model.specs.declared.life.Life.TheVariants.{Terminated}
 use Rattle.kl1_model.specs.Module.{is_among}
@@ -12,7 +12,6 @@ use Rattle.kl1_model.specs.Ending as ending
 use Rattle.kl1_model.specs.Ending.{has_living_child, lives, ends_now, ended_at, ending_of, has_reached, reached_of}
 use Rattle.kl1_text.specs.declared.cell_name.CellName.{CellName}
 use Rattle.kl1_store.specs.Held.{Held}
-use Rattle.kl1_goals.specs.declared.goal.Goal.{Goal}
 use Rattle.kl1_goals.specs.Lists.{is_goal_of}
 use Rattle.kl1_shoen.specs.declared.shoen.Shoen.{Shoen}
 use Rattle.kl1_shoen.specs.Shoens.{has_number, changed, parents_in, path_in, charged_in, is_living_child_of, lives_in, has_reached_in}
@@ -22,8 +21,8 @@ use Rattle.kl1_account.specs.Account.{Means, meaning, shoen_with}
 use Rattle.kl1_account.specs.Works.{Made, worked, IsMadeIn, Turns}
 use Rattle.kl1_account.specs.Endings.{ended_each}
 use Rattle.kl1_account.specs.Walks.{terminated, ends_in, ending_in, ended_in, reached_in}
-use Rattle.kl1_account.proofs.States.{found_in, shoens_changed}
-use Rattle.kl1_account.proofs.Works.{read_as, with_changed, changes, finds, turns_then, changed_turns, turns_none}
+use Rattle.kl1_account.proofs.States.{found_in}
+use Rattle.kl1_account.proofs.Works.{with_changed, changes, turns_then, changed_turns, turns_none}
 use Rattle.kl1_account.proofs.Goals.{has_goal_read}
 
 -- ---- paths and charges

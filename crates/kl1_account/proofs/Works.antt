@@ -13,7 +13,6 @@ use Rattle.kl1_store.specs.declared.cell.Cell.{Cell}
 use Rattle.kl1_store.specs.declared.cell.Cell.TheVariants.{Variable}
 use Rattle.kl1_store.specs.Held.{Held, IsIn}
 use Rattle.kl1_store.specs.Sound.{Grown}
-use Rattle.kl1_goals.specs.declared.goal.Goal.{Goal}
 use Rattle.kl1_stream.specs.declared.told.Told.{Told}
 use Rattle.kl1_stream.specs.declared.told.Told.TheVariants.{Dropped, Broken, Sent}
 use Rattle.kl1_stream.specs.Reports.{Breaks, ToldAs}
@@ -24,7 +23,7 @@ use Rattle.kl1_account.specs.Fitting.{Reading, built}
 use Rattle.kl1_account.specs.Account.{Means, meaning, shoen_with, state_with}
 use Rattle.kl1_account.specs.Kept.{AreOwned, IsShoenIn}
 use Rattle.kl1_account.specs.Works.{Made, worked, IsMadeIn, Knows, Turns}
-use Rattle.kl1_account.proofs.States.{Agree, same_state, replaced_state, found_in, changed_in, changed_count, goals_grown, shoen_grown, shoens_grown, shoens_changed}
+use Rattle.kl1_account.proofs.States.{Agree, same_state, replaced_state, found_in, changed_in, changed_count, goals_grown, shoens_grown, shoens_changed}
 
 -- ---- changes one after another
 

@@ -1,7 +1,5 @@
 use Rattle.std.proofs.Common.{◌≡◌, ℕ, suc, length, sym, ap, ◌∙◌, arith, subst}
 use Rattle.std.proofs.lemmas.Result.{on_ok_weaker}
-use Rattle.kl1_text.specs.declared.cell_name.CellName.{CellName}
-use Rattle.kl1_shoen.specs.declared.shoen.Shoen.{Shoen}
 use Rattle.kl1_model.specs.Opening.{clipped, open_shoen}
 use Rattle.kl1_account.specs.Account.{meaning, shoen_with}
 use Rattle.kl1_account.specs.Drafts.{DraftsAll}

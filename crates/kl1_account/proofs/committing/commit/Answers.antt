@@ -1,4 +1,4 @@
-use Rattle.std.proofs.Common.{◌≡◌, ◌+◌, ◌++◌, List, length, refl, sym, ap, ◌∙◌, arith, subst}
+use Rattle.std.proofs.Common.{◌≡◌, ◌+◌, ◌++◌, List, length, refl, sym, ◌∙◌, arith, subst}
 use Rattle.std.specs.Prelude.{Some}
 use Rattle.std.proofs.lemmas.Result.{on_ok_weaker}
 use Rattle.kl1_text.specs.declared.cell_name.CellName.{CellName}

@@ -2,7 +2,6 @@ use Rattle.std.proofs.Common.{◌≡◌, ℕ, suc, ◌+◌, sym, ap, ◌∙◌, 
 use Rattle.std.proofs.lemmas.Result.{on_ok_weaker}
 use Rattle.kl1_model.specs.Report.{report}
 use Rattle.kl1_text.specs.declared.cell_name.CellName.{CellName}
-use Rattle.kl1_stream.specs.declared.told.Told.TheVariants.{Dropped, Broken, Sent}
 use Rattle.kl1_shoen.specs.Shoens.{Tree}
 use Rattle.kl1_account.specs.Account.{meaning}
 use Rattle.kl1_account.specs.Drafts.{DraftsAll}
