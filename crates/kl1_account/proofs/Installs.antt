@@ -1,37 +1,62 @@
--- Goals that are put after others.
-use Rattle.std.proofs.Common.{◌≡◌, ℕ, suc, ◌+◌, ◌<◌, List, [], ◌∷◌, ◌++◌, length, drop, get_or, sym, ap, ◌∙◌, arith, append_assoc}
-use Rattle.std.specs.Prelude.{Option}
-use Rattle.std.proofs.lemmas.List.{drop_more}
+-- Goals that are put after others whose clauses have changed.
+use Rattle.std.proofs.Common.{◌≡◌, ℕ, ◌<◌, ◌||◌, ◌==◌, not, Bool, true, false, if◌then◌else◌, List, [], ◌∷◌, ◌++◌, map, refl, sym, ap, ◌∙◌}
+use Rattle.std.specs.Prelude.{filter}
+use Rattle.std.specs.List.{list_any, AllByRecursion}
 use Rattle.kl1_text.specs.declared.cell_name.CellName.{CellName}
-use Rattle.kl1_store.specs.declared.qualified.Qualified.{Qualified}
-use Rattle.kl1_goals.specs.declared.task.Task.TheVariants.{Reduces}
 use Rattle.kl1_goals.specs.declared.goal.Goal.{Goal}
-use Rattle.kl1_goals.specs.Tables.{AreBefore}
-use Rattle.kl1_account.specs.Kept.{AreUpTo}
-use Rattle.kl1_account.specs.Drafts.{goals_standing}
-use Rattle.kl1_account.proofs.Goals.{up_to_append, up_to_more}
+use Rattle.kl1_goals.specs.Lists.{is_monitor_of, is_flagged}
+use Rattle.kl1_goals.specs.Tables.{AreBefore, IsNext}
+use Rattle.kl1_account.specs.declared.draft.Change.{Change}
+use Rattle.kl1_account.specs.Drafts.{restood_by, restood}
+use Rattle.kl1_account.specs.Installing.{AreNext}
+use Rattle.kl1_account.proofs.Restood.{each_append, each_part, restood_holds}
 
--- a goal for a cell that comes after the others
-abbrev pub goal_for : ℕ → ℕ → ℕ → Qualified CellName → Option ℕ → Goal CellName
-goal_for number shoen priority x standing = record { number = number; task = Reduces x; shoen = shoen; priority = priority; standing = standing }
+-- what follows the ones of two lists of goals follows the others
+record AreAlike (gs ks : List (Goal CellName)) : Type 0 where
+  pub before : (n : ℕ) → AreBefore n gs → AreBefore n ks
+  pub monitors : (n : ℕ) → list_any (is_monitor_of n) ks ≡ list_any (is_monitor_of n) gs
 
-before_next : (last : ℕ) (gs : List (Goal CellName)) → AreUpTo last gs → AreBefore (last + 1) gs
-before_next last [] i = tt
-before_next last (g ∷ gs) i = let le = i.0 in (omega arith, before_next last gs i.1)
+any_push : (n : ℕ) (gs ks : List (Goal CellName)) (g : Goal CellName) → list_any (is_monitor_of n) (gs ++ g ∷ []) ≡ (list_any (is_monitor_of n) gs || list_any (is_monitor_of n) (g ∷ []))
+any_push n [] ks g = refl
+any_push n (x ∷ gs) ks g = by_case (is_monitor_of n x) (any_push n gs ks g)
+  where
+    by_case : (b : Bool) → list_any (is_monitor_of n) (gs ++ g ∷ []) ≡ (list_any (is_monitor_of n) gs || list_any (is_monitor_of n) (g ∷ [])) → (b || list_any (is_monitor_of n) (gs ++ g ∷ [])) ≡ ((b || list_any (is_monitor_of n) gs) || list_any (is_monitor_of n) (g ∷ []))
+    by_case true e = refl
+    by_case false e = e
 
-pub up_to_next : (last shoen priority : ℕ) (x : Qualified CellName) (s : Option ℕ) (gs : List (Goal CellName)) → AreUpTo last gs → AreUpTo (last + 1) (gs ++ goal_for (last + 1) shoen priority x s ∷ [])
-up_to_next last shoen priority x s gs up = up_to_append (last + 1) gs (goal_for (last + 1) shoen priority x s ∷ []) (up_to_more last (last + 1) gs (omega arith) up) (omega arith, tt)
+alike_push : (gs ks : List (Goal CellName)) (g : Goal CellName) → AreAlike gs ks → AreAlike (gs ++ g ∷ []) (ks ++ g ∷ [])
+alike_push gs ks g a = record {
+  before = λ n b. let p = each_part (λ k. k.number < n) gs (g ∷ []) b in each_append (λ k. k.number < n) ks (g ∷ []) (a.before n p.0) p.1;
+  monitors = λ n. any_push n ks ks g ∙ ap (λ b. b || list_any (is_monitor_of n) (g ∷ [])) (a.monitors n) ∙ sym (any_push n gs gs g);
+}
 
--- one goal more is put
-pub one_put : (number shoen priority i : ℕ) (other : Qualified CellName) (none : Option ℕ) (xs : List (Qualified CellName)) (ss : List (Option ℕ)) (gs all : List (Goal CellName)) → i < length xs → length ss ≡ length xs →
-    gs ++ goals_standing number shoen priority (drop i xs) (drop i ss) ≡ all →
-    (gs ++ goal_for (number + 1) shoen priority (get_or xs i other) (get_or ss i none) ∷ []) ++ goals_standing (number + 1) shoen priority (drop (i + 1) xs) (drop (i + 1) ss) ≡ all
-one_put number shoen priority i other none xs ss gs all lt same e =
-    let x = get_or xs i other in
-    let s = get_or ss i none in
-    let next : number + 1 ≡ suc number = omega arith in
-    append_assoc gs (goal_for (number + 1) shoen priority x s ∷ []) (goals_standing (number + 1) shoen priority (drop (i + 1) xs) (drop (i + 1) ss))
-    ∙ ap (λ n. gs ++ (goal_for n shoen priority x s ∷ goals_standing n shoen priority (drop (i + 1) xs) (drop (i + 1) ss))) next
-    ∙ ap (λ (ys : List (Qualified CellName)). gs ++ goals_standing number shoen priority ys (s ∷ drop (i + 1) ss)) (sym (drop_more xs i other lt))
-    ∙ ap (λ (us : List (Option ℕ)). gs ++ goals_standing number shoen priority (drop i xs) us) (sym (drop_more ss i none (omega arith)))
-    ∙ e
+next_alike : (added gs ks : List (Goal CellName)) (shoens : ℕ) → AreAlike gs ks → AreNext added gs shoens → AreNext added ks shoens
+next_alike [] gs ks shoens a n = tt
+next_alike (g ∷ added) gs ks shoens a n =
+    let one : IsNext g ks shoens = record { number = a.before g.number n.0.number; low = n.0.low; high = n.0.high; priority = n.0.priority; monitor = λ m. a.monitors g.shoen ∙ n.0.monitor m } in
+    (one, next_alike added (gs ++ g ∷ []) (ks ++ g ∷ []) shoens (alike_push gs ks g a) n.1)
+
+any_stood : (n : ℕ) (c : Change) (gs : List (Goal CellName)) → list_any (is_monitor_of n) (map (restood_by c) gs) ≡ list_any (is_monitor_of n) gs
+any_stood n c [] = refl
+any_stood n c (g ∷ gs) = ap (λ b. b || list_any (is_monitor_of n) (map (restood_by c) gs)) (by_case (g.number == c.number)) ∙ ap (λ b. is_monitor_of n g || b) (any_stood n c gs)
+  where
+    by_case : (b : Bool) → is_monitor_of n (if b then record g { standing = c.standing } else g) ≡ is_monitor_of n g
+    by_case true = refl
+    by_case false = refl
+
+any_restood : (n : ℕ) (cs : List Change) (gs : List (Goal CellName)) → list_any (is_monitor_of n) (restood cs gs) ≡ list_any (is_monitor_of n) gs
+any_restood n [] gs = refl
+any_restood n (c ∷ cs) gs = any_restood n cs (map (restood_by c) gs) ∙ any_stood n c gs
+
+-- goals that a table takes in are taken in after changes
+pub next_restood : (added : List (Goal CellName)) (cs : List Change) (gs : List (Goal CellName)) (shoens : ℕ) → AreNext added gs shoens → AreNext added (restood cs gs) shoens
+next_restood added cs gs shoens n =
+    next_alike added gs (restood cs gs) shoens (record {
+      before = λ m b. restood_holds (λ g. g.number < m) (λ g o p. p) cs gs b;
+      monitors = λ m. any_restood m cs gs;
+    }) n
+
+-- without flags all goals stay
+pub unflagged : (gs : List (Goal CellName)) → filter (λ g. not (is_flagged [] g)) gs ≡ gs
+unflagged [] = refl
+unflagged (g ∷ gs) = ap (λ (ks : List (Goal CellName)). g ∷ ks) (unflagged gs)

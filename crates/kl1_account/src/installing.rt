@@ -1,75 +1,68 @@
 // Drafts that are put in place.
 
-ghost use Rattle.std.specs.Prelude.{◌≡◌, ◌+◌, ◌<◌, ◌≤◌, ◌^◌, ◌++◌, length};
-ghost use Rattle.kl1_model.specs.Limits.{monitor_priority};
-ghost use Rattle.kl1_shoen.specs.Shoens.{exchanged};
-ghost use Rattle.kl1_account.specs.Kept.{AreUpTo};
-ghost use Rattle.kl1_account.specs.Drafts.{goals_standing, goals_after, restood};
-ghost use Rattle.kl1_account.specs.Reducing.{IsFitting};
+ghost use Rattle.std.specs.Prelude.{◌≡◌, ◌≤◌, ◌++◌, not, filter, length};
+ghost use Rattle.kl1_goals.specs.Lists.{is_flagged};
+ghost use Rattle.kl1_account.specs.Drafts.{without_monitors, restood};
+ghost use Rattle.kl1_account.specs.Installing.{goals_after, shifted, AreNext, IsPlaceable};
 
 use crate::draft::{Change, Draft};
-use kl1_goals::{Goal, GoalTable, Task};
-use kl1_shoen::ShoenTree;
-use kl1_store::Qualified;
+use kl1_goals::{Goal, GoalTable};
 use kl1_text::CellName;
 
-/// Puts a draft in place of what it leaves of the goals and the shoens. It has to fit them.
-pub(crate) fn install(
-    goals: &mut GoalTable<CellName>,
-    shoens: &mut ShoenTree<CellName>,
-    draft: &Draft,
-)
-    requires { IsFitting goals.old.goals goals.old.shoens goals.old.room draft.now }
+/// Puts a draft in place of what it leaves of the goals. It has to fit them.
+pub(crate) fn install(goals: &mut GoalTable<CellName>, draft: &Draft)
+    requires { IsPlaceable goals.old.goals goals.old.shoens goals.old.room draft.now }
     ensures goals { goals.new.goals ≡ goals_after goals.old.goals draft.now }
     ensures count { goals.new.shoens ≡ goals.old.shoens }
-    ensures shoens { shoens.new.shoens ≡ exchanged draft.now.shoen shoens.old.shoens }
 {
-    goals.remove(draft.removed);
-    if draft.is_ending {
-        goals.remove_monitor(draft.shoen.number);
-    }
     restand(goals, &draft.changes);
-    put_goals(
-        goals,
-        draft.last_goal,
-        draft.shoen.number,
-        draft.priority,
-        &draft.cells,
-        &draft.standings,
-    );
-    shoens.set(&draft.shoen);
+    put_goals(goals, &draft.added);
+    goals.remove(draft.removed);
+    drop_below(goals, &draft.aborted);
+    drop_monitors(goals, &draft.ended);
+    shift(goals, draft.shifts, &draft.enabled);
 }
 
-/// Puts goals for cells, each with its own of the clauses by which they can step, after all others: of a shoen, with a priority and
-/// the numbers after the last. There has to be room.
-fn put_goals(
-    goals: &mut GoalTable<CellName>,
-    last_goal: u64,
-    shoen: u64,
-    priority: u64,
-    cells: &[Qualified<CellName>],
-    standings: &[Option<u64>],
-)
-    requires room { length cells.now ≤ goals.old.room }
-    requires fits { last_goal + length cells.now < 2 ^ 64 }
-    requires standings { length standings.now ≡ length cells.now }
-    requires last { AreUpTo last_goal goals.old.goals }
-    requires low { 0 < shoen }
-    requires high { shoen ≤ goals.old.shoens }
-    requires priority { priority ≤ monitor_priority }
-    ensures goals { goals.new.goals ≡ goals.old.goals ++ goals_standing last_goal shoen priority cells.now standings.now }
+/// Puts goals after all others. There has to be room.
+fn put_goals(goals: &mut GoalTable<CellName>, added: &[Goal<CellName>])
+    requires room { length added.now ≤ goals.old.room }
+    requires next { AreNext added.now goals.old.goals goals.old.shoens }
+    ensures goals { goals.new.goals ≡ goals.old.goals ++ added.now }
     ensures count { goals.new.shoens ≡ goals.old.shoens }
 {
-    let mut number = last_goal;
-    for (place, cell) in cells.iter().enumerate() {
-        number += 1;
-        goals.put(Goal {
-            number,
-            task: Task::Reduces(*cell),
-            shoen,
-            priority,
-            standing: standings[place],
-        });
+    for goal in added {
+        goals.put(*goal);
+    }
+}
+
+/// Removes the goals of shoens whose flags are set, of which the first is shoen 1's, monitors too. Without flags no goal is looked at.
+fn drop_below(goals: &mut GoalTable<CellName>, flags: &[bool])
+    ensures goals { goals.new.goals ≡ filter (λ g. not (is_flagged flags.now g)) goals.old.goals }
+    ensures count { goals.new.shoens ≡ goals.old.shoens }
+{
+    if flags.is_empty() {
+        return;
+    }
+    goals.remove_below(flags);
+}
+
+/// Where goals shift, monitors may step from now on, and the goals of shoens whose flags are set, and no others.
+fn shift(goals: &mut GoalTable<CellName>, shifts: bool, flags: &[bool])
+    ensures goals { goals.new.goals ≡ shifted shifts flags.now goals.old.goals }
+    ensures count { goals.new.shoens ≡ goals.old.shoens }
+{
+    if shifts {
+        goals.set_enabled(flags);
+    }
+}
+
+/// Removes the monitors of these shoens, where they have one.
+fn drop_monitors(goals: &mut GoalTable<CellName>, shoens: &[u64])
+    ensures goals { goals.new.goals ≡ without_monitors shoens.now goals.old.goals }
+    ensures count { goals.new.shoens ≡ goals.old.shoens }
+{
+    for shoen in shoens {
+        goals.remove_monitor(*shoen);
     }
 }
 
