@@ -1,6 +1,6 @@
 -- The goals that are there after a draft, looked at where needed.
 use Rattle.std.proofs.Common.{◌≡◌, ℕ, zero, suc, ◌<◌, ◌==◌, ◌||◌, not, Bool, true, false, if◌then◌else◌, List, [], ◌∷◌, ◌++◌, length, map, drop, refl, sym, ap, ◌∙◌, arith, subst, eq-eqb}
-use Rattle.std.specs.Prelude.{filter, find, Some, Contains, get_or}
+use Rattle.std.specs.Prelude.{filter, find, Some, Contains}
 use Rattle.std.specs.List.{AllByRecursion}
 use Rattle.std.proofs.lemmas.Bool.{ne_eqb, eqb-false}
 use Rattle.kl1_text.specs.declared.cell_name.CellName.{CellName}
@@ -18,17 +18,16 @@ use Rattle.kl1_modules.specs.Numbered.{Numbered}
 use Rattle.kl1_account.specs.declared.draft.Draft.{Draft}
 use Rattle.kl1_account.specs.declared.draft.Change.{Change}
 use Rattle.kl1_account.specs.Fitting.{Reading}
-use Rattle.kl1_account.specs.Account.{Means, goal_with}
 use Rattle.kl1_account.specs.Kept.{AreGoalsIn, AreShoensIn}
 use Rattle.kl1_account.specs.Works.{Knows}
-use Rattle.kl1_account.specs.Drafts.{restood_by, restood, without_monitors, staying, goals_left}
+use Rattle.kl1_account.specs.Drafts.{restood_by, restood, without_monitors, goals_left}
 use Rattle.kl1_account.specs.Settled.{IsSettled, AreSettled}
 use Rattle.kl1_account.specs.Waking.{is_among, KeepControls}
-use Rattle.kl1_account.specs.Looking.{AreOthersOf, WakesTold, unlooked, LooksAtAdded}
+use Rattle.kl1_account.specs.Looking.{AreOthersOf, WakesTold, LooksAtAdded}
 use Rattle.kl1_account.specs.Installing.{goals_placed, shifted, goals_after}
 use Rattle.kl1_moves.proofs.Hooked.{grown_among}
 use Rattle.kl1_account.proofs.Added.{all_more}
-use Rattle.kl1_account.proofs.Restood.{each_append, each_part}
+use Rattle.kl1_account.proofs.Restood.{each_append}
 use Rattle.kl1_account.proofs.Waking.{AreTold, told_are_pending, filter_settled_or}
 
 -- ---- goals in order of number are found by their numbers

@@ -1,13 +1,11 @@
 -- Drafts that are put in place: what the table of goals has then.
-use Rattle.std.specs.Prelude.{◌≡◌, ℕ, ◌≤◌, Bool, false, if◌then◌else◌, List, ◌∷◌, [], ◌++◌, map, length}
-use Rattle.std.specs.List.{list_any, AllByRecursion}
-use Rattle.kl1_model.specs.Limits.{monitor_priority}
+use Rattle.std.specs.Prelude.{ℕ, ◌≤◌, Bool, if◌then◌else◌, List, ◌∷◌, [], ◌++◌, map, length}
 use Rattle.kl1_text.specs.declared.cell_name.CellName.{CellName}
 use Rattle.kl1_goals.specs.declared.goal.Goal.{Goal}
-use Rattle.kl1_goals.specs.Lists.{is_monitor, is_monitor_of, enabled_by}
+use Rattle.kl1_goals.specs.Lists.{enabled_by}
 use Rattle.kl1_goals.specs.Tables.{IsNext}
 use Rattle.kl1_account.specs.declared.draft.Draft.{Draft}
-use Rattle.kl1_account.specs.Drafts.{staying, goals_left, restood}
+use Rattle.kl1_account.specs.Drafts.{goals_left, restood}
 
 -- the goals that a draft leaves, each with its clause, and those that come
 abbrev pub goals_placed : List (Goal CellName) → Draft → List (Goal CellName)

@@ -3,6 +3,7 @@ pub mod Account
 pub mod Kept
 pub mod Works
 pub mod Drafts
+pub mod Installing
 pub mod Settled
 pub mod Waking
 pub mod Views

@@ -1,5 +1,5 @@
 -- Goals that are looked at again: what is found of them, and that all are settled then.
-use Rattle.std.specs.Prelude.{◌≡◌, ℕ, ◌<◌, ◌==◌, ◌&&◌, Bool, false, List, [], ◌∷◌, ◌++◌, map, find, Option, Some, None}
+use Rattle.std.specs.Prelude.{◌≡◌, ℕ, ◌<◌, ◌==◌, ◌&&◌, Bool, false, List, [], ◌∷◌, ◌++◌, map, find, Some, None}
 use Rattle.std.specs.List.{AllByRecursion}
 use Rattle.kl1_model.specs.Match as model
 use Rattle.kl1_model.specs.Match.{clauses_of}

@@ -34,6 +34,7 @@ refusal_of refusal.Exists = model.exists
 refusal_of refusal.NoShoen = model.no_shoen
 refusal_of refusal.Step = model.step_refused
 refusal_of refusal.Names = model.too_many_names
+refusal_of refusal.Limit = model.limit_passed
 refusal_of refusal.Journal = model.journal_full
 
 -- the reply that this one is

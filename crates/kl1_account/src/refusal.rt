@@ -15,6 +15,8 @@ pub enum Refusal {
     Step,
     /// The account would use too many names.
     Names,
+    /// A limit of the account would be passed.
+    Limit,
     /// The journal is full.
     Journal,
 }
