@@ -7,7 +7,7 @@ use Rattle.kl1_modules.specs.Numbered.{AreRead}
 use Rattle.kl1_account.specs.Fitting.{Reading, Fits}
 use Rattle.kl1_account.specs.Account.{Account, state_of}
 use Rattle.kl1_account.specs.Kept.{AreGoalsIn, AreOwned, AreUpTo, AreShoensIn}
-use Rattle.kl1_account.specs.Settled.{AreSettled, AreLet}
+use Rattle.kl1_account.specs.Settled.{AreSettled, AreEnabled}
 use Rattle.kl1_account.specs.Naming.{AreSmall}
 
 -- what always holds of an account, on whose variables these numbers hang, and whose table of goals knows so many shoens; that its
@@ -22,8 +22,8 @@ pub record IsKept (a : Account) (hooks : List Hook) (known : ℕ) : Type 0 where
   pub last : AreUpTo a.last_goal a.goals
   pub few : length a.work ≤ a.entries
   pub most : a.entries ≤ most_entries
-  pub enabled : AreLet a.shoens a.work a.goals
   pub settled : (f : Reading) → Fits a.names f → AreSettled f hooks a.held a.modules a.shoens a.goals
+  pub enabled : AreEnabled a.shoens a.work a.goals
   pub rows : (f : Reading) → Fits a.names f → AreRead f a.modules
   pub named : (f g : Reading) → Fits a.names f → Fits a.names g → state_of f a ≡ state_of g a
   pub small : AreSmall a.names
