@@ -1,5 +1,5 @@
 -- Which shoens of a path terminate and which have just reached their allowance, by the lists that an account keeps.
-use Rattle.std.specs.Prelude.{◌≡◌, ℕ, not, ◌&&◌, Bool, if◌then◌else◌, List, [], ◌∷◌, filter}
+use Rattle.std.specs.Prelude.{◌≡◌, ℕ, not, ◌&&◌, Bool, if◌then◌else◌, List, [], ◌∷◌, ◌++◌, filter}
 use Rattle.std.specs.List.{list_any}
 use Rattle.kl1_model.specs.declared.life.Life.TheVariants.{Terminated}
 use Rattle.kl1_model.specs.Module.{is_among}
@@ -35,3 +35,8 @@ reached_in shoens work ending ns = filter (λ n. has_reached_in shoens work n &&
 pub record EndsLives (goals : List (Goal CellName)) (old new : Tree CellName) (n : ℕ) (ending : List ℕ) : Type 0 where
   pub ending_is : ending ≡ ending_in goals (path_in old.shoens n) old.shoens
   pub tree_is : new ≡ record old { shoens = ended_in ending old.shoens }
+
+-- a shoen of a number has terminated, where it does, and its number is put down then
+pub record EndsOne (goals : List (Goal CellName)) (old new : Tree CellName) (n : ℕ) (before after : List ℕ) : Type 0 where
+  pub ending_is : after ≡ before ++ (if ends_in goals old.shoens n then n ∷ [] else [])
+  pub tree_is : new ≡ (if ends_in goals old.shoens n then record old { shoens = changed n terminated old.shoens } else old)

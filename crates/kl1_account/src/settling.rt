@@ -1,17 +1,17 @@
 // Shoens that terminate, and those that have reached their allowance.
 
-ghost use Rattle.std.specs.Prelude.{◌≡◌, ◌-◌, ◌++◌, false, List, ℕ, filter, get_or, OnOk};
+ghost use Rattle.std.specs.Prelude.{◌≡◌, ◌-◌, [], ◌∷◌, ◌++◌, not, ◌&&◌, false, if◌then◌else◌, List, ℕ, filter, get_or, OnOk};
 ghost use Rattle.std.specs.List.{list_any};
 ghost use Rattle.kl1_model.specs.Ending.{settle, settle_charged};
 ghost use Rattle.kl1_model.specs.Module.{is_among};
 ghost use Rattle.kl1_goals.specs.Lists.{is_goal_of, is_other};
 ghost use Rattle.kl1_store.specs.Sound.{Grown};
-ghost use Rattle.kl1_shoen.specs.Shoens.{path_in};
+ghost use Rattle.kl1_shoen.specs.Shoens.{path_in, has_reached_in};
 ghost use Rattle.kl1_modules.specs.Numbered.{Numbered};
 ghost use Rattle.kl1_account.specs.Kept.{AreShoensIn};
 ghost use Rattle.kl1_account.specs.Drafts.{goals_left, Drafts, DraftsAll, CanGoBack};
 ghost use Rattle.kl1_account.specs.Endings.{finished, finished_each};
-ghost use Rattle.kl1_account.specs.Walks.{ends_in, EndsLives, reached_in};
+ghost use Rattle.kl1_account.specs.Walks.{ends_in, EndsOne, EndsLives, reached_in};
 
 use crate::draft::Draft;
 use crate::reporting::{close, report_each, report_name};
@@ -94,6 +94,25 @@ fn ends_now(
     !shoens.has_living_child(number)
 }
 
+/// Ends the life of a shoen that terminates, with a draft in place, and puts its number down.
+fn end_one(
+    goals: &GoalTable<CellName>,
+    shoens: &mut ShoenTree<CellName>,
+    draft: &Draft,
+    number: u64,
+    ending: &mut Vec<u64>,
+) -> Result<(), AllocError>
+    ensures ok { OnOk result (EndsOne (goals_left (goals.now.goals ++ draft.now.added.items) draft.now) shoens.old shoens.new number ending.old.items ending.new.items) }
+    ensures back { CanGoBack shoens.old shoens.new }
+{
+    if !ends_now(goals, shoens, draft, number) {
+        return Ok(());
+    }
+    shoens.end(number, Life::Terminated)?;
+    ending.push(number)?;
+    Ok(())
+}
+
 /// Ends the lives of the shoens on the path of one that terminate, with a draft in place, and puts their numbers down, innermost
 /// first. Where memory is refused, some may have ended.
 fn end_lives(
@@ -113,10 +132,7 @@ fn end_lives(
         if at == 0 {
             return Ok(());
         }
-        if ends_now(goals, shoens, draft, at) {
-            shoens.end(at, Life::Terminated)?;
-            ending.push(at)?;
-        }
+        end_one(goals, shoens, draft, at, ending)?;
         at = up;
     }
 }
@@ -126,11 +142,30 @@ fn is_among(numbers: &[u64], number: u64) -> bool
     ensures { result ≡ is_among number numbers.now }
 {
     for other in numbers {
-        if *other == number {
+        if number == *other {
             return true;
         }
     }
     false
+}
+
+/// Puts the number of a shoen down that was charged just what it may be and doesn't end.
+fn put_reached(
+    shoens: &ShoenTree<CellName>,
+    number: u64,
+    ending: &[u64],
+    reached: &mut Vec<u64>,
+) -> Result<(), AllocError>
+    ensures { OnOk result (reached.new.items ≡ reached.old.items ++ (if has_reached_in shoens.now.shoens shoens.now.work number && not (is_among number ending.now) then number ∷ [] else [])) }
+{
+    if !shoens.has_reached(number) {
+        return Ok(());
+    }
+    if is_among(ending, number) {
+        return Ok(());
+    }
+    reached.push(number)?;
+    Ok(())
 }
 
 /// Puts down the shoens on the path of one that were charged just what they may be, but for those that end, innermost first.
@@ -149,9 +184,7 @@ fn find_reached(
         if at == 0 {
             return Ok(());
         }
-        if shoens.has_reached(at) && !is_among(ending, at) {
-            reached.push(at)?;
-        }
+        put_reached(shoens, at, ending, reached)?;
         at = up;
     }
 }
@@ -219,7 +252,8 @@ pub(crate) fn settle(
 {
     let _formed = store.mark();
     end_lives(goals, shoens, draft, number, &mut walk.ending)?;
-    finish_each(store, shoens, draft, &walk.ending)
+    let ending = walk.ending.as_slice();
+    finish_each(store, shoens, draft, ending)
 }
 
 /// What comes after the effects of a reduction in a shoen: the shoens on its path that have just been charged what they may be, and go
@@ -242,7 +276,9 @@ pub(crate) fn settle_charged(
 {
     let _formed = store.mark();
     end_lives(goals, shoens, draft, number, &mut walk.ending)?;
-    find_reached(shoens, number, &walk.ending, &mut walk.reached)?;
-    report_each(store, shoens, draft, &walk.reached, BuiltIn::Exhausted)?;
-    finish_each(store, shoens, draft, &walk.ending)
+    let ending = walk.ending.as_slice();
+    find_reached(shoens, number, ending, &mut walk.reached)?;
+    let reached = walk.reached.as_slice();
+    report_each(store, shoens, draft, reached, BuiltIn::Exhausted)?;
+    finish_each(store, shoens, draft, ending)
 }

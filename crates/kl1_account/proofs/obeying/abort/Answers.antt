@@ -1,17 +1,24 @@
-use Rattle.std.proofs.Common.{rules, ◌≡◌, [], ◌∷◌, ◌++◌, OnOk, ℕ, ◌+◌, ◌-◌, ◌*◌, ◌<◌, ◌≤◌, length, ◌/◌, ◌%◌, Bool, true, false, nat_eq, nat_lt, List, slice_index_or, slice_set, bit_and, bit_or, Fits, w8, w32, w64, Bor, MutBor}
-use Rattle.kl1_model.specs.Reduction.{obeyed, heard}
-use Rattle.kl1_model.specs.declared.message.Message.TheVariants.{Stop, Start, Abort, Allow}
-use Rattle.kl1_store.specs.Held.{Held}
-use Rattle.kl1_store.specs.Sound.{Grown}
-use Rattle.kl1_stream.specs.Controls.{control_as, ControlIn}
-use Rattle.kl1_account.specs.Kept.{AreShoensIn}
-use Rattle.kl1_account.specs.Drafts.{DraftsAll, CanGoBack}
+use Rattle.std.proofs.Common.{true, refl}
+use Rattle.std.proofs.lemmas.Result.{on_ok_weaker}
+use Rattle.kl1_shoen.specs.Shoens.{aborted_below_in}
+use Rattle.std.specs.Prelude.{map}
+use Rattle.kl1_account.proofs.TreesIn.{tree_in}
+use Rattle.kl1_account.proofs.Effects.{aborted_in, drafts_ended_below, drafts_aborted}
 use Rattle.kl1_account.proofs.obeying.abort.Goals as goal
 
--- src/obeying.rt:98:5
 pub report_name-requires : goal.report_name-requires
-report_name-requires c = ?
+report_name-requires c =
+    let t = c.args.shoens.now in
+    record { shoens = tree_in c.args.store.now.held t c.abort.new.self (map (aborted_below_in t.shoens c.args.number) t.shoens) c.in_ok-abort.ensures.ok (aborted_in c.args.store.now.held t.shoens c.args.number t.shoens c.requires.shoens) }
 
--- src/obeying.rt:77:1
 pub returns-clause-ok : goal.returns-clause-ok
-returns-clause-ok c = ?
+returns-clause-ok c =
+    let h = c.args.store.now.held in
+    let t = c.args.shoens.now in
+    let d = c.args.draft.now in
+    let e = record d { aborted = c.below.new.out; shifts = true } in
+    on_ok_weaker c.close.result
+    (λ closing. drafts_aborted h c.report_name.new.store.held c.close.new.store.held t c.abort.new.self c.report_name.new.shoens d e c.report_name.new.draft c.args.number
+    (drafts_ended_below h t c.abort.new.self d e c.args.number c.len-numbered.ensures.numbered c.requires.none c.requires.early c.in_ok-below.ensures refl c.in_ok-abort.ensures.ok)
+    c.in_ok-report_name.ensures.ok (closing c.report_name.new.draft))
+    c.close.ensures.ok

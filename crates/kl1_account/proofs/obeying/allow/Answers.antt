@@ -1,17 +1,12 @@
-use Rattle.std.proofs.Common.{rules, ◌≡◌, [], ◌∷◌, ◌++◌, OnOk, ℕ, ◌+◌, ◌-◌, ◌*◌, ◌<◌, ◌≤◌, length, ◌/◌, ◌%◌, Bool, true, false, nat_eq, nat_lt, List, slice_index_or, slice_set, bit_and, bit_or, Fits, w8, w32, w64, Bor, MutBor}
-use Rattle.kl1_model.specs.Reduction.{obeyed, heard}
-use Rattle.kl1_model.specs.declared.message.Message.TheVariants.{Stop, Start, Abort, Allow}
-use Rattle.kl1_store.specs.Held.{Held}
-use Rattle.kl1_store.specs.Sound.{Grown}
-use Rattle.kl1_stream.specs.Controls.{control_as, ControlIn}
-use Rattle.kl1_account.specs.Kept.{AreShoensIn}
-use Rattle.kl1_account.specs.Drafts.{DraftsAll, CanGoBack}
+use Rattle.std.proofs.Common.{true}
+use Rattle.std.proofs.lemmas.Result.{on_ok_weaker}
+use Rattle.kl1_store.proofs.Grows.{Grown-same}
+use Rattle.kl1_account.proofs.TreesIn.{changed_in}
+use Rattle.kl1_account.proofs.Effects.{allowing, drafts_allowed}
 use Rattle.kl1_account.proofs.obeying.allow.Goals as goal
 
--- src/obeying.rt:103:1
 pub returns-clause-ok : goal.returns-clause-ok
-returns-clause-ok c = ?
+returns-clause-ok c = on_ok_weaker c.allow.result (λ is h. drafts_allowed h c.args.shoens.now c.allow.new.self c.args.draft.now c.args.number c.args.extra true is) c.allow.ensures.ok
 
--- src/obeying.rt:103:1
 pub returns-clause-shoens : goal.returns-clause-shoens
-returns-clause-shoens c = ?
+returns-clause-shoens c = λ h i. on_ok_weaker c.allow.result (λ is. changed_in h h c.args.shoens.now c.allow.new.self c.args.number (allowing c.args.extra) (Grown-same h) (λ s a. record { control = a.control; tail = a.tail; origin = a.origin }) i is) c.allow.ensures.ok

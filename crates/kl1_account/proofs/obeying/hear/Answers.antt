@@ -1,35 +1,69 @@
-use Rattle.std.proofs.Common.{rules, ◌≡◌, [], ◌∷◌, ◌++◌, OnOk, ℕ, ◌+◌, ◌-◌, ◌*◌, ◌<◌, ◌≤◌, length, ◌/◌, ◌%◌, Bool, true, false, nat_eq, nat_lt, List, slice_index_or, slice_set, bit_and, bit_or, Fits, w8, w32, w64, Bor, MutBor}
-use Rattle.kl1_model.specs.Reduction.{obeyed, heard}
-use Rattle.kl1_model.specs.declared.message.Message.TheVariants.{Stop, Start, Abort, Allow}
-use Rattle.kl1_store.specs.Held.{Held}
-use Rattle.kl1_store.specs.Sound.{Grown}
-use Rattle.kl1_stream.specs.Controls.{control_as, ControlIn}
-use Rattle.kl1_account.specs.Kept.{AreShoensIn}
-use Rattle.kl1_account.specs.Drafts.{DraftsAll, CanGoBack}
+use Rattle.std.proofs.Common.{sym, subst}
+use Rattle.std.proofs.lemmas.Result.{on_ok_weaker}
+use Rattle.kl1_model.specs.Reduction.{heard}
+use Rattle.kl1_text.specs.declared.cell_name.CellName.{CellName}
+use Rattle.kl1_store.proofs.Grows.{Grown-same}
+use Rattle.kl1_stream.specs.declared.control.Control.{Control}
+use Rattle.kl1_stream.specs.Controls.{control_as}
+use Rattle.kl1_account.specs.Drafts.{DraftsAll}
+use Rattle.kl1_account.proofs.TreesIn.{changed_in}
+use Rattle.kl1_account.proofs.Finishing.{drafts_unmonitored}
+use Rattle.kl1_account.proofs.Effects.{controlled, drafts_controlled, drafts_told, drafts_told_other, drafts_broken_off, drafts_unheard_yet}
 use Rattle.kl1_account.proofs.obeying.hear.Goals as goal
 
--- src/obeying.rt:180:13
+pub returns-in-Awaits-clause-ok : goal.returns-in-Awaits-clause-ok
+returns-in-Awaits-clause-ok c =
+    let P : Control CellName → Type 0 = λ x. DraftsAll (λ f. heard c.args.number (control_as f c.args.store.now.held x)) c.args.store.now.held c.args.store.now.held c.args.shoens.now c.args.shoens.now c.args.draft.now c.args.draft.now in
+    subst P (sym c.in-Awaits.is) (drafts_unheard_yet c.args.store.now.held c.args.shoens.now c.args.draft.now c.args.number c.in-Awaits._variable)
+
 pub obey-requires-clause-shoens : goal.obey-requires-clause-shoens
-obey-requires-clause-shoens c = ?
+obey-requires-clause-shoens c =
+    let j = rw c.in-Tells.is at c.requires.control in
+    changed_in c.args.store.now.held c.args.store.now.held c.args.shoens.now c.set_control.new.self c.args.number (controlled c.in-Tells.rest) (Grown-same c.args.store.now.held) (λ s i. record { control = j; tail = i.tail; origin = i.origin }) c.requires.shoens c.in_ok-set_control-in-Tells.ensures.ok
 
--- src/obeying.rt:184:13
 pub raise_whole-requires-clause-shoens : goal.raise_whole-requires-clause-shoens
-raise_whole-requires-clause-shoens c = ?
+raise_whole-requires-clause-shoens c =
+    let j = rw c.in-TellsOther.is at c.requires.control in
+    changed_in c.args.store.now.held c.args.store.now.held c.args.shoens.now c.set_control-in-TellsOther.new.self c.args.number (controlled c.in-TellsOther.rest) (Grown-same c.args.store.now.held) (λ s i. record { control = j.1; tail = i.tail; origin = i.origin }) c.requires.shoens c.in_ok-set_control-in-TellsOther.ensures.ok
 
--- src/obeying.rt:157:1
-pub returns-in_ok-set_control-in-Tells-clause-ok :
-    goal.returns-in_ok-set_control-in-Tells-clause-ok
-returns-in_ok-set_control-in-Tells-clause-ok c = ?
+pub returns-in_ok-set_control-in-Tells-clause-ok : goal.returns-in_ok-set_control-in-Tells-clause-ok
+returns-in_ok-set_control-in-Tells-clause-ok c =
+    let h = c.args.store.now.held in
+    let t = c.args.shoens.now in
+    let d = c.args.draft.now in
+    let j = rw c.in-Tells.is at c.requires.control in
+    let P : Control CellName → Type 0 = λ x. DraftsAll (λ f. heard c.args.number (control_as f h x)) h c.obey.new.store.held t c.obey.new.shoens d c.obey.new.draft in
+    on_ok_weaker c.obey.result
+    (λ ok. subst P (sym c.in-Tells.is) (drafts_told h c.obey.new.store.held t c.set_control.new.self c.obey.new.shoens d c.obey.new.draft c.args.number c.in-Tells.message c.in-Tells.rest (drafts_controlled h t c.set_control.new.self d c.args.number c.in-Tells.rest j c.in_ok-set_control-in-Tells.ensures.ok) ok))
+    c.obey.ensures.ok
 
--- src/obeying.rt:157:1
-pub returns-in_ok-set_control-in-TellsOther-clause-ok :
-    goal.returns-in_ok-set_control-in-TellsOther-clause-ok
-returns-in_ok-set_control-in-TellsOther-clause-ok c = ?
+pub returns-in_ok-set_control-in-TellsOther-clause-ok : goal.returns-in_ok-set_control-in-TellsOther-clause-ok
+returns-in_ok-set_control-in-TellsOther-clause-ok c =
+    let h = c.args.store.now.held in
+    let t = c.args.shoens.now in
+    let d = c.args.draft.now in
+    let j = rw c.in-TellsOther.is at c.requires.control in
+    let P : Control CellName → Type 0 = λ x. DraftsAll (λ f. heard c.args.number (control_as f h x)) h c.raise_whole.new.store.held t c.raise_whole.new.shoens d c.raise_whole.new.draft in
+    on_ok_weaker c.raise_whole.result
+    (λ ok. subst P (sym c.in-TellsOther.is) (drafts_told_other h c.raise_whole.new.store.held t c.set_control-in-TellsOther.new.self c.raise_whole.new.shoens d c.raise_whole.new.draft c.args.number c.in-TellsOther.element c.in-TellsOther.rest
+    (drafts_controlled h t c.set_control-in-TellsOther.new.self d c.args.number c.in-TellsOther.rest j.1 c.in_ok-set_control-in-TellsOther.ensures.ok) ok))
+    c.raise_whole.ensures.ok
 
--- src/obeying.rt:157:1
 pub returns-in-Ends-clause-ok : goal.returns-in-Ends-clause-ok
-returns-in-Ends-clause-ok c = ?
+returns-in-Ends-clause-ok c =
+    let h = c.args.store.now.held in
+    let t = c.args.shoens.now in
+    let d = c.args.draft.now in
+    let P : Control CellName → Type 0 = λ x. DraftsAll (λ f. heard c.args.number (control_as f h x)) h h t t d c.let_go.new.draft in
+    on_ok_weaker c.let_go.result (λ more. subst P (sym c.in-Ends.is) (drafts_unmonitored h t d c.let_go.new.draft c.args.number more c.let_go.ensures.rest)) c.let_go.ensures.ok
 
--- src/obeying.rt:157:1
 pub returns-in_ok-let_go-in-BreaksOff-clause-ok : goal.returns-in_ok-let_go-in-BreaksOff-clause-ok
-returns-in_ok-let_go-in-BreaksOff-clause-ok c = ?
+returns-in_ok-let_go-in-BreaksOff-clause-ok c =
+    let h = c.args.store.now.held in
+    let t = c.args.shoens.now in
+    let d = c.args.draft.now in
+    let P : Control CellName → Type 0 = λ x. DraftsAll (λ f. heard c.args.number (control_as f h x)) h c.raise_whole-in-BreaksOff.new.store.held t c.raise_whole-in-BreaksOff.new.shoens d c.raise_whole-in-BreaksOff.new.draft in
+    on_ok_weaker c.raise_whole-in-BreaksOff.result
+    (λ ok. subst P (sym c.in-BreaksOff.is) (drafts_broken_off h c.raise_whole-in-BreaksOff.new.store.held t c.raise_whole-in-BreaksOff.new.shoens d c.let_go-in-BreaksOff.new.draft c.raise_whole-in-BreaksOff.new.draft c.args.number c.in-BreaksOff.term
+    (drafts_unmonitored h t d c.let_go-in-BreaksOff.new.draft c.args.number c.in_ok-let_go-in-BreaksOff.ensures.ok c.in_ok-let_go-in-BreaksOff.ensures.rest) ok))
+    c.raise_whole-in-BreaksOff.ensures.ok

@@ -1,25 +1,24 @@
-use Rattle.std.proofs.Common.{rules, ◌≡◌, [], ◌∷◌, ◌++◌, OnOk, ℕ, ◌+◌, ◌-◌, ◌*◌, ◌<◌, ◌≤◌, length, ◌/◌, ◌%◌, Bool, true, false, nat_eq, nat_lt, List, slice_index_or, slice_set, bit_and, bit_or, Fits, w8, w32, w64, Bor, MutBor}
-use Rattle.kl1_model.specs.Reduction.{obeyed, heard}
-use Rattle.kl1_model.specs.declared.message.Message.TheVariants.{Stop, Start, Abort, Allow}
-use Rattle.kl1_store.specs.Held.{Held}
-use Rattle.kl1_store.specs.Sound.{Grown}
-use Rattle.kl1_stream.specs.Controls.{control_as, ControlIn}
-use Rattle.kl1_account.specs.Kept.{AreShoensIn}
-use Rattle.kl1_account.specs.Drafts.{DraftsAll, CanGoBack}
+use Rattle.std.proofs.Common.{false, refl, sym, ◌∙◌}
+use Rattle.std.specs.Prelude.{Some, None}
+use Rattle.std.proofs.lemmas.Result.{on_ok_weaker}
+use Rattle.kl1_store.proofs.Grows.{Grown-same}
+use Rattle.kl1_account.proofs.TreesIn.{changed_in}
+use Rattle.kl1_account.proofs.Effects.{drafts_not_resumed, goes_on_already, halted, drafts_resumed, not_so, so_after_all}
 use Rattle.kl1_account.proofs.obeying.resume.Goals as goal
 
--- src/obeying.rt:65:9
 pub returns-in_default-clause-ok : goal.returns-in_default-clause-ok
-returns-in_default-clause-ok c = ?
+returns-in_default-clause-ok c = drafts_not_resumed c.args.store.now.held c.args.shoens.now c.args.draft.now c.args.number None (sym c.lend.ensures.value ∙ (sym c.copied.ensures ∙ c.in_default.is)) (λ t s. refl)
 
--- src/obeying.rt:68:9
 pub returns-then-not-shoen-clause-ok : goal.returns-then-not-shoen-clause-ok
-returns-then-not-shoen-clause-ok c = ?
+returns-then-not-shoen-clause-ok c =
+    drafts_not_resumed c.args.store.now.held c.args.shoens.now c.args.draft.now c.args.number (Some c.in-Some.shoen) (sym c.lend.ensures.value ∙ (sym c.copied.ensures ∙ c.in-Some.is)) (goes_on_already c.in-Some.shoen c.args.number (not_so c.in-Some.shoen.is_stopped c.if-not-shoen.true))
 
--- src/obeying.rt:72:5
 pub report_name-requires : goal.report_name-requires
-report_name-requires c = ?
+report_name-requires c =
+    record { shoens = changed_in c.args.store.now.held c.args.store.now.held c.args.shoens.now c.set_stopped.new.self c.args.number (halted false) (Grown-same c.args.store.now.held) (λ s i. record { control = i.control; tail = i.tail; origin = i.origin }) c.requires.shoens c.in_ok-set_stopped.ensures.ok }
 
--- src/obeying.rt:49:1
 pub returns-clause-ok : goal.returns-clause-ok
-returns-clause-ok c = ?
+returns-clause-ok c =
+    on_ok_weaker c.report_name.result
+    (λ told. drafts_resumed c.args.store.now.held c.report_name.new.store.held c.args.shoens.now c.set_stopped.new.self c.report_name.new.shoens c.args.draft.now c.report_name.new.draft c.args.number c.in-Some.shoen (sym c.lend.ensures.value ∙ (sym c.copied.ensures ∙ c.in-Some.is)) (so_after_all c.in-Some.shoen.is_stopped c.if-not-shoen.false) c.in_ok-set_stopped.ensures.ok told)
+    c.report_name.ensures.ok
