@@ -1,8 +1,9 @@
 -- Goals that commit, and goals that go.
-use Rattle.std.proofs.Common.{◌≡◌, ℕ, suc, ◌+◌, ◌-◌, ◌<◌, ◌≤◌, ◌==◌, not, ◌&&◌, true, false, if◌then◌else◌, Bool, List, [], ◌∷◌, ◌++◌, length, map, refl, sym, ap, ap₂, ◌∙◌, subst, arith}
-use Rattle.std.specs.Prelude.{unwrap_or, nat_le, nat_lt, filter, find, count_by, Option, Some, None, option_map}
+use Rattle.std.proofs.Common.{◌≡◌, ℕ, suc, ◌+◌, ◌-◌, ◌<◌, ◌≤◌, ◌==◌, not, ◌&&◌, true, false, if◌then◌else◌, Bool, List, [], ◌∷◌, ◌++◌, length, map, drop, get_or, refl, sym, ap, ap₂, ◌∙◌, subst, arith}
+use Rattle.std.specs.Prelude.{cond, unwrap_or, nat_le, nat_lt, filter, find, count_by, Option, Some, None, option_map}
 use Rattle.std.specs.List.{AllByRecursion}
-use Rattle.std.proofs.lemmas.List.{map-append, append-nil}
+use Rattle.std.proofs.lemmas.List.{map-append, append-nil, drop_more}
+use Rattle.std.proofs.lemmas.List.Sums.{sum_by-cons}
 use Rattle.kl1_model.specs.Limits.{most_goals, most_variables, most_nodes, most_shoens, most_shoen_depth}
 use Rattle.kl1_model.specs.Term.{Term}
 use Rattle.kl1_model.specs.Module.{Clause, goals_of}
@@ -15,7 +16,8 @@ use Rattle.kl1_model.specs.Tree.{goals_alive, depth_of}
 use Rattle.kl1_model.specs.Opening.{clipped, clipped_to, has_room_for_child, child_shoen, open_child, open_shoen}
 use Rattle.kl1_model.specs.Look as look
 use Rattle.kl1_model.specs.Look.{number_of_term}
-use Rattle.kl1_model.specs.Reduction.{priority_of, goals_from, has_room_for, committed}
+use Rattle.kl1_model.specs.Reduction.{priority_of, goals_from, has_room_for, commits, or_exhaustion, committed, moved}
+use Rattle.kl1_model.specs.Report.{report, exception, exhaustion}
 use Rattle.kl1_text.specs.declared.cell_name.CellName.{CellName}
 use Rattle.kl1_store.specs.declared.qualified.Qualified.{Qualified}
 use Rattle.kl1_store.specs.declared.cell.Cell.{Cell}
@@ -29,14 +31,19 @@ use Rattle.kl1_goals.specs.Lists.{is_other, is_monitor, is_monitor_task}
 use Rattle.kl1_shoen.specs.declared.shoen.Shoen.{Shoen}
 use Rattle.kl1_shoen.specs.Shoens.{Tree, has_number, path_in}
 use Rattle.kl1_moves.specs.declared.order.Order.{Order}
+use Rattle.kl1_clause.specs.declared.predicate.Predicate.{Predicate}
+use Rattle.kl1_match.specs.declared.place.Place.{Place}
+use Rattle.kl1_moves.specs.Moves.{IsCandidate}
 use Rattle.kl1_moves.specs.Bodies.{IsBody}
 use Rattle.kl1_moves.specs.Orders.{order_at}
 use Rattle.kl1_modules.specs.Numbered.{Numbered}
 use Rattle.kl1_account.specs.declared.draft.Draft.{Draft}
-use Rattle.kl1_account.specs.Fitting.{Reading}
+use Rattle.kl1_text.specs.Reading.{Reads}
+use Rattle.kl1_account.specs.Fitting.{Reading, built}
 use Rattle.kl1_account.specs.Account.{Means, meaning, task_with, goal_with, shoen_with, aim}
 use Rattle.kl1_account.specs.Kept.{AreGoalsIn, IsOwned, AreOwned}
 use Rattle.kl1_account.specs.Drafts.{goals_left, goals_for, made_of, Drafts, DraftsAll, HasBegun}
+use Rattle.kl1_account.specs.Moving.{priorities_by, Commits}
 use Rattle.kl1_account.specs.Works.{Made, worked, IsMadeIn, Knows, Turns}
 use Rattle.kl1_account.proofs.Aims.{aim_is}
 use Rattle.kl1_account.proofs.States.{Agree, same_goals, same_shoens, goals_grown, shoens_grown, found_in}
@@ -78,11 +85,6 @@ pub goals_for_above : (n last shoen : ℕ) (ps : List ℕ) (xs : List (Qualified
 goals_for_above n last shoen ps [] le = tt
 goals_for_above n last shoen [] (x ∷ xs) le = tt
 goals_for_above n last shoen (p ∷ ps) (x ∷ xs) le = (omega arith, goals_for_above n (suc last) shoen ps xs (omega arith))
-
--- the priorities of a body's goals
-abbrev pub priorities_by : Option (Shoen CellName) → ℕ → List (Option ℕ) → List ℕ
-priorities_by None own ps = map (priority_of None own) ps
-priorities_by (Some h) own ps = map (λ (p : Option ℕ). unwrap_or (option_map (clipped h.low h.high) p) own) ps
 
 one_clipped : (t : Means) (h : Shoen CellName) (own : ℕ) (p : Option ℕ) → priority_of (Some (shoen_with t h)) own p ≡ unwrap_or (option_map (clipped h.low h.high) p) own
 one_clipped t h own None = refl
@@ -160,3 +162,77 @@ commit_turns ms h k w goal o ps fresh nodes cells candidate i g there own inside
 tasks_count : (t : Means) (k : Task CellName) → not (model.is_monitor (task_with t k)) ≡ not (is_monitor_task k)
 tasks_count t Monitor = refl
 tasks_count t (Reduces x) = refl
+
+pub alive_read : (t : Means) (gs : List (Goal CellName)) → count_by (λ (g : model.Goal). not (model.is_monitor g.task)) (map (goal_with t) gs) ≡ count_by (λ g. not (is_monitor g)) gs
+alive_read t [] = refl
+alive_read t (g ∷ gs) =
+    sum_by-cons (λ (x : model.Goal). cond (not (model.is_monitor x.task)) 1 0) (goal_with t g) (map (goal_with t) gs)
+    ∙ ap₂ (λ b (n : ℕ). cond b 1 0 + n) (tasks_count t g.task) (alive_read t gs)
+    ∙ sym (sum_by-cons (λ (x : Goal CellName). cond (not (is_monitor x)) 1 0) g gs)
+
+-- whether there is room for a body, by what is counted
+pub room_read : (f : Reading) (s : State) (h : Held CellName) (w : Made) (clause : Clause) (alive goals fresh nodes : ℕ) → alive ≡ count_by (λ g. not (is_monitor g)) w.goals → goals ≡ length clause.body → fresh ≡ fresh_variables clause → nodes ≡ goals_nodes (goals_of clause.body) →
+    has_room_for (worked f s h w) clause ≡ (nat_le (alive + goals) most_goals && nat_le (w.variables + fresh) most_variables && nat_le (w.nodes + nodes) most_nodes)
+room_read f s h w clause alive goals fresh nodes a b c d =
+    ap (λ n. nat_le (n + length clause.body) most_goals && nat_le (w.variables + fresh_variables clause) most_variables && nat_le (w.nodes + goals_nodes (goals_of clause.body)) most_nodes) (alive_read (meaning f h) w.goals ∙ sym a)
+    ∙ ap (λ n. nat_le (alive + n) most_goals && nat_le (w.variables + fresh_variables clause) most_variables && nat_le (w.nodes + goals_nodes (goals_of clause.body)) most_nodes) (sym b)
+    ∙ ap (λ n. nat_le (alive + goals) most_goals && nat_le (w.variables + n) most_variables && nat_le (w.nodes + goals_nodes (goals_of clause.body)) most_nodes) (sym c)
+    ∙ ap (λ n. nat_le (alive + goals) most_goals && nat_le (w.variables + fresh) most_variables && nat_le (w.nodes + n) most_nodes) (sym d)
+
+-- ---- drafts
+
+-- a draft whose goal finds no room for the body
+pub drafts_exhausted : (p : Predicate CellName) (place : ℕ) (places : List (Place CellName)) (goal : Goal CellName) (x : Qualified CellName) (goals : List (Goal CellName)) (h k : Held CellName) (t u : Tree CellName) (d e : Draft) (alive count fresh nodes : ℕ) →
+    alive ≡ count_by (λ g. not (is_monitor g)) (goals_left (goals ++ d.added.items) d) →
+    ((f : Reading) (c : Candidate) → IsCandidate f h p place places c → (count ≡ length c.clause.body) × ((fresh ≡ fresh_variables c.clause) × (nodes ≡ goals_nodes (goals_of c.clause.body)))) →
+    (nat_le (alive + count) most_goals && nat_le (d.variables + fresh) most_variables && nat_le (d.nodes + nodes) most_nodes) ≡ false →
+    DraftsAll (λ f. report goal.shoen (exception exhaustion (aim f h x))) h k t u d e → Commits p place places goal x goals h k t u d e
+drafts_exhausted p place places goal x goals h k t u d e alive count fresh nodes there needs full raised ms c candidate names i =
+    let w = made_of goals names t d in
+    turns_as ms (λ f. report goal.shoen (exception exhaustion (aim f h x))) (λ f. moved (goal_with (meaning f h) goal) (aim f h x) (commits (c f))) h k w (made_of goals names u e)
+    (λ f knows s.
+    let n = needs f (c f) (candidate f knows) in
+    let S = worked f s h w in
+    ap (λ b. or_exhaustion b goal.shoen (aim f h x) (committed (goal_with (meaning f h) goal) (c f) S) S) (room_read f s h w (c f).clause alive count fresh nodes there n.0 n.1.0 n.1.1 ∙ full))
+    (raised ms goals names i)
+
+-- a draft whose goal has committed
+pub drafts_committed : (p : Predicate CellName) (place : ℕ) (places : List (Place CellName)) (goal : Goal CellName) (x : Qualified CellName) (goals : List (Goal CellName)) (h k : Held CellName) (t : Tree CellName) (d e : Draft) (alive count fresh nodes : ℕ) (sh : Shoen CellName) (ps : List (Option ℕ)) (cells : List (Qualified CellName)) →
+    HasBegun d → Grown h k → alive ≡ count_by (λ g. not (is_monitor g)) (goals_left (goals ++ d.added.items) d) →
+    ((f : Reading) (c : Candidate) → IsCandidate f h p place places c → (count ≡ length c.clause.body) × ((fresh ≡ fresh_variables c.clause) × (nodes ≡ goals_nodes (goals_of c.clause.body)))) →
+    (nat_le (alive + count) most_goals && nat_le (d.variables + fresh) most_variables && nat_le (d.nodes + nodes) most_nodes) ≡ true →
+    find (has_number goal.shoen) t.shoens ≡ Some sh → sh.number ≡ goal.shoen → IsOwned (length t.shoens) goal → AreQualifiedIn k cells →
+    ((f : Reading) (c : Candidate) → IsCandidate f h p place places c → ps ≡ body_priorities c.clause) →
+    ((f : Reading) → Reads built f → (c : Candidate) → IsCandidate f h p place places c → IsBody f c h k cells) →
+    e.added.items ≡ d.added.items ++ goals_for d.last_goal sh.number (priorities_by (Some sh) goal.priority ps) cells → e.last_goal ≡ d.last_goal + length cells → e.variables ≡ d.variables + fresh → e.nodes ≡ d.nodes + nodes →
+    e ≡ record d { added = e.added; last_goal = e.last_goal; variables = e.variables; nodes = e.nodes; cells = e.cells } → Commits p place places goal x goals h k t t d e
+drafts_committed p place places goal x goals h k t d e alive count fresh nodes sh ps cells b g there needs room found number own inside priorities body added last variables structures is ms c candidate names i =
+    let w = made_of goals names t d in
+    let le = b.removed in
+    let qs = priorities_by (Some sh) goal.priority ps in
+    let more = goals_for d.last_goal goal.shoen qs cells in
+    let T : Made → Type 0 = λ m. Turns ms (λ f. committed (goal_with (meaning f h) goal) (c f)) h k w m in
+    let same : with_body w goal.shoen qs cells fresh nodes ≡ made_of goals names t e =
+    ap (λ (gs : List (Goal CellName)). let z : Made = record w { goals = gs; last_goal = d.last_goal + length cells; variables = d.variables + fresh; nodes = d.nodes + nodes } in z) (sym (left_more d goals d.added.items more b (goals_for_above d.removed d.last_goal goal.shoen qs cells le)))
+    ∙ ap (λ n. let z : Made = record w { goals = goals_left (goals ++ (d.added.items ++ goals_for d.last_goal n qs cells)) d; last_goal = d.last_goal + length cells; variables = d.variables + fresh; nodes = d.nodes + nodes } in z) (sym number)
+    ∙ ap (λ (gs : List (Goal CellName)). let z : Made = record w { goals = goals_left (goals ++ gs) d; last_goal = d.last_goal + length cells; variables = d.variables + fresh; nodes = d.nodes + nodes } in z) (sym added)
+    ∙ ap (λ n. let z : Made = record w { goals = goals_left (goals ++ e.added.items) d; last_goal = n; variables = d.variables + fresh; nodes = d.nodes + nodes } in z) (sym last)
+    ∙ ap (λ n. let z : Made = record w { goals = goals_left (goals ++ e.added.items) d; last_goal = e.last_goal; variables = n; nodes = d.nodes + nodes } in z) (sym variables)
+    ∙ ap (λ n. let z : Made = record w { goals = goals_left (goals ++ e.added.items) d; last_goal = e.last_goal; variables = e.variables; nodes = n } in z) (sym structures)
+    ∙ ap (made_of goals names t) (sym is) in
+    turns_as ms (λ f. committed (goal_with (meaning f h) goal) (c f)) (λ f. moved (goal_with (meaning f h) goal) (aim f h x) (commits (c f))) h k w (made_of goals names t e)
+    (λ f knows s.
+    let n = needs f (c f) (candidate f knows) in
+    let S = worked f s h w in
+    ap (λ y. or_exhaustion y goal.shoen (aim f h x) (committed (goal_with (meaning f h) goal) (c f) S) S) (room_read f s h w (c f).clause alive count fresh nodes there n.0 n.1.0 n.1.1 ∙ room))
+    (subst T same
+    (commit_turns ms h k w goal (Some sh) ps fresh nodes cells c i g found own inside (λ f knows. priorities f (c f) (candidate f knows)) (λ f knows. (needs f (c f) (candidate f knows)).1.0) (λ f knows. (needs f (c f) (candidate f knows)).1.1)
+    (λ f knows. body f knows.reads (c f) (candidate f knows))))
+
+-- goals for the cells that are left come after those so far
+pub one_added : (last shoen : ℕ) (o : Option (Shoen CellName)) (own i : ℕ) (d : Option ℕ) (x : Qualified CellName) (ps : List (Option ℕ)) (xs : List (Qualified CellName)) (sh : Shoen CellName) → i < length ps → i < length xs →
+    goals_for last shoen (priorities_by (Some sh) own (drop i ps)) (drop i xs)
+    ≡ record { number = suc last; task = Reduces (get_or xs i x); shoen = shoen; priority = unwrap_or (option_map (clipped sh.low sh.high) (get_or ps i d)) own; standing = None; is_enabled = false } ∷ goals_for (suc last) shoen (priorities_by (Some sh) own (drop (i + 1) ps)) (drop (i + 1) xs)
+one_added last shoen o own i d x ps xs sh a b =
+    ap (λ (qs : List (Option ℕ)). goals_for last shoen (priorities_by (Some sh) own qs) (drop i xs)) (drop_more ps i d a)
+    ∙ ap (λ (ys : List (Qualified CellName)). goals_for last shoen (priorities_by (Some sh) own (get_or ps i d ∷ drop (i + 1) ps)) ys) (drop_more xs i x b)
