@@ -2,7 +2,7 @@
 use Rattle.std.proofs.Common.{◌≡◌, ℕ, suc, ◌+◌, ◌-◌, ◌<◌, ◌≤◌, ◌==◌, not, ◌&&◌, true, false, if◌then◌else◌, Bool, List, [], ◌∷◌, ◌++◌, length, map, drop, get_or, refl, sym, ap, ap₂, ◌∙◌, subst, arith}
 use Rattle.std.specs.Prelude.{cond, unwrap_or, nat_le, nat_lt, filter, find, count_by, Option, Some, None, option_map}
 use Rattle.std.specs.List.{AllByRecursion}
-use Rattle.std.proofs.lemmas.List.{map-append, append-nil, drop_more}
+use Rattle.std.proofs.lemmas.List.{map-append, append-nil, drop_more, drop_all}
 use Rattle.std.proofs.lemmas.List.Sums.{sum_by-cons}
 use Rattle.kl1_model.specs.Limits.{most_goals, most_variables, most_nodes, most_shoens, most_shoen_depth}
 use Rattle.kl1_model.specs.Term.{Term}
@@ -236,3 +236,11 @@ pub one_added : (last shoen : ℕ) (o : Option (Shoen CellName)) (own i : ℕ) (
 one_added last shoen o own i d x ps xs sh a b =
     ap (λ (qs : List (Option ℕ)). goals_for last shoen (priorities_by (Some sh) own qs) (drop i xs)) (drop_more ps i d a)
     ∙ ap (λ (ys : List (Qualified CellName)). goals_for last shoen (priorities_by (Some sh) own (get_or ps i d ∷ drop (i + 1) ps)) ys) (drop_more xs i x b)
+
+nothing_for : (last shoen : ℕ) (ys : List (Qualified CellName)) → goals_for last shoen [] ys ≡ []
+nothing_for last shoen [] = refl
+nothing_for last shoen (y ∷ ys) = refl
+
+-- where there is no priority more there is no goal more
+pub none_added : (last shoen i own : ℕ) (sh : Shoen CellName) (ps : List (Option ℕ)) (ys : List (Qualified CellName)) → length ps ≤ i → goals_for last shoen (priorities_by (Some sh) own (drop i ps)) ys ≡ []
+none_added last shoen i own sh ps ys le = ap (λ (qs : List (Option ℕ)). goals_for last shoen (priorities_by (Some sh) own qs) ys) (drop_all i ps le) ∙ nothing_for last shoen ys

@@ -1,30 +1,39 @@
 -- Goals and shoens that come after the others.
-use Rattle.std.proofs.Common.{◌≡◌, ℕ, suc, ◌+◌, ◌-◌, ◌<◌, ◌≤◌, ◌==◌, not, true, false, if◌then◌else◌, Bool, List, [], ◌∷◌, ◌++◌, length, map, length-append, refl, sym, ap, ap₂, ◌∙◌, subst, arith}
-use Rattle.std.specs.Prelude.{filter, Option, Some, None}
+use Rattle.std.proofs.Common.{◌≡◌, ℕ, suc, ◌+◌, ◌-◌, ◌<◌, ◌≤◌, ◌==◌, not, ◌&&◌, true, false, if◌then◌else◌, Bool, List, [], ◌∷◌, ◌++◌, length, map, length-append, refl, sym, ap, ap₂, ◌∙◌, subst, arith}
+use Rattle.std.specs.Prelude.{nat_lt, filter, find, slice_get, Option, Some, None}
 use Rattle.std.specs.List.{AllByRecursion}
 use Rattle.std.proofs.lemmas.Bool.{ne_eqb}
 use Rattle.std.proofs.lemmas.List.{map-append, append_assoc}
-use Rattle.kl1_model.specs.Limits.{monitor_priority}
+use Rattle.kl1_model.specs.declared.life.Life.TheVariants.{Living}
+use Rattle.kl1_model.specs.Limits.{monitor_priority, most_shoens, most_shoen_depth}
+use Rattle.kl1_model.specs.Look as model_look
+use Rattle.kl1_model.specs.Look.{number_of_term}
 use Rattle.kl1_model.specs.State as model
 use Rattle.kl1_model.specs.State.{State}
-use Rattle.kl1_model.specs.Report.{report, started_report, exhausted_report}
-use Rattle.kl1_model.specs.Opening.{opening_goals, with_shoen, open_shoen}
+use Rattle.kl1_model.specs.Report.{report, exception, exhaustion, started_report, exhausted_report}
+use Rattle.kl1_model.specs.Opening.{clipped, clipped_to, with_shoen, open_shoen, open_child}
+use Rattle.kl1_model.specs.Reduction.{opens, or_exhaustion, moved}
 use Rattle.kl1_text.specs.declared.cell_name.CellName.{CellName}
 use Rattle.kl1_store.specs.declared.cell.Cell.{Cell}
-use Rattle.kl1_store.specs.Held.{Held, IsIn}
+use Rattle.kl1_store.specs.declared.qualified.Qualified.{Qualified}
+use Rattle.kl1_store.specs.Held.{Held, IsIn, arguments_of}
+use Rattle.kl1_moves.specs.declared.order.Order.{Order}
+use Rattle.kl1_moves.specs.Orders.{order_at, IsOrder}
 use Rattle.kl1_goals.specs.declared.task.Task.TheVariants.{Monitor}
 use Rattle.kl1_goals.specs.declared.goal.Goal.{Goal}
 use Rattle.kl1_goals.specs.Lists.{is_other, is_flagged}
 use Rattle.kl1_shoen.specs.declared.shoen.Shoen.{Shoen}
-use Rattle.kl1_shoen.specs.Shoens.{Tree}
+use Rattle.kl1_shoen.specs.Shoens.{Tree, has_number, path_in}
 use Rattle.kl1_modules.specs.Numbered.{Numbered}
 use Rattle.kl1_account.specs.declared.draft.Draft.{Draft}
 use Rattle.kl1_account.specs.Fitting.{Reading}
-use Rattle.kl1_account.specs.Account.{Means, meaning, goal_with, shoen_with}
+use Rattle.kl1_account.specs.Account.{Means, meaning, goal_with, shoen_with, aim}
 use Rattle.kl1_account.specs.Kept.{AreGoalsIn, IsOwned, AreOwned, IsShoenIn, AreShoensIn}
 use Rattle.kl1_account.specs.Drafts.{staying, goals_left, made_of, Drafts, DraftsAll, HasBegun, two_for}
+use Rattle.kl1_account.specs.Moving.{OpensChild}
 use Rattle.kl1_account.specs.Works.{Made, worked, IsMadeIn, Turns}
-use Rattle.kl1_account.proofs.Works.{turns_then, turns_as, turns_none}
+use Rattle.kl1_account.proofs.Works.{finds, turns_then, turns_as}
+use Rattle.kl1_account.proofs.Walking.{path_read}
 use Rattle.kl1_account.proofs.Goals.{filter_append, all_stay, goals_in_append, owned_append}
 use Rattle.kl1_account.proofs.Finishing.{drafts_then, drafts_as}
 
@@ -130,3 +139,88 @@ drafts_opened_empty h k l t u v y d e a b sh x none p q r =
     ap (λ c. if c then report sh.number exhausted_report opened else opened) none)
     (drafts_then (λ f s. report sh.number started_report (with_shoen (shoen_with (meaning f h) sh) (meaning f h x) s)) (λ f. report sh.number exhausted_report) h k l t v y d a b
     (drafts_then (λ f. with_shoen (shoen_with (meaning f h) sh) (meaning f h x)) (λ f. report sh.number started_report) h h k t u v d e a p q) r)
+
+-- ---- children
+
+-- a goal of a shoen that may open no child
+pub drafts_full : (s : ℕ) (goal : Goal CellName) (x : Qualified CellName) (h k : Held CellName) (t u : Tree CellName) (d e : Draft) → (nat_lt (length t.shoens) most_shoens && nat_lt (length (path_in t.shoens goal.shoen)) most_shoen_depth) ≡ false →
+    DraftsAll (λ f. report goal.shoen (exception exhaustion (aim f h x))) h k t u d e → OpensChild s goal x h k t u d e
+drafts_full s goal x h k t u d e full raised o order ms goals names i =
+    let w = made_of goals names t d in
+    turns_as ms (λ f. report goal.shoen (exception exhaustion (aim f h x))) (λ f. moved (goal_with (meaning f h) goal) (aim f h x) (opens (order_at f h o))) h k w (made_of goals names u e)
+    (λ f knows z.
+    let S = worked f z h w in
+    ap (λ (ns : List ℕ). or_exhaustion (nat_lt (length t.shoens) most_shoens && nat_lt (length ns) most_shoen_depth) goal.shoen (aim f h x) (open_child S goal.shoen (order_at f h o)) S) (path_read (meaning f h) t.shoens goal.shoen)
+    ∙ ap (λ b. or_exhaustion b goal.shoen (aim f h x) (open_child S goal.shoen (order_at f h o)) S) full)
+    (raised ms goals names i)
+
+-- the child of a shoen, as it is kept
+abbrev pub child_of : List (Shoen CellName) → Goal CellName → Order CellName → ℕ → ℕ → ℕ → Shoen CellName
+child_of ss goal o allowance low high = record {
+  number = suc (length ss);
+  parent = goal.shoen;
+  allowance = allowance;
+  low = low;
+  high = high;
+  control = o.control;
+  tail = o.reports;
+  life = Living;
+  is_stopped = false;
+  is_broken = false;
+  origin = None;
+}
+
+-- a child that is opened
+pub drafts_child : (s : ℕ) (goal : Goal CellName) (x : Qualified CellName) (h k : Held CellName) (t u : Tree CellName) (d e : Draft) (parent : Shoen CellName) (o : Order CellName) (allowance low high : ℕ) →
+    (nat_lt (length t.shoens) most_shoens && nat_lt (length (path_in t.shoens goal.shoen)) most_shoen_depth) ≡ true → find (has_number goal.shoen) t.shoens ≡ Some parent →
+    ((f : Reading) → allowance ≡ number_of_term (meaning f h o.allowance)) → ((f : Reading) → low ≡ clipped parent.low parent.high (number_of_term (meaning f h o.low))) → ((f : Reading) → high ≡ clipped parent.low parent.high (number_of_term (meaning f h o.high))) →
+    ((p : Order CellName) → IsOrder h s p → p ≡ o) →
+    DraftsAll (λ f. open_shoen (shoen_with (meaning f h) (child_of t.shoens goal o allowance low high)) (meaning f h o.goal)) h k t u d e → OpensChild s goal x h k t u d e
+drafts_child s goal x h k t u d e parent o allowance low high room there a b c one opened p order ms goals names i =
+    let w = made_of goals names t d in
+    turns_as ms (λ f. open_shoen (shoen_with (meaning f h) (child_of t.shoens goal o allowance low high)) (meaning f h o.goal)) (λ f. moved (goal_with (meaning f h) goal) (aim f h x) (opens (order_at f h p))) h k w (made_of goals names u e)
+    (λ f knows z.
+    let S = worked f z h w in
+    let q : Order CellName → model_look.Order = λ y. order_at f h y in
+    let child : Option model.Shoen → ℕ → ℕ → ℕ → model.Shoen = λ y n l m. record {
+      number = suc (length t.shoens);
+      parent = goal.shoen;
+      life = Living;
+      is_stopped = false;
+      allowance = n;
+      low = clipped_to y l;
+      high = clipped_to y m;
+      control = meaning f h o.control;
+      tail = meaning f h o.reports;
+      is_broken = false;
+      origin = None;
+    } in
+    let kept : ℕ → ℕ → ℕ → model.Shoen = λ n l m. shoen_with (meaning f h) (child_of t.shoens goal o n l m) in
+    ap (λ (y : Order CellName). moved (goal_with (meaning f h) goal) (aim f h x) (opens (order_at f h y)) S) (one p order)
+    ∙ ap (λ (ns : List ℕ). or_exhaustion (nat_lt (length t.shoens) most_shoens && nat_lt (length ns) most_shoen_depth) goal.shoen (aim f h x) (open_child S goal.shoen (q o)) S) (path_read (meaning f h) t.shoens goal.shoen)
+    ∙ ap (λ y. or_exhaustion y goal.shoen (aim f h x) (open_child S goal.shoen (q o)) S) room
+    ∙ ap (λ (y : Option model.Shoen). open_shoen (child y (number_of_term (meaning f h o.allowance)) (number_of_term (meaning f h o.low)) (number_of_term (meaning f h o.high))) (meaning f h o.goal) S) (finds z (meaning f h) (h.variables - 1) w goal.shoen (Some parent) there)
+    ∙ ap (λ n. open_shoen (kept n (clipped parent.low parent.high (number_of_term (meaning f h o.low))) (clipped parent.low parent.high (number_of_term (meaning f h o.high)))) (meaning f h o.goal) S) (sym (a f))
+    ∙ ap (λ n. open_shoen (kept allowance n (clipped parent.low parent.high (number_of_term (meaning f h o.high)))) (meaning f h o.goal) S) (sym (b f))
+    ∙ ap (λ n. open_shoen (kept allowance low n) (meaning f h o.goal) S) (sym (c f)))
+    (opened ms goals names i)
+
+-- the arguments of a structure are one order
+same_some : {A : Type 0} (o : Option A) (x y : A) → o ≡ Some x → o ≡ Some y → x ≡ y
+same_some o x y a b = cc
+
+pub one_order : (h : Held CellName) (s : ℕ) (p o : Order CellName) → IsOrder h s o → IsOrder h s p → p ≡ o
+one_order h s p o a b =
+    let one = same_some (slice_get (arguments_of h s) 0) p.goal o.goal b.goal_is a.goal_is in
+    let two = same_some (slice_get (arguments_of h s) 1) p.low o.low b.low_is a.low_is in
+    let three = same_some (slice_get (arguments_of h s) 2) p.high o.high b.high_is a.high_is in
+    let four = same_some (slice_get (arguments_of h s) 3) p.allowance o.allowance b.allowance_is a.allowance_is in
+    let five = same_some (slice_get (arguments_of h s) 4) p.control o.control b.control_is a.control_is in
+    let six = same_some (slice_get (arguments_of h s) 5) p.reports o.reports b.reports_is a.reports_is in
+    let mk : Cell CellName → Cell CellName → Cell CellName → Cell CellName → Cell CellName → Cell CellName → Order CellName = λ g l m n c r. record { goal = g; low = l; high = m; allowance = n; control = c; reports = r } in
+    ap (λ y. mk y p.low p.high p.allowance p.control p.reports) one
+    ∙ ap (λ y. mk o.goal y p.high p.allowance p.control p.reports) two
+    ∙ ap (λ y. mk o.goal o.low y p.allowance p.control p.reports) three
+    ∙ ap (λ y. mk o.goal o.low o.high y p.control p.reports) four
+    ∙ ap (λ y. mk o.goal o.low o.high o.allowance y p.reports) five
+    ∙ ap (λ y. mk o.goal o.low o.high o.allowance o.control y) six

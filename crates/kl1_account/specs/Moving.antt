@@ -3,7 +3,7 @@ use Rattle.std.specs.Prelude.{◌≡◌, ℕ, List, map, Option, Some, None, opt
 use Rattle.kl1_model.specs.Match.{Candidate}
 use Rattle.kl1_model.specs.Opening.{clipped}
 use Rattle.kl1_model.specs.Reduction as model
-use Rattle.kl1_model.specs.Reduction.{commits, moved, priority_of}
+use Rattle.kl1_model.specs.Reduction.{commits, opens, moved, priority_of}
 use Rattle.kl1_model.specs.Waits.{move_by}
 use Rattle.kl1_text.specs.declared.cell_name.CellName.{CellName}
 use Rattle.kl1_store.specs.declared.qualified.Qualified.{Qualified}
@@ -11,6 +11,8 @@ use Rattle.kl1_store.specs.Held.{Held}
 use Rattle.kl1_clause.specs.declared.predicate.Predicate.{Predicate}
 use Rattle.kl1_match.specs.declared.place.Place.{Place}
 use Rattle.kl1_moves.specs.declared.moves.Move.{Move}
+use Rattle.kl1_moves.specs.declared.order.Order.{Order}
+use Rattle.kl1_moves.specs.Orders.{order_at, IsOrder}
 use Rattle.kl1_moves.specs.Moves.{IsCandidate, MovesAs}
 use Rattle.kl1_goals.specs.declared.goal.Goal.{Goal}
 use Rattle.kl1_shoen.specs.declared.shoen.Shoen.{Shoen}
@@ -20,7 +22,7 @@ use Rattle.kl1_modules.specs.Finding.{contents}
 use Rattle.kl1_account.specs.declared.draft.Draft.{Draft}
 use Rattle.kl1_account.specs.Fitting.{Reading}
 use Rattle.kl1_account.specs.Account.{meaning, goal_with, aim}
-use Rattle.kl1_account.specs.Drafts.{Drafts}
+use Rattle.kl1_account.specs.Drafts.{Drafts, DraftsAll}
 use Rattle.kl1_account.specs.Works.{Knows}
 
 -- the priorities of a body's goals, by those that they name, if any, and the shoen, which may be there: clipped to its range
@@ -43,3 +45,9 @@ Moves p made places text goal x goals names old new t u before after =
     ((f : Reading) → Knows ms f → MovesAs f old (contents ms) (aim f old x) clause p places text (Some made)) →
     ((f : Reading) → Knows ms f → move_by (contents ms) (aim f old x) clause ≡ Some (m f)) →
     Drafts ms (λ f. moved (goal_with (meaning f old) goal) (aim f old x) (m f)) old new goals names t u before after
+
+-- a goal that is this cell and has been removed has opened a child by the order that a structure is, or has raised an exception where
+-- that would pass a limit
+abbrev pub OpensChild : ℕ → Goal CellName → Qualified CellName → Held CellName → Held CellName → Tree CellName → Tree CellName → Draft → Draft → Type 0
+OpensChild s goal x old new t u before after =
+    (o : Order CellName) → IsOrder old s o → DraftsAll (λ f. moved (goal_with (meaning f old) goal) (aim f old x) (opens (order_at f old o))) old new t u before after

@@ -1,6 +1,6 @@
 // Goals that commit to clauses.
 
-ghost use Rattle.std.specs.Prelude.{◌≡◌, ◌+◌, ◌<◌, ◌^◌, [], ◌++◌, ◌&&◌, nat_le, not, List, ℕ, length, count_by, Some, option_map, unwrap_or, OnOk};
+ghost use Rattle.std.specs.Prelude.{◌≡◌, ◌+◌, ◌<◌, ◌^◌, [], ◌++◌, ◌&&◌, nat_le, not, List, ℕ, length, count_by, Some, option_map, unwrap_or, IfOk, OnOk};
 ghost use Rattle.kl1_model.specs.Limits.{most_goals, most_variables, most_nodes};
 ghost use Rattle.kl1_store.specs.Held.{IsIn};
 ghost use Rattle.kl1_store.specs.Sound.{Grown};
@@ -52,6 +52,13 @@ fn priority_in(shoen: &Shoen<CellName>, own: u64, named: Option<u64>) -> u64
         return own;
     };
     priority.min(shoen.high).max(shoen.low)
+}
+
+/// The number after which there are so many more. Numbers that run out are refused as for want of memory.
+pub(crate) fn last_of(last: u64, more: usize) -> Result<u64, AllocError>
+    ensures { IfOk result (λ number. number ≡ last + more) }
+{
+    last.checked_add(more as u64).ok_or(AllocError)
 }
 
 /// Puts goals for cells after others, of a shoen, with the numbers after the last; none can step as yet. Each has its own of these
@@ -124,9 +131,7 @@ pub(crate) fn commit(
         unreachable!()
     };
     put_body(store, predicate, place, trial, &mut draft.cells)?;
-    let Some(last) = draft.last_goal.checked_add(draft.cells.len() as u64) else {
-        return Err(AllocError);
-    };
+    let last = last_of(draft.last_goal, draft.cells.len())?;
     add_goals(
         &mut draft.added,
         draft.last_goal,
