@@ -1,10 +1,12 @@
-use Rattle.std.proofs.Common.{◌≡◌, suc, length, sym, ap, ◌∙◌, arith, subst}
-use Rattle.std.specs.Prelude.{Some}
+use Rattle.std.proofs.Common.{◌≡◌, ℕ, suc, length, sym, ap, ◌∙◌, arith, subst}
 use Rattle.std.proofs.lemmas.Result.{on_ok_weaker}
 use Rattle.kl1_text.specs.declared.cell_name.CellName.{CellName}
 use Rattle.kl1_shoen.specs.declared.shoen.Shoen.{Shoen}
+use Rattle.kl1_model.specs.Opening.{clipped, open_shoen}
+use Rattle.kl1_account.specs.Account.{meaning, shoen_with}
+use Rattle.kl1_account.specs.Drafts.{DraftsAll}
 use Rattle.kl1_account.proofs.TreesIn.{never_absent}
-use Rattle.kl1_account.proofs.Joining.{drafts_full, drafts_child, one_order}
+use Rattle.kl1_account.proofs.Joining.{drafts_full, child_of, drafts_child, one_order}
 use Rattle.kl1_account.proofs.children.open_child.Goals as goal
 
 pub returns-then-not-may_open-clause-ok : goal.returns-then-not-may_open-clause-ok
@@ -14,7 +16,25 @@ returns-then-not-may_open-clause-ok c =
     c.raise.ensures.ok
 
 pub unreachable-requires : goal.unreachable-requires
-unreachable-requires c = ?
+unreachable-requires c =
+    let low = c.requires.owned.low in
+    let high = c.requires.owned.high in
+    never_absent 0 c.args.goal.shoen c.args.shoens.now.shoens c.len.ensures.numbered low (omega arith) (sym c.lend.ensures.value ∙ (sym c.copied.ensures ∙ c.in_default.is))
 
 pub returns-clause-ok : goal.returns-clause-ok
-returns-clause-ok c = ?
+returns-clause-ok c =
+    let h = c.args.store.now.held in
+    let t = c.args.shoens.now in
+    let d = c.args.draft.now in
+    let o = c.order_at-order.result in
+    let parent = c.in-Some.parent in
+    let allowance = c.number_at.result in
+    let low = c.clipped_in.result in
+    let high = c.clipped_in-2.result in
+    let number : c.in_ok-number.number ≡ suc (length t.shoens) = omega (arith, c.in_ok-number.ensures, c.len.ensures.value) in
+    let P : ℕ → Type 0 = λ n. DraftsAll (λ f. open_shoen (shoen_with (meaning f h) (record (child_of t.shoens c.args.goal o allowance low high) { number = n })) (meaning f h o.goal)) h c.open_shoen.new.store.held t c.open_shoen.new.shoens d c.open_shoen.new.draft in
+    on_ok_weaker c.open_shoen.result
+    (λ opened. drafts_child c.args.structure c.args.goal c.args.cell h c.open_shoen.new.store.held t c.open_shoen.new.shoens d c.open_shoen.new.draft parent o allowance low high (sym c.may_open.ensures ∙ c.if-not-may_open.false) (sym c.lend.ensures.value ∙ (sym c.copied.ensures ∙ c.in-Some.is))
+    (λ f. c.number_at.ensures f) (λ f. c.clipped_in.ensures ∙ ap (clipped parent.low parent.high) (c.number_at-2.ensures f)) (λ f. c.clipped_in-2.ensures ∙ ap (clipped parent.low parent.high) (c.number_at-3.ensures f))
+    (λ p order. one_order h c.args.structure p o c.order_at-order.ensures.order order) (subst P number opened))
+    c.open_shoen.ensures.ok
