@@ -1,12 +1,14 @@
 -- Names that goals spell, on drafts.
-use Rattle.std.proofs.Common.{◌≡◌, ℕ, suc, ◌+◌, Bool, true, false, List, [], ◌∷◌, ◌++◌, length, refl, sym, ap, ◌∙◌, subst}
-use Rattle.std.specs.Prelude.{nat_le, Option, Some, None}
+use Rattle.std.proofs.Common.{◌≡◌, ℕ, suc, ◌+◌, Bool, true, false, List, [], ◌∷◌, ◌++◌, length, refl, sym, ap, ◌∙◌, subst, arith}
+use Rattle.std.specs.Prelude.{nat_le, nat_lt, option_map, Option, Some, None, Result, Ok, Err, OnOk}
+use Rattle.std.proofs.lemmas.List.{length-map, length_push}
 use Rattle.kl1_model.specs.Limits.{most_names}
 use Rattle.kl1_model.specs.Term.{Term, atom}
 use Rattle.kl1_model.specs.Unify.{solve}
 use Rattle.kl1_model.specs.State.{State, with_name}
 use Rattle.kl1_model.specs.Report.{report, exception, exhaustion}
 use Rattle.kl1_model.specs.Reduction.{or_exhaustion, named_by, unified, equation}
+use Rattle.kl1_text.specs.Reading.{Reads}
 use Rattle.kl1_text.specs.declared.cell_name.CellName.{CellName}
 use Rattle.kl1_atoms.specs.declared.known.Known.{Known}
 use Rattle.kl1_atoms.specs.Names.{number_by}
@@ -15,13 +17,15 @@ use Rattle.kl1_clause.proofs.Growth.{with_none}
 use Rattle.kl1_store.specs.declared.cell.Cell.{Cell}
 use Rattle.kl1_store.specs.declared.cell.Cell.TheVariants.{Atom}
 use Rattle.kl1_store.specs.declared.qualified.Qualified.{Qualified}
+use Rattle.kl1_store.specs.declared.unified.Unified.TheVariants.{Clash}
 use Rattle.kl1_store.specs.Held.{Held}
+use Rattle.kl1_store.specs.Unification.{UnifiesAs}
 use Rattle.kl1_store.proofs.Terms.{term_of-Atom}
 use Rattle.kl1_goals.specs.declared.goal.Goal.{Goal}
 use Rattle.kl1_shoen.specs.Shoens.{Tree}
 use Rattle.kl1_modules.specs.Numbered.{Numbered}
 use Rattle.kl1_account.specs.declared.draft.Draft.{Draft}
-use Rattle.kl1_account.specs.Fitting.{Reading}
+use Rattle.kl1_account.specs.Fitting.{Reading, built}
 use Rattle.kl1_account.specs.Account.{texts_of, meaning, aim}
 use Rattle.kl1_account.specs.Works.{Made, worked, IsMadeIn, Turns}
 use Rattle.kl1_account.specs.Drafts.{names_with, made_of, Drafts, DraftsAll}
@@ -97,3 +101,32 @@ drafts_name h k t u d c e n text known a x none room is p ms reads goals i =
     (ap (λ (ns : List (List ℕ)). nat_le (length (with_name ns text)) most_names) names_are ∙ room)
     ∙ ap (λ (b : Term). unified n (aim f h x) (solve (equation (meaning f h a) b)) (record S { names = with_name S.names text })) (sym (term_of-Atom f h (drafted_number known text) ∙ ap atom (reads f knows))))
     (turns_then ms (λ f s. record s { names = with_name s.names text }) U h h k w v end naming (unifying naming.inside))
+
+-- ---- what is left of a name that is drafted
+
+pub always_ok : {A E : Type 0} {P : Type 0} (r : Result A E) → P → OnOk r P
+always_ok (Ok x) p = p
+always_ok (Err e) p = tt
+
+-- a term that clashes with a number has no solution with its text
+pub no_solution : (h k : Held CellName) (a : Cell CellName) (c : CellName) → UnifiesAs built h k a (Atom c) Clash → (f : Reading) → Reads built f → solve (equation (meaning f h a) (atom (f c))) ≡ None
+no_solution h k a c u f reads = ap (λ (b : Term). solve (equation (meaning f h a) b)) (sym (term_of-Atom f h c)) ∙ u.0 f reads
+
+-- ---- whether there is room for a name
+
+pub room_known : (known : List Known) (text : List ℕ) (o : Option CellName) (v : CellName) (len : ℕ) → option_map (λ (c : CellName). c.number) o ≡ number_by known text → o ≡ Some v → len ≡ length known → nat_le len 1024 ≡ nat_le (length (with_name (texts_of known) text)) most_names
+room_known known text o v len number is len_is =
+    let e : number_by known text ≡ Some v.number = sym number ∙ ap (option_map (λ (c : CellName). c.number)) is in
+    ap (λ n. nat_le n 1024) (len_is ∙ sym (length-map known (λ (k : Known). k.text)))
+    ∙ ap (λ (l : List (List ℕ)). nat_le (length l) most_names) (sym (known_named known text v.number e))
+
+pub room_new : (known : List Known) (text : List ℕ) (o : Option CellName) (len : ℕ) → option_map (λ (c : CellName). c.number) o ≡ number_by known text → o ≡ None → len ≡ length known → nat_lt len 1024 ≡ nat_le (length (with_name (texts_of known) text)) most_names
+room_new known text o len number is len_is =
+    let e : number_by known text ≡ None = sym number ∙ ap (option_map (λ (c : CellName). c.number)) is in
+    below_next len
+    ∙ ap (λ n. nat_le (n + 1) 1024) (len_is ∙ sym (length-map known (λ (k : Known). k.text)))
+    ∙ ap (λ n. nat_le n 1024) (sym (length_push (texts_of known) text))
+    ∙ ap (λ (l : List (List ℕ)). nat_le (length l) most_names) (sym (new_named known text e))
+  where
+    below_next : (n : ℕ) → nat_lt n 1024 ≡ nat_le (n + 1) 1024
+    below_next n = let e : suc n ≡ n + 1 = omega arith in ap (λ m. nat_le m 1024) e
