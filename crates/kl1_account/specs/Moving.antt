@@ -11,6 +11,7 @@ use Rattle.kl1_store.specs.Held.{Held}
 use Rattle.kl1_clause.specs.declared.predicate.Predicate.{Predicate}
 use Rattle.kl1_match.specs.declared.place.Place.{Place}
 use Rattle.kl1_moves.specs.declared.moves.Move.{Move}
+use Rattle.kl1_moves.specs.declared.moves.Move.TheVariants as move
 use Rattle.kl1_moves.specs.declared.order.Order.{Order}
 use Rattle.kl1_moves.specs.Orders.{order_at, IsOrder}
 use Rattle.kl1_moves.specs.Moves.{IsCandidate, MovesAs}
@@ -51,3 +52,17 @@ Moves p made places text goal x goals names old new t u before after =
 abbrev pub OpensChild : ℕ → Goal CellName → Qualified CellName → Held CellName → Held CellName → Tree CellName → Tree CellName → Draft → Draft → Type 0
 OpensChild s goal x old new t u before after =
     (o : Order CellName) → IsOrder old s o → DraftsAll (λ f. moved (goal_with (meaning f old) goal) (aim f old x) (opens (order_at f old o))) old new t u before after
+
+-- a move uses no text as a name
+abbrev pub NamesNothing : Move CellName → Type 0
+NamesNothing (move.Commits place) = Unit {0}
+NamesNothing (move.Raises b) = Unit {0}
+NamesNothing (move.Unifies a b) = Unit {0}
+NamesNothing (move.Names a) = ⊥
+NamesNothing (move.Opens s) = Unit {0}
+NamesNothing move.Goes = Unit {0}
+
+-- a draft after a move: goals may come, and more is counted
+abbrev pub IsMoved : Draft → Draft → Type 0
+IsMoved before after =
+    after ≡ record before { reports = after.reports; added = after.added; last_goal = after.last_goal; variables = after.variables; nodes = after.nodes; cells = after.cells }

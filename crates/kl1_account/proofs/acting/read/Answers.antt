@@ -1,0 +1,16 @@
+use Rattle.std.proofs.lemmas.Result.{on_ok_weaker}
+use Rattle.kl1_model.specs.Ending.{settle}
+use Rattle.kl1_model.specs.Reduction.{heard}
+use Rattle.kl1_stream.specs.Controls.{control_as}
+use Rattle.kl1_account.proofs.Moved.{both_drafts}
+use Rattle.kl1_account.proofs.acting.read.Goals as goal
+
+pub returns-clause-ok : goal.returns-clause-ok
+returns-clause-ok c =
+    let h = c.args.store.now.held in
+    let goals = c.args.goals.now.goals in
+    on_ok_weaker c.settle.result
+    (λ settled names ms.
+    both_drafts ms goals names (λ f. heard c.args.number (control_as f h c.args.control)) (λ f. settle c.args.number) h c.hear.new.store.held c.settle.new.store.held c.args.shoens.now c.hear.new.shoens c.settle.new.shoens c.args.draft.now c.hear.new.draft c.settle.new.draft
+    (c.in_ok-hear.ensures.ok ms goals names) (settled ms names))
+    c.settle.ensures.ok

@@ -1,0 +1,68 @@
+use Rattle.std.proofs.Common.{List, ℕ, sym, subst}
+use Rattle.std.proofs.lemmas.Result.{on_ok_weaker}
+use Rattle.kl1_text.specs.declared.cell_name.CellName.{CellName}
+use Rattle.kl1_moves.specs.declared.moves.Move.{Move}
+use Rattle.kl1_moves.specs.Moves.{taken_places}
+use Rattle.kl1_account.specs.Moving.{Moves}
+use Rattle.kl1_account.proofs.Moved.{moves_by_commit, moves_by_exception, moves_by_unification, moves_by_order, moves_by_nothing}
+use Rattle.kl1_account.proofs.moving.do_move.Goals as goal
+
+pub returns-in-Commits-clause-ok : goal.returns-in-Commits-clause-ok
+returns-in-Commits-clause-ok c =
+    let p = c.args.predicate in
+    let ts = taken_places c.args.trial.now in
+    let text = c.args.trial.now.text in
+    let h = c.args.store.now.held in
+    let t = c.args.shoens.now in
+    let d = c.args.draft.now in
+    let goals = c.args.goals.now.goals in
+    let P : Move CellName → Type 0 = λ m. (names : List (List ℕ)) → Moves p m ts text c.args.goal c.args.cell goals names h c.commit.new.store.held t c.commit.new.shoens d c.commit.new.draft in
+    on_ok_weaker c.commit.result (λ ok. subst P (sym c.in-Commits.is) (moves_by_commit p c.in-Commits.place ts text c.args.goal c.args.cell goals h c.commit.new.store.held t c.commit.new.shoens d c.commit.new.draft ok)) c.commit.ensures.ok
+
+pub returns-in-Raises-clause-ok : goal.returns-in-Raises-clause-ok
+returns-in-Raises-clause-ok c =
+    let p = c.args.predicate in
+    let ts = taken_places c.args.trial.now in
+    let text = c.args.trial.now.text in
+    let h = c.args.store.now.held in
+    let t = c.args.shoens.now in
+    let d = c.args.draft.now in
+    let goals = c.args.goals.now.goals in
+    let P : Move CellName → Type 0 = λ m. (names : List (List ℕ)) → Moves p m ts text c.args.goal c.args.cell goals names h c.raise.new.store.held t c.raise.new.shoens d c.raise.new.draft in
+    on_ok_weaker c.raise.result (λ ok. subst P (sym c.in-Raises.is) (moves_by_exception p ts text c.in-Raises.kind c.args.goal c.args.cell goals h c.raise.new.store.held t c.raise.new.shoens d c.raise.new.draft ok)) c.raise.ensures.ok
+
+pub returns-in-Unifies-clause-ok : goal.returns-in-Unifies-clause-ok
+returns-in-Unifies-clause-ok c =
+    let p = c.args.predicate in
+    let ts = taken_places c.args.trial.now in
+    let text = c.args.trial.now.text in
+    let h = c.args.store.now.held in
+    let t = c.args.shoens.now in
+    let d = c.args.draft.now in
+    let goals = c.args.goals.now.goals in
+    let P : Move CellName → Type 0 = λ m. (names : List (List ℕ)) → Moves p m ts text c.args.goal c.args.cell goals names h c.unify.new.store.held t c.unify.new.shoens d c.unify.new.draft in
+    on_ok_weaker c.unify.result (λ ok. subst P (sym c.in-Unifies.is) (moves_by_unification p ts text c.in-Unifies.left c.in-Unifies.right c.args.goal c.args.cell goals h c.unify.new.store.held t c.unify.new.shoens d c.unify.new.draft ok)) c.unify.ensures.ok
+
+pub returns-in-Opens-clause-ok : goal.returns-in-Opens-clause-ok
+returns-in-Opens-clause-ok c =
+    let p = c.args.predicate in
+    let ts = taken_places c.args.trial.now in
+    let text = c.args.trial.now.text in
+    let h = c.args.store.now.held in
+    let t = c.args.shoens.now in
+    let d = c.args.draft.now in
+    let goals = c.args.goals.now.goals in
+    let P : Move CellName → Type 0 = λ m. (names : List (List ℕ)) → Moves p m ts text c.args.goal c.args.cell goals names h c.open_child.new.store.held t c.open_child.new.shoens d c.open_child.new.draft in
+    on_ok_weaker c.open_child.result (λ ok. subst P (sym c.in-Opens.is) (moves_by_order p ts text c.in-Opens.structure c.order_at-order.result c.args.goal c.args.cell goals h c.open_child.new.store.held t c.open_child.new.shoens d c.open_child.new.draft c.order_at-order.ensures.order ok)) c.open_child.ensures.ok
+
+pub returns-in-Goes-clause-ok : goal.returns-in-Goes-clause-ok
+returns-in-Goes-clause-ok c =
+    let p = c.args.predicate in
+    let ts = taken_places c.args.trial.now in
+    let text = c.args.trial.now.text in
+    let h = c.args.store.now.held in
+    let t = c.args.shoens.now in
+    let d = c.args.draft.now in
+    let goals = c.args.goals.now.goals in
+    let P : Move CellName → Type 0 = λ m. (names : List (List ℕ)) → Moves p m ts text c.args.goal c.args.cell goals names h h t t d d in
+    subst P (sym c.in-Goes.is) (moves_by_nothing p ts text c.args.goal c.args.cell goals h t d)
