@@ -11,7 +11,7 @@ use Rattle.kl1_goals.specs.declared.goal.Goal.{Goal}
 use Rattle.kl1_shoen.specs.declared.shoen.Shoen.{Shoen}
 use Rattle.kl1_shoen.specs.Shoens.{exchanged}
 use Rattle.kl1_account.specs.declared.draft.Draft.{Draft}
-use Rattle.kl1_account.specs.declared.refusal.Refusal.{Refusal}
+use Rattle.kl1_event.specs.declared.refusal.Refusal.{Refusal}
 use Rattle.kl1_account.specs.Fitting.{Reading, Fits}
 use Rattle.kl1_account.specs.Account.{Account, state_of}
 use Rattle.kl1_account.specs.Kept.{AreOwned}
@@ -19,7 +19,7 @@ use Rattle.kl1_account.specs.Keeping.{IsKept}
 use Rattle.kl1_account.specs.Works.{Knows}
 use Rattle.kl1_account.specs.Drafts.{goals_after}
 use Rattle.kl1_account.specs.Settled.{AreSettled}
-use Rattle.kl1_account.specs.Views.{refusal_of}
+use Rattle.kl1_event.specs.Views.{refusal_of}
 use Rattle.kl1_account.specs.Reducing.{put_in, IsFitting, IsReduction, IsRefused, ReducesAs}
 use Rattle.kl1_account.proofs.PutIn.{exchanged_count}
 

@@ -37,11 +37,11 @@ use Rattle.kl1_match.specs.Waiting.{AreSame}
 use Rattle.kl1_moves.specs.Hanging.{HangsOnEach}
 use Rattle.kl1_moves.proofs.Hooked.{hangs_on_same}
 use Rattle.kl1_account.specs.declared.opening.Opening.{Opening}
-use Rattle.kl1_account.specs.declared.refusal.Refusal.{Refusal}
-use Rattle.kl1_account.specs.declared.refusal.Refusal.TheVariants.{Names, Journal}
+use Rattle.kl1_event.specs.declared.refusal.Refusal.{Refusal}
+use Rattle.kl1_event.specs.declared.refusal.Refusal.TheVariants.{Names, Journal}
 use Rattle.kl1_account.specs.declared.startable.Starting.{Starting}
 use Rattle.kl1_account.specs.declared.startable.Starting.TheVariants.{Refused, Coded}
-use Rattle.kl1_account.specs.Views.{refusal_of}
+use Rattle.kl1_event.specs.Views.{refusal_of}
 use Rattle.kl1_account.specs.Fitting.{Reading, Fits}
 use Rattle.kl1_account.specs.Account.{Account, meaning, task_with, goal_with, shoen_with, state_of, texts_of}
 use Rattle.kl1_account.specs.Keeping.{IsKept}

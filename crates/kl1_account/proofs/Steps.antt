@@ -30,7 +30,7 @@ use Rattle.kl1_shoen.specs.Shoens.{exchanged}
 use Rattle.kl1_modules.specs.Numbered.{Numbered}
 use Rattle.kl1_modules.specs.Finding.{contents}
 use Rattle.kl1_account.specs.declared.draft.Draft.{Draft}
-use Rattle.kl1_account.specs.declared.refusal.Refusal.TheVariants as refusal
+use Rattle.kl1_event.specs.declared.refusal.Refusal.TheVariants as refusal
 use Rattle.kl1_account.specs.Fitting.{Reading}
 use Rattle.kl1_account.specs.Account.{Account, Means, meaning, task_with, goal_with, shoen_with, state_of, aim}
 use Rattle.kl1_account.specs.Kept.{IsTaskIn, AreGoalsIn, IsOwned, AreOwned, AreShoensIn, AreNumbered}

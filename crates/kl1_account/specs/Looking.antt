@@ -34,6 +34,8 @@ abbrev pub Serves : List Numbered → Kind CellName → Predicate CellName → T
 Serves modules (kind.Calls c) p = (f : Reading) → Knows modules f → (call : model.Call) → Asks f c.module_name c.name c.count call → AreCompiled (map f p.names.now) p.clauses.now (clauses_of (contents modules) call)
 Serves modules (kind.Unifies left right) p = Unit {0}
 Serves modules (kind.Assigns left right) p = Unit {0}
+Serves modules (kind.Spells left right) p = Unit {0}
+Serves modules (kind.Executes s) p = Unit {0}
 Serves modules kind.Goes p = Unit {0}
 Serves modules (kind.Waits v) p = Unit {0}
 Serves modules kind.Nothing p = Unit {0}
@@ -43,6 +45,8 @@ abbrev pub calls_same : Call CellName → Kind CellName → Bool
 calls_same c (kind.Calls d) = d.module_name.number == c.module_name.number && d.name.number == c.name.number && d.count == c.count
 calls_same c (kind.Unifies left right) = false
 calls_same c (kind.Assigns left right) = false
+calls_same c (kind.Spells left right) = false
+calls_same c (kind.Executes s) = false
 calls_same c kind.Goes = false
 calls_same c (kind.Waits v) = false
 calls_same c kind.Nothing = false

@@ -24,14 +24,14 @@ use Rattle.kl1_shoen.specs.Shoens.{exchanged}
 use Rattle.kl1_modules.specs.Numbered.{Numbered}
 use Rattle.kl1_modules.specs.Finding.{contents}
 use Rattle.kl1_account.specs.declared.draft.Draft.{Draft}
-use Rattle.kl1_account.specs.declared.refusal.Refusal.{Refusal}
+use Rattle.kl1_event.specs.declared.refusal.Refusal.{Refusal}
 use Rattle.kl1_account.specs.Fitting.{Reading}
 use Rattle.kl1_account.specs.Account.{Account, meaning, goal_with, state_of, aim}
 use Rattle.kl1_account.specs.Kept.{AreGoalsIn, AreOwned, AreUpTo, AreShoensIn, AreNumbered}
 use Rattle.kl1_account.specs.Works.{Knows, Turns}
 use Rattle.kl1_account.specs.Drafts.{made_of, goals_after, Drafts}
 use Rattle.kl1_account.specs.Settled.{AreSettled}
-use Rattle.kl1_account.specs.Views.{refusal_of}
+use Rattle.kl1_event.specs.Views.{refusal_of}
 
 -- an account after a draft is put in place, where its store holds this, with one entry more in its journal
 abbrev pub put_in : Account → Held CellName → Draft → Account

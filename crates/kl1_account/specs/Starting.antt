@@ -35,7 +35,7 @@ use Rattle.kl1_account.specs.declared.opening.Streams.{Streams}
 use Rattle.kl1_account.specs.declared.opening.Opening.{Opening}
 use Rattle.kl1_account.specs.Fitting.{Reading, Fits, built}
 use Rattle.kl1_account.specs.Account.{meaning, texts_of, whole}
-use Rattle.kl1_account.specs.Views.{refusal_of}
+use Rattle.kl1_event.specs.Views.{refusal_of}
 use Rattle.kl1_account.specs.Naming.{AreSmall}
 use Rattle.kl1_account.specs.Works.{Knows}
 

@@ -8,7 +8,7 @@ ghost use Rattle.kl1_model.specs.Event.{load as load_event, start as start_event
 ghost use Rattle.kl1_account.specs.Fitting.{Reading, Fits};
 ghost use Rattle.kl1_account.specs.Account.{state_of};
 ghost use Rattle.kl1_account.specs.Naming.{Keeps};
-ghost use Rattle.kl1_account.specs.Views.{reply_of, reduced_or, chosen_of};
+ghost use Rattle.kl1_event.specs.Views.{reply_of, reduced_or, chosen_of};
 
 use crate::account_name::AccountName;
 use crate::draft::Draft;
@@ -16,11 +16,11 @@ use crate::installing::install;
 use crate::limits::is_number;
 use crate::loading::{Loading, draft_module, install_module, prepare};
 use crate::names::{AccountNames, publish};
-use crate::numbers::{ClauseNo, GoalNo, ShoenNo};
+use kl1_event::{ClauseNo, GoalNo, ShoenNo};
 use crate::printing::print_cell;
 use crate::reducing::draft_reduction;
-use crate::refusal::Refusal;
-use crate::reply::Reply;
+use kl1_event::Refusal;
+use kl1_event::Reply;
 use crate::startable::{Starting, code_of};
 use crate::starting::{next_goals, next_number, place, prepare_start};
 use kl1_atoms::AtomSource;

@@ -15,7 +15,7 @@ use crate::committing::last_of;
 use crate::draft::Draft;
 use crate::reporting::{raise, report_name};
 use kl1_goals::{Goal, Task};
-use kl1_model::limits::{MONITOR_PRIORITY, MOST_SHOENS, MOST_SHOEN_DEPTH};
+use kl1_model::limits::{MONITOR_PRIORITY, MOST_SHOEN_DEPTH, MOST_SHOENS};
 use kl1_model::{BuiltIn, Life};
 use kl1_moves::{number_at, order_at};
 use kl1_shoen::{Shoen, ShoenTree};

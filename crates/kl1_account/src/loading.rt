@@ -14,7 +14,7 @@ ghost use Rattle.kl1_account.specs.Loadings.{DraftsAs, LoadsAs, Settles};
 use crate::draft::Change;
 use crate::looking_beside::look_at_all;
 use crate::names::{AccountNames, draft_row};
-use crate::refusal::Refusal;
+use kl1_event::Refusal;
 use kl1_clause::{Code, CodeFault};
 use kl1_goals::GoalTable;
 use kl1_model::limits::{MOST_ENTRIES, MOST_SOURCE_BYTES};

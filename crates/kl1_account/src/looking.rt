@@ -34,6 +34,8 @@ pub(crate) fn predicate_of(modules: &Modules, kind: Kind<CellName>) -> Predicate
         Kind::Calls(call) => or_none(modules.find(call.module_name, call.name, call.count)),
         Kind::Unifies(_, _) => or_none(None),
         Kind::Assigns(_, _) => or_none(None),
+        Kind::Spells(_, _) => or_none(None),
+        Kind::Executes(_) => or_none(None),
         Kind::Goes => or_none(None),
         Kind::Waits(_) => or_none(None),
         Kind::Nothing => or_none(None),
@@ -52,6 +54,8 @@ fn calls_same(call: Call<CellName>, kind: Kind<CellName>) -> bool
         }
         Kind::Unifies(_, _) => false,
         Kind::Assigns(_, _) => false,
+        Kind::Spells(_, _) => false,
+        Kind::Executes(_) => false,
         Kind::Goes => false,
         Kind::Waits(_) => false,
         Kind::Nothing => false,
@@ -81,6 +85,8 @@ fn predicate_near<'a>(
         }
         Kind::Unifies(_, _) => predicate_of(modules, kind),
         Kind::Assigns(_, _) => predicate_of(modules, kind),
+        Kind::Spells(_, _) => predicate_of(modules, kind),
+        Kind::Executes(_) => predicate_of(modules, kind),
         Kind::Goes => predicate_of(modules, kind),
         Kind::Waits(_) => predicate_of(modules, kind),
         Kind::Nothing => predicate_of(modules, kind),

@@ -45,6 +45,8 @@ fn predicate_beside<'a>(
         )),
         Kind::Unifies(_, _) => or_none(None),
         Kind::Assigns(_, _) => or_none(None),
+        Kind::Spells(_, _) => or_none(None),
+        Kind::Executes(_) => or_none(None),
         Kind::Goes => or_none(None),
         Kind::Waits(_) => or_none(None),
         Kind::Nothing => or_none(None),

@@ -63,9 +63,7 @@ pub(crate) fn do_move(
             store, goals, shoens, draft, alive, predicate, place, trial, goal, cell,
         ),
         Move::Raises(kind) => raise(store, shoens, draft, goal.shoen, kind, cell),
-        Move::Unifies(left, right) => {
-            unify(store, shoens, draft, goal.shoen, cell, left, right)
-        }
+        Move::Unifies(left, right) => { unify(store, shoens, draft, goal.shoen, cell, left, right) }
         Move::Names(target) => {
             let text = AtomText::of(trial.text.as_slice());
             name_term(store, shoens, draft, names, goal.shoen, text, target, cell)

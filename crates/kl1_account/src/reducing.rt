@@ -17,7 +17,7 @@ use crate::draft::Draft;
 use crate::limits::are_numbers;
 use crate::looking::{predicate_of, wake_added, wake_told};
 use crate::moving::do_move;
-use crate::refusal::Refusal;
+use kl1_event::Refusal;
 use crate::settling::settle;
 use kl1_clause::Predicate;
 use kl1_goals::{Goal, GoalTable, Task};

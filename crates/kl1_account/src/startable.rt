@@ -7,7 +7,7 @@ ghost use Rattle.kl1_account.specs.Starting.{StartsAs};
 
 use crate::limits::is_number;
 use crate::names::AccountNames;
-use crate::refusal::Refusal;
+use kl1_event::Refusal;
 use itoa::Buffer;
 use kl1_clause::GoalCode;
 use kl1_model::limits::{MOST_ENTRIES, MOST_LINE_BYTES, MOST_PRIORITY};

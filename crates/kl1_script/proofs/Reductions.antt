@@ -8,7 +8,7 @@ use Rattle.kl1_model.specs.Reduction.{Move, move_of, reduced_by, reduce_goal}
 use Rattle.kl1_model.specs.Step.{step}
 use Rattle.kl1_model.specs.Choice.{Chosen, first}
 use Rattle.kl1_model.specs.Command.{Going, run_choice, run_on, stopped_by}
-use Rattle.kl1_account.specs.Views.{refusal_of}
+use Rattle.kl1_event.specs.Views.{refusal_of}
 use Rattle.kl1_script.specs.declared.first_step.FirstStep.{FirstStep}
 use Rattle.kl1_script.specs.declared.first_step.FirstStep.TheVariants as first_step
 use Rattle.kl1_script.specs.Performing.{refusal_in, IsTold, IsFirstStep}

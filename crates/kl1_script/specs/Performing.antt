@@ -4,7 +4,7 @@ use Rattle.kl1_model.specs.State.{State}
 use Rattle.kl1_model.specs.Event as model
 use Rattle.kl1_model.specs.Command.{Command, does, run, Going, run_choice, stopped_by, run_from, act}
 use Rattle.kl1_model.specs.Choice.{first}
-use Rattle.kl1_account.specs.Views.{refusal_of, reply_of}
+use Rattle.kl1_event.specs.Views.{refusal_of, reply_of}
 use Rattle.kl1_account.specs.Account.{Account}
 use Rattle.kl1_script.specs.declared.performed.Performed.{Performed}
 use Rattle.kl1_script.specs.declared.performed.Performed.TheVariants as performed

@@ -3,7 +3,7 @@
 ghost use Rattle.kl1_account.specs.Fitting.{Reading, Fits};
 ghost use Rattle.kl1_account.specs.Account.{state_of};
 ghost use Rattle.kl1_account.specs.Naming.{Grows};
-ghost use Rattle.kl1_account.specs.Views.{reduced_or};
+ghost use Rattle.kl1_event.specs.Views.{reduced_or};
 ghost use Rattle.kl1_script.specs.Performing.{IsFirstStep, IsStepUntouched, IsTold};
 
 use crate::served::Served;

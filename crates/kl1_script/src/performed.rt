@@ -6,7 +6,7 @@ ghost use Rattle.kl1_model.specs.State.{State};
 ghost use Rattle.kl1_account.specs.Fitting.{Reading, Fits};
 ghost use Rattle.kl1_account.specs.Account.{state_of};
 ghost use Rattle.kl1_account.specs.Naming.{Grows};
-ghost use Rattle.kl1_account.specs.Views.{refusal_of, reply_of};
+ghost use Rattle.kl1_event.specs.Views.{refusal_of, reply_of};
 ghost use Rattle.kl1_script.specs.Commands.{command_view};
 ghost use Rattle.kl1_script.specs.Performing.{IsUntouched, Performs};
 

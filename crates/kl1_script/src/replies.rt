@@ -4,7 +4,7 @@ ghost use Rattle.std.specs.Prelude.{◌≡◌, ◌++◌, ◌∷◌, [], decimal,
 ghost use Rattle.kl1_model.specs.Command.{reply_lines, written_line, written_lines};
 ghost use Rattle.kl1_model.specs.Event.{refused};
 ghost use Rattle.kl1_model.specs.Script.{written_reply};
-ghost use Rattle.kl1_account.specs.Views.{refusal_of, reply_of};
+ghost use Rattle.kl1_event.specs.Views.{refusal_of, reply_of};
 ghost use Rattle.kl1_script.specs.Replies.{written_after};
 
 use itoa::Buffer;

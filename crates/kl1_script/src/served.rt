@@ -9,7 +9,7 @@ ghost use Rattle.kl1_atoms.specs.Names.{AreNames};
 ghost use Rattle.kl1_account.specs.Fitting.{Reading, Fits};
 ghost use Rattle.kl1_account.specs.Account.{state_of};
 ghost use Rattle.kl1_account.specs.Naming.{Grows};
-ghost use Rattle.kl1_account.specs.Views.{event_of, reply_of, reduced_or, chosen_of};
+ghost use Rattle.kl1_event.specs.Views.{event_of, reply_of, reduced_or, chosen_of};
 
 use kl1_atoms::AtomSource;
 use kl1_user::{AccountName, ClauseNo, Event, GoalNo, Refusal, Reply, UserState};

@@ -8,7 +8,7 @@ ghost use Rattle.kl1_model.specs.Choice.{first, quiet};
 ghost use Rattle.kl1_account.specs.Fitting.{Reading, Fits};
 ghost use Rattle.kl1_account.specs.Account.{state_of};
 ghost use Rattle.kl1_account.specs.Naming.{Keeps};
-ghost use Rattle.kl1_account.specs.Views.{event_of, reply_of, reduced_or, chosen_of};
+ghost use Rattle.kl1_event.specs.Views.{event_of, reply_of, reduced_or, chosen_of};
 
 use kl1_account::{Account, AccountName, ClauseNo, Event, GoalNo, Query, Refusal, Reply};
 use kl1_atoms::AtomSource;

@@ -2,7 +2,7 @@ use Rattle.std.proofs.Common.{List, subst}
 use Rattle.kl1_atoms.specs.declared.known.Known.{Known}
 use Rattle.kl1_account.specs.Fitting.{Fits}
 use Rattle.kl1_account.specs.Account.{state_of}
-use Rattle.kl1_account.specs.Views.{reduced_or}
+use Rattle.kl1_event.specs.Views.{reduced_or}
 use Rattle.kl1_script.proofs.Reductions.{first_told}
 use Rattle.kl1_script.proofs.first_step.reduce_first.Goals as goal
 

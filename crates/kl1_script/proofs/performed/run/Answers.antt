@@ -1,6 +1,6 @@
 use Rattle.std.proofs.Common.{◌≡◌, ◌∙◌, arith}
 use Rattle.kl1_account.specs.Account.{state_of}
-use Rattle.kl1_account.specs.Views.{refusal_of}
+use Rattle.kl1_event.specs.Views.{refusal_of}
 use Rattle.kl1_script.proofs.Readings.{fits_before, grows_on}
 use Rattle.kl1_script.proofs.Runs.{goes_further, all_done, left_quiet, left_refused, left_short}
 use Rattle.kl1_script.proofs.performed.run.Goals as goal

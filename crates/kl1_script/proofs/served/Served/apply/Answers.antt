@@ -1,6 +1,6 @@
 use Rattle.std.proofs.Common.{◌∙◌, ap, refl}
 use Rattle.kl1_account.specs.Account.{Account}
-use Rattle.kl1_account.specs.Views.{event_of}
+use Rattle.kl1_event.specs.Views.{event_of}
 use Rattle.kl1_user.proofs.Steps.{does_same}
 use Rattle.kl1_script.proofs.Readings.{grows_as}
 use Rattle.kl1_script.proofs.served.Served.apply.Goals as goal
