@@ -48,6 +48,7 @@ pub mod TreesIn
 pub mod Effects
 pub mod Ends
 pub mod Joining
+pub mod Calling
 pub mod Moved
 pub mod MonitorStays
 pub mod FlagsStay

@@ -20,18 +20,20 @@ use Rattle.kl1_modules.specs.Numbered.{Numbered}
 use Rattle.kl1_modules.specs.Finding.{contents}
 use Rattle.kl1_account.specs.declared.draft.Draft.{Draft}
 use Rattle.kl1_account.specs.Fitting.{Reading}
-use Rattle.kl1_account.specs.Account.{meaning, goal_with, aim}
+use Rattle.kl1_atoms.specs.declared.known.Known.{Known}
+use Rattle.kl1_account.specs.Account.{meaning, goal_with, aim, texts_of}
+use Rattle.kl1_account.specs.Moving.{ReadsMove}
 use Rattle.kl1_account.specs.Drafts.{Drafts}
 use Rattle.kl1_account.specs.Works.{Knows}
 
 -- a goal of an account with these goals and names, which is this cell and has been removed, has made this move by the clause of some
 -- number, where this text stands for a name: its shoen was charged before, and reports of exhaustion and terminations have come after
-abbrev pub Acts : Predicate CellName → Move CellName → List (Place CellName) → List ℕ → Goal CellName → Qualified CellName → List (Goal CellName) → List (List ℕ) → Held CellName → Held CellName → Tree CellName → Tree CellName → Draft → Draft → Type 0
-Acts p made places text goal x goals names old new t u before after =
-    (ms : List Numbered) (clause : ℕ) (m : Reading → model.Move) →
+abbrev pub Acts : Predicate CellName → Move CellName → List (Place CellName) → List ℕ → Goal CellName → Qualified CellName → List (Goal CellName) → List Known → Held CellName → Held CellName → Tree CellName → Tree CellName → Draft → Draft → Type 0
+Acts p made places text goal x goals known old new t u before after =
+    (ms : List Numbered) (clause : ℕ) (m : Reading → model.Move) → ReadsMove made ms known text →
     ((f : Reading) → Knows ms f → MovesAs f old (contents ms) (aim f old x) clause p places text (Some made)) →
     ((f : Reading) → Knows ms f → move_by (contents ms) (aim f old x) clause ≡ Some (m f)) →
-    Drafts ms (λ f s. settle_charged goal.shoen (moved (goal_with (meaning f old) goal) (aim f old x) (m f) (charge goal.shoen s))) old new goals names t u before after
+    Drafts ms (λ f s. settle_charged goal.shoen (moved (goal_with (meaning f old) goal) (aim f old x) (m f) (charge goal.shoen s))) old new goals (texts_of known) t u before after
 
 -- the monitor of a shoen of an account with these goals and names has read this, and terminations have come after
 abbrev pub Reads : ℕ → Control CellName → List (Goal CellName) → List (List ℕ) → Held CellName → Held CellName → Tree CellName → Tree CellName → Draft → Draft → Type 0

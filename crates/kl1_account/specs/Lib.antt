@@ -13,6 +13,7 @@ pub mod Naming
 pub mod Shelving
 pub mod Keeping
 pub mod Accounts
+pub mod Calling
 pub mod Moving
 pub mod Looking
 pub mod Tops

@@ -22,7 +22,9 @@ use Rattle.kl1_modules.specs.Numbered.{Numbered}
 use Rattle.kl1_modules.specs.Finding.{contents}
 use Rattle.kl1_account.specs.declared.draft.Draft.{Draft}
 use Rattle.kl1_account.specs.Fitting.{Reading}
-use Rattle.kl1_account.specs.Account.{meaning, goal_with, aim}
+use Rattle.kl1_atoms.specs.declared.known.Known.{Known}
+use Rattle.kl1_account.specs.Account.{meaning, goal_with, aim, texts_of}
+use Rattle.kl1_account.specs.Calling.{ReadsName, CanRename}
 use Rattle.kl1_account.specs.Drafts.{Drafts, DraftsAll}
 use Rattle.kl1_account.specs.Works.{Knows}
 
@@ -38,14 +40,32 @@ Commits p place places goal x goals old new t u before after =
     (ms : List Numbered) (k : Reading → Candidate) → ((f : Reading) → Knows ms f → IsCandidate f old p place places (k f)) →
     (names : List (List ℕ)) → Drafts ms (λ f. moved (goal_with (meaning f old) goal) (aim f old x) (commits (k f))) old new goals names t u before after
 
+-- where a move uses a text as a name, each reading that knows these modules reads the number by which it stands as this text
+abbrev pub ReadsMove : Move CellName → List Numbered → List Known → List ℕ → Type 0
+ReadsMove (move.Commits place) ms known text = Unit {0}
+ReadsMove (move.Raises b) ms known text = Unit {0}
+ReadsMove (move.Unifies a b) ms known text = Unit {0}
+ReadsMove (move.Names a) ms known text = ReadsName ms known text
+ReadsMove (move.Opens s) ms known text = Unit {0}
+ReadsMove move.Goes ms known text = Unit {0}
+
 -- a goal of an account with these goals and names, which is this cell and has been removed, has done this move by the clause of some
 -- number, where this text stands for a name
-abbrev pub Moves : Predicate CellName → Move CellName → List (Place CellName) → List ℕ → Goal CellName → Qualified CellName → List (Goal CellName) → List (List ℕ) → Held CellName → Held CellName → Tree CellName → Tree CellName → Draft → Draft → Type 0
-Moves p made places text goal x goals names old new t u before after =
-    (ms : List Numbered) (clause : ℕ) (m : Reading → model.Move) →
+abbrev pub Moves : Predicate CellName → Move CellName → List (Place CellName) → List ℕ → Goal CellName → Qualified CellName → List (Goal CellName) → List Known → Held CellName → Held CellName → Tree CellName → Tree CellName → Draft → Draft → Type 0
+Moves p made places text goal x goals known old new t u before after =
+    (ms : List Numbered) (clause : ℕ) (m : Reading → model.Move) → ReadsMove made ms known text →
     ((f : Reading) → Knows ms f → MovesAs f old (contents ms) (aim f old x) clause p places text (Some made)) →
     ((f : Reading) → Knows ms f → move_by (contents ms) (aim f old x) clause ≡ Some (m f)) →
-    Drafts ms (λ f. moved (goal_with (meaning f old) goal) (aim f old x) (m f)) old new goals names t u before after
+    Drafts ms (λ f. moved (goal_with (meaning f old) goal) (aim f old x) (m f)) old new goals (texts_of known) t u before after
+
+-- after a move, a name that is drafted can get another number; only a move that uses a text as a name drafts one
+abbrev pub CanRenameAfter : Move CellName → List ℕ → List Known → Held CellName → Held CellName → Draft → Type 0
+CanRenameAfter (move.Commits place) text known old new after = after.name ≡ None
+CanRenameAfter (move.Raises b) text known old new after = after.name ≡ None
+CanRenameAfter (move.Unifies a b) text known old new after = after.name ≡ None
+CanRenameAfter (move.Names a) text known old new after = CanRename text known a old new after
+CanRenameAfter (move.Opens s) text known old new after = after.name ≡ None
+CanRenameAfter move.Goes text known old new after = after.name ≡ None
 
 -- a goal that is this cell and has been removed has opened a child by the order that a structure is, or has raised an exception where
 -- that would pass a limit
@@ -53,16 +73,7 @@ abbrev pub OpensChild : ℕ → Goal CellName → Qualified CellName → Held Ce
 OpensChild s goal x old new t u before after =
     (o : Order CellName) → IsOrder old s o → DraftsAll (λ f. moved (goal_with (meaning f old) goal) (aim f old x) (opens (order_at f old o))) old new t u before after
 
--- a move uses no text as a name
-abbrev pub NamesNothing : Move CellName → Type 0
-NamesNothing (move.Commits place) = Unit {0}
-NamesNothing (move.Raises b) = Unit {0}
-NamesNothing (move.Unifies a b) = Unit {0}
-NamesNothing (move.Names a) = ⊥
-NamesNothing (move.Opens s) = Unit {0}
-NamesNothing move.Goes = Unit {0}
-
--- a draft after a move: goals may come, and more is counted
+-- a draft after a move: goals may come, more is counted, and a name may be drafted
 abbrev pub IsMoved : Draft → Draft → Type 0
 IsMoved before after =
-    after ≡ record before { reports = after.reports; added = after.added; last_goal = after.last_goal; variables = after.variables; nodes = after.nodes; cells = after.cells }
+    after ≡ record before { reports = after.reports; added = after.added; last_goal = after.last_goal; variables = after.variables; nodes = after.nodes; cells = after.cells; name = after.name }

@@ -1,6 +1,6 @@
 // What goals do in one step, with what comes after it.
 
-ghost use Rattle.std.specs.Prelude.{◌≡◌, ◌+◌, ◌<◌, ◌^◌, [], List, ℕ, length, not, ◌++◌, Some, count_by, OnOk};
+ghost use Rattle.std.specs.Prelude.{◌≡◌, ◌+◌, ◌<◌, ◌^◌, [], List, ℕ, length, not, ◌++◌, Some, None, count_by, OnOk};
 ghost use Rattle.kl1_store.specs.Held.{IsIn};
 ghost use Rattle.kl1_store.specs.Sound.{Grown};
 ghost use Rattle.kl1_stream.specs.Controls.{ControlIn};
@@ -9,11 +9,11 @@ ghost use Rattle.kl1_moves.specs.Moves.{taken_places, MoveIn};
 ghost use Rattle.kl1_goals.specs.Lists.{is_monitor};
 ghost use Rattle.kl1_account.specs.Kept.{IsOwned, AreShoensIn};
 ghost use Rattle.kl1_account.specs.Drafts.{goals_left, HasBegun, CanGoBack};
-ghost use Rattle.kl1_account.specs.Moving.{NamesNothing};
 ghost use Rattle.kl1_account.specs.Acting.{Acts, Reads};
 
 use crate::draft::Draft;
 use crate::moving::do_move;
+use crate::names::AccountNames;
 use crate::obeying::hear;
 use crate::settling::{Walk, settle, settle_charged};
 use kl1_clause::Predicate;
@@ -25,7 +25,7 @@ use kl1_stream::Control;
 use kl1_text::CellName;
 use std::alloc::AllocError;
 
-/// A goal that a draft removes, which is this cell, makes a move that uses no name: its shoen is charged, the move is done, and after that
+/// A goal that a draft removes, which is this cell, makes a move: its shoen is charged, the move is done, and after that
 /// shoens report that they are exhausted, and terminate. So many goals are there without it. Where memory is refused, the store and the
 /// tree may have changed, and the draft is of no use.
 pub(crate) fn act(
@@ -34,6 +34,7 @@ pub(crate) fn act(
     shoens: &mut ShoenTree<CellName>,
     draft: &mut Draft,
     walk: &mut Walk,
+    names: &AccountNames,
     alive: u64,
     predicate: Predicate<'_, CellName>,
     made: Move<CellName>,
@@ -41,7 +42,6 @@ pub(crate) fn act(
     goal: Goal<CellName>,
     cell: Qualified<CellName>,
 ) -> Result<(), AllocError>
-    requires plain { NamesNothing made }
     requires cell { IsIn store.old.held cell.cell }
     requires inside { MoveIn store.old.held predicate (taken_places trial.old) trial.old.text (Some made) }
     requires predicate { AreSome predicate.names.now predicate.clauses.now }
@@ -49,9 +49,10 @@ pub(crate) fn act(
     requires shoens { AreShoensIn store.old.held shoens.old.shoens }
     requires owned { IsOwned (length shoens.old.shoens) goal }
     requires begun { HasBegun draft.old }
+    requires none { draft.old.name ≡ None }
     requires alive { alive ≡ count_by (λ g. not (is_monitor g)) (goals_left (goals.now.goals ++ draft.old.added.items) draft.old) }
     requires few { length shoens.old.work + 1 < 2 ^ 63 }
-    ensures ok { OnOk result ((names : List (List ℕ)) → Acts predicate.entry made (taken_places trial.old) trial.old.text goal cell goals.now.goals names store.old.held store.new.held shoens.old shoens.new draft.old draft.new) }
+    ensures ok { OnOk result (Acts predicate.entry made (taken_places trial.old) trial.old.text goal cell goals.now.goals names.now.names store.old.held store.new.held shoens.old shoens.new draft.old draft.new) }
     ensures shoens { OnOk result (AreShoensIn store.new.held shoens.new.shoens) }
     ensures back { CanGoBack shoens.old shoens.new }
     ensures grown { Grown store.old.held store.new.held }
@@ -60,7 +61,7 @@ pub(crate) fn act(
     let _formed = store.mark();
     shoens.charge(goal.shoen)?;
     do_move(
-        store, goals, shoens, draft, alive, predicate, made, trial, goal, cell,
+        store, goals, shoens, draft, names, alive, predicate, made, trial, goal, cell,
     )?;
     settle_charged(store, goals, shoens, draft, walk, goal.shoen)
 }

@@ -15,6 +15,7 @@ mod looking;
 mod looking_beside;
 mod moving;
 mod names;
+mod naming;
 mod obeying;
 mod opening;
 mod placing;

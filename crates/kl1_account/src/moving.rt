@@ -1,6 +1,6 @@
 // Moves of goals.
 
-ghost use Rattle.std.specs.Prelude.{◌≡◌, ◌<◌, List, ℕ, length, not, ◌++◌, Some, count_by, OnOk};
+ghost use Rattle.std.specs.Prelude.{◌≡◌, ◌<◌, length, not, ◌++◌, Some, None, count_by, OnOk};
 ghost use Rattle.kl1_store.specs.Held.{IsIn};
 ghost use Rattle.kl1_store.specs.Sound.{Grown};
 ghost use Rattle.kl1_clause.specs.Predicates.{AreSome};
@@ -8,27 +8,31 @@ ghost use Rattle.kl1_moves.specs.Moves.{taken_places, MoveIn};
 ghost use Rattle.kl1_goals.specs.Lists.{is_monitor};
 ghost use Rattle.kl1_account.specs.Kept.{IsOwned, AreShoensIn};
 ghost use Rattle.kl1_account.specs.Drafts.{goals_left, HasBegun, CanGoBack};
-ghost use Rattle.kl1_account.specs.Moving.{Moves, NamesNothing, IsMoved};
+ghost use Rattle.kl1_account.specs.Moving.{Moves, IsMoved, CanRenameAfter};
 
 use crate::children::open_child;
 use crate::committing::commit;
 use crate::draft::Draft;
+use crate::names::AccountNames;
+use crate::naming::name_term;
 use crate::reporting::{raise, unify};
 use kl1_clause::Predicate;
 use kl1_goals::{Goal, GoalTable};
 use kl1_moves::{Move, Trial, order_at};
 use kl1_shoen::ShoenTree;
 use kl1_store::{Qualified, Store};
-use kl1_text::CellName;
+use kl1_text::{AtomText, CellName};
 use std::alloc::AllocError;
 
-/// Does a move, which uses no name, of a goal that a draft removes, which is this cell; so many goals are there without it. Where memory
-/// is refused, the store may have grown, and the draft is of no use.
+/// Does a move of a goal that a draft removes, which is this cell; so many goals are there without it. Where the move would pass a
+/// limit, the goal raises an exception in its place. Where it uses a name that is new to the account, a spare number stands for it, as
+/// `name_term` says. Where memory is refused, the store may have grown, and the draft is of no use.
 pub(crate) fn do_move(
     store: &mut Store<CellName>,
     goals: &GoalTable<CellName>,
     shoens: &mut ShoenTree<CellName>,
     draft: &mut Draft,
+    names: &AccountNames,
     alive: u64,
     predicate: Predicate<'_, CellName>,
     made: Move<CellName>,
@@ -36,7 +40,6 @@ pub(crate) fn do_move(
     goal: Goal<CellName>,
     cell: Qualified<CellName>,
 ) -> Result<(), AllocError>
-    requires plain { NamesNothing made }
     requires cell { IsIn store.old.held cell.cell }
     requires inside { MoveIn store.old.held predicate (taken_places trial.old) trial.old.text (Some made) }
     requires predicate { AreSome predicate.names.now predicate.clauses.now }
@@ -44,8 +47,10 @@ pub(crate) fn do_move(
     requires shoens { AreShoensIn store.old.held shoens.old.shoens }
     requires owned { IsOwned (length shoens.old.shoens) goal }
     requires begun { HasBegun draft.old }
+    requires none { draft.old.name ≡ None }
     requires alive { alive ≡ count_by (λ g. not (is_monitor g)) (goals_left (goals.now.goals ++ draft.old.added.items) draft.old) }
-    ensures ok { OnOk result ((names : List (List ℕ)) → Moves predicate.entry made (taken_places trial.old) trial.old.text goal cell goals.now.goals names store.old.held store.new.held shoens.old shoens.new draft.old draft.new) }
+    ensures ok { OnOk result (Moves predicate.entry made (taken_places trial.old) trial.old.text goal cell goals.now.goals names.now.names store.old.held store.new.held shoens.old shoens.new draft.old draft.new) }
+    ensures redo { OnOk result (CanRenameAfter made trial.old.text names.now.names store.old.held store.new.held draft.new) }
     ensures shoens { OnOk result (AreShoensIn store.new.held shoens.new.shoens) }
     ensures back { CanGoBack shoens.old shoens.new }
     ensures moved { IsMoved draft.old draft.new }
@@ -59,7 +64,10 @@ pub(crate) fn do_move(
         ),
         Move::Raises(kind) => raise(store, shoens, draft, goal.shoen, kind, cell),
         Move::Unifies(left, right) => { unify(store, shoens, draft, goal.shoen, cell, left, right) }
-        Move::Names(_target) => unreachable!(),
+        Move::Names(target) => {
+            let text = AtomText::of(trial.text.as_slice());
+            name_term(store, shoens, draft, names, goal.shoen, text, target, cell)
+        }
         Move::Opens(structure) => {
             let _order = order_at(store, structure);
             open_child(store, shoens, draft, structure, goal, cell)

@@ -3,7 +3,7 @@ use Rattle.std.proofs.lemmas.Result.{on_ok_weaker}
 use Rattle.kl1_model.specs.Tree.{charge}
 use Rattle.kl1_model.specs.Ending.{settle_charged}
 use Rattle.kl1_model.specs.Reduction.{moved}
-use Rattle.kl1_account.specs.Account.{meaning, goal_with, aim}
+use Rattle.kl1_account.specs.Account.{meaning, goal_with, aim, texts_of}
 use Rattle.kl1_account.proofs.Effects.{drafts_charged}
 use Rattle.kl1_account.proofs.Moved.{both_drafts, same_shoens_in, same_owned}
 use Rattle.kl1_account.proofs.acting.act.Goals as goal
@@ -30,10 +30,11 @@ returns-clause-ok c =
     let d = c.args.draft.now in
     let e = c.do_move.new.draft in
     let y = c.settle_charged.new.draft in
+    let names = texts_of c.args.names.now.names in
     on_ok_weaker c.settle_charged.result
-    (λ settled names ms clause m as_found found.
+    (λ settled ms clause m reads as_found found.
     both_drafts ms goals names (λ f s. moved (goal_with (meaning f h) g) (aim f h x) (m f) (charge g.shoen s)) (λ f. settle_charged g.shoen) h c.do_move.new.store.held c.settle_charged.new.store.held t v w d e y
     (both_drafts ms goals names (λ f. charge g.shoen) (λ f. moved (goal_with (meaning f h) g) (aim f h x) (m f)) h h c.do_move.new.store.held t u v d d e
-    (drafts_charged h t u d g.shoen c.in_ok-charge.ensures.ok ms goals names) (c.in_ok-do_move.ensures.ok names ms clause m as_found found))
+    (drafts_charged h t u d g.shoen c.in_ok-charge.ensures.ok ms goals names) (c.in_ok-do_move.ensures.ok ms clause m reads as_found found))
     (settled ms names))
     c.settle_charged.ensures.ok
