@@ -33,9 +33,9 @@ use Rattle.kl1_moves.specs.Hanging.{HangsOnEach}
 use Rattle.kl1_account.specs.declared.draft.Change.{Change}
 use Rattle.kl1_account.specs.declared.loading.Loading.{Loading}
 use Rattle.kl1_account.specs.declared.loading.Loading.TheVariants.{Refused, Drafted}
-use Rattle.kl1_account.specs.declared.refusal.Refusal.{Refusal}
-use Rattle.kl1_account.specs.Views.{refusal_of}
-use Rattle.kl1_account.specs.declared.refusal.Refusal.TheVariants.{Exists, Names, Limit, Journal}
+use Rattle.kl1_event.specs.declared.refusal.Refusal.{Refusal}
+use Rattle.kl1_event.specs.Views.{refusal_of}
+use Rattle.kl1_event.specs.declared.refusal.Refusal.TheVariants.{Exists, Names, Limit, Journal}
 use Rattle.kl1_account.specs.Fitting.{Reading, Fits, built}
 use Rattle.kl1_account.specs.Account.{Account, Means, meaning, task_with, goal_with, shoen_with, texts_of, state_of}
 use Rattle.kl1_account.specs.Naming.{AreSmall, ReadsDraft, AreNumbersOf}
