@@ -1,6 +1,6 @@
 // The streams of shoens that open.
 
-ghost use Rattle.std.specs.Prelude.{◌≡◌, IfOk};
+ghost use Rattle.std.specs.Prelude.{◌≡◌, ◌<◌, IfOk};
 ghost use Rattle.kl1_text.specs.declared.cell_name.CellName.{CellName};
 ghost use Rattle.kl1_store.specs.Held.{IsIn};
 ghost use Rattle.kl1_store.specs.Hooks.{HasGrown};
@@ -55,6 +55,7 @@ pub(crate) fn open_streams(
     allowance: u64,
     made: u64,
 ) -> Result<Streams, AllocError>
+    requires { 0 < store.old.held.variables }
     ensures ok { IfOk result (OpensStreams allowance made store.old.held store.new.held) }
     ensures grown { HasGrown store.old store.new }
     ensures hooks { store.new.hooks ≡ store.old.hooks }
