@@ -88,7 +88,7 @@ tells_exhausted : (last made : ℕ) (b c d : Bool) → nat_lt (suc made) most_re
 tells_exhausted last made true c d e g h cf dt = cc
 tells_exhausted last made false c d e g h cf dt = cc
 
-first_told : (last made : ℕ) (b : Bool) → nat_lt made most_reports ≡ b → tells started_report (first_streams last made) ≡ (if b then started_on last made false else broken_first last made)
+pub first_told : (last made : ℕ) (b : Bool) → nat_lt made most_reports ≡ b → tells started_report (first_streams last made) ≡ (if b then started_on last made false else broken_first last made)
 first_told last made b e = tells_started last made b false true e (ne_eqb (suc last) (suc (suc last)) (λ q. omega arith)) (eq-eqb (suc (suc last)) (suc (suc last)) refl) refl refl
 
 then_told : (last made : ℕ) (b : Bool) → nat_lt (suc made) most_reports ≡ b → tells exhausted_report (started_on last made false) ≡ (if b then exhausted_on last made else started_on last made true)
