@@ -172,7 +172,7 @@ pub(crate) fn modules_of(alloc: Global, loaded: &Modules) -> Result<Reply, Alloc
     let mut listed = Listed::new(alloc);
     for place in 0..loaded.len() {
         let Some(module) = loaded.get(place) else {
-            break;
+            return Ok(Reply::Listed(listed));
         };
         listed.push(line_of(alloc, module)?)?;
     }
