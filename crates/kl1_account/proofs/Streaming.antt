@@ -146,7 +146,7 @@ unbound_new h new v p w le = ap (is_bound v) w.bindings ∙ beyond_unbound h.var
 means_new : (f : Reading) (h new : Held CellName) (v n : ℕ) → IsFormed h → Follows h new → h.variables ≤ v → v ≡ n → meaning f new (Variable v) ≡ variable n
 means_new f h new v n p w le e = term_of-unbound f new v (unbound_new h new v p w le) ∙ ap variable e
 
-opens_same : (a b c d e g : Term) (x y : Bool) (k l m n : ℕ) → a ≡ d → b ≡ e → c ≡ g → x ≡ y → k ≡ l → m ≡ n →
+pub opens_same : (a b c d e g : Term) (x y : Bool) (k l m n : ℕ) → a ≡ d → b ≡ e → c ≡ g → x ≡ y → k ≡ l → m ≡ n →
     (let o : Opens = record { control = a; reports = b; tail = c; is_broken = x; last = k; made = m } in o) ≡ record { control = d; reports = e; tail = g; is_broken = y; last = l; made = n }
 opens_same a b c d e g x y k l m n p q r s t u = cc
 
