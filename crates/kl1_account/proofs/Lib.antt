@@ -44,3 +44,8 @@ pub mod NamesOnce
 pub mod Started
 pub mod StartChecks
 pub mod Wholes
+pub mod StartSteps
+pub mod StartKept
+pub mod Flags
+pub mod Statuses
+pub mod Listing

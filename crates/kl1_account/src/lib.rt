@@ -3,7 +3,9 @@
 
 mod account;
 mod account_name;
+mod asking;
 mod committing;
+mod counted;
 mod draft;
 mod event;
 mod installing;
