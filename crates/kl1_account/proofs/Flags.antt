@@ -2,10 +2,11 @@
 use Rattle.std.proofs.Common.{◌≡◌, ℕ, zero, suc, ◌+◌, ◌-◌, ◌<◌, ◌≤◌, ◌==◌, ◌||◌, not, nat_le, Bool, true, false, if◌then◌else◌, List, [], ◌∷◌, ◌++◌, length, map, count_by, get_or, refl, sym, ap, ap₂, ◌∙◌, arith, length-append}
 use Rattle.std.specs.Prelude.{Option, Some, None, find, option_map, unwrap_or, cond}
 use Rattle.std.specs.List.{list_any, AllByRecursion}
-use Rattle.std.proofs.lemmas.Bool.{ne_eqb}
+use Rattle.std.proofs.lemmas.Bool.{eq-eqb, ne_eqb, lt-leb}
 use Rattle.std.proofs.lemmas.List.{map-append}
 use Rattle.std.proofs.lemmas.List.Sums.{sum_by-cons}
 use Rattle.kl1_model.specs.Module.{is_among}
+use Rattle.kl1_model.specs.declared.life.Life.TheVariants.{Living}
 use Rattle.kl1_model.specs.State.{is_living}
 use Rattle.kl1_model.specs.Tree.{path_within}
 use Rattle.kl1_text.specs.declared.cell_name.CellName.{CellName}
@@ -86,3 +87,36 @@ uncharged ss n [] lower all = refl
 uncharged ss n (w ∷ ws) lower all =
     sum_by-cons (λ v. cond (is_on_path_in ss n v) 1 0) w ws
     ∙ ap₂ (λ b (m : ℕ). cond b 1 0 + m) (beyond_path (parents_in ss) lower w w n all.0) (uncharged ss n ws lower all.1)
+
+found_new : (k n : ℕ) (ss : List (Shoen CellName)) (h : Shoen CellName) → AreNumbered k ss → h.number ≡ n → n ≡ suc (k + length ss) → find (has_number n) (ss ++ h ∷ []) ≡ Some h
+found_new k n [] h a e q = ap (λ b. if b then Some h else None) (eq-eqb h.number n e)
+found_new k n (s ∷ ss) h a e q =
+    let m = a.0 in
+    ap (λ b. if b then Some s else find (has_number n) (ss ++ h ∷ [])) (ne_eqb s.number n (λ x. omega (arith, x, m, q)))
+    ∙ found_new (suc k) n ss h a.1 e (q ∙ omega arith)
+
+zero_test : (n : ℕ) → nat_le n 0 ≡ (n == 0)
+zero_test zero = refl
+zero_test (suc n) = lt-leb (suc n) 0 (omega arith) ∙ sym (ne_eqb (suc n) 0 (λ e. omega (arith, e)))
+
+or_none : (b : Bool) → (b || false) ≡ b
+or_none true = refl
+or_none false = refl
+
+within_less : (most : ℕ) (work : List ℕ) → AllByRecursion (λ w. w ≤ most) work → AllByRecursion (λ w. w < suc most) work
+within_less most [] all = tt
+within_less most (w ∷ ws) all = let le = all.0 in (omega arith, within_less most ws all.1)
+
+-- whether the goal of a shoen that the console opens may step
+pub enabled_new : (ss : List (Shoen CellName)) (h : Shoen CellName) (work : List ℕ) → AreNumbered 0 ss → AreLower ss → AllByRecursion (λ w. w ≤ length ss) work → h.number ≡ suc (length ss) → h.parent ≡ 0 → h.life ≡ Living → h.is_stopped ≡ false →
+    is_enabled_at (ss ++ h ∷ []) work (suc (length ss)) ≡ not (h.allowance == 0)
+enabled_new ss h work numbered lower all e parent living goes =
+    let more = ss ++ h ∷ [] in
+    let n = suc (length ss) in
+    let charge : charged_in more work h.number ≡ 0 = ap (charged_in more work) e ∙ charged_same ss h n work lower all ∙ uncharged ss n work lower (within_less (length ss) work all) in
+    ap (λ ns. not (list_any (is_blocking_at more work) ns)) (last_path (parents_in more) (length ss) (last_parent ss h ∙ parent))
+    ∙ ap (λ (o : Option (Shoen CellName)). not (unwrap_or (option_map (is_blocking_in more work) o) false || false)) (found_new 0 n ss h numbered e (omega arith))
+    ∙ ap (λ b. not ((b || not (is_living h.life) || nat_le h.allowance (charged_in more work h.number)) || false)) goes
+    ∙ ap (λ l. not ((false || not (is_living l) || nat_le h.allowance (charged_in more work h.number)) || false)) living
+    ∙ ap (λ c. not (nat_le h.allowance c || false)) charge
+    ∙ ap not (or_none (nat_le h.allowance 0) ∙ zero_test h.allowance)
