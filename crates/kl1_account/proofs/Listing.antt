@@ -1,10 +1,9 @@
 -- Lists that are shown: reports, and modules.
-use Rattle.std.proofs.Common.{◌≡◌, ℕ, zero, suc, ◌+◌, ◌-◌, ◌<◌, ◌≤◌, ◌&&◌, nat_le, true, false, if◌then◌else◌, List, [], ◌∷◌, ◌++◌, map, take, drop, length, codes, bytes_eq, append_assoc, refl, sym, ap, ◌∙◌, arith, subst}
+use Rattle.std.proofs.Common.{◌≡◌, ℕ, zero, suc, ◌-◌, ◌<◌, ◌≤◌, ◌&&◌, nat_le, true, false, if◌then◌else◌, List, [], ◌∷◌, ◌++◌, map, take, drop, append_assoc, refl, sym, ap, ◌∙◌}
 use Rattle.std.specs.Prelude.{Option, Some, None, option_map}
 use Rattle.std.proofs.lemmas.Bool.{le-leb, lt-leb}
 use Rattle.kl1_model.specs.Limits.{most_listed}
-use Rattle.kl1_model.specs.Term.{Term, structure, none, more}
-use Rattle.kl1_model.specs.Meaning.{cell}
+use Rattle.kl1_model.specs.Term.{Term}
 use Rattle.kl1_model.specs.Print.{cut_print}
 use Rattle.kl1_model.specs.State as model
 use Rattle.kl1_model.specs.State.{State}
@@ -20,7 +19,7 @@ use Rattle.kl1_goals.specs.declared.goal.Goal.{Goal}
 use Rattle.kl1_shoen.specs.declared.shoen.Origin.{Origin}
 use Rattle.kl1_shoen.specs.declared.shoen.Shoen.{Shoen}
 use Rattle.kl1_account.specs.Fitting.{Reading, Fits, built}
-use Rattle.kl1_account.specs.Account.{Means, meaning, origin_with, shoen_with, with_kept}
+use Rattle.kl1_account.specs.Account.{meaning, origin_with, shoen_with, with_kept}
 use Rattle.kl1_account.specs.Asked.{cells_of}
 use Rattle.kl1_account.proofs.Origins.{kept_at, origin_read}
 

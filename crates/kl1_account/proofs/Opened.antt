@@ -1,5 +1,5 @@
 -- A shoen that opens, and its first reports, on the states of the definitions.
-use Rattle.std.proofs.Common.{◌≡◌, ℕ, suc, ◌+◌, ◌<◌, ◌≤◌, ◌==◌, ◌||◌, not, Bool, if◌then◌else◌, true, false, List, [], ◌∷◌, ◌++◌, length, map, refl, sym, ap, ap₂, ◌∙◌, arith}
+use Rattle.std.proofs.Common.{◌≡◌, ℕ, suc, ◌+◌, ◌<◌, ◌==◌, ◌||◌, not, Bool, if◌then◌else◌, true, false, List, [], ◌∷◌, ◌++◌, length, map, refl, sym, ap, ap₂, ◌∙◌, arith}
 use Rattle.std.specs.Prelude.{Option, Some, None, nat_lt}
 use Rattle.std.proofs.lemmas.Bool.{ne_eqb, eq-eqb}
 use Rattle.std.proofs.lemmas.List.{map-append}
@@ -169,6 +169,7 @@ read_as old t u s gs ss h goal o allowance low high final x st standing agree i 
   where
     goals_read : goal ≡ u x → h.high ≡ high → opening_goals s.last_goal h goal ≡ map (goal_with u) (two_goals s.last_goal h.number allowance high x standing)
     goals_read e f = cc
+
     shoen_read : goal ≡ u x → streaming h goal (opens_with u final st) ≡ shoen_with u (shoen_opened h.number allowance low high x st)
     shoen_read e =
         ap (λ (r : model.Shoen). streaming r goal (opens_with u final st)) shape

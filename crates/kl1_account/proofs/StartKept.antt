@@ -1,7 +1,6 @@
 -- What holds of an account after a start.
-use Rattle.std.proofs.Common.{◌≡◌, ℕ, suc, ◌+◌, ◌<◌, ◌≤◌, not, List, [], ◌∷◌, ◌++◌, length, map, count_by, refl, sym, ap, ap₂, ◌∙◌, arith, subst, length-append, append_assoc}
-use Rattle.std.specs.Prelude.{Contains, cond}
-use Rattle.std.proofs.lemmas.List.Elements.{Contains-append_right}
+use Rattle.std.proofs.Common.{◌≡◌, ℕ, suc, ◌+◌, ◌<◌, ◌≤◌, not, List, [], ◌∷◌, ◌++◌, length, map, count_by, refl, sym, ap, ap₂, ◌∙◌, arith, subst, length-append}
+use Rattle.std.specs.Prelude.{cond}
 use Rattle.std.proofs.lemmas.List.Sums.{sum_by-cons}
 use Rattle.kl1_model.specs.Term.{Term}
 use Rattle.kl1_model.specs.Event.{with_entry}
@@ -10,9 +9,7 @@ use Rattle.kl1_model.specs.State as model
 use Rattle.kl1_model.specs.State.{State}
 use Rattle.kl1_text.specs.declared.cell_name.CellName.{CellName}
 use Rattle.kl1_store.specs.declared.cell.Cell.{Cell}
-use Rattle.kl1_store.specs.declared.cell.Cell.TheVariants.{Variable}
-use Rattle.kl1_store.specs.Held.{Held, IsIn}
-use Rattle.kl1_store.specs.Hooks.{Hook}
+use Rattle.kl1_store.specs.Held.{Held}
 use Rattle.kl1_store.specs.Sound.{Grown}
 use Rattle.kl1_store.proofs.Grows.{Grown-trans}
 use Rattle.kl1_clause.specs.declared.instruction.Instruction.{Instruction}
@@ -26,8 +23,8 @@ use Rattle.kl1_shoen.proofs.Numbered.{numbered_push}
 use Rattle.kl1_account.specs.declared.opening.Opening.{Opening}
 use Rattle.kl1_account.specs.Fitting.{Reading, Fits}
 use Rattle.kl1_account.specs.Account.{Account, Means, task_with, goal_with, state_of}
-use Rattle.kl1_account.specs.Kept.{IsTaskIn, AreGoalsIn, AreOwned, AreUpTo, IsShoenIn, AreShoensIn}
-use Rattle.kl1_account.specs.Starting.{two_goals, shoen_opened, hooks_on}
+use Rattle.kl1_account.specs.Kept.{AreGoalsIn, AreOwned, AreUpTo, IsShoenIn, AreShoensIn}
+use Rattle.kl1_account.specs.Starting.{two_goals, shoen_opened}
 use Rattle.kl1_account.proofs.States.{in_grown, goals_grown, shoens_grown}
 use Rattle.kl1_account.proofs.Started.{IsFirm, IsStart, started_state}
 

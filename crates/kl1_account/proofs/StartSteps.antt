@@ -6,9 +6,8 @@ use Rattle.kl1_model.specs.Limits.{most_goals, most_variables, most_nodes, most_
 use Rattle.kl1_model.specs.Term.{Term}
 use Rattle.kl1_model.specs.Meaning.{highest}
 use Rattle.kl1_model.specs.Nodes.{goal_nodes}
-use Rattle.kl1_model.specs.Tree.{goals_alive}
 use Rattle.kl1_model.specs.State.{State, names_of, with_names}
-use Rattle.kl1_model.specs.Event.{Stepped, start, opened, refuse, recorded, named, limited, syntax, too_many_names, limit_passed, journal_full, with_entry, most_entries, most_names}
+use Rattle.kl1_model.specs.Event.{Stepped, start, opened, refuse, recorded, named, limited, syntax, too_many_names, journal_full, with_entry, most_entries, most_names}
 use Rattle.kl1_model.specs.Step.{step}
 use Rattle.kl1_model.specs.Opening.{may_start, has_room_to_start, start_goal}
 use Rattle.kl1_atoms.specs.declared.known.Known.{Known}

@@ -1,5 +1,5 @@
 -- What is shown of a shoen, and of the modules.
-use Rattle.std.proofs.Common.{◌≡◌, ℕ, zero, suc, ◌+◌, ◌-◌, ◌<◌, ◌≤◌, ◌==◌, ◌&&◌, not, nat_le, Bool, true, false, if◌then◌else◌, List, [], ◌∷◌, ◌++◌, map, take, length, get_or, count_by, refl, sym, ap, ap₂, ◌∙◌, arith, subst}
+use Rattle.std.proofs.Common.{◌≡◌, ℕ, zero, suc, ◌+◌, ◌-◌, ◌<◌, ◌&&◌, not, nat_le, Bool, true, false, if◌then◌else◌, List, [], ◌∷◌, ◌++◌, map, take, length, get_or, count_by, refl, sym, ap, ap₂, ◌∙◌, arith}
 use Rattle.std.specs.Prelude.{Option, Some, None, find, option_map, slice_get, cond}
 use Rattle.std.proofs.lemmas.List.Sums.{sum_by-cons}
 use Rattle.kl1_model.specs.declared.life.Life.{Life}
@@ -9,7 +9,7 @@ use Rattle.kl1_model.specs.declared.condition.Condition.TheVariants.{Stopped, Ex
 use Rattle.kl1_model.specs.Module.{is_among}
 use Rattle.kl1_model.specs.State as model
 use Rattle.kl1_model.specs.State.{State, shoen_at}
-use Rattle.kl1_model.specs.Tree.{parents_of, path_within, charged_of, goals_below, is_on_path}
+use Rattle.kl1_model.specs.Tree.{parents_of, path_within, charged_of, goals_below}
 use Rattle.kl1_model.specs.Event.{Stepped, no_shoen, syntax, status_is, refuse, read, status, is_number}
 use Rattle.kl1_model.specs.Asking as asking
 use Rattle.kl1_model.specs.Asking.{module_line}
@@ -95,8 +95,8 @@ asked_some t s last gs ss work n o h condition charged alive flags sliced e is s
     let R : Condition → ℕ → ℕ → Stepped = λ x y z. record { state = S; reply = status_is x y h.allowance z } in
     let charge : charged_of S h.number ≡ charged = ap (charged_of S) number ∙ charged_read t s last gs ss work n worked ∙ sym c in
     let below : goals_below S h.number ≡ alive =
-        ap (goals_below S) number ∙ goals_read t n ss (parents_of (map (shoen_with t) ss)) gs numbered owned (parents_read t ss)
-        ∙ ap (λ (fs : List Bool). count_by (λ (g : Goal CellName). not (is_monitor g) && is_flagged fs g) gs) (sym (sl ∙ f)) ∙ sym a in
+    ap (goals_below S) number ∙ goals_read t n ss (parents_of (map (shoen_with t) ss)) gs numbered owned (parents_read t ss)
+    ∙ ap (λ (fs : List Bool). count_by (λ (g : Goal CellName). not (is_monitor g) && is_flagged fs g) gs) (sym (sl ∙ f)) ∙ sym a in
     asked t s last gs ss n o e is ∙ ap (λ p. asking.status_of S (option_map (shoen_with t) p)) some
     ∙ ap (λ x. R x (charged_of S h.number) (goals_below S h.number)) (condition_read t s last gs ss h h.life charged charge ∙ sym d)
     ∙ ap (λ y. R condition y (goals_below S h.number)) charge

@@ -9,7 +9,6 @@ use Rattle.kl1_model.specs.Text.{text_of}
 use Rattle.kl1_model.specs.Term.{Term, variable, atom, structure, none, more}
 use Rattle.kl1_model.specs.Meaning.{cell}
 use Rattle.kl1_model.specs.Report.{started_report, exhausted_report}
-use Rattle.kl1_text.specs.Reading.{Reads}
 use Rattle.kl1_text.specs.declared.cell_name.CellName.{CellName}
 use Rattle.kl1_store.specs.declared.cell.Cell.{Cell}
 use Rattle.kl1_store.specs.declared.cell.Cell.TheVariants.{Variable, Atom, Structure}
@@ -19,7 +18,6 @@ use Rattle.kl1_store.proofs.Grows.{Grown-variable}
 use Rattle.kl1_store.proofs.Terms.{term_of-variable, term_of-structure, term_of-unbound, term_of-Atom}
 use Rattle.kl1_match.proofs.Places.{beyond_unbound}
 use Rattle.kl1_stream.proofs.Pairs.{with_pair, pair_means}
-use Rattle.kl1_account.specs.declared.opening.Streams.{Streams}
 use Rattle.kl1_account.specs.Fitting.{Reading, built}
 use Rattle.kl1_account.specs.Account.{meaning}
 use Rattle.kl1_account.specs.Starting.{Opens, tells, first_streams, streams_opened, IsLink, OpensStreams}

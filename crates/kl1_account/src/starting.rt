@@ -26,9 +26,9 @@ use crate::placing::{hang_all, hang_one, put_two};
 use kl1_clause::Instruction;
 use kl1_goals::GoalTable;
 use kl1_match::{Scratch, put_goal, reserve_goal};
+use kl1_model::Life;
 use kl1_modules::Modules;
 use kl1_moves::Trial;
-use kl1_model::Life;
 use kl1_shoen::{Origin, Shoen, ShoenTree};
 use kl1_store::{Cell, Store};
 use kl1_text::{AtomText, CellName};
@@ -200,7 +200,15 @@ pub(crate) fn place(
     let streams = opening.streams;
     hang_one(store, streams.control, last_goal + 1);
     hang_all(store, awaited, last_goal + 2);
-    put_two(goals, last_goal, number, allowance, high, cell, opening.standing);
+    put_two(
+        goals,
+        last_goal,
+        number,
+        allowance,
+        high,
+        cell,
+        opening.standing,
+    );
     let control = Cell::Variable(streams.control);
     shoens.open(Shoen {
         number,

@@ -1,4 +1,4 @@
-use Rattle.std.proofs.Common.{◌≡◌, suc, ◌-◌, List, sym, ◌∙◌, arith, subst}
+use Rattle.std.proofs.Common.{◌-◌, List, sym, ◌∙◌, arith, subst}
 use Rattle.kl1_atoms.specs.declared.known.Known.{Known}
 use Rattle.kl1_account.specs.Fitting.{Fits}
 use Rattle.kl1_account.proofs.Listing.{listed_more}

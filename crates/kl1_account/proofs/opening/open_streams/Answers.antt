@@ -17,10 +17,10 @@ returns-then-allowance-ne0-clause-ok c =
     let last = h.variables - 1 in
     let lt = c.if-made-ge-MOST_REPORTS.false in
     let is : streams_opened c.args.allowance last c.args.made ≡ started_on last c.args.made (c.args.allowance == 0) =
-        elim c.then-allowance-ne0.branch [
-          then-allowance-ne0-via-then-allowance-ne0 w ↦ (let e : (c.args.allowance == 0) ≡ false = ne_eqb c.args.allowance 0 w.if-allowance-ne0.true in one_made c.args.allowance last c.args.made lt e ∙ ap (started_on last c.args.made) (sym e))
-        | then-allowance-ne0-via-else-allowance-ne0+then-made-ge-MOST_REPORTS-2 w ↦ (let e : (c.args.allowance == 0) ≡ true = eq-eqb c.args.allowance 0 w.if-allowance-ne0.false in let le = w.if-made-ge-MOST_REPORTS-2.true in last_made c.args.allowance last c.args.made lt e (omega (arith, le)) ∙ ap (started_on last c.args.made) (sym e))
-        ] in
+    elim c.then-allowance-ne0.branch [
+      | then-allowance-ne0-via-then-allowance-ne0 w ↦ (let e : (c.args.allowance == 0) ≡ false = ne_eqb c.args.allowance 0 w.if-allowance-ne0.true in one_made c.args.allowance last c.args.made lt e ∙ ap (started_on last c.args.made) (sym e))
+      | then-allowance-ne0-via-else-allowance-ne0+then-made-ge-MOST_REPORTS-2 w ↦ (let e : (c.args.allowance == 0) ≡ true = eq-eqb c.args.allowance 0 w.if-allowance-ne0.false in let le = w.if-made-ge-MOST_REPORTS-2.true in last_made c.args.allowance last c.args.made lt e (omega (arith, le)) ∙ ap (started_on last c.args.made) (sym e))
+    ] in
     opens_started c.args.allowance c.args.made h c.fresh.new.self.held c.fresh-2.new.self.held c.fresh-3.new.self.held c.link.new.store.held c.in_ok-control.control c.in_ok-first.first c.in_ok-second.second c.in_ok-reports.reports (c.args.allowance == 0) c.mark-formed.ensures.formed c.requires c.in_ok-control.ensures.ok c.in_ok-first.ensures.ok c.in_ok-second.ensures.ok
     c.in_ok-reports.ensures.grown.held c.in_ok-reports.ensures.ok is
 

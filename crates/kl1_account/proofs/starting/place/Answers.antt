@@ -1,7 +1,7 @@
 use Rattle.std.proofs.Common.{sym, subst}
 use Rattle.kl1_text.specs.declared.cell_name.CellName.{CellName}
 use Rattle.kl1_store.specs.Held.{Held}
-use Rattle.kl1_match.specs.Waiting.{IsUnbound, AreUnbound}
+use Rattle.kl1_match.specs.Waiting.{AreUnbound}
 use Rattle.kl1_account.proofs.Drafting.{unbound_before, unbound_one}
 use Rattle.kl1_account.proofs.starting.place.Goals as goal
 
