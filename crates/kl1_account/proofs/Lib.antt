@@ -52,3 +52,8 @@ pub mod Calling
 pub mod Moved
 pub mod MonitorStays
 pub mod FlagsStay
+pub mod StartSteps
+pub mod StartKept
+pub mod Flags
+pub mod Statuses
+pub mod Listing

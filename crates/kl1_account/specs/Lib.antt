@@ -21,3 +21,4 @@ pub mod Loadings
 pub mod Reducing
 pub mod Starting
 pub mod Wholes
+pub mod Asked
