@@ -5,8 +5,9 @@ use crate::again::is_right_again;
 use crate::answers::{condition_word, is_answered, is_first, is_first_by, is_shown};
 use crate::beside::is_answered_beside;
 use crate::player::Player;
+use crate::playing::is_played_alike;
 use kl1_event::{Event, Query, Reply, ShoenNo};
-use kl1_rows::cut;
+use kl1_rows::{cut, number_of};
 use kl1_slow::Plain;
 use std::alloc::{AllocError, Global};
 
@@ -84,6 +85,15 @@ fn are_shown_alike(user: &mut Player, plain: &Plain) -> Option<bool> {
     Some(true)
 }
 
+/// Whether an account has the first goal of a slow one, and shows each shoen as that does.
+pub fn are_shown_beside(user: &mut Player, plain: &Plain) -> Option<bool> {
+    let (goal, clause) = plain.first()?;
+    if !is_first_by(user, goal, clause) {
+        return Some(false);
+    }
+    are_shown_alike(user, plain)
+}
+
 /// Whether an event does to a slow account what is wanted of it, and an account that it has been done to is like that one then:
 /// they have the same first goal, and show the same of each shoen.
 fn are_alike(
@@ -96,11 +106,7 @@ fn are_alike(
     if !is_answered_beside(alloc, plain, event, wanted)? {
         return Some(false);
     }
-    let (goal, clause) = plain.first()?;
-    if !is_first_by(user, goal, clause) {
-        return Some(false);
-    }
-    are_shown_alike(user, plain)
+    are_shown_beside(user, plain)
 }
 
 /// Whether an event is answered so by an account, and by a slow one where there is one.
@@ -123,6 +129,18 @@ fn is_event_right(
     }
 }
 
+/// Whether events by pseudo-random numbers are done alike, by a seed and how many they are; without a slow account none are.
+fn is_play_right(user: &mut Player, plain: &mut [Plain], words: &[u8], wanted: &[u8]) -> bool {
+    let (seed, count) = cut(words, b' ');
+    match plain {
+        [] => false,
+        [plain, ..] => {
+            wanted == b"alike".as_slice()
+                && is_played_alike(user, plain, number_of(seed), number_of(count))
+        }
+    }
+}
+
 /// Whether an act comes to what is wanted.
 fn is_act_right(
     alloc: Global,
@@ -135,6 +153,7 @@ fn is_act_right(
     match word {
         b"first" => is_first(user, wanted),
         b"run" => is_run_right(user, words, wanted),
+        b"play" => is_play_right(user, plain, words, wanted),
         _ => match event_of(alloc, user, word, words) {
             Some(event) => is_event_right(alloc, user, plain, &event, wanted),
             None => false,

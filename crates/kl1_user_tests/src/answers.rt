@@ -7,7 +7,7 @@ use kl1_rows::{cut, is_counted, is_joined, number_of};
 use kl1_text::AtomText;
 
 /// The number and word of a refusal; for the line of a source nothing.
-fn word_of(refusal: Refusal) -> &'static [u8] {
+pub fn refusal_word(refusal: Refusal) -> &'static [u8] {
     match refusal {
         Refusal::Syntax => b"- 1 syntax",
         Refusal::Source { line: _ } => b"",
@@ -26,7 +26,7 @@ fn is_refusal(refusal: Refusal, wanted: &[u8]) -> bool {
     if let Refusal::Source { line } = refusal {
         return is_counted(wanted, b"- 2 source ", line);
     }
-    word_of(refusal) == wanted
+    refusal_word(refusal) == wanted
 }
 
 /// Whether a text says that a module of this name is loaded.

@@ -9,7 +9,7 @@ use kl1_text::put_atom;
 use std::alloc::Global;
 
 /// Whether a text is a refusal with this number.
-fn is_refused(number: u64, wanted: &[u8]) -> bool {
+pub fn is_refused(number: u64, wanted: &[u8]) -> bool {
     match wanted.strip_prefix(b"- ") {
         Some(text) => number_of(cut(text, b' ').0) == number,
         None => false,
@@ -84,7 +84,7 @@ fn sent(plain: &mut Plain, shoen: u64, message: Message) -> Option<Answer> {
 }
 
 /// What a slow account answers to an event that isn't a question.
-fn answer_of(plain: &mut Plain, event: &Event) -> Option<Answer> {
+pub fn answer_of(plain: &mut Plain, event: &Event) -> Option<Answer> {
     match event {
         Event::Load { source } => plain.load(source.as_slice()),
         Event::Start {
