@@ -86,7 +86,11 @@ fn put_clause(answer: &mut Text, clause: &CompiledClause) {
     answer.put(b" ?");
     put_row(answer, clause.goals.as_slice());
     answer.put(b" ?");
-    put_modules(answer, clause.modules.as_slice(), clause.priorities.as_slice());
+    put_modules(
+        answer,
+        clause.modules.as_slice(),
+        clause.priorities.as_slice(),
+    );
     answer.put(b">");
 }
 

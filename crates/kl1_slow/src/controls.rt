@@ -42,10 +42,7 @@ fn heard_in(message: &[Node]) -> Heard {
             Heard::Waits
         }
         [Node::Structure(name, 1), Node::Integer(number)]
-            if *number >= 0 && has_text(name, b"allow") =>
-        {
-            Heard::Allows(*number as u64)
-        }
+            if *number >= 0 && has_text(name, b"allow") => { Heard::Allows(*number as u64) }
         _ => Heard::Other,
     }
 }

@@ -219,13 +219,7 @@ impl Plain {
 
     /// Starts a goal that may be started, with an allowance and priorities from `low` to `high`. Its variables take the next
     /// numbers, then the ends of the control stream and of the report stream.
-    pub fn start(
-        &mut self,
-        allowance: u64,
-        low: u64,
-        high: u64,
-        goal: &[Node],
-    ) -> Option<Answer> {
+    pub fn start(&mut self, allowance: u64, low: u64, high: u64, goal: &[Node]) -> Option<Answer> {
         let mut names = self.known_names().ok()?;
         put_names(&mut names, goal).ok()?;
         if names.len() > MOST_NAMES {

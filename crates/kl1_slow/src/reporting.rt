@@ -22,7 +22,8 @@ pub fn cell_row(alloc: Global, element: &[Node], next: u64) -> Result<Row, Alloc
 /// The report of an exception with a kind and a goal or another term.
 fn exception_row(alloc: Global, kind: &[u8], term: &[Node]) -> Option<Row> {
     let mut row = Vec::new(alloc);
-    row.push(Node::Structure(AtomText::of(b"exception"), 2)).ok()?;
+    row.push(Node::Structure(AtomText::of(b"exception"), 2))
+        .ok()?;
     row.push(Node::Atom(AtomText::read(kind)?)).ok()?;
     row.extend_from_slice(term).ok()?;
     Some(row)
@@ -92,14 +93,16 @@ impl Plain {
         let place = place_of(self.shoens.as_slice(), shoen)?;
         let number = variable_of(self.shoens[place].tail.as_slice());
         if number != 0 && !self.shoens[place].is_broken {
-            self.replace(number, &[Node::Atom(AtomText::of(b"[]"))]).ok()?;
+            self.replace(number, &[Node::Atom(AtomText::of(b"[]"))])
+                .ok()?;
         }
         Some(())
     }
 
     /// Removes the monitor of a shoen.
     pub(crate) fn remove_monitor(&mut self, shoen: u64) {
-        self.goals.retain(|goal| !(goal.is_monitor && goal.shoen == shoen));
+        self.goals
+            .retain(|goal| !(goal.is_monitor && goal.shoen == shoen));
     }
 
     /// Whether a shoen has a goal other than its monitor.

@@ -175,7 +175,9 @@ impl Plain {
             let written = part.goal.nodes();
             most = highest_in(written).max(most);
             nodes = nodes.saturating_add(structures_in(written));
-            goals.push(self.instance(written, heads, places).ok()?).ok()?;
+            goals
+                .push(self.instance(written, heads, places).ok()?)
+                .ok()?;
             let priority = match part.priority {
                 None => goal.priority,
                 Some(number) => self.clipped_to(goal.shoen, number),

@@ -1,5 +1,7 @@
 // Shoens: a tree by the numbers of parents, each with a running sum of what it was charged.
 
+ghost use Rattle.std.specs.Prelude.{◌<◌, length, IfSome};
+
 use crate::nodes::Row;
 use std::alloc::Global;
 
@@ -44,7 +46,9 @@ impl PlainShoen {
 }
 
 /// The place of the shoen of a number, where there is one.
-pub fn place_of(shoens: &[PlainShoen], number: u64) -> Option<usize> {
+pub fn place_of(shoens: &[PlainShoen], number: u64) -> Option<usize>
+    ensures { IfSome result (λ place. place < length shoens.now) }
+{
     if number == 0 || number > shoens.len() as u64 {
         return None;
     }

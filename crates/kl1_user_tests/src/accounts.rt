@@ -22,12 +22,14 @@ pub struct Accounts {
 fn is_status_alike(user: &mut Player, plain: &Plain, number: u64) -> Option<bool> {
     let status = plain.status(number)?;
     match user.apply(&Event::Read(Query::Status(ShoenNo(number)))) {
-        Ok(Reply::Status {
-            condition,
-            charged,
-            allowance,
-            alive,
-        }) => Some(
+        Ok(
+            Reply::Status {
+                condition,
+                charged,
+                allowance,
+                alive,
+            },
+        ) => Some(
             condition_word(condition) == status.word
                 && charged == status.charged
                 && allowance == status.allowance

@@ -62,7 +62,10 @@ fn put_shoens(user: &mut Player, out: &mut Text) -> Result<(), AllocError> {
         }
         put_shown(out, &status);
         put_shown(out, &user.apply(&Event::Read(Query::Value(shoen)))?);
-        put_shown(out, &user.apply(&Event::Read(Query::Reports { shoen, from: 1 }))?);
+        put_shown(
+            out,
+            &user.apply(&Event::Read(Query::Reports { shoen, from: 1 }))?,
+        );
     }
     Ok(())
 }

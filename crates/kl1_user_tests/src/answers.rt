@@ -104,7 +104,11 @@ fn is_told(reply: &Reply, wanted: &[u8]) -> bool {
             charged,
             allowance,
             alive,
-        } => is_status(condition_word(*condition), &[*charged, *allowance, *alive], wanted),
+        } => is_status(
+            condition_word(*condition),
+            &[*charged, *allowance, *alive],
+            wanted,
+        ),
         Reply::Listed(listed) => are_listed(listed.texts(), wanted),
         _ => is_change(reply, wanted),
     }
