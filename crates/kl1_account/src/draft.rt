@@ -14,6 +14,13 @@ pub(crate) struct Change {
     pub standing: Option<u64>,
 }
 
+/// A number that is to hang on a variable.
+#[derive(Clone, Copy)]
+pub(crate) struct Hanging {
+    pub variable: u32,
+    pub number: u64,
+}
+
 /// What an event is to leave of an account's goals and counters, before it is put in place. The store and the tree of shoens are
 /// changed at once, and go back where memory is refused; the table of goals is changed at the end alone.
 #[derive(Drop)]
@@ -36,6 +43,10 @@ pub(crate) struct Draft {
     pub reports: u64,
     /// A name that is new to the account.
     pub name: Option<AtomText>,
+    /// The variable that becomes the new name when its number is known, where there is one: the last binding of the event.
+    pub spelled: Option<u32>,
+    /// The numbers that are to hang on variables after that binding, with these.
+    pub hooks: Vec<Hanging>,
     /// Whether goals that stay may be let or held back other than before.
     pub shifts: bool,
     /// Which shoens let their goals step, the first of them shoen 1, where that may be other than before.
@@ -61,6 +72,8 @@ impl Draft {
             nodes: 0,
             reports: 0,
             name: None,
+            spelled: None,
+            hooks: Vec::new(alloc),
             shifts: false,
             enabled: Vec::new(alloc),
             changes: Vec::new(alloc),
