@@ -9,6 +9,7 @@ mod asking;
 mod committing;
 mod counted;
 mod draft;
+mod finishing;
 mod installing;
 mod judging;
 mod limits;
