@@ -1,8 +1,8 @@
 // Reductions that are drafted.
 
 use crate::acting::{act, read};
+use crate::completing::finish;
 use crate::draft::Draft;
-use crate::finishing::finish;
 use crate::installing::begin;
 use crate::limits::are_numbers;
 use crate::looking::predicate_of;
