@@ -7,23 +7,22 @@ use Rattle.std.proofs.lemmas.Bool.{ltb-true, ltb-false}
 use Rattle.kl1_model.specs.State as model
 use Rattle.kl1_text.specs.declared.cell_name.CellName.{CellName}
 use Rattle.kl1_store.specs.declared.point.Point.{Point}
-use Rattle.kl1_store.specs.Held.{Held}
 use Rattle.kl1_store.specs.Hooks.{Kept}
 use Rattle.kl1_goals.specs.declared.goal.Goal.{Goal}
 use Rattle.kl1_goals.specs.Lists.{is_other, is_monitor, is_monitor_of, is_flagged, enabled_by}
-use Rattle.kl1_goals.specs.Tables.{AreBefore, IsNext}
+use Rattle.kl1_goals.specs.Tables.{Tabled, AreBefore, IsNext}
 use Rattle.kl1_shoen.specs.declared.shoen.Shoen.{Shoen}
 use Rattle.kl1_shoen.specs.Shoens.{Tree, AreNumbered, is_enabled_at}
 use Rattle.kl1_modules.specs.Numbered.{Numbered}
 use Rattle.kl1_account.specs.declared.draft.Draft.{Draft}
 use Rattle.kl1_account.specs.Fitting.{Reading}
 use Rattle.kl1_account.specs.Account.{Means, goal_with}
-use Rattle.kl1_account.specs.Kept.{AreGoalsIn, IsOwned, AreOwned, AreUpTo}
+use Rattle.kl1_account.specs.Kept.{IsTaskIn, IsOwned, AreOwned}
 use Rattle.kl1_account.specs.Drafts.{without_monitors, restood, goals_left}
 use Rattle.kl1_account.specs.Settled.{IsSettled, IsEnabled, AreEnabled}
 use Rattle.kl1_account.specs.Looking.{unlooked}
 use Rattle.kl1_account.specs.Installing.{AreNext, shifted, goals_after}
-use Rattle.kl1_account.specs.Finishing.{goals_placed, SettlesTo, SameFlags, EnablesTo}
+use Rattle.kl1_account.specs.Finishing.{goals_placed, SettlesTo, LooksAgain, SameFlags, ShiftsFor, EnablesTo, Finishes}
 use Rattle.kl1_account.proofs.Goals.{filter_append}
 use Rattle.kl1_account.proofs.Restood.{each_append, each_part, restood_holds, restood_read}
 use Rattle.kl1_account.proofs.LookedAt.{filter_holds, left_holds}
@@ -254,3 +253,50 @@ enables_to tree goals added d numbered flags e owned come before work le own sam
 pub settles_to : (ms : List Numbered) (mark : Point) (now new : Kept CellName) (after : List (Shoen CellName)) (told : List ℕ) (goals placed : List (Goal CellName)) (d : Draft) → SettlesTo ms mark now new after told goals placed → SettlesTo ms mark now new after told goals (shifted d placed)
 settles_to ms mark now new after told goals placed d s old before come inside shoens keeps f knows a =
     shifted_holds (λ g. IsSettled f new.hooks new.held ms after g) (λ g b p. record { standing = p.standing; hung = p.hung }) d placed (s old before come inside shoens keeps f knows a)
+
+-- ---- all of it
+
+-- a draft with what another has looked at
+abbrev looked_as : Draft → Draft → Draft
+looked_as before x = record before { changes = x.changes; told = x.told; enabled = x.enabled; shifts = x.shifts; added = x.added }
+
+-- a draft with what another shifts
+abbrev shifts_as : Draft → Draft → Draft
+shifts_as mid x = record mid { enabled = x.enabled; shifts = x.shifts }
+
+-- a draft whose goals were looked at is finished when its flags are there, and room for what comes
+pub finished : (ms : List Numbered) (mark : Point) (now new : Kept CellName) (tree : Tree CellName) (goals : List (Goal CellName)) (table : Tabled CellName) (known : ℕ) (reached : List ℕ) (before mid after : Draft) →
+    AreNumbered 0 tree.shoens → LooksAgain ms mark now new tree goals before mid → mid ≡ record before { changes = mid.changes; told = mid.told; added = mid.added } → ShiftsFor tree reached mid after → after ≡ record mid { enabled = after.enabled; shifts = after.shifts } →
+    AreNext goals (length tree.shoens) before.added.items → goals_left before.added.items before ≡ before.added.items → table.shoens ≡ known → known ≤ length tree.shoens → length tree.shoens ≤ known + 1 → length after.added.items ≤ table.room → 1 ≤ table.shoen_room →
+    Finishes ms mark now new tree goals table reached before after
+finished ms mark now new tree goals table known reached before mid after numbered looks mid_is shifts after_is next stay known_is low high enough opening =
+    let R : Draft → Type 0 = λ x. x ≡ looked_as before x in
+    let F : Draft → Draft = λ x. shifts_as x after in
+    let rest : after ≡ looked_as before after = subst R (sym after_is) (ap F mid_is) in
+    let looked : map unlooked after.added.items ≡ map unlooked before.added.items = ap (λ (x : Draft). map unlooked x.added.items) after_is ∙ looks.same in
+    let P : List (Goal CellName) → Type 0 = λ gs. SettlesTo ms mark now new tree.shoens before.told.items goals gs in
+    let E : List (Goal CellName) → Type 0 = λ gs. AreEnabled tree.shoens tree.work gs in
+    let N : ℕ → Type 0 = λ n. AreNext (restood after.changes.items (goals_left goals after)) n after.added.items in
+    let added = before.added.items in
+    record {
+      settles = settles_to ms mark now new tree.shoens before.told.items goals (goals_placed goals after) after (subst P (sym (ap (goals_placed goals) after_is)) looks.settles);
+      shifts = record {
+        flags = shifts.flags;
+        kept = λ e. ap (λ (x : Draft). x.shifts) (sym mid_is) ∙ shifts.kept e;
+        reached_none = shifts.reached_none;
+        ended_none = λ e. ap (λ (x : Draft). x.ended.items) (sym mid_is) ∙ shifts.ended_none e;
+      };
+      enables = enables_to tree goals added after numbered shifts.flags looked (next_owned (length tree.shoens) goals added next) (subst E (sym (ap (λ (x : Draft). x.added.items) after_is)) looks.enabled);
+      fitting = record {
+        enough = enough;
+        opening = λ e. opening;
+        next = subst N (sym (known_after table.shoens (length tree.shoens) (omega (arith, known_is, low)) (omega (arith, known_is, high)))) (next_placed (length tree.shoens) goals added after looked next);
+      };
+      same = λ t. after_read t goals before after (ap (goals_left goals) rest) stay looked;
+      owns = λ count a b. after_holds (λ g. IsOwned count g) (λ g o f p. record { low = p.low; high = p.high }) goals added after looked a b;
+      inside = λ h a b. after_holds (λ g. IsTaskIn h g.task) (λ g o f p. p) goals added after looked a b;
+      up_to = λ last a b. after_holds (λ g. g.number ≤ last) (λ g o f p. p) goals added after looked a b;
+      first = λ a b. after_holds (λ g. 0 < g.number) (λ g o f p. p) goals added after looked a b;
+      looked = looked;
+      rest = rest;
+    }
