@@ -1,6 +1,6 @@
 -- A draft that is finished: what holds of the goals that are there with it in place.
 use Rattle.std.proofs.Common.{◌≡◌, ℕ, zero, suc, ◌+◌, ◌-◌, ◌<◌, ◌≤◌, ◌||◌, not, nat_lt, Bool, true, false, if◌then◌else◌, List, [], ◌∷◌, ◌++◌, length, map, get_or, refl, sym, ap, ◌∙◌, arith, subst}
-use Rattle.std.specs.Prelude.{Option, None, filter}
+use Rattle.std.specs.Prelude.{Option, None, Result, Ok, Err, OnOk, filter}
 use Rattle.std.specs.List.{AllByRecursion, list_any}
 use Rattle.std.proofs.lemmas.List.{map-append}
 use Rattle.std.proofs.lemmas.Bool.{ltb-true, ltb-false}
@@ -134,11 +134,11 @@ carries_more gs ks a b e c P all h =
 
 none_each : (p : Goal CellName → Bool) (gs : List (Goal CellName)) → list_any p gs ≡ false → AllByRecursion (λ g. p g ≡ false) gs
 none_each p [] e = tt
-none_each p (g ∷ gs) e = by_case (p g) refl e
+none_each p (g ∷ gs) e = by_case (p g) refl e (none_each p gs)
   where
-    by_case : (b : Bool) → p g ≡ b → (b || list_any p gs) ≡ false → (p g ≡ false) × AllByRecursion (λ h. p h ≡ false) gs
-    by_case true q f = absurd (cc)
-    by_case false q f = (q, none_each p gs f)
+    by_case : (b : Bool) → p g ≡ b → (b || list_any p gs) ≡ false → (list_any p gs ≡ false → AllByRecursion (λ h. p h ≡ false) gs) → (p g ≡ false) × AllByRecursion (λ h. p h ≡ false) gs
+    by_case true q f k = absurd (cc)
+    by_case false q f k = (q, k f)
 
 each_none : (p : Goal CellName → Bool) (gs : List (Goal CellName)) → AllByRecursion (λ g. p g ≡ false) gs → list_any p gs ≡ false
 each_none p [] a = refl
@@ -255,6 +255,11 @@ settles_to ms mark now new after told goals placed d s old before come inside sh
     shifted_holds (λ g. IsSettled f new.hooks new.held ms after g) (λ g b p. record { standing = p.standing; hung = p.hung }) d placed (s old before come inside shoens keeps f knows a)
 
 -- ---- all of it
+
+-- what two clauses say where memory isn't refused
+pub both_ok : {T E : Type 0} (P Q : Type 0) (r : Result T E) → OnOk r P → OnOk r Q → OnOk r (P × Q)
+both_ok P Q (Ok x) p q = (p, q)
+both_ok P Q (Err e) p q = tt
 
 -- a draft with what another has looked at
 abbrev looked_as : Draft → Draft → Draft
