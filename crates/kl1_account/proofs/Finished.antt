@@ -15,7 +15,6 @@ use Rattle.kl1_shoen.specs.declared.shoen.Shoen.{Shoen}
 use Rattle.kl1_shoen.specs.Shoens.{Tree, AreNumbered, is_enabled_at}
 use Rattle.kl1_modules.specs.Numbered.{Numbered}
 use Rattle.kl1_account.specs.declared.draft.Draft.{Draft}
-use Rattle.kl1_account.specs.Fitting.{Reading}
 use Rattle.kl1_account.specs.Account.{Means, goal_with}
 use Rattle.kl1_account.specs.Kept.{IsTaskIn, IsOwned, AreOwned}
 use Rattle.kl1_account.specs.Drafts.{without_monitors, restood, goals_left}

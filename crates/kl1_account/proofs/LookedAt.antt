@@ -7,19 +7,14 @@ use Rattle.kl1_text.specs.declared.cell_name.CellName.{CellName}
 use Rattle.kl1_store.specs.declared.binding.Binding.{Binding}
 use Rattle.kl1_store.specs.declared.point.Point.{Point}
 use Rattle.kl1_store.specs.Held.{Held, is_bound}
-use Rattle.kl1_store.specs.Hooks.{Hook, Kept, HasGrown, told_by, point_of}
-use Rattle.kl1_store.specs.Sound.{IsFormed, Grown}
+use Rattle.kl1_store.specs.Hooks.{Hook, Kept, HasGrown, told_by}
 use Rattle.kl1_store.proofs.Telling.{is_told}
 use Rattle.kl1_goals.specs.declared.goal.Goal.{Goal}
-use Rattle.kl1_goals.specs.Lists.{is_other, has_number, is_monitor_of, is_flagged, enabled_by, number_of}
+use Rattle.kl1_goals.specs.Lists.{is_other, has_number, is_monitor_of, is_flagged, number_of}
 use Rattle.kl1_goals.specs.Tables.{Ascend, AreInOrder}
 use Rattle.kl1_shoen.specs.declared.shoen.Shoen.{Shoen}
 use Rattle.kl1_modules.specs.Numbered.{Numbered}
 use Rattle.kl1_account.specs.declared.draft.Draft.{Draft}
-use Rattle.kl1_account.specs.declared.draft.Change.{Change}
-use Rattle.kl1_account.specs.Fitting.{Reading}
-use Rattle.kl1_account.specs.Kept.{AreGoalsIn, AreShoensIn}
-use Rattle.kl1_account.specs.Works.{Knows}
 use Rattle.kl1_account.specs.Drafts.{restood, without_monitors, goals_left}
 use Rattle.kl1_account.specs.Settled.{IsSettled, AreSettled}
 use Rattle.kl1_account.specs.Waking.{is_among, IsSettledOr, AreSettledOr, KeepControls}
