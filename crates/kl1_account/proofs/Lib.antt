@@ -59,3 +59,4 @@ pub mod Statuses
 pub mod Listing
 pub mod Finished
 pub mod Coming
+pub mod Alike
