@@ -1,8 +1,6 @@
 use Rattle.std.proofs.Common.{◌≤◌, arith}
 use Rattle.std.proofs.lemmas.Result.{on_ok_weaker}
 use Rattle.kl1_account.proofs.Finished.{finished, both_ok}
-use Rattle.kl1_account.proofs.Coming.{next_for}
-use Rattle.kl1_account.proofs.Alike.{enabled_alike}
 use Rattle.kl1_account.proofs.completing.finish.Goals as goal
 
 pub returns-clause-finishes : goal.returns-clause-finishes
