@@ -57,3 +57,6 @@ pub mod StartKept
 pub mod Flags
 pub mod Statuses
 pub mod Listing
+pub mod Finished
+pub mod Coming
+pub mod Alike

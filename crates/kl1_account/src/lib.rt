@@ -7,6 +7,7 @@ mod acting;
 mod children;
 mod asking;
 mod committing;
+mod completing;
 mod counted;
 mod draft;
 mod installing;

@@ -1,69 +1,23 @@
 // Reductions that are drafted.
 
 use crate::acting::{act, read};
+use crate::completing::finish;
 use crate::draft::Draft;
 use crate::installing::begin;
 use crate::limits::are_numbers;
-use crate::looking::{predicate_of, wake_added, wake_told};
+use crate::looking::predicate_of;
 use crate::names::AccountNames;
 use crate::settling::Walk;
-use kl1_clause::Predicate;
 use kl1_event::Refusal;
 use kl1_goals::{Goal, GoalTable, Task};
 use kl1_model::limits::MOST_ENTRIES;
 use kl1_modules::Modules;
 use kl1_moves::{Kind, Trial, kind_of_qualified, move_of};
 use kl1_shoen::ShoenTree;
-use kl1_store::{Point, Qualified, Store};
+use kl1_store::{Qualified, Store};
 use kl1_stream::{Control, read_control};
 use kl1_text::CellName;
 use std::alloc::AllocError;
-
-/// Finishes a draft of what was done since a mark: looks at the goals that are to be looked at, finds which goals may step now where that
-/// may be other than before, and makes room for what comes. The predicate of goals of one kind is known. Where memory is refused, the
-/// store may have grown.
-pub(crate) fn finish(
-    store: &mut Store<CellName>,
-    goals: &mut GoalTable<CellName>,
-    shoens: &ShoenTree<CellName>,
-    modules: &Modules,
-    known: Kind<CellName>,
-    predicate: Predicate<'_, CellName>,
-    trial: &mut Trial<CellName>,
-    draft: &mut Draft,
-    walk: &Walk,
-    mark: Point,
-) -> Result<(), AllocError> {
-    store.tell(mark, &mut draft.told)?;
-    wake_told(
-        store,
-        goals,
-        shoens,
-        modules,
-        known,
-        predicate,
-        trial,
-        draft.removed,
-        &draft.told,
-        &mut draft.changes,
-    )?;
-    wake_added(
-        store,
-        shoens,
-        modules,
-        known,
-        predicate,
-        trial,
-        &mut draft.added,
-    )?;
-    if !walk.reached.is_empty() || !draft.ended.is_empty() {
-        draft.shifts = true;
-    }
-    if draft.shifts {
-        shoens.flags(&mut draft.enabled)?;
-    }
-    goals.reserve(draft.added.len(), 1)
-}
 
 /// Drafts what the monitor of a shoen reads, or says why it is refused.
 fn draft_reading(
