@@ -214,10 +214,11 @@ impl Account {
         ensures err { OnErr result (self.new ≡ self.old) }
     {
         let mark = self.store.mark();
+        let _ordered = self.goals.shoens();
         self.shoens.begin();
         let drafted = draft_message(
             &mut self.store,
-            &mut self.goals,
+            &self.goals,
             &mut self.shoens,
             &self.modules,
             &mut self.trial,
@@ -238,7 +239,10 @@ impl Account {
             }
             Ok(Some(refusal)) => Ok(Reply::Refused(refusal)),
             Ok(None) => {
-                self.put_drafted();
+                install(&mut self.goals, &self.draft, false);
+                self.variables = self.draft.variables;
+                self.nodes = self.draft.nodes;
+                self.entries += 1;
                 Ok(Reply::Sent)
             }
         }
