@@ -303,7 +303,7 @@ pub refused_of : (ms : List Numbered) (old new : Kept CellName) (goals : List (G
 refused_of ms old new goals t u v k e n m d p r is s = let P : Option Refusal → Type 0 = λ z. SendsAs ms old new goals t u v k e n m d z in subst P is s
 
 -- an account with a message in place, by what its parts are
-placed : (a : Account) (old new : Kept CellName) (t u : Tree CellName) (n : ℕ) (m : Message) (d : Draft) (gs : List (Goal CellName)) (entries : ℕ) → AllByRecursion (λ g. 0 < g.number) a.goals → t.work ≡ a.work → IsSent a.modules old new a.goals t u a.variables a.nodes a.entries n m d →
+pub placed : (a : Account) (old new : Kept CellName) (t u : Tree CellName) (n : ℕ) (m : Message) (d : Draft) (gs : List (Goal CellName)) (entries : ℕ) → AllByRecursion (λ g. 0 < g.number) a.goals → t.work ≡ a.work → IsSent a.modules old new a.goals t u a.variables a.nodes a.entries n m d →
     gs ≡ goals_after a.goals d → entries ≡ suc a.entries → record a { held = new.held; goals = gs; shoens = u.shoens; work = u.work; variables = d.variables; nodes = d.nodes; entries = entries } ≡ with_message a new.held u.shoens d
 placed a old new t u n m d gs entries first work s g e =
     ap (λ (xs : List (Goal CellName)). let z : Account = record a { held = new.held; goals = xs; shoens = u.shoens; work = u.work; variables = d.variables; nodes = d.nodes; entries = entries } in z) (g ∙ s.leaves a.goals first)

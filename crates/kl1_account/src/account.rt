@@ -231,21 +231,22 @@ impl Account {
             number,
             message,
         );
-        match drafted {
+        let refused = match drafted {
             Err(memory) => {
                 self.store.back(mark);
                 self.shoens.back();
-                Err(memory)
+                return Err(memory);
             }
-            Ok(Some(refusal)) => Ok(Reply::Refused(refusal)),
-            Ok(None) => {
-                install(&mut self.goals, &self.draft, false);
-                self.variables = self.draft.variables;
-                self.nodes = self.draft.nodes;
-                self.entries += 1;
-                Ok(Reply::Sent)
-            }
+            Ok(refused) => refused,
+        };
+        if let Some(refusal) = refused {
+            return Ok(Reply::Refused(refusal));
         }
+        install(&mut self.goals, &self.draft, false);
+        self.variables = self.draft.variables;
+        self.nodes = self.draft.nodes;
+        self.entries += 1;
+        Ok(Reply::Sent)
     }
 
     /// Loads a module from its source.

@@ -1,25 +1,41 @@
-use Rattle.std.proofs.Common.{rules, ◌≡◌, [], IfOk, OnErr, option_map, ℕ, ◌+◌, ◌-◌, ◌*◌, ◌<◌, ◌≤◌, length, ◌/◌, ◌%◌, Bool, true, false, nat_eq, nat_lt, List, ◌∷◌, ◌++◌, slice_index_or, slice_set, bit_and, bit_or, w8, w32, w64, Bor, MutBor}
-use Rattle.kl1_model.specs.State.{fresh}
-use Rattle.kl1_model.specs.Step.{step}
-use Rattle.kl1_model.specs.Choice.{first, quiet}
-use Rattle.kl1_model.specs.Event.{load as load_event}
-use Rattle.kl1_model.specs.Event.{start as start_event}
-use Rattle.kl1_model.specs.Event.{control, reduce, read, value, status, reports}
-use Rattle.kl1_model.specs.Event.{modules as modules_query}
-use Rattle.kl1_account.specs.Fitting.{Reading, Fits}
-use Rattle.kl1_account.specs.Account.{state_of}
-use Rattle.kl1_account.specs.Naming.{Keeps}
-use Rattle.kl1_event.specs.Views.{reply_of, reduced_or, chosen_of}
+use Rattle.std.proofs.Common.{◌≡◌, ℕ, suc, ◌+◌, List, refl, ap, arith}
+use Rattle.kl1_text.specs.declared.cell_name.CellName.{CellName}
+use Rattle.kl1_shoen.specs.Shoens.{Tree}
+use Rattle.kl1_account.specs.Accounts.{kept_in}
+use Rattle.kl1_account.proofs.Sent.{sent_of, refused_of, sent_kept, sent_step, refused_step}
 use Rattle.kl1_account.proofs.account.Account.send.Goals as goal
 
--- src/account.rt:246:17
-pub invariant_of-self-in-Ok-None : goal.invariant_of-self-in-Ok-None
-invariant_of-self-in-Ok-None c = ?
+pub invariant_of-self-2 : goal.invariant_of-self-2
+invariant_of-self-2 c =
+    let u = c.self.inside in
+    let k = c.draft_message-drafted.new.store in
+    let t = c.begin.new.self in
+    let v = c.draft_message-drafted.new.shoens in
+    let d = c.draft_message-drafted.new.draft in
+    let s = sent_of u.modules.loaded u.store k u.goals.goals t v u.variables u.nodes u.entries c.args.number c.args.message d c.in-Ok.refused c.in_default.is (rw c.in-Ok.is at c.draft_message-drafted.ensures.ok) in
+    let one : u.entries + 1 ≡ suc u.entries = omega arith in
+    sent_kept (kept_in u) u.store k t v u.goals.shoens c.install.new.goals.shoens c.args.number c.args.message d c.install.new.goals.goals (u.entries + 1) c.self.invariant refl
+    (ap (λ (x : Tree CellName). x.shoens) c.begin.ensures) (ap (λ (x : Tree CellName). x.work) c.begin.ensures) s c.draft_message-drafted.ensures.grown.held c.install.ensures.goals one c.install.ensures.count
 
--- src/account.rt:211:5
-pub returns-in-Ok-Some-clause-step : goal.returns-in-Ok-Some-clause-step
-returns-in-Ok-Some-clause-step c = ?
+pub returns-in-Some-clause-step : goal.returns-in-Some-clause-step
+returns-in-Some-clause-step c =
+    let u = c.self.inside in
+    let k = c.draft_message-drafted.new.store in
+    let t = c.begin.new.self in
+    let v = c.draft_message-drafted.new.shoens in
+    let d = c.draft_message-drafted.new.draft in
+    let r = refused_of u.modules.loaded u.store k u.goals.goals t v u.variables u.nodes u.entries c.args.number c.args.message d c.in-Ok.refused c.in-Some.refusal c.in-Some.is (rw c.in-Ok.is at c.draft_message-drafted.ensures.ok) in
+    λ f fits. refused_step (kept_in u) c.args.self.now u.store k t v c.args.number c.args.message c.in-Some.refusal c.self.view_is refl
+    (ap (λ (x : Tree CellName). x.shoens) c.begin.ensures) (ap (λ (x : Tree CellName). x.work) c.begin.ensures) r f
 
--- src/account.rt:211:5
-pub returns-in-Ok-None-clause-step : goal.returns-in-Ok-None-clause-step
-returns-in-Ok-None-clause-step c = ?
+pub returns-clause-step : goal.returns-clause-step
+returns-clause-step c =
+    let u = c.self.inside in
+    let k = c.draft_message-drafted.new.store in
+    let t = c.begin.new.self in
+    let v = c.draft_message-drafted.new.shoens in
+    let d = c.draft_message-drafted.new.draft in
+    let s = sent_of u.modules.loaded u.store k u.goals.goals t v u.variables u.nodes u.entries c.args.number c.args.message d c.in-Ok.refused c.in_default.is (rw c.in-Ok.is at c.draft_message-drafted.ensures.ok) in
+    let one : u.entries + 1 ≡ suc u.entries = omega arith in
+    λ f fits. sent_step (kept_in u) c.args.self.now u.store k t v u.goals.shoens c.args.number c.args.message d c.install.new.goals.goals (u.entries + 1) c.self.view_is c.self.invariant refl
+    (ap (λ (x : Tree CellName). x.shoens) c.begin.ensures) (ap (λ (x : Tree CellName). x.work) c.begin.ensures) s c.install.ensures.goals one f fits
