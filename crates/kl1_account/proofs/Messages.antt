@@ -1,6 +1,6 @@
 -- Messages from the console: when they are refused, and what becomes of the state.
 use Rattle.std.proofs.Common.{◌≡◌, ℕ, suc, ◌+◌, ◌-◌, ◌<◌, ◌≤◌, ◌==◌, ◌&&◌, Bool, true, false, if◌then◌else◌, List, [], ◌∷◌, map, refl, sym, ap, ap₂, ◌∙◌, arith, subst}
-use Rattle.std.specs.Prelude.{nat_lt, nat_le, find, Option, Some, None, option_map, option_and_then, unwrap_or}
+use Rattle.std.specs.Prelude.{nat_lt, nat_le, Option, Some, None, option_map, option_and_then, unwrap_or}
 use Rattle.std.proofs.lemmas.Bool.{le-leb, lt-leb, lt-ltb, le-ltb}
 use Rattle.kl1_model.specs.declared.message.Message.{Message}
 use Rattle.kl1_model.specs.Limits.{most_variables, most_nodes, most_entries}
@@ -9,27 +9,26 @@ use Rattle.kl1_model.specs.Meaning.{cell}
 use Rattle.kl1_model.specs.Control.{message_term, message_nodes}
 use Rattle.kl1_model.specs.State as model
 use Rattle.kl1_model.specs.State.{State, shoen_at, change_shoen, replace_in_state, is_living}
-use Rattle.kl1_model.specs.Event.{control, sent, syntax, no_shoen, shoen_ended, limit_passed, journal_full, refuse, with_entry, recorded, limited, Stepped, is_number}
+use Rattle.kl1_model.specs.Event.{control, sent, syntax, no_shoen, shoen_ended, journal_full, refuse, with_entry, recorded, limited, Stepped, is_number}
 use Rattle.kl1_model.specs.Sending as model_sending
 use Rattle.kl1_model.specs.Sending.{is_message, may_send, has_room_to_send, with_control_tail, sent_on, send_by, send_to}
 use Rattle.kl1_model.specs.Step.{step}
-use Rattle.kl1_text.specs.Reading.{Reads}
 use Rattle.kl1_text.specs.declared.cell_name.CellName.{CellName}
 use Rattle.kl1_store.specs.declared.cell.Cell.{Cell}
 use Rattle.kl1_store.specs.declared.cell.Cell.TheVariants.{Variable}
-use Rattle.kl1_store.specs.Held.{Held, IsIn}
+use Rattle.kl1_store.specs.Held.{Held}
 use Rattle.kl1_store.specs.Sound.{Grown}
 use Rattle.kl1_stream.specs.Messages.{IsNoVariable, HasPut, PutAs}
 use Rattle.kl1_goals.specs.declared.goal.Goal.{Goal}
 use Rattle.kl1_shoen.specs.declared.shoen.Origin.{Origin}
 use Rattle.kl1_shoen.specs.declared.shoen.Shoen.{Shoen}
-use Rattle.kl1_shoen.specs.Shoens.{has_number, shoen_in, changed, lives_in}
+use Rattle.kl1_shoen.specs.Shoens.{shoen_in, changed, lives_in}
 use Rattle.kl1_shoen.specs.Changes.{with_control}
 use Rattle.kl1_event.specs.declared.refusal.Refusal.TheVariants.{Syntax, NoShoen, Ended, Limit, Journal}
 use Rattle.kl1_account.specs.declared.draft.Draft.{Draft}
-use Rattle.kl1_account.specs.Fitting.{Reading, built}
+use Rattle.kl1_account.specs.Fitting.{built}
 use Rattle.kl1_account.specs.Account.{Means, meaning, origin_with, shoen_with, state_with, with_kept}
-use Rattle.kl1_account.specs.Kept.{IsKeptIn, IsOriginIn, IsShoenIn, AreGoalsIn, AreShoensIn}
+use Rattle.kl1_account.specs.Kept.{IsOriginIn, AreShoensIn}
 use Rattle.kl1_account.specs.Sending.{bare, AreAlike, Counts, Refuses, Allows, PutsOn}
 use Rattle.kl1_account.proofs.States.{same_state, replaced_state, found_in, changed_in, shoens_grown, shoens_changed}
 use Rattle.kl1_account.proofs.Works.{next_in}

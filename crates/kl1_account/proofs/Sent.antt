@@ -1,28 +1,26 @@
 -- A message that is drafted, and an account after it.
-use Rattle.std.proofs.Common.{◌≡◌, ℕ, zero, suc, ◌+◌, ◌-◌, ◌<◌, ◌≤◌, ◌==◌, ◌||◌, not, Bool, true, false, if◌then◌else◌, List, [], ◌∷◌, ◌++◌, length, map, drop, refl, sym, ap, ap₂, ◌∙◌, arith, subst}
-use Rattle.std.specs.Prelude.{filter, find, cond, count_by, nat_le, Option, Some, None, option_map, unwrap_or, Contains}
+use Rattle.std.proofs.Common.{◌≡◌, ℕ, zero, suc, ◌-◌, ◌<◌, ◌≤◌, ◌==◌, ◌||◌, not, Bool, true, false, if◌then◌else◌, List, [], ◌∷◌, ◌++◌, length, map, drop, refl, sym, ap, ap₂, ◌∙◌, arith, subst}
+use Rattle.std.specs.Prelude.{filter, find, count_by, nat_le, Option, Some, None, option_map, unwrap_or, Contains}
 use Rattle.std.specs.List.{AllByRecursion, list_any}
 use Rattle.std.proofs.lemmas.Bool.{eq-eqb, ne_eqb}
 use Rattle.std.proofs.lemmas.List.{append-nil}
 use Rattle.kl1_model.specs.declared.message.Message.{Message}
-use Rattle.kl1_model.specs.Limits.{most_entries}
 use Rattle.kl1_model.specs.Module.{is_among as is_on}
 use Rattle.kl1_model.specs.Tree.{path_within}
 use Rattle.kl1_model.specs.State as model
 use Rattle.kl1_model.specs.State.{State, is_living}
 use Rattle.kl1_model.specs.Event.{control, sent, refused, refuse, with_entry, Stepped}
 use Rattle.kl1_model.specs.Step.{step}
-use Rattle.kl1_model.specs.Sending.{sent_on}
 use Rattle.kl1_text.specs.Reading.{Reads}
 use Rattle.kl1_text.specs.declared.cell_name.CellName.{CellName}
 use Rattle.kl1_store.specs.declared.binding.Binding.{Binding}
 use Rattle.kl1_store.specs.declared.point.Point.{Point}
 use Rattle.kl1_store.specs.Held.{Held, is_bound}
-use Rattle.kl1_store.specs.Hooks.{Hook, Kept, HasGrown, told_by, point_of}
+use Rattle.kl1_store.specs.Hooks.{Hook, Kept, told_by, point_of}
 use Rattle.kl1_store.specs.Sound.{IsFormed, Grown}
 use Rattle.kl1_store.proofs.Telling.{is_told}
 use Rattle.kl1_goals.specs.declared.goal.Goal.{Goal}
-use Rattle.kl1_goals.specs.Lists.{is_other, has_number, is_monitor, is_flagged, enabled_by, number_of}
+use Rattle.kl1_goals.specs.Lists.{is_other, has_number, is_monitor, enabled_by, number_of}
 use Rattle.kl1_goals.specs.Tables.{Ascend, AreInOrder}
 use Rattle.kl1_shoen.specs.declared.shoen.Origin.{Origin}
 use Rattle.kl1_shoen.specs.declared.shoen.Shoen.{Shoen}
@@ -41,9 +39,9 @@ use Rattle.kl1_account.specs.Works.{Knows}
 use Rattle.kl1_account.specs.Drafts.{restood, staying}
 use Rattle.kl1_account.specs.Installing.{IsBegun, goals_after}
 use Rattle.kl1_account.specs.Settled.{control_at, AreSettled, IsEnabled, AreEnabled}
-use Rattle.kl1_account.specs.Waking.{is_among, KeepControls, AreSettledOr}
+use Rattle.kl1_account.specs.Waking.{is_among, KeepControls}
 use Rattle.kl1_account.specs.Looking.{AreOthersOf, WakesTold}
-use Rattle.kl1_account.specs.Sending.{bare, AreAlike, Counts, Refuses, Allows, PutsOn, IsSent, IsRefused, SendsAs}
+use Rattle.kl1_account.specs.Sending.{bare, AreAlike, Allows, PutsOn, IsSent, IsRefused, SendsAs}
 use Rattle.kl1_account.proofs.Goals.{all_stay}
 use Rattle.kl1_account.proofs.States.{goals_grown}
 use Rattle.kl1_account.proofs.Restood.{restood_holds, restood_read}

@@ -1,5 +1,4 @@
-use Rattle.std.proofs.Common.{◌≡◌, ◌+◌, ◌<◌, ◌≤◌, true, sym, ◌∙◌, arith}
-use Rattle.std.specs.Prelude.{Some}
+use Rattle.std.proofs.Common.{◌+◌, ◌<◌, ◌≤◌, sym, ◌∙◌, arith}
 use Rattle.kl1_model.specs.Control.{message_nodes}
 use Rattle.kl1_model.specs.Limits.{most_nodes, most_variables, most_entries}
 use Rattle.kl1_account.proofs.Messages.{sends_none, sends_ended, sends_crowded, sends_limited, sends_full, sends_allowed}

@@ -1,5 +1,4 @@
-use Rattle.std.proofs.Common.{◌≡◌, ℕ, suc, ◌+◌, List, sym, ap, ◌∙◌, arith, subst}
-use Rattle.kl1_model.specs.Control.{message_nodes}
+use Rattle.std.proofs.Common.{◌≡◌, ◌+◌, List, sym, ap, arith, subst}
 use Rattle.kl1_text.specs.declared.cell_name.CellName.{CellName}
 use Rattle.kl1_shoen.specs.declared.shoen.Shoen.{Shoen}
 use Rattle.kl1_shoen.specs.Shoens.{Tree, changed}
