@@ -137,11 +137,11 @@ sends_allowed ss v k e n m o a b some lives variables nodes journal = record {
   has_nodes = nodes;
   journal = journal;
   steps = λ t s last goals counts.
-    let S = state_with s t last goals ss in
-    let R : Stepped = record { state = with_entry (sent_on n m (t o.control) S); reply = sent } in
-    with_room ss v k e n m o true t s last goals a b some lives counts (ap₂ (λ p q. p && q) (le-leb (suc v) most_variables variables) (le-leb (k + message_nodes m) most_nodes nodes))
-    ∙ ap (λ p. if nat_lt p most_entries then R else refuse S journal_full) counts.entries_are
-    ∙ ap (λ p. if p then R else refuse S journal_full) (lt-ltb e most_entries journal);
+      let S = state_with s t last goals ss in
+      let R : Stepped = record { state = with_entry (sent_on n m (t o.control) S); reply = sent } in
+      with_room ss v k e n m o true t s last goals a b some lives counts (ap₂ (λ p q. p && q) (le-leb (suc v) most_variables variables) (le-leb (k + message_nodes m) most_nodes nodes))
+      ∙ ap (λ p. if nat_lt p most_entries then R else refuse S journal_full) counts.entries_are
+      ∙ ap (λ p. if p then R else refuse S journal_full) (lt-ltb e most_entries journal);
 }
 
 -- ---- a message is put on a control stream

@@ -57,7 +57,7 @@ pub record Allows (ss : List (Shoen CellName)) (variables nodes entries n : ℕ)
   pub has_nodes : nodes + message_nodes m ≤ most_nodes
   pub journal : entries < most_entries
   pub steps : (t : Means) (s : State) (last : ℕ) (goals : List (Goal CellName)) → Counts variables nodes entries s →
-    step (state_with s t last goals ss) (control n m) ≡ record { state = with_entry (sent_on n m (t o.control) (state_with s t last goals ss)); reply = sent }
+      step (state_with s t last goals ss) (control n m) ≡ record { state = with_entry (sent_on n m (t o.control) (state_with s t last goals ss)); reply = sent }
 
 -- a message was put on the control stream of the shoen of a number, whose tail at the console is this cell
 abbrev pub PutsOn : ℕ → Message → Cell CellName → Held CellName → Held CellName → List (Shoen CellName) → List (Shoen CellName) → Draft → Draft → Type 0
@@ -75,7 +75,7 @@ pub record IsSent (ms : List Numbered) (old new : Kept CellName) (goals : List (
   pub work : u.work ≡ t.work
   pub settles : (f : Reading) → Knows ms f → AreSettled f old.hooks old.held ms t.shoens goals → AreSettled f new.hooks new.held ms u.shoens (restood d.changes.items goals)
   pub steps : (f : Reading) → Reads built f → (s : State) → Counts variables nodes entries s →
-    step (with_kept f s old.held goals t.shoens) (control n m) ≡ record { state = with_kept f (record s { variables = d.variables; nodes = d.nodes; entries = suc entries }) new.held goals u.shoens; reply = sent }
+      step (with_kept f s old.held goals t.shoens) (control n m) ≡ record { state = with_kept f (record s { variables = d.variables; nodes = d.nodes; entries = suc entries }) new.held goals u.shoens; reply = sent }
 
 -- a message to the shoen of a number is refused for a reason, and nothing has changed
 pub record IsRefused (old new : Kept CellName) (t u : Tree CellName) (variables nodes entries n : ℕ) (m : Message) (r : Refusal) : Type 0 where
