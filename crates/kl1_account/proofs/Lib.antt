@@ -60,3 +60,5 @@ pub mod Listing
 pub mod Finished
 pub mod Coming
 pub mod Alike
+pub mod Messages
+pub mod Sent

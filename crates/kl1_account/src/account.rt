@@ -214,10 +214,11 @@ impl Account {
         ensures err { OnErr result (self.new ≡ self.old) }
     {
         let mark = self.store.mark();
+        let _ordered = self.goals.shoens();
         self.shoens.begin();
         let drafted = draft_message(
             &mut self.store,
-            &mut self.goals,
+            &self.goals,
             &mut self.shoens,
             &self.modules,
             &mut self.trial,
@@ -230,18 +231,22 @@ impl Account {
             number,
             message,
         );
-        match drafted {
+        let refused = match drafted {
             Err(memory) => {
                 self.store.back(mark);
                 self.shoens.back();
-                Err(memory)
+                return Err(memory);
             }
-            Ok(Some(refusal)) => Ok(Reply::Refused(refusal)),
-            Ok(None) => {
-                self.put_drafted();
-                Ok(Reply::Sent)
-            }
+            Ok(refused) => refused,
+        };
+        if let Some(refusal) = refused {
+            return Ok(Reply::Refused(refusal));
         }
+        install(&mut self.goals, &self.draft, false);
+        self.variables = self.draft.variables;
+        self.nodes = self.draft.nodes;
+        self.entries += 1;
+        Ok(Reply::Sent)
     }
 
     /// Loads a module from its source.
