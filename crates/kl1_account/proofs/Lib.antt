@@ -57,3 +57,5 @@ pub mod StartKept
 pub mod Flags
 pub mod Statuses
 pub mod Listing
+pub mod Drafting
+pub mod StartSettled
