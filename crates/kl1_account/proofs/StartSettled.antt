@@ -133,7 +133,7 @@ pub started_kept : (a b : Account) (mid : Held CellName) (texts : List (List ℕ
     IsStart a b mid texts row numbers count cells awaited o allowance low high goal → AreNames a.names → AreSmall b.names → a.entries < most_entries → after ≡ (hooks ++ hooks_on (o.streams.control ∷ []) (a.last_goal + 1)) ++ hooks_on awaited (a.last_goal + 2) → next ≡ suc known → IsKept b after next
 started_kept a b mid texts row numbers count cells awaited o allowance low high goal hooks after known next k numbered lower s once small room hung counted =
     let firm : IsFirm a = record { some = k.some; goals = k.goals; shoens = k.shoens; numbered = numbered } in
-    let then = started_firm a b mid texts row numbers count cells awaited o allowance low high goal firm s in
+    let firm_then = started_firm a b mid texts row numbers count cells awaited o allowance low high goal firm s in
     let p = s.placed in
     let shoen = suc (length a.shoens) in
     let may = is_enabled_at b.shoens b.work shoen in
@@ -155,10 +155,10 @@ started_kept a b mid texts row numbers count cells awaited o allowance low high 
     let S : List (Shoen CellName) → Type 0 = λ ss. AreEnabled ss b.work a.goals in
     let W : List ℕ → Type 0 = λ ws. AreEnabled (a.shoens ++ h ∷ []) ws a.goals in
     record {
-      some = then.some;
-      goals = then.goals;
+      some = firm_then.some;
+      goals = firm_then.goals;
       owned = started_owned a b mid texts row numbers count cells awaited o allowance low high goal k.owned s;
-      shoens = then.shoens;
+      shoens = firm_then.shoens;
       count = counted ∙ omega (arith, was, long);
       first = subst F (sym p.goals_are) (each_append (λ g. 0 < g.number) a.goals two k.first (omega arith, (omega arith, tt)));
       last = started_last a b mid texts row numbers count cells awaited o allowance low high goal k.last s;
@@ -216,3 +216,38 @@ pub nodes_within : (c : Counted) (variables nodes : ℕ) → has_room_beside c v
 nodes_within c variables nodes e =
     let p = and_parts (nat_lt c.goals most_goals && nat_le (c.variables + suc (suc variables)) most_variables && nat_le (c.nodes + nodes) most_nodes) (nat_lt c.shoens most_shoens) e in
     leb-true (c.nodes + nodes) most_nodes (and_parts (nat_lt c.goals most_goals && nat_le (c.variables + suc (suc variables)) most_variables) (nat_le (c.nodes + nodes) most_nodes) p.0).1
+
+-- ---- the start of a draft that was put in place
+
+pub is_start : (a b : Account) (mid : Held CellName) (texts : List (List ℕ)) (row : List Instruction) (numbers sliced : List CellName) (count : ℕ) (cells : List (Cell CellName)) (awaited : List ℕ) (o : Opening) (allowance low high : ℕ) (goal code : Term) (gs : List (Goal CellName)) (ss : List (Shoen CellName)) (work : List ℕ) (nodes : ℕ) →
+    IsFormed a.held → IsDrafted a.modules a.names texts row count allowance a.reports a.held mid cells awaited o → Grown a.held mid → IsPlaced sliced row cells mid b.held gs b.goals ss b.shoens b.work a.last_goal allowance low high o → gs ≡ a.goals → ss ≡ a.shoens → sliced ≡ numbers → Grown mid b.held →
+    code ≡ goal → texts ≡ with_names [] (names_of code) → IsRowOf (with_names [] (names_of code)) row (nodes_of code) → IsTrue (is_numbered goal) → count ≡ highest goal → texts_of b.names ≡ with_texts (texts_of a.names) texts → AreNumbersOf b.names texts numbers → ((f : Reading) → Fits b.names f → Fits a.names f) →
+    b.own_name ≡ a.own_name → b.modules ≡ a.modules → b.work ≡ work → work ≡ a.work → b.last_goal ≡ suc (suc a.last_goal) → b.variables ≡ a.variables + (count + 2) → nodes ≡ goal_nodes code → b.nodes ≡ a.nodes + nodes → b.reports ≡ o.streams.made → b.entries ≡ a.entries + 1 →
+    IsStart a b mid texts row numbers count cells awaited o allowance low high goal
+is_start a b mid texts row numbers sliced count cells awaited o allowance low high goal code gs ss work nodes formed d grown p e f h up same t is numbered many names are fits own modules worked was last variables counted all reports entries =
+    let P : List (Goal CellName) → Type 0 = λ x. IsPlaced sliced row cells mid b.held x b.goals ss b.shoens b.work a.last_goal allowance low high o in
+    let Q : List (Shoen CellName) → Type 0 = λ x. IsPlaced sliced row cells mid b.held a.goals b.goals x b.shoens b.work a.last_goal allowance low high o in
+    let R : List CellName → Type 0 = λ x. IsPlaced x row cells mid b.held a.goals b.goals a.shoens b.shoens b.work a.last_goal allowance low high o in
+    let T : Term → Type 0 = λ x. IsRowOf (with_names [] (names_of x)) row (nodes_of x) in
+    record {
+      formed = formed;
+      drafted = d;
+      grown = grown;
+      placed = subst R h (subst Q f (subst P e p));
+      more = up;
+      texts_are = t ∙ ap (λ (x : Term). with_names [] (names_of x)) same;
+      row_is = subst T same is;
+      numbered = numbered;
+      many = many;
+      names_are = names;
+      numbers_are = are;
+      fits = fits;
+      own = own;
+      modules = modules;
+      work = worked ∙ was;
+      last = last;
+      variables = variables ∙ omega (arith, many);
+      nodes = all ∙ ap (λ n. a.nodes + n) (counted ∙ ap goal_nodes same);
+      reports = reports;
+      entries = entries;
+    }
