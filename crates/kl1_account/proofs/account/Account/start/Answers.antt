@@ -18,7 +18,7 @@ use Rattle.kl1_event.specs.Views.{refusal_of}
 use Rattle.kl1_account.specs.Fitting.{Reading, Fits}
 use Rattle.kl1_account.specs.Account.{Account, state_of, texts_of}
 use Rattle.kl1_account.specs.Accounts.{kept_in}
-use Rattle.kl1_account.specs.Starting.{hooks_on}
+use Rattle.kl1_account.specs.Starting.{HasNames, hooks_on}
 use Rattle.kl1_account.proofs.StartChecks.{goal_below, may_numbered, may_high}
 use Rattle.kl1_account.proofs.StartSteps.{startable_of}
 use Rattle.kl1_account.proofs.Started.{IsFirm, started_step}
@@ -27,8 +27,9 @@ use Rattle.kl1_account.proofs.account.Account.start.Goals as goal
 
 pub returns-in-Refused-clause-step : goal.returns-in-Refused-clause-step
 returns-in-Refused-clause-step g c = λ f fits.
+    let at : (f : Reading) → HasNames (state_of f (kept_in c.self.inside)) (kept_in c.self.inside).names c.counted-counted.result = λ f. (let H : Account → Type 0 = λ z. HasNames (state_of f z) z.names c.counted-counted.result in subst H (sym c.self.view_is) (c.counted-counted.ensures f)) in
     let P : Account → Type 0 = λ z. step (state_of f z) (start c.args.allowance c.args.low c.args.high c.args.goal.now) ≡ refuse (state_of f z) (refusal_of c.in-Refused.refusal) in
-    subst P c.self.view_is (refused_start (kept_in c.self.inside) c.counted-counted.result c.args.allowance c.args.low c.args.high c.args.goal.now c.in_ok-refusal.field-0 c.in-Refused.refusal c.in-Refused.is c.in_ok-refusal.ensures f (c.counted-counted.ensures f))
+    subst P c.self.view_is (refused_start (kept_in c.self.inside) c.counted-counted.result c.args.allowance c.args.low c.args.high c.args.goal.now c.in_ok-refusal.field-0 c.in-Refused.refusal c.in-Refused.is c.in_ok-refusal.ensures f (at f))
 
 pub prepare_start-requires-clause-below : goal.prepare_start-requires-clause-below
 prepare_start-requires-clause-below g c =
@@ -48,34 +49,37 @@ place-requires-clause-below g c =
     let N : ℕ → Type 0 = λ n. AreBelow n c.row-row.result.now in
     subst N (sym c.in_ok-opening.ensures.ok.variables.next.length_is) (goal_below c.args.goal.now (with_names [] (names_of c.args.goal.now)) c.row-row.result.now c.highest-variables.result (subst T may.code_is c.row-row.ensures) c.highest-variables.ensures)
 
-pub overflow_add : goal.overflow_add
-overflow_add g c =
-    let may = startable_of (kept_in c.self.inside).names c.counted-counted.result c.args.allowance c.args.low c.args.high c.args.goal.now c.in-Coded.code c.in_ok-refusal.field-0 c.in-Coded.is c.in_ok-refusal.ensures in
-    let within = variables_within c.counted-counted.result (highest c.args.goal.now) (goal_nodes c.args.goal.now) may.keeps in
-    let top = c.highest-variables.ensures in
-    omega (arith, within, top)
-
 pub overflow_add-self : goal.overflow_add-self
 overflow_add-self g c =
     let may = startable_of (kept_in c.self.inside).names c.counted-counted.result c.args.allowance c.args.low c.args.high c.args.goal.now c.in-Coded.code c.in_ok-refusal.field-0 c.in-Coded.is c.in_ok-refusal.ensures in
     let within = variables_within c.counted-counted.result (highest c.args.goal.now) (goal_nodes c.args.goal.now) may.keeps in
     let top = c.highest-variables.ensures in
-    let same = (c.counted-counted.ensures (λ x. [])).variables_are in
-    omega (arith, within, top, same)
+    omega (arith, within, top)
 
 pub overflow_add-self-2 : goal.overflow_add-self-2
 overflow_add-self-2 g c =
     let may = startable_of (kept_in c.self.inside).names c.counted-counted.result c.args.allowance c.args.low c.args.high c.args.goal.now c.in-Coded.code c.in_ok-refusal.field-0 c.in-Coded.is c.in_ok-refusal.ensures in
-    let within = nodes_within c.counted-counted.result (highest c.args.goal.now) (goal_nodes c.args.goal.now) may.keeps in
-    let counted : c.nodes.result ≡ goal_nodes c.args.goal.now = c.nodes.ensures ∙ ap goal_nodes may.code_is in
-    let same = (c.counted-counted.ensures (λ x. [])).nodes_are in
-    omega (arith, within, counted, same)
+    let at : (f : Reading) → HasNames (state_of f (kept_in c.self.inside)) (kept_in c.self.inside).names c.counted-counted.result = λ f. (let H : Account → Type 0 = λ z. HasNames (state_of f z) z.names c.counted-counted.result in subst H (sym c.self.view_is) (c.counted-counted.ensures f)) in
+    let within = variables_within c.counted-counted.result (highest c.args.goal.now) (goal_nodes c.args.goal.now) may.keeps in
+    let top = c.highest-variables.ensures in
+    let same : c.self.inside.variables ≡ c.counted-counted.result.variables = (at (λ x. [])).variables_are in
+    omega (arith, within, top, same)
 
 pub overflow_add-self-3 : goal.overflow_add-self-3
 overflow_add-self-3 g c =
     let may = startable_of (kept_in c.self.inside).names c.counted-counted.result c.args.allowance c.args.low c.args.high c.args.goal.now c.in-Coded.code c.in_ok-refusal.field-0 c.in-Coded.is c.in_ok-refusal.ensures in
+    let at : (f : Reading) → HasNames (state_of f (kept_in c.self.inside)) (kept_in c.self.inside).names c.counted-counted.result = λ f. (let H : Account → Type 0 = λ z. HasNames (state_of f z) z.names c.counted-counted.result in subst H (sym c.self.view_is) (c.counted-counted.ensures f)) in
+    let within = nodes_within c.counted-counted.result (highest c.args.goal.now) (goal_nodes c.args.goal.now) may.keeps in
+    let counted : c.nodes.result ≡ goal_nodes c.args.goal.now = c.nodes.ensures ∙ ap goal_nodes may.code_is in
+    let same : c.self.inside.nodes ≡ c.counted-counted.result.nodes = (at (λ x. [])).nodes_are in
+    omega (arith, within, counted, same)
+
+pub overflow_add-self-4 : goal.overflow_add-self-4
+overflow_add-self-4 g c =
+    let may = startable_of (kept_in c.self.inside).names c.counted-counted.result c.args.allowance c.args.low c.args.high c.args.goal.now c.in-Coded.code c.in_ok-refusal.field-0 c.in-Coded.is c.in_ok-refusal.ensures in
+    let at : (f : Reading) → HasNames (state_of f (kept_in c.self.inside)) (kept_in c.self.inside).names c.counted-counted.result = λ f. (let H : Account → Type 0 = λ z. HasNames (state_of f z) z.names c.counted-counted.result in subst H (sym c.self.view_is) (c.counted-counted.ensures f)) in
     let room = may.room in
-    let same = (c.counted-counted.ensures (λ x. [])).entries_are in
+    let same : c.self.inside.entries ≡ c.counted-counted.result.entries = (at (λ x. [])).entries_are in
     omega (arith, room, same)
 
 pub invariant_of-self-2 : goal.invariant_of-self-2
@@ -85,6 +89,7 @@ invariant_of-self-2 g c =
     let b : Account = record { own_name = u.name; held = c.place.new.store.held; goals = c.place.new.goals.goals; shoens = c.place.new.shoens.shoens; work = c.place.new.shoens.work; modules = u.modules.loaded; names = c.publish.new.known.names; last_goal = c.in_ok-last.last; variables = u.variables + (c.highest-variables.result + 2); nodes = u.nodes + c.nodes.result; reports = c.in_ok-opening.opening.streams.made; entries = u.entries + 1 } in
     let goal_term = c.args.goal.now in
     let may = startable_of (kept_in c.self.inside).names c.counted-counted.result c.args.allowance c.args.low c.args.high c.args.goal.now c.in-Coded.code c.in_ok-refusal.field-0 c.in-Coded.is c.in_ok-refusal.ensures in
+    let at : (f : Reading) → HasNames (state_of f (kept_in c.self.inside)) (kept_in c.self.inside).names c.counted-counted.result = λ f. (let H : Account → Type 0 = λ z. HasNames (state_of f z) z.names c.counted-counted.result in subst H (sym c.self.view_is) (c.counted-counted.ensures f)) in
     let texts = c.names-texts.result.now in
     let row = c.row-row.result.now in
     let cells = goal_variables c.prepare_start.new.scratch in
@@ -101,7 +106,7 @@ invariant_of-self-2 g c =
     ∙ ap (λ (ks : List Hook). (ks ++ hooks_on (c.in_ok-opening.opening.streams.control ∷ []) (u.last_goal + 1)) ++ hooks_on c.as_slice-2.result.now (u.last_goal + 2)) c.prepare_start.ensures.hooks
     ∙ ap (λ (vs : List ℕ). (u.store.hooks ++ hooks_on (c.in_ok-opening.opening.streams.control ∷ []) (u.last_goal + 1)) ++ hooks_on vs (u.last_goal + 2)) c.as_slice-2.ensures.value in
     let full = may.room in
-    let same = (c.counted-counted.ensures (λ x. [])).entries_are in
+    let same : c.self.inside.entries ≡ c.counted-counted.result.entries = (at (λ x. [])).entries_are in
     started_kept a b c.prepare_start.new.store.held texts row c.publish.new.row.items c.highest-variables.result cells awaited c.in_ok-opening.opening c.args.allowance c.args.low c.args.high goal_term u.store.hooks c.place.new.store.hooks u.goals.shoens c.place.new.goals.shoens c.self.invariant c.len.ensures.numbered c.len.ensures.lower s once c.publish.ensures.small (omega (arith, full, same)) hung (c.place.ensures.known ∙ ap suc c.prepare_start.ensures.known)
 
 pub returns-clause-step : goal.returns-clause-step
@@ -111,6 +116,7 @@ returns-clause-step g c =
     let b : Account = record { own_name = u.name; held = c.place.new.store.held; goals = c.place.new.goals.goals; shoens = c.place.new.shoens.shoens; work = c.place.new.shoens.work; modules = u.modules.loaded; names = c.publish.new.known.names; last_goal = c.in_ok-last.last; variables = u.variables + (c.highest-variables.result + 2); nodes = u.nodes + c.nodes.result; reports = c.in_ok-opening.opening.streams.made; entries = u.entries + 1 } in
     let goal_term = c.args.goal.now in
     let may = startable_of (kept_in c.self.inside).names c.counted-counted.result c.args.allowance c.args.low c.args.high c.args.goal.now c.in-Coded.code c.in_ok-refusal.field-0 c.in-Coded.is c.in_ok-refusal.ensures in
+    let at : (f : Reading) → HasNames (state_of f (kept_in c.self.inside)) (kept_in c.self.inside).names c.counted-counted.result = λ f. (let H : Account → Type 0 = λ z. HasNames (state_of f z) z.names c.counted-counted.result in subst H (sym c.self.view_is) (c.counted-counted.ensures f)) in
     let texts = c.names-texts.result.now in
     let row = c.row-row.result.now in
     let cells = goal_variables c.prepare_start.new.scratch in
@@ -123,4 +129,4 @@ returns-clause-step g c =
     let k = c.self.invariant in
     let firm : IsFirm a = record { some = k.some; goals = k.goals; shoens = k.shoens; numbered = c.len.ensures.numbered } in
     let P : Account → Type 0 = λ z. (f : Reading) → Fits b.names f → step (state_of f z) (start c.args.allowance c.args.low c.args.high goal_term) ≡ record { state = state_of f b; reply = opened c.in_ok-shoen.shoen } in
-    subst P c.self.view_is (λ f fits. started_step a b c.prepare_start.new.store.held texts row c.publish.new.row.items c.highest-variables.result cells awaited c.in_ok-opening.opening c.args.allowance c.args.low c.args.high goal_term c.in-Coded.code c.counted-counted.result c.in_ok-shoen.shoen firm s may (c.in_ok-shoen.ensures ∙ ap suc c.len.ensures.value) f (c.counted-counted.ensures f) fits)
+    subst P c.self.view_is (λ f fits. started_step a b c.prepare_start.new.store.held texts row c.publish.new.row.items c.highest-variables.result cells awaited c.in_ok-opening.opening c.args.allowance c.args.low c.args.high goal_term c.in-Coded.code c.counted-counted.result c.in_ok-shoen.shoen firm s may (c.in_ok-shoen.ensures ∙ ap suc c.len.ensures.value) f (at f) fits)
