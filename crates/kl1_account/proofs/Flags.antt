@@ -1,8 +1,8 @@
 -- Which goals may step where a shoen opens: those that might before, and its own unless its allowance is 0.
-use Rattle.std.proofs.Common.{◌≡◌, ℕ, zero, suc, ◌+◌, ◌<◌, ◌≤◌, ◌==◌, ◌||◌, not, nat_le, Bool, true, false, if◌then◌else◌, List, [], ◌∷◌, ◌++◌, length, get_or, refl, sym, ap, ap₂, ◌∙◌, arith}
+use Rattle.std.proofs.Common.{◌≡◌, ℕ, zero, suc, ◌+◌, ◌<◌, ◌≤◌, ◌==◌, ◌||◌, not, nat_le, nat_lt, Bool, true, false, if◌then◌else◌, List, [], ◌∷◌, ◌++◌, length, get_or, refl, sym, ap, ap₂, ◌∙◌, arith}
 use Rattle.std.specs.Prelude.{Option, Some, None, find, option_map, unwrap_or, cond}
 use Rattle.std.specs.List.{list_any, AllByRecursion}
-use Rattle.std.proofs.lemmas.Bool.{eq-eqb, ne_eqb, lt-leb}
+use Rattle.std.proofs.lemmas.Bool.{eq-eqb, ne_eqb, lt-leb, ltb-true, ltb-false}
 use Rattle.std.proofs.lemmas.List.{map-append}
 use Rattle.std.proofs.lemmas.List.Sums.{sum_by-cons}
 use Rattle.kl1_model.specs.Module.{is_among}
@@ -88,7 +88,7 @@ uncharged ss n (w ∷ ws) lower all =
     sum_by-cons (λ v. cond (is_on_path_in ss n v) 1 0) w ws
     ∙ ap₂ (λ b (m : ℕ). cond b 1 0 + m) (beyond_path (parents_in ss) lower w w n all.0) (uncharged ss n ws lower all.1)
 
-found_new : (k n : ℕ) (ss : List (Shoen CellName)) (h : Shoen CellName) → AreNumbered k ss → h.number ≡ n → n ≡ suc (k + length ss) → find (has_number n) (ss ++ h ∷ []) ≡ Some h
+pub found_new : (k n : ℕ) (ss : List (Shoen CellName)) (h : Shoen CellName) → AreNumbered k ss → h.number ≡ n → n ≡ suc (k + length ss) → find (has_number n) (ss ++ h ∷ []) ≡ Some h
 found_new k n [] h a e q = ap (λ b. if b then Some h else None) (eq-eqb h.number n e)
 found_new k n (s ∷ ss) h a e q =
     let m = a.0 in
@@ -120,3 +120,56 @@ enabled_new ss h work numbered lower all e parent living goes =
     ∙ ap (λ l. not ((false || not (is_living l) || nat_le h.allowance (charged_in more work h.number)) || false)) living
     ∙ ap (λ c. not (nat_le h.allowance c || false)) charge
     ∙ ap not (or_none (nat_le h.allowance 0) ∙ zero_test h.allowance)
+
+-- ---- a shoen without a parent, whatever was charged
+
+beyond_last : (ps : List ℕ) (m : ℕ) → length ps ≤ m → get_or (ps ++ 0 ∷ []) m 0 ≡ 0
+beyond_last [] zero le = refl
+beyond_last [] (suc m) le = refl
+beyond_last (p ∷ ps) zero le = absurd (omega (arith, le))
+beyond_last (p ∷ ps) (suc m) le = beyond_last ps m (omega (arith, le))
+
+beyond_all : (ps : List ℕ) (m : ℕ) → length ps ≤ m → get_or ps m 0 ≡ 0
+beyond_all [] m le = refl
+beyond_all (p ∷ ps) zero le = absurd (omega (arith, le))
+beyond_all (p ∷ ps) (suc m) le = beyond_all ps m (omega (arith, le))
+
+path_root : (ps : List ℕ) (n : ℕ) → ParentsAreLower ps → path_within n (ps ++ 0 ∷ []) n ≡ path_within n ps n
+path_root ps n lower = by_case n (nat_lt (length ps) n) refl
+  where
+    by_case : (m : ℕ) (b : Bool) → nat_lt (length ps) m ≡ b → path_within m (ps ++ 0 ∷ []) m ≡ path_within m ps m
+    by_case m false e = path_among ps (0 ∷ []) lower m m (ltb-false (length ps) m e)
+    by_case zero true e = absurd (let lt = ltb-true (length ps) zero e in omega (arith, lt))
+    by_case (suc m) true e =
+        let lt = ltb-true (length ps) (suc m) e in
+        last_path (ps ++ 0 ∷ []) m (beyond_last ps m (omega (arith, lt))) ∙ sym (last_path ps m (beyond_all ps m (omega (arith, lt))))
+
+-- the path of any shoen
+path_stays : (ss : List (Shoen CellName)) (h : Shoen CellName) (n : ℕ) → AreLower ss → h.parent ≡ 0 → path_in (ss ++ h ∷ []) n ≡ path_in ss n
+path_stays ss h n lower root =
+    ap (λ ps. path_within n ps n) (map-append (λ (s : Shoen CellName). s.parent) ss (h ∷ []))
+    ∙ ap (λ p. path_within n (parents_in ss ++ p ∷ []) n) root
+    ∙ path_root (parents_in ss) n lower
+
+-- what is charged to any shoen
+charged_stays : (ss : List (Shoen CellName)) (h : Shoen CellName) (a : ℕ) (work : List ℕ) → AreLower ss → h.parent ≡ 0 → charged_in (ss ++ h ∷ []) work a ≡ charged_in ss work a
+charged_stays ss h a [] lower root = refl
+charged_stays ss h a (w ∷ ws) lower root =
+    sum_by-cons (λ v. cond (is_on_path_in (ss ++ h ∷ []) a v) 1 0) w ws
+    ∙ ap₂ (λ b (m : ℕ). cond b 1 0 + m) (ap (is_among a) (path_stays ss h w lower root)) (charged_stays ss h a ws lower root)
+    ∙ sym (sum_by-cons (λ v. cond (is_on_path_in ss a v) 1 0) w ws)
+
+blocking_stays : (ss : List (Shoen CellName)) (h : Shoen CellName) (work : List ℕ) (n : ℕ) → AreNumbered 0 ss → AreLower ss → h.number ≡ suc (length ss) → h.parent ≡ 0 → n ≤ length ss → is_blocking_at (ss ++ h ∷ []) work n ≡ is_blocking_at ss work n
+blocking_stays ss h work n numbered lower e root le =
+    ap (λ (o : Option (Shoen CellName)). unwrap_or (option_map (is_blocking_in (ss ++ h ∷ []) work) o) false) (found_same 0 n ss h numbered (omega arith) (e ∙ omega arith))
+    ∙ by_case (find (has_number n) ss)
+  where
+    by_case : (o : Option (Shoen CellName)) → unwrap_or (option_map (is_blocking_in (ss ++ h ∷ []) work) o) false ≡ unwrap_or (option_map (is_blocking_in ss work) o) false
+    by_case None = refl
+    by_case (Some x) = ap (λ c. x.is_stopped || not (is_living x.life) || nat_le x.allowance c) (charged_stays ss h x.number work lower root)
+
+-- whether goals of a shoen that is there may step, where one without a parent opens
+pub enabled_stays : (ss : List (Shoen CellName)) (h : Shoen CellName) (work : List ℕ) (n : ℕ) → AreNumbered 0 ss → AreLower ss → h.number ≡ suc (length ss) → h.parent ≡ 0 → n ≤ length ss → is_enabled_at (ss ++ h ∷ []) work n ≡ is_enabled_at ss work n
+enabled_stays ss h work n numbered lower e root le =
+    ap (λ ns. not (list_any (is_blocking_at (ss ++ h ∷ []) work) ns)) (path_same ss h n lower le)
+    ∙ ap not (any_same (is_blocking_at (ss ++ h ∷ []) work) (is_blocking_at ss work) (length ss) (path_in ss n) (λ k up. blocking_stays ss h work k numbered lower e root up) (path_up (length ss) (parents_in ss) lower n n le))

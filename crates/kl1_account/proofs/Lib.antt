@@ -62,3 +62,5 @@ pub mod Coming
 pub mod Alike
 pub mod Messages
 pub mod Sent
+pub mod Drafting
+pub mod StartSettled

@@ -273,9 +273,11 @@ load_kept a source d old hooks known changes names row i r =
       goals = restood_holds (λ g. IsTaskIn a.held g.task) (λ g o p. p) changes a.goals i.goals;
       owned = restood_holds (IsOwned (length a.shoens)) (λ g o p. record { low = p.low; high = p.high }) changes a.goals i.owned;
       shoens = i.shoens;
-      numbered = i.numbered;
       count = i.count;
+      first = restood_holds (λ g. 0 < g.number) (λ g o p. p) changes a.goals i.first;
       last = restood_holds (λ g. g.number ≤ a.last_goal) (λ g o p. p) changes a.goals i.last;
+      few = (let few = i.few in omega arith);
+      most = (let room = r.draft.draft.room in omega arith);
       settled = load_settled a source d old hooks known changes names row i r;
       enabled = restood_holds (IsEnabled a.shoens a.work) (λ g o p. p) changes a.goals i.enabled;
       rows = λ f fits. read_more f a.modules (record d { row = row }) (i.rows f (r.fits f fits)) (r.numbers f fits);

@@ -156,18 +156,18 @@ abbrev pub opens_with : Means → ℕ → Streams → Opens
 opens_with u last st = record { control = u (Variable st.control); reports = u st.reports; tail = u st.tail; is_broken = st.is_broken; last = last; made = st.made }
 
 -- the state that is read
-read_as : (old : Held CellName) (t u : Means) (s : State) (gs : List (Goal CellName)) (ss : List (Shoen CellName)) (h : model.Shoen) (goal : Term) (o : Opens) (allowance low high final : ℕ) (x : Cell CellName) (st : Streams) (standing : Option ℕ) → Agree old t u → AreGoalsIn old gs → AreShoensIn old ss → u x ≡ goal → o ≡ opens_with u final st →
+read_as : (old : Held CellName) (t u : Means) (s : State) (gs : List (Goal CellName)) (ss : List (Shoen CellName)) (h : model.Shoen) (goal : Term) (o : Opens) (allowance low high final : ℕ) (x : Cell CellName) (st : Streams) (standing : Option ℕ) (may : Bool) → Agree old t u → AreGoalsIn old gs → AreShoensIn old ss → u x ≡ goal → o ≡ opens_with u final st →
     h ≡ (let r : model.Shoen = record { number = h.number; parent = 0; life = Living; is_stopped = false; allowance = allowance; low = low; high = high; control = h.control; tail = h.tail; is_broken = h.is_broken; origin = h.origin } in r) →
     opening s t gs ss h goal o
-    ≡ state_with (record s { last_goal = suc (suc s.last_goal); last_shoen = h.number; reports = st.made }) u final (gs ++ two_goals s.last_goal h.number allowance high x standing) (ss ++ shoen_opened h.number allowance low high x st ∷ [])
-read_as old t u s gs ss h goal o allowance low high final x st standing agree i j means is shape =
+    ≡ state_with (record s { last_goal = suc (suc s.last_goal); last_shoen = h.number; reports = st.made }) u final (gs ++ two_goals s.last_goal h.number may high x standing) (ss ++ shoen_opened h.number allowance low high x st ∷ [])
+read_as old t u s gs ss h goal o allowance low high final x st standing may agree i j means is shape =
     let S : List model.Goal → List model.Shoen → State = λ gz sz. record s { goals = gz; shoens = sz; last_variable = final; last_goal = suc (suc s.last_goal); last_shoen = h.number; reports = st.made } in
     ap (opening s t gs ss h goal) is
     ∙ ap₂ S
-    (ap₂ (λ (xs ys : List model.Goal). xs ++ ys) (same_goals old t u agree gs i) (goals_read (sym means) (ap (λ (r : model.Shoen). r.high) shape)) ∙ sym (map-append (goal_with u) gs (two_goals s.last_goal h.number allowance high x standing)))
+    (ap₂ (λ (xs ys : List model.Goal). xs ++ ys) (same_goals old t u agree gs i) (goals_read (sym means) (ap (λ (r : model.Shoen). r.high) shape)) ∙ sym (map-append (goal_with u) gs (two_goals s.last_goal h.number may high x standing)))
     (ap₂ (λ (xs ys : List model.Shoen). xs ++ ys) (same_shoens old t u agree ss j) (ap (λ (z : model.Shoen). z ∷ []) (shoen_read (sym means))) ∙ sym (map-append (shoen_with u) ss (shoen_opened h.number allowance low high x st ∷ [])))
   where
-    goals_read : goal ≡ u x → h.high ≡ high → opening_goals s.last_goal h goal ≡ map (goal_with u) (two_goals s.last_goal h.number allowance high x standing)
+    goals_read : goal ≡ u x → h.high ≡ high → opening_goals s.last_goal h goal ≡ map (goal_with u) (two_goals s.last_goal h.number may high x standing)
     goals_read e f = cc
 
     shoen_read : goal ≡ u x → streaming h goal (opens_with u final st) ≡ shoen_with u (shoen_opened h.number allowance low high x st)
@@ -176,16 +176,16 @@ read_as old t u s gs ss h goal o allowance low high final x st standing agree i 
         ∙ ap (λ (g : Term). let r : model.Shoen = record { number = h.number; parent = 0; life = Living; is_stopped = false; allowance = allowance; low = low; high = high; control = u (Variable st.control); tail = u st.tail; is_broken = st.is_broken; origin = Some (record { goal = g; reports = u st.reports; control = u (Variable st.control) }) } in r) e
 
 -- the state after a start
-pub start_opens : (old : Held CellName) (t u : Means) (s : State) (last allowance low high final : ℕ) (goal : Term) (gs : List (Goal CellName)) (ss : List (Shoen CellName)) (x : Cell CellName) (st : Streams) (standing : Option ℕ) →
+pub start_opens : (old : Held CellName) (t u : Means) (s : State) (last allowance low high final : ℕ) (goal : Term) (gs : List (Goal CellName)) (ss : List (Shoen CellName)) (x : Cell CellName) (st : Streams) (standing : Option ℕ) (may : Bool) →
     Agree old t u → ((v : ℕ) (y : Cell CellName) → last < v → IsIn old y → occurs v (t y) ≡ false) → AreGoalsIn old gs → AreShoensIn old ss → AreNumbered 0 ss → s.last_shoen ≡ length ss → u x ≡ with_next_variables last goal →
     opens_with u final st ≡ streams_opened allowance (last + highest goal) s.reports →
     start_goal (state_with s t last gs ss) allowance low high goal
     ≡ state_with (record s { names = with_names s.names (names_of goal); last_goal = suc (suc s.last_goal); last_shoen = suc s.last_shoen; variables = s.variables + suc (suc (highest goal)); nodes = s.nodes + goal_nodes goal; reports = st.made }) u final
-    (gs ++ two_goals s.last_goal (suc s.last_shoen) allowance high x standing) (ss ++ shoen_opened (suc s.last_shoen) allowance low high x st ∷ [])
-start_opens old t u s last allowance low high final goal gs ss x st standing agree absent i j numbered count means is =
+    (gs ++ two_goals s.last_goal (suc s.last_shoen) may high x standing) (ss ++ shoen_opened (suc s.last_shoen) allowance low high x st ∷ [])
+start_opens old t u s last allowance low high final goal gs ss x st standing may agree absent i j numbered count means is =
     let top = last + highest goal in
     let G = with_next_variables last goal in
     let base : State = record s { names = with_names s.names (names_of goal); variables = s.variables + suc (suc (highest goal)); nodes = s.nodes + goal_nodes goal } in
     let H : model.Shoen = started_shoen (state_with s t last gs ss) allowance low high G (variable (suc top)) (variable (suc (suc top))) in
     all_told old t base gs ss H G allowance top s.reports (allowance == 0) (λ v lt. record { cells = λ y k. absent v y (omega arith) k; goal_is = absent_next last v goal (omega arith) }) i j numbered (omega arith)
-    ∙ read_as old t u base gs ss H G (streams_opened allowance top s.reports) allowance low high final x st standing agree i j means (sym is) refl
+    ∙ read_as old t u base gs ss H G (streams_opened allowance top s.reports) allowance low high final x st standing may agree i j means (sym is) refl

@@ -18,7 +18,7 @@ use Rattle.kl1_goals.specs.declared.task.Task.TheVariants.{Monitor, Reduces}
 use Rattle.kl1_goals.specs.declared.goal.Goal.{Goal}
 use Rattle.kl1_goals.specs.Lists.{is_monitor, is_monitor_task}
 use Rattle.kl1_shoen.specs.declared.shoen.Shoen.{Shoen}
-use Rattle.kl1_shoen.specs.Shoens.{AreNumbered}
+use Rattle.kl1_shoen.specs.Shoens.{AreNumbered, is_enabled_at}
 use Rattle.kl1_shoen.proofs.Numbered.{numbered_push}
 use Rattle.kl1_account.specs.declared.opening.Opening.{Opening}
 use Rattle.kl1_account.specs.Fitting.{Reading, Fits}
@@ -66,7 +66,7 @@ started_firm a b mid texts row numbers count cells awaited o allowance low high 
     let p = s.placed in
     let st = s.drafted.streams in
     let shoen = suc (length a.shoens) in
-    let two = two_goals a.last_goal shoen allowance high p.cell o.standing in
+    let two = two_goals a.last_goal shoen (is_enabled_at b.shoens b.work shoen) high p.cell o.standing in
     let h = shoen_opened shoen allowance low high p.cell o.streams in
     let up : Grown a.held b.held = Grown-trans a.held mid b.held s.grown s.more in
     let some = k.some in
@@ -92,7 +92,7 @@ pub started_owned : (a b : Account) (mid : Held CellName) (texts : List (List �
 started_owned a b mid texts row numbers count cells awaited o allowance low high goal k s =
     let p = s.placed in
     let shoen = suc (length a.shoens) in
-    let two = two_goals a.last_goal shoen allowance high p.cell o.standing in
+    let two = two_goals a.last_goal shoen (is_enabled_at b.shoens b.work shoen) high p.cell o.standing in
     let long : length b.shoens ≡ shoen = ap (λ (xs : List (Shoen CellName)). length xs) p.shoens_are ∙ one_longer a.shoens (shoen_opened shoen allowance low high p.cell o.streams) in
     let O : List (Goal CellName) → Type 0 = λ gs. AreOwned (length b.shoens) gs in
     let C : ℕ → Type 0 = λ n. AreOwned n (a.goals ++ two) in
@@ -103,7 +103,7 @@ pub started_last : (a b : Account) (mid : Held CellName) (texts : List (List ℕ
     IsStart a b mid texts row numbers count cells awaited o allowance low high goal → AreUpTo b.last_goal b.goals
 started_last a b mid texts row numbers count cells awaited o allowance low high goal k s =
     let p = s.placed in
-    let two = two_goals a.last_goal (suc (length a.shoens)) allowance high p.cell o.standing in
+    let two = two_goals a.last_goal (suc (length a.shoens)) (is_enabled_at b.shoens b.work (suc (length a.shoens))) high p.cell o.standing in
     let lg = s.last in
     let U : List (Goal CellName) → Type 0 = λ gs. AreUpTo b.last_goal gs in
     subst U (sym p.goals_are) (up_to_both b.last_goal a.goals two (up_to_more a.last_goal b.last_goal a.goals (omega arith) k) (omega arith, (omega arith, tt)))

@@ -24,7 +24,7 @@ use Rattle.kl1_match.specs.GoalCells.{AreGoalVariables}
 use Rattle.kl1_match.proofs.Places.{kept_with}
 use Rattle.kl1_modules.specs.Finding.{contents}
 use Rattle.kl1_shoen.specs.declared.shoen.Shoen.{Shoen}
-use Rattle.kl1_shoen.specs.Shoens.{AreNumbered}
+use Rattle.kl1_shoen.specs.Shoens.{AreNumbered, is_enabled_at}
 use Rattle.kl1_account.specs.declared.counted.Counted.{Counted}
 use Rattle.kl1_account.specs.declared.opening.Opening.{Opening}
 use Rattle.kl1_account.specs.Fitting.{Reading, Fits}
@@ -50,7 +50,7 @@ pub record IsStart (a b : Account) (mid : Held CellName) (texts : List (List ℕ
   pub formed : IsFormed a.held
   pub drafted : IsDrafted a.modules a.names texts row count allowance a.reports a.held mid cells awaited o
   pub grown : Grown a.held mid
-  pub placed : IsPlaced numbers row cells mid b.held a.goals b.goals a.shoens b.shoens a.last_goal allowance low high o
+  pub placed : IsPlaced numbers row cells mid b.held a.goals b.goals a.shoens b.shoens b.work a.last_goal allowance low high o
   pub more : Grown mid b.held
   pub texts_are : texts ≡ with_names [] (names_of goal)
   pub row_is : IsRowOf (with_names [] (names_of goal)) row (nodes_of goal)
@@ -117,7 +117,7 @@ started_state a b mid texts row numbers count cells awaited o allowance low high
     let some = k.some in
     let base : State = record { own_name = a.own_name; goals = []; shoens = []; work = a.work; modules = contents a.modules; names = texts_of a.names; last_variable = 0; last_goal = a.last_goal; last_shoen = length a.shoens; variables = a.variables; nodes = a.nodes; reports = a.reports; entries = a.entries; sessions = 0 } in
     let p = s.placed in
-    let began = start_opens a.held (meaning f a.held) u base last allowance low high (b.held.variables - 1) goal a.goals a.shoens p.cell o.streams o.standing
+    let began = start_opens a.held (meaning f a.held) u base last allowance low high (b.held.variables - 1) goal a.goals a.shoens p.cell o.streams o.standing (is_enabled_at b.shoens b.work (suc (length a.shoens)))
     (old_read a b mid texts row numbers count cells awaited o allowance low high goal s f fits)
     (λ v y lt i. absent_beyond f a.held v y s.formed i (omega arith))
     k.goals k.shoens k.numbered refl

@@ -32,6 +32,7 @@ use Rattle.kl1_moves.specs.Standing.{StandsAs}
 use Rattle.kl1_goals.specs.declared.task.Task.TheVariants.{Monitor, Reduces}
 use Rattle.kl1_goals.specs.declared.goal.Goal.{Goal}
 use Rattle.kl1_shoen.specs.declared.shoen.Shoen.{Shoen}
+use Rattle.kl1_shoen.specs.Shoens.{is_enabled_at}
 use Rattle.kl1_modules.specs.Numbered.{Numbered, AreRead}
 use Rattle.kl1_modules.specs.Finding.{contents}
 use Rattle.kl1_event.specs.Views.{refusal_of}
@@ -72,12 +73,12 @@ abbrev pub StartsAs : List Known → Counted → ℕ → ℕ → ℕ → Term �
 StartsAs names counted allowance low high goal (Refused r) = (s : State) → HasNames s names counted → step s (start allowance low high goal) ≡ refuse s (refusal_of r)
 StartsAs names counted allowance low high goal (Coded code) = IsStartable names counted allowance low high goal code
 
--- the monitor of a shoen that opens, and its goal, with the numbers after the last: the monitor waits for the control stream, and
--- the goal may step unless the allowance is 0
-abbrev pub two_goals : ℕ → ℕ → ℕ → ℕ → Cell CellName → Option ℕ → List (Goal CellName)
-two_goals last shoen allowance high x standing =
+-- the monitor of a shoen that opens, and its goal, which may step or not, with the numbers after the last: the monitor waits for the
+-- control stream
+abbrev pub two_goals : ℕ → ℕ → Bool → ℕ → Cell CellName → Option ℕ → List (Goal CellName)
+two_goals last shoen may high x standing =
     record { number = suc last; task = Monitor; shoen = shoen; priority = monitor_priority; standing = None; is_enabled = true }
-    ∷ record { number = suc (suc last); task = Reduces (whole x); shoen = shoen; priority = high; standing = standing; is_enabled = not (allowance == 0) } ∷ []
+    ∷ record { number = suc (suc last); task = Reduces (whole x); shoen = shoen; priority = high; standing = standing; is_enabled = may } ∷ []
 
 -- a shoen that the console opens for a goal, with these streams
 abbrev pub shoen_opened : ℕ → ℕ → ℕ → ℕ → Cell CellName → Streams → Shoen CellName
@@ -177,10 +178,10 @@ abbrev pub hooks_on : List ℕ → ℕ → List Hook
 hooks_on vs n = map (λ v. let k : Hook = record { variable = v; number = n } in k) vs
 
 -- a start that was drafted is in place: a cell was built of the goal's row, with these numbers for its names; the shoen's monitor
--- and the goal come after the other goals, and the shoen after the others
-pub record IsPlaced (numbers : List CellName) (row : List Instruction) (cells : List (Cell CellName)) (old new : Held CellName) (goals after : List (Goal CellName)) (shoens more : List (Shoen CellName)) (last allowance low high : ℕ) (o : Opening) : Type 0 where
+-- and the goal come after the other goals, the goal enabled as the charged work has it, and the shoen after the others
+pub record IsPlaced (numbers : List CellName) (row : List Instruction) (cells : List (Cell CellName)) (old new : Held CellName) (goals after : List (Goal CellName)) (shoens more : List (Shoen CellName)) (work : List ℕ) (last allowance low high : ℕ) (o : Opening) : Type 0 where
   pub cell : Cell CellName
   pub builds : BuildsGoal built numbers row cells old new cell
   pub bindings : new.bindings ≡ old.bindings
-  pub goals_are : after ≡ goals ++ two_goals last (suc (length shoens)) allowance high cell o.standing
+  pub goals_are : after ≡ goals ++ two_goals last (suc (length shoens)) (is_enabled_at more work (suc (length shoens))) high cell o.standing
   pub shoens_are : more ≡ shoens ++ shoen_opened (suc (length shoens)) allowance low high cell o.streams ∷ []

@@ -8,6 +8,7 @@ ghost use Rattle.kl1_model.specs.Event.{load as load_event, start as start_event
 ghost use Rattle.kl1_account.specs.Fitting.{Reading, Fits};
 ghost use Rattle.kl1_account.specs.Account.{state_of};
 ghost use Rattle.kl1_account.specs.Naming.{Keeps};
+ghost use Rattle.kl1_account.specs.Starting.{HasNames};
 ghost use Rattle.kl1_event.specs.Views.{reply_of, reduced_or, chosen_of};
 
 use crate::account_name::AccountName;
@@ -127,7 +128,9 @@ impl Account {
     }
 
     /// What an account has of what is counted.
-    fn counted(&self) -> Counted {
+    fn counted(&self) -> Counted
+        ensures { (f : Reading) → HasNames (state_of f self.now) self.now.names result }
+    {
         Counted {
             goals: self.goals.alive(),
             variables: self.variables,

@@ -40,13 +40,13 @@ pub(crate) fn hang_all(store: &mut Store<CellName>, awaited: &[u32], number: u64
     }
 }
 
-/// Opens the next shoen, and puts its monitor and its goal after the other goals; where its allowance is 0, the goal may not step.
-/// There has to be room for them.
+/// Opens the next shoen, and puts its monitor and its goal, which may step or not, after the other goals. There has to be room for
+/// them.
 pub(crate) fn put_two(
     goals: &mut GoalTable<CellName>,
     last_goal: u64,
     shoen: u64,
-    allowance: u64,
+    is_enabled: bool,
     high: u64,
     cell: Cell<CellName>,
     standing: Option<u64>,
@@ -58,7 +58,7 @@ pub(crate) fn put_two(
     requires owned { AreOwned goals.old.shoens goals.old.goals }
     requires shoen { shoen ≡ suc goals.old.shoens }
     requires high { high ≤ monitor_priority }
-    ensures goals { goals.new.goals ≡ goals.old.goals ++ two_goals last_goal shoen allowance high cell standing }
+    ensures goals { goals.new.goals ≡ goals.old.goals ++ two_goals last_goal shoen is_enabled high cell standing }
     ensures shoens { goals.new.shoens ≡ suc goals.old.shoens }
 {
     goals.open();
@@ -79,6 +79,6 @@ pub(crate) fn put_two(
         shoen,
         priority: high,
         standing,
-        is_enabled: allowance != 0,
+        is_enabled,
     });
 }

@@ -190,7 +190,7 @@ pub(crate) fn place(
     requires count { goals.old.shoens ≡ length shoens.old.shoens }
     requires number { number ≡ suc (length shoens.old.shoens) }
     requires high { high ≤ monitor_priority }
-    ensures placed { IsPlaced numbers.now row.now (goal_variables scratch.old) store.old.held store.new.held goals.old.goals goals.new.goals shoens.old.shoens shoens.new.shoens last_goal allowance low high opening }
+    ensures placed { IsPlaced numbers.now row.now (goal_variables scratch.old) store.old.held store.new.held goals.old.goals goals.new.goals shoens.old.shoens shoens.new.shoens shoens.new.work last_goal allowance low high opening }
     ensures known { goals.new.shoens ≡ suc goals.old.shoens }
     ensures work { shoens.new.work ≡ shoens.old.work }
     ensures hooks { store.new.hooks ≡ (store.old.hooks ++ hooks_on (opening.streams.control ∷ []) (last_goal + 1)) ++ hooks_on awaited.now (last_goal + 2) }
@@ -200,15 +200,6 @@ pub(crate) fn place(
     let streams = opening.streams;
     hang_one(store, streams.control, last_goal + 1);
     hang_all(store, awaited, last_goal + 2);
-    put_two(
-        goals,
-        last_goal,
-        number,
-        allowance,
-        high,
-        cell,
-        opening.standing,
-    );
     let control = Cell::Variable(streams.control);
     shoens.open(Shoen {
         number,
@@ -227,4 +218,14 @@ pub(crate) fn place(
             control,
         }),
     });
+    let is_enabled = shoens.is_enabled(number);
+    put_two(
+        goals,
+        last_goal,
+        number,
+        is_enabled,
+        high,
+        cell,
+        opening.standing,
+    );
 }
