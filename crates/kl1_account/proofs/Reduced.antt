@@ -1,6 +1,6 @@
 -- The step of a reduction that is drafted.
-use Rattle.std.proofs.Common.{◌≡◌, ℕ, ◌<◌, List, refl, sym, ap, ◌∙◌}
-use Rattle.std.specs.Prelude.{Some}
+use Rattle.std.proofs.Common.{◌≡◌, ℕ, ◌<◌, List, ◌++◌, map, refl, sym, ap, ◌∙◌}
+use Rattle.std.specs.Prelude.{Some, None}
 use Rattle.std.specs.List.{AllByRecursion}
 use Rattle.kl1_model.specs.State.{State, without_goal}
 use Rattle.kl1_model.specs.Tree.{charge}
@@ -23,12 +23,12 @@ use Rattle.kl1_account.specs.declared.draft.Draft.{Draft}
 use Rattle.kl1_account.specs.Fitting.{Reading}
 use Rattle.kl1_account.specs.Account.{Account, meaning, goal_with, aim, state_of, texts_of}
 use Rattle.kl1_account.specs.Works.{worked, IsMadeIn, Knows}
-use Rattle.kl1_account.specs.Drafts.{made_of}
-use Rattle.kl1_account.specs.Installing.{IsBegun}
+use Rattle.kl1_account.specs.Drafts.{made_of, goals_left, names_with}
+use Rattle.kl1_account.specs.Installing.{IsBegun, goals_after}
 use Rattle.kl1_account.specs.Settled.{AreEnabled}
 use Rattle.kl1_account.specs.Moving.{ReadsMove}
 use Rattle.kl1_account.specs.Acting.{Acts, Reads}
-use Rattle.kl1_account.specs.Reducing.{IsSteppable, IsMade, HeardAs, move_at}
+use Rattle.kl1_account.specs.Reducing.{IsSteppable, IsMade, HeardAs, move_at, put_in}
 use Rattle.kl1_account.proofs.Steps.{steps_on, goal_does}
 use Rattle.kl1_account.proofs.PutIn.{begun_state, begun_whole}
 
@@ -58,3 +58,16 @@ moved_step f a n c g x p places text made new t u before after knows is task all
     steps_on f a n c g (moves (aim f a.held x) m) is all (goal_does f a c g x (Some m) task (does.some f knows)) does.room
     ∙ ap (λ (z : State). let y : Stepped = record { state = z; reply = reduced } in y)
     (ap change (begun_state f a g.number t before shoens work begun) ∙ (acts a.modules c (move_at a.modules a.held x c) name does.moves does.some inside).states f knows s)
+
+-- what a draft makes of an account is the account with a draft in place that was made of it by looking at its goals
+pub placed_state : (f : Reading) (a : Account) (new : Held CellName) (u : Tree CellName) (d e : Draft) → map (goal_with (meaning f new)) (goals_after a.goals e) ≡ map (goal_with (meaning f new)) (goals_left (a.goals ++ d.added.items) d) →
+    d.name ≡ None → e.last_goal ≡ d.last_goal → e.variables ≡ d.variables → e.nodes ≡ d.nodes → e.reports ≡ d.reports →
+    worked f (with_entry (state_of f a)) new (made_of a.goals (texts_of a.names) u d) ≡ state_of f (put_in a new u e)
+placed_state f a new u d e goals name last variables nodes reports =
+    let s = state_of f (put_in a new u e) in
+    ap (λ gs. let z : State = record s { goals = gs; names = names_with (texts_of a.names) d.name; last_goal = d.last_goal; variables = d.variables; nodes = d.nodes; reports = d.reports } in z) (sym goals)
+    ∙ ap (λ o. let z : State = record s { names = names_with (texts_of a.names) o; last_goal = d.last_goal; variables = d.variables; nodes = d.nodes; reports = d.reports } in z) name
+    ∙ ap (λ n. let z : State = record s { last_goal = n; variables = d.variables; nodes = d.nodes; reports = d.reports } in z) (sym last)
+    ∙ ap (λ n. let z : State = record s { variables = n; nodes = d.nodes; reports = d.reports } in z) (sym variables)
+    ∙ ap (λ n. let z : State = record s { nodes = n; reports = d.reports } in z) (sym nodes)
+    ∙ ap (λ n. let z : State = record s { reports = n } in z) (sym reports)
