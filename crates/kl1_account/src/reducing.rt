@@ -5,11 +5,10 @@ ghost use Rattle.kl1_clause.specs.Predicates.{AreSome};
 ghost use Rattle.kl1_moves.specs.Kinds.{IsKind, KindIn};
 ghost use Rattle.kl1_moves.specs.Moves.{HasPredicate, MoveIn, taken_places};
 ghost use Rattle.kl1_stream.specs.Controls.{ControlIn};
-ghost use Rattle.kl1_goals.specs.declared.task.Task.TheVariants.{Monitor, Reduces};
 ghost use Rattle.kl1_modules.specs.Finding.{contents};
 ghost use Rattle.kl1_model.specs.Term.{Term};
 ghost use Rattle.kl1_text.specs.declared.cell_name.CellName.{CellName};
-ghost use Rattle.kl1_store.specs.Held.{Held, IsIn};
+ghost use Rattle.kl1_store.specs.Held.{Held};
 ghost use Rattle.kl1_account.specs.Fitting.{Reading};
 ghost use Rattle.kl1_account.specs.Account.{aim};
 ghost use Rattle.kl1_account.specs.Kept.{AreShoensIn};
@@ -82,7 +81,11 @@ pub(crate) fn finish(
 }
 
 /// The goal of a number, which may step, or why its reduction by the clause of a number is refused.
-fn steppable(goals: &GoalTable<CellName>, number: u64, clause: u64) -> Result<Goal<CellName>, Refusal>
+fn steppable(
+    goals: &GoalTable<CellName>,
+    number: u64,
+    clause: u64,
+) -> Result<Goal<CellName>, Refusal>
     ensures refused { IfErr result (RefusesAmong goals.now.goals number clause) }
     ensures found { IfOk result (IsSteppable goals.now.goals number clause) }
     ensures number { IfOk result (λ g. g.number ≡ number) }
