@@ -1,5 +1,20 @@
 // Reductions that are drafted.
 
+ghost use Rattle.std.specs.Prelude.{◌≡◌, Some, IfOk, IfErr};
+ghost use Rattle.kl1_clause.specs.Predicates.{AreSome};
+ghost use Rattle.kl1_moves.specs.Kinds.{IsKind, KindIn};
+ghost use Rattle.kl1_moves.specs.Moves.{HasPredicate, MoveIn, taken_places};
+ghost use Rattle.kl1_stream.specs.Controls.{ControlIn};
+ghost use Rattle.kl1_modules.specs.Finding.{contents};
+ghost use Rattle.kl1_model.specs.Term.{Term};
+ghost use Rattle.kl1_text.specs.declared.cell_name.CellName.{CellName};
+ghost use Rattle.kl1_store.specs.Held.{Held};
+ghost use Rattle.kl1_account.specs.Fitting.{Reading};
+ghost use Rattle.kl1_account.specs.Account.{aim};
+ghost use Rattle.kl1_account.specs.Kept.{AreShoensIn};
+ghost use Rattle.kl1_account.specs.Works.{Knows};
+ghost use Rattle.kl1_account.specs.Reducing.{RefusesAmong, IsSteppable, is_read, NotHeard, HeardAs, NotMade, IsMade};
+
 use crate::acting::{act, read};
 use crate::completing::finish;
 use crate::draft::Draft;
@@ -8,16 +23,111 @@ use crate::limits::are_numbers;
 use crate::looking::predicate_of;
 use crate::names::AccountNames;
 use crate::settling::Walk;
+use kl1_clause::Predicate;
 use kl1_event::Refusal;
 use kl1_goals::{Goal, GoalTable, Task};
 use kl1_model::limits::MOST_ENTRIES;
 use kl1_modules::Modules;
-use kl1_moves::{Kind, Trial, kind_of_qualified, move_of};
+use kl1_moves::{Kind, Move, Trial, kind_of_qualified, move_of};
 use kl1_shoen::ShoenTree;
 use kl1_store::{Qualified, Store};
 use kl1_stream::{Control, read_control};
 use kl1_text::CellName;
 use std::alloc::AllocError;
+
+/// The goal of a number, which may step, or why its reduction by the clause of a number is refused.
+fn steppable(
+    goals: &GoalTable<CellName>,
+    number: u64,
+    clause: u64,
+) -> Result<Goal<CellName>, Refusal>
+    ensures refused { IfErr result (RefusesAmong goals.now.goals number clause) }
+    ensures found { IfOk result (IsSteppable goals.now.goals number clause) }
+    ensures number { IfOk result (λ g. g.number ≡ number) }
+{
+    if !are_numbers(number, clause) {
+        return Err(Refusal::Syntax);
+    }
+    let Some(goal) = goals.get(number) else {
+        return Err(Refusal::Step);
+    };
+    if !goal.is_enabled {
+        return Err(Refusal::Step);
+    }
+    Ok(goal)
+}
+
+/// Whether a monitor reads what stands before it: it isn't a variable.
+fn is_read(control: Control<CellName>) -> bool
+    ensures { result ≡ is_read control }
+{
+    match control {
+        Control::Awaits(_variable) => false,
+        Control::Tells(_message, _rest) => true,
+        Control::TellsOther(_element, _rest) => true,
+        Control::Ends => true,
+        Control::BreaksOff(_cell) => true,
+    }
+}
+
+/// What a monitor, which may step, reads by the clause of a number, for an account with so many entries in its journal, or why that is
+/// refused.
+fn control_to_read(
+    store: &Store<CellName>,
+    shoens: &ShoenTree<CellName>,
+    entries: u64,
+    goal: Goal<CellName>,
+    clause: u64,
+) -> Result<Control<CellName>, Refusal>
+    requires shoens { AreShoensIn store.now.held shoens.now.shoens }
+    ensures refused { IfErr result (NotHeard store.now.held shoens.now.shoens entries goal clause) }
+    ensures reads { IfOk result (HeardAs store.now.held shoens.now.shoens entries goal clause) }
+    ensures inside { IfOk result (ControlIn store.now.held) }
+{
+    if clause != 0 {
+        return Err(Refusal::Step);
+    }
+    let Some(shoen) = shoens.lend(goal.shoen) else {
+        return Err(Refusal::Step);
+    };
+    let control = read_control(store, shoen.control);
+    if !is_read(control) {
+        return Err(Refusal::Step);
+    }
+    if MOST_ENTRIES <= entries {
+        return Err(Refusal::Journal);
+    }
+    Ok(control)
+}
+
+/// What a goal for a cell, which may step and is of a kind, does by the clause of a number of its predicate, for an account with so many
+/// entries in its journal, or why that is refused.
+fn move_to_make(
+    store: &Store<CellName>,
+    modules: &Modules,
+    kind: Kind<CellName>,
+    predicate: Predicate<'_, CellName>,
+    trial: &mut Trial<CellName>,
+    entries: u64,
+    cell: Qualified<CellName>,
+    clause: u64,
+) -> Result<Result<Move<CellName>, Refusal>, AllocError>
+    requires kind { KindIn store.now.held kind }
+    requires some { AreSome predicate.names.now predicate.clauses.now }
+    requires is { (f : Reading) → Knows modules.now.loaded f → IsKind f store.now.held (aim f store.now.held cell) kind }
+    requires has { (f : Reading) → Knows modules.now.loaded f → (h : Held CellName) (t : Term) → IsKind f h t kind → HasPredicate f h (contents modules.now.loaded) kind predicate }
+    ensures refused { IfOk result (λ o. IfErr o (NotMade store.now.held modules.now.loaded entries cell clause)) }
+    ensures makes { IfOk result (λ o. IfOk o (IsMade store.now.held modules.now.loaded entries cell clause predicate.entry (taken_places trial.new) trial.new.text)) }
+    ensures inside { IfOk result (λ o. IfOk o (λ made. MoveIn store.now.held predicate.entry (taken_places trial.new) trial.new.text (Some made))) }
+{
+    let Some(made) = move_of(store, kind, predicate, clause, trial)? else {
+        return Ok(Err(Refusal::Step));
+    };
+    if MOST_ENTRIES <= entries {
+        return Ok(Err(Refusal::Journal));
+    }
+    Ok(Ok(made))
+}
 
 /// Drafts what the monitor of a shoen reads, or says why it is refused.
 fn draft_reading(
@@ -32,19 +142,10 @@ fn draft_reading(
     goal: Goal<CellName>,
     clause: u64,
 ) -> Result<Option<Refusal>, AllocError> {
-    if clause != 0 {
-        return Ok(Some(Refusal::Step));
-    }
-    let Some(shoen) = shoens.lend(goal.shoen) else {
-        return Ok(Some(Refusal::Step));
+    let control = match control_to_read(store, shoens, entries, goal, clause) {
+        Err(refusal) => return Ok(Some(refusal)),
+        Ok(control) => control,
     };
-    let control = read_control(store, shoen.control);
-    if let Control::Awaits(_variable) = control {
-        return Ok(Some(Refusal::Step));
-    }
-    if MOST_ENTRIES <= entries {
-        return Ok(Some(Refusal::Journal));
-    }
     let mark = store.mark();
     walk.reached.clear();
     read(store, goals, shoens, draft, walk, goal.shoen, control)?;
@@ -82,12 +183,12 @@ fn draft_move(
 ) -> Result<Option<Refusal>, AllocError> {
     let kind = kind_of_qualified(store, cell);
     let predicate = predicate_of(modules, kind);
-    let Some(made) = move_of(store, kind, predicate, clause, trial)? else {
-        return Ok(Some(Refusal::Step));
+    let made = match move_to_make(
+        store, modules, kind, predicate, trial, entries, cell, clause,
+    )? {
+        Err(refusal) => return Ok(Some(refusal)),
+        Ok(made) => made,
     };
-    if MOST_ENTRIES <= entries {
-        return Ok(Some(Refusal::Journal));
-    }
     draft.removed = goal.number;
     let mark = store.mark();
     let alive = goals.alive() - 1;
@@ -121,15 +222,10 @@ pub(crate) fn draft_reduction(
     number: u64,
     clause: u64,
 ) -> Result<Option<Refusal>, AllocError> {
-    if !are_numbers(number, clause) {
-        return Ok(Some(Refusal::Syntax));
-    }
-    let Some(goal) = goals.get(number) else {
-        return Ok(Some(Refusal::Step));
+    let goal = match steppable(goals, number, clause) {
+        Err(refusal) => return Ok(Some(refusal)),
+        Ok(goal) => goal,
     };
-    if !goal.is_enabled {
-        return Ok(Some(Refusal::Step));
-    }
     begin(draft, 0, last_goal, variables, nodes, reports);
     match goal.task {
         Task::Monitor => draft_reading(
