@@ -1,5 +1,5 @@
 -- What comes after the effects of a goal that makes a name, while the variable that is to become the name is still unbound.
-use Rattle.std.specs.Prelude.{ℕ, ◌==◌, Bool, false, if◌then◌else◌, List, [], ◌∷◌, Option, Some, None}
+use Rattle.std.specs.Prelude.{ℕ, ◌==◌, not, ◌&&◌, Bool, false, if◌then◌else◌, List, [], ◌∷◌, Option, Some, None}
 use Rattle.kl1_model.specs.Term.{Term, variable, integer, atom, structure}
 use Rattle.kl1_model.specs.State.{Shoen, State, shoen_at}
 use Rattle.kl1_model.specs.Tree.{path}
@@ -57,3 +57,8 @@ settle_charged_late v n s =
     let ns = path s.shoens n in
     let ending = ending_of ns s in
     finished_each_late v ending (report_each_late v (reached_of s ending ns) exhausted_report (ended_each ending s))
+
+-- whether a shoen has an unbroken report stream whose tail is the variable of a number
+abbrev pub is_tail_of : ℕ → Option Shoen → Bool
+is_tail_of v None = false
+is_tail_of v (Some h) = not h.is_broken && is_variable v h.tail

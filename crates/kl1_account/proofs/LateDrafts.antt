@@ -1,0 +1,97 @@
+-- What comes after the effects of a goal that makes a name, on drafts.
+use Rattle.std.proofs.Common.{◌≡◌, ℕ, ◌+◌, ◌<◌, ◌≤◌, ◌==◌, not, ◌&&◌, Bool, true, false, if◌then◌else◌, List, [], ◌∷◌, ◌++◌, length, take, get_or, refl, sym, ap, ◌∙◌, subst}
+use Rattle.std.specs.Prelude.{find, Option, Some, None, option_map}
+use Rattle.std.proofs.lemmas.List.{take_more, take_all}
+use Rattle.kl1_model.specs.Term.{Term}
+use Rattle.kl1_model.specs.State as model
+use Rattle.kl1_model.specs.State.{State, shoen_at}
+use Rattle.kl1_model.specs.Tree.{path}
+use Rattle.kl1_model.specs.Report.{broken_at, report, closed_at, close_of, close, exhausted_report, terminated_report}
+use Rattle.kl1_model.specs.Ending.{without_monitor, ending_of, reached_of}
+use Rattle.kl1_text.specs.declared.cell_name.CellName.{CellName}
+use Rattle.kl1_store.specs.declared.cell.Cell.{Cell}
+use Rattle.kl1_store.specs.Held.{Held}
+use Rattle.kl1_store.specs.Reading.{term_of}
+use Rattle.kl1_goals.specs.declared.goal.Goal.{Goal}
+use Rattle.kl1_shoen.specs.declared.shoen.Shoen.{Shoen}
+use Rattle.kl1_shoen.specs.Shoens.{Tree, has_number, changed, path_in}
+use Rattle.kl1_modules.specs.Numbered.{Numbered}
+use Rattle.kl1_account.specs.declared.draft.Draft.{Draft}
+use Rattle.kl1_account.specs.Fitting.{Reading}
+use Rattle.kl1_account.specs.Account.{meaning, shoen_with}
+use Rattle.kl1_account.specs.Drafts.{goals_left, made_of, Drafts, DraftsAll}
+use Rattle.kl1_account.specs.Works.{worked}
+use Rattle.kl1_account.specs.Endings.{ended_each}
+use Rattle.kl1_account.specs.Walks.{reached_in, EndsLives}
+use Rattle.kl1_account.specs.Late.{is_variable, is_tail_of, break_of, break_at, report_late, report_each_late, close_late_of, close_late, finished_late, finished_each_late, settle_charged_late}
+use Rattle.kl1_account.proofs.Works.{turns_then, turns_as, torn}
+use Rattle.kl1_account.proofs.Effects.{drafts_changed, drafts_found}
+use Rattle.kl1_account.proofs.Finishing.{drafts_then, drafts_as, drafts_none, drafts_unmonitored, ends_drafts, ending_is, reached_is}
+
+-- ---- tails that become a name
+
+-- whether there is such a tail, by its cell
+pub tail_is : (h : Held CellName) (f : Reading) (n v : ℕ) (ss : List (Shoen CellName)) (sh : Shoen CellName) (x : Cell CellName) (b : Bool) → find (has_number n) ss ≡ Some sh → sh.is_broken ≡ false → meaning f h x ≡ meaning f h sh.tail → is_variable v (meaning f h x) ≡ b →
+    is_tail_of v (option_map (shoen_with (meaning f h)) (find (has_number n) ss)) ≡ b
+tail_is h f n v ss sh x b found whole same is =
+    ap (λ (o : Option (Shoen CellName)). is_tail_of v (option_map (shoen_with (meaning f h)) o)) found
+    ∙ ap (λ c. not c && is_variable v (meaning f h sh.tail)) whole
+    ∙ ap (is_variable v) (sym same)
+    ∙ is
+
+-- a stream that is broken has none
+pub tail_broken : (h : Held CellName) (f : Reading) (n v : ℕ) (ss : List (Shoen CellName)) (sh : Shoen CellName) → find (has_number n) ss ≡ Some sh → sh.is_broken ≡ true → is_tail_of v (option_map (shoen_with (meaning f h)) (find (has_number n) ss)) ≡ false
+tail_broken h f n v ss sh found broken =
+    ap (λ (o : Option (Shoen CellName)). is_tail_of v (option_map (shoen_with (meaning f h)) o)) found
+    ∙ ap (λ c. not c && is_variable v (meaning f h sh.tail)) broken
+
+-- nor has a shoen that isn't there
+pub tail_none : (h : Held CellName) (f : Reading) (n v : ℕ) (ss : List (Shoen CellName)) → find (has_number n) ss ≡ None → is_tail_of v (option_map (shoen_with (meaning f h)) (find (has_number n) ss)) ≡ false
+tail_none h f n v ss found = ap (λ (o : Option (Shoen CellName)). is_tail_of v (option_map (shoen_with (meaning f h)) o)) found
+
+break_by : (o : Option model.Shoen) (v n : ℕ) (s : State) (b : Bool) → is_tail_of v o ≡ b → break_of o v n s ≡ (if b then broken_at n s else s)
+break_by None v n s b e = ap (λ c. if c then broken_at n s else s) e
+break_by (Some h) v n s b e = by_case h.is_broken (is_variable v h.tail) ∙ ap (λ c. if c then broken_at n s else s) e
+  where
+    by_case : (c d : Bool) → (if c then s else if d then broken_at n s else s) ≡ (if not c && d then broken_at n s else s)
+    by_case true d = refl
+    by_case false d = refl
+
+close_by : (o : Option model.Shoen) (v : ℕ) (s : State) (b : Bool) → is_tail_of v o ≡ b → close_late_of o v s ≡ (if b then s else close_of o s)
+close_by None v s b e = by_case b
+  where
+    by_case : (c : Bool) → s ≡ (if c then s else s)
+    by_case true = refl
+    by_case false = refl
+close_by (Some h) v s b e = by_case h.is_broken (is_variable v h.tail) ∙ ap (λ c. if c then s else if h.is_broken then s else closed_at h.tail s) e
+  where
+    by_case : (c d : Bool) → (if c then s else if d then s else closed_at h.tail s) ≡ (if not c && d then s else if c then s else closed_at h.tail s)
+    by_case true d = refl
+    by_case false true = refl
+    by_case false false = refl
+
+-- a stream that breaks, as its tail becomes a name
+pub drafts_torn : (h : Held CellName) (t u : Tree CellName) (d : Draft) (n v : ℕ) → ((f : Reading) → is_tail_of v (option_map (shoen_with (meaning f h)) (find (has_number n) t.shoens)) ≡ true) → u ≡ record t { shoens = changed n torn t.shoens } → DraftsAll (λ f. break_at v n) h h t u d d
+drafts_torn h t u d n v is same =
+    drafts_found (λ o s. break_of o v n s) h h t u d d n (find (has_number n) t.shoens) refl
+    (drafts_as (λ f. broken_at n) (λ f s. break_of (option_map (shoen_with (meaning f h)) (find (has_number n) t.shoens)) v n s) h h t u d d
+    (λ f s. break_by (option_map (shoen_with (meaning f h)) (find (has_number n) t.shoens)) v n s true (is f))
+    (drafts_changed h t u d n torn (λ x. record x { is_broken = true }) same (λ s i. record { control = i.control; tail = i.tail; origin = i.origin }) (λ f s. refl)))
+
+-- a stream whose tail doesn't become a name stays as it is
+pub drafts_untorn : (h : Held CellName) (t : Tree CellName) (d : Draft) (n v : ℕ) → ((f : Reading) → is_tail_of v (option_map (shoen_with (meaning f h)) (find (has_number n) t.shoens)) ≡ false) → DraftsAll (λ f. break_at v n) h h t t d d
+drafts_untorn h t d n v is =
+    drafts_found (λ o s. break_of o v n s) h h t t d d n (find (has_number n) t.shoens) refl
+    (drafts_as (λ f s. s) (λ f s. break_of (option_map (shoen_with (meaning f h)) (find (has_number n) t.shoens)) v n s) h h t t d d
+    (λ f s. break_by (option_map (shoen_with (meaning f h)) (find (has_number n) t.shoens)) v n s false (is f)) (drafts_none h t d))
+
+-- a report
+pub drafts_told_late : (h k : Held CellName) (t u y : Tree CellName) (d e : Draft) (n v : ℕ) (m : Term) → DraftsAll (λ f. break_at v n) h h t u d d → DraftsAll (λ f. report n m) h k u y d e → DraftsAll (λ f. report_late v n m) h k t y d e
+drafts_told_late h k t u y d e n v m p q = drafts_then (λ f. break_at v n) (λ f. report n m) h h k t u y d d e p q
+
+-- the end of a stream whose tail becomes a name is none
+pub drafts_unclosed_late : (h : Held CellName) (t : Tree CellName) (d : Draft) (n v : ℕ) → ((f : Reading) → is_tail_of v (option_map (shoen_with (meaning f h)) (find (has_number n) t.shoens)) ≡ true) → DraftsAll (λ f. close_late v n) h h t t d d
+drafts_unclosed_late h t d n v is =
+    drafts_found (λ o s. close_late_of o v s) h h t t d d n (find (has_number n) t.shoens) refl
+    (drafts_as (λ f s. s) (λ f s. close_late_of (option_map (shoen_with (meaning f h)) (find (has_number n) t.shoens)) v s) h h t t d d
+    (λ f s. close_by (option_map (shoen_with (meaning f h)) (find (has_number n) t.shoens)) v s true (is f)) (drafts_none h t d))
