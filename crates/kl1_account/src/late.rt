@@ -30,7 +30,7 @@ fn is_tail(
     store: &Store<CellName>,
     shoens: &ShoenTree<CellName>,
     number: u64,
-    variable: u64,
+    variable: u32,
 ) -> bool
     requires { AreShoensIn store.now.held shoens.now.shoens }
     ensures { (f : Reading) → is_tail_of variable (option_map (shoen_with (meaning f store.now.held)) (find (has_number number) shoens.now.shoens)) ≡ result }
@@ -55,7 +55,7 @@ fn break_late(
     store: &Store<CellName>,
     shoens: &mut ShoenTree<CellName>,
     number: u64,
-    variable: u64,
+    variable: u32,
 ) -> Result<(), AllocError>
     requires shoens { AreShoensIn store.now.held shoens.old.shoens }
     ensures ok { OnOk result ((draft : Draft) → DraftsAll (λ f. break_at variable number) store.now.held store.now.held shoens.old shoens.new draft draft) }
@@ -75,7 +75,7 @@ fn report_name_late(
     shoens: &mut ShoenTree<CellName>,
     draft: &mut Draft,
     number: u64,
-    variable: u64,
+    variable: u32,
     name: BuiltIn,
 ) -> Result<(), AllocError>
     requires shoens { AreShoensIn store.old.held shoens.old.shoens }
@@ -97,7 +97,7 @@ fn report_each_late(
     shoens: &mut ShoenTree<CellName>,
     draft: &mut Draft,
     numbers: &[u64],
-    variable: u64,
+    variable: u32,
     name: BuiltIn,
 ) -> Result<(), AllocError>
     requires shoens { AreShoensIn store.old.held shoens.old.shoens }
@@ -121,7 +121,7 @@ fn close_late(
     store: &mut Store<CellName>,
     shoens: &ShoenTree<CellName>,
     number: u64,
-    variable: u64,
+    variable: u32,
 ) -> Result<(), AllocError>
     requires { AreShoensIn store.old.held shoens.now.shoens }
     ensures ok { OnOk result ((draft : Draft) → DraftsAll (λ f. close_late variable number) store.old.held store.new.held shoens.now shoens.now draft draft) }
@@ -143,7 +143,7 @@ fn finish_late(
     shoens: &mut ShoenTree<CellName>,
     draft: &mut Draft,
     number: u64,
-    variable: u64,
+    variable: u32,
 ) -> Result<(), AllocError>
     requires shoens { AreShoensIn store.old.held shoens.old.shoens }
     ensures ok { OnOk result (DraftsAll (λ f. finished_late variable number) store.old.held store.new.held shoens.old shoens.new draft.old draft.new) }
@@ -165,7 +165,7 @@ fn finish_each_late(
     shoens: &mut ShoenTree<CellName>,
     draft: &mut Draft,
     numbers: &[u64],
-    variable: u64,
+    variable: u32,
 ) -> Result<(), AllocError>
     requires shoens { AreShoensIn store.old.held shoens.old.shoens }
     ensures ok { OnOk result (DraftsAll (λ f. finished_each_late variable numbers.now) store.old.held store.new.held shoens.old shoens.new draft.old draft.new) }
@@ -191,7 +191,7 @@ pub(crate) fn settle_late(
     draft: &mut Draft,
     walk: &mut Walk,
     number: u64,
-    variable: u64,
+    variable: u32,
 ) -> Result<(), AllocError>
     requires shoens { AreShoensIn store.old.held shoens.old.shoens }
     ensures ok { OnOk result ((ms : List Numbered) (names : List (List ℕ)) → Drafts ms (λ f. settle_charged_late variable number) store.old.held store.new.held goals.now.goals names shoens.old shoens.new draft.old draft.new) }
