@@ -10,7 +10,11 @@ use Rattle.kl1_model.specs.Report.{broken_at, report, closed_at, close_of, close
 use Rattle.kl1_model.specs.Ending.{without_monitor, ending_of, reached_of}
 use Rattle.kl1_text.specs.declared.cell_name.CellName.{CellName}
 use Rattle.kl1_store.specs.declared.cell.Cell.{Cell}
-use Rattle.kl1_store.specs.Held.{Held}
+use Rattle.kl1_store.specs.declared.cell.Cell.TheVariants.{Variable}
+use Rattle.kl1_store.specs.Held.{Held, IsIn, IsWalked}
+use Rattle.kl1_store.specs.Sound.{IsFormed}
+use Rattle.kl1_store.proofs.Terms.{term_of-unbound}
+use Rattle.kl1_stream.proofs.Tails.{BreaksOff, off_is}
 use Rattle.kl1_goals.specs.declared.goal.Goal.{Goal}
 use Rattle.kl1_shoen.specs.declared.shoen.Shoen.{Shoen}
 use Rattle.kl1_shoen.specs.Shoens.{Tree, has_number, changed, path_in}
@@ -68,6 +72,18 @@ close_by (Some h) v s b e = by_case h.is_broken (is_variable v h.tail) ∙ ap (�
     by_case true d = refl
     by_case false true = refl
     by_case false false = refl
+
+-- whether an unbound variable is the one of a number
+pub tail_variable : (h : Held CellName) (f : Reading) (v w : ℕ) (x : Cell CellName) → x ≡ Variable w → IsWalked h x → is_variable v (meaning f h x) ≡ (w == v)
+tail_variable h f v w x e walked =
+    let P : Cell CellName → Type 0 = λ y. IsWalked h y in
+    ap (λ (y : Cell CellName). is_variable v (meaning f h y)) e ∙ ap (is_variable v) (term_of-unbound f h w (subst P e walked))
+
+-- what is no variable is none
+pub tail_other : (h : Held CellName) (f : Reading) (v : ℕ) (x y : Cell CellName) → IsFormed h → IsIn h x → x ≡ y → BreaksOff y → is_variable v (meaning f h x) ≡ false
+tail_other h f v x y formed inside e off =
+    let P : Cell CellName → Type 0 = λ z. BreaksOff z in
+    off_is f (λ t. is_variable v t ≡ false) h x x formed inside (subst P (sym e) off) refl (λ i. refl) (λ a. refl) (λ a ts. refl)
 
 -- a stream that breaks, as its tail becomes a name
 pub drafts_torn : (h : Held CellName) (t u : Tree CellName) (d : Draft) (n v : ℕ) → ((f : Reading) → is_tail_of v (option_map (shoen_with (meaning f h)) (find (has_number n) t.shoens)) ≡ true) → u ≡ record t { shoens = changed n torn t.shoens } → DraftsAll (λ f. break_at v n) h h t u d d

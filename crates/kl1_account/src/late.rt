@@ -62,10 +62,10 @@ fn break_late(
     ensures shoens { OnOk result (AreShoensIn store.now.held shoens.new.shoens) }
     ensures back { CanGoBack shoens.old shoens.new }
 {
-    if !is_tail(store, shoens, number, variable) {
-        return Ok(());
+    if is_tail(store, shoens, number, variable) {
+        return shoens.break_stream(number);
     }
-    shoens.break_stream(number)
+    Ok(())
 }
 
 /// A report, which is a name of the language, of the shoen of a number, where a variable becomes a name at the end. Where memory is
