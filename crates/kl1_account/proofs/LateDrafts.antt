@@ -4,10 +4,10 @@ use Rattle.std.specs.Prelude.{find, Option, Some, None, option_map}
 use Rattle.std.proofs.lemmas.List.{take_more, take_all}
 use Rattle.kl1_model.specs.Term.{Term}
 use Rattle.kl1_model.specs.State as model
-use Rattle.kl1_model.specs.State.{State, shoen_at}
+use Rattle.kl1_model.specs.State.{State}
 use Rattle.kl1_model.specs.Tree.{path}
 use Rattle.kl1_model.specs.Report.{broken_at, report, closed_at, close_of, close, exhausted_report, terminated_report}
-use Rattle.kl1_model.specs.Ending.{without_monitor, ending_of, reached_of}
+use Rattle.kl1_model.specs.Ending.{without_monitor, reached_of}
 use Rattle.kl1_text.specs.declared.cell_name.CellName.{CellName}
 use Rattle.kl1_store.specs.declared.cell.Cell.{Cell}
 use Rattle.kl1_store.specs.declared.cell.Cell.TheVariants.{Variable}

@@ -1,5 +1,4 @@
 use Rattle.std.proofs.Common.{◌==◌, false, sym, ◌∙◌}
-use Rattle.kl1_store.specs.declared.cell.Cell.TheVariants.{Integer, Atom, Structure}
 use Rattle.kl1_account.proofs.States.{found_shoen_in}
 use Rattle.kl1_account.proofs.LateDrafts.{tail_is, tail_variable, tail_other}
 use Rattle.kl1_account.proofs.late.is_tail.Goals as goal
