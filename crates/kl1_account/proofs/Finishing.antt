@@ -116,14 +116,14 @@ done_then d e x p q = q ∙ ap (λ (y : Draft). let z : Draft = record y { repor
 -- ---- what comes after effects
 
 -- shoens that have terminated, on a draft
-ends_drafts : (ms : List Numbered) (goals : List (Goal CellName)) (names : List (List ℕ)) (h : Held CellName) (t u : Tree CellName) (d : Draft) (n : ℕ) (ending : List ℕ) → EndsLives (goals_left (goals ++ d.added.items) d) t u n ending →
+pub ends_drafts : (ms : List Numbered) (goals : List (Goal CellName)) (names : List (List ℕ)) (h : Held CellName) (t u : Tree CellName) (d : Draft) (n : ℕ) (ending : List ℕ) → EndsLives (goals_left (goals ++ d.added.items) d) t u n ending →
     Drafts ms (λ f. ended_each ending) h h goals names t u d d
 ends_drafts ms goals names h t u d n ending p i =
     let T : Tree CellName → Type 0 = λ x. Turns ms (λ f. ended_each ending) h h (made_of goals names t d) (made_of goals names x d) in
     subst T (sym p.tree_is) (ends_turn ms h ending (made_of goals names t d) i)
 
 -- those that terminate, by the definitions
-ending_is : (goals : List (Goal CellName)) (names : List (List ℕ)) (h : Held CellName) (t u : Tree CellName) (d : Draft) (n : ℕ) (ending : List ℕ) (f : Reading) (s : State) → EndsLives (goals_left (goals ++ d.added.items) d) t u n ending →
+pub ending_is : (goals : List (Goal CellName)) (names : List (List ℕ)) (h : Held CellName) (t u : Tree CellName) (d : Draft) (n : ℕ) (ending : List ℕ) (f : Reading) (s : State) → EndsLives (goals_left (goals ++ d.added.items) d) t u n ending →
     ending_of (path (worked f s h (made_of goals names t d)).shoens n) (worked f s h (made_of goals names t d)) ≡ ending
 ending_is goals names h t u d n ending f s p =
     let w = made_of goals names t d in
@@ -141,7 +141,7 @@ drafts_settle ms goals names h k t u v d x n ending p q i =
     (turns_then ms (λ f. ended_each ending) (λ f. finished_each ending) h h k w (made_of goals names u d) (made_of goals names v x) first (q ms goals names first.inside))
 
 -- those that have reached their allowance, by the definitions
-reached_is : (goals : List (Goal CellName)) (names : List (List ℕ)) (h : Held CellName) (t u : Tree CellName) (d : Draft) (n : ℕ) (ending reached : List ℕ) (f : Reading) (s : State) → EndsLives (goals_left (goals ++ d.added.items) d) t u n ending →
+pub reached_is : (goals : List (Goal CellName)) (names : List (List ℕ)) (h : Held CellName) (t u : Tree CellName) (d : Draft) (n : ℕ) (ending reached : List ℕ) (f : Reading) (s : State) → EndsLives (goals_left (goals ++ d.added.items) d) t u n ending →
     reached ≡ reached_in u.shoens u.work ending (path_in u.shoens n) → reached_of (worked f s h (made_of goals names t d)) ending (path (worked f s h (made_of goals names t d)).shoens n) ≡ reached
 reached_is goals names h t u d n ending reached f s p r =
     let w = made_of goals names t d in

@@ -64,3 +64,5 @@ pub mod Messages
 pub mod Sent
 pub mod Drafting
 pub mod StartSettled
+pub mod LateName
+pub mod LateDrafts

@@ -24,3 +24,4 @@ pub mod Wholes
 pub mod Asked
 pub mod Finishing
 pub mod Sending
+pub mod Late

@@ -12,6 +12,7 @@ mod counted;
 mod draft;
 mod installing;
 mod judging;
+mod late;
 mod limits;
 mod loading;
 mod looking;

@@ -115,7 +115,7 @@ fn end_one(
 
 /// Ends the lives of the shoens on the path of one that terminate, with a draft in place, and puts their numbers down, innermost
 /// first. Where memory is refused, some may have ended.
-fn end_lives(
+pub(crate) fn end_lives(
     goals: &GoalTable<CellName>,
     shoens: &mut ShoenTree<CellName>,
     draft: &Draft,
@@ -169,7 +169,7 @@ fn put_reached(
 }
 
 /// Puts down the shoens on the path of one that were charged just what they may be, but for those that end, innermost first.
-fn find_reached(
+pub(crate) fn find_reached(
     shoens: &ShoenTree<CellName>,
     number: u64,
     ending: &[u64],
