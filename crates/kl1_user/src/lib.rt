@@ -3,5 +3,5 @@
 
 mod user_state;
 
-pub use kl1_account::{AccountName, ClauseNo, Event, GoalNo, Query, Refusal, Reply, ShoenNo};
+pub use kl1_account::{AccountName, ClauseNo, Event, GoalNo, Listed, Query, Refusal, Reply, ShoenNo};
 pub use user_state::UserState;
