@@ -64,12 +64,9 @@ impl<A: AtomSource> UserState<A> {
         ensures knows { A.knows seat.new ≡ self.new.names }
     {
         match event {
-            Event::Reduce { goal, clause } => Ok(reply_to(self.account.reduce(
-                names,
-                seat,
-                goal.0,
-                clause.0,
-            )?)),
+            Event::Reduce { goal, clause } => Ok(reply_to(
+                self.account.reduce(names, seat, goal.0, clause.0)?,
+            )),
             Event::Read(query) => self.answer(names, seat, *query),
             Event::Load { source } => self.account.load(names, seat, source.as_slice()),
             Event::Start {
@@ -85,12 +82,7 @@ impl<A: AtomSource> UserState<A> {
     }
 
     /// What is answered to a query, which changes nothing.
-    fn answer(
-        &self,
-        names: &mut A,
-        seat: &mut A::Seat,
-        query: Query,
-    ) -> Result<Reply, AllocError>
+    fn answer(&self, names: &mut A, seat: &mut A::Seat, query: Query) -> Result<Reply, AllocError>
         requires of { A.is_of names.old seat.old }
         requires knows { A.knows seat.old ≡ self.now.names }
         ensures step { IfOk result (λ reply. (f : Reading) → Fits self.now.names f → step (state_of f self.now) (read (query_of query)) ≡ record { state = state_of f self.now; reply = reply_of reply }) }
