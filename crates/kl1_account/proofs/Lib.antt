@@ -57,3 +57,4 @@ pub mod StartKept
 pub mod Flags
 pub mod Statuses
 pub mod Listing
+pub mod Frames

@@ -22,3 +22,4 @@ pub mod Reducing
 pub mod Starting
 pub mod Wholes
 pub mod Asked
+pub mod Frames

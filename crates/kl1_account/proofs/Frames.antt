@@ -1,0 +1,88 @@
+-- What stays of shoens through what goals do and monitors read.
+use Rattle.std.proofs.Common.{◌≡◌, ℕ, suc, ◌+◌, ◌<◌, ◌≤◌, ◌==◌, Bool, true, false, if◌then◌else◌, List, [], ◌∷◌, ◌++◌, length, refl, sym, ap, ◌∙◌, subst, arith}
+use Rattle.std.specs.Prelude.{find, Option, Some, None, option_map}
+use Rattle.std.proofs.lemmas.Bool.{eqb-false}
+use Rattle.kl1_text.specs.declared.cell_name.CellName.{CellName}
+use Rattle.kl1_store.specs.declared.cell.Cell.{Cell}
+use Rattle.kl1_shoen.specs.declared.shoen.Shoen.{Shoen}
+use Rattle.kl1_shoen.specs.Shoens.{Tree, has_number, changed, AreNumbered}
+use Rattle.kl1_account.specs.Settled.{control_at}
+use Rattle.kl1_account.specs.Walks.{terminated, ended_in}
+use Rattle.kl1_account.specs.Frames.{bare, frame, KeepsBy, KeepsFrames, KeepsLives, Stays}
+
+-- ---- lists
+
+pub keeps_same : (f : Shoen CellName → Shoen CellName) (ss : List (Shoen CellName)) → KeepsBy f ss ss
+keeps_same f [] = tt
+keeps_same f (h ∷ hs) = (refl, keeps_same f hs)
+
+pub keeps_then : (f : Shoen CellName → Shoen CellName) (xs ys zs : List (Shoen CellName)) → KeepsBy f xs ys → KeepsBy f ys zs → KeepsBy f xs zs
+keeps_then f [] ys zs p q = tt
+keeps_then f (x ∷ xs) [] zs p q = absurd p
+keeps_then f (x ∷ xs) (y ∷ ys) [] p q = absurd q
+keeps_then f (x ∷ xs) (y ∷ ys) (z ∷ zs) p q = (q.0 ∙ p.0, keeps_then f xs ys zs p.1 q.1)
+
+change_keeps : (f g : Shoen CellName → Shoen CellName) (h : Shoen CellName) (b : Bool) → f (g h) ≡ f h → f (if b then g h else h) ≡ f h
+change_keeps f g h true e = e
+change_keeps f g h false e = refl
+
+pub keeps_changed : (f g : Shoen CellName → Shoen CellName) (n : ℕ) (ss : List (Shoen CellName)) → ((h : Shoen CellName) → f (g h) ≡ f h) → KeepsBy f ss (changed n g ss)
+keeps_changed f g n [] e = tt
+keeps_changed f g n (h ∷ hs) e = (change_keeps f g h (has_number n h) (e h), keeps_changed f g n hs e)
+
+pub keeps_more : (f : Shoen CellName → Shoen CellName) (ss more : List (Shoen CellName)) → KeepsBy f ss (ss ++ more)
+keeps_more f [] more = tt
+keeps_more f (h ∷ hs) more = (refl, keeps_more f hs more)
+
+pub lives_frames : (xs ys : List (Shoen CellName)) → KeepsLives xs ys → KeepsFrames xs ys
+lives_frames [] ys p = tt
+lives_frames (x ∷ xs) [] p = absurd p
+lives_frames (x ∷ xs) (y ∷ ys) p = (ap frame p.0, lives_frames xs ys p.1)
+
+pub ended_frames : (ns : List ℕ) (ss : List (Shoen CellName)) → KeepsFrames ss (ended_in ns ss)
+ended_frames [] ss = keeps_same frame ss
+ended_frames (n ∷ ns) ss = keeps_then frame ss (changed n terminated ss) (ended_in ns (changed n terminated ss)) (keeps_changed frame terminated n ss (λ h. refl)) (ended_frames ns (changed n terminated ss))
+
+-- ---- trees
+
+pub stays_same : (t : Tree CellName) → Stays t t
+stays_same t = record { shoens = keeps_same bare t.shoens; work = refl }
+
+pub stays_then : (t u v : Tree CellName) → Stays t u → Stays u v → Stays t v
+stays_then t u v p q = record { shoens = keeps_then bare t.shoens u.shoens v.shoens p.shoens q.shoens; work = q.work ∙ p.work }
+
+pub stays_changed : (t u : Tree CellName) (n : ℕ) (g : Shoen CellName → Shoen CellName) → ((h : Shoen CellName) → bare (g h) ≡ bare h) → u ≡ record t { shoens = changed n g t.shoens } → Stays t u
+stays_changed t u n g e is =
+    let P : Tree CellName → Type 0 = λ x. Stays t x in
+    subst P (sym is) (record { shoens = keeps_changed bare g n t.shoens e; work = refl })
+
+pub stays_more : (t u : Tree CellName) (h : Shoen CellName) → u.shoens ≡ t.shoens ++ h ∷ [] → u.work ≡ t.work → Stays t u
+stays_more t u h is work =
+    let P : List (Shoen CellName) → Type 0 = λ ss. KeepsLives t.shoens ss in
+    record { shoens = subst P (sym is) (keeps_more bare t.shoens (h ∷ [])); work = work }
+
+-- ---- the shoen of a number, and its control stream
+
+pub found_stays : (f : Shoen CellName → Shoen CellName) (k n : ℕ) (before after : List (Shoen CellName)) → ((h : Shoen CellName) → (f h).number ≡ h.number) → AreNumbered k before → KeepsBy f before after → k < n → n ≤ k + length before →
+    option_map f (find (has_number n) after) ≡ option_map f (find (has_number n) before)
+found_stays f k n [] rs num a p low high = absurd (omega (arith, low, high))
+found_stays f k n (h ∷ hs) [] num a p low high = absurd p
+found_stays f k n (h ∷ hs) (r ∷ rs) num a p low high =
+    let same : (r.number == n) ≡ (h.number == n) = ap (λ (m : ℕ). m == n) (sym (num r) ∙ ap (λ (x : Shoen CellName). x.number) p.0 ∙ num h) in
+    ap (λ b. option_map f (if b then Some r else find (has_number n) rs)) same
+    ∙ by_case (h.number == n) refl (λ lt. found_stays f (suc k) n hs rs num a.1 p.1 lt (omega (arith, high)))
+  where
+    by_case : (b : Bool) → (h.number == n) ≡ b → (suc k < n → option_map f (find (has_number n) rs) ≡ option_map f (find (has_number n) hs)) → option_map f (if b then Some r else find (has_number n) rs) ≡ option_map f (if b then Some h else find (has_number n) hs)
+    by_case true e go = ap Some p.0
+    by_case false e go = go (let m = a.0 in let apart : h.number ≡ n → ⊥ = eqb-false h.number n e in omega (arith, apart, m, low))
+
+control_of_frame : (o : Option (Shoen CellName)) → option_map (λ (h : Shoen CellName). h.control) (option_map frame o) ≡ option_map (λ (h : Shoen CellName). h.control) o
+control_of_frame None = refl
+control_of_frame (Some h) = refl
+
+-- control streams stay
+pub controls_stay : (n : ℕ) (before after : List (Shoen CellName)) → AreNumbered 0 before → KeepsFrames before after → 0 < n → n ≤ length before → control_at after n ≡ control_at before n
+controls_stay n before after a p low high =
+    sym (control_of_frame (find (has_number n) after))
+    ∙ ap (λ (o : Option (Shoen CellName)). option_map (λ (h : Shoen CellName). h.control) o) (found_stays frame 0 n before after (λ h. refl) a p low (omega (arith, high)))
+    ∙ control_of_frame (find (has_number n) before)
