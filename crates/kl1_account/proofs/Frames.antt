@@ -1,14 +1,17 @@
 -- What stays of shoens through what goals do and monitors read.
-use Rattle.std.proofs.Common.{◌≡◌, ℕ, suc, ◌+◌, ◌<◌, ◌≤◌, ◌==◌, Bool, true, false, if◌then◌else◌, List, [], ◌∷◌, ◌++◌, length, refl, sym, ap, ◌∙◌, subst, arith}
-use Rattle.std.specs.Prelude.{find, Option, Some, None, option_map}
-use Rattle.std.proofs.lemmas.Bool.{eqb-false}
+use Rattle.std.proofs.Common.{◌≡◌, ℕ, suc, ◌+◌, ◌<◌, ◌≤◌, ◌==◌, ◌||◌, ◌&&◌, not, Bool, true, false, if◌then◌else◌, List, [], ◌∷◌, ◌++◌, length, refl, sym, ap, ap₂, ◌∙◌, subst, arith}
+use Rattle.std.specs.Prelude.{find, filter, Option, Some, None, option_map, OnOk}
+use Rattle.core.specs.declared.result.Result.{Result}
+use Rattle.core.specs.declared.result.Result.TheVariants.{Ok, Err}
+use Rattle.std.proofs.lemmas.Bool.{eqb-false, eqb-true}
+use Rattle.kl1_model.specs.Module.{is_among}
 use Rattle.kl1_text.specs.declared.cell_name.CellName.{CellName}
 use Rattle.kl1_store.specs.declared.cell.Cell.{Cell}
 use Rattle.kl1_shoen.specs.declared.shoen.Shoen.{Shoen}
-use Rattle.kl1_shoen.specs.Shoens.{Tree, has_number, changed, AreNumbered}
+use Rattle.kl1_shoen.specs.Shoens.{Tree, has_number, changed, AreNumbered, path_in, has_reached_in}
 use Rattle.kl1_account.specs.Settled.{control_at}
-use Rattle.kl1_account.specs.Walks.{terminated, ended_in}
-use Rattle.kl1_account.specs.Frames.{bare, frame, KeepsBy, KeepsFrames, KeepsLives, Stays}
+use Rattle.kl1_account.specs.Walks.{terminated, ended_in, reached_in}
+use Rattle.kl1_account.specs.Frames.{bare, frame, KeepsBy, KeepsFrames, KeepsLives, Stays, NoneReached}
 
 -- ---- lists
 
@@ -86,3 +89,55 @@ controls_stay n before after a p low high =
     sym (control_of_frame (find (has_number n) after))
     ∙ ap (λ (o : Option (Shoen CellName)). option_map (λ (h : Shoen CellName). h.control) o) (found_stays frame 0 n before after (λ h. refl) a p low (omega (arith, high)))
     ∙ control_of_frame (find (has_number n) before)
+
+-- ---- what is so where there was no want of memory
+
+pub on_ok_both : {T E P Q R : Type 0} (r : Result T E) → (P → Q → R) → OnOk r P → OnOk r Q → OnOk r R
+on_ok_both (Ok x) f p q = f p q
+on_ok_both (Err e) f p q = tt
+
+-- ---- shoens that end
+
+tree_of_ended : (t u : Tree CellName) (ns : List ℕ) → ns ≡ [] → u ≡ record t { shoens = ended_in ns t.shoens } → u ≡ t
+tree_of_ended t u ns none is = is ∙ ap (λ (ks : List ℕ). let z : Tree CellName = record t { shoens = ended_in ks t.shoens } in z) none
+
+-- as many more that none is one of them
+pub none_more : (ns xs ys : List ℕ) → length xs + length ns ≤ length ys → ys ≡ xs → ns ≡ []
+none_more [] xs ys le e = refl
+none_more (n ∷ ns) xs ys le e = let same : length ys ≡ length xs = ap (λ (zs : List ℕ). length zs) e in absurd (omega (arith, le, same))
+
+pub settled_frames : (t u v : Tree CellName) (ending : List ℕ) → u ≡ record t { shoens = ended_in ending t.shoens } → Stays u v → KeepsFrames t.shoens v.shoens
+settled_frames t u v ending is s =
+    let P : List (Shoen CellName) → Type 0 = λ ss. KeepsFrames ss v.shoens in
+    keeps_then frame t.shoens (ended_in ending t.shoens) v.shoens (ended_frames ending t.shoens) (subst P (ap (λ (x : Tree CellName). x.shoens) is) (lives_frames u.shoens v.shoens s.shoens))
+
+pub settled_stays : (t u v : Tree CellName) (ending xs ys : List ℕ) → u ≡ record t { shoens = ended_in ending t.shoens } → Stays u v → length xs + length ending ≤ length ys → ys ≡ xs → Stays t v
+settled_stays t u v ending xs ys is s le e =
+    let P : Tree CellName → Type 0 = λ x. Stays x v in
+    subst P (tree_of_ended t u ending (none_more ending xs ys le e) is) s
+
+-- what was charged stays where shoens end
+pub settled_work : (t u v : Tree CellName) (ending : List ℕ) → u ≡ record t { shoens = ended_in ending t.shoens } → Stays u v → v.work ≡ t.work
+settled_work t u v ending is s = s.work ∙ ap (λ (x : Tree CellName). x.work) is
+
+none_among : (p : ℕ → Bool) (ns : List ℕ) (a : ℕ) → filter p ns ≡ [] → is_among a ns ≡ true → p a ≡ false
+none_among p [] a e i = absurd (cc)
+none_among p (n ∷ ns) a e i = by_case (p n) (a == n) refl refl e i (none_among p ns a)
+  where
+    by_case : (b d : Bool) → p n ≡ b → (a == n) ≡ d → (if b then n ∷ filter p ns else filter p ns) ≡ [] → (d || is_among a ns) ≡ true → (filter p ns ≡ [] → is_among a ns ≡ true → p a ≡ false) → p a ≡ false
+    by_case true d r q e i k = absurd (cc)
+    by_case false true r q e i k = ap p (eqb-true a n q) ∙ r
+    by_case false false r q e i k = k e i
+
+and_true : (b : Bool) → (b && true) ≡ false → b ≡ false
+and_true true e = e
+and_true false e = refl
+
+-- no shoen on the path has been charged just what it may be, where none is put down and none ends
+pub none_reached : (t u : Tree CellName) (n : ℕ) (ending reached xs ys : List ℕ) → u ≡ record t { shoens = ended_in ending t.shoens } → reached ≡ reached_in u.shoens u.work ending (path_in u.shoens n) → length xs + length ending ≤ length ys → ys ≡ xs → reached ≡ [] → NoneReached t n
+none_reached t u n ending reached xs ys is r le e none a on =
+    let empty = none_more ending xs ys le e in
+    let same = tree_of_ended t u ending empty is in
+    let P : Tree CellName → List ℕ → List ℕ = λ x ns. reached_in x.shoens x.work ns (path_in x.shoens n) in
+    let nothing : reached_in t.shoens t.work [] (path_in t.shoens n) ≡ [] = sym (ap₂ P same empty) ∙ sym r ∙ none in
+    and_true (has_reached_in t.shoens t.work a) (none_among (λ m. has_reached_in t.shoens t.work m && not (is_among m [])) (path_in t.shoens n) a nothing on)

@@ -3,6 +3,7 @@ use Rattle.kl1_model.specs.Text.{text_of}
 use Rattle.kl1_model.specs.Term.{atom}
 use Rattle.kl1_store.proofs.Grows.{Grown-trans}
 use Rattle.kl1_account.proofs.Finishing.{next_report, all_reports, back_then, told_then}
+use Rattle.kl1_account.proofs.Frames.{stays_same, stays_then}
 use Rattle.kl1_account.proofs.reporting.report_each.Goals as goal
 
 pub loop-number-preserved : goal.loop-number-preserved
@@ -13,6 +14,7 @@ loop-number-preserved c =
       drafts = next_report c.args.store.now.held c.loop-number.store.held c.report_name.new.store.held c.args.shoens.now c.loop-number.shoens c.report_name.new.shoens c.args.draft.now c.loop-number.draft c.report_name.new.draft c.args.numbers.now c.loop-number.number-index (atom (text_of c.args.name)) c.loop-number-test.true i.drafts next.ok;
       shoens = next.shoens;
       back = back_then c.args.shoens.now c.loop-number.shoens c.report_name.new.shoens i.back next.back;
+      stays = stays_then c.args.shoens.now c.loop-number.shoens c.report_name.new.shoens i.stays next.stays;
       rest = told_then c.args.draft.now c.loop-number.draft c.report_name.new.draft i.rest next.rest;
       grown = Grown-trans c.args.store.now.held c.loop-number.store.held c.report_name.new.store.held i.grown next.grown;
       hooks = next.hooks ∙ i.hooks;
