@@ -58,3 +58,4 @@ pub mod Flags
 pub mod Statuses
 pub mod Listing
 pub mod Frames
+pub mod FlagsKept
