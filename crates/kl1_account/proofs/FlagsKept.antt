@@ -24,6 +24,7 @@ later (x ∷ xs) [] = []
 later (x ∷ xs) (y ∷ ys) = later xs ys
 
 parents_stay : (xs ys : List (Shoen CellName)) → KeepsLives xs ys → parents_in ys ≡ parents_in xs ++ parents_in (later xs ys)
+unfolding later
 parents_stay [] ys p = refl
 parents_stay (x ∷ xs) [] p = absurd p
 parents_stay (x ∷ xs) (y ∷ ys) p = ap₂ (λ (n : ℕ) (ns : List ℕ). n ∷ ns) (ap (λ (h : Shoen CellName). h.parent) p.0) (parents_stay xs ys p.1)

@@ -64,6 +64,6 @@ returns-clause-flags c =
     let moved_draft : c.do_move.new.draft.ended.items ≡ c.args.draft.now.ended.items = ap (λ (x : Draft). x.ended.items) c.in_ok-do_move.ensures.moved in
     on_ok_both c.settle_charged.result
     (λ lives none may all same nothing.
-    act_flags t c.charge.new.self c.do_move.new.shoens c.settle_charged.new.shoens c.args.goal.shoen c.len-_numbered.ensures.numbered c.len-_numbered.ensures.lower all (omega (arith, high)) may c.in_ok-charge.ensures.ok c.in_ok-do_move.ensures.stays
+    act_flags t c.charge.new.self c.do_move.new.shoens c.settle_charged.new.shoens c.args.goal.shoen c.len-numbered.ensures.numbered c.len-numbered.ensures.lower all (omega (arith, high)) may c.in_ok-charge.ensures.ok c.in_ok-do_move.ensures.stays
     (lives (same ∙ sym moved_draft)) (none (same ∙ sym moved_draft) nothing))
     c.settle_charged.ensures.lives c.settle_charged.ensures.none

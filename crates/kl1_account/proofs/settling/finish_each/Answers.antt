@@ -1,7 +1,7 @@
-use Rattle.std.proofs.Common.{◌≡◌, ◌+◌, ℕ, List, length, get_or, ap, ◌∙◌, arith}
+use Rattle.std.proofs.Common.{refl, ◌≡◌, ◌+◌, ℕ, List, length, get_or, ap, ◌∙◌, arith}
 use Rattle.std.proofs.lemmas.List.{length_push}
-use Rattle.kl1_store.proofs.Grows.{Grown-trans}
-use Rattle.kl1_account.proofs.Finishing.{next_finish, all_finished, back_then, done_then}
+use Rattle.kl1_store.proofs.Grows.{Grown-trans, Grown-same}
+use Rattle.kl1_account.proofs.Finishing.{drafts_none, next_finish, all_finished, back_then, done_then}
 use Rattle.kl1_account.proofs.Frames.{stays_same, stays_then}
 use Rattle.kl1_account.proofs.settling.finish_each.Goals as goal
 
@@ -27,3 +27,15 @@ returns-clause-ok c = all_finished c.args.store.now.held c.loop-number.store.hel
 
 pub returns-clause-ended : goal.returns-clause-ended
 returns-clause-ended c = let so = c.loop-number.invariant.ended in omega (arith, so, c.loop-number-test.false)
+
+pub loop-number-init : goal.loop-number-init
+loop-number-init c = record {
+  drafts = drafts_none c.args.store.now.held c.args.shoens.now c.args.draft.now;
+  shoens = c.requires.shoens;
+  back = record { shoens = refl; work = refl };
+  stays = stays_same c.args.shoens.now;
+  ended = omega arith;
+  rest = refl;
+  grown = Grown-same c.args.store.now.held;
+  hooks = refl;
+}
