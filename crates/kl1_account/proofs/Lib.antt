@@ -59,3 +59,4 @@ pub mod Statuses
 pub mod Listing
 pub mod Frames
 pub mod FlagsKept
+pub mod Outlines

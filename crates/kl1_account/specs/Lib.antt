@@ -23,3 +23,4 @@ pub mod Starting
 pub mod Wholes
 pub mod Asked
 pub mod Frames
+pub mod Outlines

@@ -11,6 +11,7 @@ ghost use Rattle.kl1_account.specs.Kept.{IsOwned, AreShoensIn};
 ghost use Rattle.kl1_account.specs.Drafts.{goals_left, HasBegun, CanGoBack};
 ghost use Rattle.kl1_account.specs.Acting.{Acts, Reads};
 ghost use Rattle.kl1_account.specs.Frames.{KeepsFrames, SameFlags};
+ghost use Rattle.kl1_account.specs.Outlines.{KeepsOthers};
 ghost use Rattle.kl1_shoen.specs.Shoens.{is_enabled_at};
 ghost use Rattle.std.specs.List.{AllByRecursion};
 ghost use Rattle.std.specs.Prelude.{◌≤◌, ◌∷◌, true};
@@ -91,10 +92,12 @@ pub(crate) fn read(
     ensures ok { OnOk result ((names : List (List ℕ)) → Reads number control goals.now.goals names store.old.held store.new.held shoens.old shoens.new draft.old draft.new) }
     ensures shoens { OnOk result (AreShoensIn store.new.held shoens.new.shoens) }
     ensures back { CanGoBack shoens.old shoens.new }
+    ensures controls { OnOk result (KeepsOthers number shoens.old.shoens shoens.new.shoens) }
     ensures grown { Grown store.old.held store.new.held }
     ensures hooks { store.new.hooks ≡ store.old.hooks }
 {
     let _formed = store.mark();
+    let _numbered = shoens.len();
     hear(store, shoens, draft, number, control)?;
     settle(store, goals, shoens, draft, walk, number)
 }

@@ -1,3 +1,4 @@
+use Rattle.kl1_account.proofs.Outlines.{outlines_told, outlines_aborted}
 use Rattle.std.proofs.Common.{true, refl}
 use Rattle.std.proofs.lemmas.Result.{on_ok_weaker}
 use Rattle.kl1_shoen.specs.Shoens.{aborted_below_in}
@@ -21,4 +22,11 @@ returns-clause-ok c =
     (λ closing. drafts_aborted h c.report_name.new.store.held c.close.new.store.held t c.abort.new.self c.report_name.new.shoens d e c.report_name.new.draft c.args.number
     (drafts_ended_below h t c.abort.new.self d e c.args.number c.len-numbered.ensures.numbered c.requires.none c.requires.early c.in_ok-below.ensures refl c.in_ok-abort.ensures.ok)
     c.in_ok-report_name.ensures.ok (closing c.report_name.new.draft))
+    c.close.ensures.ok
+
+pub returns-clause-outlines : goal.returns-clause-outlines
+returns-clause-outlines c =
+    let n = c.args.number in
+    on_ok_weaker c.close.result
+    (λ closing. outlines_told n c.args.shoens.now c.abort.new.self c.report_name.new.shoens (outlines_aborted n n c.args.shoens.now c.abort.new.self c.in_ok-abort.ensures.ok) c.in_ok-report_name.ensures.stays)
     c.close.ensures.ok
