@@ -12,8 +12,8 @@ use Rattle.kl1_text.specs.declared.cell_name.CellName.{CellName}
 use Rattle.kl1_shoen.specs.declared.shoen.Shoen.{Shoen}
 use Rattle.kl1_shoen.specs.Shoens.{Tree, has_number, AreNumbered, AreLower, parents_in, path_in, is_on_path_in, charged_in, is_exhausted_in, is_blocking_in, is_blocking_at, is_enabled_at, has_reached_in}
 use Rattle.kl1_shoen.proofs.Paths.{path_among}
-use Rattle.kl1_account.specs.Frames.{bare, KeepsLives, Stays, SameFlags, NoneReached}
-use Rattle.kl1_account.proofs.Frames.{found_stays, stays_then}
+use Rattle.kl1_account.specs.Frames.{plain, KeepsBy, IsCalm, Stays, SameFlags, NoneReached}
+use Rattle.kl1_account.proofs.Frames.{found_stays, stays_then, lives_plain}
 use Rattle.kl1_account.proofs.FlagsStay.{ExhaustsNone, flags_stay}
 
 -- ---- paths and charges stay
@@ -23,7 +23,7 @@ later [] ys = ys
 later (x ∷ xs) [] = []
 later (x ∷ xs) (y ∷ ys) = later xs ys
 
-parents_stay : (xs ys : List (Shoen CellName)) → KeepsLives xs ys → parents_in ys ≡ parents_in xs ++ parents_in (later xs ys)
+parents_stay : (xs ys : List (Shoen CellName)) → KeepsBy plain xs ys → parents_in ys ≡ parents_in xs ++ parents_in (later xs ys)
 unfolding later
 parents_stay [] ys p = refl
 parents_stay (x ∷ xs) [] p = absurd p
@@ -33,12 +33,12 @@ as_many : (ss : List (Shoen CellName)) → length (parents_in ss) ≡ length ss
 as_many [] = refl
 as_many (s ∷ ss) = ap suc (as_many ss)
 
-path_stays : (xs ys : List (Shoen CellName)) (n : ℕ) → KeepsLives xs ys → AreLower xs → n ≤ length xs → path_in ys n ≡ path_in xs n
+path_stays : (xs ys : List (Shoen CellName)) (n : ℕ) → KeepsBy plain xs ys → AreLower xs → n ≤ length xs → path_in ys n ≡ path_in xs n
 path_stays xs ys n p lower le =
     let e = as_many xs in
     ap (λ ps. path_within n ps n) (parents_stay xs ys p) ∙ path_among (parents_in xs) (parents_in (later xs ys)) lower n n (omega (arith, e, le))
 
-charged_stays : (xs ys : List (Shoen CellName)) (a : ℕ) (work : List ℕ) → KeepsLives xs ys → AreLower xs → AllByRecursion (λ w. w ≤ length xs) work → charged_in ys work a ≡ charged_in xs work a
+charged_stays : (xs ys : List (Shoen CellName)) (a : ℕ) (work : List ℕ) → KeepsBy plain xs ys → AreLower xs → AllByRecursion (λ w. w ≤ length xs) work → charged_in ys work a ≡ charged_in xs work a
 charged_stays xs ys a [] p lower all = refl
 charged_stays xs ys a (w ∷ ws) p lower all =
     sum_by-cons (λ v. cond (is_on_path_in ys a v) 1 0) w ws
@@ -47,14 +47,14 @@ charged_stays xs ys a (w ∷ ws) p lower all =
 
 -- ---- what a shoen holds back stays
 
-blocking_bare : (ss : List (Shoen CellName)) (work : List ℕ) (o : Option (Shoen CellName)) → unwrap_or (option_map (is_blocking_in ss work) (option_map bare o)) false ≡ unwrap_or (option_map (is_blocking_in ss work) o) false
+blocking_bare : (ss : List (Shoen CellName)) (work : List ℕ) (o : Option (Shoen CellName)) → unwrap_or (option_map (is_blocking_in ss work) (option_map plain o)) false ≡ unwrap_or (option_map (is_blocking_in ss work) o) false
 blocking_bare ss work None = refl
 blocking_bare ss work (Some h) = refl
 
-blocking_stays : (xs ys : List (Shoen CellName)) (work : List ℕ) (n : ℕ) → KeepsLives xs ys → AreNumbered 0 xs → AreLower xs → AllByRecursion (λ w. w ≤ length xs) work → 0 < n → n ≤ length xs → is_blocking_at ys work n ≡ is_blocking_at xs work n
+blocking_stays : (xs ys : List (Shoen CellName)) (work : List ℕ) (n : ℕ) → KeepsBy plain xs ys → AreNumbered 0 xs → AreLower xs → AllByRecursion (λ w. w ≤ length xs) work → 0 < n → n ≤ length xs → is_blocking_at ys work n ≡ is_blocking_at xs work n
 blocking_stays xs ys work n p numbered lower all low high =
     sym (blocking_bare ys work (find (has_number n) ys))
-    ∙ ap (λ (o : Option (Shoen CellName)). unwrap_or (option_map (is_blocking_in ys work) o) false) (found_stays bare 0 n xs ys (λ h. refl) numbered p low (omega (arith, high)))
+    ∙ ap (λ (o : Option (Shoen CellName)). unwrap_or (option_map (is_blocking_in ys work) o) false) (found_stays plain 0 n xs ys (λ h. refl) numbered p low (omega (arith, high)))
     ∙ blocking_bare ys work (find (has_number n) xs)
     ∙ by_case (find (has_number n) xs)
   where
@@ -62,15 +62,15 @@ blocking_stays xs ys work n p numbered lower all low high =
     by_case None = refl
     by_case (Some x) = ap (λ c. x.is_stopped || not (is_living x.life) || nat_le x.allowance c) (charged_stays xs ys x.number work p lower all)
 
-reached_bare : (c : ℕ) (o : Option (Shoen CellName)) → unwrap_or (option_map (λ (h : Shoen CellName). h.allowance == c) (option_map bare o)) false ≡ unwrap_or (option_map (λ (h : Shoen CellName). h.allowance == c) o) false
+reached_bare : (c : ℕ) (o : Option (Shoen CellName)) → unwrap_or (option_map (λ (h : Shoen CellName). h.allowance == c) (option_map plain o)) false ≡ unwrap_or (option_map (λ (h : Shoen CellName). h.allowance == c) o) false
 reached_bare c None = refl
 reached_bare c (Some h) = refl
 
-reached_stays : (xs ys : List (Shoen CellName)) (work : List ℕ) (n : ℕ) → KeepsLives xs ys → AreNumbered 0 xs → AreLower xs → AllByRecursion (λ w. w ≤ length xs) work → 0 < n → n ≤ length xs → has_reached_in ys work n ≡ has_reached_in xs work n
+reached_stays : (xs ys : List (Shoen CellName)) (work : List ℕ) (n : ℕ) → KeepsBy plain xs ys → AreNumbered 0 xs → AreLower xs → AllByRecursion (λ w. w ≤ length xs) work → 0 < n → n ≤ length xs → has_reached_in ys work n ≡ has_reached_in xs work n
 reached_stays xs ys work n p numbered lower all low high =
     let c = charged_in ys work n in
     sym (reached_bare c (find (has_number n) ys))
-    ∙ ap (λ (o : Option (Shoen CellName)). unwrap_or (option_map (λ (h : Shoen CellName). h.allowance == c) o) false) (found_stays bare 0 n xs ys (λ h. refl) numbered p low (omega (arith, high)))
+    ∙ ap (λ (o : Option (Shoen CellName)). unwrap_or (option_map (λ (h : Shoen CellName). h.allowance == c) o) false) (found_stays plain 0 n xs ys (λ h. refl) numbered p low (omega (arith, high)))
     ∙ reached_bare c (find (has_number n) xs)
     ∙ ap (λ (m : ℕ). unwrap_or (option_map (λ (h : Shoen CellName). h.allowance == m) (find (has_number n) xs)) false) (charged_stays xs ys n work p lower all)
 
@@ -86,13 +86,13 @@ any_same : (p q : ℕ → Bool) (most : ℕ) (ns : List ℕ) → ((n : ℕ) → 
 any_same p q most [] e all = refl
 any_same p q most (n ∷ ns) e all = ap₂ (λ b c. b || c) (e n all.0.0 all.0.1) (any_same p q most ns e all.1)
 
-pub enabled_stays : (xs ys : List (Shoen CellName)) (work : List ℕ) (n : ℕ) → KeepsLives xs ys → AreNumbered 0 xs → AreLower xs → AllByRecursion (λ w. w ≤ length xs) work → n ≤ length xs → is_enabled_at ys work n ≡ is_enabled_at xs work n
+pub enabled_stays : (xs ys : List (Shoen CellName)) (work : List ℕ) (n : ℕ) → KeepsBy plain xs ys → AreNumbered 0 xs → AreLower xs → AllByRecursion (λ w. w ≤ length xs) work → n ≤ length xs → is_enabled_at ys work n ≡ is_enabled_at xs work n
 enabled_stays xs ys work n p numbered lower all le =
     ap (λ ns. not (list_any (is_blocking_at ys work) ns)) (path_stays xs ys n p lower le)
     ∙ ap (λ b. not b) (any_same (is_blocking_at ys work) (is_blocking_at xs work) (length xs) (path_in xs n) (λ k low high. blocking_stays xs ys work k p numbered lower all low high) (path_up (length xs) (parents_in xs) lower n n le))
 
 -- the same of trees
-pub same_flags : (t u : Tree CellName) → AreNumbered 0 t.shoens → AreLower t.shoens → AllByRecursion (λ w. w ≤ length t.shoens) t.work → Stays t u → SameFlags t u
+pub same_flags : (t u : Tree CellName) → AreNumbered 0 t.shoens → AreLower t.shoens → AllByRecursion (λ w. w ≤ length t.shoens) t.work → IsCalm t u → SameFlags t u
 same_flags t u numbered lower all stays n le =
     ap (λ (work : List ℕ). is_enabled_at u.shoens work n) stays.work
     ∙ enabled_stays t.shoens u.shoens t.work n stays.shoens numbered lower all le
@@ -146,10 +146,10 @@ act_flags t u v y n numbered lower all high may is first last none m le =
     let unreached : (a : ℕ) → is_among a (path_in ss n) ≡ true → has_reached_in ss work a ≡ false =
     λ a on.
     let range = among_all (length ss) a (path_in ss n) up on in
-    sym (reached_stays ss v.shoens work a so.shoens numbered lower more range.0 range.1)
+    sym (reached_stays ss v.shoens work a (lives_plain ss v.shoens so.shoens) numbered lower more range.0 range.1)
     ∙ ap (λ (ws : List ℕ). has_reached_in v.shoens ws a) (sym so.work)
-    ∙ none a (ap (is_among a) (path_stays ss v.shoens n so.shoens lower high) ∙ on)
+    ∙ none a (ap (is_among a) (path_stays ss v.shoens n (lives_plain ss v.shoens so.shoens) lower high) ∙ on)
     in
     ap (λ (ws : List ℕ). is_enabled_at y.shoens ws m) all_so.work
-    ∙ enabled_stays ss y.shoens work m all_so.shoens numbered lower more le
+    ∙ enabled_stays ss y.shoens work m (lives_plain ss y.shoens all_so.shoens) numbered lower more le
     ∙ flags_stay ss t.work n m (exhausts_none ss t.work n may unreached)

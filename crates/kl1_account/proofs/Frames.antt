@@ -11,7 +11,7 @@ use Rattle.kl1_shoen.specs.declared.shoen.Shoen.{Shoen}
 use Rattle.kl1_shoen.specs.Shoens.{Tree, has_number, changed, AreNumbered, path_in, has_reached_in}
 use Rattle.kl1_account.specs.Settled.{control_at}
 use Rattle.kl1_account.specs.Walks.{terminated, ended_in, reached_in}
-use Rattle.kl1_account.specs.Frames.{bare, frame, KeepsBy, KeepsFrames, KeepsLives, Stays, NoneReached}
+use Rattle.kl1_account.specs.Frames.{bare, frame, KeepsBy, KeepsFrames, KeepsLives, Stays, NoneReached, plain, IsCalm}
 
 -- ---- lists
 
@@ -141,3 +141,29 @@ none_reached t u n ending reached xs ys is r le e none a on =
     let P : Tree CellName → List ℕ → List ℕ = λ x ns. reached_in x.shoens x.work ns (path_in x.shoens n) in
     let nothing : reached_in t.shoens t.work [] (path_in t.shoens n) ≡ [] = sym (ap₂ P same empty) ∙ sym r ∙ none in
     and_true (has_reached_in t.shoens t.work a) (none_among (λ m. has_reached_in t.shoens t.work m && not (is_among m [])) (path_in t.shoens n) a nothing on)
+
+-- ---- all by which goals may step
+
+pub lives_plain : (xs ys : List (Shoen CellName)) → KeepsLives xs ys → KeepsBy plain xs ys
+lives_plain [] ys p = tt
+lives_plain (x ∷ xs) [] p = absurd p
+lives_plain (x ∷ xs) (y ∷ ys) p = (ap plain p.0, lives_plain xs ys p.1)
+
+pub calm_same : (t : Tree CellName) → IsCalm t t
+calm_same t = record { shoens = keeps_same plain t.shoens; work = refl }
+
+pub calm_then : (t u v : Tree CellName) → IsCalm t u → IsCalm u v → IsCalm t v
+calm_then t u v p q = record { shoens = keeps_then plain t.shoens u.shoens v.shoens p.shoens q.shoens; work = q.work ∙ p.work }
+
+pub stays_calm : (t u : Tree CellName) → Stays t u → IsCalm t u
+stays_calm t u p = record { shoens = lives_plain t.shoens u.shoens p.shoens; work = p.work }
+
+pub calm_controlled : (n : ℕ) (x : Cell CellName) (t u : Tree CellName) → u ≡ record t { shoens = changed n (λ h. record h { control = x }) t.shoens } → IsCalm t u
+calm_controlled n x t u is =
+    let P : Tree CellName → Type 0 = λ y. IsCalm t y in
+    subst P (sym is) (record { shoens = keeps_changed plain (λ h. record h { control = x }) n t.shoens (λ h. refl); work = refl })
+
+-- none where there are no more than none
+pub still_none : (xs ys : List ℕ) → length xs ≤ length ys → ys ≡ [] → xs ≡ []
+still_none [] ys le e = refl
+still_none (x ∷ xs) ys le e = let same : length ys ≡ 0 = ap (λ (zs : List ℕ). length zs) e in absurd (omega (arith, le, same))

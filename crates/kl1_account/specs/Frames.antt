@@ -3,6 +3,7 @@ use Rattle.std.specs.Prelude.{◌≡◌, ℕ, ◌<◌, ◌≤◌, Bool, true, fa
 use Rattle.kl1_model.specs.declared.life.Life.TheVariants.{Living}
 use Rattle.kl1_model.specs.Module.{is_among}
 use Rattle.kl1_text.specs.declared.cell_name.CellName.{CellName}
+use Rattle.kl1_store.specs.declared.cell.Cell.TheVariants.{Variable}
 use Rattle.kl1_shoen.specs.declared.shoen.Shoen.{Shoen}
 use Rattle.kl1_shoen.specs.Shoens.{Tree, path_in, is_enabled_at, has_reached_in}
 
@@ -40,3 +41,12 @@ SameFlags t u = (n : ℕ) → n ≤ length t.shoens → is_enabled_at u.shoens u
 -- no shoen on the path of one was charged just what it may be
 abbrev pub NoneReached : Tree CellName → ℕ → Type 0
 NoneReached t n = (a : ℕ) → is_among a (path_in t.shoens n) ≡ true → has_reached_in t.shoens t.work a ≡ false
+
+-- a shoen without what reports change, without what the console keeps and without what is left of its control stream
+abbrev pub plain : Shoen CellName → Shoen CellName
+plain h = record h { tail = Variable 0; is_broken = false; origin = None; control = Variable 0 }
+
+-- in a tree all stays of the shoens that were there by which goals may step, and what was charged stays
+pub record IsCalm (t u : Tree CellName) : Type 0 where
+  pub shoens : KeepsBy plain t.shoens u.shoens
+  pub work : u.work ≡ t.work

@@ -14,7 +14,7 @@ ghost use Rattle.kl1_account.specs.Frames.{KeepsFrames, SameFlags};
 ghost use Rattle.kl1_account.specs.Outlines.{KeepsOthers};
 ghost use Rattle.kl1_shoen.specs.Shoens.{is_enabled_at};
 ghost use Rattle.std.specs.List.{AllByRecursion};
-ghost use Rattle.std.specs.Prelude.{◌≤◌, ◌∷◌, true};
+ghost use Rattle.std.specs.Prelude.{◌≤◌, ◌∷◌, true, false};
 
 use crate::draft::Draft;
 use crate::moving::do_move;
@@ -92,6 +92,7 @@ pub(crate) fn read(
     ensures ok { OnOk result ((names : List (List ℕ)) → Reads number control goals.now.goals names store.old.held store.new.held shoens.old shoens.new draft.old draft.new) }
     ensures shoens { OnOk result (AreShoensIn store.new.held shoens.new.shoens) }
     ensures back { CanGoBack shoens.old shoens.new }
+    ensures flags { OnOk result (AllByRecursion (λ w. w ≤ length shoens.old.shoens) shoens.old.work → draft.new.shifts ≡ false → draft.new.ended.items ≡ [] → SameFlags shoens.old shoens.new) }
     ensures controls { OnOk result (KeepsOthers number shoens.old.shoens shoens.new.shoens) }
     ensures grown { Grown store.old.held store.new.held }
     ensures hooks { store.new.hooks ≡ store.old.hooks }

@@ -8,6 +8,8 @@ ghost use Rattle.kl1_store.specs.Sound.{Grown};
 ghost use Rattle.kl1_stream.specs.Controls.{control_as, ControlIn};
 ghost use Rattle.kl1_account.specs.Kept.{AreShoensIn};
 ghost use Rattle.kl1_account.specs.Drafts.{DraftsAll, CanGoBack};
+ghost use Rattle.kl1_account.specs.Frames.{IsCalm};
+ghost use Rattle.std.specs.Prelude.{false};
 ghost use Rattle.kl1_account.specs.Outlines.{KeepsOutlines};
 
 use crate::draft::Draft;
@@ -31,6 +33,7 @@ fn stop(
     ensures shoens { OnOk result (AreShoensIn store.new.held shoens.new.shoens) }
     ensures back { CanGoBack shoens.old shoens.new }
     ensures outlines { OnOk result (KeepsOutlines number shoens.old.shoens shoens.new.shoens) }
+    ensures calm { OnOk result (draft.new.shifts ≡ false → IsCalm shoens.old shoens.new) }
     ensures rest { draft.new ≡ record draft.old { reports = draft.new.reports; shifts = draft.new.shifts } }
     ensures grown { Grown store.old.held store.new.held }
     ensures hooks { store.new.hooks ≡ store.old.hooks }
@@ -59,6 +62,7 @@ fn resume(
     ensures shoens { OnOk result (AreShoensIn store.new.held shoens.new.shoens) }
     ensures back { CanGoBack shoens.old shoens.new }
     ensures outlines { OnOk result (KeepsOutlines number shoens.old.shoens shoens.new.shoens) }
+    ensures calm { OnOk result (draft.new.shifts ≡ false → IsCalm shoens.old shoens.new) }
     ensures rest { draft.new ≡ record draft.old { reports = draft.new.reports; shifts = draft.new.shifts } }
     ensures grown { Grown store.old.held store.new.held }
     ensures hooks { store.new.hooks ≡ store.old.hooks }
@@ -90,6 +94,7 @@ fn abort(
     ensures shoens { OnOk result (AreShoensIn store.new.held shoens.new.shoens) }
     ensures back { CanGoBack shoens.old shoens.new }
     ensures outlines { OnOk result (KeepsOutlines number shoens.old.shoens shoens.new.shoens) }
+    ensures calm { OnOk result (draft.new.shifts ≡ false → IsCalm shoens.old shoens.new) }
     ensures rest { draft.new ≡ record draft.old { reports = draft.new.reports; shifts = draft.new.shifts; aborted = draft.new.aborted } }
     ensures grown { Grown store.old.held store.new.held }
     ensures hooks { store.new.hooks ≡ store.old.hooks }
@@ -114,6 +119,7 @@ fn allow(
     ensures shoens { (h : Held CellName) → AreShoensIn h shoens.old.shoens → OnOk result (AreShoensIn h shoens.new.shoens) }
     ensures back { CanGoBack shoens.old shoens.new }
     ensures outlines { OnOk result (KeepsOutlines number shoens.old.shoens shoens.new.shoens) }
+    ensures calm { OnOk result (draft.new.shifts ≡ false → IsCalm shoens.old shoens.new) }
     ensures rest { draft.new ≡ record draft.old { shifts = draft.new.shifts } }
 {
     draft.shifts = true;
@@ -136,6 +142,7 @@ pub(crate) fn obey(
     ensures shoens { OnOk result (AreShoensIn store.new.held shoens.new.shoens) }
     ensures back { CanGoBack shoens.old shoens.new }
     ensures outlines { OnOk result (KeepsOutlines number shoens.old.shoens shoens.new.shoens) }
+    ensures calm { OnOk result (draft.new.shifts ≡ false → IsCalm shoens.old shoens.new) }
     ensures rest { draft.new ≡ record draft.old { reports = draft.new.reports; shifts = draft.new.shifts; aborted = draft.new.aborted } }
     ensures grown { Grown store.old.held store.new.held }
     ensures hooks { store.new.hooks ≡ store.old.hooks }
@@ -175,6 +182,7 @@ pub(crate) fn hear(
     ensures shoens { OnOk result (AreShoensIn store.new.held shoens.new.shoens) }
     ensures back { CanGoBack shoens.old shoens.new }
     ensures outlines { OnOk result (KeepsOutlines number shoens.old.shoens shoens.new.shoens) }
+    ensures calm { OnOk result (draft.new.shifts ≡ false → IsCalm shoens.old shoens.new) }
     ensures rest { draft.new ≡ record draft.old { reports = draft.new.reports; shifts = draft.new.shifts; aborted = draft.new.aborted; ended = draft.new.ended } }
     ensures grown { Grown store.old.held store.new.held }
     ensures hooks { store.new.hooks ≡ store.old.hooks }

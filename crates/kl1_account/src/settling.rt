@@ -252,6 +252,7 @@ pub(crate) fn settle(
     ensures shoens { OnOk result (AreShoensIn store.new.held shoens.new.shoens) }
     ensures back { CanGoBack shoens.old shoens.new }
     ensures frames { OnOk result (KeepsFrames shoens.old.shoens shoens.new.shoens) }
+    ensures more { OnOk result (length draft.old.ended.items ≤ length draft.new.ended.items) }
     ensures lives { OnOk result (draft.new.ended.items ≡ draft.old.ended.items → Stays shoens.old shoens.new) }
     ensures rest { draft.new ≡ record draft.old { reports = draft.new.reports; ended = draft.new.ended } }
     ensures grown { Grown store.old.held store.new.held }

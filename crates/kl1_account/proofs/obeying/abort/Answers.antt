@@ -1,3 +1,5 @@
+use Rattle.std.proofs.Common.{◌≡◌, ap, sym, ◌∙◌, false}
+use Rattle.kl1_account.specs.declared.draft.Draft.{Draft}
 use Rattle.kl1_account.proofs.Outlines.{outlines_told, outlines_aborted}
 use Rattle.std.proofs.Common.{true, refl}
 use Rattle.std.proofs.lemmas.Result.{on_ok_weaker}
@@ -30,3 +32,6 @@ returns-clause-outlines c =
     on_ok_weaker c.close.result
     (λ closing. outlines_told n c.args.shoens.now c.abort.new.self c.report_name.new.shoens (outlines_aborted n n c.args.shoens.now c.abort.new.self c.in_ok-abort.ensures.ok) c.in_ok-report_name.ensures.stays)
     c.close.ensures.ok
+
+pub returns-clause-calm : goal.returns-clause-calm
+returns-clause-calm c = on_ok_weaker c.close.result (λ closing e. let z : true ≡ false = sym (ap (λ (x : Draft). x.shifts) c.in_ok-report_name.ensures.rest) ∙ e in absurd (cc)) c.close.ensures.ok

@@ -15,3 +15,6 @@ returns-clause-shoens c = λ h i. on_ok_weaker c.allow.result (λ is. changed_in
 
 pub returns-clause-outlines : goal.returns-clause-outlines
 returns-clause-outlines c = on_ok_weaker c.allow.result (λ is. outlines_changed c.args.number c.args.number c.args.shoens.now c.allow.new.self (allowing c.args.extra) (λ h. refl) is) c.allow.ensures.ok
+
+pub returns-clause-calm : goal.returns-clause-calm
+returns-clause-calm c = on_ok_weaker c.allow.result (λ is e. absurd (cc)) c.allow.ensures.ok

@@ -1,3 +1,6 @@
+use Rattle.std.proofs.Common.{◌≡◌, ap, true, false}
+use Rattle.kl1_account.specs.declared.draft.Draft.{Draft}
+use Rattle.kl1_account.proofs.Frames.{calm_same}
 use Rattle.kl1_account.proofs.Outlines.{outlines_same, outlines_told, outlines_changed}
 use Rattle.std.proofs.Common.{false, refl, sym, ◌∙◌}
 use Rattle.std.specs.Prelude.{Some, None}
@@ -36,3 +39,12 @@ returns-clause-outlines c =
     on_ok_weaker c.report_name.result
     (λ told. outlines_told n c.args.shoens.now c.set_stopped.new.self c.report_name.new.shoens (outlines_changed n n c.args.shoens.now c.set_stopped.new.self (halted false) (λ h. refl) c.in_ok-set_stopped.ensures.ok) told)
     c.report_name.ensures.stays
+
+pub returns-in_default-clause-calm : goal.returns-in_default-clause-calm
+returns-in_default-clause-calm c e = calm_same c.args.shoens.now
+
+pub returns-then-not-shoen-clause-calm : goal.returns-then-not-shoen-clause-calm
+returns-then-not-shoen-clause-calm c e = calm_same c.args.shoens.now
+
+pub returns-clause-calm : goal.returns-clause-calm
+returns-clause-calm c = on_ok_weaker c.report_name.result (λ told e. let z : true ≡ false = sym (ap (λ (x : Draft). x.shifts) c.report_name.ensures.rest) ∙ e in absurd (cc)) c.report_name.ensures.stays

@@ -1,3 +1,4 @@
+use Rattle.std.proofs.Common.{◌+◌, ◌≤◌, length, arith}
 use Rattle.std.proofs.Common.{◌≡◌}
 use Rattle.kl1_account.specs.Walks.{ended_in}
 use Rattle.kl1_account.proofs.Frames.{on_ok_both, settled_frames, settled_stays}
@@ -39,3 +40,6 @@ returns-clause-lives c =
     let P : List ℕ → Type 0 = λ ns. u ≡ record t { shoens = ended_in ns t.shoens } in
     let is = subst P (sym c.as_slice-ending.ensures.value) c.in_ok-end_lives.ensures.ok.tree_is in
     on_ok_both c.finish_each.result (λ stays more same. settled_stays t u c.finish_each.new.shoens ending c.args.draft.now.ended.items c.finish_each.new.draft.ended.items is stays more same) c.finish_each.ensures.stays c.finish_each.ensures.ended
+
+pub returns-clause-more : goal.returns-clause-more
+returns-clause-more c = on_ok_weaker c.finish_each.result (λ more. omega (arith, more)) c.finish_each.ensures.ended
