@@ -60,3 +60,4 @@ pub mod Listing
 pub mod Frames
 pub mod FlagsKept
 pub mod Outlines
+pub mod ControlsKept
