@@ -66,3 +66,7 @@ pub mod Drafting
 pub mod StartSettled
 pub mod LateName
 pub mod LateDrafts
+pub mod Frames
+pub mod FlagsKept
+pub mod Outlines
+pub mod ControlsKept

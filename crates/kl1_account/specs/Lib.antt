@@ -25,3 +25,5 @@ pub mod Asked
 pub mod Finishing
 pub mod Sending
 pub mod Late
+pub mod Frames
+pub mod Outlines

@@ -10,6 +10,11 @@ ghost use Rattle.kl1_goals.specs.Lists.{is_monitor};
 ghost use Rattle.kl1_account.specs.Kept.{IsOwned, AreShoensIn};
 ghost use Rattle.kl1_account.specs.Drafts.{goals_left, HasBegun, CanGoBack};
 ghost use Rattle.kl1_account.specs.Acting.{Acts, Reads};
+ghost use Rattle.kl1_account.specs.Frames.{KeepsFrames, SameFlags};
+ghost use Rattle.kl1_account.specs.Outlines.{KeepsOthers};
+ghost use Rattle.kl1_shoen.specs.Shoens.{is_enabled_at};
+ghost use Rattle.std.specs.List.{AllByRecursion};
+ghost use Rattle.std.specs.Prelude.{◌≤◌, ◌∷◌, true, false};
 
 use crate::draft::Draft;
 use crate::moving::do_move;
@@ -55,10 +60,13 @@ pub(crate) fn act(
     ensures ok { OnOk result (Acts predicate.entry made (taken_places trial.old) trial.old.text goal cell goals.now.goals names.now.names store.old.held store.new.held shoens.old shoens.new draft.old draft.new) }
     ensures shoens { OnOk result (AreShoensIn store.new.held shoens.new.shoens) }
     ensures back { CanGoBack shoens.old shoens.new }
+    ensures frames { OnOk result (KeepsFrames shoens.old.shoens shoens.new.shoens) }
+    ensures flags { OnOk result (is_enabled_at shoens.old.shoens shoens.old.work goal.shoen ≡ true → AllByRecursion (λ w. w ≤ length shoens.old.shoens) shoens.old.work → draft.new.ended.items ≡ draft.old.ended.items → walk.new.reached.items ≡ [] → SameFlags shoens.old shoens.new) }
     ensures grown { Grown store.old.held store.new.held }
     ensures hooks { store.new.hooks ≡ store.old.hooks }
 {
     let _formed = store.mark();
+    let _numbered = shoens.len();
     shoens.charge(goal.shoen)?;
     do_move(
         store, goals, shoens, draft, names, alive, predicate, made, trial, goal, cell,
@@ -84,10 +92,13 @@ pub(crate) fn read(
     ensures ok { OnOk result ((names : List (List ℕ)) → Reads number control goals.now.goals names store.old.held store.new.held shoens.old shoens.new draft.old draft.new) }
     ensures shoens { OnOk result (AreShoensIn store.new.held shoens.new.shoens) }
     ensures back { CanGoBack shoens.old shoens.new }
+    ensures flags { OnOk result (AllByRecursion (λ w. w ≤ length shoens.old.shoens) shoens.old.work → draft.new.shifts ≡ false → draft.new.ended.items ≡ [] → SameFlags shoens.old shoens.new) }
+    ensures controls { OnOk result (KeepsOthers number shoens.old.shoens shoens.new.shoens) }
     ensures grown { Grown store.old.held store.new.held }
     ensures hooks { store.new.hooks ≡ store.old.hooks }
 {
     let _formed = store.mark();
+    let _numbered = shoens.len();
     hear(store, shoens, draft, number, control)?;
     settle(store, goals, shoens, draft, walk, number)
 }

@@ -10,6 +10,7 @@ ghost use Rattle.kl1_account.specs.Account.{meaning, shoen_with};
 ghost use Rattle.kl1_account.specs.Kept.{IsOwned, IsShoenIn, AreShoensIn};
 ghost use Rattle.kl1_account.specs.Drafts.{DraftsAll, HasBegun, CanGoBack, two_for};
 ghost use Rattle.kl1_account.specs.Moving.{OpensChild};
+ghost use Rattle.kl1_account.specs.Frames.{Stays};
 
 use crate::committing::last_of;
 use crate::draft::Draft;
@@ -71,6 +72,7 @@ pub(crate) fn open_shoen(
     ensures ok { OnOk result (DraftsAll (λ f. open_shoen (shoen_with (meaning f store.old.held) shoen) (meaning f store.old.held goal)) store.old.held store.new.held shoens.old shoens.new draft.old draft.new) }
     ensures shoens { OnOk result (AreShoensIn store.new.held shoens.new.shoens) }
     ensures back { CanGoBack shoens.old shoens.new }
+    ensures stays { OnOk result (Stays shoens.old shoens.new) }
     ensures rest { draft.new ≡ record draft.old { reports = draft.new.reports; added = draft.new.added; last_goal = draft.new.last_goal } }
     ensures grown { Grown store.old.held store.new.held }
     ensures hooks { store.new.hooks ≡ store.old.hooks }
@@ -119,6 +121,7 @@ pub(crate) fn open_child(
     ensures ok { OnOk result (OpensChild structure goal cell store.old.held store.new.held shoens.old shoens.new draft.old draft.new) }
     ensures shoens { OnOk result (AreShoensIn store.new.held shoens.new.shoens) }
     ensures back { CanGoBack shoens.old shoens.new }
+    ensures stays { OnOk result (Stays shoens.old shoens.new) }
     ensures rest { draft.new ≡ record draft.old { reports = draft.new.reports; added = draft.new.added; last_goal = draft.new.last_goal } }
     ensures grown { Grown store.old.held store.new.held }
     ensures hooks { store.new.hooks ≡ store.old.hooks }

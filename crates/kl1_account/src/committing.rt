@@ -12,6 +12,7 @@ ghost use Rattle.kl1_model.specs.Opening.{clipped};
 ghost use Rattle.kl1_account.specs.Kept.{AreShoensIn, IsOwned};
 ghost use Rattle.kl1_account.specs.Drafts.{goals_left, goals_for, HasBegun, CanGoBack};
 ghost use Rattle.kl1_account.specs.Moving.{Commits, priorities_by};
+ghost use Rattle.kl1_account.specs.Frames.{Stays};
 
 use crate::draft::Draft;
 use crate::reporting::raise;
@@ -118,6 +119,7 @@ pub(crate) fn commit(
     ensures ok { OnOk result (Commits predicate.entry place (taken_places trial.old) goal cell goals.now.goals store.old.held store.new.held shoens.old shoens.new draft.old draft.new) }
     ensures shoens { OnOk result (AreShoensIn store.new.held shoens.new.shoens) }
     ensures back { CanGoBack shoens.old shoens.new }
+    ensures stays { OnOk result (Stays shoens.old shoens.new) }
     ensures rest { draft.new ≡ record draft.old { reports = draft.new.reports; added = draft.new.added; last_goal = draft.new.last_goal; variables = draft.new.variables; nodes = draft.new.nodes; cells = draft.new.cells } }
     ensures grown { Grown store.old.held store.new.held }
     ensures hooks { store.new.hooks ≡ store.old.hooks }

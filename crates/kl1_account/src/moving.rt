@@ -9,6 +9,7 @@ ghost use Rattle.kl1_goals.specs.Lists.{is_monitor};
 ghost use Rattle.kl1_account.specs.Kept.{IsOwned, AreShoensIn};
 ghost use Rattle.kl1_account.specs.Drafts.{goals_left, HasBegun, CanGoBack};
 ghost use Rattle.kl1_account.specs.Moving.{Moves, IsMoved, CanRenameAfter};
+ghost use Rattle.kl1_account.specs.Frames.{Stays};
 
 use crate::children::open_child;
 use crate::committing::commit;
@@ -53,6 +54,7 @@ pub(crate) fn do_move(
     ensures redo { OnOk result (CanRenameAfter made trial.old.text names.now.names store.old.held store.new.held draft.new) }
     ensures shoens { OnOk result (AreShoensIn store.new.held shoens.new.shoens) }
     ensures back { CanGoBack shoens.old shoens.new }
+    ensures stays { OnOk result (Stays shoens.old shoens.new) }
     ensures moved { IsMoved draft.old draft.new }
     ensures grown { Grown store.old.held store.new.held }
     ensures hooks { store.new.hooks ≡ store.old.hooks }

@@ -10,6 +10,7 @@ ghost use Rattle.kl1_account.specs.Account.{texts_of};
 ghost use Rattle.kl1_account.specs.Kept.{AreShoensIn};
 ghost use Rattle.kl1_account.specs.Drafts.{CanGoBack};
 ghost use Rattle.kl1_account.specs.Calling.{drafted_number, new_name, NamesTerm, CanRename};
+ghost use Rattle.kl1_account.specs.Frames.{Stays};
 
 use crate::draft::Draft;
 use crate::names::AccountNames;
@@ -73,6 +74,7 @@ pub(crate) fn name_term(
     ensures redo { OnOk result (CanRename text names.now.names target store.old.held store.new.held draft.new) }
     ensures shoens { OnOk result (AreShoensIn store.new.held shoens.new.shoens) }
     ensures back { CanGoBack shoens.old shoens.new }
+    ensures stays { OnOk result (Stays shoens.old shoens.new) }
     ensures rest { draft.new ≡ record draft.old { reports = draft.new.reports; name = draft.new.name } }
     ensures grown { Grown store.old.held store.new.held }
     ensures hooks { store.new.hooks ≡ store.old.hooks }

@@ -8,6 +8,9 @@ ghost use Rattle.kl1_store.specs.Sound.{Grown};
 ghost use Rattle.kl1_stream.specs.Controls.{control_as, ControlIn};
 ghost use Rattle.kl1_account.specs.Kept.{AreShoensIn};
 ghost use Rattle.kl1_account.specs.Drafts.{DraftsAll, CanGoBack};
+ghost use Rattle.kl1_account.specs.Frames.{IsCalm};
+ghost use Rattle.std.specs.Prelude.{false};
+ghost use Rattle.kl1_account.specs.Outlines.{KeepsOutlines};
 
 use crate::draft::Draft;
 use crate::reporting::{close, raise_whole, report_name};
@@ -29,6 +32,8 @@ fn stop(
     ensures ok { OnOk result (DraftsAll (λ f. obeyed number Stop) store.old.held store.new.held shoens.old shoens.new draft.old draft.new) }
     ensures shoens { OnOk result (AreShoensIn store.new.held shoens.new.shoens) }
     ensures back { CanGoBack shoens.old shoens.new }
+    ensures outlines { OnOk result (KeepsOutlines number shoens.old.shoens shoens.new.shoens) }
+    ensures calm { OnOk result (draft.new.shifts ≡ false → IsCalm shoens.old shoens.new) }
     ensures rest { draft.new ≡ record draft.old { reports = draft.new.reports; shifts = draft.new.shifts } }
     ensures grown { Grown store.old.held store.new.held }
     ensures hooks { store.new.hooks ≡ store.old.hooks }
@@ -56,6 +61,8 @@ fn resume(
     ensures ok { OnOk result (DraftsAll (λ f. obeyed number Start) store.old.held store.new.held shoens.old shoens.new draft.old draft.new) }
     ensures shoens { OnOk result (AreShoensIn store.new.held shoens.new.shoens) }
     ensures back { CanGoBack shoens.old shoens.new }
+    ensures outlines { OnOk result (KeepsOutlines number shoens.old.shoens shoens.new.shoens) }
+    ensures calm { OnOk result (draft.new.shifts ≡ false → IsCalm shoens.old shoens.new) }
     ensures rest { draft.new ≡ record draft.old { reports = draft.new.reports; shifts = draft.new.shifts } }
     ensures grown { Grown store.old.held store.new.held }
     ensures hooks { store.new.hooks ≡ store.old.hooks }
@@ -86,6 +93,8 @@ fn abort(
     ensures ok { OnOk result (DraftsAll (λ f. obeyed number Abort) store.old.held store.new.held shoens.old shoens.new draft.old draft.new) }
     ensures shoens { OnOk result (AreShoensIn store.new.held shoens.new.shoens) }
     ensures back { CanGoBack shoens.old shoens.new }
+    ensures outlines { OnOk result (KeepsOutlines number shoens.old.shoens shoens.new.shoens) }
+    ensures calm { OnOk result (draft.new.shifts ≡ false → IsCalm shoens.old shoens.new) }
     ensures rest { draft.new ≡ record draft.old { reports = draft.new.reports; shifts = draft.new.shifts; aborted = draft.new.aborted } }
     ensures grown { Grown store.old.held store.new.held }
     ensures hooks { store.new.hooks ≡ store.old.hooks }
@@ -109,6 +118,8 @@ fn allow(
     ensures ok { OnOk result ((h : Held CellName) → DraftsAll (λ f. obeyed number (Allow extra)) h h shoens.old shoens.new draft.old draft.new) }
     ensures shoens { (h : Held CellName) → AreShoensIn h shoens.old.shoens → OnOk result (AreShoensIn h shoens.new.shoens) }
     ensures back { CanGoBack shoens.old shoens.new }
+    ensures outlines { OnOk result (KeepsOutlines number shoens.old.shoens shoens.new.shoens) }
+    ensures calm { OnOk result (draft.new.shifts ≡ false → IsCalm shoens.old shoens.new) }
     ensures rest { draft.new ≡ record draft.old { shifts = draft.new.shifts } }
 {
     draft.shifts = true;
@@ -130,6 +141,8 @@ pub(crate) fn obey(
     ensures ok { OnOk result (DraftsAll (λ f. obeyed number message) store.old.held store.new.held shoens.old shoens.new draft.old draft.new) }
     ensures shoens { OnOk result (AreShoensIn store.new.held shoens.new.shoens) }
     ensures back { CanGoBack shoens.old shoens.new }
+    ensures outlines { OnOk result (KeepsOutlines number shoens.old.shoens shoens.new.shoens) }
+    ensures calm { OnOk result (draft.new.shifts ≡ false → IsCalm shoens.old shoens.new) }
     ensures rest { draft.new ≡ record draft.old { reports = draft.new.reports; shifts = draft.new.shifts; aborted = draft.new.aborted } }
     ensures grown { Grown store.old.held store.new.held }
     ensures hooks { store.new.hooks ≡ store.old.hooks }
@@ -168,6 +181,8 @@ pub(crate) fn hear(
     ensures ok { OnOk result (DraftsAll (λ f. heard number (control_as f store.old.held control)) store.old.held store.new.held shoens.old shoens.new draft.old draft.new) }
     ensures shoens { OnOk result (AreShoensIn store.new.held shoens.new.shoens) }
     ensures back { CanGoBack shoens.old shoens.new }
+    ensures outlines { OnOk result (KeepsOutlines number shoens.old.shoens shoens.new.shoens) }
+    ensures calm { OnOk result (draft.new.shifts ≡ false → IsCalm shoens.old shoens.new) }
     ensures rest { draft.new ≡ record draft.old { reports = draft.new.reports; shifts = draft.new.shifts; aborted = draft.new.aborted; ended = draft.new.ended } }
     ensures grown { Grown store.old.held store.new.held }
     ensures hooks { store.new.hooks ≡ store.old.hooks }

@@ -13,6 +13,7 @@ ghost use Rattle.kl1_account.specs.Wholes.{IsWhole};
 ghost use Rattle.kl1_account.specs.Kept.{AreShoensIn};
 ghost use Rattle.kl1_account.specs.declared.draft.Draft.{Draft};
 ghost use Rattle.kl1_account.specs.Drafts.{DraftsAll, CanGoBack};
+ghost use Rattle.kl1_account.specs.Frames.{Stays};
 
 use crate::draft::Draft;
 use kl1_model::BuiltIn;
@@ -36,6 +37,7 @@ pub(crate) fn report(
     ensures ok { OnOk result (DraftsAll (λ f. report number (meaning f store.old.held message)) store.old.held store.new.held shoens.old shoens.new draft.old draft.new) }
     ensures shoens { OnOk result (AreShoensIn store.new.held shoens.new.shoens) }
     ensures back { CanGoBack shoens.old shoens.new }
+    ensures stays { OnOk result (Stays shoens.old shoens.new) }
     ensures rest { draft.new ≡ record draft.old { reports = draft.new.reports } }
     ensures grown { Grown store.old.held store.new.held }
     ensures hooks { store.new.hooks ≡ store.old.hooks }
@@ -68,6 +70,7 @@ pub(crate) fn report_each(
     ensures ok { OnOk result (DraftsAll (λ f. report_each numbers.now (atom (text_of name))) store.old.held store.new.held shoens.old shoens.new draft.old draft.new) }
     ensures shoens { OnOk result (AreShoensIn store.new.held shoens.new.shoens) }
     ensures back { CanGoBack shoens.old shoens.new }
+    ensures stays { OnOk result (Stays shoens.old shoens.new) }
     ensures rest { draft.new ≡ record draft.old { reports = draft.new.reports } }
     ensures grown { Grown store.old.held store.new.held }
     ensures hooks { store.new.hooks ≡ store.old.hooks }
@@ -91,6 +94,7 @@ pub(crate) fn report_name(
     ensures ok { OnOk result (DraftsAll (λ f. report number (atom (text_of name))) store.old.held store.new.held shoens.old shoens.new draft.old draft.new) }
     ensures shoens { OnOk result (AreShoensIn store.new.held shoens.new.shoens) }
     ensures back { CanGoBack shoens.old shoens.new }
+    ensures stays { OnOk result (Stays shoens.old shoens.new) }
     ensures rest { draft.new ≡ record draft.old { reports = draft.new.reports } }
     ensures grown { Grown store.old.held store.new.held }
     ensures hooks { store.new.hooks ≡ store.old.hooks }
@@ -134,6 +138,7 @@ pub(crate) fn raise(
     ensures ok { OnOk result (DraftsAll (λ f. report number (exception (text_of kind) (aim f store.old.held goal))) store.old.held store.new.held shoens.old shoens.new draft.old draft.new) }
     ensures shoens { OnOk result (AreShoensIn store.new.held shoens.new.shoens) }
     ensures back { CanGoBack shoens.old shoens.new }
+    ensures stays { OnOk result (Stays shoens.old shoens.new) }
     ensures rest { draft.new ≡ record draft.old { reports = draft.new.reports } }
     ensures grown { Grown store.old.held store.new.held }
     ensures hooks { store.new.hooks ≡ store.old.hooks }
@@ -156,6 +161,7 @@ pub(crate) fn raise_whole(
     ensures ok { OnOk result (DraftsAll (λ f. report number (exception (text_of kind) (meaning f store.old.held goal))) store.old.held store.new.held shoens.old shoens.new draft.old draft.new) }
     ensures shoens { OnOk result (AreShoensIn store.new.held shoens.new.shoens) }
     ensures back { CanGoBack shoens.old shoens.new }
+    ensures stays { OnOk result (Stays shoens.old shoens.new) }
     ensures rest { draft.new ≡ record draft.old { reports = draft.new.reports } }
     ensures grown { Grown store.old.held store.new.held }
     ensures hooks { store.new.hooks ≡ store.old.hooks }
@@ -181,6 +187,7 @@ pub(crate) fn unify(
     ensures ok { OnOk result (DraftsAll (λ f s. unified number (aim f store.old.held goal) (solve (equation (meaning f store.old.held left) (meaning f store.old.held right))) s) store.old.held store.new.held shoens.old shoens.new draft.old draft.new) }
     ensures shoens { OnOk result (AreShoensIn store.new.held shoens.new.shoens) }
     ensures back { CanGoBack shoens.old shoens.new }
+    ensures stays { OnOk result (Stays shoens.old shoens.new) }
     ensures rest { draft.new ≡ record draft.old { reports = draft.new.reports } }
     ensures grown { Grown store.old.held store.new.held }
     ensures hooks { store.new.hooks ≡ store.old.hooks }

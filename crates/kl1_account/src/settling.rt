@@ -1,6 +1,6 @@
 // Shoens that terminate, and those that have reached their allowance.
 
-ghost use Rattle.std.specs.Prelude.{◌≡◌, ◌-◌, [], ◌∷◌, ◌++◌, not, ◌&&◌, false, if◌then◌else◌, List, ℕ, filter, get_or, OnOk};
+ghost use Rattle.std.specs.Prelude.{◌≡◌, ◌≤◌, ◌+◌, length, ◌-◌, [], ◌∷◌, ◌++◌, not, ◌&&◌, false, if◌then◌else◌, List, ℕ, filter, get_or, OnOk};
 ghost use Rattle.std.specs.List.{list_any};
 ghost use Rattle.kl1_model.specs.Ending.{settle, settle_charged};
 ghost use Rattle.kl1_model.specs.Module.{is_among};
@@ -12,6 +12,7 @@ ghost use Rattle.kl1_account.specs.Kept.{AreShoensIn};
 ghost use Rattle.kl1_account.specs.Drafts.{goals_left, Drafts, DraftsAll, CanGoBack};
 ghost use Rattle.kl1_account.specs.Endings.{finished, finished_each};
 ghost use Rattle.kl1_account.specs.Walks.{ends_in, EndsOne, EndsLives, reached_in};
+ghost use Rattle.kl1_account.specs.Frames.{KeepsFrames, Stays, NoneReached};
 
 use crate::draft::Draft;
 use crate::reporting::{close, report_each, report_name};
@@ -201,6 +202,8 @@ fn finish(
     ensures ok { OnOk result (DraftsAll (λ f. finished number) store.old.held store.new.held shoens.old shoens.new draft.old draft.new) }
     ensures shoens { OnOk result (AreShoensIn store.new.held shoens.new.shoens) }
     ensures back { CanGoBack shoens.old shoens.new }
+    ensures stays { OnOk result (Stays shoens.old shoens.new) }
+    ensures ended { OnOk result (draft.new.ended.items ≡ draft.old.ended.items ++ number ∷ []) }
     ensures rest { draft.new ≡ record draft.old { reports = draft.new.reports; ended = draft.new.ended } }
     ensures grown { Grown store.old.held store.new.held }
     ensures hooks { store.new.hooks ≡ store.old.hooks }
@@ -222,6 +225,8 @@ fn finish_each(
     ensures ok { OnOk result (DraftsAll (λ f. finished_each numbers.now) store.old.held store.new.held shoens.old shoens.new draft.old draft.new) }
     ensures shoens { OnOk result (AreShoensIn store.new.held shoens.new.shoens) }
     ensures back { CanGoBack shoens.old shoens.new }
+    ensures stays { OnOk result (Stays shoens.old shoens.new) }
+    ensures ended { OnOk result (length draft.old.ended.items + length numbers.now ≤ length draft.new.ended.items) }
     ensures rest { draft.new ≡ record draft.old { reports = draft.new.reports; ended = draft.new.ended } }
     ensures grown { Grown store.old.held store.new.held }
     ensures hooks { store.new.hooks ≡ store.old.hooks }
@@ -246,6 +251,9 @@ pub(crate) fn settle(
     ensures ok { OnOk result ((ms : List Numbered) (names : List (List ℕ)) → Drafts ms (λ f. settle number) store.old.held store.new.held goals.now.goals names shoens.old shoens.new draft.old draft.new) }
     ensures shoens { OnOk result (AreShoensIn store.new.held shoens.new.shoens) }
     ensures back { CanGoBack shoens.old shoens.new }
+    ensures frames { OnOk result (KeepsFrames shoens.old.shoens shoens.new.shoens) }
+    ensures more { OnOk result (length draft.old.ended.items ≤ length draft.new.ended.items) }
+    ensures lives { OnOk result (draft.new.ended.items ≡ draft.old.ended.items → Stays shoens.old shoens.new) }
     ensures rest { draft.new ≡ record draft.old { reports = draft.new.reports; ended = draft.new.ended } }
     ensures grown { Grown store.old.held store.new.held }
     ensures hooks { store.new.hooks ≡ store.old.hooks }
@@ -270,6 +278,9 @@ pub(crate) fn settle_charged(
     ensures ok { OnOk result ((ms : List Numbered) (names : List (List ℕ)) → Drafts ms (λ f. settle_charged number) store.old.held store.new.held goals.now.goals names shoens.old shoens.new draft.old draft.new) }
     ensures shoens { OnOk result (AreShoensIn store.new.held shoens.new.shoens) }
     ensures back { CanGoBack shoens.old shoens.new }
+    ensures frames { OnOk result (KeepsFrames shoens.old.shoens shoens.new.shoens) }
+    ensures lives { OnOk result (draft.new.ended.items ≡ draft.old.ended.items → Stays shoens.old shoens.new) }
+    ensures none { OnOk result (draft.new.ended.items ≡ draft.old.ended.items → walk.new.reached.items ≡ [] → NoneReached shoens.old number) }
     ensures rest { draft.new ≡ record draft.old { reports = draft.new.reports; ended = draft.new.ended } }
     ensures grown { Grown store.old.held store.new.held }
     ensures hooks { store.new.hooks ≡ store.old.hooks }

@@ -1,3 +1,4 @@
+use Rattle.kl1_account.proofs.Frames.{stays_more, stays_then}
 use Rattle.std.proofs.Common.{◌≡◌, ◌==◌, ◌++◌, ◌∷◌, [], true, false, List, ap, ◌∙◌, arith}
 use Rattle.std.proofs.lemmas.Bool.{ne_eqb, eq-eqb}
 use Rattle.std.proofs.lemmas.Result.{on_ok_weaker}
@@ -36,3 +37,23 @@ returns-clause-ok c =
     (λ told. drafts_opened_empty h c.report_name.new.store.held c.report_name-2.new.store.held t u c.report_name.new.shoens c.report_name-2.new.shoens d e c.report_name.new.draft c.report_name-2.new.draft sh c.args.goal none
     (drafts_joined h t u d e sh c.args.goal c.requires.begun c.requires.shoen c.requires.goal c.requires.number shoens work c.in_ok-add_two.ensures.added c.in_ok-add_two.ensures.last c.in_ok-add_two.ensures.rest) c.in_ok-report_name.ensures.ok told)
     c.report_name-2.ensures.ok
+
+pub returns-then-shoen-ne0-clause-stays : goal.returns-then-shoen-ne0-clause-stays
+returns-then-shoen-ne0-clause-stays c =
+    let t = c.args.shoens.now in
+    let sh = c.args.shoen in
+    let u = c.open.new.self in
+    let shoens : u.shoens ≡ t.shoens ++ sh ∷ [] = ap (λ (x : Tree CellName). x.shoens) c.open.ensures ∙ ap (λ (ss : List (Shoen CellName)). ss ++ sh ∷ []) c.in_ok-reserve.ensures.shoens in
+    let work : u.work ≡ t.work = ap (λ (x : Tree CellName). x.work) c.open.ensures ∙ c.in_ok-reserve.ensures.work in
+    let first = stays_then t u c.report_name.new.shoens (stays_more t u sh shoens work) c.in_ok-report_name.ensures.stays in
+    first
+
+pub returns-clause-stays : goal.returns-clause-stays
+returns-clause-stays c =
+    let t = c.args.shoens.now in
+    let sh = c.args.shoen in
+    let u = c.open.new.self in
+    let shoens : u.shoens ≡ t.shoens ++ sh ∷ [] = ap (λ (x : Tree CellName). x.shoens) c.open.ensures ∙ ap (λ (ss : List (Shoen CellName)). ss ++ sh ∷ []) c.in_ok-reserve.ensures.shoens in
+    let work : u.work ≡ t.work = ap (λ (x : Tree CellName). x.work) c.open.ensures ∙ c.in_ok-reserve.ensures.work in
+    let first = stays_then t u c.report_name.new.shoens (stays_more t u sh shoens work) c.in_ok-report_name.ensures.stays in
+    on_ok_weaker c.report_name-2.result (λ told. stays_then t c.report_name.new.shoens c.report_name-2.new.shoens first told) c.report_name-2.ensures.stays

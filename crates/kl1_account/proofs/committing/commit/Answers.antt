@@ -1,3 +1,4 @@
+use Rattle.kl1_account.proofs.Frames.{stays_same}
 use Rattle.std.proofs.Common.{◌≡◌, ◌+◌, ◌++◌, List, length, refl, sym, ◌∙◌, arith, subst}
 use Rattle.std.specs.Prelude.{Some}
 use Rattle.std.proofs.lemmas.Result.{on_ok_weaker}
@@ -47,3 +48,6 @@ returns-clause-ok c =
 
 pub returns-clause-shoens : goal.returns-clause-shoens
 returns-clause-shoens c = shoens_grown c.args.store.now.held c.commit.new.store.held c.in_ok-commit.ensures.grown c.args.shoens.now.shoens c.requires.shoens
+
+pub returns-clause-stays : goal.returns-clause-stays
+returns-clause-stays c = stays_same c.args.shoens.now

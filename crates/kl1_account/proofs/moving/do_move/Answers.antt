@@ -1,3 +1,4 @@
+use Rattle.kl1_account.proofs.Frames.{stays_same}
 use Rattle.std.proofs.Common.{◌≡◌, ℕ, List, sym, ap, ◌∙◌, subst}
 use Rattle.std.proofs.lemmas.Result.{on_ok_weaker}
 use Rattle.kl1_text.specs.declared.cell_name.CellName.{CellName}
@@ -118,3 +119,6 @@ returns-in-Names-clause-redo c =
     let T : List ℕ → Type 0 = λ l. CanRename l known c.in-Names.target h c.name_term.new.store.held c.name_term.new.draft in
     let P : Move CellName → Type 0 = λ m. CanRenameAfter m text known h c.name_term.new.store.held c.name_term.new.draft in
     on_ok_weaker c.name_term.result (λ redo. subst P (sym c.in-Names.is) (subst T same redo)) c.name_term.ensures.redo
+
+pub returns-in-Goes-clause-stays : goal.returns-in-Goes-clause-stays
+returns-in-Goes-clause-stays c = stays_same c.args.shoens.now

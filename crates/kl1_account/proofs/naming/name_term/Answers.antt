@@ -1,3 +1,4 @@
+use Rattle.kl1_account.proofs.Frames.{stays_same}
 use Rattle.std.proofs.Common.{◌≡◌, List, refl, sym, ap, ◌∙◌, subst, inl, inr}
 use Rattle.std.specs.Prelude.{None, Option}
 use Rattle.std.proofs.lemmas.Result.{on_ok_weaker}
@@ -60,3 +61,6 @@ returns-in-Clash-clause-redo c =
     let h = c.args.store.now.held in
     let U : CellName → Type 0 = λ n. UnifiesAs built h c.unify.new.store.held c.args.target (Atom n) Clash in
     always_ok c.raise-in-Clash.result (inr (inl (no_solution h c.unify.new.store.held c.args.target (drafted_number c.args.names.now.names c.args.text) (subst U c.drafted_number.ensures (rw c.in-Clash.is at c.in_ok-unify.ensures.ok)))))
+
+pub returns-in-Bound-clause-stays : goal.returns-in-Bound-clause-stays
+returns-in-Bound-clause-stays c = stays_same c.args.shoens.now

@@ -1,3 +1,6 @@
+use Rattle.std.proofs.Common.{◌≡◌, ap, sym, ◌∙◌, false}
+use Rattle.kl1_account.specs.declared.draft.Draft.{Draft}
+use Rattle.kl1_account.proofs.Outlines.{outlines_told, outlines_aborted}
 use Rattle.std.proofs.Common.{true, refl}
 use Rattle.std.proofs.lemmas.Result.{on_ok_weaker}
 use Rattle.kl1_shoen.specs.Shoens.{aborted_below_in}
@@ -22,3 +25,13 @@ returns-clause-ok c =
     (drafts_ended_below h t c.abort.new.self d e c.args.number c.len-numbered.ensures.numbered c.requires.none c.requires.early c.in_ok-below.ensures refl c.in_ok-abort.ensures.ok)
     c.in_ok-report_name.ensures.ok (closing c.report_name.new.draft))
     c.close.ensures.ok
+
+pub returns-clause-outlines : goal.returns-clause-outlines
+returns-clause-outlines c =
+    let n = c.args.number in
+    on_ok_weaker c.close.result
+    (λ closing. outlines_told n c.args.shoens.now c.abort.new.self c.report_name.new.shoens (outlines_aborted n n c.args.shoens.now c.abort.new.self c.in_ok-abort.ensures.ok) c.in_ok-report_name.ensures.stays)
+    c.close.ensures.ok
+
+pub returns-clause-calm : goal.returns-clause-calm
+returns-clause-calm c = on_ok_weaker c.close.result (λ closing e. let z : true ≡ false = sym (ap (λ (x : Draft). x.shifts) c.in_ok-report_name.ensures.rest) ∙ e in absurd (cc)) c.close.ensures.ok

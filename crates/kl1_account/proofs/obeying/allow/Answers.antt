@@ -1,3 +1,5 @@
+use Rattle.std.proofs.Common.{refl}
+use Rattle.kl1_account.proofs.Outlines.{outlines_changed}
 use Rattle.std.proofs.Common.{true}
 use Rattle.std.proofs.lemmas.Result.{on_ok_weaker}
 use Rattle.kl1_store.proofs.Grows.{Grown-same}
@@ -10,3 +12,9 @@ returns-clause-ok c = on_ok_weaker c.allow.result (λ is h. drafts_allowed h c.a
 
 pub returns-clause-shoens : goal.returns-clause-shoens
 returns-clause-shoens c = λ h i. on_ok_weaker c.allow.result (λ is. changed_in h h c.args.shoens.now c.allow.new.self c.args.number (allowing c.args.extra) (Grown-same h) (λ s a. record { control = a.control; tail = a.tail; origin = a.origin }) i is) c.allow.ensures.ok
+
+pub returns-clause-outlines : goal.returns-clause-outlines
+returns-clause-outlines c = on_ok_weaker c.allow.result (λ is. outlines_changed c.args.number c.args.number c.args.shoens.now c.allow.new.self (allowing c.args.extra) (λ h. refl) is) c.allow.ensures.ok
+
+pub returns-clause-calm : goal.returns-clause-calm
+returns-clause-calm c = on_ok_weaker c.allow.result (λ is e. absurd (cc)) c.allow.ensures.ok

@@ -1,3 +1,5 @@
+use Rattle.kl1_account.proofs.Frames.{calm_same, calm_then, stays_calm, calm_controlled}
+use Rattle.kl1_account.proofs.Outlines.{outlines_same, outlines_then, outlines_told, outlines_controlled, lives_outlines}
 use Rattle.std.proofs.Common.{sym, subst}
 use Rattle.std.proofs.lemmas.Result.{on_ok_weaker}
 use Rattle.kl1_model.specs.Reduction.{heard}
@@ -67,3 +69,48 @@ returns-in_ok-let_go-in-BreaksOff-clause-ok c =
     (λ ok. subst P (sym c.in-BreaksOff.is) (drafts_broken_off h c.raise_whole-in-BreaksOff.new.store.held t c.raise_whole-in-BreaksOff.new.shoens d c.let_go-in-BreaksOff.new.draft c.raise_whole-in-BreaksOff.new.draft c.args.number c.in-BreaksOff.term
     (drafts_unmonitored h t d c.let_go-in-BreaksOff.new.draft c.args.number c.in_ok-let_go-in-BreaksOff.ensures.ok c.in_ok-let_go-in-BreaksOff.ensures.rest) ok))
     c.raise_whole-in-BreaksOff.ensures.ok
+
+pub returns-in-Awaits-clause-outlines : goal.returns-in-Awaits-clause-outlines
+returns-in-Awaits-clause-outlines c = outlines_same c.args.number c.args.shoens.now.shoens
+
+pub returns-in_ok-set_control-in-Tells-clause-outlines : goal.returns-in_ok-set_control-in-Tells-clause-outlines
+returns-in_ok-set_control-in-Tells-clause-outlines c =
+    let n = c.args.number in
+    let t = c.args.shoens.now in
+    on_ok_weaker c.obey.result (λ p. outlines_then n t c.set_control.new.self c.obey.new.shoens (outlines_controlled n c.in-Tells.rest t c.set_control.new.self c.in_ok-set_control-in-Tells.ensures.ok) p) c.obey.ensures.outlines
+
+pub returns-in_ok-set_control-in-TellsOther-clause-outlines : goal.returns-in_ok-set_control-in-TellsOther-clause-outlines
+returns-in_ok-set_control-in-TellsOther-clause-outlines c =
+    let n = c.args.number in
+    let t = c.args.shoens.now in
+    let u = c.set_control-in-TellsOther.new.self in
+    on_ok_weaker c.raise_whole.result (λ told. outlines_told n t u c.raise_whole.new.shoens (outlines_controlled n c.in-TellsOther.rest t u c.in_ok-set_control-in-TellsOther.ensures.ok) told) c.raise_whole.ensures.stays
+
+pub returns-in-Ends-clause-outlines : goal.returns-in-Ends-clause-outlines
+returns-in-Ends-clause-outlines c = on_ok_weaker c.let_go.result (λ more. outlines_same c.args.number c.args.shoens.now.shoens) c.let_go.ensures.ok
+
+pub returns-in_ok-let_go-in-BreaksOff-clause-outlines : goal.returns-in_ok-let_go-in-BreaksOff-clause-outlines
+returns-in_ok-let_go-in-BreaksOff-clause-outlines c =
+    on_ok_weaker c.raise_whole-in-BreaksOff.result (λ told. lives_outlines c.args.number c.args.shoens.now.shoens c.raise_whole-in-BreaksOff.new.shoens.shoens told.shoens) c.raise_whole-in-BreaksOff.ensures.stays
+
+pub returns-in-Awaits-clause-calm : goal.returns-in-Awaits-clause-calm
+returns-in-Awaits-clause-calm c e = calm_same c.args.shoens.now
+
+pub returns-in_ok-set_control-in-Tells-clause-calm : goal.returns-in_ok-set_control-in-Tells-clause-calm
+returns-in_ok-set_control-in-Tells-clause-calm c =
+    let t = c.args.shoens.now in
+    on_ok_weaker c.obey.result (λ p e. calm_then t c.set_control.new.self c.obey.new.shoens (calm_controlled c.args.number c.in-Tells.rest t c.set_control.new.self c.in_ok-set_control-in-Tells.ensures.ok) (p e)) c.obey.ensures.calm
+
+pub returns-in_ok-set_control-in-TellsOther-clause-calm : goal.returns-in_ok-set_control-in-TellsOther-clause-calm
+returns-in_ok-set_control-in-TellsOther-clause-calm c =
+    let t = c.args.shoens.now in
+    let u = c.set_control-in-TellsOther.new.self in
+    let v = c.raise_whole.new.shoens in
+    on_ok_weaker c.raise_whole.result (λ told e. calm_then t u v (calm_controlled c.args.number c.in-TellsOther.rest t u c.in_ok-set_control-in-TellsOther.ensures.ok) (stays_calm u v told)) c.raise_whole.ensures.stays
+
+pub returns-in-Ends-clause-calm : goal.returns-in-Ends-clause-calm
+returns-in-Ends-clause-calm c = on_ok_weaker c.let_go.result (λ more e. calm_same c.args.shoens.now) c.let_go.ensures.ok
+
+pub returns-in_ok-let_go-in-BreaksOff-clause-calm : goal.returns-in_ok-let_go-in-BreaksOff-clause-calm
+returns-in_ok-let_go-in-BreaksOff-clause-calm c =
+    on_ok_weaker c.raise_whole-in-BreaksOff.result (λ told e. stays_calm c.args.shoens.now c.raise_whole-in-BreaksOff.new.shoens told) c.raise_whole-in-BreaksOff.ensures.stays

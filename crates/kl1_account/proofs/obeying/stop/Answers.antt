@@ -1,3 +1,7 @@
+use Rattle.std.proofs.Common.{◌≡◌, ap, false}
+use Rattle.kl1_account.specs.declared.draft.Draft.{Draft}
+use Rattle.kl1_account.proofs.Frames.{calm_same}
+use Rattle.kl1_account.proofs.Outlines.{outlines_same, outlines_told, outlines_changed}
 use Rattle.std.proofs.Common.{true, refl, sym, ◌∙◌}
 use Rattle.std.specs.Prelude.{Some, None}
 use Rattle.std.proofs.lemmas.Result.{on_ok_weaker}
@@ -22,3 +26,25 @@ returns-clause-ok c =
     on_ok_weaker c.report_name.result
     (λ told. drafts_stopped c.args.store.now.held c.report_name.new.store.held c.args.shoens.now c.set_stopped.new.self c.report_name.new.shoens c.args.draft.now c.report_name.new.draft c.args.number c.in-Some.shoen (sym c.lend.ensures.value ∙ (sym c.copied.ensures ∙ c.in-Some.is)) c.if-shoen.false c.in_ok-set_stopped.ensures.ok told)
     c.report_name.ensures.ok
+
+pub returns-in_default-clause-outlines : goal.returns-in_default-clause-outlines
+returns-in_default-clause-outlines c = outlines_same c.args.number c.args.shoens.now.shoens
+
+pub returns-then-shoen-clause-outlines : goal.returns-then-shoen-clause-outlines
+returns-then-shoen-clause-outlines c = outlines_same c.args.number c.args.shoens.now.shoens
+
+pub returns-clause-outlines : goal.returns-clause-outlines
+returns-clause-outlines c =
+    let n = c.args.number in
+    on_ok_weaker c.report_name.result
+    (λ told. outlines_told n c.args.shoens.now c.set_stopped.new.self c.report_name.new.shoens (outlines_changed n n c.args.shoens.now c.set_stopped.new.self (halted true) (λ h. refl) c.in_ok-set_stopped.ensures.ok) told)
+    c.report_name.ensures.stays
+
+pub returns-in_default-clause-calm : goal.returns-in_default-clause-calm
+returns-in_default-clause-calm c e = calm_same c.args.shoens.now
+
+pub returns-then-shoen-clause-calm : goal.returns-then-shoen-clause-calm
+returns-then-shoen-clause-calm c e = calm_same c.args.shoens.now
+
+pub returns-clause-calm : goal.returns-clause-calm
+returns-clause-calm c = on_ok_weaker c.report_name.result (λ told e. let z : true ≡ false = sym (ap (λ (x : Draft). x.shifts) c.report_name.ensures.rest) ∙ e in absurd (cc)) c.report_name.ensures.stays

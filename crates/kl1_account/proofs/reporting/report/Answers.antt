@@ -1,3 +1,5 @@
+use Rattle.std.proofs.Common.{refl}
+use Rattle.kl1_account.proofs.Frames.{stays_same, stays_changed}
 use Rattle.std.proofs.Common.{◌≡◌, ℕ, suc, ◌+◌, sym, ap, ◌∙◌, arith, subst}
 use Rattle.std.proofs.lemmas.Result.{on_ok_weaker}
 use Rattle.kl1_model.specs.Report.{report}
@@ -53,3 +55,15 @@ returns-in_ok-set_tail-in-Sent-clause-shoens c =
     let sent = rw c.in-Sent.is at c.in_ok-append_report.ensures.told in
     changed_in c.args.store.now.held c.append_report.new.store.held c.args.shoens.now c.set_tail.new.self c.args.number (tailed c.in-Sent.next) c.in_ok-append_report.ensures.grown
     (λ s i. record { control = i.control; tail = next_in c.args.store.now.held c.append_report.new.store.held c.in-Sent.next sent.sent.next_is sent.sent.variables; origin = i.origin }) c.requires.shoens c.in_ok-set_tail-in-Sent.ensures.ok
+
+pub returns-in_default-clause-stays : goal.returns-in_default-clause-stays
+returns-in_default-clause-stays c = stays_same c.args.shoens.now
+
+pub returns-in-Dropped-clause-stays : goal.returns-in-Dropped-clause-stays
+returns-in-Dropped-clause-stays c = stays_same c.args.shoens.now
+
+pub returns-in-Broken-clause-stays : goal.returns-in-Broken-clause-stays
+returns-in-Broken-clause-stays c = on_ok_weaker c.break_stream.result (λ is. stays_changed c.args.shoens.now c.break_stream.new.self c.args.number torn (λ h. refl) is) c.break_stream.ensures.ok
+
+pub returns-in_ok-set_tail-in-Sent-clause-stays : goal.returns-in_ok-set_tail-in-Sent-clause-stays
+returns-in_ok-set_tail-in-Sent-clause-stays c = stays_changed c.args.shoens.now c.set_tail.new.self c.args.number (tailed c.in-Sent.next) (λ h. refl) c.in_ok-set_tail-in-Sent.ensures.ok

@@ -5,6 +5,7 @@ use Rattle.kl1_model.specs.Report.{report_each}
 use Rattle.kl1_store.specs.Sound.{Grown}
 use Rattle.kl1_account.specs.Kept.{AreShoensIn}
 use Rattle.kl1_account.specs.Drafts.{DraftsAll, CanGoBack}
+use Rattle.kl1_account.specs.Frames.{Stays}
 use Rattle.kl1_account.proofs.reporting.report_each.Given as goal
 
 -- the shoens so far have reported
@@ -13,6 +14,7 @@ invariant-loop-number l = record {
   drafts : DraftsAll (λ f. report_each (take l.number-index l.numbers) (atom (text_of l.name))) l.initial.store.held l.store.held l.initial.shoens l.shoens l.initial.draft l.draft;
   shoens : AreShoensIn l.store.held l.shoens.shoens;
   back : CanGoBack l.initial.shoens l.shoens;
+  stays : Stays l.initial.shoens l.shoens;
   rest : l.draft ≡ record l.initial.draft { reports = l.draft.reports };
   grown : Grown l.initial.store.held l.store.held;
   hooks : l.store.hooks ≡ l.initial.store.hooks;

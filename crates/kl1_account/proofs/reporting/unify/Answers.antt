@@ -1,3 +1,4 @@
+use Rattle.kl1_account.proofs.Frames.{stays_same}
 use Rattle.std.proofs.Common.{sym, subst}
 use Rattle.std.proofs.lemmas.Result.{on_ok_weaker}
 use Rattle.kl1_text.specs.declared.cell_name.CellName.{CellName}
@@ -27,3 +28,6 @@ returns-in-Clash-clause-ok c =
     let M : Held CellName → Type 0 = λ x. IsMadeIn x (made_of goals names c.args.shoens.now c.args.draft.now) in
     clash_turns ms h mid c.raise.new.store.held (made_of goals names c.args.shoens.now c.args.draft.now) (made_of goals names c.raise.new.shoens c.raise.new.draft) c.args.number c.args.goal c.args.left c.args.right u (ok ms goals names (subst M (sym u.1) i)))
     c.raise.ensures.ok
+
+pub returns-in-Bound-clause-stays : goal.returns-in-Bound-clause-stays
+returns-in-Bound-clause-stays c = stays_same c.args.shoens.now

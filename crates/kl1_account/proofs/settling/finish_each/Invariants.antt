@@ -1,8 +1,9 @@
-use Rattle.std.proofs.Common.{◌≡◌, take}
+use Rattle.std.proofs.Common.{◌≡◌, ◌+◌, ◌≤◌, length, take}
 use Rattle.kl1_account.specs.Endings.{finished_each}
 use Rattle.kl1_store.specs.Sound.{Grown}
 use Rattle.kl1_account.specs.Kept.{AreShoensIn}
 use Rattle.kl1_account.specs.Drafts.{DraftsAll, CanGoBack}
+use Rattle.kl1_account.specs.Frames.{Stays}
 use Rattle.kl1_account.proofs.settling.finish_each.Given as goal
 
 -- the terminations so far are done
@@ -11,6 +12,8 @@ invariant-loop-number l = record {
   drafts : DraftsAll (λ f. finished_each (take l.number-index l.numbers)) l.initial.store.held l.store.held l.initial.shoens l.shoens l.initial.draft l.draft;
   shoens : AreShoensIn l.store.held l.shoens.shoens;
   back : CanGoBack l.initial.shoens l.shoens;
+  stays : Stays l.initial.shoens l.shoens;
+  ended : length l.initial.draft.ended.items + l.number-index ≤ length l.draft.ended.items;
   rest : l.draft ≡ record l.initial.draft { reports = l.draft.reports; ended = l.draft.ended };
   grown : Grown l.initial.store.held l.store.held;
   hooks : l.store.hooks ≡ l.initial.store.hooks;

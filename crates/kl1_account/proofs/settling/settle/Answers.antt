@@ -1,3 +1,7 @@
+use Rattle.std.proofs.Common.{◌+◌, ◌≤◌, length, arith}
+use Rattle.std.proofs.Common.{◌≡◌}
+use Rattle.kl1_account.specs.Walks.{ended_in}
+use Rattle.kl1_account.proofs.Frames.{on_ok_both, settled_frames, settled_stays}
 use Rattle.std.proofs.Common.{◌++◌, List, ℕ, sym, subst}
 use Rattle.std.proofs.lemmas.Result.{on_ok_weaker}
 use Rattle.kl1_account.specs.Drafts.{goals_left}
@@ -18,3 +22,24 @@ returns-clause-ok c =
     on_ok_weaker c.finish_each.result
     (λ finishing ms names. drafts_settle ms c.args.goals.now.goals names c.args.store.now.held c.finish_each.new.store.held c.args.shoens.now c.end_lives.new.shoens c.finish_each.new.shoens d c.finish_each.new.draft c.args.number ending ends finishing)
     c.finish_each.ensures.ok
+
+pub returns-clause-frames : goal.returns-clause-frames
+returns-clause-frames c =
+    let t = c.args.shoens.now in
+    let u = c.end_lives.new.shoens in
+    let ending = c.as_slice-ending.result.now in
+    let P : List ℕ → Type 0 = λ ns. u ≡ record t { shoens = ended_in ns t.shoens } in
+    let is = subst P (sym c.as_slice-ending.ensures.value) c.in_ok-end_lives.ensures.ok.tree_is in
+    on_ok_weaker c.finish_each.result (λ stays. settled_frames t u c.finish_each.new.shoens ending is stays) c.finish_each.ensures.stays
+
+pub returns-clause-lives : goal.returns-clause-lives
+returns-clause-lives c =
+    let t = c.args.shoens.now in
+    let u = c.end_lives.new.shoens in
+    let ending = c.as_slice-ending.result.now in
+    let P : List ℕ → Type 0 = λ ns. u ≡ record t { shoens = ended_in ns t.shoens } in
+    let is = subst P (sym c.as_slice-ending.ensures.value) c.in_ok-end_lives.ensures.ok.tree_is in
+    on_ok_both c.finish_each.result (λ stays more same. settled_stays t u c.finish_each.new.shoens ending c.args.draft.now.ended.items c.finish_each.new.draft.ended.items is stays more same) c.finish_each.ensures.stays c.finish_each.ensures.ended
+
+pub returns-clause-more : goal.returns-clause-more
+returns-clause-more c = on_ok_weaker c.finish_each.result (λ more. omega (arith, more)) c.finish_each.ensures.ended

@@ -1,3 +1,7 @@
+use Rattle.std.proofs.Common.{◌≡◌, ap}
+use Rattle.kl1_account.specs.declared.draft.Draft.{Draft}
+use Rattle.kl1_account.specs.Walks.{ended_in}
+use Rattle.kl1_account.proofs.Frames.{on_ok_both, stays_then, settled_frames, settled_stays, none_reached}
 use Rattle.std.proofs.Common.{◌++◌, List, ℕ, sym, ◌∙◌, subst}
 use Rattle.std.proofs.lemmas.Result.{on_ok_weaker}
 use Rattle.kl1_account.specs.Drafts.{goals_left}
@@ -20,3 +24,40 @@ returns-clause-ok c =
     (λ finishing ms names. drafts_settle_charged ms c.args.goals.now.goals names c.args.store.now.held c.report_each.new.store.held c.finish_each.new.store.held c.args.shoens.now c.end_lives.new.shoens c.report_each.new.shoens c.finish_each.new.shoens
     d c.report_each.new.draft c.finish_each.new.draft c.args.number ending reached ends (c.as_slice-reached.ensures.value ∙ c.in_ok-find_reached.ensures) c.in_ok-report_each.ensures.ok finishing)
     c.finish_each.ensures.ok
+
+pub returns-clause-frames : goal.returns-clause-frames
+returns-clause-frames c =
+    let t = c.args.shoens.now in
+    let u = c.end_lives.new.shoens in
+    let ending = c.as_slice-ending.result.now in
+    let P : List ℕ → Type 0 = λ ns. u ≡ record t { shoens = ended_in ns t.shoens } in
+    let is = subst P (sym c.as_slice-ending.ensures.value) c.in_ok-end_lives.ensures.ok.tree_is in
+    on_ok_weaker c.finish_each.result
+    (λ stays. settled_frames t u c.finish_each.new.shoens ending is (stays_then u c.report_each.new.shoens c.finish_each.new.shoens c.in_ok-report_each.ensures.stays stays))
+    c.finish_each.ensures.stays
+
+pub returns-clause-lives : goal.returns-clause-lives
+returns-clause-lives c =
+    let t = c.args.shoens.now in
+    let u = c.end_lives.new.shoens in
+    let ending = c.as_slice-ending.result.now in
+    let P : List ℕ → Type 0 = λ ns. u ≡ record t { shoens = ended_in ns t.shoens } in
+    let is = subst P (sym c.as_slice-ending.ensures.value) c.in_ok-end_lives.ensures.ok.tree_is in
+    let d = c.args.draft.now in
+    let told : c.report_each.new.draft.ended.items ≡ d.ended.items = ap (λ (x : Draft). x.ended.items) c.in_ok-report_each.ensures.rest in
+    on_ok_both c.finish_each.result
+    (λ stays more same. settled_stays t u c.finish_each.new.shoens ending c.report_each.new.draft.ended.items c.finish_each.new.draft.ended.items is (stays_then u c.report_each.new.shoens c.finish_each.new.shoens c.in_ok-report_each.ensures.stays stays) more (same ∙ sym told))
+    c.finish_each.ensures.stays c.finish_each.ensures.ended
+
+pub returns-clause-none : goal.returns-clause-none
+returns-clause-none c =
+    let t = c.args.shoens.now in
+    let u = c.end_lives.new.shoens in
+    let ending = c.as_slice-ending.result.now in
+    let P : List ℕ → Type 0 = λ ns. u ≡ record t { shoens = ended_in ns t.shoens } in
+    let is = subst P (sym c.as_slice-ending.ensures.value) c.in_ok-end_lives.ensures.ok.tree_is in
+    let d = c.args.draft.now in
+    let told : c.report_each.new.draft.ended.items ≡ d.ended.items = ap (λ (x : Draft). x.ended.items) c.in_ok-report_each.ensures.rest in
+    on_ok_weaker c.finish_each.result
+    (λ more same none. none_reached t u c.args.number ending c.find_reached.new.reached.items c.report_each.new.draft.ended.items c.finish_each.new.draft.ended.items is c.in_ok-find_reached.ensures more (same ∙ sym told) none)
+    c.finish_each.ensures.ended
