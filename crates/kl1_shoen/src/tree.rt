@@ -6,6 +6,7 @@ mod marking;
 mod walking;
 
 ghost use Rattle.std.specs.Prelude.{◌≡◌, ◌<◌, ◌≤◌, ◌+◌, ◌-◌, [], ◌∷◌, ◌++◌, suc, min, length, find, option_and_then, option_copied, option_map, unwrap_or, slice_get, IfSome, OnOk};
+ghost use Rattle.std.specs.List.{AllByRecursion};
 ghost use Rattle.kl1_shoen.specs.Shoens.{has_number, shoen_in, path_in, lives_in, AreNumbered, AreLower};
 
 use crate::counted::CountedShoens;
@@ -73,6 +74,7 @@ impl<N: NameValue> ShoenTree<N> {
         ensures value { result ≡ length self.now.shoens }
         ensures numbered { AreNumbered 0 self.now.shoens }
         ensures lower { AreLower self.now.shoens }
+        ensures worked { AllByRecursion (λ w. w ≤ length self.now.shoens) self.now.work }
     {
         self.shoens.items().len() as u64
     }
