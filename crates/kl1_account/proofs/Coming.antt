@@ -30,9 +30,10 @@ pub next_for : (last shoen count : ℕ) (priorities : List ℕ) (xs : List (Qual
 next_for last shoen count [] [] goals up low high ps = tt
 next_for last shoen count (p ∷ ps) [] goals up low high all = tt
 next_for last shoen count [] (x ∷ xs) goals up low high ps = tt
-next_for last shoen count (p ∷ ps) (x ∷ xs) goals up low high all =
-    (record { number = before_next last goals up; low = low; high = high; priority = all.0; monitor = λ m. absurd (cc) },
-    next_for (suc last) shoen count ps xs (goals ++ _ ∷ []) (up_to_append (suc last) goals (_ ∷ []) (up_to_more last (suc last) goals (omega arith) up) (omega arith, tt)) low high all.1)
+next_for last shoen count (p ∷ ps) (x ∷ xs) goals up low high all = (
+  record { number = before_next last goals up; low = low; high = high; priority = all.0; monitor = λ m. absurd (cc) },
+  next_for (suc last) shoen count ps xs (goals ++ _ ∷ []) (up_to_append (suc last) goals (_ ∷ []) (up_to_more last (suc last) goals (omega arith) up) (omega arith, tt)) low high all.1,
+)
 
 -- goals of other shoens are no monitors of this one
 no_monitors : (known n : ℕ) (gs : List (Goal CellName)) → known < n → AreOwned known gs → list_any (is_monitor_of n) gs ≡ false
@@ -44,9 +45,10 @@ no_monitors known n (g ∷ gs) lt o =
 
 -- the monitor of a shoen that opens, and its goal, come after those of an account
 pub next_two : (last known shoen high count : ℕ) (x : Cell CellName) (goals : List (Goal CellName)) → AreUpTo last goals → AreOwned known goals → known < shoen → shoen ≤ count → high ≤ monitor_priority → AreNext goals count (two_for last shoen high x)
-next_two last known shoen high count x goals up own lt le most =
-    (record { number = before_next last goals up; low = omega (arith, lt); high = le; priority = omega arith; monitor = λ m. no_monitors known shoen goals lt own },
-    (record { number = before_next (suc last) (goals ++ _ ∷ []) (up_to_append (suc last) goals (_ ∷ []) (up_to_more last (suc last) goals (omega arith) up) (omega arith, tt)); low = omega (arith, lt); high = le; priority = most; monitor = λ m. absurd (cc) }, tt))
+next_two last known shoen high count x goals up own lt le most = (
+  record { number = before_next last goals up; low = omega (arith, lt); high = le; priority = omega arith; monitor = λ m. no_monitors known shoen goals lt own },
+  (record { number = before_next (suc last) (goals ++ _ ∷ []) (up_to_append (suc last) goals (_ ∷ []) (up_to_more last (suc last) goals (omega arith) up) (omega arith, tt)); low = omega (arith, lt); high = le; priority = most; monitor = λ m. absurd (cc) }, tt),
+)
 
 -- some goals come, and then more
 pub next_append : (goals few bs : List (Goal CellName)) (count : ℕ) → AreNext goals count few → AreNext (goals ++ few) count bs → AreNext goals count (few ++ bs)

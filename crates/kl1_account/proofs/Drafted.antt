@@ -32,15 +32,17 @@ order_there h s (g ∷ l ∷ u ∷ []) e n = absurd (omega (arith, n))
 order_there h s (g ∷ l ∷ u ∷ a ∷ []) e n = absurd (omega (arith, n))
 order_there h s (g ∷ l ∷ u ∷ a ∷ k ∷ []) e n = absurd (omega (arith, n))
 order_there h s (g ∷ l ∷ u ∷ a ∷ k ∷ r ∷ []) e n =
-    let o : Order CellName = record { goal = g; low = l; high = u; allowance = a; control = k; reports = r } in
-    (o, record {
-      goal_is = ap (λ (xs : List (Cell CellName)). slice_get xs 0) (sym e);
-      low_is = ap (λ (xs : List (Cell CellName)). slice_get xs 1) (sym e);
-      high_is = ap (λ (xs : List (Cell CellName)). slice_get xs 2) (sym e);
-      allowance_is = ap (λ (xs : List (Cell CellName)). slice_get xs 3) (sym e);
-      control_is = ap (λ (xs : List (Cell CellName)). slice_get xs 4) (sym e);
-      reports_is = ap (λ (xs : List (Cell CellName)). slice_get xs 5) (sym e);
-    })
+    let o : Order CellName = record { goal = g; low = l; high = u; allowance = a; control = k; reports = r } in (
+      o,
+      record {
+        goal_is = ap (λ (xs : List (Cell CellName)). slice_get xs 0) (sym e);
+        low_is = ap (λ (xs : List (Cell CellName)). slice_get xs 1) (sym e);
+        high_is = ap (λ (xs : List (Cell CellName)). slice_get xs 2) (sym e);
+        allowance_is = ap (λ (xs : List (Cell CellName)). slice_get xs 3) (sym e);
+        control_is = ap (λ (xs : List (Cell CellName)). slice_get xs 4) (sym e);
+        reports_is = ap (λ (xs : List (Cell CellName)). slice_get xs 5) (sym e);
+      },
+    )
 order_there h s (g ∷ l ∷ u ∷ a ∷ k ∷ r ∷ x ∷ xs) e n = absurd (omega (arith, n))
 
 -- a move that is found is one of the definitions

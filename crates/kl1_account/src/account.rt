@@ -19,17 +19,15 @@ use crate::installing::install;
 use crate::limits::is_number;
 use crate::loading::{Loading, draft_module, install_module, prepare};
 use crate::names::{AccountNames, publish};
-use kl1_event::{ClauseNo, GoalNo, ShoenNo};
 use crate::printing::print_cell;
 use crate::reducing::draft_reduction;
-use crate::spelling::spell_anew;
 use crate::sending::draft_message;
 use crate::settling::Walk;
-use kl1_event::Refusal;
-use kl1_event::Reply;
+use crate::spelling::spell_anew;
 use crate::startable::{Starting, code_of};
 use crate::starting::{next_goals, next_number, place, prepare_start};
 use kl1_atoms::AtomSource;
+use kl1_event::{ClauseNo, GoalNo, Refusal, Reply, ShoenNo};
 use kl1_goals::GoalTable;
 use kl1_match::Scratch;
 use kl1_model::Message;
@@ -196,7 +194,11 @@ impl Account {
         };
         let number = names.intern(seat, text);
         self.names.learn(text, number);
-        spell_anew(&mut self.store, &mut self.draft, CellName::of_number(number));
+        spell_anew(
+            &mut self.store,
+            &mut self.draft,
+            CellName::of_number(number),
+        );
     }
 
     /// Puts a draft in place.
@@ -320,15 +322,7 @@ impl Account {
         let last = next_goals(self.last_goal)?;
         let shoen = next_number(self.shoens.len())?;
         let counted = self.counted();
-        let code = match code_of(
-            self.alloc,
-            &self.names,
-            counted,
-            allowance,
-            low,
-            high,
-            goal,
-        )? {
+        let code = match code_of(self.alloc, &self.names, counted, allowance, low, high, goal)? {
             Starting::Refused(refusal) => return Ok(Reply::Refused(refusal)),
             Starting::Coded(code) => code,
         };

@@ -70,11 +70,7 @@ fn look_again(
 }
 
 /// Finds which goals may step now, where that may be other than before.
-fn set_flags(
-    shoens: &ShoenTree<CellName>,
-    draft: &mut Draft,
-    walk: &Walk,
-) -> Result<(), AllocError>
+fn set_flags(shoens: &ShoenTree<CellName>, draft: &mut Draft, walk: &Walk) -> Result<(), AllocError>
     ensures flags { OnOk result (ShiftsFor shoens.now walk.now.reached.items draft.old draft.new) }
     ensures rest { OnOk result (draft.new ≡ record draft.old { enabled = draft.new.enabled; shifts = draft.new.shifts }) }
 {

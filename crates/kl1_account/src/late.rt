@@ -213,5 +213,4 @@ pub(crate) fn settle_late(
 /// What comes after the effects of a reduction leaves the same, whether a variable becomes a name before it or after it.
 pub(crate) fn late_law()
     ensures law { (n v : ℕ) → (a : List ℕ) → (s : State) → v ≤ s.last_variable → settle_charged n (replace_in_state v (atom a) s) ≡ replace_in_state v (atom a) (settle_charged_late v n s) }
-{
-}
+{}

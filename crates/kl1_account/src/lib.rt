@@ -4,8 +4,8 @@
 mod account;
 mod account_name;
 mod acting;
-mod children;
 mod asking;
+mod children;
 mod committing;
 mod completing;
 mod counted;
