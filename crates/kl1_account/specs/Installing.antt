@@ -18,6 +18,8 @@ pub record IsBegun (removed last variables nodes reports : ℕ) (d : Draft) : Ty
   pub nodes_are : d.nodes ≡ nodes
   pub reports_are : d.reports ≡ reports
   pub name : d.name ≡ None
+  pub spelled : d.spelled ≡ None
+  pub told : d.told.items ≡ []
   pub shifts : d.shifts ≡ false
   pub changes : d.changes.items ≡ []
 

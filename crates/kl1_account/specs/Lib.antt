@@ -27,3 +27,5 @@ pub mod Sending
 pub mod Late
 pub mod Frames
 pub mod Outlines
+pub mod Leaving
+pub mod Spelling

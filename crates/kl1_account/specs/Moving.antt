@@ -1,5 +1,6 @@
 -- What the move of a goal makes of a draft.
 use Rattle.std.specs.Prelude.{◌≡◌, ℕ, List, map, Option, Some, None, option_map, unwrap_or}
+use Rattle.kl1_model.specs.Module.{Module}
 use Rattle.kl1_model.specs.Match.{Candidate}
 use Rattle.kl1_model.specs.Opening.{clipped}
 use Rattle.kl1_model.specs.Reduction as model
@@ -19,12 +20,12 @@ use Rattle.kl1_goals.specs.declared.goal.Goal.{Goal}
 use Rattle.kl1_shoen.specs.declared.shoen.Shoen.{Shoen}
 use Rattle.kl1_shoen.specs.Shoens.{Tree}
 use Rattle.kl1_modules.specs.Numbered.{Numbered}
-use Rattle.kl1_modules.specs.Finding.{contents}
 use Rattle.kl1_account.specs.declared.draft.Draft.{Draft}
 use Rattle.kl1_account.specs.Fitting.{Reading}
 use Rattle.kl1_atoms.specs.declared.known.Known.{Known}
+use Rattle.kl1_atoms.specs.Names.{number_by}
 use Rattle.kl1_account.specs.Account.{meaning, goal_with, aim, texts_of}
-use Rattle.kl1_account.specs.Calling.{ReadsName, CanRename}
+use Rattle.kl1_account.specs.Calling.{keeps_names, name_of, ReadsName}
 use Rattle.kl1_account.specs.Drafts.{Drafts, DraftsAll}
 use Rattle.kl1_account.specs.Works.{Knows}
 
@@ -40,32 +41,33 @@ Commits p place places goal x goals old new t u before after =
     (ms : List Numbered) (k : Reading → Candidate) → ((f : Reading) → Knows ms f → IsCandidate f old p place places (k f)) →
     (names : List (List ℕ)) → Drafts ms (λ f. moved (goal_with (meaning f old) goal) (aim f old x) (commits (k f))) old new goals names t u before after
 
--- where a move uses a text as a name, each reading that knows these modules reads the number by which it stands as this text
-abbrev pub ReadsMove : Move CellName → List Numbered → List Known → List ℕ → Type 0
-ReadsMove (move.Commits place) ms known text = Unit {0}
-ReadsMove (move.Raises b) ms known text = Unit {0}
-ReadsMove (move.Unifies a b) ms known text = Unit {0}
-ReadsMove (move.Names a) ms known text = ReadsName ms known text
-ReadsMove (move.Opens s) ms known text = Unit {0}
-ReadsMove move.Goes ms known text = Unit {0}
+-- where a move uses a text as a name, each reading that knows these modules reads its number as this text, or the term can't become
+-- that name
+abbrev pub ReadsMove : Move CellName → List Numbered → Held CellName → List Known → List ℕ → Type 0
+ReadsMove (move.Commits place) ms h known text = Unit {0}
+ReadsMove (move.Raises b) ms h known text = Unit {0}
+ReadsMove (move.Unifies a b) ms h known text = Unit {0}
+ReadsMove (move.Names a) ms h known text = ReadsName ms h known text a
+ReadsMove (move.Opens s) ms h known text = Unit {0}
+ReadsMove move.Goes ms h known text = Unit {0}
+
+-- the name that is drafted by a move, where this text stands for a name
+abbrev pub name_for : Move CellName → List Known → List ℕ → Option (List ℕ)
+name_for (move.Commits place) known text = None
+name_for (move.Raises b) known text = None
+name_for (move.Unifies a b) known text = None
+name_for (move.Names a) known text = name_of (number_by known text) (keeps_names known text) text
+name_for (move.Opens s) known text = None
+name_for move.Goes known text = None
 
 -- a goal of an account with these goals and names, which is this cell and has been removed, has done this move by the clause of some
 -- number, where this text stands for a name
 abbrev pub Moves : Predicate CellName → Move CellName → List (Place CellName) → List ℕ → Goal CellName → Qualified CellName → List (Goal CellName) → List Known → Held CellName → Held CellName → Tree CellName → Tree CellName → Draft → Draft → Type 0
 Moves p made places text goal x goals known old new t u before after =
-    (ms : List Numbered) (clause : ℕ) (m : Reading → model.Move) → ReadsMove made ms known text →
-    ((f : Reading) → Knows ms f → MovesAs f old (contents ms) (aim f old x) clause p places text (Some made)) →
-    ((f : Reading) → Knows ms f → move_by (contents ms) (aim f old x) clause ≡ Some (m f)) →
+    (ms : List Numbered) (modules : List Module) (clause : ℕ) (m : Reading → model.Move) → ReadsMove made ms old known text →
+    ((f : Reading) → Knows ms f → MovesAs f old modules (aim f old x) clause p places text (Some made)) →
+    ((f : Reading) → Knows ms f → move_by modules (aim f old x) clause ≡ Some (m f)) →
     Drafts ms (λ f. moved (goal_with (meaning f old) goal) (aim f old x) (m f)) old new goals (texts_of known) t u before after
-
--- after a move, a name that is drafted can get another number; only a move that uses a text as a name drafts one
-abbrev pub CanRenameAfter : Move CellName → List ℕ → List Known → Held CellName → Held CellName → Draft → Type 0
-CanRenameAfter (move.Commits place) text known old new after = after.name ≡ None
-CanRenameAfter (move.Raises b) text known old new after = after.name ≡ None
-CanRenameAfter (move.Unifies a b) text known old new after = after.name ≡ None
-CanRenameAfter (move.Names a) text known old new after = CanRename text known a old new after
-CanRenameAfter (move.Opens s) text known old new after = after.name ≡ None
-CanRenameAfter move.Goes text known old new after = after.name ≡ None
 
 -- a goal that is this cell and has been removed has opened a child by the order that a structure is, or has raised an exception where
 -- that would pass a limit

@@ -1,5 +1,5 @@
 -- Reductions: which are refused, and what an account is after a draft is put in place.
-use Rattle.std.specs.Prelude.{◌≡◌, ℕ, suc, ◌<◌, ◌&&◌, Bool, true, false, List, [], find, Option, Some, None}
+use Rattle.std.specs.Prelude.{◌≡◌, ℕ, suc, ◌+◌, ◌<◌, ◌&&◌, nat_lt, if◌then◌else◌, Bool, true, false, List, [], length, find, Option, Some, None}
 use Rattle.kl1_model.specs.Limits.{most_entries}
 use Rattle.kl1_model.specs.State.{State, without_goal}
 use Rattle.kl1_model.specs.Tree.{charge}
@@ -12,6 +12,7 @@ use Rattle.kl1_model.specs.Step.{step}
 use Rattle.kl1_text.specs.declared.cell_name.CellName.{CellName}
 use Rattle.kl1_store.specs.declared.qualified.Qualified.{Qualified}
 use Rattle.kl1_store.specs.Held.{Held}
+use Rattle.kl1_store.specs.Hooks.{Hook, Kept}
 use Rattle.kl1_stream.specs.declared.control.Control.{Control}
 use Rattle.kl1_stream.specs.declared.control.Control.TheVariants.{Awaits, Tells, TellsOther, Ends, BreaksOff}
 use Rattle.kl1_stream.specs.Controls.{control_as}
@@ -22,6 +23,7 @@ use Rattle.kl1_moves.specs.Moves.{MovesAs}
 use Rattle.kl1_goals.specs.declared.task.Task.TheVariants.{Monitor, Reduces}
 use Rattle.kl1_goals.specs.declared.goal.Goal.{Goal}
 use Rattle.kl1_goals.specs.Lists.{has_number}
+use Rattle.kl1_goals.specs.Tables.{Tabled}
 use Rattle.kl1_shoen.specs.declared.shoen.Shoen.{Shoen}
 use Rattle.kl1_shoen.specs.Shoens.{Tree}
 use Rattle.kl1_modules.specs.Numbered.{Numbered}
@@ -29,11 +31,15 @@ use Rattle.kl1_modules.specs.Finding.{contents}
 use Rattle.kl1_event.specs.declared.refusal.Refusal.{Refusal}
 use Rattle.kl1_event.specs.Views.{refusal_of}
 use Rattle.kl1_account.specs.declared.draft.Draft.{Draft}
-use Rattle.kl1_account.specs.Fitting.{Reading}
+use Rattle.kl1_atoms.specs.declared.known.Known.{Known}
+use Rattle.kl1_account.specs.Fitting.{Reading, Fits}
 use Rattle.kl1_account.specs.Account.{Account, meaning, goal_with, state_of, aim}
 use Rattle.kl1_account.specs.Works.{Knows}
-use Rattle.kl1_account.specs.Installing.{goals_after}
+use Rattle.kl1_account.specs.Installing.{goals_after, IsFitting}
 use Rattle.kl1_account.specs.Settled.{AreEnabled}
+use Rattle.kl1_account.specs.Keeping.{IsKept}
+use Rattle.kl1_account.specs.Calling.{IsNewName}
+use Rattle.kl1_account.specs.Spelling.{IsSpelledIn, HasName, IsPublished}
 
 -- a reduction of an account is refused, for each reading that knows its modules
 abbrev pub Refuses : Account → ℕ → ℕ → Refusal → Type 0
@@ -111,3 +117,51 @@ put_in a h t d = record a {
   reports = d.reports;
   entries = suc a.entries;
 }
+
+-- an account of this name with these parts
+abbrev pub account_at : List ℕ → Held CellName → List (Goal CellName) → Tree CellName → List Numbered → List Known → ℕ → ℕ → ℕ → ℕ → ℕ → Account
+account_at own h goals t ms known last variables nodes reports entries = record {
+  own_name = own;
+  held = h;
+  goals = goals;
+  shoens = t.shoens;
+  work = t.work;
+  modules = ms;
+  names = known;
+  last_goal = last;
+  variables = variables;
+  nodes = nodes;
+  reports = reports;
+  entries = entries;
+}
+
+-- an account comes to this one by a reduction, and all that always holds of it holds
+pub record ReducesTo (a b : Account) (n c : ℕ) (hooks : List Hook) (known : ℕ) : Type 0 where
+  pub step : (f : Reading) → Fits b.names f → step (state_of f a) (reduce n c) ≡ record { state = state_of f b; reply = reduced }
+  pub kept : IsKept b hooks known
+
+-- an account after a draft is put in place, with these names
+abbrev pub named_in : Account → Held CellName → Tree CellName → Draft → List Known → Account
+named_in a h t d names = record (put_in a h t d) { names = names }
+
+-- a reduction of an account is drafted: a table of its goals takes the draft in, and when the name is published that may be drafted, the
+-- account with the draft in place is what it comes to
+pub record IsReduced (a : Account) (n c : ℕ) (new : Kept CellName) (u : Tree CellName) (table : Tabled CellName) (d : Draft) : Type 0 where
+  pub fitting : IsFitting a.goals table.shoens table.room table.shoen_room (nat_lt table.shoens (length u.shoens)) d
+  pub count : (if nat_lt table.shoens (length u.shoens) then table.shoens + 1 else table.shoens) ≡ length u.shoens
+  pub name : IsNewName a.names d.name
+  pub spelled : IsSpelledIn d.spelled new.held
+  pub has : HasName d.spelled d.name
+  pub reduces : (more : List Known) (last : Held CellName) → IsPublished a.names more d new.held last → ReducesTo a (named_in a last u d more) n c new.hooks (length u.shoens)
+
+-- a reduction of an account is refused for a reason, and nothing has changed
+pub record IsRefused (a : Account) (n c : ℕ) (old new : Kept CellName) (t u : Tree CellName) (r : Refusal) : Type 0 where
+  pub held : new.held ≡ old.held
+  pub hooks : new.hooks ≡ old.hooks
+  pub tree : u ≡ t
+  pub steps : Refuses a n c r
+
+-- what comes of a reduction of an account that is drafted
+abbrev pub ReducesAs : Account → ℕ → ℕ → Kept CellName → Kept CellName → Tree CellName → Tree CellName → Tabled CellName → Draft → Option Refusal → Type 0
+ReducesAs a n c old new t u table d None = IsReduced a n c new u table d
+ReducesAs a n c old new t u table d (Some r) = IsRefused a n c old new t u r

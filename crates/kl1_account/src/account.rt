@@ -153,7 +153,10 @@ impl Account {
         ensures keeps { Keeps A.is_of A.place A.knows names.old names.new seat.old seat.new }
         ensures knows { A.knows seat.new ≡ self.new.names }
     {
+        self.numbers.clear();
+        self.numbers.reserve(1)?;
         let mark = self.store.mark();
+        let _ordered = self.goals.shoens();
         self.shoens.begin();
         let drafted = draft_reduction(
             &mut self.store,
@@ -172,37 +175,25 @@ impl Account {
             number,
             clause,
         );
-        match drafted {
+        let refused = match drafted {
             Err(memory) => {
                 self.store.back(mark);
                 self.shoens.back();
-                Err(memory)
+                return Err(memory);
             }
-            Ok(Some(refusal)) => Ok(Some(refusal)),
-            Ok(None) => {
-                self.name_drafted(names, seat);
-                self.put_drafted();
-                Ok(None)
-            }
-        }
-    }
-
-    /// Publishes the name that a draft has, if it is new, and puts its number where a spare one stood for it.
-    fn name_drafted<A: AtomSource>(&mut self, names: &mut A, seat: &mut A::Seat) {
-        let Some(text) = self.draft.name else {
-            return;
+            Ok(refused) => refused,
         };
-        let number = names.intern(seat, text);
-        self.names.learn(text, number);
+        if let Some(refusal) = refused {
+            return Ok(Some(refusal));
+        }
         spell_anew(
+            names,
+            seat,
+            &mut self.names,
+            &mut self.numbers,
             &mut self.store,
-            &mut self.draft,
-            CellName::of_number(number),
+            &self.draft,
         );
-    }
-
-    /// Puts a draft in place.
-    fn put_drafted(&mut self) {
         let opens = self.goals.shoens() < self.shoens.len() as usize;
         install(&mut self.goals, &self.draft, opens);
         self.last_goal = self.draft.last_goal;
@@ -210,6 +201,7 @@ impl Account {
         self.nodes = self.draft.nodes;
         self.reports = self.draft.reports;
         self.entries += 1;
+        Ok(None)
     }
 
     /// Sends a message to the shoen of a number, which the console started.

@@ -10,11 +10,10 @@ ghost use Rattle.kl1_goals.specs.Lists.{is_monitor};
 ghost use Rattle.kl1_account.specs.Kept.{IsOwned, AreShoensIn};
 ghost use Rattle.kl1_account.specs.Drafts.{goals_left, HasBegun, CanGoBack};
 ghost use Rattle.kl1_account.specs.Acting.{Acts, Reads};
-ghost use Rattle.kl1_account.specs.Frames.{KeepsFrames, SameFlags};
-ghost use Rattle.kl1_account.specs.Outlines.{KeepsOthers};
+ghost use Rattle.kl1_account.specs.Moving.{name_for};
+ghost use Rattle.kl1_account.specs.Leaving.{Leaves, IsActed, IsHeard};
 ghost use Rattle.kl1_shoen.specs.Shoens.{is_enabled_at};
-ghost use Rattle.std.specs.List.{AllByRecursion};
-ghost use Rattle.std.specs.Prelude.{◌≤◌, ◌∷◌, true, false};
+ghost use Rattle.std.specs.Prelude.{true};
 
 use crate::draft::Draft;
 use crate::moving::do_move;
@@ -55,13 +54,17 @@ pub(crate) fn act(
     requires owned { IsOwned (length shoens.old.shoens) goal }
     requires begun { HasBegun draft.old }
     requires none { draft.old.name ≡ None }
+    requires empty { draft.old.added.items ≡ [] }
+    requires may { is_enabled_at shoens.old.shoens shoens.old.work goal.shoen ≡ true }
     requires alive { alive ≡ count_by (λ g. not (is_monitor g)) (goals_left (goals.now.goals ++ draft.old.added.items) draft.old) }
     requires few { length shoens.old.work + 1 < 2 ^ 63 }
     ensures ok { OnOk result (Acts predicate.entry made (taken_places trial.old) trial.old.text goal cell goals.now.goals names.now.names store.old.held store.new.held shoens.old shoens.new draft.old draft.new) }
     ensures shoens { OnOk result (AreShoensIn store.new.held shoens.new.shoens) }
     ensures back { CanGoBack shoens.old shoens.new }
-    ensures frames { OnOk result (KeepsFrames shoens.old.shoens shoens.new.shoens) }
-    ensures flags { OnOk result (is_enabled_at shoens.old.shoens shoens.old.work goal.shoen ≡ true → AllByRecursion (λ w. w ≤ length shoens.old.shoens) shoens.old.work → draft.new.ended.items ≡ draft.old.ended.items → walk.new.reached.items ≡ [] → SameFlags shoens.old shoens.new) }
+    ensures leaves { OnOk result (Leaves 0 store.new.held shoens.old shoens.new walk.new.reached.items draft.old draft.new) }
+    ensures name { OnOk result (draft.new.name ≡ name_for made names.now.names trial.old.text) }
+    ensures rest { OnOk result (IsActed draft.old draft.new) }
+    ensures spelled { OnOk result (draft.new.spelled ≡ draft.old.spelled) }
     ensures grown { Grown store.old.held store.new.held }
     ensures hooks { store.new.hooks ≡ store.old.hooks }
 {
@@ -89,11 +92,12 @@ pub(crate) fn read(
     requires shoens { AreShoensIn store.old.held shoens.old.shoens }
     requires none { draft.old.aborted.items ≡ [] }
     requires early { draft.old.ended.items ≡ [] }
+    requires empty { draft.old.added.items ≡ [] }
     ensures ok { OnOk result ((names : List (List ℕ)) → Reads number control goals.now.goals names store.old.held store.new.held shoens.old shoens.new draft.old draft.new) }
     ensures shoens { OnOk result (AreShoensIn store.new.held shoens.new.shoens) }
     ensures back { CanGoBack shoens.old shoens.new }
-    ensures flags { OnOk result (AllByRecursion (λ w. w ≤ length shoens.old.shoens) shoens.old.work → draft.new.shifts ≡ false → draft.new.ended.items ≡ [] → SameFlags shoens.old shoens.new) }
-    ensures controls { OnOk result (KeepsOthers number shoens.old.shoens shoens.new.shoens) }
+    ensures leaves { OnOk result (Leaves number store.new.held shoens.old shoens.new [] draft.old draft.new) }
+    ensures rest { OnOk result (IsHeard draft.old draft.new) }
     ensures grown { Grown store.old.held store.new.held }
     ensures hooks { store.new.hooks ≡ store.old.hooks }
 {

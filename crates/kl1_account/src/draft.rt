@@ -3,7 +3,7 @@
 ghost use Rattle.std.specs.Prelude.{◌≡◌, []};
 
 use kl1_goals::Goal;
-use kl1_store::Qualified;
+use kl1_store::{Point, Qualified};
 use kl1_text::{AtomText, CellName};
 use std::alloc::Global;
 
@@ -14,11 +14,12 @@ pub(crate) struct Change {
     pub standing: Option<u64>,
 }
 
-/// A number that is to hang on a variable.
+/// A variable that becomes a name whose number isn't known yet: a spare number stands for it, and that binding is the last one.
 #[derive(Clone, Copy)]
-pub(crate) struct Hanging {
+pub(crate) struct Spelled {
     pub variable: u32,
-    pub number: u64,
+    /// How much the store held before that binding.
+    pub before: Point,
 }
 
 /// What an event is to leave of an account's goals and counters, before it is put in place. The store and the tree of shoens are
@@ -43,10 +44,8 @@ pub(crate) struct Draft {
     pub reports: u64,
     /// A name that is new to the account.
     pub name: Option<AtomText>,
-    /// The variable that becomes the new name when its number is known, where there is one: the last binding of the event.
-    pub spelled: Option<u32>,
-    /// The numbers that are to hang on variables after that binding, with these.
-    pub hooks: Vec<Hanging>,
+    /// The variable that becomes the new name, where there is one.
+    pub spelled: Option<Spelled>,
     /// Whether goals that stay may be let or held back other than before.
     pub shifts: bool,
     /// Which shoens let their goals step, the first of them shoen 1, where that may be other than before.
@@ -73,7 +72,6 @@ impl Draft {
             reports: 0,
             name: None,
             spelled: None,
-            hooks: Vec::new(alloc),
             shifts: false,
             enabled: Vec::new(alloc),
             changes: Vec::new(alloc),

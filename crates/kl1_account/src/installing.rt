@@ -30,6 +30,7 @@ pub(crate) fn begin(
     draft.nodes = nodes;
     draft.reports = reports;
     draft.name = None;
+    draft.spelled = None;
     draft.shifts = false;
     draft.enabled.clear();
     draft.changes.clear();

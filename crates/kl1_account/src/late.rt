@@ -1,10 +1,11 @@
 // What comes after the effects of a goal that makes a name, while the variable that is to become the name is still unbound.
 
-ghost use Rattle.std.specs.Prelude.{◌≡◌, ◌≤◌, List, ℕ, find, option_map, OnOk};
+ghost use Rattle.std.specs.Prelude.{◌≡◌, ◌≤◌, ◌<◌, false, List, ℕ, [], length, find, option_map, OnOk};
 ghost use Rattle.kl1_model.specs.Term.{atom};
 ghost use Rattle.kl1_model.specs.Text.{text_of};
 ghost use Rattle.kl1_model.specs.State.{State, replace_in_state};
 ghost use Rattle.kl1_model.specs.Ending.{settle_charged};
+ghost use Rattle.kl1_store.specs.Held.{is_bound};
 ghost use Rattle.kl1_store.specs.Sound.{Grown};
 ghost use Rattle.kl1_shoen.specs.Shoens.{has_number};
 ghost use Rattle.kl1_modules.specs.Numbered.{Numbered};
@@ -13,6 +14,7 @@ ghost use Rattle.kl1_account.specs.Account.{meaning, shoen_with};
 ghost use Rattle.kl1_account.specs.Kept.{AreShoensIn};
 ghost use Rattle.kl1_account.specs.declared.draft.Draft.{Draft};
 ghost use Rattle.kl1_account.specs.Drafts.{Drafts, DraftsAll, CanGoBack};
+ghost use Rattle.kl1_account.specs.Frames.{KeepsFrames, Stays, NoneReached};
 ghost use Rattle.kl1_account.specs.Late.{is_tail_of, break_at, report_late, report_each_late, close_late, finished_late, finished_each_late, settle_charged_late};
 
 use crate::draft::Draft;
@@ -194,9 +196,17 @@ pub(crate) fn settle_late(
     variable: u32,
 ) -> Result<(), AllocError>
     requires shoens { AreShoensIn store.old.held shoens.old.shoens }
+    requires within { variable < store.old.held.variables }
+    requires unbound { is_bound variable store.old.held.bindings ≡ false }
     ensures ok { OnOk result ((ms : List Numbered) (names : List (List ℕ)) → Drafts ms (λ f. settle_charged_late variable number) store.old.held store.new.held goals.now.goals names shoens.old shoens.new draft.old draft.new) }
     ensures shoens { OnOk result (AreShoensIn store.new.held shoens.new.shoens) }
     ensures back { CanGoBack shoens.old shoens.new }
+    ensures free { OnOk result (is_bound variable store.new.held.bindings ≡ false) }
+    ensures frames { OnOk result (KeepsFrames shoens.old.shoens shoens.new.shoens) }
+    ensures lives { OnOk result (draft.new.ended.items ≡ draft.old.ended.items → Stays shoens.old shoens.new) }
+    ensures none { OnOk result (draft.new.ended.items ≡ draft.old.ended.items → walk.new.reached.items ≡ [] → NoneReached shoens.old number) }
+    ensures count { OnOk result (length shoens.new.shoens ≡ length shoens.old.shoens) }
+    ensures work { OnOk result (shoens.new.work ≡ shoens.old.work) }
     ensures rest { draft.new ≡ record draft.old { reports = draft.new.reports; ended = draft.new.ended } }
     ensures grown { Grown store.old.held store.new.held }
     ensures hooks { store.new.hooks ≡ store.old.hooks }

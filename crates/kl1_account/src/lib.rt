@@ -9,6 +9,7 @@ mod children;
 mod committing;
 mod completing;
 mod counted;
+mod doing;
 mod draft;
 mod installing;
 mod judging;

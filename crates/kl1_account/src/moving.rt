@@ -1,6 +1,6 @@
 // Moves of goals.
 
-ghost use Rattle.std.specs.Prelude.{◌≡◌, ◌<◌, length, not, ◌++◌, Some, None, count_by, OnOk};
+ghost use Rattle.std.specs.Prelude.{◌≡◌, ◌<◌, ◌≤◌, ◌+◌, [], length, not, ◌++◌, Some, None, count_by, OnOk};
 ghost use Rattle.kl1_store.specs.Held.{IsIn};
 ghost use Rattle.kl1_store.specs.Sound.{Grown};
 ghost use Rattle.kl1_clause.specs.Predicates.{AreSome};
@@ -8,7 +8,8 @@ ghost use Rattle.kl1_moves.specs.Moves.{taken_places, MoveIn};
 ghost use Rattle.kl1_goals.specs.Lists.{is_monitor};
 ghost use Rattle.kl1_account.specs.Kept.{IsOwned, AreShoensIn};
 ghost use Rattle.kl1_account.specs.Drafts.{goals_left, HasBegun, CanGoBack};
-ghost use Rattle.kl1_account.specs.Moving.{Moves, IsMoved, CanRenameAfter};
+ghost use Rattle.kl1_account.specs.Moving.{Moves, IsMoved, name_for};
+ghost use Rattle.kl1_account.specs.Leaving.{Comes};
 ghost use Rattle.kl1_account.specs.Frames.{Stays};
 
 use crate::children::open_child;
@@ -26,8 +27,7 @@ use kl1_text::{AtomText, CellName};
 use std::alloc::AllocError;
 
 /// Does a move of a goal that a draft removes, which is this cell; so many goals are there without it. Where the move would pass a
-/// limit, the goal raises an exception in its place. Where it uses a name that is new to the account, a spare number stands for it, as
-/// `name_term` says. Where memory is refused, the store may have grown, and the draft is of no use.
+/// limit, the goal raises an exception in its place. Where it uses a name that is new to the account, no variable becomes it. Where memory is refused, the store may have grown, and the draft is of no use.
 pub(crate) fn do_move(
     store: &mut Store<CellName>,
     goals: &GoalTable<CellName>,
@@ -49,9 +49,13 @@ pub(crate) fn do_move(
     requires owned { IsOwned (length shoens.old.shoens) goal }
     requires begun { HasBegun draft.old }
     requires none { draft.old.name ≡ None }
+    requires empty { draft.old.added.items ≡ [] }
     requires alive { alive ≡ count_by (λ g. not (is_monitor g)) (goals_left (goals.now.goals ++ draft.old.added.items) draft.old) }
     ensures ok { OnOk result (Moves predicate.entry made (taken_places trial.old) trial.old.text goal cell goals.now.goals names.now.names store.old.held store.new.held shoens.old shoens.new draft.old draft.new) }
-    ensures redo { OnOk result (CanRenameAfter made trial.old.text names.now.names store.old.held store.new.held draft.new) }
+    ensures name { OnOk result (draft.new.name ≡ name_for made names.now.names trial.old.text) }
+    ensures comes { OnOk result (Comes store.new.held (length shoens.old.shoens) (length shoens.new.shoens) draft.old draft.new) }
+    ensures more { OnOk result (length shoens.old.shoens ≤ length shoens.new.shoens) }
+    ensures one_opens { OnOk result (length shoens.new.shoens ≤ length shoens.old.shoens + 1) }
     ensures shoens { OnOk result (AreShoensIn store.new.held shoens.new.shoens) }
     ensures back { CanGoBack shoens.old shoens.new }
     ensures stays { OnOk result (Stays shoens.old shoens.new) }

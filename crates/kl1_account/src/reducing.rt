@@ -1,6 +1,7 @@
 // Reductions that are drafted.
 
-ghost use Rattle.std.specs.Prelude.{◌≡◌, Some, IfOk, IfErr};
+ghost use Rattle.std.specs.Prelude.{◌≡◌, ◌<◌, ℕ, List, Some, None, IfOk, IfErr};
+ghost use Rattle.kl1_model.specs.Limits.{most_entries};
 ghost use Rattle.kl1_clause.specs.Predicates.{AreSome};
 ghost use Rattle.kl1_moves.specs.Kinds.{IsKind, KindIn};
 ghost use Rattle.kl1_moves.specs.Moves.{HasPredicate, MoveIn, taken_places};
@@ -9,14 +10,20 @@ ghost use Rattle.kl1_modules.specs.Finding.{contents};
 ghost use Rattle.kl1_model.specs.Term.{Term};
 ghost use Rattle.kl1_text.specs.declared.cell_name.CellName.{CellName};
 ghost use Rattle.kl1_store.specs.Held.{Held};
+ghost use Rattle.kl1_store.specs.Hooks.{HasGrown};
+ghost use Rattle.kl1_goals.specs.declared.task.Task.TheVariants.{Monitor, Reduces};
 ghost use Rattle.kl1_account.specs.Fitting.{Reading};
 ghost use Rattle.kl1_account.specs.Account.{aim};
 ghost use Rattle.kl1_account.specs.Kept.{AreShoensIn};
 ghost use Rattle.kl1_account.specs.Works.{Knows};
-ghost use Rattle.kl1_account.specs.Reducing.{RefusesAmong, IsSteppable, is_read, NotHeard, HeardAs, NotMade, IsMade};
+ghost use Rattle.kl1_account.specs.Reducing.{RefusesAmong, IsSteppable, is_read, NotHeard, HeardAs, NotMade, IsMade, account_at, ReducesAs};
+ghost use Rattle.kl1_account.specs.Keeping.{IsKept};
+ghost use Rattle.kl1_account.specs.Drafts.{CanGoBack};
+ghost use Rattle.kl1_account.specs.Spelling.{HasRoomFor};
 
-use crate::acting::{act, read};
+use crate::acting::read;
 use crate::completing::finish;
+use crate::doing::do_or_spell;
 use crate::draft::Draft;
 use crate::installing::begin;
 use crate::limits::are_numbers;
@@ -83,6 +90,7 @@ fn control_to_read(
     ensures refused { IfErr result (NotHeard store.now.held shoens.now.shoens entries goal clause) }
     ensures reads { IfOk result (HeardAs store.now.held shoens.now.shoens entries goal clause) }
     ensures inside { IfOk result (ControlIn store.now.held) }
+    ensures room { IfOk result (λ control. entries < most_entries) }
 {
     if clause != 0 {
         return Err(Refusal::Step);
@@ -129,24 +137,43 @@ fn move_to_make(
     Ok(Ok(made))
 }
 
-/// Drafts what the monitor of a shoen reads, or says why it is refused.
+/// Drafts what a monitor reads, which may step, by the clause of a number, for an account with this last number of a goal, so many
+/// variables, structures and reports, and so many entries in its journal, or says why it is refused.
 fn draft_reading(
     store: &mut Store<CellName>,
     goals: &mut GoalTable<CellName>,
     shoens: &mut ShoenTree<CellName>,
     modules: &Modules,
+    names: &AccountNames,
     trial: &mut Trial<CellName>,
     draft: &mut Draft,
     walk: &mut Walk,
+    last_goal: u64,
+    variables: u64,
+    nodes: u64,
+    reports: u64,
     entries: u64,
     goal: Goal<CellName>,
     clause: u64,
-) -> Result<Option<Refusal>, AllocError> {
+) -> Result<Option<Refusal>, AllocError>
+    requires steppable { IsSteppable goals.old.goals goal.number clause goal }
+    requires monitor { goal.task ≡ Monitor }
+    requires kept { (own : List ℕ) → IsKept (account_at own store.old.held goals.old.goals shoens.old modules.now.loaded names.now.names last_goal variables nodes reports entries) store.old.hooks goals.old.shoens }
+    ensures ok { IfOk result (λ refused. (own : List ℕ) → ReducesAs (account_at own store.old.held goals.old.goals shoens.old modules.now.loaded names.now.names last_goal variables nodes reports entries) goal.number clause store.old store.new shoens.old shoens.new goals.new draft.new refused) }
+    ensures back { CanGoBack shoens.old shoens.new }
+    ensures grown { HasGrown store.old store.new }
+    ensures goals { goals.new.goals ≡ goals.old.goals }
+    ensures shoens { goals.new.shoens ≡ goals.old.shoens }
+    ensures unnamed { IfOk result (λ refused. refused ≡ None → draft.new.name ≡ None) }
+{
     let control = match control_to_read(store, shoens, entries, goal, clause) {
         Err(refusal) => return Ok(Some(refusal)),
         Ok(control) => control,
     };
+    let _single = goals.shoens();
+    let _worked = shoens.len();
     let mark = store.mark();
+    begin(draft, 0, last_goal, variables, nodes, reports);
     walk.reached.clear();
     read(store, goals, shoens, draft, walk, goal.shoen, control)?;
     draft.told.push(goal.number)?;
@@ -166,7 +193,8 @@ fn draft_reading(
     Ok(None)
 }
 
-/// Drafts the move that a goal for a cell does by the clause of a number, or says why it is refused.
+/// Drafts the move that a goal for a cell does, which may step, by the clause of a number, for an account with this last number of a
+/// goal, so many variables, structures and reports, and so many entries in its journal, or says why it is refused.
 fn draft_move(
     store: &mut Store<CellName>,
     goals: &mut GoalTable<CellName>,
@@ -176,11 +204,26 @@ fn draft_move(
     trial: &mut Trial<CellName>,
     draft: &mut Draft,
     walk: &mut Walk,
+    last_goal: u64,
+    variables: u64,
+    nodes: u64,
+    reports: u64,
     entries: u64,
     goal: Goal<CellName>,
     cell: Qualified<CellName>,
     clause: u64,
-) -> Result<Option<Refusal>, AllocError> {
+) -> Result<Option<Refusal>, AllocError>
+    requires steppable { IsSteppable goals.old.goals goal.number clause goal }
+    requires reduces { goal.task ≡ Reduces cell }
+    requires kept { (own : List ℕ) → IsKept (account_at own store.old.held goals.old.goals shoens.old modules.now.loaded names.old.names last_goal variables nodes reports entries) store.old.hooks goals.old.shoens }
+    ensures ok { IfOk result (λ refused. (own : List ℕ) → ReducesAs (account_at own store.old.held goals.old.goals shoens.old modules.now.loaded names.old.names last_goal variables nodes reports entries) goal.number clause store.old store.new shoens.old shoens.new goals.new draft.new refused) }
+    ensures back { CanGoBack shoens.old shoens.new }
+    ensures grown { HasGrown store.old store.new }
+    ensures goals { goals.new.goals ≡ goals.old.goals }
+    ensures shoens { goals.new.shoens ≡ goals.old.shoens }
+    ensures names { names.new.names ≡ names.old.names }
+    ensures room { IfOk result (λ refused. refused ≡ None → HasRoomFor names.new.room draft.new.name) }
+{
     let kind = kind_of_qualified(store, cell);
     let predicate = predicate_of(modules, kind);
     let made = match move_to_make(
@@ -189,16 +232,17 @@ fn draft_move(
         Err(refusal) => return Ok(Some(refusal)),
         Ok(made) => made,
     };
-    draft.removed = goal.number;
+    let _ordered = goals.shoens();
+    let _worked = shoens.len();
     let mark = store.mark();
+    begin(draft, goal.number, last_goal, variables, nodes, reports);
     let alive = goals.alive() - 1;
-    act(
+    do_or_spell(
         store, goals, shoens, draft, walk, names, alive, predicate, made, trial, goal, cell,
     )?;
     finish(
         store, goals, shoens, modules, kind, predicate, trial, draft, walk, mark,
     )?;
-    names.reserve(1)?;
     Ok(None)
 }
 
@@ -221,18 +265,28 @@ pub(crate) fn draft_reduction(
     entries: u64,
     number: u64,
     clause: u64,
-) -> Result<Option<Refusal>, AllocError> {
+) -> Result<Option<Refusal>, AllocError>
+    requires kept { (own : List ℕ) → IsKept (account_at own store.old.held goals.old.goals shoens.old modules.now.loaded names.old.names last_goal variables nodes reports entries) store.old.hooks goals.old.shoens }
+    ensures ok { IfOk result (λ refused. (own : List ℕ) → ReducesAs (account_at own store.old.held goals.old.goals shoens.old modules.now.loaded names.old.names last_goal variables nodes reports entries) number clause store.old store.new shoens.old shoens.new goals.new draft.new refused) }
+    ensures back { CanGoBack shoens.old shoens.new }
+    ensures grown { HasGrown store.old store.new }
+    ensures goals { goals.new.goals ≡ goals.old.goals }
+    ensures shoens { goals.new.shoens ≡ goals.old.shoens }
+    ensures names { names.new.names ≡ names.old.names }
+    ensures room { IfOk result (λ refused. refused ≡ None → HasRoomFor names.new.room draft.new.name) }
+{
     let goal = match steppable(goals, number, clause) {
         Err(refusal) => return Ok(Some(refusal)),
         Ok(goal) => goal,
     };
-    begin(draft, 0, last_goal, variables, nodes, reports);
     match goal.task {
         Task::Monitor => draft_reading(
-            store, goals, shoens, modules, trial, draft, walk, entries, goal, clause,
+            store, goals, shoens, modules, names, trial, draft, walk, last_goal, variables, nodes,
+            reports, entries, goal, clause,
         ),
         Task::Reduces(cell) => draft_move(
-            store, goals, shoens, modules, names, trial, draft, walk, entries, goal, cell, clause,
+            store, goals, shoens, modules, names, trial, draft, walk, last_goal, variables, nodes,
+            reports, entries, goal, cell, clause,
         ),
     }
 }

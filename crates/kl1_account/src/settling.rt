@@ -11,7 +11,7 @@ ghost use Rattle.kl1_modules.specs.Numbered.{Numbered};
 ghost use Rattle.kl1_account.specs.Kept.{AreShoensIn};
 ghost use Rattle.kl1_account.specs.Drafts.{goals_left, Drafts, DraftsAll, CanGoBack};
 ghost use Rattle.kl1_account.specs.Endings.{finished, finished_each};
-ghost use Rattle.kl1_account.specs.Walks.{ends_in, EndsOne, EndsLives, reached_in};
+ghost use Rattle.kl1_account.specs.Walks.{ends_in, EndsOne, EndsLives, reached_in, HaveNoGoals};
 ghost use Rattle.kl1_account.specs.Frames.{KeepsFrames, Stays, NoneReached};
 
 use crate::draft::Draft;
@@ -281,6 +281,9 @@ pub(crate) fn settle_charged(
     ensures frames { OnOk result (KeepsFrames shoens.old.shoens shoens.new.shoens) }
     ensures lives { OnOk result (draft.new.ended.items ≡ draft.old.ended.items → Stays shoens.old shoens.new) }
     ensures none { OnOk result (draft.new.ended.items ≡ draft.old.ended.items → walk.new.reached.items ≡ [] → NoneReached shoens.old number) }
+    ensures alone { OnOk result (draft.old.ended.items ≡ [] → HaveNoGoals draft.new.ended.items (goals_left (goals.now.goals ++ draft.old.added.items) draft.old)) }
+    ensures count { OnOk result (length shoens.new.shoens ≡ length shoens.old.shoens) }
+    ensures work { OnOk result (shoens.new.work ≡ shoens.old.work) }
     ensures rest { draft.new ≡ record draft.old { reports = draft.new.reports; ended = draft.new.ended } }
     ensures grown { Grown store.old.held store.new.held }
     ensures hooks { store.new.hooks ≡ store.old.hooks }

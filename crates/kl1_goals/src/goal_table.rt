@@ -4,7 +4,7 @@ ghost use Rattle.std.specs.Prelude.{◌≡◌, ◌+◌, ◌<◌, ◌≤◌, ◌&
 ghost use Rattle.std.specs.List.{filter, find, list_any, count_by};
 ghost use Rattle.kl1_goals.specs.Lists.{number_of, has_number, is_other, is_after, is_monitor, is_monitor_of, is_goal_of, is_flagged, stood_by, enabled_by};
 ghost use Rattle.kl1_goals.specs.Readies.{first_from, chosen, stands};
-ghost use Rattle.kl1_goals.specs.Tables.{Tabled, IsNext, IsKnown, AreInOrder};
+ghost use Rattle.kl1_goals.specs.Tables.{Tabled, IsNext, IsKnown, AreInOrder, AreSingle};
 
 use crate::flags::{count_flagged, drop_flagged, enable_all};
 use crate::goal::Goal;
@@ -100,6 +100,7 @@ impl<N: NameValue> GoalTable<N> {
     pub fn shoens(&self) -> usize
         ensures shoens { result ≡ self.now.shoens }
         ensures order { AreInOrder self.now.goals }
+        ensures single { AreSingle self.now.goals }
     {
         self.tallies.len()
     }
