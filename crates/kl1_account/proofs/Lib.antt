@@ -70,3 +70,5 @@ pub mod Frames
 pub mod FlagsKept
 pub mod Outlines
 pub mod ControlsKept
+pub mod Effected
+pub mod ReducedKept
