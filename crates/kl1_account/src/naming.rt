@@ -47,7 +47,7 @@ pub(crate) fn name_term(
     requires shoens { AreShoensIn store.old.held shoens.old.shoens }
     requires none { draft.old.name ≡ None }
     ensures ok { OnOk result (NamesTerm number text names.now.names target goal store.old.held store.new.held shoens.old shoens.new draft.old draft.new) }
-    ensures name { OnOk result (draft.new.name ≡ name_of (number_by names.now.names text.now) (keeps_names names.now.names text.now) text.now) }
+    ensures name { OnOk result (draft.new.name ≡ name_of (number_by names.now.names text) (keeps_names names.now.names text) text) }
     ensures shoens { OnOk result (AreShoensIn store.new.held shoens.new.shoens) }
     ensures back { CanGoBack shoens.old shoens.new }
     ensures stays { OnOk result (Stays shoens.old shoens.new) }

@@ -71,14 +71,14 @@ pub(crate) fn spell(
     requires shoens { AreShoensIn store.old.held shoens.old.shoens }
     requires low { 0 < number }
     requires high { number ≤ length shoens.old.shoens }
-    requires new { number_by names.old.names text.now ≡ None }
-    requires keeps { keeps_names names.old.names text.now ≡ true }
+    requires new { number_by names.old.names text ≡ None }
+    requires keeps { keeps_names names.old.names text ≡ true }
     requires begun { HasBegun draft.old }
     requires none { draft.old.name ≡ None }
     requires empty { draft.old.added.items ≡ [] }
     requires may { is_enabled_at shoens.old.shoens shoens.old.work number ≡ true }
     requires few { length shoens.old.work + 1 < 2 ^ 63 }
-    ensures spells { OnOk result (Spells number text.now variable goals.now.goals names.old.names store.old.held store.new.held shoens.old shoens.new draft.old draft.new) }
+    ensures spells { OnOk result (Spells number text variable goals.now.goals names.old.names store.old.held store.new.held shoens.old shoens.new draft.old draft.new) }
     ensures shoens { OnOk result (AreShoensIn store.new.held shoens.new.shoens) }
     ensures back { CanGoBack shoens.old shoens.new }
     ensures leaves { OnOk result (Leaves 0 store.new.held shoens.old shoens.new walk.new.reached.items draft.old draft.new) }
