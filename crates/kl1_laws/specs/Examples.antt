@@ -338,6 +338,14 @@ exhausted_parent_holds_back_script = codes "accounts alice" ++ 10 ∷ [] ++ code
 abbrev pub exhausted_parent_holds_back_output : List ℕ
 exhausted_parent_holds_back_output = codes "alice + shoen 1" ++ 10 ∷ [] ++ codes "alice + 1" ++ 10 ∷ [] ++ codes "alice + exhausted 1 1 1" ++ 10 ∷ [] ++ codes "alice + running 0 5 1" ++ 10 ∷ [] ++ codes "alice + yes" ++ 10 ∷ [] ++ codes "alice - 6 step" ++ 10 ∷ [] ++ codes "alice + 2" ++ 10 ∷ [] ++ codes "alice started" ++ 10 ∷ [] ++ codes "alice exhausted" ++ 10 ∷ [] ++ codes "alice + sent" ++ 10 ∷ [] ++ codes "alice + 2" ++ 10 ∷ [] ++ codes "alice + terminated 1 5 0" ++ 10 ∷ [] ++ codes "alice + terminated 2 2 0" ++ 10 ∷ [] ++ codes "alice + 3" ++ 10 ∷ [] ++ codes "alice started" ++ 10 ∷ [] ++ codes "alice exhausted" ++ 10 ∷ [] ++ codes "alice terminated" ++ 10 ∷ []
 
+-- the bytes of failed_goal_is_started_again.script
+abbrev pub failed_goal_is_started_again_script : List ℕ
+failed_goal_is_started_again_script = codes "accounts alice" ++ 10 ∷ [] ++ codes "alice load 279" ++ 10 ∷ [] ++ codes ":- module again." ++ 10 ∷ [] ++ codes "again(N,R) :- true | shoen:execute(again:work(N,R),0,10,100,C,S), watch(S,N,R)." ++ 10 ∷ [] ++ codes "work(0,R) :- true | R = done." ++ 10 ∷ [] ++ codes "watch([started|S],N,R) :- true | watch(S,N,R)." ++ 10 ∷ [] ++ codes "watch([exception(K,G)|S],N,R) :- true | M := N - 1, again(M,R)." ++ 10 ∷ [] ++ codes "watch([terminated|S],N,R) :- true | true." ++ 10 ∷ [] ++ codes "alice start 100 0 10 again:again(1,R)" ++ 10 ∷ [] ++ codes "alice run 100" ++ 10 ∷ [] ++ codes "alice value 1" ++ 10 ∷ [] ++ codes "alice status 2" ++ 10 ∷ [] ++ codes "alice status 3" ++ 10 ∷ [] ++ codes "alice status 1" ++ 10 ∷ [] ++ codes "alice reports 1 1" ++ 10 ∷ []
+
+-- the bytes of failed_goal_is_started_again.expected
+abbrev pub failed_goal_is_started_again_output : List ℕ
+failed_goal_is_started_again_output = codes "alice + loaded again" ++ 10 ∷ [] ++ codes "alice + shoen 1" ++ 10 ∷ [] ++ codes "alice + 13" ++ 10 ∷ [] ++ codes "alice + again:again(1,done)" ++ 10 ∷ [] ++ codes "alice + terminated 1 100 0" ++ 10 ∷ [] ++ codes "alice + terminated 2 100 0" ++ 10 ∷ [] ++ codes "alice + terminated 13 100 0" ++ 10 ∷ [] ++ codes "alice + 2" ++ 10 ∷ [] ++ codes "alice started" ++ 10 ∷ [] ++ codes "alice terminated" ++ 10 ∷ []
+
 -- the bytes of failure_is_reported.script
 abbrev pub failure_is_reported_script : List ℕ
 failure_is_reported_script = codes "accounts alice" ++ 10 ∷ [] ++ codes "alice load 20" ++ 10 ∷ [] ++ codes ":- module t." ++ 10 ∷ [] ++ codes "q(a,b)." ++ 10 ∷ [] ++ codes "alice start 10 0 10 t:q(X,c)" ++ 10 ∷ [] ++ codes "alice run 10" ++ 10 ∷ [] ++ codes "alice reports 1 1" ++ 10 ∷ []
@@ -505,6 +513,14 @@ loads_of_others_are_skipped_script = codes "accounts alice bob" ++ 10 ∷ [] ++ 
 -- the bytes of loads_of_others_are_skipped.expected
 abbrev pub loads_of_others_are_skipped_output : List ℕ
 loads_of_others_are_skipped_output = codes "! account" ++ 10 ∷ [] ++ codes "alice + 0" ++ 10 ∷ [] ++ codes "alice - 1 syntax" ++ 10 ∷ [] ++ codes "alice + loaded e" ++ 10 ∷ []
+
+-- the bytes of merged_by_priorities.script
+abbrev pub merged_by_priorities_script : List ℕ
+merged_by_priorities_script = codes "accounts alice" ++ 10 ∷ [] ++ codes "alice load 357" ++ 10 ∷ [] ++ codes ":- module merge." ++ 10 ∷ [] ++ codes "both(R) :- true | make([a,b],X)@priority(2), make([c,d],Y)@priority(8), merge(X,Y,R)@priority(5)." ++ 10 ∷ [] ++ codes "make([],S) :- true | S = []." ++ 10 ∷ [] ++ codes "make([A|As],S) :- true | S = [A|T], make(As,T)." ++ 10 ∷ [] ++ codes "merge([A|X],Y,R) :- true | R = [A|S], merge(X,Y,S)." ++ 10 ∷ [] ++ codes "merge(X,[A|Y],R) :- true | R = [A|S], merge(X,Y,S)." ++ 10 ∷ [] ++ codes "merge([],Y,R) :- true | R = Y." ++ 10 ∷ [] ++ codes "merge(X,[],R) :- true | R = X." ++ 10 ∷ [] ++ codes "alice start 100 0 10 merge:both(R)" ++ 10 ∷ [] ++ codes "alice run 13" ++ 10 ∷ [] ++ codes "alice value 1" ++ 10 ∷ [] ++ codes "alice run 100" ++ 10 ∷ [] ++ codes "alice value 1" ++ 10 ∷ [] ++ codes "alice status 1" ++ 10 ∷ []
+
+-- the bytes of merged_by_priorities.expected
+abbrev pub merged_by_priorities_output : List ℕ
+merged_by_priorities_output = codes "alice + loaded merge" ++ 10 ∷ [] ++ codes "alice + shoen 1" ++ 10 ∷ [] ++ codes "alice + 13" ++ 10 ∷ [] ++ codes "alice + merge:both([c,d|_5])" ++ 10 ∷ [] ++ codes "alice + 6" ++ 10 ∷ [] ++ codes "alice + merge:both([c,d,a,b])" ++ 10 ∷ [] ++ codes "alice + terminated 19 100 0" ++ 10 ∷ []
 
 -- the bytes of module_name_in_quotes.script
 abbrev pub module_name_in_quotes_script : List ℕ
@@ -794,6 +810,14 @@ sixteen_accounts_script = codes "accounts a0 a1 a2 a3 a4 a5 a6 a7 a8 a9 a10 a11 
 abbrev pub sixteen_accounts_output : List ℕ
 sixteen_accounts_output = codes "a0 + 0" ++ 10 ∷ [] ++ codes "! account" ++ 10 ∷ []
 
+-- the bytes of slices_by_allowances.script
+abbrev pub slices_by_allowances_script : List ℕ
+slices_by_allowances_script = codes "accounts alice" ++ 10 ∷ [] ++ codes "alice load 323" ++ 10 ∷ [] ++ codes ":- module slice." ++ 10 ∷ [] ++ codes "run(R) :- true | shoen:execute(slice:count(4),0,10,2,C,S), feed(S,C,R)." ++ 10 ∷ [] ++ codes "count(0) :- true | true." ++ 10 ∷ [] ++ codes "count(N) :- N > 0 | M := N - 1, count(M)." ++ 10 ∷ [] ++ codes "feed([started|S],C,R) :- true | feed(S,C,R)." ++ 10 ∷ [] ++ codes "feed([exhausted|S],C,R) :- true | C = [allow(2)|D], R = [slice|Q], feed(S,D,Q)." ++ 10 ∷ [] ++ codes "feed([terminated|S],C,R) :- true | R = []." ++ 10 ∷ [] ++ codes "alice start 100 0 10 slice:run(R)" ++ 10 ∷ [] ++ codes "alice run 5" ++ 10 ∷ [] ++ codes "alice status 2" ++ 10 ∷ [] ++ codes "alice run 100" ++ 10 ∷ [] ++ codes "alice value 1" ++ 10 ∷ [] ++ codes "alice status 2" ++ 10 ∷ [] ++ codes "alice status 1" ++ 10 ∷ []
+
+-- the bytes of slices_by_allowances.expected
+abbrev pub slices_by_allowances_output : List ℕ
+slices_by_allowances_output = codes "alice + loaded slice" ++ 10 ∷ [] ++ codes "alice + shoen 1" ++ 10 ∷ [] ++ codes "alice + 5" ++ 10 ∷ [] ++ codes "alice + exhausted 2 2 1" ++ 10 ∷ [] ++ codes "alice + 26" ++ 10 ∷ [] ++ codes "alice + slice:run([slice,slice,slice,slice])" ++ 10 ∷ [] ++ codes "alice + terminated 10 10 0" ++ 10 ∷ [] ++ codes "alice + terminated 27 100 0" ++ 10 ∷ []
+
 -- the bytes of stopped_and_resumed.script
 abbrev pub stopped_and_resumed_script : List ℕ
 stopped_and_resumed_script = codes "accounts alice" ++ 10 ∷ [] ++ codes "alice load 91" ++ 10 ∷ [] ++ codes ":- module app." ++ 10 ∷ [] ++ codes "app([],Y,Z) :- true | Z = Y." ++ 10 ∷ [] ++ codes "app([A|X],Y,Z) :- true | Z = [A|W], app(X,Y,W)." ++ 10 ∷ [] ++ codes "alice start 100 0 10 app:app([1],[2],R)" ++ 10 ∷ [] ++ codes "alice stop 1" ++ 10 ∷ [] ++ codes "alice run 5" ++ 10 ∷ [] ++ codes "alice status 1" ++ 10 ∷ [] ++ codes "alice resume 1" ++ 10 ∷ [] ++ codes "alice run 100" ++ 10 ∷ [] ++ codes "alice reports 1 1" ++ 10 ∷ []
@@ -990,6 +1014,7 @@ pub record ExamplesHold : Type 0 where
   pub ended_or_exhausted : output ended_or_exhausted_script ≡ ended_or_exhausted_output
   pub exhausted_innermost_first : output exhausted_innermost_first_script ≡ exhausted_innermost_first_output
   pub exhausted_parent_holds_back : output exhausted_parent_holds_back_script ≡ exhausted_parent_holds_back_output
+  pub failed_goal_is_started_again : output failed_goal_is_started_again_script ≡ failed_goal_is_started_again_output
   pub failure_is_reported : output failure_is_reported_script ≡ failure_is_reported_output
   pub first_of_two_clauses : output first_of_two_clauses_script ≡ first_of_two_clauses_output
   pub forms_that_are_faults : output forms_that_are_faults_script ≡ forms_that_are_faults_output
@@ -1011,6 +1036,7 @@ pub record ExamplesHold : Type 0 where
   pub loaded_twice : output loaded_twice_script ≡ loaded_twice_output
   pub loads_of_other_names : output loads_of_other_names_script ≡ loads_of_other_names_output
   pub loads_of_others_are_skipped : output loads_of_others_are_skipped_script ≡ loads_of_others_are_skipped_output
+  pub merged_by_priorities : output merged_by_priorities_script ≡ merged_by_priorities_output
   pub module_name_in_quotes : output module_name_in_quotes_script ≡ module_name_in_quotes_output
   pub module_without_clauses : output module_without_clauses_script ≡ module_without_clauses_output
   pub modules_are_listed : output modules_are_listed_script ≡ modules_are_listed_output
@@ -1047,6 +1073,7 @@ pub record ExamplesHold : Type 0 where
   pub shoens_32_deep : output shoens_32_deep_script ≡ shoens_32_deep_output
   pub single_reductions : output single_reductions_script ≡ single_reductions_output
   pub sixteen_accounts : output sixteen_accounts_script ≡ sixteen_accounts_output
+  pub slices_by_allowances : output slices_by_allowances_script ≡ slices_by_allowances_output
   pub stopped_and_resumed : output stopped_and_resumed_script ≡ stopped_and_resumed_output
   pub stopped_before_exhausted : output stopped_before_exhausted_script ≡ stopped_before_exhausted_output
   pub stopped_once : output stopped_once_script ≡ stopped_once_output
