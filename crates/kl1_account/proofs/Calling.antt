@@ -1,5 +1,5 @@
 -- Names that goals spell, on drafts.
-use Rattle.std.proofs.Common.{◌≡◌, ℕ, suc, ◌+◌, Bool, true, false, List, [], ◌∷◌, ◌++◌, length, refl, sym, ap, ◌∙◌, subst, arith}
+use Rattle.std.proofs.Common.{◌≡◌, ℕ, suc, ◌+◌, true, false, List, [], ◌∷◌, ◌++◌, length, refl, sym, ap, ◌∙◌, subst, arith}
 use Rattle.std.specs.Prelude.{nat_le, nat_lt, option_map, Option, Some, None}
 use Rattle.std.proofs.lemmas.List.{length-map, length_push}
 use Rattle.kl1_model.specs.Limits.{most_names}
@@ -11,7 +11,7 @@ use Rattle.kl1_model.specs.Reduction.{or_exhaustion, named_by, unified, equation
 use Rattle.kl1_text.specs.declared.cell_name.CellName.{CellName}
 use Rattle.kl1_atoms.specs.declared.known.Known.{Known}
 use Rattle.kl1_atoms.specs.Names.{number_by}
-use Rattle.kl1_clause.specs.NameList.{with_text, with_texts}
+use Rattle.kl1_clause.specs.NameList.{with_text}
 use Rattle.kl1_clause.proofs.Growth.{with_none}
 use Rattle.kl1_store.specs.declared.cell.Cell.{Cell}
 use Rattle.kl1_store.specs.declared.cell.Cell.TheVariants.{Atom}
@@ -57,7 +57,7 @@ named_turns ms h w text names i e = record {
 }
 
 -- a name too many
-pub drafts_no_name : (h k : Held CellName) (t u : Tree CellName) (d e : Draft) (n : ℕ) (text : List ℕ) (known : List Known) (a : Cell CellName) (x : Qualified CellName) → d.name ≡ None → nat_le (length (with_name (texts_of known) text)) most_names ≡ false →
+pub drafts_no_name : (h k : Held CellName) (t u : Tree CellName) (d e : Draft) (n : ℕ) (text : List ℕ) (known : List Known) (a : Cell CellName) (x : Qualified CellName) → d.name ≡ None → keeps_names known text ≡ false →
     DraftsAll (λ f. report n (exception exhaustion (aim f h x))) h k t u d e → NamesTerm n text known a x h k t u d e
 drafts_no_name h k t u d e n text known a x none full p ms reads goals i =
     let w = made_of goals (texts_of known) t d in
@@ -121,13 +121,13 @@ drafts_new_name h k t u d c e n text known a x none room number is p =
 
 -- ---- whether there is room for a name
 
-pub room_known : (known : List Known) (text : List ℕ) (o : Option CellName) (v : CellName) (len : ℕ) → option_map (λ (c : CellName). c.number) o ≡ number_by known text → o ≡ Some v → len ≡ length known → nat_le len 1024 ≡ nat_le (length (with_name (texts_of known) text)) most_names
+pub room_known : (known : List Known) (text : List ℕ) (o : Option CellName) (v : CellName) (len : ℕ) → option_map (λ (c : CellName). c.number) o ≡ number_by known text → o ≡ Some v → len ≡ length known → nat_le len 1024 ≡ keeps_names known text
 room_known known text o v len number is len_is =
     let e : number_by known text ≡ Some v.number = sym number ∙ ap (option_map (λ (c : CellName). c.number)) is in
     ap (λ n. nat_le n 1024) (len_is ∙ sym (length-map known (λ (k : Known). k.text)))
     ∙ ap (λ (l : List (List ℕ)). nat_le (length l) most_names) (sym (known_named known text v.number e))
 
-pub room_new : (known : List Known) (text : List ℕ) (o : Option CellName) (len : ℕ) → option_map (λ (c : CellName). c.number) o ≡ number_by known text → o ≡ None → len ≡ length known → nat_lt len 1024 ≡ nat_le (length (with_name (texts_of known) text)) most_names
+pub room_new : (known : List Known) (text : List ℕ) (o : Option CellName) (len : ℕ) → option_map (λ (c : CellName). c.number) o ≡ number_by known text → o ≡ None → len ≡ length known → nat_lt len 1024 ≡ keeps_names known text
 room_new known text o len number is len_is =
     let e : number_by known text ≡ None = sym number ∙ ap (option_map (λ (c : CellName). c.number)) is in
     below_next len

@@ -1,6 +1,6 @@
 use Rattle.kl1_account.proofs.Frames.{stays_same}
-use Rattle.std.proofs.Common.{◌≡◌, ℕ, refl, sym, ap, ◌∙◌, subst}
-use Rattle.std.specs.Prelude.{Option, Some, None, option_map}
+use Rattle.std.proofs.Common.{◌≡◌, refl, sym, ap, ◌∙◌, subst}
+use Rattle.std.specs.Prelude.{Some, None, option_map}
 use Rattle.std.proofs.lemmas.Result.{on_ok_weaker}
 use Rattle.kl1_text.specs.declared.cell_name.CellName.{CellName}
 use Rattle.kl1_store.specs.declared.cell.Cell.TheVariants.{Atom}
