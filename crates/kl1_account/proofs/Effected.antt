@@ -24,7 +24,7 @@ use Rattle.kl1_account.specs.Installing.{IsBegun}
 use Rattle.kl1_account.specs.Keeping.{IsKept}
 use Rattle.kl1_account.specs.Acting.{Reads}
 use Rattle.kl1_account.specs.Moving.{name_for}
-use Rattle.kl1_account.specs.Spelling.{IsPublished, Does}
+use Rattle.kl1_account.specs.Spelling.{IsPublishedBy, Does}
 use Rattle.kl1_account.specs.Reducing.{IsSteppable, IsMade, HeardAs}
 
 -- a reduction of an account comes to what is made of it, with the cells of a store
@@ -35,7 +35,7 @@ pub record ComesTo (a : Account) (n c : ℕ) (f : Reading) (h : Held CellName) (
 -- the effects of a reduction of an account have left these cells, this tree and this draft: when the name is published that may be drafted,
 -- the reduction comes to what they make of the account
 abbrev pub IsEffect : Account → ℕ → ℕ → Held CellName → Tree CellName → Draft → Type 0
-IsEffect a n c mid u d = (more : List Known) (last : Held CellName) → IsPublished a.names more d mid last → (f : Reading) → Fits more f → ComesTo a n c f last (made_of a.goals (texts_of a.names) u d)
+IsEffect a n c mid u d = (more : List Known) (last : Held CellName) → IsPublishedBy a.names more d mid last → (f : Reading) → Fits more f → ComesTo a n c f last (made_of a.goals (texts_of a.names) u d)
 
 -- what a goal does is the effect of its reduction
 pub does_effect : (a : Account) (hooks : List Hook) (known n c : ℕ) (g : Goal CellName) (x : Qualified CellName) (p : Predicate CellName) (places : List (Place CellName)) (text : List ℕ) (made : Move CellName) (mid : Held CellName) (t u : Tree CellName) (start d : Draft) →

@@ -71,4 +71,6 @@ pub mod FlagsKept
 pub mod Outlines
 pub mod ControlsKept
 pub mod Effected
+pub mod Exchanged
+pub mod Respelled
 pub mod ReducedKept
