@@ -71,4 +71,5 @@ pub mod FlagsKept
 pub mod Outlines
 pub mod ControlsKept
 pub mod Effected
+pub mod Named
 pub mod ReducedKept
