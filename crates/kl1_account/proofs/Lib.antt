@@ -73,4 +73,5 @@ pub mod ControlsKept
 pub mod Effected
 pub mod Exchanged
 pub mod Respelled
+pub mod Named
 pub mod ReducedKept
