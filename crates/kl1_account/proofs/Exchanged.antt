@@ -1,18 +1,15 @@
 -- Readings by which a spare number stands for a name that another number has, and goals that are read as the same.
 use Rattle.std.proofs.Common.{◌≡◌, ℕ, ◌+◌, ◌<◌, ◌==◌, ◌^◌, Bool, true, false, if◌then◌else◌, List, [], ◌∷◌, ◌++◌, map, refl, sym, ap, ap₂, ◌∙◌, subst, inl, inr, arith, bytes_eq}
 use Rattle.std.specs.Prelude.{Option, Some, None, option_map}
-use Rattle.std.specs.List.{AllByRecursion}
-use Rattle.std.proofs.lemmas.Bool.{eq-eqb, ne_eqb, eqb-true, eqb-false, cases_Bool}
+use Rattle.std.proofs.lemmas.Bool.{eq-eqb, ne_eqb, eqb-true, eqb-false}
 use Rattle.std.proofs.lemmas.List.{map-append}
 use Rattle.kl1_model.specs.declared.built_in.BuiltIn.{BuiltIn}
 use Rattle.kl1_model.specs.Text.{text_of}
 use Rattle.kl1_model.specs.Control.{Control, control_of}
 use Rattle.kl1_model.specs.State as model
 use Rattle.kl1_model.specs.State.{shoen_at}
-use Rattle.kl1_text.specs.Reading.{Reads}
 use Rattle.kl1_text.specs.BuiltIns.{place_of, built_in_of}
 use Rattle.kl1_text.proofs.BuiltInLaws.{of_text, place-below}
-use Rattle.kl1_text.specs.declared.atom_no.AtomNo.{AtomNo}
 use Rattle.kl1_text.specs.declared.cell_name.CellName.{CellName}
 use Rattle.kl1_atoms.specs.declared.known.Known.{Known}
 use Rattle.kl1_atoms.specs.Names.{number_in, number_by, Adds}

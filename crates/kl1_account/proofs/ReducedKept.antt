@@ -10,10 +10,9 @@ use Rattle.kl1_model.specs.Step.{step}
 use Rattle.kl1_text.specs.declared.cell_name.CellName.{CellName}
 use Rattle.kl1_atoms.specs.declared.known.Known.{Known}
 use Rattle.kl1_atoms.specs.Names.{number_by}
-use Rattle.kl1_store.specs.declared.point.Point.{Point}
 use Rattle.kl1_store.specs.Held.{Held}
 use Rattle.kl1_store.specs.Sound.{IsFormed, Grown}
-use Rattle.kl1_store.specs.Hooks.{Hook, Kept, point_of}
+use Rattle.kl1_store.specs.Hooks.{Kept, point_of}
 use Rattle.kl1_goals.specs.declared.goal.Goal.{Goal}
 use Rattle.kl1_goals.specs.Tables.{Tabled}
 use Rattle.kl1_shoen.specs.declared.shoen.Shoen.{Shoen}
@@ -21,19 +20,19 @@ use Rattle.kl1_shoen.specs.Shoens.{Tree, is_enabled_at}
 use Rattle.kl1_account.specs.declared.draft.Draft.{Draft}
 use Rattle.kl1_account.specs.declared.draft.Spelled.{Spelled}
 use Rattle.kl1_account.specs.Fitting.{Reading, Fits}
-use Rattle.kl1_account.specs.Account.{Account, meaning, goal_with, shoen_with, state_of, texts_of}
+use Rattle.kl1_account.specs.Account.{Account, meaning, goal_with, state_of, texts_of}
 use Rattle.kl1_account.specs.Kept.{AreGoalsIn, AreOwned, AreUpTo, AreShoensIn}
-use Rattle.kl1_account.specs.Works.{Knows, worked}
+use Rattle.kl1_account.specs.Works.{worked}
 use Rattle.kl1_account.specs.Drafts.{goals_left, names_with, made_of}
 use Rattle.kl1_account.specs.Installing.{IsBegun, goals_after}
-use Rattle.kl1_account.specs.Settled.{AreSettled, AreEnabled}
+use Rattle.kl1_account.specs.Settled.{AreSettled}
 use Rattle.kl1_account.specs.Keeping.{IsKept}
 use Rattle.kl1_account.specs.Waking.{KeepControls}
 use Rattle.kl1_account.specs.Finishing.{SameFlags, Finishes}
 use Rattle.kl1_account.specs.Leaving.{Leaves}
 use Rattle.kl1_account.specs.Calling.{IsNewName, spare}
 use Rattle.kl1_account.specs.Spelling.{IsSpelledIn, IsSparedIn, HasName, Respells, ReadsNew, IsPublished, IsPublishedBy}
-use Rattle.kl1_account.specs.Reducing.{named_in, ReducesTo, IsReduced}
+use Rattle.kl1_account.specs.Reducing.{named_in, IsReduced}
 use Rattle.kl1_account.proofs.Effected.{IsEffect}
 use Rattle.kl1_account.proofs.States.{goals_grown}
 use Rattle.kl1_account.proofs.Restood.{each_is}

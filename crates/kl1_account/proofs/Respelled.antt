@@ -1,26 +1,20 @@
 -- Stores in which the variable that was bound last is bound to another cell.
-use Rattle.std.proofs.Common.{◌≡◌, ℕ, ◌<◌, ◌≤◌, List, [], ◌∷◌, ◌++◌, refl, sym, ap, ◌∙◌, subst}
+use Rattle.std.proofs.Common.{◌≡◌, ℕ, List, [], ◌∷◌, ◌++◌, refl, sym, ap, ◌∙◌, subst}
 use Rattle.std.specs.Prelude.{Option, Some, None}
-use Rattle.std.specs.List.{AllByRecursion}
 use Rattle.kl1_text.specs.declared.cell_name.CellName.{CellName}
-use Rattle.kl1_atoms.specs.declared.known.Known.{Known}
 use Rattle.kl1_store.specs.declared.cell.Cell.{Cell}
 use Rattle.kl1_store.specs.declared.cell.Cell.TheVariants.{Atom}
 use Rattle.kl1_store.specs.declared.binding.Binding.{Binding}
-use Rattle.kl1_store.specs.declared.mark.Mark.{Mark}
-use Rattle.kl1_store.specs.Held.{Held, IsIn, sizes_of, with_binding}
-use Rattle.kl1_store.specs.Constants.{HasJustBound, Rebinds}
+use Rattle.kl1_store.specs.Held.{Held, with_binding}
 use Rattle.kl1_goals.specs.declared.task.Task.{Task}
 use Rattle.kl1_goals.specs.declared.task.Task.TheVariants.{Monitor, Reduces}
 use Rattle.kl1_goals.specs.declared.goal.Goal.{Goal}
 use Rattle.kl1_shoen.specs.declared.shoen.Origin.{Origin}
 use Rattle.kl1_shoen.specs.declared.shoen.Shoen.{Shoen}
-use Rattle.kl1_shoen.specs.Shoens.{Tree}
-use Rattle.kl1_account.specs.declared.draft.Draft.{Draft}
 use Rattle.kl1_account.specs.declared.draft.Spelled.{Spelled}
-use Rattle.kl1_account.specs.Kept.{IsTaskIn, AreGoalsIn, IsOriginIn, IsShoenIn, AreShoensIn}
+use Rattle.kl1_account.specs.Kept.{IsTaskIn, AreGoalsIn, IsOriginIn, AreShoensIn}
 use Rattle.kl1_account.specs.Calling.{spare}
-use Rattle.kl1_account.specs.Spelling.{IsSpelledIn, IsSparedIn, Spells, Respells}
+use Rattle.kl1_account.specs.Spelling.{IsSpelledIn, IsSparedIn, Respells}
 
 -- ---- cells of such stores
 
@@ -83,9 +77,3 @@ spare_again (Some s) h i = λ before y marked bound.
 -- where nothing is spelled, no spare number stands for a name
 pub none_spared : (s : Option Spelled) (h : Held CellName) → s ≡ None → IsSparedIn s h
 none_spared s h e = let P : Option Spelled → Type 0 = λ o. IsSparedIn o h in subst P (sym e) tt
-
--- where a goal spells a name, the spare number stands for it
-pub spells_spared : (n : ℕ) (text : List ℕ) (v : ℕ) (goals : List (Goal CellName)) (known : List Known) (old new : Held CellName) (t u : Tree CellName) (before after : Draft) → Spells n text v goals known old new t u before after → IsSparedIn after.spelled new
-spells_spared n text v goals known old new t u before after s =
-    let P : Option Spelled → Type 0 = λ o. IsSparedIn o new in
-    subst P (sym s.spelled) (record { before = s.held; bound = s.bound })
