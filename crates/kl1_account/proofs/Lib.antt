@@ -71,4 +71,7 @@ pub mod FlagsKept
 pub mod Outlines
 pub mod ControlsKept
 pub mod Effected
+pub mod Exchanged
+pub mod Respelled
+pub mod Named
 pub mod ReducedKept
