@@ -10,7 +10,6 @@ use Rattle.kl1_model.specs.Ending.{settle, settle_charged}
 use Rattle.kl1_model.specs.Event.{reduce, reduced, with_entry, Stepped}
 use Rattle.kl1_model.specs.Step.{step}
 use Rattle.kl1_model.specs.Waits.{move_by}
-use Rattle.kl1_model.specs.Reduction as reduction
 use Rattle.kl1_model.specs.Reduction.{moves, moved, heard, names}
 use Rattle.kl1_text.specs.declared.cell_name.CellName.{CellName}
 use Rattle.kl1_atoms.specs.declared.known.Known.{Known}
@@ -26,7 +25,7 @@ use Rattle.kl1_clause.specs.declared.predicate.Predicate.{Predicate}
 use Rattle.kl1_match.specs.declared.place.Place.{Place}
 use Rattle.kl1_moves.specs.declared.moves.Move.{Move}
 use Rattle.kl1_moves.specs.declared.moves.Move.TheVariants as made
-use Rattle.kl1_moves.specs.Moves.{MovesAs, MoveIn}
+use Rattle.kl1_moves.specs.Moves.{MoveIn}
 use Rattle.kl1_goals.specs.declared.task.Task.{Task}
 use Rattle.kl1_goals.specs.declared.task.Task.TheVariants.{Monitor, Reduces}
 use Rattle.kl1_goals.specs.declared.goal.Goal.{Goal}
@@ -39,7 +38,7 @@ use Rattle.kl1_account.specs.declared.draft.Spelled.{Spelled}
 use Rattle.kl1_account.specs.Fitting.{Reading, Fits}
 use Rattle.kl1_account.specs.Account.{Account, Means, meaning, task_with, goal_with, aim, aim_with, state_of, texts_of}
 use Rattle.kl1_account.specs.Kept.{IsTaskIn, IsOwned}
-use Rattle.kl1_account.specs.Works.{Made, IsMadeIn, Knows, Turns, worked}
+use Rattle.kl1_account.specs.Works.{Made, IsMadeIn, Knows, worked}
 use Rattle.kl1_account.specs.Calling.{keeps_names, name_of}
 use Rattle.kl1_account.specs.Drafts.{made_of}
 use Rattle.kl1_account.specs.Installing.{IsBegun}

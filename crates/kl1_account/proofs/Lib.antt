@@ -30,7 +30,6 @@ pub mod LookedAt
 pub mod Drafted
 pub mod PutIn
 pub mod Steps
-pub mod Reduced
 pub mod StartLines
 pub mod Beyond
 pub mod Opened
