@@ -74,3 +74,4 @@ pub mod Exchanged
 pub mod Respelled
 pub mod Named
 pub mod ReducedKept
+pub mod NewNames
