@@ -72,3 +72,5 @@ pub mod Outlines
 pub mod ControlsKept
 pub mod Effected
 pub mod ReducedKept
+pub mod Published
+pub mod ReducePut
