@@ -70,10 +70,7 @@ fits_table a n c new u table d opens r goals is =
     subst (λ (b : Bool). IsFitting table.goals table.shoens table.room table.shoen_room b d) (sym is)
     (subst (λ (gs : List (Goal CellName)). IsFitting gs table.shoens table.room table.shoen_room (nat_lt table.shoens (length u.shoens)) d) (sym goals) r.fitting)
 
-module _
-  (a : Account) (n c : ℕ) (new : Kept CellName) (u : Tree CellName) (table : Tabled CellName) (d : Draft) (more : List Known) (last : Held CellName) (gs : List (Goal CellName)) (entries : ℕ)
-  (r : IsReduced a n c new u table d) (p : IsPublished a.names more d new.held last) (same : table.goals ≡ a.goals) (after : gs ≡ goals_after table.goals d) (one : entries ≡ suc a.entries)
-where
+module _ (a : Account) (n c : ℕ) (new : Kept CellName) (u : Tree CellName) (table : Tabled CellName) (d : Draft) (more : List Known) (last : Held CellName) (gs : List (Goal CellName)) (entries : ℕ) (r : IsReduced a n c new u table d) (p : IsPublished a.names more d new.held last) (same : table.goals ≡ a.goals) (after : gs ≡ goals_after table.goals d) (one : entries ≡ suc a.entries) where
   -- an account with a reduction in place, by what its parts are
   placed : record a { held = last; goals = gs; shoens = u.shoens; work = u.work; names = more; last_goal = d.last_goal; variables = d.variables; nodes = d.nodes; reports = d.reports; entries = entries } ≡ named_in a last u d more
   placed =
