@@ -75,3 +75,5 @@ pub mod Respelled
 pub mod Named
 pub mod ReducedKept
 pub mod NewNames
+pub mod Published
+pub mod ReducePut
