@@ -81,7 +81,7 @@ one_less n from (x ∷ gs) g up e is = by_case (x.number == n) refl e (λ f. one
         length (if p x then x ∷ filter p gs else filter p gs) ≡ suc (length (filter p (if not b then x ∷ filter (is_other n) gs else filter (is_other n) gs)))
     by_case true q f k =
         let same : x ≡ g = cc in
-        let number : x.number ≡ n = eq-eqb x.number n q in
+        let number : x.number ≡ n = eqb-true x.number n q in
         ap (λ b. length (if not b then x ∷ filter p gs else filter p gs)) (ap is_monitor same ∙ is)
         ∙ ap (λ (xs : List (Goal CellName)). suc (length (filter p xs))) (sym (above_other n (suc x.number) gs (omega (arith, number)) up.1))
     by_case false q f k = counted (p x) (k f)
@@ -99,11 +99,11 @@ alive_left n last variables nodes reports alive d gs g x begun order found task 
 -- none of goals passes a test where none is left by it
 none_pass : (p : Goal CellName → Bool) (gs : List (Goal CellName)) → length (filter p gs) < 1 → AllByRecursion (λ g. p g ≡ false) gs
 none_pass p [] lt = tt
-none_pass p (g ∷ gs) lt = by_case (p g) refl lt
+none_pass p (g ∷ gs) lt = by_case (p g) refl lt (none_pass p gs)
   where
-    by_case : (b : Bool) → p g ≡ b → length (if b then g ∷ filter p gs else filter p gs) < 1 → AllByRecursion (λ k. p k ≡ false) (g ∷ gs)
-    by_case true q l = absurd (omega (arith, l))
-    by_case false q l = (q, none_pass p gs l)
+    by_case : (b : Bool) → p g ≡ b → length (if b then g ∷ filter p gs else filter p gs) < 1 → (length (filter p gs) < 1 → AllByRecursion (λ k. p k ≡ false) gs) → AllByRecursion (λ k. p k ≡ false) (g ∷ gs)
+    by_case true q l later = absurd (omega (arith, l))
+    by_case false q l later = (q, later l)
 
 differ : (b : Bool) → b ≡ true → b ≡ false → ⊥
 differ b e f = cc
@@ -111,7 +111,7 @@ differ b e f = cc
 -- where one goal at most passes a test, and that of a number does, only those of this number do
 only_one : (p : Goal CellName → Bool) (n : ℕ) (gs : List (Goal CellName)) (g : Goal CellName) → length (filter p gs) ≤ 1 → find (has_number n) gs ≡ Some g → p g ≡ true → AllByRecursion (λ k. p k ≡ true → k.number ≡ n) gs
 only_one p n [] g le e is = tt
-only_one p n (x ∷ gs) g le e is = by_case (x.number == n) (p x) refl refl le e
+only_one p n (x ∷ gs) g le e is = by_case (x.number == n) (p x) refl refl le e (λ l f. only_one p n gs g l f is)
   where
     R : Goal CellName → Type 0
     R k = p k ≡ true → k.number ≡ n
@@ -120,19 +120,19 @@ only_one p n (x ∷ gs) g le e is = by_case (x.number == n) (p x) refl refl le e
     others [] a = tt
     others (k ∷ ks) a = ((λ e. absurd (differ (p k) e a.0)), others ks a.1)
 
-    by_case : (b d : Bool) → (x.number == n) ≡ b → p x ≡ d → length (if d then x ∷ filter p gs else filter p gs) ≤ 1 → (if b then Some x else find (has_number n) gs) ≡ Some g → AllByRecursion R (x ∷ gs)
-    by_case true true q r l f = ((λ e. eq-eqb x.number n q), others gs (none_pass p gs (omega (arith, l))))
-    by_case true false q r l f = let same : x ≡ g = cc in absurd (differ (p x) (ap p same ∙ is) r)
-    by_case false true q r l f =
+    by_case : (b d : Bool) → (x.number == n) ≡ b → p x ≡ d → length (if d then x ∷ filter p gs else filter p gs) ≤ 1 → (if b then Some x else find (has_number n) gs) ≡ Some g → (length (filter p gs) ≤ 1 → find (has_number n) gs ≡ Some g → AllByRecursion R gs) → AllByRecursion R (x ∷ gs)
+    by_case true true q r l f later = ((λ e. eqb-true x.number n q), others gs (none_pass p gs (omega (arith, l))))
+    by_case true false q r l f later = let same : x ≡ g = cc in absurd (differ (p x) (ap p same ∙ is) r)
+    by_case false true q r l f later =
         let none = none_pass p gs (omega (arith, l)) in
         absurd (differ (p g) is (found_holds (λ k. p k ≡ false) n gs g none f))
-    by_case false false q r l f = ((λ e. absurd (differ (p x) e r)), only_one p n gs g l f is)
+    by_case false false q r l f later = ((λ e. absurd (differ (p x) e r)), later l f)
 
 among_one : (k n : ℕ) → k ≡ n → is_among k (n ∷ []) ≡ true
 among_one k n e = ap (λ m. m == n || false) e ∙ same n
   where
     same : (n : ℕ) → (n == n || false) ≡ true
-    same n = ap (λ b. b || false) (eqb-true n n refl)
+    same n = ap (λ b. b || false) (eq-eqb n n refl)
 
 -- each monitor but the one that is told has the control stream before it that it had
 pub one_told : (n shoen count : ℕ) (before after : List (Shoen CellName)) (gs : List (Goal CellName)) (g : Goal CellName) (told : List ℕ) → AreSingle gs → find (has_number n) gs ≡ Some g → g.task ≡ Monitor → g.shoen ≡ shoen → count ≡ length before → AreOwned count gs → KeepsOthers shoen before after → told ≡ n ∷ [] → KeepControls told before after gs
@@ -141,7 +141,7 @@ one_told n shoen count before after gs g told single found task of size owned ke
     subst P (sym is) (each gs owned (only_one (is_monitor_of shoen) n gs g (single shoen) found (monitors g task of)))
   where
     monitors : (k : Goal CellName) → k.task ≡ Monitor → k.shoen ≡ shoen → is_monitor_of shoen k ≡ true
-    monitors k t s = ap (λ m. m == shoen && is_monitor k) s ∙ ap (λ b. b && is_monitor k) (eqb-true shoen shoen refl) ∙ ap is_monitor_task t
+    monitors k t s = ap (λ m. m == shoen && is_monitor k) s ∙ ap (λ b. b && is_monitor k) (eq-eqb shoen shoen refl) ∙ ap is_monitor_task t
 
     each : (ks : List (Goal CellName)) → AreOwned count ks → AllByRecursion (λ k. is_monitor_of shoen k ≡ true → k.number ≡ n) ks → KeepControls (n ∷ []) before after ks
     each [] o a = tt

@@ -1,4 +1,4 @@
-use Rattle.std.proofs.Common.{ℕ, ◌-◌, ◌≤◌, [], length, refl, sym, ap, arith, subst}
+use Rattle.std.proofs.Common.{ℕ, ◌≤◌, [], length, refl, sym, ap, arith, subst}
 use Rattle.kl1_goals.specs.declared.task.Task.{Task}
 use Rattle.kl1_moves.specs.Moves.{taken_places}
 use Rattle.kl1_text.specs.declared.cell_name.CellName.{CellName}
@@ -61,7 +61,7 @@ do_or_spell-requires-clause-may c =
 pub do_or_spell-requires-clause-alive : goal.do_or_spell-requires-clause-alive
 do_or_spell-requires-clause-alive c =
     let n = alive_left c.args.goal.number c.args.last_goal c.args.variables c.args.nodes c.args.reports c.alive-alive.result c.begin.new.draft c.args.goals.now.goals c.args.goal c.args.cell c.begin.ensures c.shoens-ordered.ensures.order c.requires.steppable.found c.requires.reduces c.alive-alive.ensures in
-    ap (λ k. k - 1) n
+    omega (arith, n)
 
 pub do_or_spell-requires-clause-few : goal.do_or_spell-requires-clause-few
 do_or_spell-requires-clause-few c = let few = (c.requires.kept []).few in let most = (c.requires.kept []).most in omega (arith, few, most)
