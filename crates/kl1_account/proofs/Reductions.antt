@@ -1,11 +1,10 @@
 -- Reductions that are drafted: what their parts ask of an account, and that with them the reduction is drafted as it is to be.
 use Rattle.std.proofs.Common.{◌≡◌, ℕ, suc, ◌+◌, ◌-◌, ◌<◌, ◌≤◌, ◌==◌, ◌&&◌, ◌||◌, not, Bool, true, false, if◌then◌else◌, List, [], ◌∷◌, ◌++◌, length, map, refl, sym, ap, ◌∙◌, arith, subst, eq-eqb, eqb-true}
-use Rattle.std.specs.Prelude.{Option, Some, None, filter, find, count_by, IsTrue}
+use Rattle.std.specs.Prelude.{Option, Some, None, filter, find, count_by}
 use Rattle.std.specs.List.{AllByRecursion}
 use Rattle.std.proofs.lemmas.Bool.{ne_eqb}
 use Rattle.std.proofs.lemmas.List.Sums.{length-filter}
 use Rattle.kl1_model.specs.Limits.{most_entries}
-use Rattle.kl1_model.specs.Text.{is_text}
 use Rattle.kl1_text.specs.declared.cell_name.CellName.{CellName}
 use Rattle.kl1_atoms.specs.declared.known.Known.{Known}
 use Rattle.kl1_atoms.specs.Names.{number_by}
@@ -29,11 +28,11 @@ use Rattle.kl1_shoen.specs.Shoens.{Tree, is_enabled_at}
 use Rattle.kl1_account.specs.declared.draft.Draft.{Draft}
 use Rattle.kl1_account.specs.declared.draft.Spelled.{Spelled}
 use Rattle.kl1_account.specs.Account.{Account, texts_of}
-use Rattle.kl1_account.specs.Kept.{AreOwned, AreUpTo, AreShoensIn}
-use Rattle.kl1_account.specs.Drafts.{goals_left, HasBegun}
-use Rattle.kl1_account.specs.Installing.{IsBegun, AreNext}
-use Rattle.kl1_account.specs.Settled.{IsEnabled, control_at}
-use Rattle.kl1_account.specs.Waking.{is_among, KeepsControl, KeepControls}
+use Rattle.kl1_account.specs.Kept.{AreOwned, AreShoensIn}
+use Rattle.kl1_account.specs.Drafts.{goals_left}
+use Rattle.kl1_account.specs.Installing.{IsBegun}
+use Rattle.kl1_account.specs.Settled.{IsEnabled}
+use Rattle.kl1_account.specs.Waking.{is_among, KeepControls}
 use Rattle.kl1_account.specs.Outlines.{KeepsOthers}
 use Rattle.kl1_account.specs.Leaving.{Leaves, IsHeard}
 use Rattle.kl1_account.specs.Finishing.{Finishes}

@@ -1,4 +1,4 @@
-use Rattle.std.proofs.Common.{ℕ, ◌≤◌, [], length, refl, sym, ap, arith, subst}
+use Rattle.std.proofs.Common.{ℕ, ◌≤◌, [], length, refl, sym, arith, subst}
 use Rattle.kl1_goals.specs.declared.task.Task.{Task}
 use Rattle.kl1_moves.specs.Moves.{taken_places}
 use Rattle.kl1_text.specs.declared.cell_name.CellName.{CellName}
