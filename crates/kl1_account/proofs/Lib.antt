@@ -77,3 +77,4 @@ pub mod ReducedKept
 pub mod NewNames
 pub mod Published
 pub mod ReducePut
+pub mod Reductions
