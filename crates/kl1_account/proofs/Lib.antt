@@ -72,3 +72,4 @@ pub mod Outlines
 pub mod ControlsKept
 pub mod Effected
 pub mod ReducedKept
+pub mod LateFree

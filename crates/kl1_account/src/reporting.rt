@@ -14,6 +14,7 @@ ghost use Rattle.kl1_account.specs.Kept.{AreShoensIn};
 ghost use Rattle.kl1_account.specs.declared.draft.Draft.{Draft};
 ghost use Rattle.kl1_account.specs.Drafts.{DraftsAll, CanGoBack};
 ghost use Rattle.kl1_account.specs.Frames.{Stays};
+ghost use Rattle.kl1_account.specs.Late.{KeepsFree};
 
 use crate::draft::Draft;
 use kl1_model::BuiltIn;
@@ -38,6 +39,7 @@ pub(crate) fn report(
     ensures shoens { OnOk result (AreShoensIn store.new.held shoens.new.shoens) }
     ensures back { CanGoBack shoens.old shoens.new }
     ensures stays { OnOk result (Stays shoens.old shoens.new) }
+    ensures keeps { OnOk result (KeepsFree number shoens.old.shoens store.old.held store.new.held) }
     ensures rest { draft.new ≡ record draft.old { reports = draft.new.reports } }
     ensures grown { Grown store.old.held store.new.held }
     ensures hooks { store.new.hooks ≡ store.old.hooks }
@@ -95,6 +97,7 @@ pub(crate) fn report_name(
     ensures shoens { OnOk result (AreShoensIn store.new.held shoens.new.shoens) }
     ensures back { CanGoBack shoens.old shoens.new }
     ensures stays { OnOk result (Stays shoens.old shoens.new) }
+    ensures keeps { OnOk result (KeepsFree number shoens.old.shoens store.old.held store.new.held) }
     ensures rest { draft.new ≡ record draft.old { reports = draft.new.reports } }
     ensures grown { Grown store.old.held store.new.held }
     ensures hooks { store.new.hooks ≡ store.old.hooks }
@@ -206,6 +209,7 @@ pub(crate) fn close(
 ) -> Result<(), AllocError>
     requires { AreShoensIn store.old.held shoens.now.shoens }
     ensures ok { OnOk result ((draft : Draft) → DraftsAll (λ f. close number) store.old.held store.new.held shoens.now shoens.now draft draft) }
+    ensures keeps { OnOk result (KeepsFree number shoens.now.shoens store.old.held store.new.held) }
     ensures shoens { OnOk result (AreShoensIn store.new.held shoens.now.shoens) }
     ensures grown { Grown store.old.held store.new.held }
     ensures hooks { store.new.hooks ≡ store.old.hooks }
