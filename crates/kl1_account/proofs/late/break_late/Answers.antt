@@ -17,7 +17,7 @@ pub returns-then-is_tail-clause-shoens : goal.returns-then-is_tail-clause-shoens
 returns-then-is_tail-clause-shoens c =
     on_ok_weaker c.break_stream.result
     (λ is. tree_in c.args.store.now.held c.args.shoens.now c.break_stream.new.self (changed c.args.number torn c.args.shoens.now.shoens) is
-    (shoens_changed c.args.store.now.held c.args.number torn (λ s i. record { control = i.control; tail = i.tail; origin = i.origin }) c.args.shoens.now.shoens c.requires.shoens))
+    (shoens_changed c.args.store.now.held c.args.number torn (λ s i. record { control = i.control; tail = i.tail; origin = i.origin; low = i.low; high = i.high }) c.args.shoens.now.shoens c.requires.shoens))
     c.break_stream.ensures.ok
 
 pub returns-clause-ok : goal.returns-clause-ok
