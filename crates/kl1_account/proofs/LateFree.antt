@@ -1,5 +1,5 @@
 -- A variable that becomes a name stays unbound through what comes after a goal's effects.
-use Rattle.std.proofs.Common.{◌≡◌, ℕ, ◌<◌, ◌≤◌, ◌==◌, not, ◌&&◌, Bool, true, false, if◌then◌else◌, List, [], ◌∷◌, refl, sym, ap, ◌∙◌, subst, arith}
+use Rattle.std.proofs.Common.{inl, inr, zero, suc, ◌≡◌, ℕ, ◌<◌, ◌≤◌, ◌==◌, not, ◌&&◌, Bool, true, false, if◌then◌else◌, List, [], ◌∷◌, refl, sym, ap, ◌∙◌, subst, arith}
 use Rattle.std.specs.Prelude.{find, Option, Some, None, option_map}
 use Rattle.std.proofs.lemmas.Bool.{ne_eqb, eqb-true, eq-eqb, cases_eq}
 use Rattle.kl1_model.specs.Term.{Term, variable, integer, atom, structure, replace}
@@ -8,8 +8,10 @@ use Rattle.kl1_text.specs.Reading.{Reads}
 use Rattle.kl1_text.specs.declared.cell_name.CellName.{CellName}
 use Rattle.kl1_store.specs.declared.cell.Cell.{Cell}
 use Rattle.kl1_store.specs.declared.cell.Cell.TheVariants.{Variable, Integer, Atom, Structure}
-use Rattle.kl1_store.specs.Held.{Held, IsIn, IsWalked, is_bound}
-use Rattle.kl1_store.specs.Sound.{IsFormed, Grown}
+use Rattle.kl1_store.specs.Held.{Held, IsIn, is_bound, found}
+use Rattle.kl1_store.specs.Sound.{IsFormed, Grown, IsBoundTo}
+use Rattle.kl1_store.proofs.Walking.{found_itself, bound_at}
+use Rattle.kl1_atoms.specs.Knowing.{no_names}
 use Rattle.kl1_store.proofs.Terms.{term_of-unbound}
 use Rattle.kl1_stream.specs.Reports.{HasSent, ClosedAs, EndsAt}
 use Rattle.kl1_stream.proofs.Tails.{BreaksOff, off_is}
@@ -19,7 +21,7 @@ use Rattle.kl1_account.specs.Fitting.{Reading, built}
 use Rattle.kl1_account.specs.Account.{meaning, shoen_with}
 use Rattle.kl1_account.specs.Late.{is_variable, is_tail_of, IsNoTail, StaysFree, KeepsFree}
 use Rattle.kl1_account.proofs.Works.{torn}
-use Rattle.kl1_account.proofs.CellReadings.{reading_fits}
+use Rattle.kl1_account.proofs.CellReadings.{cell_reading, reading_fits}
 
 -- an unbound variable after another is replaced
 other_stays : (v w : ℕ) (t : Term) → (w == v) ≡ false → replace w t (variable v) ≡ variable v
@@ -102,20 +104,57 @@ is_itself v w e = ap number e
     number (atom a) = 0
     number (structure f ts) = 0
 
--- a walked cell that means a variable is that variable, and nothing is bound to it
-pub walked_free : (h : Held CellName) (f : Reading) (v : ℕ) (x : Cell CellName) → IsFormed h → IsIn h x → IsWalked h x → meaning f h x ≡ variable v → is_bound v h.bindings ≡ false
-walked_free h f v (Variable w) formed inside walked e =
-    let P : ℕ → Type 0 = λ n. is_bound n h.bindings ≡ false in
-    subst P (is_itself v w (sym (term_of-unbound f h w walked) ∙ e)) walked
-walked_free h f v (Integer i) formed inside walked e = absurd (no_variable (Integer i) tt inside e)
+-- what is no variable means none
+off_none : (h : Held CellName) (f : Reading) (v : ℕ) (x : Cell CellName) → BreaksOff x → IsFormed h → IsIn h x → meaning f h x ≡ variable v → ⊥
+off_none h f v x off formed inside same = off_is f (λ t. t ≡ variable v → ⊥) h x x formed inside off refl (λ n q. absurd (cc)) (λ a q. absurd (cc)) (λ a ts q. absurd (cc)) same
+
+-- a variable means no higher one
+no_higher : (n : ℕ) (h : Held CellName) (f : Reading) (v w : ℕ) → w < n → IsFormed h → w < h.variables → meaning f h (Variable w) ≡ variable v → v ≤ w
+no_higher zero h f v w lt formed inside e = absurd (omega (arith, lt))
+no_higher (suc n) h f v w lt formed inside e = by_case (found w h.bindings) refl (λ u low so. no_higher n h f v u (omega (arith, low, lt)) formed (omega (arith, low, inside)) so)
   where
-    no_variable : (y : Cell CellName) → BreaksOff y → IsIn h y → meaning f h y ≡ variable v → ⊥
-    no_variable y off i same = off_is f (λ t. t ≡ variable v → ⊥) h y y formed i off refl (λ n q. absurd (cc)) (λ a q. absurd (cc)) (λ a ts q. absurd (cc)) same
-walked_free h f v (Atom a) formed inside walked e = absurd (no_variable (Atom a) tt inside e)
+    bound : (x : Cell CellName) → x ≡ found w h.bindings → (x ≡ Variable w → ⊥) → IsBoundTo h w x
+    bound x is other = bound_at h w x formed (omega (arith, inside)) is other
+
+    by_case : (x : Cell CellName) → x ≡ found w h.bindings → ((u : ℕ) → suc u ≤ w → meaning f h (Variable u) ≡ variable v → v ≤ u) → v ≤ w
+    by_case (Variable u) is rest = elim (cases_eq u w) [
+      | inl same ↦
+          let free = found_itself h w formed (sym is ∙ ap (λ m. let y : Cell CellName = Variable m in y) same) in
+          let so : w ≡ v = is_itself v w (sym (term_of-unbound f h w free) ∙ e) in
+          omega (arith, so)
+      | inr other ↦
+          let b = bound (Variable u) is (λ q. other (cc)) in
+          let low = b.lower in
+          let le = rest u low (b.means f ∙ e) in
+          omega (arith, low, le)
+    ]
+    by_case (Integer i) is rest = let b = bound (Integer i) is (λ q. absurd (cc)) in absurd (off_none h f v (Integer i) tt formed b.inside (b.means f ∙ e))
+    by_case (Atom a) is rest = let b = bound (Atom a) is (λ q. absurd (cc)) in absurd (off_none h f v (Atom a) tt formed b.inside (b.means f ∙ e))
+    by_case (Structure s) is rest = let b = bound (Structure s) is (λ q. absurd (cc)) in absurd (off_none h f v (Structure s) tt formed b.inside (b.means f ∙ e))
+
+-- nothing is bound to a variable that means itself
+pub unbound_by : (h : Held CellName) (f : Reading) (v : ℕ) → IsFormed h → v < h.variables → meaning f h (Variable v) ≡ variable v → is_bound v h.bindings ≡ false
+unbound_by h f v formed inside e = by_case (found v h.bindings) refl
   where
-    no_variable : (y : Cell CellName) → BreaksOff y → IsIn h y → meaning f h y ≡ variable v → ⊥
-    no_variable y off i same = off_is f (λ t. t ≡ variable v → ⊥) h y y formed i off refl (λ n q. absurd (cc)) (λ a q. absurd (cc)) (λ a ts q. absurd (cc)) same
-walked_free h f v (Structure s) formed inside walked e = absurd (no_variable (Structure s) tt inside e)
-  where
-    no_variable : (y : Cell CellName) → BreaksOff y → IsIn h y → meaning f h y ≡ variable v → ⊥
-    no_variable y off i same = off_is f (λ t. t ≡ variable v → ⊥) h y y formed i off refl (λ n q. absurd (cc)) (λ a q. absurd (cc)) (λ a ts q. absurd (cc)) same
+    bound : (x : Cell CellName) → x ≡ found v h.bindings → (x ≡ Variable v → ⊥) → IsBoundTo h v x
+    bound x is other = bound_at h v x formed (omega (arith, inside)) is other
+
+    by_case : (x : Cell CellName) → x ≡ found v h.bindings → is_bound v h.bindings ≡ false
+    by_case (Variable u) is = elim (cases_eq u v) [
+      | inl same ↦ found_itself h v formed (sym is ∙ ap (λ m. let y : Cell CellName = Variable m in y) same)
+      | inr other ↦
+          let b = bound (Variable u) is (λ q. other (cc)) in
+          let low = b.lower in
+          let le = no_higher (suc u) h f v u (omega arith) formed (omega (arith, low, inside)) (b.means f ∙ e) in
+          absurd (omega (arith, low, le))
+    ]
+    by_case (Integer i) is = let b = bound (Integer i) is (λ q. absurd (cc)) in absurd (off_none h f v (Integer i) tt formed b.inside (b.means f ∙ e))
+    by_case (Atom a) is = let b = bound (Atom a) is (λ q. absurd (cc)) in absurd (off_none h f v (Atom a) tt formed b.inside (b.means f ∙ e))
+    by_case (Structure s) is = let b = bound (Structure s) is (λ q. absurd (cc)) in absurd (off_none h f v (Structure s) tt formed b.inside (b.means f ∙ e))
+
+-- a variable that stays free of meaning anything else stays unbound
+pub free_unbound : (v : ℕ) (h k : Held CellName) → StaysFree v h k → IsFormed k → v < k.variables → is_bound v h.bindings ≡ false → is_bound v k.bindings ≡ false
+free_unbound v h k free formed inside unbound =
+    let f = cell_reading 1 [] in
+    let fits = reading_fits 1 [] (omega arith) no_names in
+    unbound_by k f v formed inside (free f fits.reads (term_of-unbound f h v unbound))

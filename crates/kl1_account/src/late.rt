@@ -63,6 +63,7 @@ fn break_late(
     ensures ok { OnOk result ((draft : Draft) → DraftsAll (λ f. break_at variable number) store.now.held store.now.held shoens.old shoens.new draft draft) }
     ensures untold { OnOk result (IsNoTail variable number store.now.held shoens.new.shoens) }
     ensures stays { OnOk result (Stays shoens.old shoens.new) }
+    ensures count { OnOk result (length shoens.new.shoens ≡ length shoens.old.shoens) }
     ensures shoens { OnOk result (AreShoensIn store.now.held shoens.new.shoens) }
     ensures back { CanGoBack shoens.old shoens.new }
 {
@@ -87,6 +88,7 @@ fn report_name_late(
     ensures ok { OnOk result (DraftsAll (λ f. report_late variable number (atom (text_of name))) store.old.held store.new.held shoens.old shoens.new draft.old draft.new) }
     ensures free { OnOk result (StaysFree variable store.old.held store.new.held) }
     ensures stays { OnOk result (Stays shoens.old shoens.new) }
+    ensures count { OnOk result (length shoens.new.shoens ≡ length shoens.old.shoens) }
     ensures shoens { OnOk result (AreShoensIn store.new.held shoens.new.shoens) }
     ensures back { CanGoBack shoens.old shoens.new }
     ensures rest { draft.new ≡ record draft.old { reports = draft.new.reports } }
@@ -112,6 +114,7 @@ fn report_each_late(
     ensures ok { OnOk result (DraftsAll (λ f. report_each_late variable numbers.now (atom (text_of name))) store.old.held store.new.held shoens.old shoens.new draft.old draft.new) }
     ensures free { OnOk result (StaysFree variable store.old.held store.new.held) }
     ensures stays { OnOk result (Stays shoens.old shoens.new) }
+    ensures count { OnOk result (length shoens.new.shoens ≡ length shoens.old.shoens) }
     ensures shoens { OnOk result (AreShoensIn store.new.held shoens.new.shoens) }
     ensures back { CanGoBack shoens.old shoens.new }
     ensures rest { draft.new ≡ record draft.old { reports = draft.new.reports } }
@@ -162,6 +165,7 @@ fn finish_late(
     ensures ok { OnOk result (DraftsAll (λ f. finished_late variable number) store.old.held store.new.held shoens.old shoens.new draft.old draft.new) }
     ensures free { OnOk result (StaysFree variable store.old.held store.new.held) }
     ensures stays { OnOk result (Stays shoens.old shoens.new) }
+    ensures count { OnOk result (length shoens.new.shoens ≡ length shoens.old.shoens) }
     ensures ended { OnOk result (draft.new.ended.items ≡ draft.old.ended.items ++ number ∷ []) }
     ensures shoens { OnOk result (AreShoensIn store.new.held shoens.new.shoens) }
     ensures back { CanGoBack shoens.old shoens.new }
@@ -188,6 +192,7 @@ fn finish_each_late(
     ensures ok { OnOk result (DraftsAll (λ f. finished_each_late variable numbers.now) store.old.held store.new.held shoens.old shoens.new draft.old draft.new) }
     ensures free { OnOk result (StaysFree variable store.old.held store.new.held) }
     ensures stays { OnOk result (Stays shoens.old shoens.new) }
+    ensures count { OnOk result (length shoens.new.shoens ≡ length shoens.old.shoens) }
     ensures ended { OnOk result (length draft.old.ended.items + length numbers.now ≤ length draft.new.ended.items) }
     ensures shoens { OnOk result (AreShoensIn store.new.held shoens.new.shoens) }
     ensures back { CanGoBack shoens.old shoens.new }
@@ -236,7 +241,7 @@ pub(crate) fn settle_late(
     let reached = walk.reached.as_slice();
     report_each_late(store, shoens, draft, reached, variable, BuiltIn::Exhausted)?;
     finish_each_late(store, shoens, draft, ending, variable)?;
-    let _free = store.walk(Cell::Variable(variable));
+    let _left = store.mark();
     Ok(())
 }
 

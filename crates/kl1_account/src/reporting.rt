@@ -1,6 +1,6 @@
 // Reports, exceptions and the ends of report streams.
 
-ghost use Rattle.std.specs.Prelude.{◌≡◌, IfOk, OnOk};
+ghost use Rattle.std.specs.Prelude.{◌≡◌, length, IfOk, OnOk};
 ghost use Rattle.kl1_model.specs.Unify.{solve};
 ghost use Rattle.kl1_model.specs.Term.{atom};
 ghost use Rattle.kl1_model.specs.Report.{report, report_each, close, exception};
@@ -40,6 +40,7 @@ pub(crate) fn report(
     ensures back { CanGoBack shoens.old shoens.new }
     ensures stays { OnOk result (Stays shoens.old shoens.new) }
     ensures keeps { OnOk result (KeepsFree number shoens.old.shoens store.old.held store.new.held) }
+    ensures count { OnOk result (length shoens.new.shoens ≡ length shoens.old.shoens) }
     ensures rest { draft.new ≡ record draft.old { reports = draft.new.reports } }
     ensures grown { Grown store.old.held store.new.held }
     ensures hooks { store.new.hooks ≡ store.old.hooks }
@@ -73,6 +74,7 @@ pub(crate) fn report_each(
     ensures shoens { OnOk result (AreShoensIn store.new.held shoens.new.shoens) }
     ensures back { CanGoBack shoens.old shoens.new }
     ensures stays { OnOk result (Stays shoens.old shoens.new) }
+    ensures count { OnOk result (length shoens.new.shoens ≡ length shoens.old.shoens) }
     ensures rest { draft.new ≡ record draft.old { reports = draft.new.reports } }
     ensures grown { Grown store.old.held store.new.held }
     ensures hooks { store.new.hooks ≡ store.old.hooks }
@@ -98,6 +100,7 @@ pub(crate) fn report_name(
     ensures back { CanGoBack shoens.old shoens.new }
     ensures stays { OnOk result (Stays shoens.old shoens.new) }
     ensures keeps { OnOk result (KeepsFree number shoens.old.shoens store.old.held store.new.held) }
+    ensures count { OnOk result (length shoens.new.shoens ≡ length shoens.old.shoens) }
     ensures rest { draft.new ≡ record draft.old { reports = draft.new.reports } }
     ensures grown { Grown store.old.held store.new.held }
     ensures hooks { store.new.hooks ≡ store.old.hooks }
@@ -142,6 +145,7 @@ pub(crate) fn raise(
     ensures shoens { OnOk result (AreShoensIn store.new.held shoens.new.shoens) }
     ensures back { CanGoBack shoens.old shoens.new }
     ensures stays { OnOk result (Stays shoens.old shoens.new) }
+    ensures count { OnOk result (length shoens.new.shoens ≡ length shoens.old.shoens) }
     ensures rest { draft.new ≡ record draft.old { reports = draft.new.reports } }
     ensures grown { Grown store.old.held store.new.held }
     ensures hooks { store.new.hooks ≡ store.old.hooks }
@@ -165,6 +169,7 @@ pub(crate) fn raise_whole(
     ensures shoens { OnOk result (AreShoensIn store.new.held shoens.new.shoens) }
     ensures back { CanGoBack shoens.old shoens.new }
     ensures stays { OnOk result (Stays shoens.old shoens.new) }
+    ensures count { OnOk result (length shoens.new.shoens ≡ length shoens.old.shoens) }
     ensures rest { draft.new ≡ record draft.old { reports = draft.new.reports } }
     ensures grown { Grown store.old.held store.new.held }
     ensures hooks { store.new.hooks ≡ store.old.hooks }
@@ -191,6 +196,7 @@ pub(crate) fn unify(
     ensures shoens { OnOk result (AreShoensIn store.new.held shoens.new.shoens) }
     ensures back { CanGoBack shoens.old shoens.new }
     ensures stays { OnOk result (Stays shoens.old shoens.new) }
+    ensures count { OnOk result (length shoens.new.shoens ≡ length shoens.old.shoens) }
     ensures rest { draft.new ≡ record draft.old { reports = draft.new.reports } }
     ensures grown { Grown store.old.held store.new.held }
     ensures hooks { store.new.hooks ≡ store.old.hooks }

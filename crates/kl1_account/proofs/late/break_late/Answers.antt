@@ -11,6 +11,7 @@ use Rattle.kl1_account.proofs.Works.{torn}
 use Rattle.kl1_account.proofs.LateDrafts.{drafts_torn, drafts_untorn}
 use Rattle.kl1_account.proofs.Frames.{stays_same, stays_changed}
 use Rattle.kl1_account.proofs.LateFree.{torn_free}
+use Rattle.kl1_account.proofs.Counts.{count_changed}
 use Rattle.kl1_account.proofs.late.break_late.Goals as goal
 
 pub returns-then-is_tail-clause-ok : goal.returns-then-is_tail-clause-ok
@@ -23,7 +24,7 @@ pub returns-then-is_tail-clause-shoens : goal.returns-then-is_tail-clause-shoens
 returns-then-is_tail-clause-shoens c =
     on_ok_weaker c.break_stream.result
     (λ is. tree_in c.args.store.now.held c.args.shoens.now c.break_stream.new.self (changed c.args.number torn c.args.shoens.now.shoens) is
-    (shoens_changed c.args.store.now.held c.args.number torn (λ s i. record { control = i.control; tail = i.tail; origin = i.origin }) c.args.shoens.now.shoens c.requires.shoens))
+    (shoens_changed c.args.store.now.held c.args.number torn (λ s i. record { control = i.control; tail = i.tail; origin = i.origin; low = i.low; high = i.high }) c.args.shoens.now.shoens c.requires.shoens))
     c.break_stream.ensures.ok
 
 pub returns-clause-ok : goal.returns-clause-ok
@@ -44,3 +45,6 @@ returns-then-is_tail-clause-stays c = on_ok_weaker c.break_stream.result (λ is.
 
 pub returns-clause-stays : goal.returns-clause-stays
 returns-clause-stays c = stays_same c.args.shoens.now
+
+pub returns-then-is_tail-clause-count : goal.returns-then-is_tail-clause-count
+returns-then-is_tail-clause-count c = on_ok_weaker c.break_stream.result (λ is. count_changed c.args.shoens.now c.break_stream.new.self c.args.number torn is) c.break_stream.ensures.ok

@@ -15,6 +15,7 @@ invariant-loop-number l = record {
   stays : Stays l.initial.shoens l.shoens;
   free : StaysFree l.variable l.initial.store.held l.store.held;
   ended : length l.initial.draft.ended.items + l.number-index ≤ length l.draft.ended.items;
+  count : length l.shoens.shoens ≡ length l.initial.shoens.shoens;
   rest : l.draft ≡ record l.initial.draft { reports = l.draft.reports; ended = l.draft.ended };
   grown : Grown l.initial.store.held l.store.held;
   hooks : l.store.hooks ≡ l.initial.store.hooks;

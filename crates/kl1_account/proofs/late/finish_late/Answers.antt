@@ -24,3 +24,6 @@ returns-clause-stays c = on_ok_weaker c.close_late.result (λ closing. c.in_ok-r
 
 pub returns-clause-ended : goal.returns-clause-ended
 returns-clause-ended c = on_ok_weaker c.close_late.result (λ closing. ap (λ (y : Draft). y.ended.items) c.in_ok-report_name_late.ensures.rest ∙ c.in_ok-push.ensures.items) c.close_late.ensures.ok
+
+pub returns-clause-count : goal.returns-clause-count
+returns-clause-count c = on_ok_weaker c.close_late.result (λ closing. c.in_ok-report_name_late.ensures.count) c.close_late.ensures.ok

@@ -20,6 +20,7 @@ loop-number-preserved c =
       back = back_then c.args.shoens.now c.loop-number.shoens c.report_name_late.new.shoens i.back next.back;
       stays = stays_then c.args.shoens.now c.loop-number.shoens c.report_name_late.new.shoens i.stays next.stays;
       free = free_then c.args.variable c.args.store.now.held c.loop-number.store.held c.report_name_late.new.store.held i.free next.free;
+      count = next.count ∙ i.count;
       rest = told_then c.args.draft.now c.loop-number.draft c.report_name_late.new.draft i.rest next.rest;
       grown = Grown-trans c.args.store.now.held c.loop-number.store.held c.report_name_late.new.store.held i.grown next.grown;
       hooks = next.hooks ∙ i.hooks;
@@ -35,6 +36,7 @@ loop-number-init c = record {
   back = record { shoens = refl; work = refl };
   stays = stays_same c.args.shoens.now;
   free = free_same c.args.variable c.args.store.now.held;
+  count = refl;
   rest = refl;
   grown = Grown-same c.args.store.now.held;
   hooks = refl;

@@ -1,4 +1,4 @@
-use Rattle.std.proofs.Common.{◌≡◌, take}
+use Rattle.std.proofs.Common.{◌≡◌, length, take}
 use Rattle.kl1_model.specs.Text.{text_of}
 use Rattle.kl1_model.specs.Term.{atom}
 use Rattle.kl1_account.specs.Late.{StaysFree, report_each_late}
@@ -16,6 +16,7 @@ invariant-loop-number l = record {
   back : CanGoBack l.initial.shoens l.shoens;
   stays : Stays l.initial.shoens l.shoens;
   free : StaysFree l.variable l.initial.store.held l.store.held;
+  count : length l.shoens.shoens ≡ length l.initial.shoens.shoens;
   rest : l.draft ≡ record l.initial.draft { reports = l.draft.reports };
   grown : Grown l.initial.store.held l.store.held;
   hooks : l.store.hooks ≡ l.initial.store.hooks;

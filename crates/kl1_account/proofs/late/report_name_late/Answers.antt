@@ -1,3 +1,4 @@
+use Rattle.std.proofs.Common.{◌∙◌}
 use Rattle.std.proofs.lemmas.Result.{on_ok_weaker}
 use Rattle.kl1_model.specs.Text.{text_of}
 use Rattle.kl1_model.specs.Term.{atom}
@@ -20,3 +21,6 @@ returns-clause-free c = on_ok_weaker c.report_name.result (λ keeps. keeps c.arg
 
 pub returns-clause-stays : goal.returns-clause-stays
 returns-clause-stays c = on_ok_weaker c.report_name.result (λ stays. stays_then c.args.shoens.now c.break_late.new.shoens c.report_name.new.shoens c.in_ok-break_late.ensures.stays stays) c.report_name.ensures.stays
+
+pub returns-clause-count : goal.returns-clause-count
+returns-clause-count c = on_ok_weaker c.report_name.result (λ count. count ∙ c.in_ok-break_late.ensures.count) c.report_name.ensures.count
