@@ -120,6 +120,7 @@ pub(crate) fn commit(
     ensures shoens { OnOk result (AreShoensIn store.new.held shoens.new.shoens) }
     ensures back { CanGoBack shoens.old shoens.new }
     ensures stays { OnOk result (Stays shoens.old shoens.new) }
+    ensures count { OnOk result (length shoens.new.shoens ≡ length shoens.old.shoens) }
     ensures rest { draft.new ≡ record draft.old { reports = draft.new.reports; added = draft.new.added; last_goal = draft.new.last_goal; variables = draft.new.variables; nodes = draft.new.nodes; cells = draft.new.cells } }
     ensures grown { Grown store.old.held store.new.held }
     ensures hooks { store.new.hooks ≡ store.old.hooks }
