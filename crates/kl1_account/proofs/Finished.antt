@@ -176,7 +176,8 @@ next_looked n (b ∷ before) (a ∷ after) gs ks c e i =
 pub next_placed : (n : ℕ) (goals added : List (Goal CellName)) (d : Draft) → map unlooked d.added.items ≡ map unlooked added → AreNext goals n added → AreNext (restood d.changes.items (goals_left goals d)) n d.added.items
 next_placed n goals added d e i = next_looked n added d.added.items goals (restood d.changes.items (goals_left goals d)) (λ P all a. stood_holds P all goals d a) e i
 
-next_owned : (n : ℕ) (gs ks : List (Goal CellName)) → AreNext gs n ks → AreOwned n ks
+-- goals that a table takes in are of its shoens
+pub next_owned : (n : ℕ) (gs ks : List (Goal CellName)) → AreNext gs n ks → AreOwned n ks
 next_owned n gs [] i = tt
 next_owned n gs (k ∷ ks) i =
     let low = i.0.low in

@@ -30,7 +30,6 @@ pub mod LookedAt
 pub mod Drafted
 pub mod PutIn
 pub mod Steps
-pub mod Reduced
 pub mod StartLines
 pub mod Beyond
 pub mod Opened
@@ -72,4 +71,10 @@ pub mod FlagsKept
 pub mod Outlines
 pub mod ControlsKept
 pub mod Effected
+pub mod Exchanged
+pub mod Respelled
+pub mod Named
 pub mod ReducedKept
+pub mod NewNames
+pub mod Published
+pub mod ReducePut

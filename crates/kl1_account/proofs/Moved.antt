@@ -25,7 +25,6 @@ use Rattle.kl1_goals.specs.declared.goal.Goal.{Goal}
 use Rattle.kl1_shoen.specs.declared.shoen.Shoen.{Shoen}
 use Rattle.kl1_shoen.specs.Shoens.{Tree}
 use Rattle.kl1_modules.specs.Numbered.{Numbered}
-use Rattle.kl1_modules.specs.Finding.{contents}
 use Rattle.kl1_account.specs.declared.draft.Draft.{Draft}
 use Rattle.kl1_account.specs.Fitting.{Reading}
 use Rattle.kl1_atoms.specs.declared.known.Known.{Known}
@@ -63,8 +62,8 @@ candidate_in goes = no_candidate
 
 pub moves_by_commit : (p : Predicate CellName) (place : ℕ) (places : List (Place CellName)) (text : List ℕ) (goal : Goal CellName) (x : Qualified CellName) (goals : List (Goal CellName)) (h k : Held CellName) (t u : Tree CellName) (d e : Draft) →
     Commits p place places goal x goals h k t u d e → (known : List Known) → Moves p (move.Commits place) places text goal x goals known h k t u d e
-moves_by_commit p place places text goal x goals h k t u d e commit known ms clause m reads as_found found =
-    let is : (f : Reading) (knows : Knows ms f) → m f ≡ commits (as_found f knows).candidate = λ f knows. found_is (m f) (commits (as_found f knows).candidate) (move_by (contents ms) (aim f h x) clause) (found f knows) (as_found f knows).moves in
+moves_by_commit p place places text goal x goals h k t u d e commit known ms modules clause m reads as_found found =
+    let is : (f : Reading) (knows : Knows ms f) → m f ≡ commits (as_found f knows).candidate = λ f knows. found_is (m f) (commits (as_found f knows).candidate) (move_by modules (aim f h x) clause) (found f knows) (as_found f knows).moves in
     let C : (f : Reading) → Candidate → Type 0 = λ f c. IsCandidate f h p place places c in
     moves_as ms goal x clause m (λ f. commits (candidate_in (m f))) goals (texts_of known) h k t u d e
     (λ f knows. is f knows ∙ ap (λ y. commits (candidate_in y)) (sym (is f knows)))
@@ -72,30 +71,30 @@ moves_by_commit p place places text goal x goals h k t u d e commit known ms cla
 
 pub moves_by_exception : (p : Predicate CellName) (places : List (Place CellName)) (text : List ℕ) (b : BuiltIn) (goal : Goal CellName) (x : Qualified CellName) (goals : List (Goal CellName)) (h k : Held CellName) (t u : Tree CellName) (d e : Draft) →
     DraftsAll (λ f. report goal.shoen (exception (text_of b) (aim f h x))) h k t u d e → (known : List Known) → Moves p (move.Raises b) places text goal x goals known h k t u d e
-moves_by_exception p places text b goal x goals h k t u d e raised known ms clause m reads as_found found =
-    moves_as ms goal x clause m (λ f. raises (text_of b)) goals (texts_of known) h k t u d e (λ f knows. found_is (m f) (raises (text_of b)) (move_by (contents ms) (aim f h x) clause) (found f knows) (as_found f knows)) (raised ms goals (texts_of known))
+moves_by_exception p places text b goal x goals h k t u d e raised known ms modules clause m reads as_found found =
+    moves_as ms goal x clause m (λ f. raises (text_of b)) goals (texts_of known) h k t u d e (λ f knows. found_is (m f) (raises (text_of b)) (move_by modules (aim f h x) clause) (found f knows) (as_found f knows)) (raised ms goals (texts_of known))
 
 pub moves_by_unification : (p : Predicate CellName) (places : List (Place CellName)) (text : List ℕ) (l r : Cell CellName) (goal : Goal CellName) (x : Qualified CellName) (goals : List (Goal CellName)) (h k : Held CellName) (t u : Tree CellName) (d e : Draft) →
     DraftsAll (λ f s. unified goal.shoen (aim f h x) (solve (equation (meaning f h l) (meaning f h r))) s) h k t u d e → (known : List Known) → Moves p (move.Unifies l r) places text goal x goals known h k t u d e
-moves_by_unification p places text l r goal x goals h k t u d e did known ms clause m reads as_found found =
+moves_by_unification p places text l r goal x goals h k t u d e did known ms modules clause m reads as_found found =
     moves_as ms goal x clause m (λ f. unifies (meaning f h l) (meaning f h r)) goals (texts_of known) h k t u d e
-    (λ f knows. found_is (m f) (unifies (meaning f h l) (meaning f h r)) (move_by (contents ms) (aim f h x) clause) (found f knows) (as_found f knows)) (did ms goals (texts_of known))
+    (λ f knows. found_is (m f) (unifies (meaning f h l) (meaning f h r)) (move_by modules (aim f h x) clause) (found f knows) (as_found f knows)) (did ms goals (texts_of known))
 
 pub moves_by_order : (p : Predicate CellName) (places : List (Place CellName)) (text : List ℕ) (s : ℕ) (o : Order CellName) (goal : Goal CellName) (x : Qualified CellName) (goals : List (Goal CellName)) (h k : Held CellName) (t u : Tree CellName) (d e : Draft) → IsOrder h s o →
     OpensChild s goal x h k t u d e → (known : List Known) → Moves p (move.Opens s) places text goal x goals known h k t u d e
-moves_by_order p places text s o goal x goals h k t u d e order opened known ms clause m reads as_found found =
+moves_by_order p places text s o goal x goals h k t u d e order opened known ms modules clause m reads as_found found =
     moves_as ms goal x clause m (λ f. opens (order_at f h o)) goals (texts_of known) h k t u d e
-    (λ f knows. found_is (m f) (opens (order_at f h o)) (move_by (contents ms) (aim f h x) clause) (found f knows) (as_found f knows o order)) (opened o order ms goals (texts_of known))
+    (λ f knows. found_is (m f) (opens (order_at f h o)) (move_by modules (aim f h x) clause) (found f knows) (as_found f knows o order)) (opened o order ms goals (texts_of known))
 
 pub moves_by_name : (p : Predicate CellName) (places : List (Place CellName)) (text : List ℕ) (a : Cell CellName) (goal : Goal CellName) (x : Qualified CellName) (goals : List (Goal CellName)) (known : List Known) (h k : Held CellName) (t u : Tree CellName) (d e : Draft) →
     NamesTerm goal.shoen text known a x h k t u d e → Moves p (move.Names a) places text goal x goals known h k t u d e
-moves_by_name p places text a goal x goals known h k t u d e named ms clause m reads as_found found =
+moves_by_name p places text a goal x goals known h k t u d e named ms modules clause m reads as_found found =
     moves_as ms goal x clause m (λ f. names text (meaning f h a)) goals (texts_of known) h k t u d e
-    (λ f knows. found_is (m f) (names text (meaning f h a)) (move_by (contents ms) (aim f h x) clause) (found f knows) (as_found f knows)) (named ms reads goals)
+    (λ f knows. found_is (m f) (names text (meaning f h a)) (move_by modules (aim f h x) clause) (found f knows) (as_found f knows)) (named ms reads goals)
 
 pub moves_by_nothing : (p : Predicate CellName) (places : List (Place CellName)) (text : List ℕ) (goal : Goal CellName) (x : Qualified CellName) (goals : List (Goal CellName)) (h : Held CellName) (t : Tree CellName) (d : Draft) → (known : List Known) → Moves p move.Goes places text goal x goals known h h t t d d
-moves_by_nothing p places text goal x goals h t d known ms clause m reads as_found found =
-    moves_as ms goal x clause m (λ f. goes) goals (texts_of known) h h t t d d (λ f knows. found_is (m f) goes (move_by (contents ms) (aim f h x) clause) (found f knows) (as_found f knows))
+moves_by_nothing p places text goal x goals h t d known ms modules clause m reads as_found found =
+    moves_as ms goal x clause m (λ f. goes) goals (texts_of known) h h t t d d (λ f knows. found_is (m f) goes (move_by modules (aim f h x) clause) (found f knows) (as_found f knows))
     (λ i. turns_none ms (λ f s. s) h (made_of goals (texts_of known) t d) i (λ f knows s. refl))
 
 -- ---- a step

@@ -42,7 +42,8 @@ owned_both : (n : ℕ) (gs ks : List (Goal CellName)) → AreOwned n gs → AreO
 owned_both n [] ks a b = b
 owned_both n (g ∷ gs) ks a b = (a.0, owned_both n gs ks a.1 b)
 
-owned_more : (n m : ℕ) (gs : List (Goal CellName)) → n ≤ m → AreOwned n gs → AreOwned m gs
+-- goals of so many shoens are of more
+pub owned_more : (n m : ℕ) (gs : List (Goal CellName)) → n ≤ m → AreOwned n gs → AreOwned m gs
 owned_more n m [] le a = tt
 owned_more n m (g ∷ gs) le a = let h = a.0.high in (record { low = a.0.low; high = omega arith }, owned_more n m gs le a.1)
 
@@ -50,7 +51,8 @@ up_to_both : (n : ℕ) (gs ks : List (Goal CellName)) → AreUpTo n gs → AreUp
 up_to_both n [] ks a b = b
 up_to_both n (g ∷ gs) ks a b = (a.0, up_to_both n gs ks a.1 b)
 
-up_to_more : (n m : ℕ) (gs : List (Goal CellName)) → n ≤ m → AreUpTo n gs → AreUpTo m gs
+-- numbers up to one are up to a higher one
+pub up_to_more : (n m : ℕ) (gs : List (Goal CellName)) → n ≤ m → AreUpTo n gs → AreUpTo m gs
 up_to_more n m [] le a = tt
 up_to_more n m (g ∷ gs) le a = let k = a.0 in (omega arith, up_to_more n m gs le a.1)
 

@@ -44,6 +44,16 @@ abbrev pub IsSpelledIn : Option Spelled → Held CellName → Type 0
 IsSpelledIn None h = Unit {0}
 IsSpelledIn (Some s) h = HasJustBound s.before.sizes s.variable h
 
+-- in a store a variable was bound last, to the spare number
+pub record HasSpared (v : ℕ) (h : Held CellName) : Type 0 where
+  pub before : Held CellName
+  pub bound : h ≡ with_binding before v (Atom spare)
+
+-- where a variable becomes a name, the spare number stands for it
+abbrev pub IsSparedIn : Option Spelled → Held CellName → Type 0
+IsSparedIn None h = Unit {0}
+IsSparedIn (Some s) h = HasSpared s.variable h
+
 -- the cells of a store where a variable becomes a name: it is bound to the number that the name got
 abbrev pub Respells : Option Spelled → CellName → Held CellName → Held CellName → Type 0
 Respells None k h last = last ≡ h
@@ -119,10 +129,22 @@ pub record IsNamed (known more : List Known) (name : Option (List ℕ)) (k : Cel
   pub reads : (f : Reading) → Fits more f → ReadsNew f k name
   pub small : AreSmall more
 
+-- the same, whatever the number is
+pub record IsNamedBy (known more : List Known) (name : Option (List ℕ)) (k : CellName) : Type 0 where
+  pub texts : texts_of more ≡ names_with (texts_of known) name
+  pub fits : (f : Reading) → Fits more f → Fits known f
+  pub reads : (f : Reading) → Fits more f → ReadsNew f k name
+
 -- a drafted name got a number: the account knows it, and it stands where the spare number stood
 pub record IsPublished (known more : List Known) (d : Draft) (h last : Held CellName) : Type 0 where
   pub number : CellName
   pub named : IsNamed known more d.name number
+  pub respells : Respells d.spelled number h last
+
+-- the same, whatever the number is: the spare number also
+pub record IsPublishedBy (known more : List Known) (d : Draft) (h last : Held CellName) : Type 0 where
+  pub number : CellName
+  pub named : IsNamedBy known more d.name number
   pub respells : Respells d.spelled number h last
 
 -- a variable becomes a name only where a name is drafted

@@ -12,7 +12,7 @@ ghost use Rattle.kl1_account.specs.Kept.{IsOwned, AreShoensIn};
 ghost use Rattle.kl1_account.specs.Drafts.{goals_left, HasBegun, CanGoBack};
 ghost use Rattle.kl1_account.specs.Moving.{name_for};
 ghost use Rattle.kl1_account.specs.Leaving.{Leaves, IsActed};
-ghost use Rattle.kl1_account.specs.Spelling.{IsSpelledIn, HasName, HasRoomFor, Does};
+ghost use Rattle.kl1_account.specs.Spelling.{IsSpelledIn, IsSparedIn, HasName, HasRoomFor, Does};
 
 use crate::acting::act;
 use crate::draft::Draft;
@@ -65,6 +65,7 @@ pub(crate) fn do_or_spell(
     ensures leaves { OnOk result (Leaves 0 store.new.held shoens.old shoens.new walk.new.reached.items draft.old draft.new) }
     ensures name { OnOk result (draft.new.name ≡ name_for made names.old.names trial.old.text) }
     ensures spelled { OnOk result (IsSpelledIn draft.new.spelled store.new.held) }
+    ensures spared { OnOk result (IsSparedIn draft.new.spelled store.new.held) }
     ensures has { OnOk result (HasName draft.new.spelled draft.new.name) }
     ensures rest { OnOk result (IsActed draft.old draft.new) }
     ensures names { names.new.names ≡ names.old.names }

@@ -4,9 +4,8 @@ use Rattle.std.proofs.lemmas.Result.{on_ok_weaker}
 use Rattle.kl1_text.specs.declared.cell_name.CellName.{CellName}
 use Rattle.kl1_moves.specs.declared.moves.Move.{Move}
 use Rattle.kl1_moves.specs.Moves.{taken_places}
-use Rattle.kl1_account.specs.Calling.{NamesTerm, CanRename}
-use Rattle.kl1_account.specs.Moving.{Moves, CanRenameAfter}
-use Rattle.kl1_account.proofs.Calling.{always_ok}
+use Rattle.kl1_account.specs.Calling.{NamesTerm}
+use Rattle.kl1_account.specs.Moving.{Moves}
 use Rattle.kl1_account.proofs.Moved.{moves_by_commit, moves_by_exception, moves_by_unification, moves_by_name, moves_by_order, moves_by_nothing}
 use Rattle.kl1_account.proofs.moving.do_move.Goals as goal
 
@@ -70,31 +69,6 @@ returns-in-Goes-clause-ok c =
     let P : Move CellName → Type 0 = λ m. Moves p m ts text c.args.goal c.args.cell goals c.args.names.now.names h h t t d d in
     subst P (sym c.in-Goes.is) (moves_by_nothing p ts text c.args.goal c.args.cell goals h t d c.args.names.now.names)
 
-pub returns-in-Commits-clause-redo : goal.returns-in-Commits-clause-redo
-returns-in-Commits-clause-redo c =
-    let P : Move CellName → Type 0 = λ m. CanRenameAfter m c.args.trial.now.text c.args.names.now.names c.args.store.now.held c.commit.new.store.held c.commit.new.draft in
-    always_ok c.commit.result (subst P (sym c.in-Commits.is) (ap (λ d. d.name) c.commit.ensures.rest ∙ c.requires.none))
-
-pub returns-in-Raises-clause-redo : goal.returns-in-Raises-clause-redo
-returns-in-Raises-clause-redo c =
-    let P : Move CellName → Type 0 = λ m. CanRenameAfter m c.args.trial.now.text c.args.names.now.names c.args.store.now.held c.raise.new.store.held c.raise.new.draft in
-    always_ok c.raise.result (subst P (sym c.in-Raises.is) (ap (λ d. d.name) c.raise.ensures.rest ∙ c.requires.none))
-
-pub returns-in-Unifies-clause-redo : goal.returns-in-Unifies-clause-redo
-returns-in-Unifies-clause-redo c =
-    let P : Move CellName → Type 0 = λ m. CanRenameAfter m c.args.trial.now.text c.args.names.now.names c.args.store.now.held c.unify.new.store.held c.unify.new.draft in
-    always_ok c.unify.result (subst P (sym c.in-Unifies.is) (ap (λ d. d.name) c.unify.ensures.rest ∙ c.requires.none))
-
-pub returns-in-Opens-clause-redo : goal.returns-in-Opens-clause-redo
-returns-in-Opens-clause-redo c =
-    let P : Move CellName → Type 0 = λ m. CanRenameAfter m c.args.trial.now.text c.args.names.now.names c.args.store.now.held c.open_child.new.store.held c.open_child.new.draft in
-    always_ok c.open_child.result (subst P (sym c.in-Opens.is) (ap (λ d. d.name) c.open_child.ensures.rest ∙ c.requires.none))
-
-pub returns-in-Goes-clause-redo : goal.returns-in-Goes-clause-redo
-returns-in-Goes-clause-redo c =
-    let P : Move CellName → Type 0 = λ m. CanRenameAfter m c.args.trial.now.text c.args.names.now.names c.args.store.now.held c.args.store.now.held c.args.draft.now in
-    subst P (sym c.in-Goes.is) c.requires.none
-
 pub returns-in-Names-clause-ok : goal.returns-in-Names-clause-ok
 returns-in-Names-clause-ok c =
     let p = c.args.predicate in
@@ -109,16 +83,6 @@ returns-in-Names-clause-ok c =
     let T : List ℕ → Type 0 = λ l. NamesTerm c.args.goal.shoen l known c.in-Names.target c.args.cell h c.name_term.new.store.held t c.name_term.new.shoens d c.name_term.new.draft in
     let P : Move CellName → Type 0 = λ m. Moves p m ts text c.args.goal c.args.cell goals known h c.name_term.new.store.held t c.name_term.new.shoens d c.name_term.new.draft in
     on_ok_weaker c.name_term.result (λ ok. subst P (sym c.in-Names.is) (moves_by_name p ts text c.in-Names.target c.args.goal c.args.cell goals known h c.name_term.new.store.held t c.name_term.new.shoens d c.name_term.new.draft (subst T same ok))) c.name_term.ensures.ok
-
-pub returns-in-Names-clause-redo : goal.returns-in-Names-clause-redo
-returns-in-Names-clause-redo c =
-    let text = c.args.trial.now.text in
-    let known = c.args.names.now.names in
-    let h = c.args.store.now.held in
-    let same : c.of-text.result ≡ text = c.of-text.ensures ∙ c.as_slice.ensures in
-    let T : List ℕ → Type 0 = λ l. CanRename l known c.in-Names.target h c.name_term.new.store.held c.name_term.new.draft in
-    let P : Move CellName → Type 0 = λ m. CanRenameAfter m text known h c.name_term.new.store.held c.name_term.new.draft in
-    on_ok_weaker c.name_term.result (λ redo. subst P (sym c.in-Names.is) (subst T same redo)) c.name_term.ensures.redo
 
 pub returns-in-Goes-clause-stays : goal.returns-in-Goes-clause-stays
 returns-in-Goes-clause-stays c = stays_same c.args.shoens.now
