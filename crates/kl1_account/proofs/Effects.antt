@@ -92,7 +92,7 @@ aborted_read t all n (h ∷ ss) =
     (aborted_read t all n ss)
 
 if_in : (c : Bool) (h : Held CellName) (s : Shoen CellName) → IsShoenIn h s → IsShoenIn h (if c then record s { life = Aborted } else s)
-if_in true h s i = record { control = i.control; tail = i.tail; origin = i.origin }
+if_in true h s i = record { control = i.control; tail = i.tail; origin = i.origin; low = i.low; high = i.high }
 if_in false h s i = i
 
 pub aborted_in : (h : Held CellName) (all : List (Shoen CellName)) (n : ℕ) (ss : List (Shoen CellName)) → AreShoensIn h ss → AreShoensIn h (map (aborted_below_in all n) ss)
@@ -168,7 +168,7 @@ drafts_stopped h k t u v d e n sh there goes is p =
     (drafts_as (λ f s. report n stopped_report (change_shoen n (λ x. record x { is_stopped = true }) s)) (λ f s. stopped_of (Some (shoen_with (meaning f h) sh)) n s) h k t v d e
     (λ f s. ap (λ b. if b then s else report n stopped_report (change_shoen n (λ x. record x { is_stopped = true }) s)) goes)
     (drafts_then (λ f. change_shoen n (λ x. record x { is_stopped = true })) (λ f. report n stopped_report) h h k t u v d d e
-    (drafts_changed h t u d n (halted true) (λ x. record x { is_stopped = true }) is (λ s i. record { control = i.control; tail = i.tail; origin = i.origin }) (λ f s. refl)) p))
+    (drafts_changed h t u d n (halted true) (λ x. record x { is_stopped = true }) is (λ s i. record { control = i.control; tail = i.tail; origin = i.origin; low = i.low; high = i.high }) (λ f s. refl)) p))
 
 pub drafts_resumed : (h k : Held CellName) (t u v : Tree CellName) (d e : Draft) (n : ℕ) (sh : Shoen CellName) → find (has_number n) t.shoens ≡ Some sh → sh.is_stopped ≡ true → u ≡ record t { shoens = changed n (halted false) t.shoens } →
     DraftsAll (λ f. report n resumed_report) h k u v d e → DraftsAll (λ f. obeyed n Start) h k t v d e
@@ -177,7 +177,7 @@ drafts_resumed h k t u v d e n sh there stopped is p =
     (drafts_as (λ f s. report n resumed_report (change_shoen n (λ x. record x { is_stopped = false }) s)) (λ f s. resumed_of (Some (shoen_with (meaning f h) sh)) n s) h k t v d e
     (λ f s. ap (λ b. if b then report n resumed_report (change_shoen n (λ x. record x { is_stopped = false }) s) else s) stopped)
     (drafts_then (λ f. change_shoen n (λ x. record x { is_stopped = false })) (λ f. report n resumed_report) h h k t u v d d e
-    (drafts_changed h t u d n (halted false) (λ x. record x { is_stopped = false }) is (λ s i. record { control = i.control; tail = i.tail; origin = i.origin }) (λ f s. refl)) p))
+    (drafts_changed h t u d n (halted false) (λ x. record x { is_stopped = false }) is (λ s i. record { control = i.control; tail = i.tail; origin = i.origin; low = i.low; high = i.high }) (λ f s. refl)) p))
 
 -- drafts that begin with flags to be set
 pub shifted : (f : Reading → State → State) (h k : Held CellName) (t u : Tree CellName) (d e : Draft) (b : Bool) → DraftsAll f h k t u (record d { shifts = b }) e → DraftsAll f h k t u d e
@@ -188,7 +188,7 @@ abbrev pub allowing : ℕ → Shoen CellName → Shoen CellName
 allowing extra h = record h { allowance = min (h.allowance + extra) most_allowance }
 
 pub drafts_allowed : (h : Held CellName) (t u : Tree CellName) (d : Draft) (n extra : ℕ) (b : Bool) → u ≡ record t { shoens = changed n (allowing extra) t.shoens } → DraftsAll (λ f. obeyed n (Allow extra)) h h t u d (record d { shifts = b })
-drafts_allowed h t u d n extra b is ms goals names i = drafts_changed h t u d n (allowing extra) (allowed_more extra) is (λ s a. record { control = a.control; tail = a.tail; origin = a.origin }) (λ f s. refl) ms goals names i
+drafts_allowed h t u d n extra b is ms goals names i = drafts_changed h t u d n (allowing extra) (allowed_more extra) is (λ s a. record { control = a.control; tail = a.tail; origin = a.origin; low = a.low; high = a.high }) (λ f s. refl) ms goals names i
 
 -- a shoen and all below it aborted
 pub drafts_aborted : (h k l : Held CellName) (t u v : Tree CellName) (d e x : Draft) (n : ℕ) → DraftsAll (λ f. ended_below n) h h t u d e → DraftsAll (λ f. report n aborted_report) h k u v e x → DraftsAll (λ f. close n) k l v v x x → DraftsAll (λ f. obeyed n Abort) h l t v d x
@@ -206,7 +206,7 @@ drafts_controlled h t u d n x j is ms goals names i =
     let w = made_of goals names t d in
     let T : Tree CellName → Type 0 = λ y. Turns ms (λ f. with_control n (meaning f h x)) h h w (made_of goals names y d) in
     subst T (sym is) (record {
-      inside = changed_made h w n (controlled x) (λ s a. record { control = j; tail = a.tail; origin = a.origin }) i;
+      inside = changed_made h w n (controlled x) (λ s a. record { control = j; tail = a.tail; origin = a.origin; low = a.low; high = a.high }) i;
       states = λ f knows s. changes s (meaning f h) (h.variables - 1) w n (controlled x) (λ y. record y { control = meaning f h x }) (λ y. refl);
     })
 

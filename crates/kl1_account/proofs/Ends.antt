@@ -140,7 +140,7 @@ ends_back old now ss e = record { shoens = ap (λ (x : Tree CellName). x.kept) e
 
 ended_shoens_in : (h : Held CellName) (ns : List ℕ) (ss : List (Shoen CellName)) → AreShoensIn h ss → AreShoensIn h (ended_in ns ss)
 ended_shoens_in h [] ss i = i
-ended_shoens_in h (n ∷ ns) ss i = ended_shoens_in h ns (changed n terminated ss) (shoens_changed h n terminated (λ s a. record { control = a.control; tail = a.tail; origin = a.origin }) ss i)
+ended_shoens_in h (n ∷ ns) ss i = ended_shoens_in h ns (changed n terminated ss) (shoens_changed h n terminated (λ s a. record { control = a.control; tail = a.tail; origin = a.origin; low = a.low; high = a.high }) ss i)
 
 -- and its cells are those of the store
 pub ends_in_store : (h : Held CellName) (old now : Tree CellName) (ending : List ℕ) → AreShoensIn h old.shoens → now ≡ record old { shoens = ended_in ending old.shoens } → AreShoensIn h now.shoens

@@ -91,7 +91,7 @@ drafts_torn h t u d n v is same =
     drafts_found (λ o s. break_of o v n s) h h t u d d n (find (has_number n) t.shoens) refl
     (drafts_as (λ f. broken_at n) (λ f s. break_of (option_map (shoen_with (meaning f h)) (find (has_number n) t.shoens)) v n s) h h t u d d
     (λ f s. break_by (option_map (shoen_with (meaning f h)) (find (has_number n) t.shoens)) v n s true (is f))
-    (drafts_changed h t u d n torn (λ x. record x { is_broken = true }) same (λ s i. record { control = i.control; tail = i.tail; origin = i.origin }) (λ f s. refl)))
+    (drafts_changed h t u d n torn (λ x. record x { is_broken = true }) same (λ s i. record { control = i.control; tail = i.tail; origin = i.origin; low = i.low; high = i.high }) (λ f s. refl)))
 
 -- a stream whose tail doesn't become a name stays as it is
 pub drafts_untorn : (h : Held CellName) (t : Tree CellName) (d : Draft) (n v : ℕ) → ((f : Reading) → is_tail_of v (option_map (shoen_with (meaning f h)) (find (has_number n) t.shoens)) ≡ false) → DraftsAll (λ f. break_at v n) h h t t d d

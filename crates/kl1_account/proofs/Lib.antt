@@ -58,6 +58,7 @@ pub mod Statuses
 pub mod Listing
 pub mod Finished
 pub mod Coming
+pub mod Counts
 pub mod Alike
 pub mod Messages
 pub mod Sent
@@ -74,6 +75,7 @@ pub mod Exchanged
 pub mod Respelled
 pub mod Named
 pub mod ReducedKept
+pub mod LateFree
 pub mod NewNames
 pub mod Published
 pub mod ReducePut

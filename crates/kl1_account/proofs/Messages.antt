@@ -196,7 +196,7 @@ puts n m x next h k ss d after shoens put more_variables more_nodes f reads s go
 pub puts_inside : (n next : ℕ) (h k : Held CellName) (ss us : List (Shoen CellName)) → Grown h k → next ≡ h.variables → k.variables ≡ suc h.variables → AreShoensIn h ss → us ≡ changed n (going_on next) ss → AreShoensIn k us
 puts_inside n next h k ss us g a b i e =
     let P : List (Shoen CellName) → Type 0 = λ z. AreShoensIn k z in
-    subst P (sym e) (shoens_changed k n (going_on next) (λ s j. record { control = j.control; tail = j.tail; origin = by_case s.origin j.origin }) ss (shoens_grown h k g ss i))
+    subst P (sym e) (shoens_changed k n (going_on next) (λ s j. record { control = j.control; tail = j.tail; origin = by_case s.origin j.origin; low = j.low; high = j.high }) ss (shoens_grown h k g ss i))
   where
     by_case : (o : Option (Origin CellName)) → IsOriginIn k o → IsOriginIn k (option_map (with_control (Variable next)) o)
     by_case None j = tt

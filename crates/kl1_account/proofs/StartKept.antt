@@ -2,6 +2,7 @@
 use Rattle.std.proofs.Common.{◌≡◌, ℕ, suc, ◌+◌, ◌<◌, ◌≤◌, not, List, [], ◌∷◌, ◌++◌, length, map, count_by, refl, sym, ap, ap₂, ◌∙◌, arith, subst, length-append}
 use Rattle.std.specs.Prelude.{cond}
 use Rattle.std.proofs.lemmas.List.Sums.{sum_by-cons}
+use Rattle.kl1_model.specs.Limits.{monitor_priority}
 use Rattle.kl1_model.specs.Term.{Term}
 use Rattle.kl1_model.specs.Event.{with_entry}
 use Rattle.kl1_model.specs.Opening.{start_goal}
@@ -62,9 +63,9 @@ shoens_pushed h (r ∷ ss) s i j = (i.0, shoens_pushed h ss s i.1 j)
 -- ---- an account after a start
 
 -- its cells are of its store, and its shoens in order
-pub started_firm : (a b : Account) (mid : Held CellName) (texts : List (List ℕ)) (row : List Instruction) (numbers : List CellName) (count : ℕ) (cells : List (Cell CellName)) (awaited : List ℕ) (o : Opening) (allowance low high : ℕ) (goal : Term) → IsFirm a →
+pub started_firm : (a b : Account) (mid : Held CellName) (texts : List (List ℕ)) (row : List Instruction) (numbers : List CellName) (count : ℕ) (cells : List (Cell CellName)) (awaited : List ℕ) (o : Opening) (allowance low high : ℕ) (goal : Term) → IsFirm a → low ≤ monitor_priority → high ≤ monitor_priority →
     IsStart a b mid texts row numbers count cells awaited o allowance low high goal → IsFirm b
-started_firm a b mid texts row numbers count cells awaited o allowance low high goal k s =
+started_firm a b mid texts row numbers count cells awaited o allowance low high goal k below also_below s =
     let p = s.placed in
     let st = s.drafted.streams in
     let shoen = suc (length a.shoens) in
@@ -84,7 +85,7 @@ started_firm a b mid texts row numbers count cells awaited o allowance low high 
     record {
       some = omega arith;
       goals = subst G (sym p.goals_are) (goals_both b.held a.goals two (goals_grown a.held b.held up a.goals k.goals) (tt, (p.builds.inside, tt)));
-      shoens = subst S (sym p.shoens_are) (shoens_pushed b.held a.shoens h (shoens_grown a.held b.held up a.shoens k.shoens) (record { control = control; tail = tail; origin = record { goal = p.builds.inside; reports = reports; control = control } }));
+      shoens = subst S (sym p.shoens_are) (shoens_pushed b.held a.shoens h (shoens_grown a.held b.held up a.shoens k.shoens) (record { control = control; tail = tail; origin = record { goal = p.builds.inside; reports = reports; control = control }; low = below; high = also_below }));
       numbered = subst N (sym p.shoens_are) (numbered_push 0 a.shoens h k.numbered (omega arith));
     }
 

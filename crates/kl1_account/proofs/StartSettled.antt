@@ -8,7 +8,7 @@ use Rattle.kl1_model.specs.Term.{Term, variable}
 use Rattle.kl1_model.specs.TermCode.{nodes_of}
 use Rattle.kl1_model.specs.Meaning.{highest, is_numbered}
 use Rattle.kl1_model.specs.Nodes.{goal_nodes}
-use Rattle.kl1_model.specs.Limits.{most_entries, most_goals, most_variables, most_nodes, most_shoens}
+use Rattle.kl1_model.specs.Limits.{monitor_priority, most_entries, most_goals, most_variables, most_nodes, most_shoens}
 use Rattle.kl1_model.specs.Control.{Control, awaits_message, control_of}
 use Rattle.kl1_model.specs.Waits.{term_clause, awaited_by_term}
 use Rattle.kl1_model.specs.State as model
@@ -129,11 +129,11 @@ front_new f k ss x v numbered e c unbound =
 
 -- ---- an account after a start
 
-pub started_kept : (a b : Account) (mid : Held CellName) (texts : List (List ℕ)) (row : List Instruction) (numbers : List CellName) (count : ℕ) (cells : List (Cell CellName)) (awaited : List ℕ) (o : Opening) (allowance low high : ℕ) (goal : Term) (hooks after : List Hook) (known next : ℕ) → IsKept a hooks known → AreNumbered 0 a.shoens → AreLower a.shoens →
+pub started_kept : (a b : Account) (mid : Held CellName) (texts : List (List ℕ)) (row : List Instruction) (numbers : List CellName) (count : ℕ) (cells : List (Cell CellName)) (awaited : List ℕ) (o : Opening) (allowance low high : ℕ) (goal : Term) (hooks after : List Hook) (known next : ℕ) → IsKept a hooks known → AreNumbered 0 a.shoens → AreLower a.shoens → low ≤ monitor_priority → high ≤ monitor_priority →
     IsStart a b mid texts row numbers count cells awaited o allowance low high goal → AreNames a.names → AreSmall b.names → a.entries < most_entries → after ≡ (hooks ++ hooks_on (o.streams.control ∷ []) (a.last_goal + 1)) ++ hooks_on awaited (a.last_goal + 2) → next ≡ suc known → IsKept b after next
-started_kept a b mid texts row numbers count cells awaited o allowance low high goal hooks after known next k numbered lower s once small room hung counted =
+started_kept a b mid texts row numbers count cells awaited o allowance low high goal hooks after known next k numbered lower below also_below s once small room hung counted =
     let firm : IsFirm a = record { some = k.some; goals = k.goals; shoens = k.shoens; numbered = numbered } in
-    let firm_then = started_firm a b mid texts row numbers count cells awaited o allowance low high goal firm s in
+    let firm_then = started_firm a b mid texts row numbers count cells awaited o allowance low high goal firm below also_below s in
     let p = s.placed in
     let shoen = suc (length a.shoens) in
     let may = is_enabled_at b.shoens b.work shoen in

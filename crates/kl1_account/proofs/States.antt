@@ -148,7 +148,7 @@ goals_grown h k g (x ∷ gs) i = (by_task x.task i.0, goals_grown h k g gs i.1)
     by_task (Reduces q) i = in_grown h k g q.cell i
 
 pub shoen_grown : (h k : Held CellName) → Grown h k → (s : Shoen CellName) → IsShoenIn h s → IsShoenIn k s
-shoen_grown h k g s i = record { control = in_grown h k g s.control i.control; tail = in_grown h k g s.tail i.tail; origin = by_origin s.origin i.origin }
+shoen_grown h k g s i = record { control = in_grown h k g s.control i.control; tail = in_grown h k g s.tail i.tail; origin = by_origin s.origin i.origin; low = i.low; high = i.high }
   where
     by_origin : (o : Option (Origin CellName)) → IsOriginIn h o → IsOriginIn k o
     by_origin None i = tt

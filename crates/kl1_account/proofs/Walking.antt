@@ -93,7 +93,7 @@ with_ended ns w = record w { shoens = ended_in ns w.shoens }
 pub ends_turn : (ms : List Numbered) (h : Held CellName) (ns : List ℕ) (w : Made) → IsMadeIn h w → Turns ms (λ f. ended_each ns) h h w (with_ended ns w)
 ends_turn ms h [] w i = turns_none ms (λ f s. s) h w i (λ f knows s. refl)
 ends_turn ms h (n ∷ ns) w i =
-    let first = changed_turns ms h w n terminated (λ x. record x { life = Terminated }) i (λ s a. record { control = a.control; tail = a.tail; origin = a.origin }) (λ f s. refl) in
+    let first = changed_turns ms h w n terminated (λ x. record x { life = Terminated }) i (λ s a. record { control = a.control; tail = a.tail; origin = a.origin; low = a.low; high = a.high }) (λ f s. refl) in
     turns_then ms (λ f. ended_at n) (λ f. ended_each ns) h h h w (with_changed n terminated w) (with_ended (n ∷ ns) w) first (ends_turn ms h ns (with_changed n terminated w) first.inside)
 
 -- ---- who has reached its allowance

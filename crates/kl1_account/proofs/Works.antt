@@ -164,9 +164,9 @@ report_turns ms h k w n sh m told g i e d = record {
 
     by_case : (r : Told) → ToldAs built h k sh.tail sh.is_broken (not (nat_lt w.reports most_reports)) m r → IsMadeIn k (after_report n w r)
     by_case Dropped x = j
-    by_case Broken x = changed_made k w n torn (λ s a. record { control = a.control; tail = a.tail; origin = a.origin }) j
+    by_case Broken x = changed_made k w n torn (λ s a. record { control = a.control; tail = a.tail; origin = a.origin; low = a.low; high = a.high }) j
     by_case (Sent next) x =
-        let c = changed_made k w n (tailed next) (λ s a. record { control = a.control; tail = next_in h k next x.sent.next_is x.sent.variables; origin = a.origin }) j in
+        let c = changed_made k w n (tailed next) (λ s a. record { control = a.control; tail = next_in h k next x.sent.next_is x.sent.variables; origin = a.origin; low = a.low; high = a.high }) j in
         record { some = c.some; goals = c.goals; shoens = c.shoens; owned = c.owned }
 
 -- a report of a shoen that isn't there is none

@@ -1,10 +1,18 @@
 -- What comes after the effects of a goal that makes a name, while the variable that is to become the name is still unbound.
-use Rattle.std.specs.Prelude.{ℕ, ◌==◌, not, ◌&&◌, Bool, false, if◌then◌else◌, List, [], ◌∷◌, Option, Some, None}
+use Rattle.std.specs.Prelude.{◌≡◌, ℕ, ◌<◌, ◌==◌, not, ◌&&◌, Bool, false, if◌then◌else◌, List, [], ◌∷◌, find, Option, Some, None, option_map}
 use Rattle.kl1_model.specs.Term.{Term, variable, integer, atom, structure}
 use Rattle.kl1_model.specs.State.{Shoen, State, shoen_at}
 use Rattle.kl1_model.specs.Tree.{path}
 use Rattle.kl1_model.specs.Report.{broken_at, report, closed_at, exhausted_report, terminated_report}
 use Rattle.kl1_model.specs.Ending.{without_monitor, ending_of, reached_of}
+use Rattle.kl1_text.specs.Reading.{Reads}
+use Rattle.kl1_text.specs.declared.cell_name.CellName.{CellName}
+use Rattle.kl1_store.specs.declared.cell.Cell.TheVariants as cell
+use Rattle.kl1_store.specs.Held.{Held}
+use Rattle.kl1_shoen.specs.declared.shoen.Shoen as kept
+use Rattle.kl1_shoen.specs.Shoens.{has_number}
+use Rattle.kl1_account.specs.Fitting.{Reading, built}
+use Rattle.kl1_account.specs.Account.{meaning, shoen_with}
 use Rattle.kl1_account.specs.Endings.{ended_each}
 
 -- whether a term is the variable of a number
@@ -62,3 +70,15 @@ settle_charged_late v n s =
 abbrev pub is_tail_of : ℕ → Option Shoen → Bool
 is_tail_of v None = false
 is_tail_of v (Some h) = not h.is_broken && is_variable v h.tail
+
+-- the shoen of a number has no unbroken report stream whose tail is this variable
+abbrev pub IsNoTail : ℕ → ℕ → Held CellName → List (kept.Shoen CellName) → Type 0
+IsNoTail v n h shoens = (f : Reading) → is_tail_of v (option_map (shoen_with (meaning f h)) (find (has_number n) shoens)) ≡ false
+
+-- a variable that nothing was bound to stays so
+abbrev pub StaysFree : ℕ → Held CellName → Held CellName → Type 0
+StaysFree v old new = (f : Reading) → Reads built f → meaning f old (cell.Variable v) ≡ variable v → meaning f new (cell.Variable v) ≡ variable v
+
+-- each variable does that isn't the tail of the report stream of the shoen of a number
+abbrev pub KeepsFree : ℕ → List (kept.Shoen CellName) → Held CellName → Held CellName → Type 0
+KeepsFree n shoens old new = (v : ℕ) → v < old.variables → IsNoTail v n old shoens → StaysFree v old new

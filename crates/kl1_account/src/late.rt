@@ -1,6 +1,6 @@
 // What comes after the effects of a goal that makes a name, while the variable that is to become the name is still unbound.
 
-ghost use Rattle.std.specs.Prelude.{◌≡◌, ◌≤◌, ◌<◌, false, List, ℕ, [], length, find, option_map, OnOk};
+ghost use Rattle.std.specs.Prelude.{◌≡◌, ◌≤◌, ◌<◌, ◌+◌, ◌∷◌, ◌++◌, false, List, ℕ, [], length, find, option_map, OnOk};
 ghost use Rattle.kl1_model.specs.Term.{atom};
 ghost use Rattle.kl1_model.specs.Text.{text_of};
 ghost use Rattle.kl1_model.specs.State.{State, replace_in_state};
@@ -15,7 +15,7 @@ ghost use Rattle.kl1_account.specs.Kept.{AreShoensIn};
 ghost use Rattle.kl1_account.specs.declared.draft.Draft.{Draft};
 ghost use Rattle.kl1_account.specs.Drafts.{Drafts, DraftsAll, CanGoBack};
 ghost use Rattle.kl1_account.specs.Frames.{KeepsFrames, Stays, NoneReached};
-ghost use Rattle.kl1_account.specs.Late.{is_tail_of, break_at, report_late, report_each_late, close_late, finished_late, finished_each_late, settle_charged_late};
+ghost use Rattle.kl1_account.specs.Late.{is_tail_of, IsNoTail, StaysFree, break_at, report_late, report_each_late, close_late, finished_late, finished_each_late, settle_charged_late};
 
 use crate::draft::Draft;
 use crate::reporting::{close, report_name};
@@ -61,6 +61,9 @@ fn break_late(
 ) -> Result<(), AllocError>
     requires shoens { AreShoensIn store.now.held shoens.old.shoens }
     ensures ok { OnOk result ((draft : Draft) → DraftsAll (λ f. break_at variable number) store.now.held store.now.held shoens.old shoens.new draft draft) }
+    ensures untold { OnOk result (IsNoTail variable number store.now.held shoens.new.shoens) }
+    ensures stays { OnOk result (Stays shoens.old shoens.new) }
+    ensures count { OnOk result (length shoens.new.shoens ≡ length shoens.old.shoens) }
     ensures shoens { OnOk result (AreShoensIn store.now.held shoens.new.shoens) }
     ensures back { CanGoBack shoens.old shoens.new }
 {
@@ -80,8 +83,12 @@ fn report_name_late(
     variable: u32,
     name: BuiltIn,
 ) -> Result<(), AllocError>
+    requires within { variable < store.old.held.variables }
     requires shoens { AreShoensIn store.old.held shoens.old.shoens }
     ensures ok { OnOk result (DraftsAll (λ f. report_late variable number (atom (text_of name))) store.old.held store.new.held shoens.old shoens.new draft.old draft.new) }
+    ensures free { OnOk result (StaysFree variable store.old.held store.new.held) }
+    ensures stays { OnOk result (Stays shoens.old shoens.new) }
+    ensures count { OnOk result (length shoens.new.shoens ≡ length shoens.old.shoens) }
     ensures shoens { OnOk result (AreShoensIn store.new.held shoens.new.shoens) }
     ensures back { CanGoBack shoens.old shoens.new }
     ensures rest { draft.new ≡ record draft.old { reports = draft.new.reports } }
@@ -102,8 +109,12 @@ fn report_each_late(
     variable: u32,
     name: BuiltIn,
 ) -> Result<(), AllocError>
+    requires within { variable < store.old.held.variables }
     requires shoens { AreShoensIn store.old.held shoens.old.shoens }
     ensures ok { OnOk result (DraftsAll (λ f. report_each_late variable numbers.now (atom (text_of name))) store.old.held store.new.held shoens.old shoens.new draft.old draft.new) }
+    ensures free { OnOk result (StaysFree variable store.old.held store.new.held) }
+    ensures stays { OnOk result (Stays shoens.old shoens.new) }
+    ensures count { OnOk result (length shoens.new.shoens ≡ length shoens.old.shoens) }
     ensures shoens { OnOk result (AreShoensIn store.new.held shoens.new.shoens) }
     ensures back { CanGoBack shoens.old shoens.new }
     ensures rest { draft.new ≡ record draft.old { reports = draft.new.reports } }
@@ -125,8 +136,10 @@ fn close_late(
     number: u64,
     variable: u32,
 ) -> Result<(), AllocError>
-    requires { AreShoensIn store.old.held shoens.now.shoens }
+    requires within { variable < store.old.held.variables }
+    requires shoens { AreShoensIn store.old.held shoens.now.shoens }
     ensures ok { OnOk result ((draft : Draft) → DraftsAll (λ f. close_late variable number) store.old.held store.new.held shoens.now shoens.now draft draft) }
+    ensures free { OnOk result (StaysFree variable store.old.held store.new.held) }
     ensures shoens { OnOk result (AreShoensIn store.new.held shoens.now.shoens) }
     ensures grown { Grown store.old.held store.new.held }
     ensures hooks { store.new.hooks ≡ store.old.hooks }
@@ -147,8 +160,13 @@ fn finish_late(
     number: u64,
     variable: u32,
 ) -> Result<(), AllocError>
+    requires within { variable < store.old.held.variables }
     requires shoens { AreShoensIn store.old.held shoens.old.shoens }
     ensures ok { OnOk result (DraftsAll (λ f. finished_late variable number) store.old.held store.new.held shoens.old shoens.new draft.old draft.new) }
+    ensures free { OnOk result (StaysFree variable store.old.held store.new.held) }
+    ensures stays { OnOk result (Stays shoens.old shoens.new) }
+    ensures count { OnOk result (length shoens.new.shoens ≡ length shoens.old.shoens) }
+    ensures ended { OnOk result (draft.new.ended.items ≡ draft.old.ended.items ++ number ∷ []) }
     ensures shoens { OnOk result (AreShoensIn store.new.held shoens.new.shoens) }
     ensures back { CanGoBack shoens.old shoens.new }
     ensures rest { draft.new ≡ record draft.old { reports = draft.new.reports; ended = draft.new.ended } }
@@ -169,8 +187,13 @@ fn finish_each_late(
     numbers: &[u64],
     variable: u32,
 ) -> Result<(), AllocError>
+    requires within { variable < store.old.held.variables }
     requires shoens { AreShoensIn store.old.held shoens.old.shoens }
     ensures ok { OnOk result (DraftsAll (λ f. finished_each_late variable numbers.now) store.old.held store.new.held shoens.old shoens.new draft.old draft.new) }
+    ensures free { OnOk result (StaysFree variable store.old.held store.new.held) }
+    ensures stays { OnOk result (Stays shoens.old shoens.new) }
+    ensures count { OnOk result (length shoens.new.shoens ≡ length shoens.old.shoens) }
+    ensures ended { OnOk result (length draft.old.ended.items + length numbers.now ≤ length draft.new.ended.items) }
     ensures shoens { OnOk result (AreShoensIn store.new.held shoens.new.shoens) }
     ensures back { CanGoBack shoens.old shoens.new }
     ensures rest { draft.new ≡ record draft.old { reports = draft.new.reports; ended = draft.new.ended } }
@@ -217,7 +240,9 @@ pub(crate) fn settle_late(
     find_reached(shoens, number, ending, &mut walk.reached)?;
     let reached = walk.reached.as_slice();
     report_each_late(store, shoens, draft, reached, variable, BuiltIn::Exhausted)?;
-    finish_each_late(store, shoens, draft, ending, variable)
+    finish_each_late(store, shoens, draft, ending, variable)?;
+    let _left = store.mark();
+    Ok(())
 }
 
 /// What comes after the effects of a reduction leaves the same, whether a variable becomes a name before it or after it.

@@ -1,6 +1,6 @@
 // What messages do to shoens, and what monitors read.
 
-ghost use Rattle.std.specs.Prelude.{◌≡◌, [], ◌∷◌, ◌++◌, OnOk};
+ghost use Rattle.std.specs.Prelude.{◌≡◌, length, [], ◌∷◌, ◌++◌, OnOk};
 ghost use Rattle.kl1_model.specs.Reduction.{obeyed, heard};
 ghost use Rattle.kl1_model.specs.declared.message.Message.TheVariants.{Stop, Start, Abort, Allow};
 ghost use Rattle.kl1_store.specs.Held.{Held};
@@ -33,6 +33,7 @@ fn stop(
     ensures shoens { OnOk result (AreShoensIn store.new.held shoens.new.shoens) }
     ensures back { CanGoBack shoens.old shoens.new }
     ensures outlines { OnOk result (KeepsOutlines number shoens.old.shoens shoens.new.shoens) }
+    ensures count { OnOk result (length shoens.new.shoens ≡ length shoens.old.shoens) }
     ensures calm { OnOk result (draft.new.shifts ≡ false → IsCalm shoens.old shoens.new) }
     ensures rest { draft.new ≡ record draft.old { reports = draft.new.reports; shifts = draft.new.shifts } }
     ensures grown { Grown store.old.held store.new.held }
@@ -62,6 +63,7 @@ fn resume(
     ensures shoens { OnOk result (AreShoensIn store.new.held shoens.new.shoens) }
     ensures back { CanGoBack shoens.old shoens.new }
     ensures outlines { OnOk result (KeepsOutlines number shoens.old.shoens shoens.new.shoens) }
+    ensures count { OnOk result (length shoens.new.shoens ≡ length shoens.old.shoens) }
     ensures calm { OnOk result (draft.new.shifts ≡ false → IsCalm shoens.old shoens.new) }
     ensures rest { draft.new ≡ record draft.old { reports = draft.new.reports; shifts = draft.new.shifts } }
     ensures grown { Grown store.old.held store.new.held }
@@ -94,6 +96,7 @@ fn abort(
     ensures shoens { OnOk result (AreShoensIn store.new.held shoens.new.shoens) }
     ensures back { CanGoBack shoens.old shoens.new }
     ensures outlines { OnOk result (KeepsOutlines number shoens.old.shoens shoens.new.shoens) }
+    ensures count { OnOk result (length shoens.new.shoens ≡ length shoens.old.shoens) }
     ensures calm { OnOk result (draft.new.shifts ≡ false → IsCalm shoens.old shoens.new) }
     ensures rest { draft.new ≡ record draft.old { reports = draft.new.reports; shifts = draft.new.shifts; aborted = draft.new.aborted } }
     ensures grown { Grown store.old.held store.new.held }
@@ -119,6 +122,7 @@ fn allow(
     ensures shoens { (h : Held CellName) → AreShoensIn h shoens.old.shoens → OnOk result (AreShoensIn h shoens.new.shoens) }
     ensures back { CanGoBack shoens.old shoens.new }
     ensures outlines { OnOk result (KeepsOutlines number shoens.old.shoens shoens.new.shoens) }
+    ensures count { OnOk result (length shoens.new.shoens ≡ length shoens.old.shoens) }
     ensures calm { OnOk result (draft.new.shifts ≡ false → IsCalm shoens.old shoens.new) }
     ensures rest { draft.new ≡ record draft.old { shifts = draft.new.shifts } }
 {
@@ -142,6 +146,7 @@ pub(crate) fn obey(
     ensures shoens { OnOk result (AreShoensIn store.new.held shoens.new.shoens) }
     ensures back { CanGoBack shoens.old shoens.new }
     ensures outlines { OnOk result (KeepsOutlines number shoens.old.shoens shoens.new.shoens) }
+    ensures count { OnOk result (length shoens.new.shoens ≡ length shoens.old.shoens) }
     ensures calm { OnOk result (draft.new.shifts ≡ false → IsCalm shoens.old shoens.new) }
     ensures rest { draft.new ≡ record draft.old { reports = draft.new.reports; shifts = draft.new.shifts; aborted = draft.new.aborted } }
     ensures grown { Grown store.old.held store.new.held }
@@ -182,6 +187,7 @@ pub(crate) fn hear(
     ensures shoens { OnOk result (AreShoensIn store.new.held shoens.new.shoens) }
     ensures back { CanGoBack shoens.old shoens.new }
     ensures outlines { OnOk result (KeepsOutlines number shoens.old.shoens shoens.new.shoens) }
+    ensures count { OnOk result (length shoens.new.shoens ≡ length shoens.old.shoens) }
     ensures calm { OnOk result (draft.new.shifts ≡ false → IsCalm shoens.old shoens.new) }
     ensures rest { draft.new ≡ record draft.old { reports = draft.new.reports; shifts = draft.new.shifts; aborted = draft.new.aborted; ended = draft.new.ended } }
     ensures grown { Grown store.old.held store.new.held }

@@ -1,6 +1,6 @@
 // Reports, exceptions and the ends of report streams.
 
-ghost use Rattle.std.specs.Prelude.{◌≡◌, IfOk, OnOk};
+ghost use Rattle.std.specs.Prelude.{◌≡◌, length, IfOk, OnOk};
 ghost use Rattle.kl1_model.specs.Unify.{solve};
 ghost use Rattle.kl1_model.specs.Term.{atom};
 ghost use Rattle.kl1_model.specs.Report.{report, report_each, close, exception};
@@ -14,6 +14,7 @@ ghost use Rattle.kl1_account.specs.Kept.{AreShoensIn};
 ghost use Rattle.kl1_account.specs.declared.draft.Draft.{Draft};
 ghost use Rattle.kl1_account.specs.Drafts.{DraftsAll, CanGoBack};
 ghost use Rattle.kl1_account.specs.Frames.{Stays};
+ghost use Rattle.kl1_account.specs.Late.{KeepsFree};
 
 use crate::draft::Draft;
 use kl1_model::BuiltIn;
@@ -38,6 +39,8 @@ pub(crate) fn report(
     ensures shoens { OnOk result (AreShoensIn store.new.held shoens.new.shoens) }
     ensures back { CanGoBack shoens.old shoens.new }
     ensures stays { OnOk result (Stays shoens.old shoens.new) }
+    ensures keeps { OnOk result (KeepsFree number shoens.old.shoens store.old.held store.new.held) }
+    ensures count { OnOk result (length shoens.new.shoens ≡ length shoens.old.shoens) }
     ensures rest { draft.new ≡ record draft.old { reports = draft.new.reports } }
     ensures grown { Grown store.old.held store.new.held }
     ensures hooks { store.new.hooks ≡ store.old.hooks }
@@ -71,6 +74,7 @@ pub(crate) fn report_each(
     ensures shoens { OnOk result (AreShoensIn store.new.held shoens.new.shoens) }
     ensures back { CanGoBack shoens.old shoens.new }
     ensures stays { OnOk result (Stays shoens.old shoens.new) }
+    ensures count { OnOk result (length shoens.new.shoens ≡ length shoens.old.shoens) }
     ensures rest { draft.new ≡ record draft.old { reports = draft.new.reports } }
     ensures grown { Grown store.old.held store.new.held }
     ensures hooks { store.new.hooks ≡ store.old.hooks }
@@ -95,6 +99,8 @@ pub(crate) fn report_name(
     ensures shoens { OnOk result (AreShoensIn store.new.held shoens.new.shoens) }
     ensures back { CanGoBack shoens.old shoens.new }
     ensures stays { OnOk result (Stays shoens.old shoens.new) }
+    ensures keeps { OnOk result (KeepsFree number shoens.old.shoens store.old.held store.new.held) }
+    ensures count { OnOk result (length shoens.new.shoens ≡ length shoens.old.shoens) }
     ensures rest { draft.new ≡ record draft.old { reports = draft.new.reports } }
     ensures grown { Grown store.old.held store.new.held }
     ensures hooks { store.new.hooks ≡ store.old.hooks }
@@ -139,6 +145,7 @@ pub(crate) fn raise(
     ensures shoens { OnOk result (AreShoensIn store.new.held shoens.new.shoens) }
     ensures back { CanGoBack shoens.old shoens.new }
     ensures stays { OnOk result (Stays shoens.old shoens.new) }
+    ensures count { OnOk result (length shoens.new.shoens ≡ length shoens.old.shoens) }
     ensures rest { draft.new ≡ record draft.old { reports = draft.new.reports } }
     ensures grown { Grown store.old.held store.new.held }
     ensures hooks { store.new.hooks ≡ store.old.hooks }
@@ -162,6 +169,7 @@ pub(crate) fn raise_whole(
     ensures shoens { OnOk result (AreShoensIn store.new.held shoens.new.shoens) }
     ensures back { CanGoBack shoens.old shoens.new }
     ensures stays { OnOk result (Stays shoens.old shoens.new) }
+    ensures count { OnOk result (length shoens.new.shoens ≡ length shoens.old.shoens) }
     ensures rest { draft.new ≡ record draft.old { reports = draft.new.reports } }
     ensures grown { Grown store.old.held store.new.held }
     ensures hooks { store.new.hooks ≡ store.old.hooks }
@@ -188,6 +196,7 @@ pub(crate) fn unify(
     ensures shoens { OnOk result (AreShoensIn store.new.held shoens.new.shoens) }
     ensures back { CanGoBack shoens.old shoens.new }
     ensures stays { OnOk result (Stays shoens.old shoens.new) }
+    ensures count { OnOk result (length shoens.new.shoens ≡ length shoens.old.shoens) }
     ensures rest { draft.new ≡ record draft.old { reports = draft.new.reports } }
     ensures grown { Grown store.old.held store.new.held }
     ensures hooks { store.new.hooks ≡ store.old.hooks }
@@ -206,6 +215,7 @@ pub(crate) fn close(
 ) -> Result<(), AllocError>
     requires { AreShoensIn store.old.held shoens.now.shoens }
     ensures ok { OnOk result ((draft : Draft) → DraftsAll (λ f. close number) store.old.held store.new.held shoens.now shoens.now draft draft) }
+    ensures keeps { OnOk result (KeepsFree number shoens.now.shoens store.old.held store.new.held) }
     ensures shoens { OnOk result (AreShoensIn store.new.held shoens.now.shoens) }
     ensures grown { Grown store.old.held store.new.held }
     ensures hooks { store.new.hooks ≡ store.old.hooks }

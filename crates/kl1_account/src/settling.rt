@@ -203,6 +203,7 @@ fn finish(
     ensures shoens { OnOk result (AreShoensIn store.new.held shoens.new.shoens) }
     ensures back { CanGoBack shoens.old shoens.new }
     ensures stays { OnOk result (Stays shoens.old shoens.new) }
+    ensures count { OnOk result (length shoens.new.shoens ≡ length shoens.old.shoens) }
     ensures ended { OnOk result (draft.new.ended.items ≡ draft.old.ended.items ++ number ∷ []) }
     ensures rest { draft.new ≡ record draft.old { reports = draft.new.reports; ended = draft.new.ended } }
     ensures grown { Grown store.old.held store.new.held }
@@ -226,7 +227,9 @@ fn finish_each(
     ensures shoens { OnOk result (AreShoensIn store.new.held shoens.new.shoens) }
     ensures back { CanGoBack shoens.old shoens.new }
     ensures stays { OnOk result (Stays shoens.old shoens.new) }
+    ensures count { OnOk result (length shoens.new.shoens ≡ length shoens.old.shoens) }
     ensures ended { OnOk result (length draft.old.ended.items + length numbers.now ≤ length draft.new.ended.items) }
+    ensures told { OnOk result (draft.new.ended.items ≡ draft.old.ended.items ++ numbers.now) }
     ensures rest { draft.new ≡ record draft.old { reports = draft.new.reports; ended = draft.new.ended } }
     ensures grown { Grown store.old.held store.new.held }
     ensures hooks { store.new.hooks ≡ store.old.hooks }
@@ -252,6 +255,7 @@ pub(crate) fn settle(
     ensures shoens { OnOk result (AreShoensIn store.new.held shoens.new.shoens) }
     ensures back { CanGoBack shoens.old shoens.new }
     ensures frames { OnOk result (KeepsFrames shoens.old.shoens shoens.new.shoens) }
+    ensures count { OnOk result (length shoens.new.shoens ≡ length shoens.old.shoens) }
     ensures more { OnOk result (length draft.old.ended.items ≤ length draft.new.ended.items) }
     ensures lives { OnOk result (draft.new.ended.items ≡ draft.old.ended.items → Stays shoens.old shoens.new) }
     ensures rest { draft.new ≡ record draft.old { reports = draft.new.reports; ended = draft.new.ended } }

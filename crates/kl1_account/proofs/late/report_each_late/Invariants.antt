@@ -1,7 +1,8 @@
-use Rattle.std.proofs.Common.{◌≡◌, take}
+use Rattle.std.proofs.Common.{◌≡◌, length, take}
 use Rattle.kl1_model.specs.Text.{text_of}
 use Rattle.kl1_model.specs.Term.{atom}
-use Rattle.kl1_account.specs.Late.{report_each_late}
+use Rattle.kl1_account.specs.Late.{StaysFree, report_each_late}
+use Rattle.kl1_account.specs.Frames.{Stays}
 use Rattle.kl1_store.specs.Sound.{Grown}
 use Rattle.kl1_account.specs.Kept.{AreShoensIn}
 use Rattle.kl1_account.specs.Drafts.{DraftsAll, CanGoBack}
@@ -13,6 +14,9 @@ invariant-loop-number l = record {
   drafts : DraftsAll (λ f. report_each_late l.variable (take l.number-index l.numbers) (atom (text_of l.name))) l.initial.store.held l.store.held l.initial.shoens l.shoens l.initial.draft l.draft;
   shoens : AreShoensIn l.store.held l.shoens.shoens;
   back : CanGoBack l.initial.shoens l.shoens;
+  stays : Stays l.initial.shoens l.shoens;
+  free : StaysFree l.variable l.initial.store.held l.store.held;
+  count : length l.shoens.shoens ≡ length l.initial.shoens.shoens;
   rest : l.draft ≡ record l.initial.draft { reports = l.draft.reports };
   grown : Grown l.initial.store.held l.store.held;
   hooks : l.store.hooks ≡ l.initial.store.hooks;

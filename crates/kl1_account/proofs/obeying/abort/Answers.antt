@@ -7,6 +7,7 @@ use Rattle.kl1_shoen.specs.Shoens.{aborted_below_in}
 use Rattle.std.specs.Prelude.{map}
 use Rattle.kl1_account.proofs.TreesIn.{tree_in}
 use Rattle.kl1_account.proofs.Effects.{aborted_in, drafts_ended_below, drafts_aborted}
+use Rattle.kl1_account.proofs.Counts.{count_aborted}
 use Rattle.kl1_account.proofs.obeying.abort.Goals as goal
 
 pub report_name-requires : goal.report_name-requires
@@ -35,3 +36,6 @@ returns-clause-outlines c =
 
 pub returns-clause-calm : goal.returns-clause-calm
 returns-clause-calm c = on_ok_weaker c.close.result (λ closing e. let z : true ≡ false = sym (ap (λ (x : Draft). x.shifts) c.in_ok-report_name.ensures.rest) ∙ e in absurd (cc)) c.close.ensures.ok
+
+pub returns-clause-count : goal.returns-clause-count
+returns-clause-count c = on_ok_weaker c.close.result (λ closing. c.in_ok-report_name.ensures.count ∙ count_aborted c.args.shoens.now c.abort.new.self c.args.number c.in_ok-abort.ensures.ok) c.close.ensures.ok

@@ -11,6 +11,8 @@ use Rattle.kl1_account.specs.Drafts.{DraftsAll}
 use Rattle.kl1_account.proofs.TreesIn.{changed_in}
 use Rattle.kl1_account.proofs.Finishing.{drafts_unmonitored}
 use Rattle.kl1_account.proofs.Effects.{controlled, drafts_controlled, drafts_told, drafts_told_other, drafts_broken_off, drafts_unheard_yet}
+use Rattle.kl1_account.proofs.Counts.{count_changed}
+use Rattle.std.proofs.Common.{refl, ◌∙◌}
 use Rattle.kl1_account.proofs.obeying.hear.Goals as goal
 
 pub returns-in-Awaits-clause-ok : goal.returns-in-Awaits-clause-ok
@@ -21,12 +23,12 @@ returns-in-Awaits-clause-ok c =
 pub obey-requires-clause-shoens : goal.obey-requires-clause-shoens
 obey-requires-clause-shoens c =
     let j = rw c.in-Tells.is at c.requires.control in
-    changed_in c.args.store.now.held c.args.store.now.held c.args.shoens.now c.set_control.new.self c.args.number (controlled c.in-Tells.rest) (Grown-same c.args.store.now.held) (λ s i. record { control = j; tail = i.tail; origin = i.origin }) c.requires.shoens c.in_ok-set_control-in-Tells.ensures.ok
+    changed_in c.args.store.now.held c.args.store.now.held c.args.shoens.now c.set_control.new.self c.args.number (controlled c.in-Tells.rest) (Grown-same c.args.store.now.held) (λ s i. record { control = j; tail = i.tail; origin = i.origin; low = i.low; high = i.high }) c.requires.shoens c.in_ok-set_control-in-Tells.ensures.ok
 
 pub raise_whole-requires-clause-shoens : goal.raise_whole-requires-clause-shoens
 raise_whole-requires-clause-shoens c =
     let j = rw c.in-TellsOther.is at c.requires.control in
-    changed_in c.args.store.now.held c.args.store.now.held c.args.shoens.now c.set_control-in-TellsOther.new.self c.args.number (controlled c.in-TellsOther.rest) (Grown-same c.args.store.now.held) (λ s i. record { control = j.1; tail = i.tail; origin = i.origin }) c.requires.shoens c.in_ok-set_control-in-TellsOther.ensures.ok
+    changed_in c.args.store.now.held c.args.store.now.held c.args.shoens.now c.set_control-in-TellsOther.new.self c.args.number (controlled c.in-TellsOther.rest) (Grown-same c.args.store.now.held) (λ s i. record { control = j.1; tail = i.tail; origin = i.origin; low = i.low; high = i.high }) c.requires.shoens c.in_ok-set_control-in-TellsOther.ensures.ok
 
 pub returns-in_ok-set_control-in-Tells-clause-ok : goal.returns-in_ok-set_control-in-Tells-clause-ok
 returns-in_ok-set_control-in-Tells-clause-ok c =
@@ -114,3 +116,12 @@ returns-in-Ends-clause-calm c = on_ok_weaker c.let_go.result (λ more e. calm_sa
 pub returns-in_ok-let_go-in-BreaksOff-clause-calm : goal.returns-in_ok-let_go-in-BreaksOff-clause-calm
 returns-in_ok-let_go-in-BreaksOff-clause-calm c =
     on_ok_weaker c.raise_whole-in-BreaksOff.result (λ told e. stays_calm c.args.shoens.now c.raise_whole-in-BreaksOff.new.shoens told) c.raise_whole-in-BreaksOff.ensures.stays
+
+pub returns-in_ok-set_control-in-Tells-clause-count : goal.returns-in_ok-set_control-in-Tells-clause-count
+returns-in_ok-set_control-in-Tells-clause-count c = on_ok_weaker c.obey.result (λ same. same ∙ count_changed c.args.shoens.now c.set_control.new.self c.args.number (controlled c.in-Tells.rest) c.in_ok-set_control-in-Tells.ensures.ok) c.obey.ensures.count
+
+pub returns-in_ok-set_control-in-TellsOther-clause-count : goal.returns-in_ok-set_control-in-TellsOther-clause-count
+returns-in_ok-set_control-in-TellsOther-clause-count c = on_ok_weaker c.raise_whole.result (λ same. same ∙ count_changed c.args.shoens.now c.set_control-in-TellsOther.new.self c.args.number (controlled c.in-TellsOther.rest) c.in_ok-set_control-in-TellsOther.ensures.ok) c.raise_whole.ensures.count
+
+pub returns-in-Ends-clause-count : goal.returns-in-Ends-clause-count
+returns-in-Ends-clause-count c = on_ok_weaker c.let_go.result (λ more. refl) c.let_go.ensures.ok

@@ -8,6 +8,7 @@ use Rattle.std.proofs.lemmas.Result.{on_ok_weaker}
 use Rattle.kl1_store.proofs.Grows.{Grown-same}
 use Rattle.kl1_account.proofs.TreesIn.{changed_in}
 use Rattle.kl1_account.proofs.Effects.{drafts_not_stopped, is_stopped_already, halted, drafts_stopped}
+use Rattle.kl1_account.proofs.Counts.{count_changed}
 use Rattle.kl1_account.proofs.obeying.stop.Goals as goal
 
 pub returns-in_default-clause-ok : goal.returns-in_default-clause-ok
@@ -19,7 +20,7 @@ returns-then-shoen-clause-ok c =
 
 pub report_name-requires : goal.report_name-requires
 report_name-requires c =
-    record { shoens = changed_in c.args.store.now.held c.args.store.now.held c.args.shoens.now c.set_stopped.new.self c.args.number (halted true) (Grown-same c.args.store.now.held) (λ s i. record { control = i.control; tail = i.tail; origin = i.origin }) c.requires.shoens c.in_ok-set_stopped.ensures.ok }
+    record { shoens = changed_in c.args.store.now.held c.args.store.now.held c.args.shoens.now c.set_stopped.new.self c.args.number (halted true) (Grown-same c.args.store.now.held) (λ s i. record { control = i.control; tail = i.tail; origin = i.origin; low = i.low; high = i.high }) c.requires.shoens c.in_ok-set_stopped.ensures.ok }
 
 pub returns-clause-ok : goal.returns-clause-ok
 returns-clause-ok c =
@@ -48,3 +49,6 @@ returns-then-shoen-clause-calm c e = calm_same c.args.shoens.now
 
 pub returns-clause-calm : goal.returns-clause-calm
 returns-clause-calm c = on_ok_weaker c.report_name.result (λ told e. let z : true ≡ false = sym (ap (λ (x : Draft). x.shifts) c.report_name.ensures.rest) ∙ e in absurd (cc)) c.report_name.ensures.stays
+
+pub returns-clause-count : goal.returns-clause-count
+returns-clause-count c = on_ok_weaker c.report_name.result (λ same. same ∙ count_changed c.args.shoens.now c.set_stopped.new.self c.args.number (halted true) c.in_ok-set_stopped.ensures.ok) c.report_name.ensures.count

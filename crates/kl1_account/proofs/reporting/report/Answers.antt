@@ -11,6 +11,8 @@ use Rattle.kl1_account.proofs.States.{found_shoen_in}
 use Rattle.kl1_account.proofs.Works.{torn, tailed, next_in}
 use Rattle.kl1_account.proofs.TreesIn.{changed_in}
 use Rattle.kl1_account.proofs.Streams.{drafts_unheard, drafts_dropped, drafts_broken, drafts_sent}
+use Rattle.kl1_account.proofs.LateFree.{same_free, sent_free}
+use Rattle.kl1_account.proofs.Counts.{count_changed}
 use Rattle.kl1_account.proofs.reporting.report.Goals as goal
 
 pub returns-in_default-clause-ok : goal.returns-in_default-clause-ok
@@ -35,7 +37,7 @@ returns-in-Broken-clause-ok c =
 pub returns-in-Broken-clause-shoens : goal.returns-in-Broken-clause-shoens
 returns-in-Broken-clause-shoens c =
     on_ok_weaker c.break_stream.result
-    (λ is. changed_in c.args.store.now.held c.append_report.new.store.held c.args.shoens.now c.break_stream.new.self c.args.number torn c.in_ok-append_report.ensures.grown (λ s i. record { control = i.control; tail = i.tail; origin = i.origin }) c.requires.shoens is)
+    (λ is. changed_in c.args.store.now.held c.append_report.new.store.held c.args.shoens.now c.break_stream.new.self c.args.number torn c.in_ok-append_report.ensures.grown (λ s i. record { control = i.control; tail = i.tail; origin = i.origin; low = i.low; high = i.high }) c.requires.shoens is)
     c.break_stream.ensures.ok
 
 pub returns-in_ok-set_tail-in-Sent-clause-ok : goal.returns-in_ok-set_tail-in-Sent-clause-ok
@@ -54,7 +56,7 @@ pub returns-in_ok-set_tail-in-Sent-clause-shoens : goal.returns-in_ok-set_tail-i
 returns-in_ok-set_tail-in-Sent-clause-shoens c =
     let sent = rw c.in-Sent.is at c.in_ok-append_report.ensures.told in
     changed_in c.args.store.now.held c.append_report.new.store.held c.args.shoens.now c.set_tail.new.self c.args.number (tailed c.in-Sent.next) c.in_ok-append_report.ensures.grown
-    (λ s i. record { control = i.control; tail = next_in c.args.store.now.held c.append_report.new.store.held c.in-Sent.next sent.sent.next_is sent.sent.variables; origin = i.origin }) c.requires.shoens c.in_ok-set_tail-in-Sent.ensures.ok
+    (λ s i. record { control = i.control; tail = next_in c.args.store.now.held c.append_report.new.store.held c.in-Sent.next sent.sent.next_is sent.sent.variables; origin = i.origin; low = i.low; high = i.high }) c.requires.shoens c.in_ok-set_tail-in-Sent.ensures.ok
 
 pub returns-in_default-clause-stays : goal.returns-in_default-clause-stays
 returns-in_default-clause-stays c = stays_same c.args.shoens.now
@@ -67,3 +69,27 @@ returns-in-Broken-clause-stays c = on_ok_weaker c.break_stream.result (λ is. st
 
 pub returns-in_ok-set_tail-in-Sent-clause-stays : goal.returns-in_ok-set_tail-in-Sent-clause-stays
 returns-in_ok-set_tail-in-Sent-clause-stays c = stays_changed c.args.shoens.now c.set_tail.new.self c.args.number (tailed c.in-Sent.next) (λ h. refl) c.in_ok-set_tail-in-Sent.ensures.ok
+
+pub returns-in_default-clause-keeps : goal.returns-in_default-clause-keeps
+returns-in_default-clause-keeps c = same_free c.args.store.now.held c.args.store.now.held c.args.shoens.now.shoens c.args.number refl
+
+pub returns-in-Dropped-clause-keeps : goal.returns-in-Dropped-clause-keeps
+returns-in-Dropped-clause-keeps c =
+    let told = rw c.in-Dropped.is at c.in_ok-append_report.ensures.told in
+    same_free c.args.store.now.held c.append_report.new.store.held c.args.shoens.now.shoens c.args.number told.1
+
+pub returns-in-Broken-clause-keeps : goal.returns-in-Broken-clause-keeps
+returns-in-Broken-clause-keeps c =
+    let told = rw c.in-Broken.is at c.in_ok-append_report.ensures.told in
+    on_ok_weaker c.break_stream.result (λ is. same_free c.args.store.now.held c.append_report.new.store.held c.args.shoens.now.shoens c.args.number told.same) c.break_stream.ensures.ok
+
+pub returns-in_ok-set_tail-in-Sent-clause-keeps : goal.returns-in_ok-set_tail-in-Sent-clause-keeps
+returns-in_ok-set_tail-in-Sent-clause-keeps c =
+    let told = rw c.in-Sent.is at c.in_ok-append_report.ensures.told in
+    sent_free c.args.store.now.held c.append_report.new.store.held c.args.shoens.now.shoens c.args.number c.in-Some.shoen _ c.args.message c.in-Sent.next (sym c.lend.ensures.value ∙ (sym c.copied.ensures ∙ c.in-Some.is)) told
+
+pub returns-in-Broken-clause-count : goal.returns-in-Broken-clause-count
+returns-in-Broken-clause-count c = on_ok_weaker c.break_stream.result (λ is. count_changed c.args.shoens.now c.break_stream.new.self c.args.number torn is) c.break_stream.ensures.ok
+
+pub returns-in_ok-set_tail-in-Sent-clause-count : goal.returns-in_ok-set_tail-in-Sent-clause-count
+returns-in_ok-set_tail-in-Sent-clause-count c = count_changed c.args.shoens.now c.set_tail.new.self c.args.number (tailed c.in-Sent.next) c.in_ok-set_tail-in-Sent.ensures.ok

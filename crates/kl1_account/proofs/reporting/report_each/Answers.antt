@@ -15,6 +15,7 @@ loop-number-preserved c =
       shoens = next.shoens;
       back = back_then c.args.shoens.now c.loop-number.shoens c.report_name.new.shoens i.back next.back;
       stays = stays_then c.args.shoens.now c.loop-number.shoens c.report_name.new.shoens i.stays next.stays;
+      count = next.count ∙ i.count;
       rest = told_then c.args.draft.now c.loop-number.draft c.report_name.new.draft i.rest next.rest;
       grown = Grown-trans c.args.store.now.held c.loop-number.store.held c.report_name.new.store.held i.grown next.grown;
       hooks = next.hooks ∙ i.hooks;
@@ -29,6 +30,7 @@ loop-number-init c = record {
   shoens = c.requires.shoens;
   back = record { shoens = refl; work = refl };
   stays = stays_same c.args.shoens.now;
+  count = refl;
   rest = refl;
   grown = Grown-same c.args.store.now.held;
   hooks = refl;

@@ -1,4 +1,4 @@
-use Rattle.std.proofs.Common.{◌≡◌, take}
+use Rattle.std.proofs.Common.{◌≡◌, length, take}
 use Rattle.kl1_model.specs.Text.{text_of}
 use Rattle.kl1_model.specs.Term.{atom}
 use Rattle.kl1_model.specs.Report.{report_each}
@@ -15,6 +15,7 @@ invariant-loop-number l = record {
   shoens : AreShoensIn l.store.held l.shoens.shoens;
   back : CanGoBack l.initial.shoens l.shoens;
   stays : Stays l.initial.shoens l.shoens;
+  count : length l.shoens.shoens ≡ length l.initial.shoens.shoens;
   rest : l.draft ≡ record l.initial.draft { reports = l.draft.reports };
   grown : Grown l.initial.store.held l.store.held;
   hooks : l.store.hooks ≡ l.initial.store.hooks;

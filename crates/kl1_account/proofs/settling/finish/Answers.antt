@@ -18,3 +18,6 @@ returns-clause-stays c = on_ok_weaker c.close.result (λ closing. c.in_ok-report
 
 pub returns-clause-ended : goal.returns-clause-ended
 returns-clause-ended c = on_ok_weaker c.close.result (λ closing. ap (λ (y : Draft). y.ended.items) c.in_ok-report_name.ensures.rest ∙ c.in_ok-push.ensures.items) c.close.ensures.ok
+
+pub returns-clause-count : goal.returns-clause-count
+returns-clause-count c = on_ok_weaker c.close.result (λ closing. c.in_ok-report_name.ensures.count) c.close.ensures.ok

@@ -1,8 +1,9 @@
-use Rattle.std.proofs.Common.{refl, ◌≡◌, ◌+◌, ℕ, List, length, get_or, ap, ◌∙◌, arith}
+use Rattle.std.proofs.Common.{refl, sym, append-nil, ◌≡◌, ◌+◌, ℕ, List, length, get_or, ap, ◌∙◌, arith}
 use Rattle.std.proofs.lemmas.List.{length_push}
 use Rattle.kl1_store.proofs.Grows.{Grown-trans, Grown-same}
 use Rattle.kl1_account.proofs.Finishing.{drafts_none, next_finish, all_finished, back_then, done_then}
 use Rattle.kl1_account.proofs.Frames.{stays_same, stays_then}
+use Rattle.kl1_account.proofs.Counts.{next_told, all_told}
 use Rattle.kl1_account.proofs.settling.finish_each.Goals as goal
 
 pub loop-number-preserved : goal.loop-number-preserved
@@ -16,7 +17,9 @@ loop-number-preserved c =
       shoens = next.shoens;
       back = back_then c.args.shoens.now c.loop-number.shoens c.finish.new.shoens i.back next.back;
       stays = stays_then c.args.shoens.now c.loop-number.shoens c.finish.new.shoens i.stays next.stays;
+      count = next.count ∙ i.count;
       ended = omega (arith, so, more);
+      told = next_told c.args.draft.now.ended.items c.loop-number.draft.ended.items c.finish.new.draft.ended.items c.args.numbers.now c.loop-number.number-index c.loop-number-test.true i.told next.ended;
       rest = done_then c.args.draft.now c.loop-number.draft c.finish.new.draft i.rest next.rest;
       grown = Grown-trans c.args.store.now.held c.loop-number.store.held c.finish.new.store.held i.grown next.grown;
       hooks = next.hooks ∙ i.hooks;
@@ -34,8 +37,13 @@ loop-number-init c = record {
   shoens = c.requires.shoens;
   back = record { shoens = refl; work = refl };
   stays = stays_same c.args.shoens.now;
+  count = refl;
   ended = omega arith;
+  told = sym (append-nil c.args.draft.now.ended.items);
   rest = refl;
   grown = Grown-same c.args.store.now.held;
   hooks = refl;
 }
+
+pub returns-clause-told : goal.returns-clause-told
+returns-clause-told c = all_told c.args.draft.now.ended.items c.loop-number.draft.ended.items c.args.numbers.now c.loop-number.number-index (omega (arith, c.loop-number-test.false)) c.loop-number.invariant.told

@@ -1,4 +1,4 @@
-use Rattle.std.proofs.Common.{◌≡◌, ◌+◌, ◌≤◌, length, take}
+use Rattle.std.proofs.Common.{◌≡◌, ◌+◌, ◌≤◌, ◌++◌, length, take}
 use Rattle.kl1_account.specs.Endings.{finished_each}
 use Rattle.kl1_store.specs.Sound.{Grown}
 use Rattle.kl1_account.specs.Kept.{AreShoensIn}
@@ -13,7 +13,9 @@ invariant-loop-number l = record {
   shoens : AreShoensIn l.store.held l.shoens.shoens;
   back : CanGoBack l.initial.shoens l.shoens;
   stays : Stays l.initial.shoens l.shoens;
+  count : length l.shoens.shoens ≡ length l.initial.shoens.shoens;
   ended : length l.initial.draft.ended.items + l.number-index ≤ length l.draft.ended.items;
+  told : l.draft.ended.items ≡ l.initial.draft.ended.items ++ take l.number-index l.numbers;
   rest : l.draft ≡ record l.initial.draft { reports = l.draft.reports; ended = l.draft.ended };
   grown : Grown l.initial.store.held l.store.held;
   hooks : l.store.hooks ≡ l.initial.store.hooks;

@@ -8,6 +8,8 @@ use Rattle.kl1_account.specs.Drafts.{goals_left}
 use Rattle.kl1_account.specs.Walks.{EndsLives}
 use Rattle.kl1_account.proofs.Ends.{ends_in_store}
 use Rattle.kl1_account.proofs.Finishing.{drafts_settle}
+use Rattle.kl1_account.proofs.Counts.{count_terminated}
+use Rattle.std.proofs.Common.{◌∙◌}
 use Rattle.kl1_account.proofs.settling.settle.Goals as goal
 
 pub finish_each-requires : goal.finish_each-requires
@@ -43,3 +45,10 @@ returns-clause-lives c =
 
 pub returns-clause-more : goal.returns-clause-more
 returns-clause-more c = on_ok_weaker c.finish_each.result (λ more. omega (arith, more)) c.finish_each.ensures.ended
+
+pub returns-clause-count : goal.returns-clause-count
+returns-clause-count c =
+    let t = c.args.shoens.now in
+    let u = c.end_lives.new.shoens in
+    let ends = count_terminated t u c.end_lives.new.ending.items c.in_ok-end_lives.ensures.ok.tree_is in
+    on_ok_weaker c.finish_each.result (λ same. same ∙ ends) c.finish_each.ensures.count

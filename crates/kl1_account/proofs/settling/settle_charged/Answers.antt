@@ -8,6 +8,11 @@ use Rattle.kl1_account.specs.Drafts.{goals_left}
 use Rattle.kl1_account.specs.Walks.{EndsLives}
 use Rattle.kl1_account.proofs.Ends.{ends_in_store}
 use Rattle.kl1_account.proofs.Finishing.{drafts_settle_charged}
+use Rattle.kl1_account.proofs.Counts.{count_terminated}
+use Rattle.kl1_account.specs.Walks.{HaveNoGoals}
+use Rattle.std.proofs.Common.{[], ap₂}
+use Rattle.kl1_shoen.specs.Shoens.{path_in}
+use Rattle.kl1_account.proofs.Coming.{ending_alone}
 use Rattle.kl1_account.proofs.settling.settle_charged.Goals as goal
 
 pub report_each-requires : goal.report_each-requires
@@ -61,3 +66,22 @@ returns-clause-none c =
     on_ok_weaker c.finish_each.result
     (λ more same none. none_reached t u c.args.number ending c.find_reached.new.reached.items c.report_each.new.draft.ended.items c.finish_each.new.draft.ended.items is c.in_ok-find_reached.ensures more (same ∙ sym told) none)
     c.finish_each.ensures.ended
+
+pub returns-clause-count : goal.returns-clause-count
+returns-clause-count c =
+    let t = c.args.shoens.now in
+    let u = c.end_lives.new.shoens in
+    let ends = count_terminated t u c.end_lives.new.ending.items c.in_ok-end_lives.ensures.ok.tree_is in
+    on_ok_weaker c.finish_each.result (λ same. same ∙ (c.in_ok-report_each.ensures.count ∙ ends)) c.finish_each.ensures.count
+
+pub returns-clause-alone : goal.returns-clause-alone
+returns-clause-alone c =
+    let d = c.args.draft.now in
+    let t = c.args.shoens.now in
+    let goals = goals_left (c.args.goals.now.goals ++ d.added.items) d in
+    let ending = c.end_lives.new.ending.items in
+    let told : c.report_each.new.draft.ended.items ≡ d.ended.items = ap (λ (x : Draft). x.ended.items) c.in_ok-report_each.ensures.rest in
+    let P : List ℕ → Type 0 = λ ns. HaveNoGoals ns goals in
+    on_ok_weaker c.finish_each.result
+    (λ is none. subst P (sym (is ∙ ap₂ (λ (xs ys : List ℕ). xs ++ ys) (told ∙ none) (c.as_slice-ending.ensures.value ∙ c.in_ok-end_lives.ensures.ok.ending_is))) (ending_alone goals (path_in t.shoens c.args.number) t.shoens))
+    c.finish_each.ensures.told

@@ -19,7 +19,7 @@ use Rattle.kl1_account.specs.Fitting.{Reading, Fits}
 use Rattle.kl1_account.specs.Account.{Account, state_of, texts_of}
 use Rattle.kl1_account.specs.Accounts.{kept_in}
 use Rattle.kl1_account.specs.Starting.{HasNames, hooks_on}
-use Rattle.kl1_account.proofs.StartChecks.{goal_below, may_numbered, may_high}
+use Rattle.kl1_account.proofs.StartChecks.{goal_below, may_numbered, may_high, may_low}
 use Rattle.kl1_account.proofs.StartSteps.{startable_of}
 use Rattle.kl1_account.proofs.Started.{IsFirm, started_step}
 use Rattle.kl1_account.proofs.StartSettled.{is_start, started_kept, refused_start, variables_within, nodes_within}
@@ -107,7 +107,7 @@ invariant_of-self-2 g c =
     ∙ ap (λ (vs : List ℕ). (u.store.hooks ++ hooks_on (c.in_ok-opening.opening.streams.control ∷ []) (u.last_goal + 1)) ++ hooks_on vs (u.last_goal + 2)) c.as_slice-2.ensures.value in
     let full = may.room in
     let same : c.self.inside.entries ≡ c.counted-counted.result.entries = (at (λ x. [])).entries_are in
-    started_kept a b c.prepare_start.new.store.held texts row c.publish.new.row.items c.highest-variables.result cells awaited c.in_ok-opening.opening c.args.allowance c.args.low c.args.high goal_term u.store.hooks c.place.new.store.hooks u.goals.shoens c.place.new.goals.shoens c.self.invariant c.len.ensures.numbered c.len.ensures.lower s once c.publish.ensures.small (omega (arith, full, same)) hung (c.place.ensures.known ∙ ap suc c.prepare_start.ensures.known)
+    started_kept a b c.prepare_start.new.store.held texts row c.publish.new.row.items c.highest-variables.result cells awaited c.in_ok-opening.opening c.args.allowance c.args.low c.args.high goal_term u.store.hooks c.place.new.store.hooks u.goals.shoens c.place.new.goals.shoens c.self.invariant c.len.ensures.numbered c.len.ensures.lower (may_low c.args.allowance c.args.low c.args.high goal_term may.may) (may_high c.args.allowance c.args.low c.args.high goal_term may.may) s once c.publish.ensures.small (omega (arith, full, same)) hung (c.place.ensures.known ∙ ap suc c.prepare_start.ensures.known)
 
 pub returns-clause-step : goal.returns-clause-step
 returns-clause-step g c =
