@@ -79,3 +79,4 @@ pub mod LateFree
 pub mod NewNames
 pub mod Published
 pub mod ReducePut
+pub mod Spelled
