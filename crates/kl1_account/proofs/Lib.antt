@@ -80,3 +80,4 @@ pub mod NewNames
 pub mod Published
 pub mod ReducePut
 pub mod Spelled
+pub mod Reductions

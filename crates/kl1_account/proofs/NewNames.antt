@@ -6,7 +6,6 @@ use Rattle.kl1_model.specs.Limits.{most_names}
 use Rattle.kl1_model.specs.Text.{is_text}
 use Rattle.kl1_model.specs.Term.{Term, Terms, variable, integer, atom, structure, replace}
 use Rattle.kl1_model.specs.Unify.{Equation, walk, solve_within, solve, after, goes_on, fails, equations_size}
-use Rattle.kl1_model.specs.Module.{Module}
 use Rattle.kl1_model.specs.State.{State, replace_in_state, with_name}
 use Rattle.kl1_model.specs.Tree.{charge}
 use Rattle.kl1_model.specs.Ending.{settle_charged}
@@ -20,7 +19,7 @@ use Rattle.kl1_atoms.specs.Names.{number_by}
 use Rattle.kl1_store.specs.declared.cell.Cell.{Cell}
 use Rattle.kl1_store.specs.declared.cell.Cell.TheVariants.{Variable, Integer, Atom, Structure}
 use Rattle.kl1_store.specs.declared.qualified.Qualified.{Qualified}
-use Rattle.kl1_store.specs.Held.{Held, IsIn, IsWalked, is_bound, with_binding}
+use Rattle.kl1_store.specs.Held.{Held, IsIn, IsWalked, with_binding}
 use Rattle.kl1_store.specs.Sound.{IsFormed}
 use Rattle.kl1_store.proofs.Terms.{term_of-unbound, term_of-Integer, term_of-Atom, term_of-binding}
 use Rattle.kl1_store.proofs.Constants.{Grown-binding}
@@ -29,7 +28,6 @@ use Rattle.kl1_match.specs.declared.place.Place.{Place}
 use Rattle.kl1_match.proofs.Cells.{at_structure}
 use Rattle.kl1_moves.specs.declared.moves.Move.{Move}
 use Rattle.kl1_moves.specs.declared.moves.Move.TheVariants as move
-use Rattle.kl1_moves.specs.Moves.{MovesAs}
 use Rattle.kl1_goals.specs.declared.goal.Goal.{Goal}
 use Rattle.kl1_shoen.specs.Shoens.{Tree}
 use Rattle.kl1_modules.specs.Numbered.{Numbered}
@@ -37,7 +35,7 @@ use Rattle.kl1_account.specs.declared.draft.Draft.{Draft}
 use Rattle.kl1_account.specs.declared.draft.Spelled.{Spelled}
 use Rattle.kl1_account.specs.Fitting.{Reading, built}
 use Rattle.kl1_account.specs.Account.{Means, meaning, aim, goal_with, texts_of}
-use Rattle.kl1_account.specs.Works.{Made, worked, IsMadeIn, Knows, Turns}
+use Rattle.kl1_account.specs.Works.{Made, worked, IsMadeIn, Turns}
 use Rattle.kl1_account.specs.Drafts.{Drafts, made_of, names_with}
 use Rattle.kl1_account.specs.Calling.{keeps_names, ReadsKnown, spare}
 use Rattle.kl1_account.specs.Moving.{ReadsMove}
@@ -45,7 +43,7 @@ use Rattle.kl1_account.specs.Acting.{Acts}
 use Rattle.kl1_account.specs.Late.{settle_charged_late}
 use Rattle.kl1_account.specs.Spelling.{IsSpelling, IsNoSpelling, SpellsBy, SpellsNone, Spells, Respells, ReadsText, ReadsAll, Does, with_text}
 use Rattle.kl1_account.proofs.States.{replaced_state}
-use Rattle.kl1_account.proofs.Works.{base, read_as, rereads, grown_made}
+use Rattle.kl1_account.proofs.Works.{base, rereads, grown_made}
 use Rattle.kl1_account.proofs.LateName.{settles_late}
 
 -- ---- whether a variable is to become a name

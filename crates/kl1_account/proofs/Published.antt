@@ -1,5 +1,5 @@
 -- A drafted name is published.
-use Rattle.std.proofs.Common.{◌≡◌, ℕ, zero, suc, ◌≤◌, ◌<◌, false, List, [], ◌∷◌, ◌++◌, length, map, get_or, Option, Some, None, refl, sym, ap, ◌∙◌, subst, arith}
+use Rattle.std.proofs.Common.{◌≡◌, ℕ, zero, suc, ◌≤◌, ◌<◌, false, List, [], ◌∷◌, length, map, get_or, Option, Some, None, refl, sym, ap, ◌∙◌, subst, arith}
 use Rattle.std.proofs.lemmas.Bool.{leb-true}
 use Rattle.kl1_model.specs.Limits.{most_names}
 use Rattle.kl1_model.specs.State.{with_name}
@@ -16,7 +16,7 @@ use Rattle.kl1_account.specs.declared.draft.Spelled.{Spelled}
 use Rattle.kl1_account.specs.Fitting.{Reading, Fits}
 use Rattle.kl1_account.specs.Account.{texts_of}
 use Rattle.kl1_account.specs.Naming.{AreSmall, AreNumbersOf}
-use Rattle.kl1_account.specs.Calling.{keeps_names, IsNewName}
+use Rattle.kl1_account.specs.Calling.{IsNewName}
 use Rattle.kl1_account.specs.Spelling.{IsNamed, IsPublished, Respells, HasName}
 use Rattle.kl1_account.proofs.KnownTexts.{no_text}
 use Rattle.kl1_account.proofs.ModuleNames.{not_there}

@@ -19,7 +19,7 @@ use Rattle.kl1_account.specs.Works.{Knows}
 use Rattle.kl1_account.specs.Installing.{IsFitting, goals_after}
 use Rattle.kl1_account.specs.Keeping.{IsKept}
 use Rattle.kl1_account.specs.Spelling.{IsPublished}
-use Rattle.kl1_account.specs.Reducing.{account_at, named_in, IsReduced, IsRefused, ReducesAs, ReducesTo}
+use Rattle.kl1_account.specs.Reducing.{account_at, named_in, IsReduced, IsRefused, ReducesAs}
 use Rattle.kl1_account.proofs.Sent.{as_was}
 
 -- what always holds of an account holds of it by any name

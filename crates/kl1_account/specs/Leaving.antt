@@ -1,9 +1,10 @@
 -- What goals do, and what monitors read, leave of the tree of shoens and of a draft, before the draft is finished.
-use Rattle.std.specs.Prelude.{◌≡◌, ℕ, ◌+◌, ◌<◌, ◌≤◌, false, List, [], length}
-use Rattle.std.specs.List.{AllByRecursion}
+use Rattle.std.specs.Prelude.{◌≡◌, ℕ, ◌+◌, ◌<◌, ◌≤◌, true, false, List, [], length}
+use Rattle.std.specs.List.{AllByRecursion, list_any}
 use Rattle.kl1_text.specs.declared.cell_name.CellName.{CellName}
 use Rattle.kl1_store.specs.Held.{Held}
 use Rattle.kl1_goals.specs.declared.goal.Goal.{Goal}
+use Rattle.kl1_goals.specs.Lists.{is_monitor, is_goal_of}
 use Rattle.kl1_shoen.specs.Shoens.{Tree}
 use Rattle.kl1_account.specs.declared.draft.Draft.{Draft}
 use Rattle.kl1_account.specs.Kept.{AreGoalsIn, AreOwned, AreUpTo}
@@ -21,6 +22,10 @@ pub record Comes (new : Held CellName) (count : ℕ) (shoens : ℕ) (before afte
   pub up_to : AreUpTo after.last_goal after.added.items
   pub last : before.last_goal ≤ after.last_goal
   pub inside : AreGoalsIn new after.added.items
+
+-- each monitor of these goals has a goal of its shoen among them
+abbrev pub AreMet : List (Goal CellName) → Type 0
+AreMet goals = AllByRecursion (λ g. is_monitor g ≡ true → list_any (is_goal_of g.shoen) goals ≡ true) goals
 
 -- what is left where the shoen of a number may have another control stream: goals that come, at most a shoen more, at most a reduction
 -- more that is charged, the other control streams, and that goals may step as before where nothing shifts that

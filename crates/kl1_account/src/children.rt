@@ -1,6 +1,6 @@
 // Shoens that open, and the children that goals open.
 
-ghost use Rattle.std.specs.Prelude.{◌≡◌, ◌<◌, ◌≤◌, ◌++◌, suc, length, ◌&&◌, nat_lt, OnOk};
+ghost use Rattle.std.specs.Prelude.{◌≡◌, ◌<◌, ◌≤◌, ◌+◌, ◌++◌, [], suc, length, ◌&&◌, nat_lt, OnOk};
 ghost use Rattle.kl1_model.specs.Limits.{most_shoens, most_shoen_depth};
 ghost use Rattle.kl1_model.specs.Opening.{open_shoen, clipped};
 ghost use Rattle.kl1_store.specs.Held.{IsIn, arguments_of};
@@ -11,6 +11,7 @@ ghost use Rattle.kl1_account.specs.Kept.{IsOwned, IsShoenIn, AreShoensIn};
 ghost use Rattle.kl1_account.specs.Drafts.{DraftsAll, HasBegun, CanGoBack, two_for};
 ghost use Rattle.kl1_account.specs.Moving.{OpensChild};
 ghost use Rattle.kl1_account.specs.Frames.{Stays};
+ghost use Rattle.kl1_account.specs.Leaving.{Comes, AreMet};
 
 use crate::committing::last_of;
 use crate::draft::Draft;
@@ -69,7 +70,11 @@ pub(crate) fn open_shoen(
     requires goal { IsIn store.old.held goal }
     requires shoens { AreShoensIn store.old.held shoens.old.shoens }
     requires begun { HasBegun draft.old }
+    requires empty { draft.old.added.items ≡ [] }
     ensures ok { OnOk result (DraftsAll (λ f. open_shoen (shoen_with (meaning f store.old.held) shoen) (meaning f store.old.held goal)) store.old.held store.new.held shoens.old shoens.new draft.old draft.new) }
+    ensures comes { OnOk result (Comes store.new.held (length shoens.old.shoens) (length shoens.new.shoens) draft.old draft.new) }
+    ensures met { OnOk result (AreMet draft.new.added.items) }
+    ensures one { OnOk result (length shoens.new.shoens ≡ suc (length shoens.old.shoens)) }
     ensures shoens { OnOk result (AreShoensIn store.new.held shoens.new.shoens) }
     ensures back { CanGoBack shoens.old shoens.new }
     ensures stays { OnOk result (Stays shoens.old shoens.new) }
@@ -118,7 +123,11 @@ pub(crate) fn open_child(
     requires shoens { AreShoensIn store.old.held shoens.old.shoens }
     requires owned { IsOwned (length shoens.old.shoens) goal }
     requires begun { HasBegun draft.old }
+    requires empty { draft.old.added.items ≡ [] }
     ensures ok { OnOk result (OpensChild structure goal cell store.old.held store.new.held shoens.old shoens.new draft.old draft.new) }
+    ensures comes { OnOk result (Comes store.new.held (length shoens.old.shoens) (length shoens.new.shoens) draft.old draft.new) }
+    ensures met { OnOk result (AreMet draft.new.added.items) }
+    ensures one_opens { OnOk result (length shoens.new.shoens ≤ length shoens.old.shoens + 1) }
     ensures shoens { OnOk result (AreShoensIn store.new.held shoens.new.shoens) }
     ensures back { CanGoBack shoens.old shoens.new }
     ensures stays { OnOk result (Stays shoens.old shoens.new) }

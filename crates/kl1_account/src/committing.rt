@@ -1,7 +1,7 @@
 // Goals that commit to clauses.
 
-ghost use Rattle.std.specs.Prelude.{◌≡◌, ◌+◌, ◌<◌, ◌^◌, [], ◌++◌, ◌&&◌, nat_le, not, List, ℕ, length, count_by, Some, option_map, unwrap_or, IfOk, OnOk};
-ghost use Rattle.kl1_model.specs.Limits.{most_goals, most_variables, most_nodes};
+ghost use Rattle.std.specs.Prelude.{◌≡◌, ◌+◌, ◌<◌, ◌≤◌, ◌^◌, [], ◌++◌, ◌&&◌, nat_le, not, List, ℕ, length, count_by, Some, option_map, unwrap_or, IfOk, OnOk};
+ghost use Rattle.kl1_model.specs.Limits.{monitor_priority, most_goals, most_variables, most_nodes};
 ghost use Rattle.kl1_store.specs.Held.{IsIn};
 ghost use Rattle.kl1_store.specs.Sound.{Grown};
 ghost use Rattle.kl1_clause.specs.Predicates.{AreSome};
@@ -13,6 +13,7 @@ ghost use Rattle.kl1_account.specs.Kept.{AreShoensIn, IsOwned};
 ghost use Rattle.kl1_account.specs.Drafts.{goals_left, goals_for, HasBegun, CanGoBack};
 ghost use Rattle.kl1_account.specs.Moving.{Commits, priorities_by};
 ghost use Rattle.kl1_account.specs.Frames.{Stays};
+ghost use Rattle.kl1_account.specs.Leaving.{Comes, AreMet};
 
 use crate::draft::Draft;
 use crate::reporting::raise;
@@ -115,8 +116,12 @@ pub(crate) fn commit(
     requires shoens { AreShoensIn store.old.held shoens.old.shoens }
     requires owned { IsOwned (length shoens.old.shoens) goal }
     requires begun { HasBegun draft.old }
+    requires empty { draft.old.added.items ≡ [] }
+    requires level { goal.priority ≤ monitor_priority }
     requires alive { alive ≡ count_by (λ g. not (is_monitor g)) (goals_left (goals.now.goals ++ draft.old.added.items) draft.old) }
     ensures ok { OnOk result (Commits predicate.entry place (taken_places trial.old) goal cell goals.now.goals store.old.held store.new.held shoens.old shoens.new draft.old draft.new) }
+    ensures comes { OnOk result (Comes store.new.held (length shoens.old.shoens) (length shoens.new.shoens) draft.old draft.new) }
+    ensures met { OnOk result (AreMet draft.new.added.items) }
     ensures shoens { OnOk result (AreShoensIn store.new.held shoens.new.shoens) }
     ensures back { CanGoBack shoens.old shoens.new }
     ensures stays { OnOk result (Stays shoens.old shoens.new) }

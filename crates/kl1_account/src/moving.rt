@@ -1,6 +1,7 @@
 // Moves of goals.
 
 ghost use Rattle.std.specs.Prelude.{◌≡◌, ◌<◌, ◌≤◌, ◌+◌, [], length, not, ◌++◌, Some, None, count_by, OnOk};
+ghost use Rattle.kl1_model.specs.Limits.{monitor_priority};
 ghost use Rattle.kl1_store.specs.Held.{IsIn};
 ghost use Rattle.kl1_store.specs.Sound.{Grown};
 ghost use Rattle.kl1_clause.specs.Predicates.{AreSome};
@@ -9,7 +10,7 @@ ghost use Rattle.kl1_goals.specs.Lists.{is_monitor};
 ghost use Rattle.kl1_account.specs.Kept.{IsOwned, AreShoensIn};
 ghost use Rattle.kl1_account.specs.Drafts.{goals_left, HasBegun, CanGoBack};
 ghost use Rattle.kl1_account.specs.Moving.{Moves, IsMoved, name_for};
-ghost use Rattle.kl1_account.specs.Leaving.{Comes};
+ghost use Rattle.kl1_account.specs.Leaving.{Comes, AreMet};
 ghost use Rattle.kl1_account.specs.Frames.{Stays};
 
 use crate::children::open_child;
@@ -50,10 +51,12 @@ pub(crate) fn do_move(
     requires begun { HasBegun draft.old }
     requires none { draft.old.name ≡ None }
     requires empty { draft.old.added.items ≡ [] }
+    requires level { goal.priority ≤ monitor_priority }
     requires alive { alive ≡ count_by (λ g. not (is_monitor g)) (goals_left (goals.now.goals ++ draft.old.added.items) draft.old) }
     ensures ok { OnOk result (Moves predicate.entry made (taken_places trial.old) trial.old.text goal cell goals.now.goals names.now.names store.old.held store.new.held shoens.old shoens.new draft.old draft.new) }
     ensures name { OnOk result (draft.new.name ≡ name_for made names.now.names trial.old.text) }
     ensures comes { OnOk result (Comes store.new.held (length shoens.old.shoens) (length shoens.new.shoens) draft.old draft.new) }
+    ensures met { OnOk result (AreMet draft.new.added.items) }
     ensures more { OnOk result (length shoens.old.shoens ≤ length shoens.new.shoens) }
     ensures one_opens { OnOk result (length shoens.new.shoens ≤ length shoens.old.shoens + 1) }
     ensures shoens { OnOk result (AreShoensIn store.new.held shoens.new.shoens) }

@@ -1,12 +1,9 @@
-use Rattle.std.proofs.Common.{◌≡◌, ℕ, List, sym, ap, ◌∙◌, subst, true}
-use Rattle.std.specs.Prelude.{None, Some, option_map, Option, IsTrue}
+use Rattle.std.proofs.Common.{◌≡◌, sym, ap, ◌∙◌, subst}
 use Rattle.kl1_text.specs.declared.cell_name.CellName.{CellName}
-use Rattle.kl1_model.specs.Text.{is_text}
 use Rattle.kl1_atoms.specs.Names.{number_by}
 use Rattle.kl1_moves.specs.declared.moves.Move.{Move}
-use Rattle.kl1_store.specs.declared.cell.Cell.{Cell}
 use Rattle.kl1_account.specs.Calling.{keeps_names}
-use Rattle.kl1_account.specs.Spelling.{IsSpelling, NamesIn, SpellsBy, SpellsNone}
+use Rattle.kl1_account.specs.Spelling.{NamesIn, SpellsBy, SpellsNone}
 use Rattle.kl1_account.proofs.NewNames.{integer_none, atom_none, structure_none, variable_spells, unnumbered}
 use Rattle.kl1_account.proofs.spelling.name_to_spell.Goals as goal
 

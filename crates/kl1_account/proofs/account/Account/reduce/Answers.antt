@@ -1,11 +1,18 @@
-use Rattle.std.proofs.Common.{◌≡◌, ℕ, suc, ◌+◌, Bool, nat_lt, List, length, refl, sym, ap, ap₂, ◌∙◌, subst, arith}
+use Rattle.std.proofs.Common.{◌≡◌, ℕ, suc, ◌+◌, Bool, nat_lt, List, length, refl, sym, ap, ap₂, subst, arith}
 use Rattle.kl1_text.specs.declared.cell_name.CellName.{CellName}
 use Rattle.kl1_atoms.specs.declared.known.Known.{Known}
 use Rattle.kl1_shoen.specs.Shoens.{Tree}
 use Rattle.kl1_account.specs.Accounts.{kept_in}
 use Rattle.kl1_account.specs.Calling.{IsNewName}
-use Rattle.kl1_account.proofs.ReducePut.{comes_of, reduced_of, refused_of, published_of, fits_table, put_kept, put_steps, as_before, still_kept, refused_step}
+use Rattle.kl1_account.proofs.ReducePut.{kept_at, comes_of, reduced_of, refused_of, published_of, fits_table, put_kept, put_steps, as_before, still_kept, refused_step}
 use Rattle.kl1_account.proofs.account.Account.reduce.Goals as goal
+
+pub draft_reduction-drafted-requires : goal.draft_reduction-drafted-requires
+draft_reduction-drafted-requires g c =
+    let u = c.self.inside in
+    record {
+      kept = kept_at (kept_in u) c.begin.new.self u.store.hooks u.goals.shoens (ap (λ (x : Tree CellName). x.shoens) c.begin.ensures) (ap (λ (x : Tree CellName). x.work) c.begin.ensures) c.self.invariant;
+    }
 
 pub invariant_of-self-in-Some : goal.invariant_of-self-in-Some
 invariant_of-self-in-Some g c =
