@@ -79,4 +79,5 @@ pub mod LateFree
 pub mod NewNames
 pub mod Published
 pub mod ReducePut
+pub mod Spelled
 pub mod Reductions
