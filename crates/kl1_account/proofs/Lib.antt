@@ -59,6 +59,7 @@ pub mod Listing
 pub mod Finished
 pub mod Coming
 pub mod Counts
+pub mod Arriving
 pub mod Alike
 pub mod Messages
 pub mod Sent
