@@ -60,6 +60,7 @@ pub mod Finished
 pub mod Coming
 pub mod Counts
 pub mod Arriving
+pub mod Leavings
 pub mod Alike
 pub mod Messages
 pub mod Sent

@@ -59,3 +59,17 @@ returns-then-not-may_open-clause-one_opens c = on_ok_weaker c.raise.result (λ s
 
 pub returns-clause-one_opens : goal.returns-clause-one_opens
 returns-clause-one_opens c = on_ok_weaker c.open_shoen.result (λ same. omega (arith, same)) c.open_shoen.ensures.one
+
+pub open_shoen-requires-clause-shoen : goal.open_shoen-requires-clause-shoen
+open_shoen-requires-clause-shoen c =
+    let parent = c.in-Some.parent in
+    let found = found_shoen_in c.args.store.now.held c.args.goal.shoen c.args.shoens.now.shoens parent c.requires.shoens (sym c.lend.ensures.value ∙ (sym c.copied.ensures ∙ c.in-Some.is)) in
+    let L : ℕ → Type 0 = λ n. n ≤ monitor_priority in
+    let inside = c.order_at-order.ensures.inside in
+    record {
+      control = inside.control_in;
+      tail = inside.reports_in;
+      origin = tt;
+      low = subst L (sym c.clipped_in.ensures) (clipped_low parent.low parent.high c.number_at-2.result found.low found.high);
+      high = subst L (sym c.clipped_in-2.ensures) (clipped_low parent.low parent.high c.number_at-3.result found.low found.high);
+    }
