@@ -1,5 +1,5 @@
 -- Monitors have the control streams before them that they had.
-use Rattle.std.proofs.Common.{◌≡◌, ℕ, suc, List, [], ◌∷◌, length, arith}
+use Rattle.std.proofs.Common.{ℕ, List, [], ◌∷◌, length, arith}
 use Rattle.kl1_text.specs.declared.cell_name.CellName.{CellName}
 use Rattle.kl1_goals.specs.declared.goal.Goal.{Goal}
 use Rattle.kl1_shoen.specs.declared.shoen.Shoen.{Shoen}

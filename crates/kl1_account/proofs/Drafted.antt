@@ -1,5 +1,5 @@
 -- A move that is found is one of the definitions.
-use Rattle.std.proofs.Common.{◌≡◌, ℕ, suc, ◌<◌, List, [], ◌∷◌, length, refl, sym, ap, ◌∙◌, arith}
+use Rattle.std.proofs.Common.{◌≡◌, ℕ, List, [], ◌∷◌, length, refl, sym, ap, arith}
 use Rattle.std.specs.Prelude.{Option, Some, None, slice_get}
 use Rattle.kl1_model.specs.Module.{Module}
 use Rattle.kl1_model.specs.Text.{text_of}

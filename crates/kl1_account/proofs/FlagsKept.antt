@@ -1,5 +1,5 @@
 -- Which goals may step after an event that ended no shoen and exhausted none.
-use Rattle.std.proofs.Common.{◌≡◌, ℕ, zero, suc, ◌+◌, ◌<◌, ◌≤◌, ◌==◌, ◌||◌, not, nat_le, Bool, true, false, if◌then◌else◌, List, [], ◌∷◌, ◌++◌, length, get_or, refl, sym, ap, ap₂, ◌∙◌, subst, arith}
+use Rattle.std.proofs.Common.{◌≡◌, ℕ, zero, suc, ◌+◌, ◌<◌, ◌≤◌, ◌==◌, ◌||◌, not, nat_le, Bool, true, false, List, [], ◌∷◌, ◌++◌, length, get_or, refl, sym, ap, ap₂, ◌∙◌, subst, arith}
 use Rattle.std.specs.Prelude.{Option, Some, None, find, option_map, unwrap_or, cond}
 use Rattle.std.specs.List.{list_any, AllByRecursion}
 use Rattle.std.proofs.lemmas.Bool.{eqb-true, eqb-false, lt-leb, leb-false}
@@ -10,7 +10,7 @@ use Rattle.kl1_model.specs.Tree.{path_within}
 use Rattle.kl1_model.specs.TreeLaws.{ParentsAreLower}
 use Rattle.kl1_text.specs.declared.cell_name.CellName.{CellName}
 use Rattle.kl1_shoen.specs.declared.shoen.Shoen.{Shoen}
-use Rattle.kl1_shoen.specs.Shoens.{Tree, has_number, AreNumbered, AreLower, parents_in, path_in, is_on_path_in, charged_in, is_exhausted_in, is_blocking_in, is_blocking_at, is_enabled_at, has_reached_in}
+use Rattle.kl1_shoen.specs.Shoens.{Tree, has_number, AreNumbered, AreLower, parents_in, path_in, is_on_path_in, charged_in, is_blocking_in, is_blocking_at, is_enabled_at, has_reached_in}
 use Rattle.kl1_shoen.proofs.Paths.{path_among}
 use Rattle.kl1_account.specs.Frames.{plain, KeepsBy, IsCalm, Stays, SameFlags, NoneReached}
 use Rattle.kl1_account.proofs.Frames.{found_stays, stays_then, lives_plain}

@@ -1,5 +1,5 @@
 -- What stays of shoens through what the monitor of one of them reads.
-use Rattle.std.proofs.Common.{◌≡◌, ℕ, suc, ◌+◌, ◌<◌, ◌≤◌, ◌==◌, ◌&&◌, Bool, true, false, if◌then◌else◌, List, [], ◌∷◌, length, map, refl, sym, ap, ◌∙◌, subst, arith}
+use Rattle.std.proofs.Common.{◌≡◌, ℕ, ◌==◌, ◌&&◌, Bool, true, false, if◌then◌else◌, List, [], ◌∷◌, map, refl, sym, ap, ◌∙◌, subst, arith}
 use Rattle.std.specs.Prelude.{find, Option, Some, None, option_map}
 use Rattle.std.proofs.lemmas.Bool.{eqb-true, ne_eqb}
 use Rattle.kl1_model.specs.State.{is_living}
@@ -9,8 +9,7 @@ use Rattle.kl1_store.specs.declared.cell.Cell.{Cell}
 use Rattle.kl1_store.specs.declared.cell.Cell.TheVariants.{Variable}
 use Rattle.kl1_shoen.specs.declared.shoen.Shoen.{Shoen}
 use Rattle.kl1_shoen.specs.Shoens.{Tree, has_number, changed, AreNumbered, is_on_path_in, aborted_below_in}
-use Rattle.kl1_account.specs.Settled.{control_at}
-use Rattle.kl1_account.specs.Frames.{KeepsBy, KeepsFrames, KeepsLives, Stays}
+use Rattle.kl1_account.specs.Frames.{KeepsFrames, KeepsLives, Stays}
 use Rattle.kl1_account.specs.Outlines.{outline, KeepsOutlines, KeepsOthers}
 use Rattle.kl1_account.proofs.Frames.{keeps_same, keeps_then, keeps_changed, found_stays}
 

@@ -1,10 +1,10 @@
 -- What always holds of an account holds after a start.
-use Rattle.std.proofs.Common.{◌≡◌, ℕ, suc, ◌+◌, ◌<◌, ◌≤◌, ◌==◌, ◌&&◌, ◌||◌, Bool, true, false, if◌then◌else◌, List, [], ◌∷◌, ◌++◌, length, map, IsTrue, refl, sym, ap, ap₂, ◌∙◌, arith, subst, append_assoc, length-append, not, count_by}
+use Rattle.std.proofs.Common.{◌≡◌, ℕ, suc, ◌+◌, ◌<◌, ◌≤◌, ◌==◌, ◌&&◌, ◌||◌, Bool, true, false, if◌then◌else◌, List, [], ◌∷◌, ◌++◌, length, IsTrue, refl, sym, ap, ap₂, ◌∙◌, arith, subst, append_assoc, length-append, not, count_by}
 use Rattle.std.specs.Prelude.{Contains, Option, Some, None, option_map, nat_lt, nat_le}
 use Rattle.std.specs.List.{AllByRecursion}
 use Rattle.std.proofs.lemmas.Bool.{ne_eqb, and_parts, leb-true}
 use Rattle.std.proofs.lemmas.List.Elements.{Contains-append_left, Contains-append_right}
-use Rattle.kl1_model.specs.Term.{Term, variable}
+use Rattle.kl1_model.specs.Term.{Term}
 use Rattle.kl1_model.specs.TermCode.{nodes_of}
 use Rattle.kl1_model.specs.Meaning.{highest, is_numbered}
 use Rattle.kl1_model.specs.Nodes.{goal_nodes}
@@ -16,7 +16,6 @@ use Rattle.kl1_model.specs.State.{names_of, with_names}
 use Rattle.kl1_model.specs.Event.{start, refuse}
 use Rattle.kl1_model.specs.Step.{step}
 use Rattle.kl1_text.specs.declared.cell_name.CellName.{CellName}
-use Rattle.kl1_atoms.specs.declared.known.Known.{Known}
 use Rattle.kl1_atoms.specs.Names.{AreNames}
 use Rattle.kl1_store.specs.declared.cell.Cell.{Cell}
 use Rattle.kl1_store.specs.declared.cell.Cell.TheVariants.{Variable}
@@ -33,7 +32,7 @@ use Rattle.kl1_goals.specs.declared.task.Task.TheVariants.{Monitor, Reduces}
 use Rattle.kl1_goals.specs.declared.goal.Goal.{Goal}
 use Rattle.kl1_goals.specs.Lists.{is_monitor}
 use Rattle.kl1_shoen.specs.declared.shoen.Shoen.{Shoen}
-use Rattle.kl1_shoen.specs.Shoens.{shoen_in, has_number, AreNumbered, AreLower, is_enabled_at}
+use Rattle.kl1_shoen.specs.Shoens.{shoen_in, AreNumbered, AreLower, is_enabled_at}
 use Rattle.kl1_modules.specs.Numbered.{Numbered, AreRead}
 use Rattle.kl1_modules.specs.Finding.{contents}
 use Rattle.kl1_moves.specs.Hanging.{HangsOnEach}
@@ -46,11 +45,11 @@ use Rattle.kl1_account.specs.declared.startable.Starting.TheVariants.{Refused}
 use Rattle.kl1_account.specs.declared.opening.Opening.{Opening}
 use Rattle.kl1_account.specs.Fitting.{Reading, Fits}
 use Rattle.kl1_account.specs.Account.{Account, meaning, task_with, state_of, texts_of}
-use Rattle.kl1_account.specs.Kept.{IsTaskIn, AreGoalsIn, IsOwned, AreOwned, AreShoensIn}
+use Rattle.kl1_account.specs.Kept.{IsTaskIn, AreGoalsIn, AreOwned, AreShoensIn}
 use Rattle.kl1_account.specs.Settled.{control_at, front_with, control_with, monitor_clause, awaited_by_monitor, task_clause, awaited_by_task, IsSettled, AreSettled, IsEnabled, AreEnabled}
 use Rattle.kl1_account.specs.Keeping.{IsKept}
 use Rattle.kl1_account.specs.Naming.{AreSmall, AreNumbersOf}
-use Rattle.kl1_account.specs.Starting.{HasNames, has_room_beside, IsStartable, StartsAs, IsDrafted, IsPlaced, two_goals, shoen_opened, hooks_on}
+use Rattle.kl1_account.specs.Starting.{HasNames, has_room_beside, StartsAs, IsDrafted, IsPlaced, two_goals, shoen_opened, hooks_on}
 use Rattle.kl1_account.proofs.States.{Agree, aims_same}
 use Rattle.kl1_account.proofs.Restood.{each_append}
 use Rattle.kl1_account.proofs.SettledStays.{hung_more}

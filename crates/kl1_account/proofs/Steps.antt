@@ -1,16 +1,13 @@
 -- The step of a reduction, of an account as it is kept.
-use Rattle.std.proofs.Common.{◌≡◌, true, false, not, if◌then◌else◌, ℕ, suc, ◌<◌, ◌≤◌, ◌==◌, ◌&&◌, Bool, List, [], ◌∷◌, ◌++◌, length, map, refl, sym, ap, ◌∙◌, arith, subst}
-use Rattle.std.specs.Prelude.{Some, None, Option, option_map, filter, find, nat_lt}
+use Rattle.std.proofs.Common.{◌≡◌, true, false, not, if◌then◌else◌, ℕ, ◌<◌, ◌≤◌, ◌==◌, ◌&&◌, Bool, List, [], ◌∷◌, map, refl, sym, ap, ◌∙◌, subst}
+use Rattle.std.specs.Prelude.{Some, None, Option, option_map, find}
 use Rattle.std.specs.List.{AllByRecursion}
 use Rattle.std.proofs.lemmas.Bool.{lt-ltb, le-ltb, eq-eqb, ne_eqb}
 use Rattle.kl1_model.specs.Limits.{most_entries}
-use Rattle.kl1_model.specs.Term.{Term}
 use Rattle.kl1_model.specs.Control as model_control
 use Rattle.kl1_model.specs.State as model
 use Rattle.kl1_model.specs.State.{State, goal_at, shoen_at, without_goal}
-use Rattle.kl1_model.specs.Tree.{charge}
-use Rattle.kl1_model.specs.Ending.{settle, settle_charged}
-use Rattle.kl1_model.specs.Event.{reduce, refuse, syntax, step_refused, journal_full, reduced, is_number, with_entry, recorded}
+use Rattle.kl1_model.specs.Event.{reduce, refuse, syntax, step_refused, journal_full, reduced, is_number, with_entry}
 use Rattle.kl1_model.specs.Step.{step}
 use Rattle.kl1_model.specs.Reduction as reduction
 use Rattle.kl1_model.specs.Reduction.{reads, moves, moved, heard, acted, read_action, monitor_action, task_action, reduce_goal, reduced_by}
@@ -21,7 +18,6 @@ use Rattle.kl1_store.specs.Held.{Held}
 use Rattle.kl1_stream.specs.declared.control.Control.{Control}
 use Rattle.kl1_stream.specs.declared.control.Control.TheVariants.{Awaits, Tells, TellsOther, Ends, BreaksOff}
 use Rattle.kl1_stream.specs.Controls.{control_as}
-use Rattle.kl1_goals.specs.declared.task.Task.{Task}
 use Rattle.kl1_goals.specs.declared.task.Task.TheVariants.{Monitor, Reduces}
 use Rattle.kl1_goals.specs.declared.goal.Goal.{Goal}
 use Rattle.kl1_goals.specs.Lists.{has_number}

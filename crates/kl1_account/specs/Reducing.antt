@@ -1,9 +1,7 @@
 -- Reductions: which are refused, and what an account is after a draft is put in place.
-use Rattle.std.specs.Prelude.{◌≡◌, ℕ, suc, ◌+◌, ◌<◌, ◌&&◌, nat_lt, if◌then◌else◌, Bool, true, false, List, [], length, find, Option, Some, None}
+use Rattle.std.specs.Prelude.{◌≡◌, ℕ, suc, ◌+◌, ◌<◌, ◌&&◌, nat_lt, if◌then◌else◌, Bool, true, false, List, length, find, Option, Some, None}
 use Rattle.kl1_model.specs.Limits.{most_entries}
-use Rattle.kl1_model.specs.State.{State, without_goal}
-use Rattle.kl1_model.specs.Tree.{charge}
-use Rattle.kl1_model.specs.Ending.{settle, settle_charged}
+use Rattle.kl1_model.specs.Ending.{settle}
 use Rattle.kl1_model.specs.Reduction as model
 use Rattle.kl1_model.specs.Reduction.{goes, moved, heard}
 use Rattle.kl1_model.specs.Waits.{move_by}
@@ -33,7 +31,7 @@ use Rattle.kl1_event.specs.Views.{refusal_of}
 use Rattle.kl1_account.specs.declared.draft.Draft.{Draft}
 use Rattle.kl1_atoms.specs.declared.known.Known.{Known}
 use Rattle.kl1_account.specs.Fitting.{Reading, Fits}
-use Rattle.kl1_account.specs.Account.{Account, meaning, goal_with, state_of, aim}
+use Rattle.kl1_account.specs.Account.{Account, state_of, aim}
 use Rattle.kl1_account.specs.Works.{Knows}
 use Rattle.kl1_account.specs.Installing.{goals_after, IsFitting}
 use Rattle.kl1_account.specs.Settled.{AreEnabled}

@@ -1,4 +1,4 @@
-use Rattle.std.proofs.Common.{◌≡◌, sym, ap, ◌∙◌, subst}
+use Rattle.std.proofs.Common.{subst}
 use Rattle.std.specs.Prelude.{Option, Some, None}
 use Rattle.kl1_model.specs.Reduction.{moves}
 use Rattle.kl1_text.specs.declared.cell_name.CellName.{CellName}

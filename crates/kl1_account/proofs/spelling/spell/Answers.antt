@@ -1,10 +1,9 @@
-use Rattle.std.proofs.Common.{◌≡◌, refl, sym, ap, ◌∙◌, subst}
+use Rattle.std.proofs.Common.{refl, ap, ◌∙◌, subst}
 use Rattle.kl1_text.specs.declared.cell_name.CellName.{CellName}
 use Rattle.kl1_store.specs.declared.cell.Cell.TheVariants.{Atom}
 use Rattle.kl1_store.specs.declared.point.Point.{Point}
 use Rattle.kl1_store.specs.Held.{Held, with_binding, sizes_of}
 use Rattle.kl1_store.specs.Sound.{IsFormed}
-use Rattle.kl1_shoen.specs.Shoens.{Tree}
 use Rattle.kl1_account.specs.declared.draft.Draft.{Draft}
 use Rattle.kl1_account.proofs.LateFree.{still_within}
 use Rattle.kl1_account.proofs.Spelled.{shoens_bound, drafts_spelled, leaves_spelled}

@@ -1,9 +1,8 @@
-use Rattle.std.proofs.Common.{◌≡◌, ℕ, suc, ◌+◌, ◌<◌, ◌++◌, List, [], ◌∷◌, refl, sym, ap, ◌∙◌, arith, subst}
+use Rattle.std.proofs.Common.{◌≡◌, ℕ, suc, ◌+◌, ◌++◌, List, [], ◌∷◌, refl, sym, ap, ◌∙◌, arith, subst}
 use Rattle.kl1_model.specs.Term.{Term}
 use Rattle.kl1_model.specs.TermCode.{nodes_of}
 use Rattle.kl1_model.specs.Meaning.{highest}
 use Rattle.kl1_model.specs.Nodes.{goal_nodes}
-use Rattle.kl1_model.specs.Limits.{most_variables, most_nodes}
 use Rattle.kl1_model.specs.State.{names_of, with_names}
 use Rattle.kl1_model.specs.Event.{start, opened, refuse}
 use Rattle.kl1_model.specs.Step.{step}
