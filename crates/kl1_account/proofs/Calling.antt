@@ -50,7 +50,7 @@ new_named known text e =
     sym (opened (texts_of known) text) ∙ not_there (texts_of known) text n.0 n.1
 
 -- a text is used as a name
-named_turns : (ms : List Numbered) (h : Held CellName) (w : Made) (text : List ℕ) (names : List (List ℕ)) → IsMadeIn h w → with_name w.names text ≡ names → Turns ms (λ f s. record s { names = with_name s.names text }) h h w (record w { names = names })
+pub named_turns : (ms : List Numbered) (h : Held CellName) (w : Made) (text : List ℕ) (names : List (List ℕ)) → IsMadeIn h w → with_name w.names text ≡ names → Turns ms (λ f s. record s { names = with_name s.names text }) h h w (record w { names = names })
 named_turns ms h w text names i e = record {
   inside = record { some = i.some; goals = i.goals; shoens = i.shoens; owned = i.owned };
   states = λ f knows s. ap (λ (ns : List (List ℕ)). let z : State = record (worked f s h w) { names = ns } in z) e;

@@ -73,7 +73,7 @@ all_of : (P Q : Goal CellName → Type 0) (gs : List (Goal CellName)) → ((g : 
 all_of P Q [] f a = tt
 all_of P Q (g ∷ gs) f a = (f g a.0, all_of P Q gs f a.1)
 
-without_none : (ns : List ℕ) (gs : List (Goal CellName)) → AllByRecursion (λ g. AllByRecursion (λ n. is_monitor_of n g ≡ false) ns) gs → without_monitors ns gs ≡ gs
+pub without_none : (ns : List ℕ) (gs : List (Goal CellName)) → AllByRecursion (λ g. AllByRecursion (λ n. is_monitor_of n g ≡ false) ns) gs → without_monitors ns gs ≡ gs
 without_none [] gs a = refl
 without_none (n ∷ ns) gs a =
     ap (without_monitors ns) (filter_all (λ g. not (is_monitor_of n g)) gs (all_of (λ g. AllByRecursion (λ n. is_monitor_of n g ≡ false) (n ∷ ns)) (λ g. not (is_monitor_of n g) ≡ true) gs (λ g h. ap not h.0) a))

@@ -1,10 +1,9 @@
 -- A variable that becomes a name stays unbound through what comes after a goal's effects.
 use Rattle.std.proofs.Common.{inl, inr, zero, suc, ◌≡◌, ℕ, ◌<◌, ◌≤◌, ◌==◌, not, ◌&&◌, Bool, true, false, if◌then◌else◌, List, [], ◌∷◌, refl, sym, ap, ◌∙◌, subst, arith}
-use Rattle.std.specs.Prelude.{find, Option, Some, None, option_map}
-use Rattle.std.proofs.lemmas.Bool.{ne_eqb, eqb-true, eq-eqb, cases_eq}
+use Rattle.std.specs.Prelude.{find, Option, Some, option_map}
+use Rattle.std.proofs.lemmas.Bool.{ne_eqb, eq-eqb, cases_eq}
 use Rattle.kl1_model.specs.Term.{Term, variable, integer, atom, structure, replace}
 use Rattle.kl1_model.specs.Meaning.{nil}
-use Rattle.kl1_text.specs.Reading.{Reads}
 use Rattle.kl1_text.specs.declared.cell_name.CellName.{CellName}
 use Rattle.kl1_store.specs.declared.cell.Cell.{Cell}
 use Rattle.kl1_store.specs.declared.cell.Cell.TheVariants.{Variable, Integer, Atom, Structure}

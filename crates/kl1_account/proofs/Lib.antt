@@ -59,6 +59,8 @@ pub mod Listing
 pub mod Finished
 pub mod Coming
 pub mod Counts
+pub mod Arriving
+pub mod Leavings
 pub mod Alike
 pub mod Messages
 pub mod Sent
@@ -79,4 +81,5 @@ pub mod LateFree
 pub mod NewNames
 pub mod Published
 pub mod ReducePut
+pub mod Spelled
 pub mod Reductions

@@ -33,7 +33,7 @@ module _ (h : Held CellName) (v : ℕ) (x y : Cell CellName) where
 
   shoens_bound : (ss : List (Shoen CellName)) → AreShoensIn (with_binding h v x) ss → AreShoensIn (with_binding h v y) ss
   shoens_bound [] i = tt
-  shoens_bound (s ∷ ss) i = (record { control = i.0.control; tail = i.0.tail; origin = origin_bound s.origin i.0.origin }, shoens_bound ss i.1)
+  shoens_bound (s ∷ ss) i = (record { control = i.0.control; tail = i.0.tail; origin = origin_bound s.origin i.0.origin; low = i.0.low; high = i.0.high }, shoens_bound ss i.1)
 
 -- as many variables are there
 pub variables_respelled : (s : Option Spelled) (k : CellName) (h last : Held CellName) → IsSpelledIn s h → Respells s k h last → last.variables ≡ h.variables

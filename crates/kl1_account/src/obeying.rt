@@ -34,6 +34,7 @@ fn stop(
     ensures back { CanGoBack shoens.old shoens.new }
     ensures outlines { OnOk result (KeepsOutlines number shoens.old.shoens shoens.new.shoens) }
     ensures count { OnOk result (length shoens.new.shoens ≡ length shoens.old.shoens) }
+    ensures work { OnOk result (shoens.new.work ≡ shoens.old.work) }
     ensures calm { OnOk result (draft.new.shifts ≡ false → IsCalm shoens.old shoens.new) }
     ensures rest { draft.new ≡ record draft.old { reports = draft.new.reports; shifts = draft.new.shifts } }
     ensures grown { Grown store.old.held store.new.held }
@@ -64,6 +65,7 @@ fn resume(
     ensures back { CanGoBack shoens.old shoens.new }
     ensures outlines { OnOk result (KeepsOutlines number shoens.old.shoens shoens.new.shoens) }
     ensures count { OnOk result (length shoens.new.shoens ≡ length shoens.old.shoens) }
+    ensures work { OnOk result (shoens.new.work ≡ shoens.old.work) }
     ensures calm { OnOk result (draft.new.shifts ≡ false → IsCalm shoens.old shoens.new) }
     ensures rest { draft.new ≡ record draft.old { reports = draft.new.reports; shifts = draft.new.shifts } }
     ensures grown { Grown store.old.held store.new.held }
@@ -97,6 +99,7 @@ fn abort(
     ensures back { CanGoBack shoens.old shoens.new }
     ensures outlines { OnOk result (KeepsOutlines number shoens.old.shoens shoens.new.shoens) }
     ensures count { OnOk result (length shoens.new.shoens ≡ length shoens.old.shoens) }
+    ensures work { OnOk result (shoens.new.work ≡ shoens.old.work) }
     ensures calm { OnOk result (draft.new.shifts ≡ false → IsCalm shoens.old shoens.new) }
     ensures rest { draft.new ≡ record draft.old { reports = draft.new.reports; shifts = draft.new.shifts; aborted = draft.new.aborted } }
     ensures grown { Grown store.old.held store.new.held }
@@ -123,6 +126,7 @@ fn allow(
     ensures back { CanGoBack shoens.old shoens.new }
     ensures outlines { OnOk result (KeepsOutlines number shoens.old.shoens shoens.new.shoens) }
     ensures count { OnOk result (length shoens.new.shoens ≡ length shoens.old.shoens) }
+    ensures work { OnOk result (shoens.new.work ≡ shoens.old.work) }
     ensures calm { OnOk result (draft.new.shifts ≡ false → IsCalm shoens.old shoens.new) }
     ensures rest { draft.new ≡ record draft.old { shifts = draft.new.shifts } }
 {
@@ -147,6 +151,7 @@ pub(crate) fn obey(
     ensures back { CanGoBack shoens.old shoens.new }
     ensures outlines { OnOk result (KeepsOutlines number shoens.old.shoens shoens.new.shoens) }
     ensures count { OnOk result (length shoens.new.shoens ≡ length shoens.old.shoens) }
+    ensures work { OnOk result (shoens.new.work ≡ shoens.old.work) }
     ensures calm { OnOk result (draft.new.shifts ≡ false → IsCalm shoens.old shoens.new) }
     ensures rest { draft.new ≡ record draft.old { reports = draft.new.reports; shifts = draft.new.shifts; aborted = draft.new.aborted } }
     ensures grown { Grown store.old.held store.new.held }
@@ -188,6 +193,7 @@ pub(crate) fn hear(
     ensures back { CanGoBack shoens.old shoens.new }
     ensures outlines { OnOk result (KeepsOutlines number shoens.old.shoens shoens.new.shoens) }
     ensures count { OnOk result (length shoens.new.shoens ≡ length shoens.old.shoens) }
+    ensures work { OnOk result (shoens.new.work ≡ shoens.old.work) }
     ensures calm { OnOk result (draft.new.shifts ≡ false → IsCalm shoens.old shoens.new) }
     ensures rest { draft.new ≡ record draft.old { reports = draft.new.reports; shifts = draft.new.shifts; aborted = draft.new.aborted; ended = draft.new.ended } }
     ensures grown { Grown store.old.held store.new.held }

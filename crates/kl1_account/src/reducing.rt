@@ -1,7 +1,7 @@
 // Reductions that are drafted.
 
-ghost use Rattle.std.specs.Prelude.{◌≡◌, ◌<◌, ℕ, List, Some, None, IfOk, IfErr};
-ghost use Rattle.kl1_model.specs.Limits.{most_entries};
+ghost use Rattle.std.specs.Prelude.{◌≡◌, ◌<◌, ◌≤◌, ℕ, List, Some, None, IfOk, IfErr};
+ghost use Rattle.kl1_model.specs.Limits.{most_entries, monitor_priority};
 ghost use Rattle.kl1_clause.specs.Predicates.{AreSome};
 ghost use Rattle.kl1_moves.specs.Kinds.{IsKind, KindIn};
 ghost use Rattle.kl1_moves.specs.Moves.{HasPredicate, MoveIn, taken_places};
@@ -51,6 +51,7 @@ fn steppable(
     ensures refused { IfErr result (RefusesAmong goals.now.goals number clause) }
     ensures found { IfOk result (IsSteppable goals.now.goals number clause) }
     ensures number { IfOk result (λ g. g.number ≡ number) }
+    ensures level { IfOk result (λ g. g.priority ≤ monitor_priority) }
 {
     if !are_numbers(number, clause) {
         return Err(Refusal::Syntax);
@@ -215,6 +216,7 @@ fn draft_move(
 ) -> Result<Option<Refusal>, AllocError>
     requires steppable { IsSteppable goals.old.goals goal.number clause goal }
     requires reduces { goal.task ≡ Reduces cell }
+    requires level { goal.priority ≤ monitor_priority }
     requires kept { (own : List ℕ) → IsKept (account_at own store.old.held goals.old.goals shoens.old modules.now.loaded names.old.names last_goal variables nodes reports entries) store.old.hooks goals.old.shoens }
     ensures ok { IfOk result (λ refused. (own : List ℕ) → ReducesAs (account_at own store.old.held goals.old.goals shoens.old modules.now.loaded names.old.names last_goal variables nodes reports entries) goal.number clause store.old store.new shoens.old shoens.new goals.new draft.new refused) }
     ensures back { CanGoBack shoens.old shoens.new }

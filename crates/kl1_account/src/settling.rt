@@ -256,6 +256,7 @@ pub(crate) fn settle(
     ensures back { CanGoBack shoens.old shoens.new }
     ensures frames { OnOk result (KeepsFrames shoens.old.shoens shoens.new.shoens) }
     ensures count { OnOk result (length shoens.new.shoens ≡ length shoens.old.shoens) }
+    ensures work { OnOk result (shoens.new.work ≡ shoens.old.work) }
     ensures more { OnOk result (length draft.old.ended.items ≤ length draft.new.ended.items) }
     ensures lives { OnOk result (draft.new.ended.items ≡ draft.old.ended.items → Stays shoens.old shoens.new) }
     ensures rest { draft.new ≡ record draft.old { reports = draft.new.reports; ended = draft.new.ended } }

@@ -1,4 +1,4 @@
-use Rattle.std.proofs.Common.{◌≡◌, ◌∷◌, List, ap, ◌∙◌, sym, subst, arith}
+use Rattle.std.proofs.Common.{◌≡◌, ◌∷◌, [], List, ap, ◌∙◌, sym, subst, arith}
 use Rattle.std.proofs.lemmas.Result.{on_ok_weaker}
 use Rattle.kl1_model.specs.Tree.{charge}
 use Rattle.kl1_model.specs.Ending.{settle_charged}
@@ -7,12 +7,8 @@ use Rattle.kl1_account.specs.Account.{meaning, goal_with, aim, texts_of}
 use Rattle.kl1_account.proofs.Effects.{drafts_charged}
 use Rattle.kl1_account.proofs.Moved.{both_drafts, same_shoens_in, same_owned}
 use Rattle.kl1_text.specs.declared.cell_name.CellName.{CellName}
-use Rattle.kl1_shoen.specs.declared.shoen.Shoen.{Shoen}
-use Rattle.kl1_shoen.specs.Shoens.{Tree}
 use Rattle.kl1_account.specs.declared.draft.Draft.{Draft}
-use Rattle.kl1_account.specs.Frames.{frame, KeepsFrames}
-use Rattle.kl1_account.proofs.Frames.{on_ok_both, keeps_then, lives_frames}
-use Rattle.kl1_account.proofs.FlagsKept.{act_flags}
+use Rattle.kl1_account.proofs.Leavings.{on_ok_six, act_leaves}
 use Rattle.kl1_account.proofs.acting.act.Goals as goal
 
 pub charge-requires-clause-within : goal.charge-requires-clause-within
@@ -46,24 +42,24 @@ returns-clause-ok c =
     (settled ms names))
     c.settle_charged.ensures.ok
 
-pub returns-clause-frames : goal.returns-clause-frames
-returns-clause-frames c =
+-- ---- what comes
+
+pub returns-clause-leaves : goal.returns-clause-leaves
+returns-clause-leaves c =
     let t = c.args.shoens.now in
     let u = c.charge.new.self in
     let v = c.do_move.new.shoens in
     let y = c.settle_charged.new.shoens in
-    let P : List (Shoen CellName) → Type 0 = λ ss. KeepsFrames ss y.shoens in
-    on_ok_weaker c.settle_charged.result
-    (λ settled. subst P (ap (λ (x : Tree CellName). x.shoens) c.in_ok-charge.ensures.ok) (keeps_then frame u.shoens v.shoens y.shoens (lives_frames u.shoens v.shoens c.in_ok-do_move.ensures.stays.shoens) settled))
-    c.settle_charged.ensures.frames
-
-pub returns-clause-flags : goal.returns-clause-flags
-returns-clause-flags c =
-    let t = c.args.shoens.now in
+    let d = c.args.draft.now in
+    let e = c.do_move.new.draft in
+    let z = c.settle_charged.new.draft in
     let high = c.requires.owned.high in
-    let moved_draft : c.do_move.new.draft.ended.items ≡ c.args.draft.now.ended.items = ap (λ (x : Draft). x.ended.items) c.in_ok-do_move.ensures.moved in
-    on_ok_both c.settle_charged.result
-    (λ lives none may all same nothing.
-    act_flags t c.charge.new.self c.do_move.new.shoens c.settle_charged.new.shoens c.args.goal.shoen c.len-numbered.ensures.numbered c.len-numbered.ensures.lower all (omega (arith, high)) may c.in_ok-charge.ensures.ok c.in_ok-do_move.ensures.stays
-    (lives (same ∙ sym moved_draft)) (none (same ∙ sym moved_draft) nothing))
-    c.settle_charged.ensures.lives c.settle_charged.ensures.none
+    let made = c.in_ok-do_move.ensures in
+    let r = c.settle_charged.result in
+    let after = c.settle_charged.ensures in
+    let early : e.ended.items ≡ [] = ap (λ (x : Draft). x.ended.items) made.moved ∙ c.requires.begun.ended in
+    on_ok_six r
+    (λ alone count work frames lives none.
+    act_leaves c.do_move.new.store.held c.settle_charged.new.store.held t u v y c.args.goals.now.goals d e z c.settle_charged.new.walk.reached.items c.args.goal.shoen c.len-numbered.ensures.numbered c.len-numbered.ensures.lower c.len-numbered.ensures.worked (omega (arith, high)) c.requires.may
+    c.in_ok-charge.ensures.ok made.stays made.comes made.met made.more made.one_opens early after.grown after.rest alone count work frames lives none)
+    after.alone after.count after.work after.frames after.lives after.none

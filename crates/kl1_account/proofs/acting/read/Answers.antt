@@ -1,8 +1,6 @@
-use Rattle.std.proofs.Common.{◌≡◌, [], ap, sym, ◌∙◌}
+use Rattle.std.proofs.Common.{◌≡◌, [], ap, ◌∙◌}
 use Rattle.kl1_account.specs.declared.draft.Draft.{Draft}
-use Rattle.kl1_account.proofs.Frames.{on_ok_both, calm_then, stays_calm, still_none}
-use Rattle.kl1_account.proofs.FlagsKept.{same_flags}
-use Rattle.kl1_account.proofs.Outlines.{frames_outlines, outlines_then, others_keep}
+use Rattle.kl1_account.proofs.Leavings.{on_ok_five, read_leaves, heard_then}
 use Rattle.std.proofs.lemmas.Result.{on_ok_weaker}
 use Rattle.kl1_model.specs.Ending.{settle}
 use Rattle.kl1_model.specs.Reduction.{heard}
@@ -20,26 +18,24 @@ returns-clause-ok c =
     (c.in_ok-hear.ensures.ok ms goals names) (settled ms names))
     c.settle.ensures.ok
 
-pub returns-clause-controls : goal.returns-clause-controls
-returns-clause-controls c =
-    let n = c.args.number in
-    let t = c.args.shoens.now in
-    let u = c.hear.new.shoens in
-    let v = c.settle.new.shoens in
-    on_ok_weaker c.settle.result
-    (λ settled. others_keep n t.shoens v.shoens c.len-numbered.ensures.numbered (outlines_then n t u v c.in_ok-hear.ensures.outlines (frames_outlines n u.shoens v.shoens settled)))
-    c.settle.ensures.frames
+-- ---- what comes
 
-pub returns-clause-flags : goal.returns-clause-flags
-returns-clause-flags c =
+pub returns-clause-leaves : goal.returns-clause-leaves
+returns-clause-leaves c =
     let t = c.args.shoens.now in
-    let u = c.hear.new.shoens in
-    let v = c.settle.new.shoens in
-    let d = c.hear.new.draft in
-    let e = c.settle.new.draft in
-    on_ok_both c.settle.result
-    (λ more lives all calm none.
-    let before : d.ended.items ≡ [] = still_none d.ended.items e.ended.items more none in
-    let unshifted = sym (ap (λ (x : Draft). x.shifts) c.settle.ensures.rest) ∙ calm in
-    same_flags t v c.len-numbered.ensures.numbered c.len-numbered.ensures.lower all (calm_then t u v (c.in_ok-hear.ensures.calm unshifted) (stays_calm u v (lives (none ∙ sym before)))))
-    c.settle.ensures.more c.settle.ensures.lives
+    let d = c.args.draft.now in
+    let e = c.hear.new.draft in
+    let z = c.settle.new.draft in
+    let before = c.in_ok-hear.ensures in
+    let r = c.settle.result in
+    let after = c.settle.ensures in
+    let empty : z.added.items ≡ [] = ap (λ (x : Draft). x.added.items) after.rest ∙ (ap (λ (x : Draft). x.added.items) before.rest ∙ c.requires.empty) in
+    let last : z.last_goal ≡ d.last_goal = ap (λ (x : Draft). x.last_goal) after.rest ∙ ap (λ (x : Draft). x.last_goal) before.rest in
+    on_ok_five r
+    (λ frames more lives count work.
+    read_leaves c.settle.new.store.held t c.hear.new.shoens c.settle.new.shoens d e z c.args.number c.len-numbered.ensures.numbered c.len-numbered.ensures.lower c.len-numbered.ensures.worked empty last (ap (λ (x : Draft). x.shifts) after.rest)
+    before.outlines before.calm before.count before.work frames more lives count work)
+    after.frames after.more after.lives after.count after.work
+
+pub returns-clause-rest : goal.returns-clause-rest
+returns-clause-rest c = on_ok_weaker c.settle.result (λ settled. heard_then c.args.draft.now c.hear.new.draft c.settle.new.draft c.in_ok-hear.ensures.rest c.settle.ensures.rest) c.settle.ensures.ok

@@ -5,6 +5,11 @@ use Rattle.kl1_account.specs.Account.{meaning, shoen_with}
 use Rattle.kl1_account.specs.Drafts.{DraftsAll}
 use Rattle.kl1_account.proofs.TreesIn.{never_absent}
 use Rattle.kl1_account.proofs.Joining.{drafts_full, child_of, drafts_child, one_order}
+use Rattle.std.proofs.Common.{◌+◌, ◌≤◌}
+use Rattle.kl1_model.specs.Limits.{monitor_priority}
+use Rattle.kl1_account.specs.declared.draft.Draft.{Draft}
+use Rattle.kl1_account.proofs.States.{found_shoen_in}
+use Rattle.kl1_account.proofs.Arriving.{clipped_low, comes_none, met_none}
 use Rattle.kl1_account.proofs.children.open_child.Goals as goal
 
 pub returns-then-not-may_open-clause-ok : goal.returns-then-not-may_open-clause-ok
@@ -36,3 +41,35 @@ returns-clause-ok c =
     (λ f. c.number_at.ensures f) (λ f. c.clipped_in.ensures ∙ ap (clipped parent.low parent.high) (c.number_at-2.ensures f)) (λ f. c.clipped_in-2.ensures ∙ ap (clipped parent.low parent.high) (c.number_at-3.ensures f))
     (λ p order. one_order h c.args.structure p o c.order_at-order.ensures.order order) (subst P number opened))
     c.open_shoen.ensures.ok
+
+-- ---- what comes
+
+pub returns-then-not-may_open-clause-comes : goal.returns-then-not-may_open-clause-comes
+returns-then-not-may_open-clause-comes c =
+    let d = c.args.draft.now in
+    let e = c.raise.new.draft in
+    let last : e.last_goal ≡ d.last_goal = ap (λ (x : Draft). x.last_goal) c.raise.ensures.rest in
+    on_ok_weaker c.raise.result (λ ok. comes_none c.raise.new.store.held (length c.args.shoens.now.shoens) (length c.raise.new.shoens.shoens) d e (ap (λ (x : Draft). x.added.items) c.raise.ensures.rest ∙ c.requires.empty) (omega (arith, last))) c.raise.ensures.ok
+
+pub returns-then-not-may_open-clause-met : goal.returns-then-not-may_open-clause-met
+returns-then-not-may_open-clause-met c = on_ok_weaker c.raise.result (λ ok. met_none c.raise.new.draft (ap (λ (x : Draft). x.added.items) c.raise.ensures.rest ∙ c.requires.empty)) c.raise.ensures.ok
+
+pub returns-then-not-may_open-clause-one_opens : goal.returns-then-not-may_open-clause-one_opens
+returns-then-not-may_open-clause-one_opens c = on_ok_weaker c.raise.result (λ same. omega (arith, same)) c.raise.ensures.count
+
+pub returns-clause-one_opens : goal.returns-clause-one_opens
+returns-clause-one_opens c = on_ok_weaker c.open_shoen.result (λ same. omega (arith, same)) c.open_shoen.ensures.one
+
+pub open_shoen-requires-clause-shoen : goal.open_shoen-requires-clause-shoen
+open_shoen-requires-clause-shoen c =
+    let parent = c.in-Some.parent in
+    let found = found_shoen_in c.args.store.now.held c.args.goal.shoen c.args.shoens.now.shoens parent c.requires.shoens (sym c.lend.ensures.value ∙ (sym c.copied.ensures ∙ c.in-Some.is)) in
+    let L : ℕ → Type 0 = λ n. n ≤ monitor_priority in
+    let inside = c.order_at-order.ensures.inside in
+    record {
+      control = inside.control_in;
+      tail = inside.reports_in;
+      origin = tt;
+      low = subst L (sym c.clipped_in.ensures) (clipped_low parent.low parent.high c.number_at-2.result found.low found.high);
+      high = subst L (sym c.clipped_in-2.ensures) (clipped_low parent.low parent.high c.number_at-3.result found.low found.high);
+    }

@@ -52,7 +52,7 @@ returns-clause-lives c =
     let P : List ℕ → Type 0 = λ ns. u ≡ record t { shoens = ended_in ns t.shoens } in
     let is = subst P (sym c.as_slice-ending.ensures.value) c.in_ok-end_lives.ensures.ok.tree_is in
     let told : c.report_each_late.new.draft.ended.items ≡ c.args.draft.now.ended.items = ap (λ (x : Draft). x.ended.items) c.in_ok-report_each_late.ensures.rest in
-    λ same. settled_stays t u z ending c.report_each_late.new.draft.ended.items c.finish_each_late.new.draft.ended.items is (stays_then u y z c.in_ok-report_each_late.ensures.stays c.in_ok-finish_each_late.ensures.stays) c.in_ok-finish_each_late.ensures.ended (same ∙ sym told)
+    λ same. settled_stays t u z ending c.report_each_late.new.draft.ended.items c.finish_each_late.new.draft.ended.items is (stays_then u y z c.in_ok-report_each_late.ensures.stays c.in_ok-finish_each_late.ensures.stays) c.in_ok-finish_each_late.ensures.ended (◌∙◌ {A = List ℕ} same (sym told))
 
 pub returns-clause-none : goal.returns-clause-none
 returns-clause-none c =
@@ -62,7 +62,7 @@ returns-clause-none c =
     let P : List ℕ → Type 0 = λ ns. u ≡ record t { shoens = ended_in ns t.shoens } in
     let is = subst P (sym c.as_slice-ending.ensures.value) c.in_ok-end_lives.ensures.ok.tree_is in
     let told : c.report_each_late.new.draft.ended.items ≡ c.args.draft.now.ended.items = ap (λ (x : Draft). x.ended.items) c.in_ok-report_each_late.ensures.rest in
-    λ same none. none_reached t u c.args.number ending c.find_reached.new.reached.items c.report_each_late.new.draft.ended.items c.finish_each_late.new.draft.ended.items is c.in_ok-find_reached.ensures c.in_ok-finish_each_late.ensures.ended (same ∙ sym told) none
+    λ same none. none_reached t u c.args.number ending c.find_reached.new.reached.items c.report_each_late.new.draft.ended.items c.finish_each_late.new.draft.ended.items is c.in_ok-find_reached.ensures c.in_ok-finish_each_late.ensures.ended (◌∙◌ {A = List ℕ} same (sym told)) none
 
 pub returns-clause-count : goal.returns-clause-count
 returns-clause-count c =

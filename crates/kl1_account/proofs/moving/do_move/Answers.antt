@@ -7,6 +7,11 @@ use Rattle.kl1_moves.specs.Moves.{taken_places}
 use Rattle.kl1_account.specs.Calling.{NamesTerm}
 use Rattle.kl1_account.specs.Moving.{Moves}
 use Rattle.kl1_account.proofs.Moved.{moves_by_commit, moves_by_exception, moves_by_unification, moves_by_name, moves_by_order, moves_by_nothing}
+use Rattle.std.proofs.Common.{◌+◌, ◌≤◌, length, arith}
+use Rattle.kl1_account.specs.declared.draft.Draft.{Draft}
+use Rattle.kl1_account.specs.Frames.{bare}
+use Rattle.kl1_account.proofs.Counts.{count_kept}
+use Rattle.kl1_account.proofs.Arriving.{comes_none, met_none}
 use Rattle.kl1_account.proofs.moving.do_move.Goals as goal
 
 pub returns-in-Commits-clause-ok : goal.returns-in-Commits-clause-ok
@@ -86,3 +91,71 @@ returns-in-Names-clause-ok c =
 
 pub returns-in-Goes-clause-stays : goal.returns-in-Goes-clause-stays
 returns-in-Goes-clause-stays c = stays_same c.args.shoens.now
+
+-- ---- what comes
+
+pub returns-in-Raises-clause-comes : goal.returns-in-Raises-clause-comes
+returns-in-Raises-clause-comes c =
+    let d = c.args.draft.now in
+    let e = c.raise.new.draft in
+    let last : e.last_goal ≡ d.last_goal = ap (λ (x : Draft). x.last_goal) c.raise.ensures.rest in
+    on_ok_weaker c.raise.result (λ ok. comes_none c.raise.new.store.held (length c.args.shoens.now.shoens) (length c.raise.new.shoens.shoens) d e (ap (λ (x : Draft). x.added.items) c.raise.ensures.rest ∙ c.requires.empty) (omega (arith, last))) c.raise.ensures.ok
+
+pub returns-in-Raises-clause-met : goal.returns-in-Raises-clause-met
+returns-in-Raises-clause-met c = on_ok_weaker c.raise.result (λ ok. met_none c.raise.new.draft (ap (λ (x : Draft). x.added.items) c.raise.ensures.rest ∙ c.requires.empty)) c.raise.ensures.ok
+
+pub returns-in-Unifies-clause-comes : goal.returns-in-Unifies-clause-comes
+returns-in-Unifies-clause-comes c =
+    let d = c.args.draft.now in
+    let e = c.unify.new.draft in
+    let last : e.last_goal ≡ d.last_goal = ap (λ (x : Draft). x.last_goal) c.unify.ensures.rest in
+    on_ok_weaker c.unify.result (λ ok. comes_none c.unify.new.store.held (length c.args.shoens.now.shoens) (length c.unify.new.shoens.shoens) d e (ap (λ (x : Draft). x.added.items) c.unify.ensures.rest ∙ c.requires.empty) (omega (arith, last))) c.unify.ensures.ok
+
+pub returns-in-Unifies-clause-met : goal.returns-in-Unifies-clause-met
+returns-in-Unifies-clause-met c = on_ok_weaker c.unify.result (λ ok. met_none c.unify.new.draft (ap (λ (x : Draft). x.added.items) c.unify.ensures.rest ∙ c.requires.empty)) c.unify.ensures.ok
+
+pub returns-in-Names-clause-comes : goal.returns-in-Names-clause-comes
+returns-in-Names-clause-comes c =
+    let d = c.args.draft.now in
+    let e = c.name_term.new.draft in
+    let last : e.last_goal ≡ d.last_goal = ap (λ (x : Draft). x.last_goal) c.name_term.ensures.rest in
+    on_ok_weaker c.name_term.result (λ ok. comes_none c.name_term.new.store.held (length c.args.shoens.now.shoens) (length c.name_term.new.shoens.shoens) d e (ap (λ (x : Draft). x.added.items) c.name_term.ensures.rest ∙ c.requires.empty) (omega (arith, last))) c.name_term.ensures.ok
+
+pub returns-in-Names-clause-met : goal.returns-in-Names-clause-met
+returns-in-Names-clause-met c = on_ok_weaker c.name_term.result (λ ok. met_none c.name_term.new.draft (ap (λ (x : Draft). x.added.items) c.name_term.ensures.rest ∙ c.requires.empty)) c.name_term.ensures.ok
+
+pub returns-in-Commits-clause-one_opens : goal.returns-in-Commits-clause-one_opens
+returns-in-Commits-clause-one_opens c = on_ok_weaker c.commit.result (λ same. omega (arith, same)) c.commit.ensures.count
+
+pub returns-in-Raises-clause-one_opens : goal.returns-in-Raises-clause-one_opens
+returns-in-Raises-clause-one_opens c = on_ok_weaker c.raise.result (λ same. omega (arith, same)) c.raise.ensures.count
+
+pub returns-in-Unifies-clause-one_opens : goal.returns-in-Unifies-clause-one_opens
+returns-in-Unifies-clause-one_opens c = on_ok_weaker c.unify.result (λ same. omega (arith, same)) c.unify.ensures.count
+
+pub returns-in-Names-clause-one_opens : goal.returns-in-Names-clause-one_opens
+returns-in-Names-clause-one_opens c = on_ok_weaker c.name_term.result (λ same. omega (arith, same)) c.name_term.ensures.count
+
+pub returns-in-Commits-clause-more : goal.returns-in-Commits-clause-more
+returns-in-Commits-clause-more c = on_ok_weaker c.commit.result (λ stays. count_kept bare c.args.shoens.now.shoens c.commit.new.shoens.shoens stays.shoens) c.commit.ensures.stays
+
+pub returns-in-Raises-clause-more : goal.returns-in-Raises-clause-more
+returns-in-Raises-clause-more c = on_ok_weaker c.raise.result (λ stays. count_kept bare c.args.shoens.now.shoens c.raise.new.shoens.shoens stays.shoens) c.raise.ensures.stays
+
+pub returns-in-Unifies-clause-more : goal.returns-in-Unifies-clause-more
+returns-in-Unifies-clause-more c = on_ok_weaker c.unify.result (λ stays. count_kept bare c.args.shoens.now.shoens c.unify.new.shoens.shoens stays.shoens) c.unify.ensures.stays
+
+pub returns-in-Names-clause-more : goal.returns-in-Names-clause-more
+returns-in-Names-clause-more c = on_ok_weaker c.name_term.result (λ stays. count_kept bare c.args.shoens.now.shoens c.name_term.new.shoens.shoens stays.shoens) c.name_term.ensures.stays
+
+pub returns-in-Opens-clause-more : goal.returns-in-Opens-clause-more
+returns-in-Opens-clause-more c = on_ok_weaker c.open_child.result (λ stays. count_kept bare c.args.shoens.now.shoens c.open_child.new.shoens.shoens stays.shoens) c.open_child.ensures.stays
+
+pub returns-in-Goes-clause-comes : goal.returns-in-Goes-clause-comes
+returns-in-Goes-clause-comes c =
+    let d = c.args.draft.now in
+    let n = length c.args.shoens.now.shoens in
+    comes_none c.args.store.now.held n n d d c.requires.empty (omega arith)
+
+pub returns-in-Goes-clause-met : goal.returns-in-Goes-clause-met
+returns-in-Goes-clause-met c = met_none c.args.draft.now c.requires.empty

@@ -8,6 +8,8 @@ use Rattle.std.specs.Prelude.{map}
 use Rattle.kl1_account.proofs.TreesIn.{tree_in}
 use Rattle.kl1_account.proofs.Effects.{aborted_in, drafts_ended_below, drafts_aborted}
 use Rattle.kl1_account.proofs.Counts.{count_aborted}
+use Rattle.kl1_shoen.specs.Shoens.{Tree}
+use Rattle.kl1_text.specs.declared.cell_name.CellName.{CellName}
 use Rattle.kl1_account.proofs.obeying.abort.Goals as goal
 
 pub report_name-requires : goal.report_name-requires
@@ -39,3 +41,6 @@ returns-clause-calm c = on_ok_weaker c.close.result (λ closing e. let z : true 
 
 pub returns-clause-count : goal.returns-clause-count
 returns-clause-count c = on_ok_weaker c.close.result (λ closing. c.in_ok-report_name.ensures.count ∙ count_aborted c.args.shoens.now c.abort.new.self c.args.number c.in_ok-abort.ensures.ok) c.close.ensures.ok
+
+pub returns-clause-work : goal.returns-clause-work
+returns-clause-work c = on_ok_weaker c.close.result (λ closing. c.in_ok-report_name.ensures.stays.work ∙ ap (λ (x : Tree CellName). x.work) c.in_ok-abort.ensures.ok) c.close.ensures.ok

@@ -6,6 +6,9 @@ use Rattle.kl1_store.proofs.Grows.{Grown-same}
 use Rattle.kl1_account.proofs.TreesIn.{changed_in}
 use Rattle.kl1_account.proofs.Effects.{allowing, drafts_allowed}
 use Rattle.kl1_account.proofs.Counts.{count_changed}
+use Rattle.kl1_shoen.specs.Shoens.{Tree}
+use Rattle.kl1_text.specs.declared.cell_name.CellName.{CellName}
+use Rattle.std.proofs.Common.{ap}
 use Rattle.kl1_account.proofs.obeying.allow.Goals as goal
 
 pub returns-clause-ok : goal.returns-clause-ok
@@ -22,3 +25,6 @@ returns-clause-calm c = on_ok_weaker c.allow.result (λ is e. absurd (cc)) c.all
 
 pub returns-clause-count : goal.returns-clause-count
 returns-clause-count c = on_ok_weaker c.allow.result (λ is. count_changed c.args.shoens.now c.allow.new.self c.args.number (allowing c.args.extra) is) c.allow.ensures.ok
+
+pub returns-clause-work : goal.returns-clause-work
+returns-clause-work c = on_ok_weaker c.allow.result (λ is. ap (λ (x : Tree CellName). x.work) is) c.allow.ensures.ok

@@ -13,6 +13,8 @@ use Rattle.kl1_account.proofs.Finishing.{drafts_unmonitored}
 use Rattle.kl1_account.proofs.Effects.{controlled, drafts_controlled, drafts_told, drafts_told_other, drafts_broken_off, drafts_unheard_yet}
 use Rattle.kl1_account.proofs.Counts.{count_changed}
 use Rattle.std.proofs.Common.{refl, ◌∙◌}
+use Rattle.kl1_shoen.specs.Shoens.{Tree}
+use Rattle.std.proofs.Common.{ap}
 use Rattle.kl1_account.proofs.obeying.hear.Goals as goal
 
 pub returns-in-Awaits-clause-ok : goal.returns-in-Awaits-clause-ok
@@ -125,3 +127,15 @@ returns-in_ok-set_control-in-TellsOther-clause-count c = on_ok_weaker c.raise_wh
 
 pub returns-in-Ends-clause-count : goal.returns-in-Ends-clause-count
 returns-in-Ends-clause-count c = on_ok_weaker c.let_go.result (λ more. refl) c.let_go.ensures.ok
+
+pub returns-in_ok-set_control-in-Tells-clause-work : goal.returns-in_ok-set_control-in-Tells-clause-work
+returns-in_ok-set_control-in-Tells-clause-work c = on_ok_weaker c.obey.result (λ same. same ∙ ap (λ (x : Tree CellName). x.work) c.in_ok-set_control-in-Tells.ensures.ok) c.obey.ensures.work
+
+pub returns-in_ok-set_control-in-TellsOther-clause-work : goal.returns-in_ok-set_control-in-TellsOther-clause-work
+returns-in_ok-set_control-in-TellsOther-clause-work c = on_ok_weaker c.raise_whole.result (λ stays. stays.work ∙ ap (λ (x : Tree CellName). x.work) c.in_ok-set_control-in-TellsOther.ensures.ok) c.raise_whole.ensures.stays
+
+pub returns-in-Ends-clause-work : goal.returns-in-Ends-clause-work
+returns-in-Ends-clause-work c = on_ok_weaker c.let_go.result (λ more. refl) c.let_go.ensures.ok
+
+pub returns-in_ok-let_go-in-BreaksOff-clause-work : goal.returns-in_ok-let_go-in-BreaksOff-clause-work
+returns-in_ok-let_go-in-BreaksOff-clause-work c = on_ok_weaker c.raise_whole-in-BreaksOff.result (λ stays. stays.work) c.raise_whole-in-BreaksOff.ensures.stays

@@ -9,6 +9,8 @@ use Rattle.kl1_store.proofs.Grows.{Grown-same}
 use Rattle.kl1_account.proofs.TreesIn.{changed_in}
 use Rattle.kl1_account.proofs.Effects.{drafts_not_resumed, goes_on_already, halted, drafts_resumed, not_so, so_after_all}
 use Rattle.kl1_account.proofs.Counts.{count_changed}
+use Rattle.kl1_shoen.specs.Shoens.{Tree}
+use Rattle.kl1_text.specs.declared.cell_name.CellName.{CellName}
 use Rattle.kl1_account.proofs.obeying.resume.Goals as goal
 
 pub returns-in_default-clause-ok : goal.returns-in_default-clause-ok
@@ -52,3 +54,6 @@ returns-clause-calm c = on_ok_weaker c.report_name.result (λ told e. let z : tr
 
 pub returns-clause-count : goal.returns-clause-count
 returns-clause-count c = on_ok_weaker c.report_name.result (λ same. same ∙ count_changed c.args.shoens.now c.set_stopped.new.self c.args.number (halted false) c.in_ok-set_stopped.ensures.ok) c.report_name.ensures.count
+
+pub returns-clause-work : goal.returns-clause-work
+returns-clause-work c = on_ok_weaker c.report_name.result (λ stays. stays.work ∙ ap (λ (x : Tree CellName). x.work) c.in_ok-set_stopped.ensures.ok) c.report_name.ensures.stays

@@ -10,6 +10,7 @@ use Rattle.kl1_account.proofs.Ends.{ends_in_store}
 use Rattle.kl1_account.proofs.Finishing.{drafts_settle}
 use Rattle.kl1_account.proofs.Counts.{count_terminated}
 use Rattle.std.proofs.Common.{◌∙◌}
+use Rattle.kl1_account.proofs.Frames.{settled_work}
 use Rattle.kl1_account.proofs.settling.settle.Goals as goal
 
 pub finish_each-requires : goal.finish_each-requires
@@ -52,3 +53,6 @@ returns-clause-count c =
     let u = c.end_lives.new.shoens in
     let ends = count_terminated t u c.end_lives.new.ending.items c.in_ok-end_lives.ensures.ok.tree_is in
     on_ok_weaker c.finish_each.result (λ same. same ∙ ends) c.finish_each.ensures.count
+
+pub returns-clause-work : goal.returns-clause-work
+returns-clause-work c = on_ok_weaker c.finish_each.result (λ stays. settled_work c.args.shoens.now c.end_lives.new.shoens c.finish_each.new.shoens c.end_lives.new.ending.items c.in_ok-end_lives.ensures.ok.tree_is stays) c.finish_each.ensures.stays
