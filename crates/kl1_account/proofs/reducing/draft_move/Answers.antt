@@ -90,3 +90,6 @@ returns-clause-ok c own =
     refl refl refl c.mark-mark.ensures.point c.mark-mark.ensures.formed c.begin.ensures
     d.does d.shoens d.leaves d.name d.spelled d.spared d.has d.grown d.hooks
     c.in_ok-finish.ensures.finishes c.in_ok-finish.ensures.held c.in_ok-finish.ensures.count
+
+pub do_or_spell-requires-clause-level : goal.do_or_spell-requires-clause-level
+do_or_spell-requires-clause-level c = c.requires.level
