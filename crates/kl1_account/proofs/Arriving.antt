@@ -1,6 +1,6 @@
 -- Goals that come in a draft, as a body's goals, or with a shoen that opens.
-use Rattle.std.proofs.Common.{◌≡◌, ℕ, suc, ◌+◌, ◌<◌, ◌≤◌, ◌==◌, ◌&&◌, ◌||◌, not, nat_le, Bool, true, false, if◌then◌else◌, List, [], ◌∷◌, ◌++◌, length, map, refl, sym, ap, ◌∙◌, arith, subst}
-use Rattle.std.specs.Prelude.{Option, Some, None, option_map, unwrap_or, min, max, filter}
+use Rattle.std.proofs.Common.{◌≡◌, ℕ, suc, ◌+◌, ◌<◌, ◌≤◌, ◌==◌, ◌&&◌, ◌||◌, not, Bool, true, false, List, [], ◌∷◌, ◌++◌, length, refl, sym, ap, ◌∙◌, arith, subst}
+use Rattle.std.specs.Prelude.{Option, Some, None, option_map, unwrap_or, filter}
 use Rattle.std.specs.List.{AllByRecursion, list_any}
 use Rattle.std.proofs.lemmas.Bool.{ne_eqb, eq-eqb}
 use Rattle.std.proofs.Math.Nat.{max-le, min-le_right}
@@ -13,12 +13,11 @@ use Rattle.kl1_store.specs.declared.qualified.Qualified.{Qualified}
 use Rattle.kl1_store.specs.Held.{Held, IsIn}
 use Rattle.kl1_store.specs.InModules.{AreQualifiedIn}
 use Rattle.kl1_store.specs.Sound.{Grown}
-use Rattle.kl1_goals.specs.declared.task.Task.TheVariants.{Monitor}
 use Rattle.kl1_goals.specs.declared.goal.Goal.{Goal}
 use Rattle.kl1_goals.specs.Lists.{is_other, is_monitor, is_monitor_of, is_goal_of, is_flagged}
 use Rattle.kl1_shoen.specs.declared.shoen.Shoen.{Shoen}
 use Rattle.kl1_account.specs.declared.draft.Draft.{Draft}
-use Rattle.kl1_account.specs.Kept.{IsShoenIn, AreGoalsIn, AreOwned, AreUpTo, IsOwned}
+use Rattle.kl1_account.specs.Kept.{AreGoalsIn, AreOwned, AreUpTo}
 use Rattle.kl1_account.specs.Drafts.{goals_left, without_monitors, goals_for, two_for, HasBegun}
 use Rattle.kl1_account.specs.Moving.{priorities_by}
 use Rattle.kl1_account.specs.Installing.{AreNext}
@@ -127,11 +126,6 @@ comes_two k n count d e shoen high x begun removed aborted ended is last lt le m
       last = omega (arith, last);
       inside = subst I (sym is) (tt, (inside, tt));
     }
-
-both_met : (b c : Bool) → b ≡ true → (c || (b || false)) ≡ true
-both_met true true e = refl
-both_met true false e = refl
-both_met false c e = absurd (cc)
 
 goal_beside : (b : Bool) → b ≡ true → ((b && false) || ((b && true) || false)) ≡ true
 goal_beside true e = refl

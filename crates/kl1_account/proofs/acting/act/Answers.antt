@@ -1,4 +1,4 @@
-use Rattle.std.proofs.Common.{◌≡◌, ◌∷◌, [], List, ap, ◌∙◌, sym, subst, arith}
+use Rattle.std.proofs.Common.{◌≡◌, ◌∷◌, [], ap, ◌∙◌, arith}
 use Rattle.std.proofs.lemmas.Result.{on_ok_weaker}
 use Rattle.kl1_model.specs.Tree.{charge}
 use Rattle.kl1_model.specs.Ending.{settle_charged}
@@ -6,7 +6,6 @@ use Rattle.kl1_model.specs.Reduction.{moved}
 use Rattle.kl1_account.specs.Account.{meaning, goal_with, aim, texts_of}
 use Rattle.kl1_account.proofs.Effects.{drafts_charged}
 use Rattle.kl1_account.proofs.Moved.{both_drafts, same_shoens_in, same_owned}
-use Rattle.kl1_text.specs.declared.cell_name.CellName.{CellName}
 use Rattle.kl1_account.specs.declared.draft.Draft.{Draft}
 use Rattle.kl1_account.proofs.Leavings.{on_ok_six, act_leaves}
 use Rattle.kl1_account.proofs.acting.act.Goals as goal

@@ -5,7 +5,7 @@ use Rattle.kl1_account.specs.Account.{meaning, shoen_with}
 use Rattle.kl1_account.specs.Drafts.{DraftsAll}
 use Rattle.kl1_account.proofs.TreesIn.{never_absent}
 use Rattle.kl1_account.proofs.Joining.{drafts_full, child_of, drafts_child, one_order}
-use Rattle.std.proofs.Common.{◌+◌, ◌≤◌}
+use Rattle.std.proofs.Common.{◌≤◌}
 use Rattle.kl1_model.specs.Limits.{monitor_priority}
 use Rattle.kl1_account.specs.declared.draft.Draft.{Draft}
 use Rattle.kl1_account.proofs.States.{found_shoen_in}

@@ -10,7 +10,7 @@ use Rattle.kl1_account.specs.Moving.{priorities_by}
 use Rattle.kl1_account.proofs.States.{shoens_grown}
 use Rattle.kl1_account.proofs.TreesIn.{never_absent}
 use Rattle.kl1_account.proofs.Commits.{drafts_exhausted, drafts_committed}
-use Rattle.std.proofs.Common.{◌≤◌, ap}
+use Rattle.std.proofs.Common.{ap}
 use Rattle.kl1_goals.specs.declared.goal.Goal.{Goal}
 use Rattle.kl1_account.specs.declared.draft.Draft.{Draft}
 use Rattle.kl1_account.proofs.States.{found_shoen_in}

@@ -7,7 +7,7 @@ use Rattle.kl1_moves.specs.Moves.{taken_places}
 use Rattle.kl1_account.specs.Calling.{NamesTerm}
 use Rattle.kl1_account.specs.Moving.{Moves}
 use Rattle.kl1_account.proofs.Moved.{moves_by_commit, moves_by_exception, moves_by_unification, moves_by_name, moves_by_order, moves_by_nothing}
-use Rattle.std.proofs.Common.{◌+◌, ◌≤◌, length, arith}
+use Rattle.std.proofs.Common.{length, arith}
 use Rattle.kl1_account.specs.declared.draft.Draft.{Draft}
 use Rattle.kl1_account.specs.Frames.{bare}
 use Rattle.kl1_account.proofs.Counts.{count_kept}

@@ -1,4 +1,4 @@
-use Rattle.std.proofs.Common.{◌+◌, ◌≤◌, length, arith}
+use Rattle.std.proofs.Common.{arith}
 use Rattle.std.proofs.Common.{◌≡◌}
 use Rattle.kl1_account.specs.Walks.{ended_in}
 use Rattle.kl1_account.proofs.Frames.{on_ok_both, settled_frames, settled_stays}

@@ -10,7 +10,7 @@ use Rattle.kl1_account.proofs.Ends.{ends_in_store}
 use Rattle.kl1_account.proofs.Finishing.{drafts_settle_charged}
 use Rattle.kl1_account.proofs.Counts.{count_terminated}
 use Rattle.kl1_account.specs.Walks.{HaveNoGoals}
-use Rattle.std.proofs.Common.{[], ap₂}
+use Rattle.std.proofs.Common.{ap₂}
 use Rattle.kl1_shoen.specs.Shoens.{path_in}
 use Rattle.kl1_account.proofs.Coming.{ending_alone}
 use Rattle.kl1_account.proofs.settling.settle_charged.Goals as goal
