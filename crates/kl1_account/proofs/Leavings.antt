@@ -67,8 +67,8 @@ read_leaves l t u v d e z n numbered lower worked empty last shifts outlines cal
       work = omega (arith, same);
       controls = others_keep n t.shoens v.shoens numbered (outlines_then n t u v outlines (frames_outlines n u.shoens v.shoens frames));
       flags = λ unshifted none nothing.
-      let before : e.ended.items ≡ [] = still_none e.ended.items z.ended.items ended none in
-      same_flags t v numbered lower worked (calm_then t u v (calm (sym shifts ∙ unshifted)) (stays_calm u v (lives (none ∙ sym before))));
+          let before : e.ended.items ≡ [] = still_none e.ended.items z.ended.items ended none in
+          same_flags t v numbered lower worked (calm_then t u v (calm (sym shifts ∙ unshifted)) (stays_calm u v (lives (none ∙ sym before))));
     }
 
 -- a draft after that

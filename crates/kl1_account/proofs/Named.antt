@@ -66,7 +66,7 @@ atom_below n f h (Structure s) t formed inside low e = elim (slice_get_cases h.s
       let shape : Shape CellName = there.0 in
       let at : slice_get h.structures s ≡ Some shape = there.2 in
       let is : slice_get h.structures s ≡ Some (record { name = shape.name; arguments = arguments_of h s }) =
-          at ∙ ap (λ (xs : List (Cell CellName)). let z : Shape CellName = record { name = shape.name; arguments = xs } in Some z) (sym (ap shape_arguments at)) in
+      at ∙ ap (λ (xs : List (Cell CellName)). let z : Shape CellName = record { name = shape.name; arguments = xs } in Some z) (sym (ap shape_arguments at)) in
       let a = sym (term_of-Structure f h s shape.name formed is) ∙ e in
       absurd (cc)
   | inr past ↦ let le = past.0 in absurd (omega arith)
