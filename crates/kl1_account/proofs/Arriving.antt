@@ -127,11 +127,6 @@ comes_two k n count d e shoen high x begun removed aborted ended is last lt le m
       inside = subst I (sym is) (tt, (inside, tt));
     }
 
-both_met : (b c : Bool) → b ≡ true → (c || (b || false)) ≡ true
-both_met true true e = refl
-both_met true false e = refl
-both_met false c e = absurd (cc)
-
 goal_beside : (b : Bool) → b ≡ true → ((b && false) || ((b && true) || false)) ≡ true
 goal_beside true e = refl
 goal_beside false e = absurd (cc)
