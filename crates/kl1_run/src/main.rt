@@ -1,6 +1,7 @@
 //! The program that tries modules from files: it loads them, runs a goal, and tells what came of it.
 #![tactic(auto)]
 
+mod alone;
 mod asked;
 mod fault;
 mod files;

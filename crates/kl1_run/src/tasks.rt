@@ -1,5 +1,6 @@
 // What is done for each task.
 
+use crate::alone::run_alone;
 use crate::asked::{Asked, Task};
 use crate::fault::{BAD, Fault};
 use crate::files::read_each;
@@ -7,7 +8,7 @@ use crate::progress::Progress;
 use crate::told::tell_ending;
 use kl1_shell::{
     Counted, ReadFault, SourceFile, Stop, Term, Work, put_checked, put_fault, put_script, read_goal,
-    run_alone, words_of,
+    words_of,
 };
 use std::alloc::{AllocError, Global};
 use std::io::Write;

@@ -86,7 +86,9 @@ fn ending_in(is_quiet: bool, raised: bool, reply: &Reply) -> Ending
 {
     match reply {
         Reply::Status {
-            condition, alive, ..
+            condition,
+            alive,
+            ..
         } => ending_by(*condition, is_quiet, raised, *alive),
         Reply::Loaded(_name) => Ending::Unfinished,
         Reply::Opened(_shoen) => Ending::Unfinished,

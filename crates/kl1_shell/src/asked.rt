@@ -14,5 +14,8 @@ pub(crate) fn ask<H: Host>(host: &mut H, query: Query) -> Result<Reply, AllocErr
     ensures same { (f : H.Reading) → H.fits host.new f → H.state f host.new ≡ H.state f host.old }
     ensures before { (f : H.Reading) → H.fits host.new f → H.fits host.old f }
 {
-    host.apply(&Event::Read(query))
+    match host.apply(&Event::Read(query)) {
+        Ok(reply) => Ok(reply),
+        Err(error) => Err(error),
+    }
 }

@@ -30,11 +30,7 @@ pub fn fault_in(alloc: Global, text: &[u8]) -> Result<Option<Refusal>, AllocErro
 }
 
 /// Puts a line for each file whose text by itself is no module after the bytes. After an `Err` some of them may be there.
-pub fn put_checked(
-    alloc: Global,
-    files: &[SourceFile],
-    out: &mut Vec<u8>,
-) -> Result<(), AllocError>
+pub fn put_checked(alloc: Global, files: &[SourceFile], out: &mut Vec<u8>) -> Result<(), AllocError>
     ensures { OnOk result (out.new.items ≡ out.old.items ++ checked files.now) }
 {
     let mut rest = files;

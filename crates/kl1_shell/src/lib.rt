@@ -28,7 +28,7 @@ pub use kl1_model::limits::{MOST_ALLOWANCE, MOST_SOURCE_BYTES, MOST_STEPS};
 pub use kl1_read::{ReadFault, read_goal};
 pub use kl1_term::Term;
 pub use script::put_script;
-pub use shell::{run, run_alone};
+pub use shell::run;
 pub use source_file::SourceFile;
 pub use stop::Stop;
 pub use watch::Watch;

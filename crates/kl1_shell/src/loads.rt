@@ -57,11 +57,13 @@ pub(crate) fn load_each<H: Host>(
     let mut rest = files;
     while let [first, others @ ..] = rest {
         match load(alloc, host, first.text.as_slice()) {
-            Ok(None) => {
+            Ok(refused) => {
+                if let Some(refusal) = refused {
+                    return Err(Stop::Source { place, refusal });
+                }
                 place += 1;
                 rest = others;
             }
-            Ok(Some(refusal)) => return Err(Stop::Source { place, refusal }),
             Err(_) => return Err(Stop::Memory),
         }
     }

@@ -59,9 +59,9 @@ pub(crate) fn run_watched<H: Host, T: Watch>(
         run_slice(host, slice)?;
         left -= slice;
         tell_progress(host, shoen, watch)?;
-        if host.pick().is_none() {
+        let Some(_next) = host.pick() else {
             return Ok(());
-        }
+        };
     }
     Ok(())
 }

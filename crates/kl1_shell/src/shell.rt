@@ -11,11 +11,8 @@ use crate::ending::Ending;
 use crate::stop::Stop;
 use crate::watch::Watch;
 use crate::works::{Work, do_work};
-use kl1_atoms::{AtomTable, SharedAtoms};
 use kl1_command::Host;
 use kl1_lines::{DeviceFailed, Sink, finish, write_all};
-use kl1_script::Served;
-use kl1_user::AccountName;
 use std::alloc::Global;
 
 /// Writes the goal, and the reports where they are wanted.
@@ -48,10 +45,12 @@ pub fn run<H: Host, T: Watch, W: Sink, E: Sink>(
     ensures does { (f : H.Reading) → H.fits host.new f → IsRun (worked_of (H.state f host.old) (texts_of work.files.items) work.goal work.allowance work.steps) with_reports (W.contents out.old) (W.contents out.new) (E.contents err.old) (E.contents err.new) result (H.state f host.new) }
     ensures before { (f : H.Reading) → H.fits host.new f → H.fits host.old f }
 {
-    let shoen = do_work(alloc, host, work, watch)?;
-    match answers_of(alloc, host, shoen) {
-        Ok(answers) => write_answers(&answers, with_reports, out, err),
-        Err(_) => Err(Stop::Memory),
+    match do_work(alloc, host, work, watch) {
+        Ok(shoen) => match answers_of(alloc, host, shoen) {
+            Ok(answers) => write_answers(&answers, with_reports, out, err),
+            Err(_) => Err(Stop::Memory),
+        },
+        Err(stop) => Err(stop),
     }
 }
 
@@ -71,27 +70,5 @@ fn write_answers<W: Sink, E: Sink>(
     match finish(err, answers.exceptions.as_slice()) {
         Ok(()) => Ok(answers.ending),
         Err(_) => Err(Stop::Write),
-    }
-}
-
-/// Does the work on an account of its own, and writes what is told of the goal's shoen.
-pub fn run_alone<T: Watch, W: Sink, E: Sink>(
-    alloc: Global,
-    work: Work,
-    with_reports: bool,
-    watch: &mut T,
-    out: &mut W,
-    err: &mut E,
-) -> Result<Ending, Stop> {
-    let name = AccountName::read(b"me").unwrap();
-    match AtomTable::new(alloc, 1) {
-        Ok((table, mut seats)) => {
-            let seat = seats.swap_remove(0);
-            match Served::fresh(alloc, name, SharedAtoms { table: &table }, seat) {
-                Ok(mut served) => run(alloc, &mut served, work, with_reports, watch, out, err),
-                Err(_) => Err(Stop::Memory),
-            }
-        }
-        Err(_) => Err(Stop::Memory),
     }
 }

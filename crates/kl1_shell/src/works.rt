@@ -46,8 +46,10 @@ pub fn do_work<H: Host, T: Watch>(
         allowance,
         steps,
     } = work;
-    load_each(alloc, host, files.as_slice())?;
-    start_and_run(host, goal, allowance, steps, watch)
+    match load_each(alloc, host, files.as_slice()) {
+        Ok(()) => start_and_run(host, goal, allowance, steps, watch),
+        Err(stop) => Err(stop),
+    }
 }
 
 /// Starts a goal with an allowance and all priorities, and does first steps until none can step or all are done.
@@ -61,9 +63,11 @@ fn start_and_run<H: Host, T: Watch>(
     ensures does { (f : H.Reading) → H.fits host.new f → IsWorked (started steps (step (H.state f host.old) (model.start allowance 0 most_priority goal))) result (H.state f host.new) }
     ensures before { (f : H.Reading) → H.fits host.new f → H.fits host.old f }
 {
-    let shoen = start(host, goal, allowance)?;
-    match run_watched(host, shoen, steps, watch) {
-        Ok(()) => Ok(shoen),
-        Err(_) => Err(Stop::Memory),
+    match start(host, goal, allowance) {
+        Ok(shoen) => match run_watched(host, shoen, steps, watch) {
+            Ok(()) => Ok(shoen),
+            Err(_) => Err(Stop::Memory),
+        },
+        Err(stop) => Err(stop),
     }
 }

@@ -1,0 +1,29 @@
+// The account on which the work is done.
+
+use kl1_atoms::{AtomTable, SharedAtoms};
+use kl1_script::Served;
+use kl1_shell::{Ending, Sink, Stop, Watch, Work, run};
+use kl1_user::AccountName;
+use std::alloc::Global;
+
+/// Does the work on an account of its own, and writes what is told of the goal's shoen.
+pub fn run_alone<T: Watch, W: Sink, E: Sink>(
+    alloc: Global,
+    work: Work,
+    with_reports: bool,
+    watch: &mut T,
+    out: &mut W,
+    err: &mut E,
+) -> Result<Ending, Stop> {
+    let name = AccountName::read(b"me").unwrap();
+    match AtomTable::new(alloc, 1) {
+        Ok((table, mut seats)) => {
+            let seat = seats.swap_remove(0);
+            match Served::fresh(alloc, name, SharedAtoms { table: &table }, seat) {
+                Ok(mut served) => run(alloc, &mut served, work, with_reports, watch, out, err),
+                Err(_) => Err(Stop::Memory),
+            }
+        }
+        Err(_) => Err(Stop::Memory),
+    }
+}

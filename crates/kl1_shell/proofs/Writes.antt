@@ -1,0 +1,67 @@
+-- What is written to two streams.
+use Rattle.std.proofs.Common.{◌≡◌, ℕ, Bool, true, false, if◌then◌else◌, List, [], ◌++◌, ap, sym, ◌∙◌, subst, refl}
+use Rattle.std.proofs.lemmas.List.{append-nil}
+use Rattle.std.specs.Prelude.{None, Some, Ok, Err}
+use Rattle.std.specs.declared.option.Option.{Option}
+use Rattle.std.specs.declared.result.Result.{Result}
+use Rattle.std.specs.Io.KnownBytes.{Appends}
+use Rattle.kl1_model.specs.State.{State}
+use Rattle.kl1_lines.specs.Devices.{AppendsFront, KeepsIfKnown}
+use Rattle.kl1_lines.proofs.DeviceLaws.{appends_none, appends_both, front_behind, front_of_all}
+use Rattle.kl1_event.specs.declared.numbers.ShoenNo.{ShoenNo}
+use Rattle.kl1_shell.specs.declared.answers.Answers.{Answers}
+use Rattle.kl1_shell.specs.declared.ending.Ending.{Ending}
+use Rattle.kl1_shell.specs.declared.stop.Stop.{Stop}
+use Rattle.kl1_shell.specs.declared.stop.Stop.TheVariants as stop
+use Rattle.kl1_shell.specs.Works.{Worked, worked, IsWorked}
+use Rattle.kl1_shell.specs.Answers.{value_line, report_lines, exception_lines, ending_of, is_some_byte, out_text, Tells, Shows, Breaks, WritesNone, IsToldTo, IsRun}
+
+-- bytes, and no more
+pub appends_alone : (a b : Option (List ℕ)) (bs : List ℕ) → Appends a b bs → Appends a b (bs ++ [])
+appends_alone a b bs h = let P : List ℕ → Type 0 = λ x. Appends a b x in subst P (sym (append-nil bs)) h
+
+-- the front of bytes is the front of these and more
+pub front_more : (a b : Option (List ℕ)) (bs more : List ℕ) → AppendsFront a b bs → AppendsFront a b (bs ++ more)
+front_more a b bs more h = front_behind a a b [] bs more (bs ++ more) (appends_none a) h refl
+
+-- bytes, and then the front of others
+pub front_after : (a b c : Option (List ℕ)) (bs cs : List ℕ) → Appends a b bs → AppendsFront b c cs → AppendsFront a c (bs ++ cs)
+front_after a b c bs cs h k = front_behind a b c bs cs [] (bs ++ cs) h k (append-nil (bs ++ cs))
+
+keeps_self : (a : Option (List ℕ)) → KeepsIfKnown a a
+keeps_self None = tt
+keeps_self (Some xs) = refl
+
+-- all bytes are a front of them
+pub front_whole : (a b : Option (List ℕ)) (bs : List ℕ) → Appends a b bs → AppendsFront a b bs
+front_whole a b bs h = front_of_all a b b bs h (keeps_self b)
+
+text_is : (b : Bool) (a : Answers) (s : State) (n : ℕ) → Tells s n a → a.value.items ++ (if b then a.reports.items else []) ≡ out_text b s n
+text_is b a s n t =
+    ap (λ x. x ++ (if b then a.reports.items else [])) t.value ∙ ap (λ x. value_line s n ++ (if b then x else [])) t.reports
+
+-- what is told of a shoen was written, or a write failed
+pub shows : (w : Worked) (b : Bool) (out out' err err' : Option (List ℕ)) (a : Answers) (s : State) (n : ℕ) (r : Result Ending Stop) → w ≡ worked n s → Tells s n a → IsToldTo a b out out' err err' r → IsRun w b out out' err err' r s
+shows w b out out' err err' a s n (Ok e) is t h =
+    let P : List ℕ → Type 0 = λ x. Appends out out' x in
+    let Q : List ℕ → Type 0 = λ x. Appends err err' x in
+    record {
+      shoen = n;
+      works = is;
+      value = subst P (text_is b a s n t) h.0;
+      exceptions = subst Q t.exceptions h.1;
+      ending = h.2 ∙ t.ending;
+    }
+shows w b out out' err err' a s n (Err (stop.Source place r)) is t h = absurd h
+shows w b out out' err err' a s n (Err (stop.Goal r)) is t h = absurd h
+shows w b out out' err err' a s n (Err stop.Memory) is t h = absurd h
+shows w b out out' err err' a s n (Err stop.Write) is t h =
+    let P : List ℕ → Type 0 = λ x. AppendsFront out out' x in
+    record { shoen = n; works = is; front = subst P (text_is b a s n t) h }
+
+-- the work stopped, and nothing was written
+pub stops : (w : Worked) (b : Bool) (out err : Option (List ℕ)) (s : State) (e : Stop) → IsWorked w (Err e) s → IsRun w b out out err err (Err e) s
+stops w b out err s (stop.Source place r) h = (h, record { first = refl; second = refl })
+stops w b out err s (stop.Goal r) h = (h, record { first = refl; second = refl })
+stops w b out err s stop.Memory h = record { first = refl; second = refl }
+stops w b out err s stop.Write h = absurd h
