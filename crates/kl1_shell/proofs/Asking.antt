@@ -1,9 +1,12 @@
 -- What is asked changes nothing.
-use Rattle.std.proofs.Common.{◌≡◌, ℕ, Bool, true, false, if◌then◌else◌, nat_le, ◌&&◌, Option, Some, None, ap, sym, ◌∙◌, refl}
+use Rattle.std.proofs.Common.{◌≡◌, ℕ, Bool, true, false, if◌then◌else◌, nat_le, ◌&&◌, List, [], ◌∷◌, ◌++◌, Option, Some, None, option_map, is_none, ap, sym, ◌∙◌, refl}
 use Rattle.kl1_model.specs.State.{Origin, Shoen, State, shoen_at}
 use Rattle.kl1_model.specs.Event.{syntax, Query, value, status, reports, modules, is_quiet, read, Reply, Stepped, refuse, is_number}
 use Rattle.kl1_model.specs.Asking.{answer, value_of, status_of, reports_of, origin_at}
+use Rattle.kl1_model.specs.Choice.{Chosen, first}
 use Rattle.kl1_model.specs.Step.{step}
+use Rattle.kl1_shell.specs.declared.ending.Ending.{Ending}
+use Rattle.kl1_shell.specs.Answers.{shown_in, value_line, ending_in, ending_of}
 
 value_stays : (s : State) (v : Bool) (o : Option Origin) → (if v then value_of s o else refuse s syntax).state ≡ s
 value_stays s true None = refl
@@ -35,3 +38,19 @@ stays s after q reply e = sym (ap (λ (d : Stepped). d.state) e) ∙ asking_stay
 -- and the answer is that of the account
 pub answered : (s after : State) (q : Query) (reply : Reply) → step s (read q) ≡ record { state = after; reply = reply } → (answer after q).reply ≡ reply
 answered s after q reply e = ap (λ (t : State). (answer t q).reply) (stays s after q reply e) ∙ ap (λ (d : Stepped). d.reply) e
+
+-- the line of the goal that is shown
+pub line_is : (s : State) (n : ℕ) (reply : Reply) (line : List ℕ) → (answer s (value n)).reply ≡ reply → line ≡ shown_in reply ++ 10 ∷ [] → line ≡ value_line s n
+unfolding value_line
+line_is s n reply line told is = is ∙ ap (λ (r : Reply). shown_in r ++ 10 ∷ []) (sym told)
+
+-- how the shoen stands whose state is told
+pub ending_is : (s : State) (n : ℕ) (raised is_quiet : Bool) (reply : Reply) (e : Ending) → (answer s (status n)).reply ≡ reply → is_quiet ≡ is_none (first s) → e ≡ ending_in is_quiet raised reply → e ≡ ending_of s n raised
+unfolding ending_of
+ending_is s n raised is_quiet reply e told still is =
+    is ∙ ap (λ q. ending_in q raised reply) still ∙ ap (λ (r : Reply). ending_in (is_none (first s)) raised r) (sym told)
+
+-- no goal can step where none is first
+pub none_chosen : {A : Type 0} (h : A → Chosen) (o : Option A) (p : Option Chosen) (b : Bool) → option_map h o ≡ p → b ≡ is_none o → b ≡ is_none p
+none_chosen h None p b e is = is ∙ ap is_none e
+none_chosen h (Some a) p b e is = is ∙ ap is_none e

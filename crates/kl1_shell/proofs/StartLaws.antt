@@ -42,13 +42,13 @@ loads_over s t after texts goal allowance steps r loads works =
     let P : Loaded → Type 0 = λ l. IsWorked (start_on goal allowance steps l) r after in
     subst P (sym loads) works
 
-fails_by : {T : Type 0} (l : Loaded) (goal : Term) (allowance steps : ℕ) (e : Stop) (after : State) → IsLoaded {T = T} l (Err e) after → IsWorked (start_on goal allowance steps l) (Err e) after
-fails_by l goal allowance steps (stop.Source place r) after h = ap (start_on goal allowance steps) h
-fails_by l goal allowance steps (stop.Goal r) after h = absurd h
-fails_by l goal allowance steps stop.Memory after h = tt
-fails_by l goal allowance steps stop.Write after h = absurd h
+fails_by : (T : Type 0) (l : Loaded) (goal : Term) (allowance steps : ℕ) (e : Stop) (after : State) → IsLoaded {T = T} l (Err e) after → IsWorked (start_on goal allowance steps l) (Err e) after
+fails_by T l goal allowance steps (stop.Source place r) after h = ap (start_on goal allowance steps) h
+fails_by T l goal allowance steps (stop.Goal r) after h = absurd h
+fails_by T l goal allowance steps stop.Memory after h = tt
+fails_by T l goal allowance steps stop.Write after h = absurd h
 
 -- a load failed
-pub loads_fail : {T : Type 0} (s after : State) (texts : List (List ℕ)) (goal : Term) (allowance steps : ℕ) (e : Stop) → IsLoaded {T = T} (loaded_from 0 s texts) (Err e) after → IsWorked (worked_of s texts goal allowance steps) (Err e) after
+pub loads_fail : (T : Type 0) (s after : State) (texts : List (List ℕ)) (goal : Term) (allowance steps : ℕ) (e : Stop) → IsLoaded {T = T} (loaded_from 0 s texts) (Err e) after → IsWorked (worked_of s texts goal allowance steps) (Err e) after
 unfolding worked_of
-loads_fail {T} s after texts goal allowance steps e h = fails_by {T = T} (loaded_from 0 s texts) goal allowance steps e after h
+loads_fail T s after texts goal allowance steps e h = fails_by T (loaded_from 0 s texts) goal allowance steps e after h
