@@ -45,9 +45,9 @@ unfolding value_line
 line_is s n reply line told is = is ∙ ap (λ (r : Reply). shown_in r ++ 10 ∷ []) (sym told)
 
 -- how the shoen stands whose state is told
-pub ending_is : (s : State) (n : ℕ) (raised is_quiet : Bool) (reply : Reply) (e : Ending) → (answer s (status n)).reply ≡ reply → is_quiet ≡ is_none (first s) → e ≡ ending_in is_quiet raised reply → e ≡ ending_of s n raised
+pub ending_is : (s : State) (n : ℕ) (raised still_now : Bool) (reply : Reply) (e : Ending) → (answer s (status n)).reply ≡ reply → still_now ≡ is_none (first s) → e ≡ ending_in still_now raised reply → e ≡ ending_of s n raised
 unfolding ending_of
-ending_is s n raised is_quiet reply e told still is =
+ending_is s n raised still_now reply e told still is =
     is ∙ ap (λ q. ending_in q raised reply) still ∙ ap (λ (r : Reply). ending_in (is_none (first s)) raised r) (sym told)
 
 -- no goal can step where none is first

@@ -1,5 +1,5 @@
 -- What is written to two streams.
-use Rattle.std.proofs.Common.{◌≡◌, ℕ, Bool, true, false, if◌then◌else◌, List, [], ◌++◌, ap, sym, ◌∙◌, subst, refl}
+use Rattle.std.proofs.Common.{◌≡◌, ℕ, Bool, true, false, if◌then◌else◌, List, [], ◌++◌, ap, sym, ◌∙◌, subst, append_assoc, refl}
 use Rattle.std.proofs.lemmas.List.{append-nil}
 use Rattle.std.specs.Prelude.{None, Some, Ok, Err}
 use Rattle.std.specs.declared.option.Option.{Option}
@@ -65,3 +65,12 @@ stops w b out err s (stop.Source place r) h = (h, record { first = refl; second 
 stops w b out err s (stop.Goal r) h = (h, record { first = refl; second = refl })
 stops w b out err s stop.Memory h = record { first = refl; second = refl }
 stops w b out err s stop.Write h = absurd h
+
+-- bytes that were put in two parts
+pub two_parts : (old a b middle new : List ℕ) → middle ≡ old ++ a → new ≡ middle ++ b → new ≡ old ++ (a ++ b)
+two_parts old a b middle new first second = second ∙ ap (λ x. x ++ b) first ∙ append_assoc old a b
+
+-- bytes that were put in four parts
+pub four_parts : (old a b c d one two three new : List ℕ) → one ≡ old ++ a → two ≡ one ++ b → three ≡ two ++ c → new ≡ three ++ d → new ≡ old ++ (a ++ b ++ c ++ d)
+four_parts old a b c d one two three new e f g h =
+    two_parts old (a ++ b ++ c) d three new (two_parts old (a ++ b) c two three (two_parts old a b one two e f) g) h

@@ -57,13 +57,13 @@ pub(crate) fn load_each<H: Host>(
     let mut rest = files;
     while let [first, others @ ..] = rest {
         match load(alloc, host, first.text.as_slice()) {
-            Ok(refused) => {
-                if let Some(refusal) = refused {
-                    return Err(Stop::Source { place, refusal });
+            Ok(refused) => match refused {
+                None => {
+                    place += 1;
+                    rest = others;
                 }
-                place += 1;
-                rest = others;
-            }
+                Some(refusal) => return Err(Stop::Source { place, refusal }),
+            },
             Err(_) => return Err(Stop::Memory),
         }
     }

@@ -59,9 +59,10 @@ pub(crate) fn run_watched<H: Host, T: Watch>(
         run_slice(host, slice)?;
         left -= slice;
         tell_progress(host, shoen, watch)?;
-        let Some(_next) = host.pick() else {
-            return Ok(());
-        };
+        match host.pick() {
+            None => return Ok(()),
+            Some(_next) => {}
+        }
     }
     Ok(())
 }

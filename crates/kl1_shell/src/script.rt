@@ -1,6 +1,7 @@
 // The script that does the same work.
 
-ghost use Rattle.std.specs.Prelude.{◌≡◌, ◌++◌, OnOk};
+ghost use Rattle.std.specs.Prelude.{◌≡◌, ◌++◌, [], codes, if◌then◌else◌, OnOk};
+ghost use Rattle.kl1_model.specs.Command.{written_line};
 ghost use Rattle.kl1_shell.specs.Scripts.{load_line, load_lines, goal_lines, run_lines, question_lines, script_of};
 ghost use Rattle.kl1_shell.specs.Works.{texts_of};
 
@@ -25,7 +26,8 @@ pub fn put_script(
     out.extend_from_slice(b"accounts me\n")?;
     put_loads(files, out)?;
     put_goal(alloc, goal, allowance, steps, out)?;
-    put_questions(with_reports, out)
+    put_questions(with_reports, out)?;
+    Ok(())
 }
 
 /// Puts a line and the bytes for each file after the bytes. After an `Err` some of them may be there.
@@ -85,6 +87,14 @@ fn put_questions(with_reports: bool, out: &mut Vec<u8>) -> Result<(), AllocError
     ensures { OnOk result (out.new.items ≡ out.old.items ++ question_lines with_reports) }
 {
     out.extend_from_slice(b"me value 1\n")?;
+    put_reports_line(with_reports, out)?;
+    Ok(())
+}
+
+/// Puts the line that asks for the first reports where they are wanted after the bytes. After an `Err` some of it may be there.
+fn put_reports_line(with_reports: bool, out: &mut Vec<u8>) -> Result<(), AllocError>
+    ensures { OnOk result (out.new.items ≡ out.old.items ++ (if with_reports then written_line (codes "me reports 1 1") else [])) }
+{
     if with_reports {
         out.extend_from_slice(b"me reports 1 1\n")
     } else {
