@@ -1,5 +1,5 @@
 -- What is asked changes nothing.
-use Rattle.std.proofs.Common.{◌≡◌, ℕ, Bool, true, false, if◌then◌else◌, nat_le, ◌&&◌, List, [], ◌∷◌, ◌++◌, Option, Some, None, option_map, is_none, ap, sym, ◌∙◌, refl}
+use Rattle.std.proofs.Common.{◌≡◌, ℕ, Bool, true, false, if◌then◌else◌, nat_le, ◌&&◌, List, [], ◌∷◌, ◌++◌, Option, Some, None, option_map, is_none, is_some, not, ap, sym, ◌∙◌, refl}
 use Rattle.kl1_model.specs.State.{Origin, Shoen, State, shoen_at}
 use Rattle.kl1_model.specs.Event.{syntax, Query, value, status, reports, modules, is_quiet, read, Reply, Stepped, refuse, is_number}
 use Rattle.kl1_model.specs.Asking.{answer, value_of, status_of, reports_of, origin_at}
@@ -50,7 +50,12 @@ unfolding ending_of
 ending_is s n raised still_now reply e told still is =
     is ∙ ap (λ q. ending_in q raised reply) still ∙ ap (λ (r : Reply). ending_in (is_none (first s)) raised r) (sym told)
 
+no_bool : (X : Type 0) → false ≡ true → X
+no_bool X e = cc
+
 -- no goal can step where none is first
-pub none_chosen : {A : Type 0} (h : A → Chosen) (o : Option A) (p : Option Chosen) (b : Bool) → option_map h o ≡ p → b ≡ is_none o → b ≡ is_none p
-none_chosen h None p b e is = is ∙ ap is_none e
-none_chosen h (Some a) p b e is = is ∙ ap is_none e
+pub none_chosen : {A : Type 0} (h : A → Chosen) (o : Option A) (p : Option Chosen) (b : Bool) → option_map h o ≡ p → is_some o ≡ not b → b ≡ is_none p
+none_chosen h None p true e is = ap is_none e
+none_chosen h None p false e is = no_bool _ is
+none_chosen h (Some a) p true e is = no_bool _ (sym is)
+none_chosen h (Some a) p false e is = ap is_none e

@@ -4,7 +4,7 @@ use Rattle.std.proofs.lemmas.Bool.{lt-leb, le-leb}
 use Rattle.kl1_model.specs.Limits.{most_source_bytes}
 use Rattle.kl1_model.specs.Module.{Module, Reading, good, bad, read_module}
 use Rattle.kl1_model.specs.State.{State}
-use Rattle.kl1_model.specs.Event.{Refusal, syntax, load, Stepped, refuse}
+use Rattle.kl1_model.specs.Event.{Refusal, syntax, load, refuse}
 use Rattle.kl1_model.specs.Step.{load_module, step}
 use Rattle.kl1_shell.specs.Faults.{fault_by, fault_in, told_of}
 

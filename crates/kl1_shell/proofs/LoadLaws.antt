@@ -51,3 +51,10 @@ next_refused place s after first (x ∷ xs) text whole r some is same h done tol
 pub all_over : (place : ℕ) (s : State) (rest : List SourceFile) (whole : Loaded) → length rest < 1 → whole ≡ loaded_from place s (texts_of rest) → whole ≡ all_loaded s
 all_over place s [] whole none h = h ∙ none_left place s
 all_over place s (x ∷ xs) whole none h = absurd (omega (arith, none))
+
+-- one file is counted
+pub counts_on : (place n : ℕ) (rest : List SourceFile) → 1 ≤ length rest → place + length rest ≡ n → place + 1 + length (take (length rest - 1) (drop 1 rest)) ≡ n
+counts_on place n [] some e = absurd (omega (arith, some))
+counts_on place n (x ∷ xs) some e =
+    let now : place + 1 + length xs ≡ n = omega (arith, e) in
+    ap (λ r. place + 1 + length r) (rest_is x xs) ∙ now

@@ -1,5 +1,5 @@
 -- Reports that are listed page by page.
-use Rattle.std.proofs.Common.{◌≡◌, ℕ, ◌+◌, ◌-◌, ◌*◌, ◌<◌, ◌≤◌, nat_le, nat_lt, ◌&&◌, Bool, true, false, if◌then◌else◌, List, [], ◌∷◌, ◌++◌, map, take, drop, Option, Some, None, ap, sym, ◌∙◌, append_assoc, refl, arith}
+use Rattle.std.proofs.Common.{◌≡◌, ℕ, ◌+◌, ◌-◌, ◌<◌, nat_le, ◌&&◌, Bool, true, false, if◌then◌else◌, List, [], ◌∷◌, ◌++◌, take, drop, Option, Some, None, ap, sym, ◌∙◌, append_assoc, refl, arith}
 use Rattle.std.specs.Prelude.{filter}
 use Rattle.std.proofs.Math.Seq.{take-add, take-nil, drop-nil}
 use Rattle.std.proofs.lemmas.Bool.{le-leb, lt-ltb}
@@ -8,7 +8,7 @@ use Rattle.std.proofs.lemmas.List.Elements.{filter-append}
 use Rattle.kl1_model.specs.Limits.{most_listed, most_reports, number_limit}
 use Rattle.kl1_model.specs.Print.{cut_print}
 use Rattle.kl1_model.specs.State.{Origin, State}
-use Rattle.kl1_model.specs.Event.{syntax, reports, Reply, refuse, is_number}
+use Rattle.kl1_model.specs.Event.{syntax, reports, refuse, is_number}
 use Rattle.kl1_model.specs.Asking.{answer, reports_of, origin_at, elements_of}
 use Rattle.kl1_model.specs.Command.{written_line, written_lines}
 use Rattle.kl1_shell.specs.Answers.{listed_in, is_exception, reports_by, reports_in, all_reports, report_lines, exception_lines}

@@ -1,6 +1,6 @@
 -- How work goes on after its loads and its start.
 use Rattle.std.proofs.Common.{◌≡◌, ℕ, List, Option, Some, None, option_map, unwrap_or, ap, sym, ◌∙◌, subst, refl}
-use Rattle.std.specs.Prelude.{Ok, Err}
+use Rattle.std.specs.Prelude.{Err}
 use Rattle.std.specs.declared.result.Result.{Result}
 use Rattle.kl1_model.specs.Limits.{most_priority}
 use Rattle.kl1_model.specs.Term.{Term}
@@ -13,10 +13,9 @@ use Rattle.kl1_event.specs.Views.{refusal_of}
 use Rattle.kl1_event.specs.declared.numbers.ShoenNo.{ShoenNo}
 use Rattle.kl1_event.specs.declared.refusal.Refusal.{Refusal}
 use Rattle.kl1_event.specs.declared.refusal.Refusal.TheVariants as refusal
-use Rattle.kl1_command.specs.Performing.{refusal_in}
 use Rattle.kl1_shell.specs.declared.stop.Stop.{Stop}
 use Rattle.kl1_shell.specs.declared.stop.Stop.TheVariants as stop
-use Rattle.kl1_shell.specs.Works.{Loaded, all_loaded, load_refused, loaded_from, Worked, worked, goal_refused, opened_in, refusal_told, run_on, started, start_on, worked_of, IsLoaded, IsStarted, IsWorked}
+use Rattle.kl1_shell.specs.Works.{Loaded, all_loaded, loaded_from, worked, goal_refused, opened_in, refusal_told, run_on, started, start_on, worked_of, IsLoaded, IsStarted, IsWorked}
 
 -- why a start was refused, where a reply may not say it
 pub refusal_or : (o : Option Refusal) → refusal_told (option_map refusal_of o) ≡ refusal_of (unwrap_or o refusal.Syntax)

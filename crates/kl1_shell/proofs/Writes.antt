@@ -1,20 +1,19 @@
 -- What is written to two streams.
 use Rattle.std.proofs.Common.{◌≡◌, ℕ, Bool, true, false, if◌then◌else◌, List, [], ◌++◌, ap, sym, ◌∙◌, subst, append_assoc, refl}
 use Rattle.std.proofs.lemmas.List.{append-nil}
-use Rattle.std.specs.Prelude.{None, Some, Ok, Err}
+use Rattle.std.specs.Prelude.{None, Some, Ok, Err, OnErr}
 use Rattle.std.specs.declared.option.Option.{Option}
 use Rattle.std.specs.declared.result.Result.{Result}
 use Rattle.std.specs.Io.KnownBytes.{Appends}
 use Rattle.kl1_model.specs.State.{State}
 use Rattle.kl1_lines.specs.Devices.{AppendsFront, KeepsIfKnown}
-use Rattle.kl1_lines.proofs.DeviceLaws.{appends_none, appends_both, front_behind, front_of_all}
-use Rattle.kl1_event.specs.declared.numbers.ShoenNo.{ShoenNo}
+use Rattle.kl1_lines.proofs.DeviceLaws.{appends_none, front_behind, front_of_all}
 use Rattle.kl1_shell.specs.declared.answers.Answers.{Answers}
 use Rattle.kl1_shell.specs.declared.ending.Ending.{Ending}
 use Rattle.kl1_shell.specs.declared.stop.Stop.{Stop}
 use Rattle.kl1_shell.specs.declared.stop.Stop.TheVariants as stop
 use Rattle.kl1_shell.specs.Works.{Worked, worked, IsWorked}
-use Rattle.kl1_shell.specs.Answers.{value_line, report_lines, exception_lines, ending_of, is_some_byte, out_text, Tells, Shows, Breaks, WritesNone, IsToldTo, IsRun}
+use Rattle.kl1_shell.specs.Answers.{value_line, out_text, Tells, IsToldTo, IsRun}
 
 -- bytes, and no more
 pub appends_alone : (a b : Option (List ℕ)) (bs : List ℕ) → Appends a b bs → Appends a b (bs ++ [])
@@ -74,3 +73,14 @@ two_parts old a b middle new first second = second ∙ ap (λ x. x ++ b) first �
 pub four_parts : (old a b c d one two three new : List ℕ) → one ≡ old ++ a → two ≡ one ++ b → three ≡ two ++ c → new ≡ three ++ d → new ≡ old ++ (a ++ b ++ c ++ d)
 four_parts old a b c d one two three new e f g h =
     two_parts old (a ++ b ++ c) d three new (two_parts old (a ++ b) c two three (two_parts old a b one two e f) g) h
+
+absurd_of : (X : Type 0) → false ≡ true → X
+absurd_of X e = cc
+
+-- a second write failed
+pub second_fails : {T E : Type 0} (r : Result T E) (a m p : Option (List ℕ)) (b : Bool) (v w x y : List ℕ) → b ≡ true → x ≡ v → y ≡ w → Appends a m x → OnErr r (AppendsFront m p y) → OnErr r (AppendsFront a p (v ++ (if b then w else [])))
+second_fails (Ok z) a m p b v w x y e is other h k = k
+second_fails (Err z) a m p true v w x y e is other h k =
+    let P : List ℕ → Type 0 = λ q. AppendsFront a p q in
+    subst P (ap (λ q. q ++ y) is ∙ ap (λ q. v ++ q) other) (front_after a m p x y h k)
+second_fails (Err z) a m p false v w x y e is other h k = absurd_of _ e

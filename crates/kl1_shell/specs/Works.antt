@@ -1,10 +1,10 @@
 -- What work comes to: sources are loaded, a goal is started, and first steps are done.
-use Rattle.std.specs.Prelude.{◌≡◌, ℕ, zero, suc, List, [], ◌∷◌, map, Option, Some, None, Ok, Err}
+use Rattle.std.specs.Prelude.{◌≡◌, ℕ, suc, List, [], ◌∷◌, map, Option, Some, None, Ok, Err}
 use Rattle.std.specs.declared.result.Result.{Result}
 use Rattle.kl1_model.specs.Limits.{most_priority}
 use Rattle.kl1_model.specs.Term.{Term}
 use Rattle.kl1_model.specs.State.{State}
-use Rattle.kl1_model.specs.Event.{Refusal, syntax, source, exists, no_shoen, shoen_ended, step_refused, too_many_names, limit_passed, journal_full, load, start, Reply, loaded, opened, sent, reduced, ran, shown, status_is, listed, quiet_is, refused, Stepped}
+use Rattle.kl1_model.specs.Event.{Refusal, syntax, load, start, Reply, loaded, opened, sent, reduced, ran, shown, status_is, listed, quiet_is, refused, Stepped}
 use Rattle.kl1_model.specs.Step.{step}
 use Rattle.kl1_model.specs.Command.{run_from}
 use Rattle.kl1_event.specs.Views.{refusal_of}

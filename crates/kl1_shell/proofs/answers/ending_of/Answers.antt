@@ -1,4 +1,3 @@
-use Rattle.std.proofs.Common.{refl}
 use Rattle.kl1_event.specs.Views.{reply_of, chosen_of}
 use Rattle.kl1_model.specs.Choice.{first}
 use Rattle.kl1_shell.proofs.Asking.{ending_is, none_chosen}

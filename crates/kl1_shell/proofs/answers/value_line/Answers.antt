@@ -1,4 +1,4 @@
-use Rattle.std.proofs.Common.{◌≡◌, ◌++◌, ◌∷◌, [], ap, ◌∙◌}
+use Rattle.std.proofs.Common.{◌≡◌, ◌++◌, ◌∷◌, []}
 use Rattle.kl1_event.specs.Views.{reply_of}
 use Rattle.kl1_shell.specs.Answers.{shown_in}
 use Rattle.kl1_shell.proofs.Asking.{line_is}

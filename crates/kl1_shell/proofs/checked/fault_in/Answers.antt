@@ -1,6 +1,5 @@
-use Rattle.std.proofs.Common.{◌≡◌, ◌≤◌, ◌<◌, length, sym, ◌∙◌, ap, arith}
-use Rattle.kl1_model.specs.Limits.{most_source_bytes}
-use Rattle.kl1_model.specs.Module.{good, bad, read_module}
+use Rattle.std.proofs.Common.{arith}
+use Rattle.kl1_model.specs.Module.{good, bad}
 use Rattle.kl1_read.specs.Sources.{module_of_parts}
 use Rattle.kl1_shell.proofs.Checks.{loads_refused, too_long, as_read}
 use Rattle.kl1_shell.proofs.checked.fault_in.Goals as goal

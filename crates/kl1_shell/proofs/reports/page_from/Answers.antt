@@ -1,4 +1,4 @@
-use Rattle.std.proofs.Common.{◌≡◌, ◌+◌, ◌∙◌, sym, ap}
+use Rattle.std.proofs.Common.{◌∙◌, sym, ap}
 use Rattle.kl1_shell.specs.Answers.{listed_in}
 use Rattle.kl1_shell.proofs.Pages.{page_is}
 use Rattle.kl1_shell.proofs.reports.page_from.Goals as goal

@@ -1,4 +1,4 @@
-use Rattle.std.proofs.Common.{◌≡◌, ◌+◌, ◌*◌, ◌++◌, take, drop, ◌∙◌, ap, sym, subst, arith}
+use Rattle.std.proofs.Common.{◌≡◌, ◌+◌, ◌*◌, take, ◌∙◌, sym, subst, arith}
 use Rattle.std.specs.Prelude.{filter}
 use Rattle.kl1_model.specs.Limits.{most_listed, most_reports}
 use Rattle.kl1_model.specs.State.{State}
