@@ -6,7 +6,8 @@ use kl1_shell::{MOST_ALLOWANCE, MOST_STEPS};
 use std::alloc::{AllocError, Global};
 
 /// How the program is called.
-const USAGE: &str = "kl1_run [--steps N] [--allowance N] [--reports] FILE... GOAL\n       kl1_run --check FILE...\n       kl1_run --script [--steps N] [--allowance N] [--reports] FILE... GOAL";
+const USAGE: &str =
+    "kl1_run [--steps N] [--allowance N] [--reports] FILE... GOAL\n       kl1_run --check FILE...\n       kl1_run --script [--steps N] [--allowance N] [--reports] FILE... GOAL";
 
 /// What is to be done with the files.
 #[derive(Clone, Copy)]
@@ -54,9 +55,18 @@ fn number<'a>(alloc: Global, name: &'a str, help: &'a str) -> Arg<'a> {
 /// The words that the program knows.
 fn command<'a>(alloc: Global) -> Result<Command<'a>, AllocError> {
     let steps = number(alloc, "steps", "Do at most N reductions");
-    let allowance = number(alloc, "allowance", "Let the goal be charged N reductions at most");
+    let allowance = number(
+        alloc,
+        "allowance",
+        "Let the goal be charged N reductions at most",
+    );
     let reports = flag(alloc, "reports", "Tell the goal's reports too");
-    let check = flag(alloc, "check", "Tell the bad item of each file, and run nothing").conflicts_with("script")?;
+    let check = flag(
+        alloc,
+        "check",
+        "Tell the bad item of each file, and run nothing",
+    )
+    .conflicts_with("script")?;
     let script = flag(alloc, "script", "Write the script that does the same work");
     let words = Arg::new(alloc, "words")
         .required(true)

@@ -64,7 +64,9 @@ impl Watch for Progress<'_> {
     fn tell(&mut self, charged: u64, alive: u64) {
         let millis = self.now.max(1);
         let rate = u128::from(charged) * 1_000 / millis;
-        let _ = eprint!(self.rt; "\r\x1b[K{charged} reductions, {alive} goals alive, {rate} reductions a second");
+        let _ = eprint!(self.rt;
+            "\r\x1b[K{charged} reductions, {alive} goals alive, {rate} reductions a second"
+        );
         self.next = self.now.saturating_add(BETWEEN_LINES);
         self.is_shown = true;
     }

@@ -7,8 +7,8 @@ use crate::files::read_each;
 use crate::progress::Progress;
 use crate::told::tell_ending;
 use kl1_shell::{
-    Counted, ReadFault, SourceFile, Stop, Term, Work, put_checked, put_fault, put_script, read_goal,
-    words_of,
+    Counted, ReadFault, SourceFile, Stop, Term, Work, put_checked, put_fault, put_script,
+    read_goal, words_of,
 };
 use std::alloc::{AllocError, Global};
 use std::io::Write;
@@ -106,12 +106,7 @@ fn run_goal(
 }
 
 /// The fault for which work was stopped, of which these are the files and the goal.
-fn fault_of(
-    alloc: Global,
-    stop: Stop,
-    names: &[&str],
-    goal: &str,
-) -> Result<Fault, AllocError> {
+fn fault_of(alloc: Global, stop: Stop, names: &[&str], goal: &str) -> Result<Fault, AllocError> {
     match stop {
         Stop::Source { place, refusal } => {
             let mut lines = Vec::new(alloc);
