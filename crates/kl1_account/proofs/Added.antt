@@ -1,90 +1,113 @@
--- Goals that are added are looked at.
-use Rattle.std.proofs.Common.{◌≡◌, ℕ, zero, suc, ◌+◌, ◌<◌, List, [], ◌∷◌, ◌++◌, length, take, get_or, refl, sym, ap, ◌∙◌, arith, subst, length-take, length-append}
-use Rattle.std.specs.Prelude.{Option}
-use Rattle.std.proofs.lemmas.List.{take_more}
+-- Goals that come are looked at, one after another.
+use Rattle.std.proofs.Common.{◌≡◌, ℕ, zero, suc, ◌<◌, List, [], ◌∷◌, length, get_or, refl, sym, ap, ◌∙◌, arith, subst, map, slice_set}
+use Rattle.std.specs.List.{AllByRecursion}
 use Rattle.kl1_text.specs.declared.cell_name.CellName.{CellName}
-use Rattle.kl1_store.specs.declared.qualified.Qualified.{Qualified}
-use Rattle.kl1_store.specs.Held.{Held, IsIn}
 use Rattle.kl1_store.specs.Hooks.{Hook, Kept, HasGrown}
-use Rattle.kl1_goals.specs.declared.task.Task.TheVariants.{Reduces}
+use Rattle.kl1_store.specs.Held.{Held}
 use Rattle.kl1_goals.specs.declared.goal.Goal.{Goal}
+use Rattle.kl1_shoen.specs.declared.shoen.Shoen.{Shoen}
 use Rattle.kl1_modules.specs.Numbered.{Numbered}
 use Rattle.kl1_moves.specs.Hanging.{AreAmong}
-use Rattle.kl1_account.specs.declared.draft.Change.{Change}
-use Rattle.kl1_account.specs.Fitting.{Reading}
-use Rattle.kl1_account.specs.Drafts.{goals_standing}
-use Rattle.kl1_account.specs.Settled.{IsSettled, AreSettled}
-use Rattle.kl1_account.specs.Looking.{StandsAt, WakesAdded}
-use Rattle.kl1_account.proofs.SettledStays.{settled_more}
-use Rattle.kl1_account.proofs.Waking.{found_out}
 use Rattle.kl1_moves.proofs.Hooked.{HasGrown-same, HasGrown-trans, grown_among}
-use Rattle.kl1_account.proofs.Restood.{each_is, each_append}
-use Rattle.kl1_store.specs.InModules.{AreQualifiedIn}
-
--- a goal for a cell, with the clause by which it can step
-abbrev goal_by : ℕ → ℕ → ℕ → Qualified CellName → Option ℕ → Goal CellName
-goal_by n shoen priority x standing = record { number = n; task = Reduces x; shoen = shoen; priority = priority; standing = standing }
-
--- one goal more
-standing_push : (last shoen priority : ℕ) (xs : List (Qualified CellName)) (ss : List (Option ℕ)) (x : Qualified CellName) (s : Option ℕ) (n : ℕ) → length ss ≡ length xs → n ≡ suc (last + length xs) →
-    goals_standing last shoen priority (xs ++ x ∷ []) (ss ++ s ∷ []) ≡ goals_standing last shoen priority xs ss ++ goal_by n shoen priority x s ∷ []
-standing_push last shoen priority [] [] x s n c e = let k : suc last ≡ n = omega arith in ap (λ m. goal_by m shoen priority x s ∷ []) k
-standing_push last shoen priority [] (r ∷ ss) x s n c e = absurd (omega arith)
-standing_push last shoen priority (y ∷ xs) [] x s n c e = absurd (omega arith)
-standing_push last shoen priority (y ∷ xs) (r ∷ ss) x s n c e =
-    ap (λ (gs : List (Goal CellName)). goal_by (suc last) shoen priority y r ∷ gs) (standing_push (suc last) shoen priority xs ss x s n (omega arith) (omega arith))
+use Rattle.kl1_account.specs.Fitting.{Reading}
+use Rattle.kl1_account.specs.Kept.{IsTaskIn, AreGoalsIn}
+use Rattle.kl1_account.specs.Works.{Knows}
+use Rattle.kl1_account.specs.Settled.{IsSettled, AreSettled, IsEnabled}
+use Rattle.kl1_account.specs.Looking.{unlooked, LooksAtOne, LooksAtAdded}
+use Rattle.kl1_account.proofs.SettledStays.{settled_more}
+use Rattle.kl1_account.proofs.Restood.{each_is}
 
 -- goals that are settled are so where more hangs
-pub all_more : (f : Reading) (hooks more : List Hook) (h : Held CellName) (ms : List Numbered) (gs : List (Goal CellName)) → AreAmong hooks more → AreSettled f hooks h ms gs → AreSettled f more h ms gs
-all_more f hooks more h ms gs up all = each_is (IsSettled f hooks h ms) (IsSettled f more h ms) gs (λ g s. settled_more f hooks more h ms g up s) all
+pub all_more : (f : Reading) (hooks more : List Hook) (h : Held CellName) (ms : List Numbered) (shoens : List (Shoen CellName)) (gs : List (Goal CellName)) → AreAmong hooks more → AreSettled f hooks h ms shoens gs → AreSettled f more h ms shoens gs
+all_more f hooks more h ms shoens gs up all = each_is (IsSettled f hooks h ms shoens) (IsSettled f more h ms shoens) gs (λ g s. settled_more f hooks more h ms shoens g up s) all
 
--- ---- one cell after another
+-- ---- the first of goals
 
--- a store that holds what it held, and goals for the cells so far, with these clauses, that are settled
-pub record StillAdds (ms : List Numbered) (old new : Kept CellName) (last : ℕ) (xs : List (Qualified CellName)) (ss : List (Option ℕ)) : Type 0 where
+-- a fact of the first of goals, so many of them
+abbrev pub FirstAre : (Goal CellName → Type 0) → ℕ → List (Goal CellName) → Type 0
+FirstAre P zero gs = Unit {0}
+FirstAre P (suc k) [] = Unit {0}
+FirstAre P (suc k) (g ∷ gs) = P g × FirstAre P k gs
+
+first_are : (P Q : Goal CellName → Type 0) (k : ℕ) (gs : List (Goal CellName)) → ((g : Goal CellName) → P g → Q g) → FirstAre P k gs → FirstAre Q k gs
+first_are P Q zero gs f a = tt
+first_are P Q (suc k) [] f a = tt
+first_are P Q (suc k) (g ∷ gs) f a = (f g a.0, first_are P Q k gs f a.1)
+
+first_more : (P : Goal CellName → Type 0) (k : ℕ) (gs : List (Goal CellName)) (x : Goal CellName) → FirstAre P k gs → P x → FirstAre P (suc k) (slice_set gs k x)
+first_more P k [] x a p = tt
+first_more P zero (g ∷ gs) x a p = (p, tt)
+first_more P (suc k) (g ∷ gs) x a p = (a.0, first_more P k gs x a.1 p)
+
+first_all : (P : Goal CellName → Type 0) (gs : List (Goal CellName)) → FirstAre P (length gs) gs → AllByRecursion P gs
+first_all P [] a = tt
+first_all P (g ∷ gs) a = (a.0, first_all P gs a.1)
+
+set_unlooked : (k : ℕ) (gs : List (Goal CellName)) (d x : Goal CellName) → unlooked x ≡ unlooked (get_or gs k d) → map unlooked (slice_set gs k x) ≡ map unlooked gs
+set_unlooked k [] d x e = refl
+set_unlooked zero (g ∷ gs) d x e = ap (λ (y : Goal CellName). y ∷ map unlooked gs) e
+set_unlooked (suc k) (g ∷ gs) d x e = ap (λ (ys : List (Goal CellName)). unlooked g ∷ ys) (set_unlooked k gs d x e)
+
+set_in : (h : Held CellName) (k : ℕ) (gs : List (Goal CellName)) (x : Goal CellName) → AreGoalsIn h gs → IsTaskIn h x.task → AreGoalsIn h (slice_set gs k x)
+set_in h k [] x all i = tt
+set_in h zero (g ∷ gs) x all i = (i, all.1)
+set_in h (suc k) (g ∷ gs) x all i = (all.0, set_in h k gs x all.1 i)
+
+pub nth_in : (h : Held CellName) (gs : List (Goal CellName)) (k : ℕ) (d : Goal CellName) → AreGoalsIn h gs → k < length gs → IsTaskIn h (get_or gs k d).task
+nth_in h [] k d all lt = absurd (omega arith)
+nth_in h (g ∷ gs) zero d all lt = all.0
+nth_in h (g ∷ gs) (suc k) d all lt = nth_in h gs k d all.1 (omega arith)
+
+-- ---- one goal after another
+
+-- a store that holds what it held, and goals of which so many were looked at
+pub record StillLooks (ms : List Numbered) (shoens : List (Shoen CellName)) (work : List ℕ) (old new : Kept CellName) (k : ℕ) (before now : List (Goal CellName)) : Type 0 where
   pub held : new.held ≡ old.held
   pub grown : HasGrown old new
-  pub count : length ss ≡ length xs
-  pub wakes : WakesAdded ms old.held new.hooks last xs ss
+  pub count : length now ≡ length before
+  pub same : map unlooked now ≡ map unlooked before
+  pub inside : AreGoalsIn old.held now
+  pub settled : (f : Reading) → Knows ms f → FirstAre (IsSettled f new.hooks old.held ms shoens) k now
+  pub enabled : FirstAre (IsEnabled shoens work) k now
 
 -- nothing was looked at yet
-pub none_added : (ms : List Numbered) (k : Kept CellName) (last : ℕ) (ss : List (Option ℕ)) → ss ≡ [] → StillAdds ms k k last [] ss
-none_added ms k last ss e = record { held = refl; grown = HasGrown-same k; count = ap length e; wakes = λ f knows shoen priority. tt }
+pub none_looked : (ms : List Numbered) (shoens : List (Shoen CellName)) (work : List ℕ) (k : Kept CellName) (gs : List (Goal CellName)) → AreGoalsIn k.held gs → StillLooks ms shoens work k k 0 gs gs
+none_looked ms shoens work k gs i = record { held = refl; grown = HasGrown-same k; count = refl; same = refl; inside = i; settled = λ f knows. tt; enabled = tt }
 
-wakes_next : (ms : List Numbered) (h : Held CellName) (mid more : List Hook) (last n : ℕ) (xs : List (Qualified CellName)) (ss : List (Option ℕ)) (x : Qualified CellName) (s : Option ℕ) → length ss ≡ length xs → n ≡ suc (last + length xs) → AreAmong mid more →
-    WakesAdded ms h mid last xs ss → StandsAt ms h more x (record { number = n; standing = s }) → WakesAdded ms h more last (xs ++ x ∷ []) (ss ++ s ∷ [])
-wakes_next ms h mid more last n xs ss x s count e up wakes stands f knows shoen priority =
-    let c : Change = record { number = n; standing = s } in
-    let goal : Goal CellName = goal_by n shoen priority x s in
-    let S : List (Goal CellName) → Type 0 = λ gs. AreSettled f more h ms gs in
-    let before : AreSettled f more h ms (goals_standing last shoen priority xs ss) = all_more f mid more h ms (goals_standing last shoen priority xs ss) up (wakes f knows shoen priority) in
-    subst S (sym (standing_push last shoen priority xs ss x s n count e))
-    (each_append (IsSettled f more h ms) (goals_standing last shoen priority xs ss) (goal ∷ []) before (found_out f more h ms x c goal refl refl (stands.found f knows), tt))
+set_length : (k : ℕ) (gs : List (Goal CellName)) (x : Goal CellName) → length (slice_set gs k x) ≡ length gs
+set_length k [] x = refl
+set_length zero (g ∷ gs) x = refl
+set_length (suc k) (g ∷ gs) x = ap suc (set_length k gs x)
 
 -- one more was looked at
-pub next_added : (ms : List Numbered) (old mid new : Kept CellName) (last n : ℕ) (cells : List (Qualified CellName)) (i : ℕ) (d : Qualified CellName) (ss all : List (Option ℕ)) (s : Option ℕ) → i < length cells → n ≡ last + i →
-    StillAdds ms old mid last (take i cells) ss → new.held ≡ mid.held → HasGrown mid new → StandsAt ms mid.held new.hooks (get_or cells i d) (record { number = n + 1; standing = s }) → all ≡ ss ++ s ∷ [] →
-    StillAdds ms old new last (take (i + 1) cells) all
-next_added ms old mid new last n cells i d ss all s lt e a same grown stands more =
-    let x = get_or cells i d in
-    let F : Held CellName → Type 0 = λ h. StandsAt ms h new.hooks x (record { number = n + 1; standing = s }) in
-    let T : List (Qualified CellName) → Type 0 = λ xs. StillAdds ms old new last xs all in
-    let P : List (Option ℕ) → Type 0 = λ us. StillAdds ms old new last (take i cells ++ x ∷ []) us in
-    let count : n + 1 ≡ suc (last + length (take i cells)) = omega (arith, length-take i cells) in
-    subst T (sym (take_more cells i d lt))
-    (subst P (sym more)
-    (record {
-      held = same ∙ a.held;
-      grown = HasGrown-trans old mid new a.grown grown;
-      count = both_longer (take i cells) ss x s a.count;
-      wakes = wakes_next ms old.held mid.hooks new.hooks last (n + 1) (take i cells) ss x s a.count count (grown_among mid new grown) a.wakes (subst F a.held stands);
-    }))
-  where
-    both_longer : (xs : List (Qualified CellName)) (us : List (Option ℕ)) (y : Qualified CellName) (u : Option ℕ) → length us ≡ length xs → length (us ++ u ∷ []) ≡ length (xs ++ y ∷ [])
-    both_longer xs us y u k = grind (arith, length-append)
+pub next_looked : (ms : List Numbered) (shoens : List (Shoen CellName)) (work : List ℕ) (old mid new : Kept CellName) (k : ℕ) (before now : List (Goal CellName)) (d x : Goal CellName) → k < length now → StillLooks ms shoens work old mid k before now →
+    new.held ≡ mid.held → HasGrown mid new → LooksAtOne ms shoens work mid.held new.hooks (get_or now k d) x → StillLooks ms shoens work old new (suc k) before (slice_set now k x)
+next_looked ms shoens work old mid new k before now d x lt s same grown l =
+    let F : Held CellName → Type 0 = λ h. LooksAtOne ms shoens work h new.hooks (get_or now k d) x in
+    let one : F old.held = subst F s.held l in
+    let t : (get_or now k d).task ≡ x.task = ap (λ (g : Goal CellName). g.task) (sym one.same) in
+    let up : AreAmong mid.hooks new.hooks = grown_among mid new grown in
+    record {
+      held = same ∙ s.held;
+      grown = HasGrown-trans old mid new s.grown grown;
+      count = set_length k now x ∙ s.count;
+      same = set_unlooked k now d x one.same ∙ s.same;
+      inside = set_in old.held k now x s.inside (subst (IsTaskIn old.held) t (nth_in old.held now k d s.inside lt));
+      settled = λ f knows.
+          first_more (IsSettled f new.hooks old.held ms shoens) k now x
+          (first_are (IsSettled f mid.hooks old.held ms shoens) (IsSettled f new.hooks old.held ms shoens) k now (λ g r. settled_more f mid.hooks new.hooks old.held ms shoens g up r) (s.settled f knows))
+          (one.settled f knows);
+      enabled = first_more (IsEnabled shoens work) k now x s.enabled one.enabled;
+    }
 
--- a cell of these is of the store
-pub nth_in : (h : Held CellName) (xs : List (Qualified CellName)) (i : ℕ) (d : Qualified CellName) → AreQualifiedIn h xs → i < length xs → IsIn h (get_or xs i d).cell
-nth_in h [] i d all lt = absurd (omega arith)
-nth_in h (x ∷ xs) zero d all lt = all.0
-nth_in h (x ∷ xs) (suc i) d all lt = nth_in h xs i d all.1 (omega arith)
+-- and all were looked at in the end
+pub all_looked : (ms : List Numbered) (shoens : List (Shoen CellName)) (work : List ℕ) (old new : Kept CellName) (k : ℕ) (before now : List (Goal CellName)) → k ≡ length now → StillLooks ms shoens work old new k before now →
+    LooksAtAdded ms shoens work old.held new.hooks before now
+all_looked ms shoens work old new k before now e s =
+    let N : ℕ → Type 0 = λ n. StillLooks ms shoens work old new n before now in
+    let r : N (length now) = subst N e s in
+    record {
+      same = r.same;
+      settled = λ f knows. first_all (IsSettled f new.hooks old.held ms shoens) now (r.settled f knows);
+      enabled = first_all (IsEnabled shoens work) now r.enabled;
+    }

@@ -1,5 +1,5 @@
 -- What is to be reduced, as an account and as its store tell it.
-use Rattle.std.proofs.Common.{◌≡◌, ℕ, List, refl, sym, ap, ◌∙◌, subst}
+use Rattle.std.proofs.Common.{◌≡◌, refl, sym, ap, ◌∙◌, subst}
 use Rattle.std.specs.Prelude.{codes, Option, Some, None}
 use Rattle.kl1_model.specs.Term.{Term, structure, none, more, replaced}
 use Rattle.kl1_text.specs.declared.cell_name.CellName.{CellName}

@@ -4,21 +4,30 @@ use Rattle.std.specs.Prelude.{Option, Some, None, option_map, option_and_then, i
 use Rattle.std.specs.List.{list_any}
 use Rattle.std.proofs.lemmas.Bool.{cases_Bool, ltb-true, lt-ltb, eqb-true, eq-eqb, or_cases, and_parts, cases_lt, cases_eq, false≢true}
 use Rattle.kl1_model.specs.State as model
-use Rattle.kl1_model.specs.State.{State}
-use Rattle.kl1_model.specs.Choice.{clause_for, can_step, quiet, goes_before, first_of_goals, Chosen, chosen, first}
-use Rattle.kl1_model.specs.Module.{Module}
+use Rattle.kl1_model.specs.State.{State, shoen_at}
+use Rattle.kl1_model.specs.Term.{Term}
+use Rattle.kl1_model.specs.Match.{call_of}
+use Rattle.kl1_model.specs.Control.{Control, awaits_message, tells, tells_other, ends, breaks_off, control_of}
+use Rattle.kl1_model.specs.Tree.{is_enabled, is_enabled_in}
+use Rattle.kl1_model.specs.Reduction.{Move, moves, term_move, read_action, monitor_action, task_action, action_of}
+use Rattle.kl1_model.specs.Waits.{move_by}
+use Rattle.kl1_model.specs.Choice.{call_clauses, task_clauses, clause_for, can_step, quiet, goes_before, first_of_goals, Chosen, chosen, first}
 use Rattle.kl1_store.specs.Held.{Held}
 use Rattle.kl1_store.specs.Hooks.{Hook}
 use Rattle.kl1_text.specs.declared.cell_name.CellName.{CellName}
 use Rattle.kl1_goals.specs.declared.task.Task.{Task}
 use Rattle.kl1_goals.specs.declared.task.Task.TheVariants.{Monitor, Reduces}
 use Rattle.kl1_goals.specs.declared.goal.Goal.{Goal}
-use Rattle.kl1_goals.specs.Readies.{Ready, goes_first, stands, ready_by, better, first_from, chosen as chosen_pair}
+use Rattle.kl1_goals.specs.Lists.{is_monitor_task, is_monitor}
+use Rattle.kl1_shoen.specs.declared.shoen.Shoen.{Shoen}
+use Rattle.kl1_shoen.specs.Shoens.{shoen_in}
+use Rattle.kl1_shoen.proofs.Meaning.{Has, enabled_is}
+use Rattle.kl1_goals.specs.Readies.{Ready, goes_first, stands, ready_by, ready_of, better, first_from, chosen as chosen_pair}
 use Rattle.kl1_modules.specs.Numbered.{Numbered}
 use Rattle.kl1_modules.specs.Finding.{contents}
 use Rattle.kl1_account.specs.Fitting.{Reading, Fits}
-use Rattle.kl1_account.specs.Account.{Account, Means, meaning, goal_with, task_with, state_of}
-use Rattle.kl1_account.specs.Settled.{task_clause, AreSettled}
+use Rattle.kl1_account.specs.Account.{Account, Means, meaning, aim_with, goal_with, task_with, shoen_with, state_of}
+use Rattle.kl1_account.specs.Settled.{front_with, control_with, control_clause, monitor_clause, task_clause, IsSettled, AreSettled, IsEnabled, AreEnabled}
 
 -- ---- one goal before another
 
@@ -178,27 +187,32 @@ first_is_least b (g ∷ gs) = by_case (cases_Bool (goes_before g b)) (first_is_l
 
 -- ---- the goals that stand
 
--- a goal stands as the clauses have it, where cells mean this
-abbrev pub IsStanding : Means → List Module → Goal CellName → Type 0
-IsStanding t modules g = g.standing ≡ task_clause modules (task_with t g.task)
+-- the clause by which a goal can step now, where it may
+abbrev pub standing_now : Goal CellName → Option ℕ
+standing_now g = if g.is_enabled then g.standing else None
+
+-- a goal stands as the definitions have it, where cells mean this
+abbrev pub IsStanding : State → Means → Goal CellName → Type 0
+IsStanding s t g = clause_for s (goal_with t g) ≡ standing_now g
 
 -- each goal does
-abbrev pub AreStanding : Means → List Module → List (Goal CellName) → Type 0
-AreStanding t modules [] = Unit {0}
-AreStanding t modules (g ∷ gs) = IsStanding t modules g × AreStanding t modules gs
+abbrev pub AreStanding : State → Means → List (Goal CellName) → Type 0
+AreStanding s t [] = Unit {0}
+AreStanding s t (g ∷ gs) = IsStanding s t g × AreStanding s t gs
 
--- goals that are settled stand
-pub all_stand : (f : Reading) (hooks : List Hook) (h : Held CellName) (modules : List Numbered) (gs : List (Goal CellName)) → AreSettled f hooks h modules gs → AreStanding (meaning f h) (contents modules) gs
-all_stand f hooks h modules [] all = tt
-all_stand f hooks h modules (g ∷ gs) all = (all.0.standing, all_stand f hooks h modules gs all.1)
-
--- a goal that stands is one that can step, by that clause
-stands_by : (s : State) (h : Means) (g : Goal CellName) → IsStanding h s.modules g → clause_for s (goal_with h g) ≡ g.standing
-stands_by s h g e = by_task g.task g.standing e
+ready_is : (g : Goal CellName) → ready_of g ≡ option_map (ready_by g) (standing_now g)
+ready_is g = by_case g.is_enabled
   where
-    by_task : (t : Task CellName) (o : Option ℕ) → o ≡ task_clause s.modules (task_with h t) → clause_for s (record { number = g.number; task = task_with h t; shoen = g.shoen; priority = g.priority }) ≡ o
-    by_task Monitor o e = sym e
-    by_task (Reduces x) o e = sym e
+    by_case : (b : Bool) → (if b then option_map (ready_by g) g.standing else None) ≡ option_map (ready_by g) (if b then g.standing else None)
+    by_case true = refl
+    by_case false = refl
+
+stands_is : (g : Goal CellName) → is_some (standing_now g) ≡ stands g
+stands_is g = by_case g.is_enabled
+  where
+    by_case : (b : Bool) → is_some (if b then g.standing else None) ≡ (b && is_some g.standing)
+    by_case true = refl
+    by_case false = refl
 
 -- the first of goals that can step, as it is found
 abbrev least_from : Option model.Goal → List model.Goal → Option model.Goal
@@ -237,7 +251,7 @@ follow_end s h None (Some x) l = absurd l
 follow_end s h (Some r) None l = absurd l
 follow_end s h (Some r) (Some x) l = linked_end s r x l
 
-follow_step : (s : State) (h : Means) (g : Goal CellName) (gs : List (Goal CellName)) (o : Option Ready) (m : Option model.Goal) (c : Option ℕ) → clause_for s (goal_with h g) ≡ c → g.standing ≡ c → Linked s o m →
+follow_step : (s : State) (h : Means) (g : Goal CellName) (gs : List (Goal CellName)) (o : Option Ready) (m : Option model.Goal) (c : Option ℕ) → clause_for s (goal_with h g) ≡ c → ready_of g ≡ option_map (ready_by g) c → Linked s o m →
     ((o : Option Ready) (m : Option model.Goal) → Linked s o m → Follows s h gs o m) → Follows s h (g ∷ gs) o m
 unfolding Follows
 follow_step s h g gs o m None e f l next = same o m l
@@ -245,11 +259,11 @@ follow_step s h g gs o m None e f l next = same o m l
     rest : List model.Goal
     rest = filter (can_step s) (map (goal_with h) gs)
 
-    same : (o : Option Ready) (m : Option model.Goal) → Linked s o m → option_and_then (chosen s) (least_from m (if is_some (clause_for s (goal_with h g)) then goal_with h g ∷ rest else rest)) ≡ option_map shown (first_from (better o (option_map (ready_by g) g.standing)) gs)
-    same None None l = ap (λ z. option_and_then (chosen s) (least_from None (if is_some z then goal_with h g ∷ rest else rest))) e ∙ next None None l ∙ ap (λ z. option_map shown (first_from (better None (option_map (ready_by g) z)) gs)) (sym f)
+    same : (o : Option Ready) (m : Option model.Goal) → Linked s o m → option_and_then (chosen s) (least_from m (if is_some (clause_for s (goal_with h g)) then goal_with h g ∷ rest else rest)) ≡ option_map shown (first_from (better o (ready_of g)) gs)
+    same None None l = ap (λ z. option_and_then (chosen s) (least_from None (if is_some z then goal_with h g ∷ rest else rest))) e ∙ next None None l ∙ ap (λ z. option_map shown (first_from (better None z) gs)) (sym f)
     same None (Some x) l = absurd l
     same (Some r) None l = absurd l
-    same (Some r) (Some x) l = ap (λ z. option_and_then (chosen s) (least_from (Some x) (if is_some z then goal_with h g ∷ rest else rest))) e ∙ next (Some r) (Some x) l ∙ ap (λ z. option_map shown (first_from (better (Some r) (option_map (ready_by g) z)) gs)) (sym f)
+    same (Some r) (Some x) l = ap (λ z. option_and_then (chosen s) (least_from (Some x) (if is_some z then goal_with h g ∷ rest else rest))) e ∙ next (Some r) (Some x) l ∙ ap (λ z. option_map shown (first_from (better (Some r) z) gs)) (sym f)
 follow_step s h g gs o m (Some c) e f l next = more o m l
   where
     here : model.Goal
@@ -268,39 +282,114 @@ follow_step s h g gs o m (Some c) e f l next = more o m l
     chosen_one r x l true = next (Some now) (Some here) linked
     chosen_one r x l false = next (Some r) (Some x) l
 
-    more : (o : Option Ready) (m : Option model.Goal) → Linked s o m → option_and_then (chosen s) (least_from m (if is_some (clause_for s here) then here ∷ rest else rest)) ≡ option_map shown (first_from (better o (option_map (ready_by g) g.standing)) gs)
-    more None None l = ap (λ z. option_and_then (chosen s) (least_from None (if is_some z then here ∷ rest else rest))) e ∙ next (Some now) (Some here) linked ∙ ap (λ z. option_map shown (first_from (better None (option_map (ready_by g) z)) gs)) (sym f)
+    more : (o : Option Ready) (m : Option model.Goal) → Linked s o m → option_and_then (chosen s) (least_from m (if is_some (clause_for s here) then here ∷ rest else rest)) ≡ option_map shown (first_from (better o (ready_of g)) gs)
+    more None None l = ap (λ z. option_and_then (chosen s) (least_from None (if is_some z then here ∷ rest else rest))) e ∙ next (Some now) (Some here) linked ∙ ap (λ z. option_map shown (first_from (better None z) gs)) (sym f)
     more None (Some x) l = absurd l
     more (Some r) None l = absurd l
     more (Some r) (Some x) l =
         ap (λ z. option_and_then (chosen s) (least_from (Some x) (if is_some z then here ∷ rest else rest))) e
         ∙ ap (λ b. option_and_then (chosen s) (Some (least (if b then here else x) rest))) (linked_first s now r here x linked l)
         ∙ chosen_one r x l (goes_first now r)
-        ∙ ap (λ z. option_map shown (first_from (better (Some r) (option_map (ready_by g) z)) gs)) (sym f)
+        ∙ ap (λ z. option_map shown (first_from (better (Some r) z) gs)) (sym f)
 
-follow : (s : State) (h : Means) (gs : List (Goal CellName)) → AreStanding h s.modules gs → (o : Option Ready) (m : Option model.Goal) → Linked s o m → Follows s h gs o m
+follow : (s : State) (h : Means) (gs : List (Goal CellName)) → AreStanding s h gs → (o : Option Ready) (m : Option model.Goal) → Linked s o m → Follows s h gs o m
 follow s h [] e o m l = follow_end s h o m l
-follow s h (g ∷ gs) e o m l = follow_step s h g gs o m g.standing (stands_by s h g e.0) refl l (follow s h gs e.1)
+follow s h (g ∷ gs) e o m l = follow_step s h g gs o m (standing_now g) e.0 (ready_is g) l (follow s h gs e.1)
 
 first_of : (gs : List model.Goal) → first_of_goals gs ≡ least_from None gs
 first_of [] = refl
 first_of (g ∷ gs) = first_is_least g gs
 
 -- the first that is found is the definition's
-pub first_is : (s : State) (h : Means) (gs : List (Goal CellName)) → s.goals ≡ map (goal_with h) gs → AreStanding h s.modules gs → option_map shown (first_from None gs) ≡ first s
+pub first_is : (s : State) (h : Means) (gs : List (Goal CellName)) → s.goals ≡ map (goal_with h) gs → AreStanding s h gs → option_map shown (first_from None gs) ≡ first s
 unfolding Follows
 first_is s h gs e k =
     sym (follow s h gs k None None tt)
     ∙ ap (λ xs. option_and_then (chosen s) (least_from None (filter (can_step s) xs))) (sym e)
     ∙ ap (λ o. option_and_then (chosen s) o) (sym (first_of (filter (can_step s) s.goals)))
 
-any_stands : (s : State) (h : Means) (gs : List (Goal CellName)) → AreStanding h s.modules gs → list_any (can_step s) (map (goal_with h) gs) ≡ list_any stands gs
+any_stands : (s : State) (h : Means) (gs : List (Goal CellName)) → AreStanding s h gs → list_any (can_step s) (map (goal_with h) gs) ≡ list_any stands gs
 any_stands s h [] e = refl
-any_stands s h (g ∷ gs) e = ap (λ o. is_some o || list_any (can_step s) (map (goal_with h) gs)) (stands_by s h g e.0) ∙ ap (λ b. is_some g.standing || b) (any_stands s h gs e.1)
+any_stands s h (g ∷ gs) e = ap (λ o. is_some o || list_any (can_step s) (map (goal_with h) gs)) e.0 ∙ ap (λ b. b || list_any (can_step s) (map (goal_with h) gs)) (stands_is g) ∙ ap (λ b. stands g || b) (any_stands s h gs e.1)
 
 -- no goal stands just where none can step
-pub quiet_is : (s : State) (h : Means) (gs : List (Goal CellName)) → s.goals ≡ map (goal_with h) gs → AreStanding h s.modules gs → not (list_any stands gs) ≡ quiet s
+pub quiet_is : (s : State) (h : Means) (gs : List (Goal CellName)) → s.goals ≡ map (goal_with h) gs → AreStanding s h gs → not (list_any stands gs) ≡ quiet s
 quiet_is s h gs e k = ap not (sym (any_stands s h gs k) ∙ ap (list_any (can_step s)) (sym e))
+
+-- ---- goals that are settled and may step as the shoens have it
+
+find_none : (p : ℕ → Bool) → ((n : ℕ) → p n ≡ false) → (ns : List ℕ) → find p ns ≡ None
+find_none p e [] = refl
+find_none p e (n ∷ ns) = ap (λ b. if b then Some n else find p ns) (e n) ∙ find_none p e ns
+
+find_alike : (p q : ℕ → Bool) → ((n : ℕ) → p n ≡ q n) → (ns : List ℕ) → find p ns ≡ find q ns
+find_alike p q e [] = refl
+find_alike p q e (n ∷ ns) = ap (λ b. if b then Some n else find p ns) (e n) ∙ ap (λ o. if q n then Some n else o) (find_alike p q e ns)
+
+some_moves : (t : Term) (o : Option Move) → is_some (option_map (moves t) o) ≡ is_some o
+some_moves t None = refl
+some_moves t (Some m) = refl
+
+read_is : (c : Control) → (if is_some (read_action c) then Some 0 else None) ≡ control_clause c
+read_is (awaits_message v) = refl
+read_is (tells m rest) = refl
+read_is (tells_other m rest) = refl
+read_is ends = refl
+read_is (breaks_off t) = refl
+
+found_clause : (t : Means) (h : Option (Shoen CellName)) → find (λ c. is_some (monitor_action (option_map (shoen_with t) h) c)) (0 ∷ []) ≡ monitor_clause (front_with t (option_map (λ k. k.control) h))
+found_clause t None = refl
+found_clause t (Some h) = ap (λ b. if is_some (if b then read_action (control_of (t h.control)) else None) then Some 0 else None) (eq-eqb 0 0 refl) ∙ read_is (control_of (t h.control))
+
+found_first : (t : Means) (n : ℕ) (s : Shoen CellName) (ss : List (Shoen CellName)) (b : Bool) → shoen_at n (map (shoen_with t) ss) ≡ option_map (shoen_with t) (shoen_in n ss) →
+    (if b then Some (shoen_with t s) else shoen_at n (map (shoen_with t) ss)) ≡ option_map (shoen_with t) (if b then Some s else shoen_in n ss)
+found_first t n s ss true e = refl
+found_first t n s ss false e = e
+
+-- the definitions' shoen of a number is that which is found
+shoen_found : (t : Means) (n : ℕ) (ss : List (Shoen CellName)) → shoen_at n (map (shoen_with t) ss) ≡ option_map (shoen_with t) (shoen_in n ss)
+shoen_found t n [] = refl
+shoen_found t n (s ∷ ss) = found_first t n s ss (s.number == n) (shoen_found t n ss)
+
+-- the clause by which a task could step is the first that is allowed
+clause_found : (s : State) (t : Means) (shoens : List (Shoen CellName)) (n : ℕ) (k : Task CellName) → s.shoens ≡ map (shoen_with t) shoens →
+    find (λ c. is_some (task_action s n (task_with t k) c)) (task_clauses s.modules (task_with t k)) ≡ task_clause s.modules (control_with t shoens n) (task_with t k)
+clause_found s t shoens n Monitor e =
+    ap (λ hs. find (λ c. is_some (monitor_action (shoen_at n hs) c)) (0 ∷ [])) e ∙ ap (λ h. find (λ c. is_some (monitor_action h c)) (0 ∷ [])) (shoen_found t n shoens) ∙ found_clause t (shoen_in n shoens)
+clause_found s t shoens n (Reduces x) e =
+    let u = aim_with t x in
+    find_alike (λ c. is_some (option_map (moves u) (term_move s.modules u c (call_of u)))) (λ c. is_some (move_by s.modules u c)) (λ c. some_moves u (term_move s.modules u c (call_of u))) (0 ∷ call_clauses s.modules (call_of u))
+
+-- where goals may step, it is by that clause
+clause_enabled : (s : State) (g : model.Goal) (b : Bool) (o : Option ℕ) → is_enabled s g ≡ b → find (λ c. is_some (task_action s g.shoen g.task c)) (task_clauses s.modules g.task) ≡ o → clause_for s g ≡ (if b then o else None)
+clause_enabled s g true o e found =
+    find_alike (λ c. is_some (action_of s g c)) (λ c. is_some (task_action s g.shoen g.task c)) (λ c. ap (λ b. is_some (if b then task_action s g.shoen g.task c else None)) e) (task_clauses s.modules g.task) ∙ found
+clause_enabled s g false o e found =
+    find_none (λ c. is_some (action_of s g c)) (λ c. ap (λ b. is_some (if b then task_action s g.shoen g.task c else None)) e) (task_clauses s.modules g.task)
+
+-- a goal may step just where the definitions let it
+pub enabled_read : (f : Reading) (h : Held CellName) (shoens : List (Shoen CellName)) (work : List ℕ) (s : State) (g : Goal CellName) → s.shoens ≡ map (shoen_with (meaning f h)) shoens → s.work ≡ work → IsEnabled shoens work g → is_enabled s (goal_with (meaning f h) g) ≡ g.is_enabled
+enabled_read f h shoens work s g e w is =
+    let has : Has f h shoens work s = record { shoens = e; charged = w } in
+    by_task g.task ∙ ap (λ b. is_monitor g || b) (enabled_is f h shoens work s has g.shoen) ∙ sym is
+  where
+    by_task : (k : Task CellName) → (model.is_monitor (task_with (meaning f h) k) || is_enabled_in s g.shoen) ≡ (is_monitor_task k || is_enabled_in s g.shoen)
+    by_task Monitor = refl
+    by_task (Reduces x) = refl
+
+-- a goal that is settled, and may step as the shoens have it, stands
+pub one_stands : (f : Reading) (hooks : List Hook) (h : Held CellName) (modules : List Numbered) (shoens : List (Shoen CellName)) (work : List ℕ) (s : State) (g : Goal CellName) → s.shoens ≡ map (shoen_with (meaning f h)) shoens → s.work ≡ work → s.modules ≡ contents modules →
+    IsSettled f hooks h modules shoens g → IsEnabled shoens work g → IsStanding s (meaning f h) g
+one_stands f hooks h modules shoens work s g e w m settled enabled =
+    let t = meaning f h in
+    let found = clause_found s t shoens g.shoen g.task e ∙ ap (λ ms. task_clause ms (control_with t shoens g.shoen) (task_with t g.task)) m ∙ sym settled.standing in
+    clause_enabled s (goal_with t g) g.is_enabled g.standing (enabled_read f h shoens work s g e w enabled) found
+
+-- goals that are settled, and may step as the shoens have it, stand
+pub all_stand : (f : Reading) (hooks : List Hook) (h : Held CellName) (modules : List Numbered) (shoens : List (Shoen CellName)) (work : List ℕ) (s : State) (gs : List (Goal CellName)) → s.shoens ≡ map (shoen_with (meaning f h)) shoens → s.work ≡ work → s.modules ≡ contents modules →
+    AreSettled f hooks h modules shoens gs → AreEnabled shoens work gs → AreStanding s (meaning f h) gs
+all_stand f hooks h modules shoens work s [] e w m all may = tt
+all_stand f hooks h modules shoens work s (g ∷ gs) e w m all may = (one_stands f hooks h modules shoens work s g e w m all.0 may.0, all_stand f hooks h modules shoens work s gs e w m all.1 may.1)
 
 -- ---- of an account
 
@@ -312,21 +401,28 @@ shown_pairs : (o : Option Ready) → option_map chosen_by (option_map chosen_pai
 shown_pairs None = refl
 shown_pairs (Some r) = refl
 
+-- goals of an account that are settled for each reading of its names
+abbrev pub AreSettledIn : Account → List Hook → Type 0
+AreSettledIn a hooks = (g : Reading) → Fits a.names g → AreSettled g hooks a.held a.modules a.shoens a.goals
+
+stand_in : (f : Reading) (a : Account) (hooks : List Hook) → AreSettled f hooks a.held a.modules a.shoens a.goals → AreEnabled a.shoens a.work a.goals → AreStanding (state_of f a) (meaning f a.held) a.goals
+stand_in f a hooks settled enabled = all_stand f hooks a.held a.modules a.shoens a.work (state_of f a) a.goals refl refl refl settled enabled
+
 -- what the table picks is the definition's first
-pub picks : (f : Reading) (a b : Account) (hooks : List Hook) (o : Option (ℕ × ℕ)) → a ≡ b → ((g : Reading) → Fits a.names g → AreSettled g hooks a.held a.modules a.goals) → o ≡ option_map chosen_pair (first_from None a.goals) → Fits b.names f → option_map chosen_by o ≡ first (state_of f b)
-picks f a b hooks o e settled p fits =
+pub picks : (f : Reading) (a b : Account) (hooks : List Hook) (o : Option (ℕ × ℕ)) → a ≡ b → AreSettledIn a hooks → AreEnabled a.shoens a.work a.goals → o ≡ option_map chosen_pair (first_from None a.goals) → Fits b.names f → option_map chosen_by o ≡ first (state_of f b)
+picks f a b hooks o e settled enabled p fits =
     let F : Account → Type 0 = λ z. Fits z.names f in
     let all = settled f (subst F (sym e) fits) in
     ap (option_map chosen_by) p
     ∙ shown_pairs (first_from None a.goals)
-    ∙ first_is (state_of f a) (meaning f a.held) a.goals refl (all_stand f hooks a.held a.modules a.goals all)
+    ∙ first_is (state_of f a) (meaning f a.held) a.goals refl (stand_in f a hooks all enabled)
     ∙ ap (λ (z : Account). first (state_of f z)) e
 
 -- and no goal can step just where the table has none ready
-pub is_quiet : (f : Reading) (a b : Account) (hooks : List Hook) (r : Bool) → a ≡ b → ((g : Reading) → Fits a.names g → AreSettled g hooks a.held a.modules a.goals) → r ≡ list_any stands a.goals → Fits b.names f → not r ≡ quiet (state_of f b)
-is_quiet f a b hooks r e settled p fits =
+pub is_quiet : (f : Reading) (a b : Account) (hooks : List Hook) (r : Bool) → a ≡ b → AreSettledIn a hooks → AreEnabled a.shoens a.work a.goals → r ≡ list_any stands a.goals → Fits b.names f → not r ≡ quiet (state_of f b)
+is_quiet f a b hooks r e settled enabled p fits =
     let F : Account → Type 0 = λ z. Fits z.names f in
     let all = settled f (subst F (sym e) fits) in
     ap not p
-    ∙ quiet_is (state_of f a) (meaning f a.held) a.goals refl (all_stand f hooks a.held a.modules a.goals all)
+    ∙ quiet_is (state_of f a) (meaning f a.held) a.goals refl (stand_in f a hooks all enabled)
     ∙ ap (λ (z : Account). quiet (state_of f z)) e

@@ -82,7 +82,8 @@ one_grows ks k t n e = elim (option_cases (built_in_of t)) [
   | inr some ↦ rw some.1 (rw some.1 at e)
 ]
 
-by_text : (ks : List Known) (k : Known) (t : List ℕ) (n : ℕ) → number_by (ks ++ k ∷ []) t ≡ Some n → (number_by ks t ≡ Some n) ⊎ ((k.text ≡ t) × (k.number.number ≡ n))
+-- a name is known among names and one more where it was, or is that one
+pub by_text : (ks : List Known) (k : Known) (t : List ℕ) (n : ℕ) → number_by (ks ++ k ∷ []) t ≡ Some n → (number_by ks t ≡ Some n) ⊎ ((k.text ≡ t) × (k.number.number ≡ n))
 by_text ks k t n e = elim (option_cases (built_in_of t)) [
   | inl none ↦ elim (more_by_text ks k t n (rw none at e)) [ inl was ↦ inl (rw none was) | inr is ↦ inr is ]
   | inr some ↦ inl (rw some.1 (rw some.1 at e))

@@ -14,7 +14,7 @@ use Rattle.kl1_store.specs.Sound.{Grown}
 use Rattle.kl1_clause.specs.declared.instruction.Instruction.{Instruction}
 use Rattle.kl1_clause.specs.declared.predicate.Predicate.{Predicate}
 use Rattle.kl1_clause.specs.Instructions.{IsRowOf}
-use Rattle.kl1_match.specs.Waiting.{AreUnbound}
+use Rattle.kl1_match.specs.Waiting.{IsUnbound, AreUnbound}
 use Rattle.kl1_moves.specs.declared.kind.Kind.{Kind}
 use Rattle.kl1_moves.specs.Kinds.{IsKind}
 use Rattle.kl1_moves.specs.Moves.{HasPredicate}
@@ -49,6 +49,12 @@ judges ms numbers row cells was h old mid x kind p awaited standing same before 
     let k = is_kind f knows.reads in
     subst S means (stands f knows.reads (contents ms) (meaning f mid x) k (has f knows mid (meaning f mid x) k))
 
+-- a variable that is unbound in a store with the same variables and bindings
+pub unbound_one : (h k : Held CellName) (v : ℕ) → k.variables ≡ h.variables → k.bindings ≡ h.bindings → IsUnbound k v → IsUnbound h v
+unbound_one h k v e b a =
+    let w = a.within in
+    record { within = omega arith; unbound = ap (λ bs. is_bound v bs) (sym b) ∙ a.unbound }
+
 -- variables that are unbound in a store with the same variables and bindings
 pub unbound_before : (h k : Held CellName) (vs : List ℕ) → k.variables ≡ h.variables → k.bindings ≡ h.bindings → AreUnbound k vs → AreUnbound h vs
 unbound_before h k [] e b a = tt
@@ -62,16 +68,16 @@ cells_grown h k g [] i = tt
 cells_grown h k g (x ∷ xs) i = (in_grown h k g x i.0, cells_grown h k g xs i.1)
 
 -- a start that was drafted
-pub drafted : (ms : List Numbered) (names : List Known) (texts : List (List ℕ)) (row : List Instruction) (count : ℕ) (old one two new : Held CellName) (was cells : List (Cell CellName)) (numbers sliced : List CellName) (awaited : List ℕ) (streams : Streams) (standing : Option ℕ) →
-    one ≡ with_variables old count → AreGoalVariables one (old.variables - 1) count was → OpensStreams one two streams → Grown one two → new ≡ two → cells ≡ was →
+pub drafted : (ms : List Numbered) (names : List Known) (texts : List (List ℕ)) (row : List Instruction) (count allowance made : ℕ) (old one two new : Held CellName) (was cells : List (Cell CellName)) (numbers sliced : List CellName) (awaited : List ℕ) (streams : Streams) (standing : Option ℕ) →
+    one ≡ with_variables old count → AreGoalVariables one (old.variables - 1) count was → OpensStreams allowance made one two streams → Grown one two → new ≡ two → cells ≡ was →
     (AreNames names → AreSmall names → ReadsDraft names texts numbers) → sliced ≡ numbers → Judges ms sliced row was two awaited standing → AreUnbound two awaited →
-    IsDrafted ms names texts row count old new cells awaited (record { streams = streams; standing = standing })
-drafted ms names texts row count old one two new was cells numbers sliced awaited streams standing e v o g back same draft items judge unbound =
+    IsDrafted ms names texts row count allowance made old new cells awaited (record { streams = streams; standing = standing })
+drafted ms names texts row count allowance made old one two new was cells numbers sliced awaited streams standing e v o g back same draft items judge unbound =
     let last = old.variables - 1 in
     let o1 : Opening = record { streams = streams; standing = standing } in
     let here : AreGoalVariables two last count was = record { inside = cells_grown one two g was v.inside; next = v.next; free = λ w a b. ap (λ bs. is_bound (last + w) bs) o.bindings ∙ v.free w a b } in
-    let there : IsDrafted ms names texts row count old two was awaited o1 = record {
-      streams = (let P : Held CellName → Type 0 = λ h. OpensStreams h two streams in subst P e o);
+    let there : IsDrafted ms names texts row count allowance made old two was awaited o1 = record {
+      streams = (let P : Held CellName → Type 0 = λ h. OpensStreams allowance made h two streams in subst P e o);
       variables = here;
       judged = λ named small read goal is numbered many.
           let d = draft named small in
@@ -81,6 +87,6 @@ drafted ms names texts row count old one two new was cells numbers sliced awaite
           subst J items judge d.reading (record { reads = d.fits.reads; rows = read d.reading d.fits }) goal (subst R (sym d.reads) is) numbered last (subst V many here);
       unbound = unbound;
     } in
-    let N : Held CellName → Type 0 = λ h. IsDrafted ms names texts row count old h was awaited o1 in
-    let C : List (Cell CellName) → Type 0 = λ xs. IsDrafted ms names texts row count old new xs awaited o1 in
+    let N : Held CellName → Type 0 = λ h. IsDrafted ms names texts row count allowance made old h was awaited o1 in
+    let C : List (Cell CellName) → Type 0 = λ xs. IsDrafted ms names texts row count allowance made old new xs awaited o1 in
     subst C (sym same) (subst N (sym back) there)

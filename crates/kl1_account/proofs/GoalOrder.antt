@@ -4,7 +4,6 @@ use Rattle.std.specs.Prelude.{Some, None}
 use Rattle.std.specs.List.{AllByRecursion, find}
 use Rattle.std.proofs.lemmas.Bool.{ltb-false}
 use Rattle.kl1_text.specs.declared.cell_name.CellName.{CellName}
-use Rattle.kl1_goals.specs.declared.task.Task.{Task}
 use Rattle.kl1_goals.specs.declared.goal.Goal.{Goal}
 use Rattle.kl1_goals.specs.Lists.{number_of, has_number, is_after}
 use Rattle.kl1_goals.specs.Tables.{Ascend}
@@ -12,12 +11,12 @@ use Rattle.kl1_account.specs.Kept.{AreUpTo}
 use Rattle.kl1_account.proofs.Restood.{each_is}
 
 -- this is the first goal with a number of at least so much, as far as another one is concerned
-abbrev pub IsNext : ℕ → Goal CellName → ℕ → Task CellName → Type 0
-IsNext from goal m t = (from ≤ m → goal.number ≤ m) × (m ≡ goal.number → t ≡ goal.task)
+abbrev pub IsNext : ℕ → Goal CellName → Goal CellName → Type 0
+IsNext from goal g = (from ≤ g.number → goal.number ≤ g.number) × (g.number ≡ goal.number → (g.shoen ≡ goal.shoen) × (g.task ≡ goal.task))
 
 -- and of each of goals
 abbrev pub IsNextOf : ℕ → Goal CellName → List (Goal CellName) → Type 0
-IsNextOf from goal goals = AllByRecursion (λ g. IsNext from goal g.number g.task) goals
+IsNextOf from goal goals = AllByRecursion (IsNext from goal) goals
 
 -- goals that are told alike are one
 pub same_goal : (a b : Goal CellName) → Some a ≡ Some b → a ≡ b
@@ -44,8 +43,8 @@ next_found p from low (g ∷ goals) goal first up e = here (p g) refl (next_foun
     here true is later k =
         let s : goal ≡ g = same_goal goal g k in
         let n : goal.number ≡ g.number = ap (λ (a : Goal CellName). a.number) s in (
-          ((λ le. omega arith), (λ same. ap (λ (a : Goal CellName). a.task) (sym s))),
-          each_is (λ a. suc g.number ≤ a.number) (λ a. IsNext from goal a.number a.task) goals (λ a le. ((λ l. omega arith), (λ same. absurd (omega arith)))) (all_above (suc g.number) goals up.1),
+          ((λ le. omega arith), (λ same. (ap (λ (a : Goal CellName). a.shoen) (sym s), ap (λ (a : Goal CellName). a.task) (sym s)))),
+          each_is (λ a. suc g.number ≤ a.number) (IsNext from goal) goals (λ a le. ((λ l. omega arith), (λ same. absurd (omega arith)))) (all_above (suc g.number) goals up.1),
         )
     here false is later k =
         let n : suc g.number ≤ goal.number = found_above p (suc g.number) goals goal up.1 k in

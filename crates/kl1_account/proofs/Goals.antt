@@ -1,22 +1,20 @@
 -- Lists of goals, as they are kept and as they are read.
-use Rattle.std.proofs.Common.{◌≡◌, true, false, if◌then◌else◌, ℕ, suc, ◌+◌, ◌<◌, ◌≤◌, ◌==◌, not, ◌&&◌, ◌||◌, Bool, List, [], ◌∷◌, ◌++◌, length, map, refl, sym, ap, ◌∙◌, arith, le_trans}
-use Rattle.std.specs.Prelude.{filter, None}
-use Rattle.std.specs.List.{list_any}
+use Rattle.std.proofs.Common.{◌≡◌, true, false, if◌then◌else◌, ℕ, suc, ◌≤◌, ◌==◌, not, ◌&&◌, ◌||◌, Bool, List, [], ◌∷◌, ◌++◌, length, map, refl, ap, ◌∙◌, le_trans}
+use Rattle.std.specs.Prelude.{filter}
+use Rattle.std.specs.List.{list_any, AllByRecursion}
 use Rattle.kl1_model.specs.State as model
-use Rattle.kl1_model.specs.Reduction.{goals_from}
 use Rattle.kl1_text.specs.declared.cell_name.CellName.{CellName}
 use Rattle.kl1_store.specs.declared.qualified.Qualified.{Qualified}
 use Rattle.kl1_store.specs.Held.{Held}
-use Rattle.kl1_store.specs.InModules.{qualified_list, AreQualifiedIn}
+use Rattle.kl1_store.specs.InModules.{qualified_list}
 use Rattle.kl1_goals.specs.declared.task.Task.{Task}
 use Rattle.kl1_goals.specs.declared.task.Task.TheVariants.{Monitor, Reduces}
 use Rattle.kl1_goals.specs.declared.goal.Goal.{Goal}
-use Rattle.kl1_goals.specs.Lists.{is_monitor_task, is_monitor_of, is_goal_of, is_other}
+use Rattle.kl1_goals.specs.Lists.{is_monitor_task, is_monitor_of, is_goal_of, is_other, is_flagged}
 use Rattle.kl1_account.specs.Fitting.{Reading}
-use Rattle.kl1_account.specs.Account.{Means, meaning, task_with, goal_with, aim}
+use Rattle.kl1_account.specs.Account.{Means, task_with, goal_with}
 use Rattle.kl1_account.specs.Kept.{AreGoalsIn, AreOwned, AreUpTo}
-use Rattle.kl1_account.specs.Drafts.{goals_for, without_monitor}
-use Rattle.kl1_account.proofs.Aims.{aim_is}
+use Rattle.kl1_account.specs.Drafts.{without_monitors, staying}
 
 tests_same : (n : ℕ) (t : Means) (k : Task CellName) (b : Bool) → (b && model.is_monitor (task_with t k)) ≡ (b && is_monitor_task k)
 tests_same n t Monitor b = refl
@@ -31,18 +29,22 @@ others_read t n (g ∷ gs) = kept (not (g.number == n)) (others_read t n gs)
     kept true e = ap (λ (xs : List model.Goal). goal_with t g ∷ xs) e
     kept false e = e
 
+-- whether a goal is not the monitor of a shoen
+abbrev pub no_monitor : ℕ → Goal CellName → Bool
+no_monitor n g = not (is_monitor_of n g)
+
 -- whether a goal as it is read is the monitor of a shoen
 abbrev monitors : ℕ → model.Goal → Bool
 monitors n g = g.shoen == n && model.is_monitor g.task
 
-pub monitors_read : (t : Means) (n : ℕ) (gs : List (Goal CellName)) → filter (λ g. not (monitors n g)) (map (goal_with t) gs) ≡ map (goal_with t) (without_monitor n gs)
+pub monitors_read : (t : Means) (n : ℕ) (gs : List (Goal CellName)) → filter (λ g. not (monitors n g)) (map (goal_with t) gs) ≡ map (goal_with t) (filter (no_monitor n) gs)
 monitors_read t n [] = refl
 monitors_read t n (g ∷ gs) =
     let rest = filter (λ g. not (monitors n g)) (map (goal_with t) gs) in
     ap (λ b. if not b then goal_with t g ∷ rest else rest) (tests_same n t g.task (g.shoen == n)) ∙ kept (not (is_monitor_of n g)) (monitors_read t n gs)
   where
-    kept : (b : Bool) → filter (λ g. not (monitors n g)) (map (goal_with t) gs) ≡ map (goal_with t) (without_monitor n gs) →
-        (if b then goal_with t g ∷ filter (λ g. not (monitors n g)) (map (goal_with t) gs) else filter (λ g. not (monitors n g)) (map (goal_with t) gs)) ≡ map (goal_with t) (if b then g ∷ without_monitor n gs else without_monitor n gs)
+    kept : (b : Bool) → filter (λ g. not (monitors n g)) (map (goal_with t) gs) ≡ map (goal_with t) (filter (no_monitor n) gs) →
+        (if b then goal_with t g ∷ filter (λ g. not (monitors n g)) (map (goal_with t) gs) else filter (λ g. not (monitors n g)) (map (goal_with t) gs)) ≡ map (goal_with t) (if b then g ∷ filter (no_monitor n) gs else filter (no_monitor n) gs)
     kept true e = ap (λ (xs : List model.Goal). goal_with t g ∷ xs) e
     kept false e = e
 
@@ -56,12 +58,6 @@ has_goal_read t n (g ∷ gs) =
     ap (λ b. b || list_any (λ g. g.shoen == n && not (model.is_monitor g.task)) (map (goal_with t) gs)) (others_same t g.task (g.shoen == n))
     ∙ ap (λ b. is_goal_of n g || b) (has_goal_read t n gs)
 
-pub goals_read : (f : Reading) (h : Held CellName) (last shoen priority : ℕ) (xs : List (Qualified CellName)) → goals_from last shoen priority (qualified_list f h xs) ≡ map (goal_with (meaning f h)) (goals_for last shoen priority xs)
-goals_read f h last shoen priority [] = refl
-goals_read f h last shoen priority (x ∷ xs) =
-    ap (λ t. let g : model.Goal = record { number = suc last; task = model.reduces t; shoen = shoen; priority = priority } in g ∷ goals_from (suc last) shoen priority (qualified_list f h xs)) (sym (aim_is f h x))
-    ∙ ap (λ (gs : List model.Goal). let g : model.Goal = record { number = suc last; task = model.reduces (aim f h x); shoen = shoen; priority = priority } in g ∷ gs) (goals_read f h (suc last) shoen priority xs)
-
 pub count_read : (f : Reading) (h : Held CellName) (xs : List (Qualified CellName)) → length (qualified_list f h xs) ≡ length xs
 count_read f h [] = refl
 count_read f h (x ∷ xs) = ap suc (count_read f h xs)
@@ -70,17 +66,9 @@ pub goals_in_append : (h : Held CellName) (gs ks : List (Goal CellName)) → Are
 goals_in_append h [] ks i j = j
 goals_in_append h (g ∷ gs) ks i j = (i.0, goals_in_append h gs ks i.1 j)
 
-pub goals_for_in : (h : Held CellName) (last shoen priority : ℕ) (xs : List (Qualified CellName)) → AreQualifiedIn h xs → AreGoalsIn h (goals_for last shoen priority xs)
-goals_for_in h last shoen priority [] i = tt
-goals_for_in h last shoen priority (x ∷ xs) i = (i.0, goals_for_in h (suc last) shoen priority xs i.1)
-
 pub owned_append : (count : ℕ) (gs ks : List (Goal CellName)) → AreOwned count gs → AreOwned count ks → AreOwned count (gs ++ ks)
 owned_append count [] ks i j = j
 owned_append count (g ∷ gs) ks i j = (i.0, owned_append count gs ks i.1 j)
-
-pub goals_for_owned : (count last shoen priority : ℕ) (xs : List (Qualified CellName)) → 0 < shoen → shoen < suc count → AreOwned count (goals_for last shoen priority xs)
-goals_for_owned count last shoen priority [] a b = tt
-goals_for_owned count last shoen priority (x ∷ xs) a b = (record { low = a; high = b }, goals_for_owned count (suc last) shoen priority xs a b)
 
 pub up_to_append : (last : ℕ) (gs ks : List (Goal CellName)) → AreUpTo last gs → AreUpTo last ks → AreUpTo last (gs ++ ks)
 up_to_append last [] ks i j = j
@@ -89,10 +77,6 @@ up_to_append last (g ∷ gs) ks i j = (i.0, up_to_append last gs ks i.1 j)
 pub up_to_more : (last more : ℕ) (gs : List (Goal CellName)) → last ≤ more → AreUpTo last gs → AreUpTo more gs
 up_to_more last more [] le i = tt
 up_to_more last more (g ∷ gs) le i = (le_trans i.0 le, up_to_more last more gs le i.1)
-
-pub goals_for_up_to : (most last shoen priority : ℕ) (xs : List (Qualified CellName)) → last + length xs ≤ most → AreUpTo most (goals_for last shoen priority xs)
-goals_for_up_to most last shoen priority [] le = tt
-goals_for_up_to most last shoen priority (x ∷ xs) le = (omega arith, goals_for_up_to most (suc last) shoen priority xs (omega arith))
 
 pub filter_in : (h : Held CellName) (p : Goal CellName → Bool) (gs : List (Goal CellName)) → AreGoalsIn h gs → AreGoalsIn h (filter p gs)
 filter_in h p [] i = tt
@@ -127,18 +111,6 @@ filter_append p (g ∷ gs) ks = kept (p g) (filter_append p gs ks)
     kept true e = ap (λ (xs : List (Goal CellName)). g ∷ xs) e
     kept false e = e
 
-never_both : (b : Bool) → (b && false) ≡ false
-never_both true = refl
-never_both false = refl
-
--- goals for cells are no monitors
-pub goals_for_stay : (n last shoen priority : ℕ) (xs : List (Qualified CellName)) → without_monitor n (goals_for last shoen priority xs) ≡ goals_for last shoen priority xs
-goals_for_stay n last shoen priority [] = refl
-goals_for_stay n last shoen priority (x ∷ xs) =
-    let g : Goal CellName = record { number = suc last; task = Reduces x; shoen = shoen; priority = priority; standing = None } in
-    ap (λ b. if not b then g ∷ without_monitor n (goals_for (suc last) shoen priority xs) else without_monitor n (goals_for (suc last) shoen priority xs)) (never_both (shoen == n))
-    ∙ ap (λ (gs : List (Goal CellName)). g ∷ gs) (goals_for_stay n (suc last) shoen priority xs)
-
 pub any_append : (p : Goal CellName → Bool) (gs ks : List (Goal CellName)) → list_any p (gs ++ ks) ≡ (list_any p gs || list_any p ks)
 any_append p [] ks = refl
 any_append p (g ∷ gs) ks = ap (λ b. p g || b) (any_append p gs ks) ∙ regroup (p g) (list_any p gs) (list_any p ks)
@@ -149,3 +121,44 @@ any_append p (g ∷ gs) ks = ap (λ b. p g || b) (any_append p gs ks) ∙ regrou
 
 pub any_left : (p : Goal CellName → Bool) (gs ks : List (Goal CellName)) → list_any p gs ≡ true → list_any p (gs ++ ks) ≡ true
 any_left p gs ks e = any_append p gs ks ∙ ap (λ b. b || list_any p ks) e
+
+-- ---- goals that stay
+
+-- without one monitor more
+pub one_more : (ns : List ℕ) (n : ℕ) (gs : List (Goal CellName)) → without_monitors (ns ++ n ∷ []) gs ≡ filter (no_monitor n) (without_monitors ns gs)
+one_more [] n gs = refl
+one_more (m ∷ ns) n gs = one_more ns n (filter (λ g. not (is_monitor_of m g)) gs)
+
+-- without flags each goal stays
+pub all_stay : (gs : List (Goal CellName)) → filter (λ g. not (is_flagged [] g)) gs ≡ gs
+all_stay [] = refl
+all_stay (g ∷ gs) = ap (λ (xs : List (Goal CellName)). g ∷ xs) (all_stay gs)
+
+pub without_in : (h : Held CellName) (ns : List ℕ) (gs : List (Goal CellName)) → AreGoalsIn h gs → AreGoalsIn h (without_monitors ns gs)
+without_in h [] gs i = i
+without_in h (n ∷ ns) gs i = without_in h ns (filter (λ g. not (is_monitor_of n g)) gs) (filter_in h (λ g. not (is_monitor_of n g)) gs i)
+
+pub without_owned : (count : ℕ) (ns : List ℕ) (gs : List (Goal CellName)) → AreOwned count gs → AreOwned count (without_monitors ns gs)
+without_owned count [] gs i = i
+without_owned count (n ∷ ns) gs i = without_owned count ns (filter (λ g. not (is_monitor_of n g)) gs) (filter_owned count (λ g. not (is_monitor_of n g)) gs i)
+
+pub staying_in : (h : Held CellName) (removed : ℕ) (flags : List Bool) (ended : List ℕ) (gs : List (Goal CellName)) → AreGoalsIn h gs → AreGoalsIn h (staying removed flags ended gs)
+staying_in h removed flags ended gs i =
+    without_in h ended (filter (λ g. not (is_flagged flags g)) (filter (is_other removed) gs)) (filter_in h (λ g. not (is_flagged flags g)) (filter (is_other removed) gs) (filter_in h (is_other removed) gs i))
+
+pub staying_owned : (count removed : ℕ) (flags : List Bool) (ended : List ℕ) (gs : List (Goal CellName)) → AreOwned count gs → AreOwned count (staying removed flags ended gs)
+staying_owned count removed flags ended gs i =
+    without_owned count ended (filter (λ g. not (is_flagged flags g)) (filter (is_other removed) gs)) (filter_owned count (λ g. not (is_flagged flags g)) (filter (is_other removed) gs) (filter_owned count (is_other removed) gs i))
+
+-- goals of which some have flags, as they are read
+pub below_read : (t : Means) (p : ℕ → Bool) (flags : List Bool) (gs : List (Goal CellName)) → AllByRecursion (λ g. p g.shoen ≡ is_flagged flags g) gs → filter (λ g. not (p g.shoen)) (map (goal_with t) gs) ≡ map (goal_with t) (filter (λ g. not (is_flagged flags g)) gs)
+below_read t p flags [] a = refl
+below_read t p flags (g ∷ gs) a =
+    let rest = filter (λ g. not (p g.shoen)) (map (goal_with t) gs) in
+    ap (λ b. if not b then goal_with t g ∷ rest else rest) a.0 ∙ kept (not (is_flagged flags g)) (below_read t p flags gs a.1)
+  where
+    kept : (b : Bool) → filter (λ g. not (p g.shoen)) (map (goal_with t) gs) ≡ map (goal_with t) (filter (λ g. not (is_flagged flags g)) gs) →
+        (if b then goal_with t g ∷ filter (λ g. not (p g.shoen)) (map (goal_with t) gs) else filter (λ g. not (p g.shoen)) (map (goal_with t) gs))
+        ≡ map (goal_with t) (if b then g ∷ filter (λ g. not (is_flagged flags g)) gs else filter (λ g. not (is_flagged flags g)) gs)
+    kept true e = ap (λ (xs : List model.Goal). goal_with t g ∷ xs) e
+    kept false e = e

@@ -1,37 +1,32 @@
--- Goals that are put after others.
-use Rattle.std.proofs.Common.{◌≡◌, ℕ, suc, ◌+◌, ◌<◌, List, [], ◌∷◌, ◌++◌, length, drop, get_or, sym, ap, ◌∙◌, arith, append_assoc}
-use Rattle.std.specs.Prelude.{Option}
-use Rattle.std.proofs.lemmas.List.{drop_more}
+-- Drafts that are put in place.
+use Rattle.std.proofs.Common.{◌≡◌, ℕ, Bool, not, List, [], ◌∷◌, length, sym, ap, ◌∙◌, arith, subst}
+use Rattle.std.specs.Prelude.{filter}
 use Rattle.kl1_text.specs.declared.cell_name.CellName.{CellName}
-use Rattle.kl1_store.specs.declared.qualified.Qualified.{Qualified}
-use Rattle.kl1_goals.specs.declared.task.Task.TheVariants.{Reduces}
 use Rattle.kl1_goals.specs.declared.goal.Goal.{Goal}
-use Rattle.kl1_goals.specs.Tables.{AreBefore}
-use Rattle.kl1_account.specs.Kept.{AreUpTo}
-use Rattle.kl1_account.specs.Drafts.{goals_standing}
-use Rattle.kl1_account.proofs.Goals.{up_to_append, up_to_more}
+use Rattle.kl1_goals.specs.Lists.{is_flagged, is_other}
+use Rattle.kl1_account.specs.declared.draft.Change.{Change}
+use Rattle.kl1_account.specs.Drafts.{without_monitors, restood}
+use Rattle.kl1_account.specs.Installing.{AreNext}
+use Rattle.kl1_account.proofs.Goals.{all_stay}
 
--- a goal for a cell that comes after the others
-abbrev pub goal_for : ℕ → ℕ → ℕ → Qualified CellName → Option ℕ → Goal CellName
-goal_for number shoen priority x standing = record { number = number; task = Reduces x; shoen = shoen; priority = priority; standing = standing }
+-- without flags each goal stays
+pub empty_flags : (flags : List Bool) (gs : List (Goal CellName)) → length flags ≡ 0 → gs ≡ filter (λ g. not (is_flagged flags g)) gs
+empty_flags [] gs e = sym (all_stay gs)
+empty_flags (b ∷ bs) gs e = absurd (omega arith)
 
-before_next : (last : ℕ) (gs : List (Goal CellName)) → AreUpTo last gs → AreBefore (last + 1) gs
-before_next last [] i = tt
-before_next last (g ∷ gs) i = let le = i.0 in (omega arith, before_next last gs i.1)
+-- the goals that are left, one removal after another
+pub left_in_steps : (goals a b c d e : List (Goal CellName)) (removed : ℕ) (flags flags' : List Bool) (ended ended' : List ℕ) (changes changes' : List Change) → flags' ≡ flags → ended' ≡ ended → changes' ≡ changes →
+    a ≡ filter (is_other removed) goals → b ≡ filter (λ g. not (is_flagged flags' g)) a → c ≡ without_monitors ended' b → d ≡ restood changes' c → e ≡ d →
+    e ≡ restood changes (without_monitors ended (filter (λ g. not (is_flagged flags g)) (filter (is_other removed) goals)))
+left_in_steps goals a b c d e removed flags flags' ended ended' changes changes' x y z p q r s t =
+    t ∙ s
+    ∙ ap (λ (cs : List Change). restood cs c) z
+    ∙ ap (restood changes) (r ∙ ap (λ (ns : List ℕ). without_monitors ns b) y ∙ ap (without_monitors ended) (q ∙ ap (λ (fs : List Bool). filter (λ g. not (is_flagged fs g)) a) x ∙ ap (λ (gs : List (Goal CellName)). filter (λ g. not (is_flagged flags g)) gs) p))
 
-pub up_to_next : (last shoen priority : ℕ) (x : Qualified CellName) (s : Option ℕ) (gs : List (Goal CellName)) → AreUpTo last gs → AreUpTo (last + 1) (gs ++ goal_for (last + 1) shoen priority x s ∷ [])
-up_to_next last shoen priority x s gs up = up_to_append (last + 1) gs (goal_for (last + 1) shoen priority x s ∷ []) (up_to_more last (last + 1) gs (omega arith) up) (omega arith, tt)
-
--- one goal more is put
-pub one_put : (number shoen priority i : ℕ) (other : Qualified CellName) (none : Option ℕ) (xs : List (Qualified CellName)) (ss : List (Option ℕ)) (gs all : List (Goal CellName)) → i < length xs → length ss ≡ length xs →
-    gs ++ goals_standing number shoen priority (drop i xs) (drop i ss) ≡ all →
-    (gs ++ goal_for (number + 1) shoen priority (get_or xs i other) (get_or ss i none) ∷ []) ++ goals_standing (number + 1) shoen priority (drop (i + 1) xs) (drop (i + 1) ss) ≡ all
-one_put number shoen priority i other none xs ss gs all lt same e =
-    let x = get_or xs i other in
-    let s = get_or ss i none in
-    let next : number + 1 ≡ suc number = omega arith in
-    append_assoc gs (goal_for (number + 1) shoen priority x s ∷ []) (goals_standing (number + 1) shoen priority (drop (i + 1) xs) (drop (i + 1) ss))
-    ∙ ap (λ n. gs ++ (goal_for n shoen priority x s ∷ goals_standing n shoen priority (drop (i + 1) xs) (drop (i + 1) ss))) next
-    ∙ ap (λ (ys : List (Qualified CellName)). gs ++ goals_standing number shoen priority ys (s ∷ drop (i + 1) ss)) (sym (drop_more xs i other lt))
-    ∙ ap (λ (us : List (Option ℕ)). gs ++ goals_standing number shoen priority (drop i xs) us) (sym (drop_more ss i none (omega arith)))
-    ∙ e
+-- goals that can be put after these can be put after the same
+pub next_same : (gs hs ks ls : List (Goal CellName)) (m n : ℕ) → hs ≡ gs → n ≡ m → ls ≡ ks → AreNext gs m ks → AreNext hs n ls
+next_same gs hs ks ls m n a b c p =
+    let P : List (Goal CellName) → Type 0 = λ x. AreNext x m ks in
+    let Q : ℕ → Type 0 = λ x. AreNext hs x ks in
+    let R : List (Goal CellName) → Type 0 = λ x. AreNext hs n x in
+    subst R (sym c) (subst Q (sym b) (subst P (sym a) p))

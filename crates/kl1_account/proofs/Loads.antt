@@ -1,9 +1,10 @@
 -- Loads, by the definition of the step.
 use Rattle.std.proofs.Common.{◌≡◌, ℕ, ◌+◌, ◌<◌, ◌≤◌, suc, Bool, true, false, if◌then◌else◌, ◌==◌, List, [], ◌∷◌, ◌++◌, length, map, refl, sym, ap, ◌∙◌, subst, arith, nat_lt, take, get_or}
-use Rattle.std.specs.Prelude.{Some, is_some}
+use Rattle.std.specs.Prelude.{Some, is_some, option_map}
+use Rattle.kl1_model.specs.Control.{control_of}
 use Rattle.std.proofs.lemmas.Bool.{le-leb, lt-leb, lt-ltb, le-ltb, ltb-true, ltb-false}
 use Rattle.std.proofs.lemmas.List.{map-append, take_more}
-use Rattle.kl1_model.specs.Limits.{most_names, most_entries, most_source_bytes}
+use Rattle.kl1_model.specs.Limits.{most_names, most_modules, most_entries, most_source_bytes}
 use Rattle.kl1_model.specs.Module.{Module, read_module, good}
 use Rattle.kl1_model.specs.Match.{module_of}
 use Rattle.kl1_model.specs.State as model
@@ -22,6 +23,8 @@ use Rattle.kl1_clause.specs.NameList.{with_texts}
 use Rattle.kl1_goals.specs.declared.goal.Goal.{Goal}
 use Rattle.kl1_goals.specs.Lists.{stood_by}
 use Rattle.kl1_goals.specs.Tables.{Tabled}
+use Rattle.kl1_shoen.specs.declared.shoen.Shoen.{Shoen}
+use Rattle.kl1_shoen.specs.Shoens.{shoen_in}
 use Rattle.kl1_modules.specs.Numbered.{Numbered, own_names, number_of, IsRead, AreRead}
 use Rattle.kl1_modules.specs.Finding.{contents, is_numbered, TellsModule}
 use Rattle.kl1_modules.proofs.Names.{number_reads}
@@ -30,17 +33,16 @@ use Rattle.kl1_moves.specs.Hanging.{HangsOnEach}
 use Rattle.kl1_account.specs.declared.draft.Change.{Change}
 use Rattle.kl1_account.specs.declared.loading.Loading.{Loading}
 use Rattle.kl1_account.specs.declared.loading.Loading.TheVariants.{Refused, Drafted}
-use Rattle.kl1_account.specs.declared.refusal.Refusal.{Refusal}
-use Rattle.kl1_account.specs.Views.{refusal_of}
-use Rattle.kl1_account.specs.declared.refusal.Refusal.TheVariants.{Exists, Names, Journal}
+use Rattle.kl1_event.specs.declared.refusal.Refusal.{Refusal}
+use Rattle.kl1_event.specs.Views.{refusal_of}
+use Rattle.kl1_event.specs.declared.refusal.Refusal.TheVariants.{Exists, Names, Limit, Journal}
 use Rattle.kl1_account.specs.Fitting.{Reading, Fits, built}
-use Rattle.kl1_account.specs.Account.{Account, meaning, task_with, goal_with, texts_of, state_of}
+use Rattle.kl1_account.specs.Account.{Account, Means, meaning, task_with, goal_with, shoen_with, texts_of, state_of}
 use Rattle.kl1_account.specs.Naming.{AreSmall, ReadsDraft, AreNumbersOf}
 use Rattle.kl1_account.specs.Works.{Knows}
 use Rattle.kl1_account.specs.Drafts.{restood_by, restood}
 use Rattle.kl1_account.specs.Kept.{IsTaskIn, IsOwned}
-use Rattle.kl1_account.specs.Settled.{task_clause, awaited_by_task, AreSettled}
-use Rattle.kl1_account.specs.Looking.{AreMonitorsIdle}
+use Rattle.kl1_account.specs.Settled.{front_with, control_with, task_clause, awaited_by_task, AreSettled, IsEnabled}
 use Rattle.kl1_account.specs.Keeping.{IsKept}
 use Rattle.kl1_account.specs.Loadings.{IsDraft, DraftsAs, IsDraftOf, LoadsAs, Settles}
 use Rattle.kl1_account.proofs.ModuleNames.{of_module}
@@ -81,16 +83,28 @@ few_names names m e =
     let is : nat_lt most_names n ≡ false = ap (λ (xs : List (List ℕ)). nat_lt most_names (length xs)) (sym (of_module (texts_of names) m)) ∙ e in
     ltb-false most_names n is
 
--- a full journal
-pub draft_full : (ms : List Numbered) (names : List Known) (entries : ℕ) (d : Numbered) → is_some (module_of (contents ms) d.content.name) ≡ false → nat_lt most_names (length (with_texts (texts_of names) (own_names d.content))) ≡ false → most_entries ≤ entries → DraftsAs ms names entries d (Some Journal)
-draft_full ms names entries d absent few full = λ s at.
+-- modules are as many as their contents
+modules_count : (ms : List Numbered) → length (contents ms) ≡ length ms
+modules_count [] = refl
+modules_count (m ∷ ms) = ap suc (modules_count ms)
+
+-- as many modules as there may be
+pub draft_limit : (ms : List Numbered) (names : List Known) (entries : ℕ) (d : Numbered) → is_some (module_of (contents ms) d.content.name) ≡ false → nat_lt most_names (length (with_texts (texts_of names) (own_names d.content))) ≡ false → most_modules ≤ length ms → DraftsAs ms names entries d (Some Limit)
+draft_limit ms names entries d absent few full = λ s at.
     let n = length (with_names (texts_of names) (names_of_module d.content)) in
-    rw (at.modules_are, absent, at.names_are, le-leb n most_names (few_names names d.content few), at.entries_are, le-ltb entries most_entries full) refl
+    rw (at.modules_are, absent, at.names_are, le-leb n most_names (few_names names d.content few), modules_count ms, le-ltb (length ms) most_modules full) refl
+
+-- a full journal
+pub draft_full : (ms : List Numbered) (names : List Known) (entries : ℕ) (d : Numbered) → is_some (module_of (contents ms) d.content.name) ≡ false → nat_lt most_names (length (with_texts (texts_of names) (own_names d.content))) ≡ false → length ms < most_modules → most_entries ≤ entries →
+    DraftsAs ms names entries d (Some Journal)
+draft_full ms names entries d absent few less full = λ s at.
+    let n = length (with_names (texts_of names) (names_of_module d.content)) in
+    rw (at.modules_are, absent, at.names_are, le-leb n most_names (few_names names d.content few), modules_count ms, lt-ltb (length ms) most_modules less, at.entries_are, le-ltb entries most_entries full) refl
 
 -- a module that may be loaded
 pub draft_loads : (ms : List Numbered) (names : List Known) (entries : ℕ) (d : Numbered) → ReadsDraft names (own_names d.content) d.row → is_numbered ms (number_of d) ≡ false → is_some (module_of (contents ms) d.content.name) ≡ false →
-    nat_lt most_names (length (with_texts (texts_of names) (own_names d.content))) ≡ false → entries < most_entries → IsDraft ms names entries d
-draft_loads ms names entries d reads new absent few room =
+    nat_lt most_names (length (with_texts (texts_of names) (own_names d.content))) ≡ false → length ms < most_modules → entries < most_entries → IsDraft ms names entries d
+draft_loads ms names entries d reads new absent few less room =
     let n = length (with_names (texts_of names) (names_of_module d.content)) in
     let le = few_names names d.content few in
     let is : length (with_texts (texts_of names) (own_names d.content)) ≡ n = ap length (of_module (texts_of names) d.content) in
@@ -99,8 +113,9 @@ draft_loads ms names entries d reads new absent few room =
       new = new;
       absent = absent;
       few = omega arith;
+      modules_few = less;
       room = room;
-      loads = λ s at. rw (at.modules_are, absent, at.names_are, le-leb n most_names le, at.entries_are, lt-ltb entries most_entries room) refl;
+      loads = λ s at. rw (at.modules_are, absent, at.names_are, le-leb n most_names le, modules_count ms, lt-ltb (length ms) most_modules less, at.entries_are, lt-ltb entries most_entries room) refl;
     }
 
 -- ---- sources
@@ -136,10 +151,20 @@ one_more_change old was now cs i d lt before after =
 
 -- ---- settled goals
 
--- monitors can't step by a clause
-pub monitors_idle : (f : Reading) (hooks : List Hook) (h : Held CellName) (ms : List Numbered) (gs : List (Goal CellName)) → AreSettled f hooks h ms gs → AreMonitorsIdle gs
-monitors_idle f hooks h ms [] a = tt
-monitors_idle f hooks h ms (g ∷ gs) a = (λ e. a.0.standing ∙ ap (λ k. task_clause (contents ms) (task_with (meaning f h) k)) e, monitors_idle f hooks h ms gs a.1)
+-- two readings that read shoens as the same read their control streams as the same
+controls_same : (t u : Means) (n : ℕ) (ss : List (Shoen CellName)) → map (shoen_with t) ss ≡ map (shoen_with u) ss → control_with t ss n ≡ control_with u ss n
+controls_same t u n [] e = refl
+controls_same t u n (s ∷ ss) e = here (s.number == n) (controls_same t u n ss (other_shoens (shoen_with t s) (shoen_with u s) (map (shoen_with t) ss) (map (shoen_with u) ss) e))
+  where
+    other_shoens : (a b : model.Shoen) (as' bs : List model.Shoen) → a ∷ as' ≡ b ∷ bs → as' ≡ bs
+    other_shoens a b as' bs k = cc
+
+    first_shoen : (a b : model.Shoen) (as' bs : List model.Shoen) → a ∷ as' ≡ b ∷ bs → a ≡ b
+    first_shoen a b as' bs k = cc
+
+    here : (b : Bool) → control_with t ss n ≡ control_with u ss n → front_with t (option_map (λ (k : Shoen CellName). k.control) (if b then Some s else shoen_in n ss)) ≡ front_with u (option_map (λ (k : Shoen CellName). k.control) (if b then Some s else shoen_in n ss))
+    here true later = ap (λ (k : model.Shoen). Some (control_of k.control)) (first_shoen (shoen_with t s) (shoen_with u s) (map (shoen_with t) ss) (map (shoen_with u) ss) e)
+    here false later = later
 
 first_goal : (a b : model.Goal) (as' bs : List model.Goal) → a ∷ as' ≡ b ∷ bs → a ≡ b
 first_goal a b as' bs e = cc
@@ -147,16 +172,21 @@ first_goal a b as' bs e = cc
 other_goals : (a b : model.Goal) (as' bs : List model.Goal) → a ∷ as' ≡ b ∷ bs → as' ≡ bs
 other_goals a b as' bs e = cc
 
--- goals that two readings read as the same are settled for one as for the other, with modules of the same contents
-pub resettled : (f g : Reading) (hooks : List Hook) (h : Held CellName) (ms ns : List Numbered) (gs : List (Goal CellName)) → contents ms ≡ contents ns → map (goal_with (meaning f h)) gs ≡ map (goal_with (meaning g h)) gs → AreSettled g hooks h ms gs → AreSettled f hooks h ns gs
-resettled f g hooks h ms ns [] same e a = tt
-resettled f g hooks h ms ns (x ∷ gs) same e a =
+-- goals and shoens that two readings read as the same are settled for one as for the other, with modules of the same contents
+pub resettled : (f g : Reading) (hooks : List Hook) (h : Held CellName) (ms ns : List Numbered) (shoens : List (Shoen CellName)) (gs : List (Goal CellName)) → contents ms ≡ contents ns → map (shoen_with (meaning f h)) shoens ≡ map (shoen_with (meaning g h)) shoens →
+    map (goal_with (meaning f h)) gs ≡ map (goal_with (meaning g h)) gs → AreSettled g hooks h ms shoens gs → AreSettled f hooks h ns shoens gs
+resettled f g hooks h ms ns shoens [] same alike e a = tt
+resettled f g hooks h ms ns shoens (x ∷ gs) same alike e a =
     let t = first_goal (goal_with (meaning f h) x) (goal_with (meaning g h) x) (map (goal_with (meaning f h)) gs) (map (goal_with (meaning g h)) gs) e in
     let k : task_with (meaning f h) x.task ≡ task_with (meaning g h) x.task = ap (λ (y : model.Goal). y.task) t in
+    let c : control_with (meaning f h) shoens x.shoen ≡ control_with (meaning g h) shoens x.shoen = controls_same (meaning f h) (meaning g h) x.shoen shoens alike in
     let H : List ℕ → Type 0 = λ vs. HangsOnEach hooks x.number vs in
-    let clause : task_clause (contents ns) (task_with (meaning f h) x.task) ≡ task_clause (contents ms) (task_with (meaning g h) x.task) = ap (task_clause (contents ns)) k ∙ ap (λ c. task_clause c (task_with (meaning g h) x.task)) (sym same) in
-    let awaited : awaited_by_task (contents ns) (task_with (meaning f h) x.task) ≡ awaited_by_task (contents ms) (task_with (meaning g h) x.task) = ap (awaited_by_task (contents ns)) k ∙ ap (λ c. awaited_by_task c (task_with (meaning g h) x.task)) (sym same) in
-    (record { standing = a.0.standing ∙ sym clause; hung = subst H (sym awaited) a.0.hung }, resettled f g hooks h ms ns gs same (other_goals (goal_with (meaning f h) x) (goal_with (meaning g h) x) (map (goal_with (meaning f h)) gs) (map (goal_with (meaning g h)) gs) e) a.1)
+    let clause : task_clause (contents ns) (control_with (meaning f h) shoens x.shoen) (task_with (meaning f h) x.task) ≡ task_clause (contents ms) (control_with (meaning g h) shoens x.shoen) (task_with (meaning g h) x.task) =
+    ap (λ o. task_clause (contents ns) o (task_with (meaning f h) x.task)) c ∙ ap (task_clause (contents ns) (control_with (meaning g h) shoens x.shoen)) k ∙ ap (λ m. task_clause m (control_with (meaning g h) shoens x.shoen) (task_with (meaning g h) x.task)) (sym same) in
+    let awaited : awaited_by_task (contents ns) (control_with (meaning f h) shoens x.shoen) (task_with (meaning f h) x.task) ≡ awaited_by_task (contents ms) (control_with (meaning g h) shoens x.shoen) (task_with (meaning g h) x.task) =
+    ap (λ o. awaited_by_task (contents ns) o (task_with (meaning f h) x.task)) c ∙ ap (awaited_by_task (contents ns) (control_with (meaning g h) shoens x.shoen)) k ∙ ap (λ m. awaited_by_task m (control_with (meaning g h) shoens x.shoen) (task_with (meaning g h) x.task)) (sym same) in
+    let rest = other_goals (goal_with (meaning f h) x) (goal_with (meaning g h) x) (map (goal_with (meaning f h)) gs) (map (goal_with (meaning g h)) gs) e in
+    (record { standing = a.0.standing ∙ sym clause; hung = subst H (sym awaited) a.0.hung }, resettled f g hooks h ms ns shoens gs same alike rest a.1)
 
 -- ---- modules and readings
 
@@ -196,7 +226,7 @@ with_load a d row names changes = record a { modules = a.modules ++ record d { r
 -- a load is ready to be put in place
 pub record IsReady (a : Account) (source : List ℕ) (d : Numbered) (hooks : List Hook) (changes : List Change) (names : List Known) (row : List CellName) : Type 0 where
   pub draft : IsDraftOf a.modules a.names a.entries source d
-  pub settles : Settles a.modules d hooks a.held a.goals changes
+  pub settles : Settles a.modules d a.shoens hooks a.held a.goals changes
   pub texts : texts_of names ≡ with_texts (texts_of a.names) (own_names d.content)
   pub numbers : AreNumbersOf names (own_names d.content) row
   pub small : AreSmall names
@@ -223,16 +253,16 @@ load_steps a source d hooks changes names row r f =
     r.draft.loads s ∙ (r.draft.draft.loads s (record { modules_are = refl; names_are = refl; entries_are = refl }) ∙ ap R same)
 
 load_settled : (a : Account) (source : List ℕ) (d : Numbered) (old hooks : List Hook) (known : ℕ) (changes : List Change) (names : List Known) (row : List CellName) → IsKept a old known → IsReady a source d hooks changes names row →
-    (f : Reading) → Fits names f → AreSettled f hooks a.held (a.modules ++ record d { row = row } ∷ []) (restood changes a.goals)
+    (f : Reading) → Fits names f → AreSettled f hooks a.held (a.modules ++ record d { row = row } ∷ []) a.shoens (restood changes a.goals)
 load_settled a source d old hooks known changes names row i r f fits =
     let p = r.draft.draft.reads in
     let g = p.reading in
-    let idle = monitors_idle g old a.held a.modules a.goals (i.settled g p.fits) in
     let k : Knows (a.modules ++ d ∷ []) g = record { reads = p.fits.reads; rows = read_more g a.modules d (i.rows g p.fits) p.reads } in
     let same : contents (a.modules ++ d ∷ []) ≡ contents (a.modules ++ record d { row = row } ∷ []) = contents_more a.modules d ∙ sym (contents_more a.modules (record d { row = row })) in
+    let alike : map (shoen_with (meaning f a.held)) a.shoens ≡ map (shoen_with (meaning g a.held)) a.shoens = ap (λ (s : State). s.shoens) (i.named f g (r.fits f fits) p.fits) in
     let was : map (goal_with (meaning f a.held)) a.goals ≡ map (goal_with (meaning g a.held)) a.goals = ap (λ (s : State). s.goals) (i.named f g (r.fits f fits) p.fits) in
     let are : map (goal_with (meaning f a.held)) (restood changes a.goals) ≡ map (goal_with (meaning g a.held)) (restood changes a.goals) = restood_read (meaning f a.held) changes a.goals ∙ (was ∙ sym (restood_read (meaning g a.held) changes a.goals)) in
-    resettled f g hooks a.held (a.modules ++ d ∷ []) (a.modules ++ record d { row = row } ∷ []) (restood changes a.goals) same are (r.settles g k idle)
+    resettled f g hooks a.held (a.modules ++ d ∷ []) (a.modules ++ record d { row = row } ∷ []) a.shoens (restood changes a.goals) same alike are (r.settles g k)
 
 -- what always holds of an account holds after a load
 pub load_kept : (a : Account) (source : List ℕ) (d : Numbered) (old hooks : List Hook) (known : ℕ) (changes : List Change) (names : List Known) (row : List CellName) → IsKept a old known → IsReady a source d hooks changes names row →
@@ -243,10 +273,13 @@ load_kept a source d old hooks known changes names row i r =
       goals = restood_holds (λ g. IsTaskIn a.held g.task) (λ g o p. p) changes a.goals i.goals;
       owned = restood_holds (IsOwned (length a.shoens)) (λ g o p. record { low = p.low; high = p.high }) changes a.goals i.owned;
       shoens = i.shoens;
-      numbered = i.numbered;
       count = i.count;
+      first = restood_holds (λ g. 0 < g.number) (λ g o p. p) changes a.goals i.first;
       last = restood_holds (λ g. g.number ≤ a.last_goal) (λ g o p. p) changes a.goals i.last;
+      few = (let few = i.few in omega arith);
+      most = (let room = r.draft.draft.room in omega arith);
       settled = load_settled a source d old hooks known changes names row i r;
+      enabled = restood_holds (IsEnabled a.shoens a.work) (λ g o p. p) changes a.goals i.enabled;
       rows = λ f fits. read_more f a.modules (record d { row = row }) (i.rows f (r.fits f fits)) (r.numbers f fits);
       named = λ f g ff fg.
           let steps = load_steps a source d hooks changes names row r in
@@ -260,11 +293,11 @@ drafted_at ms names entries source l d is e = let P : Loading → Type 0 = λ x.
 
 -- a draft for which all that wants memory is done, and the names of which are published
 pub ready : (a : Account) (source : List ℕ) (l : Loading) (d : Numbered) (hooks : List Hook) (found changes : List Change) (used names : List Known) (code : Module) (texts : List (List ℕ)) (items row : List CellName) →
-    LoadsAs a.modules a.names a.entries source l → l ≡ Drafted d → Settles a.modules d hooks a.held a.goals found → changes ≡ found → used ≡ a.names → texts ≡ own_names code → code ≡ d.content →
+    LoadsAs a.modules a.names a.entries source l → l ≡ Drafted d → Settles a.modules d a.shoens hooks a.held a.goals found → changes ≡ found → used ≡ a.names → texts ≡ own_names code → code ≡ d.content →
     texts_of names ≡ with_texts (texts_of used) texts → AreNumbersOf names texts items → row ≡ items → AreSmall names → ((f : Reading) → Fits names f → Fits used f) → IsReady a source d hooks changes names row
 ready a source l d hooks found changes used names code texts items row loads is settles same_changes same_names are code_is put numbers same_row small fits =
     let own : texts ≡ own_names d.content = are ∙ ap own_names code_is in
-    let S : List Change → Type 0 = λ cs. Settles a.modules d hooks a.held a.goals cs in
+    let S : List Change → Type 0 = λ cs. Settles a.modules d a.shoens hooks a.held a.goals cs in
     let N : List (List ℕ) → Type 0 = λ ts. AreNumbersOf names ts row in
     let R : List CellName → Type 0 = λ r. AreNumbersOf names texts r in
     record {

@@ -1,6 +1,6 @@
 -- What is found where a goal is looked at.
 use Rattle.std.proofs.Common.{◌≡◌, ℕ, ◌==◌, ◌&&◌, true, List, [], ◌∷◌, ◌++◌, map, refl, sym, ap, subst, ◌∙◌}
-use Rattle.std.specs.Prelude.{Option}
+use Rattle.std.specs.Prelude.{Option, Some, None, option_map}
 use Rattle.std.proofs.lemmas.Bool.{and_parts, eqb-true}
 use Rattle.kl1_model.specs.Module.{Clause, Module}
 use Rattle.kl1_model.specs.Term.{Term}
@@ -8,6 +8,7 @@ use Rattle.kl1_model.specs.Match.{clauses_of}
 use Rattle.kl1_model.specs.Waits.{awaited_by_term}
 use Rattle.kl1_text.specs.Reading.{Reads}
 use Rattle.kl1_text.specs.declared.cell_name.CellName.{CellName}
+use Rattle.kl1_store.specs.declared.cell.Cell.{Cell}
 use Rattle.kl1_store.specs.declared.qualified.Qualified.{Qualified}
 use Rattle.kl1_store.specs.Hooks.{Hook}
 use Rattle.kl1_store.specs.Held.{Held}
@@ -22,6 +23,11 @@ use Rattle.kl1_moves.specs.Calls.{call_at}
 use Rattle.kl1_moves.specs.Kinds.{IsKind, IsCall}
 use Rattle.kl1_moves.specs.Moves.{HasPredicate}
 use Rattle.kl1_moves.specs.Standing.{StandsAs}
+use Rattle.kl1_goals.specs.declared.task.Task.{Task}
+use Rattle.kl1_goals.specs.declared.task.Task.TheVariants.{Monitor, Reduces}
+use Rattle.kl1_goals.specs.declared.goal.Goal.{Goal}
+use Rattle.kl1_shoen.specs.declared.shoen.Shoen.{Shoen}
+use Rattle.kl1_shoen.specs.Shoens.{shoen_in}
 use Rattle.kl1_modules.specs.Numbered.{Numbered}
 use Rattle.kl1_modules.specs.Finding.{contents, Finds}
 use Rattle.kl1_moves.specs.Hanging.{HangsOnEach}
@@ -30,9 +36,11 @@ use Rattle.kl1_account.specs.declared.draft.Change.{Change}
 use Rattle.kl1_account.specs.Fitting.{Reading, built}
 use Rattle.kl1_account.specs.Account.{meaning, aim}
 use Rattle.kl1_account.specs.Works.{Knows}
-use Rattle.kl1_account.specs.Looking.{Serves, calls_same, StandsBy, StandsAt, FindsOut}
+use Rattle.kl1_account.specs.Settled.{control_at, front_with, monitor_clause, awaited_by_monitor, IsEnabled}
+use Rattle.kl1_account.specs.Looking.{Serves, calls_same, StandsBy, HearsAt, StandsAt, FindsOut, unlooked, LooksAtOne}
 use Rattle.kl1_store.specs.InModules.{qualified_term}
 use Rattle.kl1_account.proofs.Aims.{kind_at}
+use Rattle.kl1_account.proofs.Waking.{found_out}
 
 -- the predicate of a call is what was found of it, or none
 pub call_has : (ms : List Numbered) (kind : Kind CellName) (c : Call CellName) (found : Option (Predicate CellName)) (p : Predicate CellName) → kind ≡ Calls c → Finds ms c.module_name c.name c.count found →
@@ -55,6 +63,8 @@ pub serves_has : (ms : List Numbered) (kind : Kind CellName) (p : Predicate Cell
 serves_has ms (Calls c) p s f knows h t is = s f knows (call_at f h c) (record { module_is = refl; name_is = refl; counted = is.counted })
 serves_has ms (kinds.Unifies left right) p s f knows h t is = tt
 serves_has ms (kinds.Assigns left right) p s f knows h t is = tt
+serves_has ms (kinds.Spells codes target) p s f knows h t is = tt
+serves_has ms (kinds.Executes n) p s f knows h t is = tt
 serves_has ms kinds.Goes p s f knows h t is = tt
 serves_has ms (kinds.Waits v) p s f knows h t is = tt
 serves_has ms kinds.Nothing p s f knows h t is = tt
@@ -75,6 +85,8 @@ serves_same ms c (Calls d) p e s = λ f knows call asks.
     })
 serves_same ms c (kinds.Unifies left right) p e s = tt
 serves_same ms c (kinds.Assigns left right) p e s = tt
+serves_same ms c (kinds.Spells codes target) p e s = tt
+serves_same ms c (kinds.Executes n) p e s = tt
 serves_same ms c kinds.Goes p e s = tt
 serves_same ms c (kinds.Waits v) p e s = tt
 serves_same ms c kinds.Nothing p e s = tt
@@ -89,19 +101,60 @@ pub stands_by : (h : Held CellName) (hooks : List Hook) (kind : Kind CellName) (
 stands_by h hooks kind p n vs ws clause stands same hangs =
     let H : List ℕ → Type 0 = λ us. HangsOnEach hooks n us in
     record {
-      found = λ f ms x reads k has.
+      found = λ f ms shoens m x reads k has.
           let s = stands f reads (contents ms) (aim f h x) k has in
           record { standing = s.clause_is; hung = hangs_on_same hooks n vs (awaited_by_term (contents ms) (aim f h x)) s.awaits (subst H same hangs) };
     }
 
 -- the same of the goal for a cell, where its kind and its predicate are found
-pub stands_at : (ms : List Numbered) (h : Held CellName) (hooks : List Hook) (x : Qualified CellName) (kind : Kind CellName) (p : Predicate CellName) (c : Change) →
+pub stands_at : (ms : List Numbered) (shoens : List (Shoen CellName)) (h : Held CellName) (hooks : List Hook) (n : ℕ) (x : Qualified CellName) (kind : Kind CellName) (p : Predicate CellName) (c : Change) →
     ((f : Reading) → Reads built f → IsKind f h (qualified_term f h x) kind) →
     ((f : Reading) → Knows ms f → (k : Held CellName) (t : Term) → IsKind f k t kind → HasPredicate f k (contents ms) kind p) →
-    StandsBy h hooks kind p c → StandsAt ms h hooks x c
-stands_at ms h hooks x kind p c is has s = record { found = λ f knows. let k = kind_at f h x kind (is f knows.reads) in s.found f ms x knows.reads k (has f knows h (aim f h x) k) }
+    StandsBy h hooks kind p c → StandsAt ms shoens h hooks n (Reduces x) c
+stands_at ms shoens h hooks n x kind p c is has s = record { found = λ f knows. let k = kind_at f h x kind (is f knows.reads) in s.found f ms shoens n x knows.reads k (has f knows h (aim f h x) k) }
+
+-- ---- monitors
+
+no_control : (shoens : List (Shoen CellName)) (n : ℕ) → None ≡ shoen_in n shoens → None ≡ control_at shoens n
+no_control shoens n e = ap (λ o. option_map (λ (k : Shoen CellName). k.control) o) e
+
+-- nothing is found of the monitor of a shoen that isn't there
+pub nobody_stands : (ms : List Numbered) (shoens : List (Shoen CellName)) (h : Held CellName) (hooks : List Hook) (n m : ℕ) → None ≡ shoen_in n shoens → StandsAt ms shoens h hooks n Monitor (record { number = m; standing = None })
+nobody_stands ms shoens h hooks n m e =
+    let none = no_control shoens n e in
+    record {
+      found = λ f knows.
+          let H : Option (Cell CellName) → Type 0 = λ x. HangsOnEach hooks m (awaited_by_monitor (front_with (meaning f h) x)) in
+          record { standing = ap (λ x. monitor_clause (front_with (meaning f h) x)) none; hung = subst H none tt };
+    }
+
+-- what is found of the monitor of a shoen by its control stream
+pub monitor_stands : (ms : List Numbered) (shoens : List (Shoen CellName)) (h : Held CellName) (hooks : List Hook) (n : ℕ) (s : Shoen CellName) (c : Change) → Some s ≡ shoen_in n shoens → HearsAt h hooks s.control c → StandsAt ms shoens h hooks n Monitor c
+monitor_stands ms shoens h hooks n s c e hears =
+    let is : Some s.control ≡ control_at shoens n = ap (λ o. option_map (λ (k : Shoen CellName). k.control) o) e in
+    record {
+      found = λ f knows.
+          let H : Option (Cell CellName) → Type 0 = λ x. HangsOnEach hooks c.number (awaited_by_monitor (front_with (meaning f h) x)) in
+          record { standing = hears.standing f knows.reads ∙ ap (λ x. monitor_clause (front_with (meaning f h) x)) is; hung = subst H is (hears.hung f knows.reads) };
+    }
+
+-- ---- changes
 
 -- what is found becomes one change more
-pub finds_out : (ms : List Numbered) (h : Held CellName) (hooks : List Hook) (x : Qualified CellName) (n : ℕ) (clause : Option ℕ) (before after : List Change) →
-    StandsAt ms h hooks x (record { number = n; standing = clause }) → after ≡ before ++ record { number = n; standing = clause } ∷ [] → FindsOut ms h hooks x n before after
-finds_out ms h hooks x n clause before after s e = record { change = record { number = n; standing = clause }; is = e; number_is = refl; found = s.found }
+pub finds_out : (ms : List Numbered) (shoens : List (Shoen CellName)) (h : Held CellName) (hooks : List Hook) (m : ℕ) (t : Task CellName) (n : ℕ) (clause : Option ℕ) (before after : List Change) →
+    StandsAt ms shoens h hooks m t (record { number = n; standing = clause }) → after ≡ before ++ record { number = n; standing = clause } ∷ [] → FindsOut ms shoens h hooks m t n before after
+finds_out ms shoens h hooks m t n clause before after s e = record { change = record { number = n; standing = clause }; is = e; number_is = refl; found = s.found }
+
+-- what is found of a goal that comes, and whether it may step
+pub looks_at_one : (ms : List Numbered) (shoens : List (Shoen CellName)) (work : List ℕ) (h : Held CellName) (hooks : List Hook) (g k : Goal CellName) → StandsAt ms shoens h hooks g.shoen g.task (record { number = g.number; standing = k.standing }) →
+    k.number ≡ g.number → k.task ≡ g.task → k.shoen ≡ g.shoen → k.priority ≡ g.priority → IsEnabled shoens work k → LooksAtOne ms shoens work h hooks g k
+looks_at_one ms shoens work h hooks g k s number_is task_is shoen_is priority_is enabled =
+    let c : Change = record { number = g.number; standing = k.standing } in
+    record {
+      same = unlooked_same k g number_is task_is shoen_is priority_is;
+      settled = λ f knows. found_out f hooks h ms shoens c g k number_is shoen_is task_is refl (s.found f knows);
+      enabled = enabled;
+    }
+  where
+    unlooked_same : (k g : Goal CellName) → k.number ≡ g.number → k.task ≡ g.task → k.shoen ≡ g.shoen → k.priority ≡ g.priority → unlooked k ≡ unlooked g
+    unlooked_same k g a b c d = cc

@@ -5,7 +5,8 @@ use Rattle.kl1_model.specs.Print.{print, cut_text}
 use Rattle.kl1_model.specs.State as model
 use Rattle.kl1_model.specs.State.{shoen_at}
 use Rattle.kl1_model.specs.Event.{no_shoen, syntax, shown, refuse, read, value, Stepped, is_number}
-use Rattle.kl1_model.specs.Step.{step, value_of, origin_at}
+use Rattle.kl1_model.specs.Asking.{value_of}
+use Rattle.kl1_model.specs.Step.{step, origin_at}
 use Rattle.kl1_text.specs.declared.cell_name.CellName.{CellName}
 use Rattle.kl1_store.specs.Held.{Held}
 use Rattle.kl1_shoen.specs.declared.shoen.Origin.{Origin}
@@ -19,7 +20,7 @@ use Rattle.kl1_account.specs.Kept.{IsKeptIn, IsOriginIn, AreShoensIn}
 abbrev pub kept_at : ℕ → List (Shoen CellName) → Option (Origin CellName)
 kept_at n ss = option_and_then (λ shoen. shoen.origin) (find (has_number n) ss)
 
-origin_read : (t : Means) (n : ℕ) (ss : List (Shoen CellName)) → origin_at n (map (shoen_with t) ss) ≡ option_map (origin_with t) (kept_at n ss)
+pub origin_read : (t : Means) (n : ℕ) (ss : List (Shoen CellName)) → origin_at n (map (shoen_with t) ss) ≡ option_map (origin_with t) (kept_at n ss)
 origin_read t n [] = refl
 origin_read t n (s ∷ ss) = by_case (s.number == n) (origin_read t n ss)
   where

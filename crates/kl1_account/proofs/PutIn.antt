@@ -1,118 +1,79 @@
--- A draft that is put in place: its goals with their clauses, and its shoen among the others.
-use Rattle.std.proofs.Common.{◌≡◌, ℕ, zero, suc, ◌+◌, ◌-◌, ◌<◌, ◌≤◌, ◌==◌, Bool, true, false, if◌then◌else◌, List, [], ◌∷◌, ◌++◌, length, map, refl, sym, ap, ◌∙◌, arith, subst}
-use Rattle.std.specs.Prelude.{Option, Some, None, find, slice_set}
+-- A reduction that is drafted, in the step of an account.
+use Rattle.std.proofs.Common.{◌≡◌, ℕ, ◌<◌, not, Bool, if◌then◌else◌, List, [], ◌∷◌, ◌++◌, map, refl, sym, ap, ◌∙◌, arith}
+use Rattle.std.specs.Prelude.{filter}
 use Rattle.std.specs.List.{AllByRecursion}
-use Rattle.std.proofs.lemmas.List.{map-append}
-use Rattle.std.proofs.lemmas.Bool.{ne_eqb, eq-eqb}
-use Rattle.kl1_model.specs.State as model
+use Rattle.std.proofs.lemmas.Bool.{ne_eqb}
+use Rattle.std.proofs.lemmas.List.{append-nil}
+use Rattle.kl1_model.specs.State.{State, without_goal}
+use Rattle.kl1_model.specs.Event.{with_entry}
 use Rattle.kl1_text.specs.declared.cell_name.CellName.{CellName}
-use Rattle.kl1_store.specs.declared.qualified.Qualified.{Qualified}
-use Rattle.kl1_store.specs.Held.{Held}
-use Rattle.kl1_goals.specs.declared.task.Task.TheVariants.{Reduces}
 use Rattle.kl1_goals.specs.declared.goal.Goal.{Goal}
+use Rattle.kl1_goals.specs.Lists.{is_other, is_flagged}
 use Rattle.kl1_shoen.specs.declared.shoen.Shoen.{Shoen}
-use Rattle.kl1_shoen.specs.Shoens.{has_number, exchanged}
+use Rattle.kl1_shoen.specs.Shoens.{Tree}
 use Rattle.kl1_account.specs.declared.draft.Draft.{Draft}
-use Rattle.kl1_account.specs.Account.{Means, goal_with, aim_with}
-use Rattle.kl1_account.specs.Kept.{IsShoenIn, AreShoensIn, AreNumbered}
-use Rattle.kl1_account.specs.Works.{with_shoen}
-use Rattle.kl1_account.specs.Drafts.{goals_for, goals_left, goals_added, made_of, restood, goals_standing, goals_after}
-use Rattle.kl1_account.proofs.Restood.{Holds, restood_holds, restood_read, each_append, each_part}
+use Rattle.kl1_account.specs.Fitting.{Reading}
+use Rattle.kl1_account.specs.Account.{Account, meaning, goal_with, state_of, texts_of}
+use Rattle.kl1_account.specs.Works.{Made, worked}
+use Rattle.kl1_account.specs.Drafts.{staying, goals_left, names_with, made_of}
+use Rattle.kl1_account.specs.Installing.{IsBegun}
+use Rattle.kl1_account.proofs.Goals.{all_stay, others_read}
 
--- ---- goals with their clauses
+-- where no goal has the number 0, none goes with it
+pub none_goes : (gs : List (Goal CellName)) → AllByRecursion (λ g. 0 < g.number) gs → filter (is_other 0) gs ≡ gs
+none_goes [] a = refl
+none_goes (g ∷ gs) a =
+    let lt = a.0 in
+    ap (λ b. if not b then g ∷ filter (is_other 0) gs else filter (is_other 0) gs) (ne_eqb g.number 0 (λ e. omega (arith, e, lt)))
+    ∙ ap (λ (xs : List (Goal CellName)). g ∷ xs) (none_goes gs a.1)
 
-standing_read : (t : Means) (last shoen priority : ℕ) (xs : List (Qualified CellName)) (ss : List (Option ℕ)) → map (goal_with t) (goals_standing last shoen priority xs ss) ≡ map (goal_with t) (goals_for last shoen priority xs)
-standing_read t last shoen priority [] ss = refl
-standing_read t last shoen priority (x ∷ xs) [] = refl
-standing_read t last shoen priority (x ∷ xs) (s ∷ ss) =
-    ap (λ (gs : List model.Goal). let g : model.Goal = record { number = suc last; task = model.reduces (aim_with t x); shoen = shoen; priority = priority } in g ∷ gs) (standing_read t (suc last) shoen priority xs ss)
+-- what a draft that has begun leaves of goals
+pub begun_left : (removed last variables nodes reports : ℕ) (d : Draft) (gs : List (Goal CellName)) → IsBegun removed last variables nodes reports d → goals_left (gs ++ d.added.items) d ≡ filter (is_other removed) gs
+begun_left removed last variables nodes reports d gs b =
+    ap (λ (ks : List (Goal CellName)). goals_left (gs ++ ks) d) b.added
+    ∙ ap (λ (ks : List (Goal CellName)). goals_left ks d) (append-nil gs)
+    ∙ ap (λ (ns : List ℕ). staying d.removed d.aborted.items ns gs) b.ended
+    ∙ ap (λ (fs : List Bool). filter (λ g. not (is_flagged fs g)) (filter (is_other d.removed) gs)) b.aborted
+    ∙ all_stay (filter (is_other d.removed) gs)
+    ∙ ap (λ n. filter (is_other n) gs) b.removed_is
 
--- the goals of a draft in place are those that it makes: their clauses are no part of what they are
-pub after_read : (t : Means) (goals : List (Goal CellName)) (d : Draft) → map (goal_with t) (goals_after goals d) ≡ map (goal_with t) (made_of goals d).goals
-after_read t goals d =
-    let left = goals_left goals d in
-    let added = goals_standing d.last_goal d.shoen.number d.priority d.cells.items d.standings.items in
-    map-append (goal_with t) (restood d.changes.items left) added
-    ∙ ap (λ (gs : List model.Goal). gs ++ map (goal_with t) added) (restood_read t d.changes.items left)
-    ∙ ap (λ (gs : List model.Goal). map (goal_with t) left ++ gs) (standing_read t d.last_goal d.shoen.number d.priority d.cells.items d.standings.items)
-    ∙ sym (map-append (goal_with t) left (goals_added d))
+-- what is made of an account at first, without the goal of a number
+abbrev pub made_first : Account → ℕ → Made
+made_first a removed = record {
+  goals = filter (is_other removed) a.goals;
+  shoens = a.shoens;
+  work = a.work;
+  names = texts_of a.names;
+  last_goal = a.last_goal;
+  variables = a.variables;
+  nodes = a.nodes;
+  reports = a.reports;
+}
 
-standing_holds : (P : Goal CellName → Type 0) → Holds P → (last shoen priority : ℕ) (xs : List (Qualified CellName)) (ss : List (Option ℕ)) → AllByRecursion P (goals_for last shoen priority xs) → AllByRecursion P (goals_standing last shoen priority xs ss)
-standing_holds P all last shoen priority [] ss a = tt
-standing_holds P all last shoen priority (x ∷ xs) [] a = a
-standing_holds P all last shoen priority (x ∷ xs) (s ∷ ss) a =
-    (all (record { number = suc last; task = Reduces x; shoen = shoen; priority = priority; standing = None }) s a.0, standing_holds P all (suc last) shoen priority xs ss a.1)
+-- a draft that has begun makes just that of it
+pub begun_made : (a : Account) (removed : ℕ) (t : Tree CellName) (d : Draft) → t.shoens ≡ a.shoens → t.work ≡ a.work → IsBegun removed a.last_goal a.variables a.nodes a.reports d → made_of a.goals (texts_of a.names) t d ≡ made_first a removed
+begun_made a removed t d shoens work b =
+    ap (λ (gs : List (Goal CellName)). let z : Made = record { goals = gs; shoens = t.shoens; work = t.work; names = names_with (texts_of a.names) d.name; last_goal = d.last_goal; variables = d.variables; nodes = d.nodes; reports = d.reports } in z) (begun_left removed a.last_goal a.variables a.nodes a.reports d a.goals b)
+    ∙ ap (λ (ss : List (Shoen CellName)). let z : Made = record { goals = filter (is_other removed) a.goals; shoens = ss; work = t.work; names = names_with (texts_of a.names) d.name; last_goal = d.last_goal; variables = d.variables; nodes = d.nodes; reports = d.reports } in z) shoens
+    ∙ ap (λ (ws : List ℕ). let z : Made = record { goals = filter (is_other removed) a.goals; shoens = a.shoens; work = ws; names = names_with (texts_of a.names) d.name; last_goal = d.last_goal; variables = d.variables; nodes = d.nodes; reports = d.reports } in z) work
+    ∙ ap (λ n. let z : Made = record { goals = filter (is_other removed) a.goals; shoens = a.shoens; work = a.work; names = names_with (texts_of a.names) n; last_goal = d.last_goal; variables = d.variables; nodes = d.nodes; reports = d.reports } in z) b.name
+    ∙ ap (λ n. let z : Made = record { goals = filter (is_other removed) a.goals; shoens = a.shoens; work = a.work; names = texts_of a.names; last_goal = n; variables = d.variables; nodes = d.nodes; reports = d.reports } in z) b.last_is
+    ∙ ap (λ n. let z : Made = record { goals = filter (is_other removed) a.goals; shoens = a.shoens; work = a.work; names = texts_of a.names; last_goal = a.last_goal; variables = n; nodes = d.nodes; reports = d.reports } in z) b.variables_are
+    ∙ ap (λ n. let z : Made = record { goals = filter (is_other removed) a.goals; shoens = a.shoens; work = a.work; names = texts_of a.names; last_goal = a.last_goal; variables = a.variables; nodes = n; reports = d.reports } in z) b.nodes_are
+    ∙ ap (λ n. let z : Made = record { goals = filter (is_other removed) a.goals; shoens = a.shoens; work = a.work; names = texts_of a.names; last_goal = a.last_goal; variables = a.variables; nodes = a.nodes; reports = n } in z) b.reports_are
 
--- what holds of goals by whatever clause they can step holds of them
-pub after_holds : (P : Goal CellName → Type 0) → Holds P → (goals : List (Goal CellName)) (d : Draft) → AllByRecursion P (made_of goals d).goals → AllByRecursion P (goals_after goals d)
-after_holds P all goals d a =
-    let parts = each_part P (goals_left goals d) (goals_added d) a in
-    each_append P (restood d.changes.items (goals_left goals d)) (goals_standing d.last_goal d.shoen.number d.priority d.cells.items d.standings.items)
-    (restood_holds P all d.changes.items (goals_left goals d) parts.0) (standing_holds P all d.last_goal d.shoen.number d.priority d.cells.items d.standings.items parts.1)
+-- the state of an account without the goal of a number is what a draft that has begun makes of it
+pub begun_state : (f : Reading) (a : Account) (removed : ℕ) (t : Tree CellName) (d : Draft) → t.shoens ≡ a.shoens → t.work ≡ a.work → IsBegun removed a.last_goal a.variables a.nodes a.reports d →
+    without_goal removed (with_entry (state_of f a)) ≡ worked f (with_entry (state_of f a)) a.held (made_of a.goals (texts_of a.names) t d)
+begun_state f a removed t d shoens work b =
+    let s = with_entry (state_of f a) in
+    ap (λ gs. let z : State = record s { goals = gs } in z) (others_read (meaning f a.held) removed a.goals)
+    ∙ sym (ap (λ w. worked f s a.held w) (begun_made a removed t d shoens work b))
 
--- ---- a shoen among the others
-
--- shoens with greater numbers stay
-none_exchanged : (k : ℕ) (ss : List (Shoen CellName)) (s : Shoen CellName) → AreNumbered k ss → s.number ≤ k → exchanged s ss ≡ ss
-none_exchanged k [] s a le = refl
-none_exchanged k (r ∷ ss) s a le =
-    let m = a.0 in
-    ap (λ b. (if b then s else r) ∷ exchanged s ss) (ne_eqb r.number s.number (λ e. omega arith))
-    ∙ ap (λ (xs : List (Shoen CellName)). r ∷ xs) (none_exchanged (suc k) ss s a.1 (omega arith))
-
-exchanged_at : (k i : ℕ) (ss : List (Shoen CellName)) (s : Shoen CellName) → AreNumbered k ss → s.number ≡ suc (k + i) → i < length ss → exchanged s ss ≡ slice_set ss i s
-exchanged_at k i [] s a e lt = absurd (omega arith)
-exchanged_at k zero (r ∷ ss) s a e lt =
-    let m = a.0 in
-    ap (λ b. (if b then s else r) ∷ exchanged s ss) (eq-eqb r.number s.number (omega arith))
-    ∙ ap (λ (xs : List (Shoen CellName)). s ∷ xs) (none_exchanged (suc k) ss s a.1 (omega arith))
-exchanged_at k (suc i) (r ∷ ss) s a e lt =
-    let m = a.0 in
-    ap (λ b. (if b then s else r) ∷ exchanged s ss) (ne_eqb r.number s.number (λ q. omega arith))
-    ∙ ap (λ (xs : List (Shoen CellName)). r ∷ xs) (exchanged_at (suc k) i ss s a.1 (omega arith) (omega arith))
-
--- the shoen of a number is the one at its place
-pub exchanged_is : (ss : List (Shoen CellName)) (s : Shoen CellName) → AreNumbered 0 ss → 0 < s.number → s.number < suc (length ss) → exchanged s ss ≡ with_shoen ss s
-exchanged_is ss s a low high = exchanged_at 0 (s.number - 1) ss s a (omega arith) (omega arith)
-
-pub exchanged_count : (ss : List (Shoen CellName)) (s : Shoen CellName) → length (exchanged s ss) ≡ length ss
-exchanged_count [] s = refl
-exchanged_count (r ∷ ss) s = ap suc (exchanged_count ss s)
-
-pub found_shoen_in : (h : Held CellName) (n : ℕ) (ss : List (Shoen CellName)) (s : Shoen CellName) → AreShoensIn h ss → find (has_number n) ss ≡ Some s → IsShoenIn h s
-found_shoen_in h n [] s i e = absurd (cc)
-found_shoen_in h n (r ∷ ss) s i e = by_case (r.number == n) e (found_shoen_in h n ss s i.1)
-  where
-    by_case : (b : Bool) → (if b then Some r else find (has_number n) ss) ≡ Some s → (find (has_number n) ss ≡ Some s → IsShoenIn h s) → IsShoenIn h s
-    by_case true f k = let P : Shoen CellName → Type 0 = λ z. IsShoenIn h z in let same : r ≡ s = cc in subst P same i.0
-    by_case false f k = k f
-
--- a shoen that is found by its number stands at its place
-put_back_at : (k i n : ℕ) (ss : List (Shoen CellName)) (s : Shoen CellName) → AreNumbered k ss → n ≡ suc (k + i) → find (has_number n) ss ≡ Some s → slice_set ss i s ≡ ss
-put_back_at k i n [] s a e f = refl
-put_back_at k zero n (r ∷ ss) s a e f =
-    let m = a.0 in
-    let here : Some r ≡ Some s = sym (ap (λ b. if b then Some r else find (has_number n) ss) (eq-eqb r.number n (omega arith))) ∙ f in
-    let same : s ≡ r = cc in
-    ap (λ (z : Shoen CellName). z ∷ ss) same
-put_back_at k (suc i) n (r ∷ ss) s a e f =
-    let m = a.0 in
-    ap (λ (xs : List (Shoen CellName)). r ∷ xs)
-    (put_back_at (suc k) i n ss s a.1 (omega arith) (sym (ap (λ b. if b then Some r else find (has_number n) ss) (ne_eqb r.number n (λ q. omega arith))) ∙ f))
-
-pub put_back : (n : ℕ) (ss : List (Shoen CellName)) (s : Shoen CellName) → AreNumbered 0 ss → 0 < n → s.number ≡ n → find (has_number n) ss ≡ Some s → with_shoen ss s ≡ ss
-put_back n ss s a low e f = put_back_at 0 (s.number - 1) n ss s a (omega arith) f
-
-absent_at : (k i n : ℕ) (ss : List (Shoen CellName)) → AreNumbered k ss → n ≡ suc (k + i) → i < length ss → find (has_number n) ss ≡ None → ⊥
-absent_at k i n [] a e lt f = omega arith
-absent_at k zero n (r ∷ ss) a e lt f =
-    let m = a.0 in
-    let here : Some r ≡ None = sym (ap (λ b. if b then Some r else find (has_number n) ss) (eq-eqb r.number n (omega arith))) ∙ f in
-    cc
-absent_at k (suc i) n (r ∷ ss) a e lt f =
-    let m = a.0 in
-    absent_at (suc k) i n ss a.1 (omega arith) (omega arith) (sym (ap (λ b. if b then Some r else find (has_number n) ss) (ne_eqb r.number n (λ q. omega arith))) ∙ f)
-
--- each number of so many is a shoen's
-pub never_absent : (n : ℕ) (ss : List (Shoen CellName)) → AreNumbered 0 ss → 0 < n → n < suc (length ss) → find (has_number n) ss ≡ None → ⊥
-never_absent n ss a low high f = absent_at 0 (n - 1) n ss a (omega arith) (omega arith) f
+-- where no goal has the number 0, the state of an account is what a draft makes of it that has begun and removes nothing
+pub begun_whole : (f : Reading) (a : Account) (t : Tree CellName) (d : Draft) → AllByRecursion (λ g. 0 < g.number) a.goals → t.shoens ≡ a.shoens → t.work ≡ a.work → IsBegun 0 a.last_goal a.variables a.nodes a.reports d →
+    with_entry (state_of f a) ≡ worked f (with_entry (state_of f a)) a.held (made_of a.goals (texts_of a.names) t d)
+begun_whole f a t d first shoens work b =
+    let s = with_entry (state_of f a) in
+    ap (λ (gs : List (Goal CellName)). let z : State = record s { goals = map (goal_with (meaning f a.held)) gs } in z) (sym (none_goes a.goals first))
+    ∙ sym (ap (λ w. worked f s a.held w) (begun_made a 0 t d shoens work b))

@@ -57,3 +57,18 @@ may_high allowance low high goal m =
     let u = and_parts (nat_le low high) (nat_le high most_priority) t.1 in
     let le : high ≤ most_priority = leb-true high most_priority u.1 in
     omega arith
+
+-- and so is the least of its shoen
+pub may_low : (allowance low high : ℕ) (goal : Term) → may_start allowance low high goal ≡ true → low ≤ monitor_priority
+may_low allowance low high goal m =
+    let short = nat_le (length (start_line allowance low high goal)) most_line_bytes in
+    let one = is_number allowance && is_range low high in
+    let p = and_parts (one && is_goal goal && is_writable goal && is_numbered goal) short m in
+    let q = and_parts (one && is_goal goal && is_writable goal) (is_numbered goal) p.0 in
+    let r = and_parts (one && is_goal goal) (is_writable goal) q.0 in
+    let s = and_parts one (is_goal goal) r.0 in
+    let t = and_parts (is_number allowance) (is_range low high) s.0 in
+    let u = and_parts (nat_le low high) (nat_le high most_priority) t.1 in
+    let le : low ≤ high = leb-true low high u.0 in
+    let most : high ≤ most_priority = leb-true high most_priority u.1 in
+    omega (arith, le, most)

@@ -1,10 +1,9 @@
 -- States made of goals and shoens whose cells are read in one way or another.
-use Rattle.std.proofs.Common.{◌≡◌, ℕ, zero, suc, ◌+◌, ◌<◌, ◌≤◌, ◌==◌, if◌then◌else◌, List, [], ◌∷◌, length, map, refl, ap, ◌∙◌, arith, length-take}
-use Rattle.std.specs.Prelude.{codes, Option, Some, None, option_map, slice_set}
-use Rattle.std.proofs.lemmas.Bool.{ne_eqb, eq-eqb}
+use Rattle.std.proofs.Common.{◌≡◌, ℕ, suc, ◌==◌, Bool, true, false, if◌then◌else◌, List, [], ◌∷◌, length, map, refl, ap, ap₂, ◌∙◌, arith, length-take, subst}
+use Rattle.std.specs.Prelude.{codes, Option, Some, None, option_map, find}
 use Rattle.kl1_model.specs.Term.{Term, structure, none, more, replace, Replacement, replaced}
 use Rattle.kl1_model.specs.State as model
-use Rattle.kl1_model.specs.State.{State, replace_in_goal, replace_in_shoen, replace_in_state, replace_all, shoen_at, change_shoen}
+use Rattle.kl1_model.specs.State.{State, replace_in_goal, replace_in_shoen, replace_in_state, replace_all, shoen_at}
 use Rattle.kl1_text.specs.declared.cell_name.CellName.{CellName}
 use Rattle.kl1_store.specs.declared.qualified.Qualified.{Qualified}
 use Rattle.kl1_store.specs.declared.cell.Cell.{Cell}
@@ -16,8 +15,9 @@ use Rattle.kl1_goals.specs.declared.task.Task.TheVariants.{Monitor, Reduces}
 use Rattle.kl1_goals.specs.declared.goal.Goal.{Goal}
 use Rattle.kl1_shoen.specs.declared.shoen.Origin.{Origin}
 use Rattle.kl1_shoen.specs.declared.shoen.Shoen.{Shoen}
+use Rattle.kl1_shoen.specs.Shoens.{has_number, changed}
 use Rattle.kl1_account.specs.Account.{Means, task_with, goal_with, origin_with, shoen_with, state_with, told_in, aim_with}
-use Rattle.kl1_account.specs.Kept.{IsTaskIn, AreGoalsIn, IsOriginIn, IsShoenIn, AreShoensIn, AreNumbered}
+use Rattle.kl1_account.specs.Kept.{IsTaskIn, AreGoalsIn, IsOriginIn, IsShoenIn, AreShoensIn}
 
 -- ---- one way of reading in place of another
 
@@ -105,39 +105,31 @@ pub all_replaced : (rs : List Replacement) (s : State) (t : Means) (last : ℕ) 
 all_replaced [] s t last gs ss = refl
 all_replaced (r ∷ rs) s t last gs ss = ap (replace_all rs) (replaced_state s r.number r.by t last gs ss) ∙ all_replaced rs s (λ x. replace r.number r.by (t x)) last gs ss
 
--- ---- the shoen at a place
+-- ---- shoens by number
 
--- the shoen of a number is the one at its place
-pub found_at : (t : Means) (k i n : ℕ) (ss : List (Shoen CellName)) (s : Shoen CellName) → AreNumbered k ss → i < length ss → n ≡ suc (k + i) → s.number ≡ n → shoen_at n (map (shoen_with t) (slice_set ss i s)) ≡ Some (shoen_with t s)
-found_at t k i n [] s a lt e f = absurd (omega arith)
-found_at t k zero n (r ∷ ss) s a lt e f = ap (λ c. if c then Some (shoen_with t s) else shoen_at n (map (shoen_with t) ss)) (eq-eqb s.number n f)
-found_at t k (suc i) n (r ∷ ss) s a lt e f =
-    let m = a.0 in
-    ap (λ c. if c then Some (shoen_with t r) else shoen_at n (map (shoen_with t) (slice_set ss i s))) (ne_eqb r.number n (λ q. omega arith))
-    ∙ found_at t (suc k) i n ss s a.1 (omega arith) (omega arith) f
+if_found : (c : Bool) (t : Means) (h : Shoen CellName) (o : Option (Shoen CellName)) (p : Option model.Shoen) → p ≡ option_map (shoen_with t) o → (if c then Some (shoen_with t h) else p) ≡ option_map (shoen_with t) (if c then Some h else o)
+if_found true t h o p e = refl
+if_found false t h o p e = e
 
--- a change of the shoen of a number
-abbrev pub changed_to : ℕ → (model.Shoen → model.Shoen) → List model.Shoen → List model.Shoen
-changed_to n change ss = map (λ h. if h.number == n then change h else h) ss
+-- the shoen of a number is the one that is found
+pub found_in : (t : Means) (n : ℕ) (ss : List (Shoen CellName)) → shoen_at n (map (shoen_with t) ss) ≡ option_map (shoen_with t) (find (has_number n) ss)
+found_in t n [] = refl
+found_in t n (h ∷ ss) = if_found (h.number == n) t h (find (has_number n) ss) (shoen_at n (map (shoen_with t) ss)) (found_in t n ss)
 
-unchanged : (t : Means) (change : model.Shoen → model.Shoen) (k n : ℕ) (ss : List (Shoen CellName)) → AreNumbered k ss → n ≤ k → changed_to n change (map (shoen_with t) ss) ≡ map (shoen_with t) ss
-unchanged t change k n [] a le = refl
-unchanged t change k n (r ∷ ss) a le =
-    let m = a.0 in
-    ap (λ c. (if c then change (shoen_with t r) else shoen_with t r) ∷ changed_to n change (map (shoen_with t) ss)) (ne_eqb r.number n (λ q. omega arith))
-    ∙ ap (λ (xs : List model.Shoen). shoen_with t r ∷ xs) (unchanged t change (suc k) n ss a.1 (omega arith))
+if_changed : (c : Bool) (t : Means) (f : Shoen CellName → Shoen CellName) (g : model.Shoen → model.Shoen) (h : Shoen CellName) → g (shoen_with t h) ≡ shoen_with t (f h) → (if c then g (shoen_with t h) else shoen_with t h) ≡ shoen_with t (if c then f h else h)
+if_changed true t f g h e = e
+if_changed false t f g h e = refl
 
-pub changed_at : (t : Means) (change : model.Shoen → model.Shoen) (k i n : ℕ) (ss : List (Shoen CellName)) (s r : Shoen CellName) → AreNumbered k ss → i < length ss → n ≡ suc (k + i) → s.number ≡ n → change (shoen_with t s) ≡ shoen_with t r →
-    changed_to n change (map (shoen_with t) (slice_set ss i s)) ≡ map (shoen_with t) (slice_set ss i r)
-changed_at t change k i n [] s r a lt e f c = absurd (omega arith)
-changed_at t change k zero n (q ∷ ss) s r a lt e f c =
-    ap (λ b. (if b then change (shoen_with t s) else shoen_with t s) ∷ changed_to n change (map (shoen_with t) ss)) (eq-eqb s.number n f)
-    ∙ ap (λ (x : model.Shoen). x ∷ changed_to n change (map (shoen_with t) ss)) c
-    ∙ ap (λ (xs : List model.Shoen). shoen_with t r ∷ xs) (unchanged t change (suc k) n ss a.1 (omega arith))
-changed_at t change k (suc i) n (q ∷ ss) s r a lt e f c =
-    let m = a.0 in
-    ap (λ b. (if b then change (shoen_with t q) else shoen_with t q) ∷ changed_to n change (map (shoen_with t) (slice_set ss i s))) (ne_eqb q.number n (λ z. omega arith))
-    ∙ ap (λ (xs : List model.Shoen). shoen_with t q ∷ xs) (changed_at t change (suc k) i n ss s r a.1 (omega arith) (omega arith) f c)
+-- a change of the shoen of a number is one of the definitions'
+pub changed_in : (t : Means) (n : ℕ) (f : Shoen CellName → Shoen CellName) (g : model.Shoen → model.Shoen) → ((h : Shoen CellName) → g (shoen_with t h) ≡ shoen_with t (f h)) → (ss : List (Shoen CellName)) →
+    map (λ (h : model.Shoen). if h.number == n then g h else h) (map (shoen_with t) ss) ≡ map (shoen_with t) (changed n f ss)
+changed_in t n f g e [] = refl
+changed_in t n f g e (h ∷ ss) = ap₂ (λ (k : model.Shoen) (ks : List model.Shoen). k ∷ ks) (if_changed (h.number == n) t f g h (e h)) (changed_in t n f g e ss)
+
+-- and leaves as many
+pub changed_count : (n : ℕ) (f : Shoen CellName → Shoen CellName) (ss : List (Shoen CellName)) → length (changed n f ss) ≡ length ss
+changed_count n f [] = refl
+changed_count n f (h ∷ ss) = ap suc (changed_count n f ss)
 
 -- ---- cells of a store that has grown
 
@@ -156,7 +148,7 @@ goals_grown h k g (x ∷ gs) i = (by_task x.task i.0, goals_grown h k g gs i.1)
     by_task (Reduces q) i = in_grown h k g q.cell i
 
 pub shoen_grown : (h k : Held CellName) → Grown h k → (s : Shoen CellName) → IsShoenIn h s → IsShoenIn k s
-shoen_grown h k g s i = record { control = in_grown h k g s.control i.control; tail = in_grown h k g s.tail i.tail; origin = by_origin s.origin i.origin }
+shoen_grown h k g s i = record { control = in_grown h k g s.control i.control; tail = in_grown h k g s.tail i.tail; origin = by_origin s.origin i.origin; low = i.low; high = i.high }
   where
     by_origin : (o : Option (Origin CellName)) → IsOriginIn h o → IsOriginIn k o
     by_origin None i = tt
@@ -166,12 +158,20 @@ pub shoens_grown : (h k : Held CellName) → Grown h k → (ss : List (Shoen Cel
 shoens_grown h k g [] i = tt
 shoens_grown h k g (s ∷ ss) i = (shoen_grown h k g s i.0, shoens_grown h k g ss i.1)
 
-pub shoens_set : (h : Held CellName) (ss : List (Shoen CellName)) (i : ℕ) (s : Shoen CellName) → AreShoensIn h ss → IsShoenIn h s → AreShoensIn h (slice_set ss i s)
-shoens_set h [] i s a b = tt
-shoens_set h (r ∷ ss) zero s a b = (b, a.1)
-shoens_set h (r ∷ ss) (suc i) s a b = (a.0, shoens_set h ss i s a.1 b)
+if_in : (c : Bool) (h : Held CellName) (f : Shoen CellName → Shoen CellName) (s : Shoen CellName) → IsShoenIn h (f s) → IsShoenIn h s → IsShoenIn h (if c then f s else s)
+if_in true h f s a b = a
+if_in false h f s a b = b
 
-pub numbered_set : (k : ℕ) (ss : List (Shoen CellName)) (i : ℕ) (s : Shoen CellName) → AreNumbered k ss → s.number ≡ suc (k + i) → AreNumbered k (slice_set ss i s)
-numbered_set k [] i s a e = tt
-numbered_set k (r ∷ ss) zero s a e = (omega arith, a.1)
-numbered_set k (r ∷ ss) (suc i) s a e = (a.0, numbered_set (suc k) ss i s a.1 (omega arith))
+-- shoens of which one is changed to one with cells of the store
+pub shoens_changed : (h : Held CellName) (n : ℕ) (f : Shoen CellName → Shoen CellName) → ((s : Shoen CellName) → IsShoenIn h s → IsShoenIn h (f s)) → (ss : List (Shoen CellName)) → AreShoensIn h ss → AreShoensIn h (changed n f ss)
+shoens_changed h n f e [] a = tt
+shoens_changed h n f e (s ∷ ss) a = (if_in (s.number == n) h f s (e s a.0) a.0, shoens_changed h n f e ss a.1)
+
+found_case : (c : Bool) (h : Held CellName) (r s : Shoen CellName) (o : Option (Shoen CellName)) → (if c then Some r else o) ≡ Some s → IsShoenIn h r → (o ≡ Some s → IsShoenIn h s) → IsShoenIn h s
+found_case true h r s o e i k = let P : Shoen CellName → Type 0 = λ x. IsShoenIn h x in let same : r ≡ s = cc in subst P same i
+found_case false h r s o e i k = k e
+
+-- the shoen that is found has cells of the store
+pub found_shoen_in : (h : Held CellName) (n : ℕ) (ss : List (Shoen CellName)) (s : Shoen CellName) → AreShoensIn h ss → find (has_number n) ss ≡ Some s → IsShoenIn h s
+found_shoen_in h n [] s a e = absurd (cc)
+found_shoen_in h n (r ∷ ss) s a e = found_case (r.number == n) h r s (find (has_number n) ss) e a.0 (λ q. found_shoen_in h n ss s a.1 q)

@@ -1,6 +1,6 @@
 -- Goals that are made whole.
 use Rattle.std.proofs.Common.{◌≡◌, ℕ, [], ◌∷◌, length, length-append, refl, sym, ap, ◌∙◌, arith, subst}
-use Rattle.std.specs.Prelude.{Some, None, Option}
+use Rattle.std.specs.Prelude.{Some, None}
 use Rattle.kl1_model.specs.declared.built_in.BuiltIn.TheVariants.{Colon}
 use Rattle.kl1_model.specs.Term.{structure, none, more}
 use Rattle.kl1_text.specs.declared.cell_name.CellName.{CellName}

@@ -1,7 +1,8 @@
 -- What is made of an account, one change after another.
-use Rattle.std.proofs.Common.{◌≡◌, ℕ, suc, ◌-◌, true, if◌then◌else◌, List, refl, sym, ap, ◌∙◌, arith}
-use Rattle.std.specs.Prelude.{Some, slice_set}
-use Rattle.kl1_model.specs.Term.{Term, variable, integer, atom, structure, replace}
+use Rattle.std.proofs.Common.{◌≡◌, ℕ, suc, ◌-◌, ◌||◌, not, Bool, true, false, if◌then◌else◌, List, length, map, refl, sym, ap, ◌∙◌, arith, subst}
+use Rattle.std.specs.Prelude.{nat_lt, find, Option, Some, None, option_map}
+use Rattle.kl1_model.specs.Limits.{most_reports}
+use Rattle.kl1_model.specs.Term.{Term, variable, integer, atom, structure, replace, occurs}
 use Rattle.kl1_model.specs.Meaning.{cell}
 use Rattle.kl1_model.specs.State as model
 use Rattle.kl1_model.specs.State.{State, shoen_at, change_shoen, replace_in_state}
@@ -16,133 +17,158 @@ use Rattle.kl1_stream.specs.declared.told.Told.{Told}
 use Rattle.kl1_stream.specs.declared.told.Told.TheVariants.{Dropped, Broken, Sent}
 use Rattle.kl1_stream.specs.Reports.{Breaks, ToldAs}
 use Rattle.kl1_shoen.specs.declared.shoen.Shoen.{Shoen}
+use Rattle.kl1_shoen.specs.Shoens.{has_number, changed}
 use Rattle.kl1_modules.specs.Numbered.{Numbered}
 use Rattle.kl1_account.specs.Fitting.{Reading, built}
 use Rattle.kl1_account.specs.Account.{Means, meaning, shoen_with, state_with}
-use Rattle.kl1_account.specs.Kept.{IsShoenIn}
-use Rattle.kl1_account.specs.Works.{Made, with_shoen, worked, IsMadeIn, HasNumber, Knows, Turns, after_report}
-use Rattle.kl1_account.proofs.States.{Agree, same_state, replaced_state, found_at, changed_at, goals_grown, shoen_grown, shoens_grown, shoens_set}
+use Rattle.kl1_account.specs.Kept.{AreOwned, IsShoenIn}
+use Rattle.kl1_account.specs.Works.{Made, worked, IsMadeIn, Knows, Turns}
+use Rattle.kl1_account.proofs.States.{Agree, same_state, replaced_state, found_in, changed_in, changed_count, goals_grown, shoens_grown, shoens_changed}
 
 -- ---- changes one after another
 
-pub number_grown : (h k : Held CellName) (shoens : List (Shoen CellName)) (m n : ℕ) → Grown h k → n ≡ m → HasNumber h shoens m → HasNumber k shoens n
-number_grown h k shoens m n g e p =
-    let a = p.from_one in
-    let b = p.there in
-    record { inside = shoens_grown h k g shoens p.inside; numbered = p.numbered; from_one = omega arith; there = omega arith }
-
-pub turns_then : (ms : List Numbered) (f g : Reading → State → State) (h k l : Held CellName) (a b c : Made) → Grown h k → Turns ms f h k a b → Turns ms g k l b c → Turns ms (λ r s. g r (f r s)) h l a c
-turns_then ms f g h k l a b c up p q = record {
+pub turns_then : (ms : List Numbered) (f g : Reading → State → State) (h k l : Held CellName) (a b c : Made) → Turns ms f h k a b → Turns ms g k l b c → Turns ms (λ r s. g r (f r s)) h l a c
+turns_then ms f g h k l a b c p q = record {
   inside = q.inside;
-  number = q.number ∙ p.number;
-  owned = λ count lt o. let e = p.number in q.owned count (omega arith) (p.owned count lt o);
-  states = λ r reads s shoens there. ap (g r) (p.states r reads s shoens there) ∙ q.states r reads s shoens (number_grown h k shoens a.shoen.number b.shoen.number up p.number there);
+  states = λ r knows s. ap (g r) (p.states r knows s) ∙ q.states r knows s;
 }
 
-pub turns_as : (ms : List Numbered) (f g : Reading → State → State) (h k : Held CellName) (a b : Made) → ((r : Reading) → Knows ms r → (s : State) (shoens : List (Shoen CellName)) → HasNumber h shoens a.shoen.number → g r (worked r s h shoens a) ≡ f r (worked r s h shoens a)) → Turns ms f h k a b → Turns ms g h k a b
-turns_as ms f g h k a b e p = record { inside = p.inside; number = p.number; owned = p.owned; states = λ r reads s shoens there. e r reads s shoens there ∙ p.states r reads s shoens there }
+pub turns_as : (ms : List Numbered) (f g : Reading → State → State) (h k : Held CellName) (a b : Made) → ((r : Reading) → Knows ms r → (s : State) → g r (worked r s h a) ≡ f r (worked r s h a)) → Turns ms f h k a b → Turns ms g h k a b
+turns_as ms f g h k a b e p = record { inside = p.inside; states = λ r knows s. e r knows s ∙ p.states r knows s }
 
--- ---- the shoen at work
+-- nothing has come on
+pub turns_none : (ms : List Numbered) (f : Reading → State → State) (h : Held CellName) (a : Made) → IsMadeIn h a → ((r : Reading) → Knows ms r → (s : State) → f r (worked r s h a) ≡ worked r s h a) → Turns ms f h h a a
+turns_none ms f h a i e = record { inside = i; states = e }
+
+-- ---- shoens at work
+
+-- a state but for its goals, its shoens and its last variable
+abbrev pub base : State → Made → State
+base s w = record s { work = w.work; names = w.names; last_goal = w.last_goal; last_shoen = length w.shoens; variables = w.variables; nodes = w.nodes; reports = w.reports }
 
 -- the state that is worked on, by how cells are read
-abbrev pub read_as : State → Means → ℕ → List (Shoen CellName) → Made → State
-read_as s t last shoens w = state_with (record s { last_goal = w.last_goal }) t last w.goals (with_shoen shoens w.shoen)
+abbrev pub read_as : State → Means → ℕ → Made → State
+read_as s t last w = state_with (base s w) t last w.goals w.shoens
 
-broken_by : (n : ℕ) (t m : Term) (s : State) → Breaks t m → reported_at n m t s ≡ broken_at n s
+-- the shoen of a number
+pub finds : (s : State) (t : Means) (last : ℕ) (w : Made) (n : ℕ) (o : Option (Shoen CellName)) → find (has_number n) w.shoens ≡ o → shoen_at n (read_as s t last w).shoens ≡ option_map (shoen_with t) o
+finds s t last w n o e = found_in t n w.shoens ∙ ap (option_map (shoen_with t)) e
+
+-- what is made with shoens of which one is changed
+abbrev pub with_changed : ℕ → (Shoen CellName → Shoen CellName) → Made → Made
+with_changed n f w = record w { shoens = changed n f w.shoens }
+
+-- a change of a shoen
+pub changes : (s : State) (t : Means) (last : ℕ) (w : Made) (n : ℕ) (f : Shoen CellName → Shoen CellName) (g : model.Shoen → model.Shoen) → ((h : Shoen CellName) → g (shoen_with t h) ≡ shoen_with t (f h)) →
+    change_shoen n g (read_as s t last w) ≡ read_as s t last (with_changed n f w)
+changes s t last w n f g e =
+    ap (λ (xs : List model.Shoen). let z : State = record (read_as s t last w) { shoens = xs } in z) (changed_in t n f g e w.shoens)
+    ∙ ap (λ c. let z : State = record (read_as s t last w) { shoens = map (shoen_with t) (changed n f w.shoens); last_shoen = c } in z) (sym (changed_count n f w.shoens))
+
+-- what is made still has the cells of the store
+pub changed_made : (h : Held CellName) (w : Made) (n : ℕ) (f : Shoen CellName → Shoen CellName) → ((s : Shoen CellName) → IsShoenIn h s → IsShoenIn h (f s)) → IsMadeIn h w → IsMadeIn h (with_changed n f w)
+changed_made h w n f e i =
+    let O : ℕ → Type 0 = λ c. AreOwned c w.goals in
+    record { some = i.some; goals = i.goals; shoens = shoens_changed h n f e w.shoens i.shoens; owned = subst O (sym (changed_count n f w.shoens)) i.owned }
+
+pub grown_made : (h k : Held CellName) (w : Made) → Grown h k → IsMadeIn h w → IsMadeIn k w
+grown_made h k w g i = let a = i.some in let b = g.variables in record { some = omega arith; goals = goals_grown h k g w.goals i.goals; shoens = shoens_grown h k g w.shoens i.shoens; owned = i.owned }
+
+-- a change of a shoen turns the state as the definitions' does
+pub changed_turns : (ms : List Numbered) (h : Held CellName) (w : Made) (n : ℕ) (f : Shoen CellName → Shoen CellName) (g : model.Shoen → model.Shoen) → IsMadeIn h w → ((s : Shoen CellName) → IsShoenIn h s → IsShoenIn h (f s)) →
+    ((r : Reading) → (s : Shoen CellName) → g (shoen_with (meaning r h) s) ≡ shoen_with (meaning r h) (f s)) → Turns ms (λ r. change_shoen n g) h h w (with_changed n f w)
+changed_turns ms h w n f g i inside same = record {
+  inside = changed_made h w n f inside i;
+  states = λ r knows s. changes s (meaning r h) (h.variables - 1) w n f g (same r);
+}
+
+-- one way of reading cells in place of another
+pub rereads : (s : State) (t u : Means) (last : ℕ) (h : Held CellName) (w : Made) → Agree h t u → IsMadeIn h w → read_as s t last w ≡ read_as s u last w
+rereads s t u last h w a i = same_state (base s w) h t u last w.goals w.shoens a i.goals i.shoens
+
+-- ---- reports
+
+broken_by : (n : ℕ) (t m : Term) (s : State) → Breaks (not (nat_lt s.reports most_reports)) t m → reported_at n m t s ≡ broken_at n s
 broken_by n (variable v) m s e =
-    ap (λ b. if b then broken_at n s else change_shoen n (λ h. record h { tail = variable (suc s.last_variable) }) (record (replace_in_state v (cell m (variable (suc s.last_variable))) s) { last_variable = suc s.last_variable })) e
+    ap (λ b. if b then broken_at n s else change_shoen n (λ h. record h { tail = variable (suc s.last_variable) }) (record (replace_in_state v (cell m (variable (suc s.last_variable))) s) { last_variable = suc s.last_variable; reports = suc s.reports })) e
 broken_by n (integer i) m s e = refl
 broken_by n (atom a) m s e = refl
 broken_by n (structure f ts) m s e = refl
 
-pub finds : (s : State) (t : Means) (last : ℕ) (h : Held CellName) (shoens : List (Shoen CellName)) (w : Made) → HasNumber h shoens w.shoen.number →
-    shoen_at w.shoen.number (read_as s t last shoens w).shoens ≡ Some (shoen_with t w.shoen)
-finds s t last h shoens w p =
-    let a = p.from_one in
-    let b = p.there in
-    found_at t 0 (w.shoen.number - 1) w.shoen.number shoens w.shoen p.numbered (omega arith) (omega arith) refl
+-- a shoen whose stream is broken, and one whose stream goes on with this tail
+abbrev pub torn : Shoen CellName → Shoen CellName
+torn h = record h { is_broken = true }
 
--- a report of the shoen at work
-reports_as : (s : State) (t : Means) (last : ℕ) (h : Held CellName) (shoens : List (Shoen CellName)) (w : Made) (m : Term) → HasNumber h shoens w.shoen.number →
-    report w.shoen.number m (read_as s t last shoens w) ≡ (if w.shoen.is_broken then read_as s t last shoens w else reported_at w.shoen.number m (t w.shoen.tail) (read_as s t last shoens w))
-reports_as s t last h shoens w m p = ap (λ o. report_of o w.shoen.number m (read_as s t last shoens w)) (finds s t last h shoens w p)
+abbrev pub tailed : ℕ → Shoen CellName → Shoen CellName
+tailed next h = record h { tail = Variable next }
 
--- another shoen in place of the one at work
-pub changes : (s : State) (t : Means) (last : ℕ) (h : Held CellName) (shoens : List (Shoen CellName)) (w : Made) (r : Shoen CellName) (change : model.Shoen → model.Shoen) → HasNumber h shoens w.shoen.number → r.number ≡ w.shoen.number →
-    change (shoen_with t w.shoen) ≡ shoen_with t r →
-    change_shoen w.shoen.number change (read_as s t last shoens w) ≡ read_as s t last shoens (record w { shoen = r })
-changes s t last h shoens w r change p e c =
-    let a = p.from_one in
-    let b = p.there in
-    ap (λ (xs : List model.Shoen). let z : State = record (read_as s t last shoens w) { shoens = xs } in z)
-    (changed_at t change 0 (w.shoen.number - 1) w.shoen.number shoens w.shoen r p.numbered (omega arith) (omega arith) refl c)
-    ∙ ap (λ n. state_with (record s { last_goal = w.last_goal }) t last w.goals (slice_set shoens (n - 1) r)) (sym e)
+-- what is made after a report of a shoen
+abbrev pub after_report : ℕ → Made → Told → Made
+after_report n w Dropped = w
+after_report n w Broken = with_changed n torn w
+after_report n w (Sent next) = record (with_changed n (tailed next) w) { reports = suc w.reports }
 
--- one way of reading cells in place of another
-pub rereads : (s : State) (t u : Means) (last : ℕ) (h : Held CellName) (shoens : List (Shoen CellName)) (w : Made) → Agree h t u → IsMadeIn h w → HasNumber h shoens w.shoen.number → read_as s t last shoens w ≡ read_as s u last shoens w
-rereads s t u last h shoens w a i p =
-    same_state (record s { last_goal = w.last_goal }) h t u last w.goals (with_shoen shoens w.shoen) a i.goals (shoens_set h shoens (w.shoen.number - 1) w.shoen p.inside i.shoen)
+reports_as : (s : State) (t : Means) (last : ℕ) (w : Made) (n : ℕ) (sh : Shoen CellName) (m : Term) → find (has_number n) w.shoens ≡ Some sh →
+    report n m (read_as s t last w) ≡ (if sh.is_broken then read_as s t last w else reported_at n m (t sh.tail) (read_as s t last w))
+reports_as s t last w n sh m e = ap (λ o. report_of o n m (read_as s t last w)) (finds s t last w n (Some sh) e)
 
--- ---- reports
-
-pub same_number : (s : Shoen CellName) (told : Told) → (after_report s told).number ≡ s.number
-same_number s Dropped = refl
-same_number s Broken = refl
-same_number s (Sent next) = refl
-
-report_states : (h k : Held CellName) (w : Made) (m : Cell CellName) (told : Told) → IsMadeIn h w → ToldAs built h k w.shoen.tail w.shoen.is_broken m told →
-    (f : Reading) → Reads built f → (s : State) (shoens : List (Shoen CellName)) → HasNumber h shoens w.shoen.number →
-    report w.shoen.number (meaning f h m) (worked f s h shoens w) ≡ worked f s k shoens (record w { shoen = after_report w.shoen told })
-report_states h k w m Dropped i d f reads s shoens p =
-    let S = read_as s (meaning f h) (h.variables - 1) shoens w in
-    reports_as s (meaning f h) (h.variables - 1) h shoens w (meaning f h m) p
-    ∙ ap (λ b. if b then S else reported_at w.shoen.number (meaning f h m) (meaning f h w.shoen.tail) S) d.0
-    ∙ ap (λ (x : Held CellName). worked f s x shoens w) (sym d.1)
-report_states h k w m Broken i d f reads s shoens p =
-    let S = read_as s (meaning f h) (h.variables - 1) shoens w in
-    reports_as s (meaning f h) (h.variables - 1) h shoens w (meaning f h m) p
-    ∙ ap (λ b. if b then S else reported_at w.shoen.number (meaning f h m) (meaning f h w.shoen.tail) S) d.whole
-    ∙ broken_by w.shoen.number (meaning f h w.shoen.tail) (meaning f h m) S (d.breaks f reads)
-    ∙ changes s (meaning f h) (h.variables - 1) h shoens w (after_report w.shoen Broken) (λ x. record x { is_broken = true }) p refl refl
-    ∙ ap (λ (x : Held CellName). worked f s x shoens (record w { shoen = after_report w.shoen Broken })) (sym d.same)
-report_states h k w m (Sent next) i d f reads s shoens p =
-    let S = read_as s (meaning f h) (h.variables - 1) shoens w in
-    let M = meaning f h m in
-    let N : suc (h.variables - 1) ≡ next = let a = d.sent.next_is in let b = i.some in omega arith in
-    let moved : ℕ → State = λ n. change_shoen w.shoen.number (λ x. record x { tail = variable n }) (record (replace_in_state d.number (cell M (variable n)) S) { last_variable = n }) in
-    let sent = d.sent.each f reads in
-    reports_as s (meaning f h) (h.variables - 1) h shoens w M p
-    ∙ ap (λ b. if b then S else reported_at w.shoen.number M (meaning f h w.shoen.tail) S) d.whole
-    ∙ ap (λ t. reported_at w.shoen.number M t S) (d.tail_is f)
-    ∙ ap (λ b. if b then broken_at w.shoen.number S else moved (suc (h.variables - 1))) sent.free
-    ∙ ap moved N
-    ∙ ap (λ (z : State). change_shoen w.shoen.number (λ x. record x { tail = variable next }) (record z { last_variable = next }))
-    (replaced_state (record s { last_goal = w.last_goal }) d.number (cell M (variable next)) (meaning f h) (h.variables - 1) w.goals (with_shoen shoens w.shoen))
-    ∙ ap (λ (z : State). change_shoen w.shoen.number (λ x. record x { tail = variable next }) z)
-    (rereads s (λ x. replace d.number (cell M (variable next)) (meaning f h x)) (meaning f k) next h shoens w (λ x j. sym (sent.means x j)) i p)
-    ∙ changes s (meaning f k) next h shoens w (after_report w.shoen (Sent next)) (λ x. record x { tail = variable next }) p refl
-    (ap (λ t. let z : model.Shoen = record (shoen_with (meaning f k) w.shoen) { tail = t } in z) (sym sent.tail))
-    ∙ ap (λ n. read_as s (meaning f k) n shoens (record w { shoen = after_report w.shoen (Sent next) })) (let a = d.sent.next_is in let b = d.sent.variables in omega arith)
-
-next_in : (h k : Held CellName) (next : ℕ) → next ≡ h.variables → k.variables ≡ suc h.variables → IsIn k (Variable next)
+pub next_in : (h k : Held CellName) (next : ℕ) → next ≡ h.variables → k.variables ≡ suc h.variables → IsIn k (Variable next)
 next_in h k next a b = omega arith
 
-pub after_in : (h k : Held CellName) (s : Shoen CellName) (m : Cell CellName) (told : Told) → Grown h k → IsShoenIn h s → ToldAs built h k s.tail s.is_broken m told → IsShoenIn k (after_report s told)
-after_in h k s m Dropped g i d = shoen_grown h k g s i
-after_in h k s m Broken g i d = let j = shoen_grown h k g s i in record { control = j.control; tail = j.tail; origin = j.origin }
-after_in h k s m (Sent next) g i d = let j = shoen_grown h k g s i in record { control = j.control; tail = next_in h k next d.sent.next_is d.sent.variables; origin = j.origin }
+both_false : (a b : Bool) → a ≡ false → b ≡ false → (a || b) ≡ false
+both_false true b e f = e
+both_false false b e f = f
+
+report_states : (h k : Held CellName) (w : Made) (n : ℕ) (sh : Shoen CellName) (m : Cell CellName) (told : Told) → IsMadeIn h w → find (has_number n) w.shoens ≡ Some sh →
+    ToldAs built h k sh.tail sh.is_broken (not (nat_lt w.reports most_reports)) m told → (f : Reading) → Reads built f → (s : State) → report n (meaning f h m) (worked f s h w) ≡ worked f s k (after_report n w told)
+report_states h k w n sh m Dropped i e d f reads s =
+    let S = read_as s (meaning f h) (h.variables - 1) w in
+    reports_as s (meaning f h) (h.variables - 1) w n sh (meaning f h m) e
+    ∙ ap (λ b. if b then S else reported_at n (meaning f h m) (meaning f h sh.tail) S) d.0
+    ∙ ap (λ (x : Held CellName). worked f s x w) (sym d.1)
+report_states h k w n sh m Broken i e d f reads s =
+    let S = read_as s (meaning f h) (h.variables - 1) w in
+    reports_as s (meaning f h) (h.variables - 1) w n sh (meaning f h m) e
+    ∙ ap (λ b. if b then S else reported_at n (meaning f h m) (meaning f h sh.tail) S) d.whole
+    ∙ broken_by n (meaning f h sh.tail) (meaning f h m) S (d.breaks f reads)
+    ∙ changes s (meaning f h) (h.variables - 1) w n torn (λ x. record x { is_broken = true }) (λ x. refl)
+    ∙ ap (λ (x : Held CellName). worked f s x (after_report n w Broken)) (sym d.same)
+report_states h k w n sh m (Sent next) i e d f reads s =
+    let S = read_as s (meaning f h) (h.variables - 1) w in
+    let M = meaning f h m in
+    let N : suc (h.variables - 1) ≡ next = let a = d.sent.next_is in let b = i.some in omega arith in
+    let moved : ℕ → State = λ z. change_shoen n (λ x. record x { tail = variable z }) (record (replace_in_state d.number (cell M (variable z)) S) { last_variable = z; reports = suc w.reports }) in
+    let told : State → State = λ z. change_shoen n (λ x. record x { tail = variable next }) (record z { last_variable = next; reports = suc w.reports }) in
+    let more : Made = record w { reports = suc w.reports } in
+    let sent = d.sent.each f reads in
+    reports_as s (meaning f h) (h.variables - 1) w n sh M e
+    ∙ ap (λ b. if b then S else reported_at n M (meaning f h sh.tail) S) d.whole
+    ∙ ap (λ t. reported_at n M t S) (d.tail_is f)
+    ∙ ap (λ b. if b then broken_at n S else moved (suc (h.variables - 1))) (both_false (occurs d.number M) (not (nat_lt w.reports most_reports)) sent.free d.more)
+    ∙ ap moved N
+    ∙ ap told (replaced_state (base s w) d.number (cell M (variable next)) (meaning f h) (h.variables - 1) w.goals w.shoens)
+    ∙ ap told (rereads s (λ x. replace d.number (cell M (variable next)) (meaning f h x)) (meaning f k) (h.variables - 1) h w (λ x j. sym (sent.means x j)) i)
+    ∙ changes s (meaning f k) next more n (tailed next) (λ x. record x { tail = variable next }) (λ x. ap (λ t. let z : model.Shoen = record (shoen_with (meaning f k) x) { tail = t } in z) (sym sent.tail))
+    ∙ ap (λ z. read_as s (meaning f k) z (after_report n w (Sent next))) (let a = d.sent.next_is in let b = d.sent.variables in omega arith)
 
 -- a report turns the state as the definitions' does
-pub report_turns : (ms : List Numbered) (h k : Held CellName) (w : Made) (m : Cell CellName) (told : Told) → Grown h k → IsMadeIn h w → ToldAs built h k w.shoen.tail w.shoen.is_broken m told →
-    Turns ms (λ f. report w.shoen.number (meaning f h m)) h k w (record w { shoen = after_report w.shoen told })
-report_turns ms h k w m told g i d =
-    let n = same_number w.shoen told in
-    let a = i.some in
-    let b = g.variables in
-    let c = i.number in
-    record {
-      inside = record { some = omega arith; goals = goals_grown h k g w.goals i.goals; shoen = after_in h k w.shoen m told g i.shoen d; number = omega arith; last = i.last };
-      number = n;
-      owned = λ count lt o. o;
-      states = λ f knows s shoens p. report_states h k w m told i d f knows.reads s shoens p;
-    }
+pub report_turns : (ms : List Numbered) (h k : Held CellName) (w : Made) (n : ℕ) (sh : Shoen CellName) (m : Cell CellName) (told : Told) → Grown h k → IsMadeIn h w → find (has_number n) w.shoens ≡ Some sh →
+    ToldAs built h k sh.tail sh.is_broken (not (nat_lt w.reports most_reports)) m told → Turns ms (λ f. report n (meaning f h m)) h k w (after_report n w told)
+report_turns ms h k w n sh m told g i e d = record {
+  inside = by_case told d;
+  states = λ f knows s. report_states h k w n sh m told i e d f knows.reads s;
+}
+  where
+    j : IsMadeIn k w
+    j = grown_made h k w g i
+
+    by_case : (r : Told) → ToldAs built h k sh.tail sh.is_broken (not (nat_lt w.reports most_reports)) m r → IsMadeIn k (after_report n w r)
+    by_case Dropped x = j
+    by_case Broken x = changed_made k w n torn (λ s a. record { control = a.control; tail = a.tail; origin = a.origin; low = a.low; high = a.high }) j
+    by_case (Sent next) x =
+        let c = changed_made k w n (tailed next) (λ s a. record { control = a.control; tail = next_in h k next x.sent.next_is x.sent.variables; origin = a.origin; low = a.low; high = a.high }) j in
+        record { some = c.some; goals = c.goals; shoens = c.shoens; owned = c.owned }
+
+-- a report of a shoen that isn't there is none
+pub no_report_turns : (ms : List Numbered) (h : Held CellName) (w : Made) (n : ℕ) (m : Cell CellName) → IsMadeIn h w → find (has_number n) w.shoens ≡ None → Turns ms (λ f. report n (meaning f h m)) h h w w
+no_report_turns ms h w n m i e = turns_none ms (λ f. report n (meaning f h m)) h w i (λ f knows s. ap (λ o. report_of o n (meaning f h m) (worked f s h w)) (finds s (meaning f h) (h.variables - 1) w n None e))

@@ -2,7 +2,7 @@
 use Rattle.std.specs.Prelude.{ℕ, ◌-◌, List, [], length, map, codes, Option, None, Some, option_map}
 use Rattle.kl1_model.specs.Term.{Term, structure, none, more}
 use Rattle.kl1_model.specs.State as model
-use Rattle.kl1_model.specs.State.{State, monitor, reduces, living, terminated}
+use Rattle.kl1_model.specs.State.{State, monitor, reduces}
 use Rattle.kl1_text.specs.declared.cell_name.CellName.{CellName}
 use Rattle.kl1_atoms.specs.declared.known.Known.{Known}
 use Rattle.kl1_store.specs.declared.cell.Cell.{Cell}
@@ -13,24 +13,28 @@ use Rattle.kl1_store.specs.Meaning.{term_of}
 use Rattle.kl1_goals.specs.declared.task.Task.{Task}
 use Rattle.kl1_goals.specs.declared.task.Task.TheVariants.{Monitor, Reduces}
 use Rattle.kl1_goals.specs.declared.goal.Goal.{Goal}
-use Rattle.kl1_shoen.specs.declared.life.Life.{Life}
-use Rattle.kl1_shoen.specs.declared.life.Life.TheVariants.{Living, Terminated}
 use Rattle.kl1_shoen.specs.declared.shoen.Origin.{Origin}
 use Rattle.kl1_shoen.specs.declared.shoen.Shoen.{Shoen}
 use Rattle.kl1_modules.specs.Numbered.{Numbered}
 use Rattle.kl1_modules.specs.Finding.{contents}
 use Rattle.kl1_account.specs.Fitting.{Reading}
 
--- what an account keeps: its own name; what its cells are; its goals and its shoens; its modules, each with its row of
--- numbers; its names with their numbers, in order of first use; the last number of a goal; and how many entries its journal has
+-- what an account keeps: its own name; what its cells are; its goals and its shoens; for each reduction that was charged, the number
+-- of its goal's shoen, the newest first; its modules, each with its row of numbers; its names with their numbers, in order of first
+-- use; the last number of a goal; how many variables and structures its starts, messages from the console and commits had; how many
+-- reports it made; and how many entries its journal has
 pub record Account : Type 0 where
   pub own_name : List ℕ
   pub held : Held CellName
   pub goals : List (Goal CellName)
   pub shoens : List (Shoen CellName)
+  pub work : List ℕ
   pub modules : List Numbered
   pub names : List Known
   pub last_goal : ℕ
+  pub variables : ℕ
+  pub nodes : ℕ
+  pub reports : ℕ
   pub entries : ℕ
 
 -- what cells mean
@@ -67,11 +71,6 @@ task_with t (Reduces q) = reduces (aim_with t q)
 abbrev pub goal_with : Means → Goal CellName → model.Goal
 goal_with t g = record { number = g.number; task = task_with t g.task; shoen = g.shoen; priority = g.priority }
 
--- whether a shoen lives
-abbrev pub life_of : Life → model.Life
-life_of Living = living
-life_of Terminated = terminated
-
 -- what the console keeps, where cells mean this
 abbrev pub origin_with : Means → Origin CellName → model.Origin
 origin_with t o = record { goal = t o.goal; reports = t o.reports; control = t o.control }
@@ -80,7 +79,9 @@ origin_with t o = record { goal = t o.goal; reports = t o.reports; control = t o
 abbrev pub shoen_with : Means → Shoen CellName → model.Shoen
 shoen_with t h = record {
   number = h.number;
-  life = life_of h.life;
+  parent = h.parent;
+  life = h.life;
+  is_stopped = h.is_stopped;
   allowance = h.allowance;
   low = h.low;
   high = h.high;
@@ -109,10 +110,15 @@ state_of f a =
       own_name = a.own_name;
       goals = [];
       shoens = [];
+      work = a.work;
       modules = contents a.modules;
       names = texts_of a.names;
       last_variable = 0;
       last_goal = a.last_goal;
       last_shoen = length a.shoens;
+      variables = a.variables;
+      nodes = a.nodes;
+      reports = a.reports;
       entries = a.entries;
+      sessions = 0;
     }) a.held a.goals a.shoens

@@ -10,9 +10,13 @@ kept_in u = record {
   held = u.store.held;
   goals = u.goals.goals;
   shoens = u.shoens.shoens;
+  work = u.shoens.work;
   modules = u.modules.loaded;
   names = u.names.names;
   last_goal = u.last_goal;
+  variables = u.variables;
+  nodes = u.nodes;
+  reports = u.reports;
   entries = u.entries;
 }
 

@@ -1,6 +1,7 @@
 -- What holds of the goals and the shoens that an account keeps.
-use Rattle.std.specs.Prelude.{◌≡◌, ℕ, suc, ◌<◌, ◌≤◌, List, [], ◌∷◌, Option, Some, None}
+use Rattle.std.specs.Prelude.{ℕ, suc, ◌<◌, ◌≤◌, List, Option, Some, None}
 use Rattle.std.specs.List.{AllByRecursion}
+use Rattle.kl1_model.specs.Limits.{monitor_priority}
 use Rattle.kl1_text.specs.declared.cell_name.CellName.{CellName}
 use Rattle.kl1_store.specs.Held.{Held, IsIn}
 use Rattle.kl1_goals.specs.declared.task.Task.{Task}
@@ -42,17 +43,14 @@ abbrev pub IsOriginIn : Held CellName → Option (Origin CellName) → Type 0
 IsOriginIn h None = Unit {0}
 IsOriginIn h (Some o) = IsKeptIn h o
 
--- the cells of a shoen are of the store
+-- the cells of a shoen are of the store, and its range has no priority above a monitor's
 pub record IsShoenIn (h : Held CellName) (s : Shoen CellName) : Type 0 where
   pub control : IsIn h s.control
   pub tail : IsIn h s.tail
   pub origin : IsOriginIn h s.origin
+  pub low : s.low ≤ monitor_priority
+  pub high : s.high ≤ monitor_priority
 
--- the cells of shoens are of the store
+-- the same of each of these shoens
 abbrev pub AreShoensIn : Held CellName → List (Shoen CellName) → Type 0
 AreShoensIn h shoens = AllByRecursion (IsShoenIn h) shoens
-
--- shoens have the numbers after this one, in order
-abbrev pub AreNumbered : ℕ → List (Shoen CellName) → Type 0
-AreNumbered last [] = Unit {0}
-AreNumbered last (s ∷ ss) = (s.number ≡ suc last) × AreNumbered (suc last) ss

@@ -1,6 +1,6 @@
 -- What comes of a load.
 use Rattle.std.specs.Prelude.{◌≡◌, ℕ, ◌<◌, ◌≤◌, false, List, [], ◌∷◌, ◌++◌, length, Option, Some, None, is_some}
-use Rattle.kl1_model.specs.Limits.{most_names, most_entries}
+use Rattle.kl1_model.specs.Limits.{most_names, most_modules, most_entries}
 use Rattle.kl1_model.specs.Match.{module_of}
 use Rattle.kl1_model.specs.State.{State}
 use Rattle.kl1_model.specs.Module.{good}
@@ -12,20 +12,20 @@ use Rattle.kl1_store.specs.Hooks.{Hook}
 use Rattle.kl1_store.specs.Held.{Held}
 use Rattle.kl1_clause.specs.NameList.{with_texts}
 use Rattle.kl1_goals.specs.declared.goal.Goal.{Goal}
+use Rattle.kl1_shoen.specs.declared.shoen.Shoen.{Shoen}
 use Rattle.kl1_modules.specs.Numbered.{Numbered, own_names, number_of}
 use Rattle.kl1_modules.specs.Finding.{contents, is_numbered}
 use Rattle.kl1_account.specs.declared.draft.Change.{Change}
 use Rattle.kl1_account.specs.declared.loading.Loading.{Loading}
 use Rattle.kl1_account.specs.declared.loading.Loading.TheVariants.{Refused, Drafted}
-use Rattle.kl1_account.specs.declared.refusal.Refusal.{Refusal}
+use Rattle.kl1_event.specs.declared.refusal.Refusal.{Refusal}
 use Rattle.kl1_account.specs.Fitting.{Reading}
 use Rattle.kl1_account.specs.Account.{texts_of}
 use Rattle.kl1_account.specs.Naming.{ReadsDraft}
 use Rattle.kl1_account.specs.Works.{Knows}
 use Rattle.kl1_account.specs.Drafts.{restood}
 use Rattle.kl1_account.specs.Settled.{AreSettled}
-use Rattle.kl1_account.specs.Looking.{AreMonitorsIdle}
-use Rattle.kl1_account.specs.Views.{refusal_of}
+use Rattle.kl1_event.specs.Views.{refusal_of}
 
 -- a state with these modules and names, and so many entries
 pub record HasModules (s : State) (ms : List Numbered) (names : List Known) (entries : ℕ) : Type 0 where
@@ -43,6 +43,7 @@ pub record IsDraft (ms : List Numbered) (names : List Known) (entries : ℕ) (d 
   pub new : is_numbered ms (number_of d) ≡ false
   pub absent : is_some (module_of (contents ms) d.content.name) ≡ false
   pub few : length (with_texts (texts_of names) (own_names d.content)) ≤ most_names
+  pub modules_few : length ms < most_modules
   pub room : entries < most_entries
   pub loads : (s : State) → HasModules s ms names entries → load_module s (good d.content) ≡ record { state = with_entry (with_module s d.content); reply = loaded d.content.name }
 
@@ -62,6 +63,5 @@ LoadsAs ms names entries source (Refused r) = RefusesLoad ms names entries sourc
 LoadsAs ms names entries source (Drafted d) = IsDraftOf ms names entries source d
 
 -- all goals are settled with a drafted module beside the others, after these changes
-abbrev pub Settles : List Numbered → Numbered → List Hook → Held CellName → List (Goal CellName) → List Change → Type 0
-Settles ms d hooks h goals changes =
-    (f : Reading) → Knows (ms ++ d ∷ []) f → AreMonitorsIdle goals → AreSettled f hooks h (ms ++ d ∷ []) (restood changes goals)
+abbrev pub Settles : List Numbered → Numbered → List (Shoen CellName) → List Hook → Held CellName → List (Goal CellName) → List Change → Type 0
+Settles ms d shoens hooks h goals changes = (f : Reading) → Knows (ms ++ d ∷ []) f → AreSettled f hooks h (ms ++ d ∷ []) shoens (restood changes goals)

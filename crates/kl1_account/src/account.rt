@@ -4,28 +4,33 @@ ghost use Rattle.std.specs.Prelude.{◌≡◌, [], IfOk, OnErr, option_map};
 ghost use Rattle.kl1_model.specs.State.{fresh};
 ghost use Rattle.kl1_model.specs.Step.{step};
 ghost use Rattle.kl1_model.specs.Choice.{first, quiet};
-ghost use Rattle.kl1_model.specs.Event.{load as load_event, start as start_event, reduce, read, value};
+ghost use Rattle.kl1_model.specs.Event.{load as load_event, start as start_event, control, reduce, read, value, status, reports, modules as modules_query};
 ghost use Rattle.kl1_account.specs.Fitting.{Reading, Fits};
 ghost use Rattle.kl1_account.specs.Account.{state_of};
 ghost use Rattle.kl1_account.specs.Naming.{Keeps};
-ghost use Rattle.kl1_account.specs.Views.{reply_of, reduced_or, chosen_of};
+ghost use Rattle.kl1_account.specs.Starting.{HasNames};
+ghost use Rattle.kl1_event.specs.Views.{reply_of, reduced_or, chosen_of};
 
 use crate::account_name::AccountName;
+use crate::asking::{modules_of, reports_of, status_of};
+use crate::counted::Counted;
 use crate::draft::Draft;
 use crate::installing::install;
 use crate::limits::is_number;
 use crate::loading::{Loading, draft_module, install_module, prepare};
 use crate::names::{AccountNames, publish};
-use crate::numbers::{ClauseNo, GoalNo, ShoenNo};
 use crate::printing::print_cell;
 use crate::reducing::draft_reduction;
-use crate::refusal::Refusal;
-use crate::reply::Reply;
+use crate::sending::draft_message;
+use crate::settling::Walk;
+use crate::spelling::spell_anew;
 use crate::startable::{Starting, code_of};
 use crate::starting::{next_goals, next_number, place, prepare_start};
 use kl1_atoms::AtomSource;
+use kl1_event::{ClauseNo, GoalNo, Refusal, Reply, ShoenNo};
 use kl1_goals::GoalTable;
 use kl1_match::Scratch;
+use kl1_model::Message;
 use kl1_model::limits::MOST_PRINTED_BYTES;
 use kl1_modules::Modules;
 use kl1_moves::Trial;
@@ -46,9 +51,13 @@ pub struct Account {
     modules: Modules,
     names: AccountNames,
     last_goal: u64,
+    variables: u64,
+    nodes: u64,
+    reports: u64,
     entries: u64,
     trial: Trial<CellName>,
     draft: Draft,
+    walk: Walk,
     numbers: Vec<CellName>,
     scratch: Scratch<CellName>,
     alloc: Global,
@@ -86,9 +95,13 @@ impl Account {
             modules: Modules::new(alloc),
             names: AccountNames::new(alloc),
             last_goal: 0,
+            variables: 0,
+            nodes: 0,
+            reports: 0,
             entries: 0,
             trial: Trial::new(alloc),
             draft: Draft::new(alloc),
+            walk: Walk::new(alloc),
             numbers: Vec::new(alloc),
             scratch: Scratch::new(alloc),
             alloc,
@@ -112,38 +125,125 @@ impl Account {
         !self.goals.is_any_ready()
     }
 
-    /// Reduces the goal of a number by the clause of a number, or says why it is refused.
-    pub fn reduce(&mut self, number: u64, clause: u64) -> Result<Option<Refusal>, AllocError>
-        ensures step { IfOk result (λ refused. (f : Reading) → Fits self.old.names f → step (state_of f self.old) (reduce number clause) ≡ record { state = state_of f self.new; reply = reduced_or refused }) }
-        ensures names { self.new.names ≡ self.old.names }
-        ensures err { OnErr result (self.new ≡ self.old) }
+    /// What an account has of what is counted.
+    fn counted(&self) -> Counted
+        ensures { (f : Reading) → HasNames (state_of f self.now) self.now.names result }
     {
+        Counted {
+            goals: self.goals.alive(),
+            variables: self.variables,
+            nodes: self.nodes,
+            shoens: self.shoens.len(),
+            entries: self.entries,
+        }
+    }
+
+    /// Reduces the goal of a number by the clause of a number, or says why it is refused.
+    pub fn reduce<A: AtomSource>(
+        &mut self,
+        names: &mut A,
+        seat: &mut A::Seat,
+        number: u64,
+        clause: u64,
+    ) -> Result<Option<Refusal>, AllocError>
+        requires of { A.is_of names.old seat.old }
+        requires knows { A.knows seat.old ≡ self.old.names }
+        ensures step { IfOk result (λ refused. (f : Reading) → Fits self.new.names f → step (state_of f self.old) (reduce number clause) ≡ record { state = state_of f self.new; reply = reduced_or refused }) }
+        ensures err { OnErr result (self.new ≡ self.old) }
+        ensures keeps { Keeps A.is_of A.place A.knows names.old names.new seat.old seat.new }
+        ensures knows { A.knows seat.new ≡ self.new.names }
+    {
+        self.numbers.clear();
+        self.numbers.reserve(1)?;
         let mark = self.store.mark();
-        let refused = match draft_reduction(
+        let _ordered = self.goals.shoens();
+        self.shoens.begin();
+        let drafted = draft_reduction(
             &mut self.store,
             &mut self.goals,
-            &self.shoens,
+            &mut self.shoens,
             &self.modules,
+            &mut self.names,
             &mut self.trial,
             &mut self.draft,
+            &mut self.walk,
             self.last_goal,
+            self.variables,
+            self.nodes,
+            self.reports,
             self.entries,
             number,
             clause,
-        ) {
-            Ok(refused) => refused,
-            Err(error) => {
+        );
+        let refused = match drafted {
+            Err(memory) => {
                 self.store.back(mark);
-                return Err(error);
+                self.shoens.back();
+                return Err(memory);
             }
+            Ok(refused) => refused,
         };
         if let Some(refusal) = refused {
             return Ok(Some(refusal));
         }
-        install(&mut self.goals, &mut self.shoens, &self.draft);
-        self.last_goal = self.draft.last_goal + self.draft.cells.len() as u64;
+        spell_anew(
+            names,
+            seat,
+            &mut self.names,
+            &mut self.numbers,
+            &mut self.store,
+            &self.draft,
+        );
+        let opens = self.goals.shoens() < self.shoens.len() as usize;
+        install(&mut self.goals, &self.draft, opens);
+        self.last_goal = self.draft.last_goal;
+        self.variables = self.draft.variables;
+        self.nodes = self.draft.nodes;
+        self.reports = self.draft.reports;
         self.entries += 1;
         Ok(None)
+    }
+
+    /// Sends a message to the shoen of a number, which the console started.
+    pub fn send(&mut self, number: u64, message: Message) -> Result<Reply, AllocError>
+        ensures step { IfOk result (λ reply. (f : Reading) → Fits self.old.names f → step (state_of f self.old) (control number message) ≡ record { state = state_of f self.new; reply = reply_of reply }) }
+        ensures names { self.new.names ≡ self.old.names }
+        ensures err { OnErr result (self.new ≡ self.old) }
+    {
+        let mark = self.store.mark();
+        let _ordered = self.goals.shoens();
+        self.shoens.begin();
+        let drafted = draft_message(
+            &mut self.store,
+            &self.goals,
+            &mut self.shoens,
+            &self.modules,
+            &mut self.trial,
+            &mut self.draft,
+            self.last_goal,
+            self.variables,
+            self.nodes,
+            self.reports,
+            self.entries,
+            number,
+            message,
+        );
+        let refused = match drafted {
+            Err(memory) => {
+                self.store.back(mark);
+                self.shoens.back();
+                return Err(memory);
+            }
+            Ok(refused) => refused,
+        };
+        if let Some(refusal) = refused {
+            return Ok(Reply::Refused(refusal));
+        }
+        install(&mut self.goals, &self.draft, false);
+        self.variables = self.draft.variables;
+        self.nodes = self.draft.nodes;
+        self.entries += 1;
+        Ok(Reply::Sent)
     }
 
     /// Loads a module from its source.
@@ -174,6 +274,7 @@ impl Account {
             self.alloc,
             &mut self.store,
             &self.goals,
+            &self.shoens,
             &mut self.modules,
             &mut self.names,
             &mut self.trial,
@@ -212,20 +313,14 @@ impl Account {
     {
         let last = next_goals(self.last_goal)?;
         let shoen = next_number(self.shoens.len())?;
-        let code = match code_of(
-            self.alloc,
-            &self.names,
-            self.entries,
-            allowance,
-            low,
-            high,
-            goal,
-        )? {
+        let counted = self.counted();
+        let code = match code_of(self.alloc, &self.names, counted, allowance, low, high, goal)? {
             Starting::Refused(refusal) => return Ok(Reply::Refused(refusal)),
             Starting::Coded(code) => code,
         };
         let texts = code.names();
         let row = code.row();
+        let variables = goal.highest();
         self.numbers.clear();
         let opening = prepare_start(
             &mut self.store,
@@ -235,7 +330,9 @@ impl Account {
             &mut self.names,
             texts,
             row,
-            goal.highest(),
+            variables,
+            allowance,
+            self.reports,
             &mut self.numbers,
             &mut self.scratch,
             &mut self.trial,
@@ -257,8 +354,50 @@ impl Account {
             high,
         );
         self.last_goal = last;
+        self.variables += variables + 2;
+        self.nodes += code.nodes();
+        self.reports = opening.streams.made;
         self.entries += 1;
         Ok(Reply::Opened(ShoenNo(shoen)))
+    }
+
+    /// The state of the shoen of a number, with what it was charged, its allowance, and how many goals there are in it and below it.
+    pub fn status(&self, number: u64) -> Result<Reply, AllocError>
+        ensures step { IfOk result (λ reply. (f : Reading) → Fits self.now.names f → step (state_of f self.now) (read (status number)) ≡ record { state = state_of f self.now; reply = reply_of reply }) }
+    {
+        status_of(self.alloc, &self.shoens, &self.goals, number)
+    }
+
+    /// The reports of the shoen of a number, which the console started, from one on, the first being 1: at most 64, each printed and cut.
+    pub fn reports<A: AtomSource>(
+        &self,
+        names: &mut A,
+        seat: &mut A::Seat,
+        number: u64,
+        from: u64,
+    ) -> Result<Reply, AllocError>
+        requires of { A.is_of names.old seat.old }
+        requires knows { A.knows seat.old ≡ self.now.names }
+        ensures step { IfOk result (λ reply. (f : Reading) → Fits self.now.names f → step (state_of f self.now) (read (reports number from)) ≡ record { state = state_of f self.now; reply = reply_of reply }) }
+        ensures keeps { Keeps A.is_of A.place A.knows names.old names.new seat.old seat.new }
+        ensures knows { A.knows seat.new ≡ self.now.names }
+    {
+        reports_of(
+            self.alloc,
+            names,
+            seat,
+            &self.store,
+            &self.shoens,
+            number,
+            from,
+        )
+    }
+
+    /// The modules, in order of loading.
+    pub fn modules(&self) -> Result<Reply, AllocError>
+        ensures step { IfOk result (λ reply. (f : Reading) → Fits self.now.names f → step (state_of f self.now) (read modules_query) ≡ record { state = state_of f self.now; reply = reply_of reply }) }
+    {
+        modules_of(self.alloc, &self.modules)
     }
 
     /// The goal of the shoen of a number, as started, with what is bound now.

@@ -1,85 +1,126 @@
-// Drafts that are put in place.
+// Drafts that are begun, and that are put in place.
 
-ghost use Rattle.std.specs.Prelude.{◌≡◌, ◌+◌, ◌<◌, ◌≤◌, ◌^◌, ◌++◌, length};
-ghost use Rattle.kl1_model.specs.Limits.{monitor_priority};
-ghost use Rattle.kl1_shoen.specs.Shoens.{exchanged};
-ghost use Rattle.kl1_account.specs.Kept.{AreUpTo};
-ghost use Rattle.kl1_account.specs.Drafts.{goals_standing, goals_after, restood};
-ghost use Rattle.kl1_account.specs.Reducing.{IsFitting};
+ghost use Rattle.std.specs.Prelude.{◌≡◌, ◌+◌, ◌≤◌, if◌then◌else◌, not, ◌++◌, length, filter};
+ghost use Rattle.kl1_goals.specs.Lists.{is_flagged};
+ghost use Rattle.kl1_account.specs.Drafts.{without_monitors, restood};
+ghost use Rattle.kl1_account.specs.Installing.{IsBegun, AreNext, shifted, goals_after, IsFitting, Opens};
 
 use crate::draft::{Change, Draft};
-use kl1_goals::{Goal, GoalTable, Task};
-use kl1_shoen::ShoenTree;
-use kl1_store::Qualified;
+use kl1_goals::{Goal, GoalTable};
 use kl1_text::CellName;
 
-/// Puts a draft in place of what it leaves of the goals and the shoens. It has to fit them.
-pub(crate) fn install(
-    goals: &mut GoalTable<CellName>,
-    shoens: &mut ShoenTree<CellName>,
-    draft: &Draft,
+/// Begins a draft that removes the goal of a number, or none where that is 0, for an account with this last number of a goal, and so many
+/// variables, structures and reports.
+pub(crate) fn begin(
+    draft: &mut Draft,
+    removed: u64,
+    last_goal: u64,
+    variables: u64,
+    nodes: u64,
+    reports: u64,
 )
-    requires { IsFitting goals.old.goals goals.old.shoens goals.old.room draft.now }
-    ensures goals { goals.new.goals ≡ goals_after goals.old.goals draft.now }
-    ensures count { goals.new.shoens ≡ goals.old.shoens }
-    ensures shoens { shoens.new.shoens ≡ exchanged draft.now.shoen shoens.old.shoens }
+    ensures { IsBegun removed last_goal variables nodes reports draft.new }
 {
-    goals.remove(draft.removed);
-    if draft.is_ending {
-        goals.remove_monitor(draft.shoen.number);
-    }
-    restand(goals, &draft.changes);
-    put_goals(
-        goals,
-        draft.last_goal,
-        draft.shoen.number,
-        draft.priority,
-        &draft.cells,
-        &draft.standings,
-    );
-    shoens.set(&draft.shoen);
+    draft.removed = removed;
+    draft.aborted.clear();
+    draft.ended.clear();
+    draft.added.clear();
+    draft.last_goal = last_goal;
+    draft.variables = variables;
+    draft.nodes = nodes;
+    draft.reports = reports;
+    draft.name = None;
+    draft.spelled = None;
+    draft.shifts = false;
+    draft.enabled.clear();
+    draft.changes.clear();
+    draft.told.clear();
 }
 
-/// Puts goals for cells, each with its own of the clauses by which they can step, after all others: of a shoen, with a priority and
-/// the numbers after the last. There has to be room.
-fn put_goals(
-    goals: &mut GoalTable<CellName>,
-    last_goal: u64,
-    shoen: u64,
-    priority: u64,
-    cells: &[Qualified<CellName>],
-    standings: &[Option<u64>],
-)
-    requires room { length cells.now ≤ goals.old.room }
-    requires fits { last_goal + length cells.now < 2 ^ 64 }
-    requires standings { length standings.now ≡ length cells.now }
-    requires last { AreUpTo last_goal goals.old.goals }
-    requires low { 0 < shoen }
-    requires high { shoen ≤ goals.old.shoens }
-    requires priority { priority ≤ monitor_priority }
-    ensures goals { goals.new.goals ≡ goals.old.goals ++ goals_standing last_goal shoen priority cells.now standings.now }
+/// Removes the goals and monitors of the shoens that have a flag.
+fn remove_aborted(goals: &mut GoalTable<CellName>, flags: &[bool])
+    ensures goals { goals.new.goals ≡ filter (λ g. not (is_flagged flags.now g)) goals.old.goals }
     ensures count { goals.new.shoens ≡ goals.old.shoens }
+    ensures room { goals.old.room ≤ goals.new.room }
+    ensures shoen_room { goals.new.shoen_room ≡ goals.old.shoen_room }
 {
-    let mut number = last_goal;
-    for (place, cell) in cells.iter().enumerate() {
-        number += 1;
-        goals.put(Goal {
-            number,
-            task: Task::Reduces(*cell),
-            shoen,
-            priority,
-            standing: standings[place],
-        });
+    if flags.is_empty() {
+        return;
+    }
+    goals.remove_below(flags);
+}
+
+/// Removes the monitors of these shoens.
+fn remove_monitors(goals: &mut GoalTable<CellName>, shoens: &[u64])
+    ensures goals { goals.new.goals ≡ without_monitors shoens.now goals.old.goals }
+    ensures count { goals.new.shoens ≡ goals.old.shoens }
+    ensures room { goals.old.room ≤ goals.new.room }
+    ensures shoen_room { goals.new.shoen_room ≡ goals.old.shoen_room }
+{
+    for shoen in shoens {
+        goals.remove_monitor(*shoen);
     }
 }
 
 /// Makes changes one after another.
 fn restand(goals: &mut GoalTable<CellName>, changes: &[Change])
-    ensures room { goals.new.room ≡ goals.old.room }
     ensures goals { goals.new.goals ≡ restood changes.now goals.old.goals }
     ensures count { goals.new.shoens ≡ goals.old.shoens }
+    ensures room { goals.new.room ≡ goals.old.room }
+    ensures shoen_room { goals.new.shoen_room ≡ goals.old.shoen_room }
 {
     for change in changes {
         goals.set_standing(change.number, change.standing);
     }
+}
+
+/// One shoen more is known, where that is so.
+fn open_next(goals: &mut GoalTable<CellName>, opens: bool)
+    requires { Opens opens goals.old.shoen_room }
+    ensures goals { goals.new.goals ≡ goals.old.goals }
+    ensures count { goals.new.shoens ≡ (if opens then goals.old.shoens + 1 else goals.old.shoens) }
+    ensures room { goals.new.room ≡ goals.old.room }
+{
+    if !opens {
+        return;
+    }
+    goals.open();
+}
+
+/// Puts goals after all others. There has to be room.
+fn put_goals(goals: &mut GoalTable<CellName>, added: &[Goal<CellName>])
+    requires room { length added.now ≤ goals.old.room }
+    requires next { AreNext goals.old.goals goals.old.shoens added.now }
+    ensures goals { goals.new.goals ≡ goals.old.goals ++ added.now }
+    ensures count { goals.new.shoens ≡ goals.old.shoens }
+{
+    for goal in added {
+        goals.put(*goal);
+    }
+}
+
+/// Lets the goals of shoens step that have a flag, and holds the others back, where that may be other than before.
+fn shift(goals: &mut GoalTable<CellName>, draft: &Draft)
+    ensures goals { goals.new.goals ≡ shifted draft.now goals.old.goals }
+    ensures count { goals.new.shoens ≡ goals.old.shoens }
+{
+    if !draft.shifts {
+        return;
+    }
+    goals.set_enabled(&draft.enabled);
+}
+
+/// Puts a draft in place of what it leaves of the goals; where it opens a shoen, one more is known then. It has to fit them.
+pub(crate) fn install(goals: &mut GoalTable<CellName>, draft: &Draft, opens: bool)
+    requires { IsFitting goals.old.goals goals.old.shoens goals.old.room goals.old.shoen_room opens draft.now }
+    ensures goals { goals.new.goals ≡ goals_after goals.old.goals draft.now }
+    ensures count { goals.new.shoens ≡ (if opens then goals.old.shoens + 1 else goals.old.shoens) }
+{
+    goals.remove(draft.removed);
+    remove_aborted(goals, &draft.aborted);
+    remove_monitors(goals, &draft.ended);
+    restand(goals, &draft.changes);
+    open_next(goals, opens);
+    put_goals(goals, &draft.added);
+    shift(goals, draft);
 }

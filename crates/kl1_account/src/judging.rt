@@ -46,8 +46,8 @@ fn judge(
     standing_of(store, kind, predicate, trial)
 }
 
-/// Drafts a start of the goal of these names and this row, which has so many variables: in the store these and the streams of the
-/// shoen, in the trial what the goal waits for. There is room for the numbers of its names then. Where memory is refused, the store
+/// Drafts a start of the goal of these names and this row, which has so many variables, for an account that made so many reports: in
+/// the store these and the streams of the shoen, in the trial what the goal waits for. There is room for the numbers of its names then. Where memory is refused, the store
 /// may have grown.
 pub(crate) fn draft_start(
     store: &mut Store<CellName>,
@@ -56,6 +56,8 @@ pub(crate) fn draft_start(
     texts: &[AtomText],
     row: &[Instruction],
     count: u64,
+    allowance: u64,
+    made: u64,
     numbers: &mut Vec<CellName>,
     scratch: &mut Scratch<CellName>,
     trial: &mut Trial<CellName>,
@@ -65,14 +67,14 @@ pub(crate) fn draft_start(
     requires named { AreNamed (length texts.now) row.now }
     requires below { AreBelow (count + 1) row.now }
     requires empty { numbers.old.items ≡ [] }
-    ensures ok { IfOk result (IsDrafted modules.now.loaded names.now.names texts.now row.now count store.old.held store.new.held (goal_variables scratch.new) trial.new.awaited.items) }
+    ensures ok { IfOk result (IsDrafted modules.now.loaded names.now.names texts.now row.now count allowance made store.old.held store.new.held (goal_variables scratch.new) trial.new.awaited.items) }
     ensures empty { OnOk result (numbers.new.items ≡ []) }
     ensures room { OnOk result (length texts.now ≤ vec_capacity numbers.new) }
     ensures hooks { OnOk result (store.new.hooks ≡ store.old.hooks) }
     ensures grown { HasGrown store.old store.new }
 {
     put_goal_variables(store, count, scratch)?;
-    let streams = open_streams(store)?;
+    let streams = open_streams(store, allowance, made)?;
     draft_row(names, texts, numbers)?;
     let mark = store.mark();
     let judged = judge(store, modules, numbers.as_slice(), row, scratch, trial);

@@ -1,35 +1,39 @@
-//! An account whose names are numbers: what a reduction leaves of its goals and its shoen, and what it tells on its stream.
+//! An account whose names are numbers: what each event does to it, and the reply.
 #![tactic(auto)]
 
 mod account;
 mod account_name;
+mod acting;
+mod asking;
+mod children;
 mod committing;
+mod completing;
+mod counted;
+mod doing;
 mod draft;
-mod event;
 mod installing;
 mod judging;
+mod late;
 mod limits;
 mod loading;
 mod looking;
 mod looking_beside;
 mod moving;
 mod names;
-mod numbers;
+mod naming;
+mod obeying;
 mod opening;
 mod placing;
 mod printing;
 mod reducing;
-mod refusal;
-mod reply;
 mod reporting;
+mod sending;
 mod settling;
+mod spelling;
 mod startable;
 mod starting;
 mod top;
 
 pub use account::Account;
 pub use account_name::AccountName;
-pub use event::{Event, Query};
-pub use numbers::{ClauseNo, GoalNo, ShoenNo};
-pub use refusal::Refusal;
-pub use reply::Reply;
+pub use kl1_event::{ClauseNo, Event, GoalNo, Listed, Query, Refusal, Reply, ShoenNo};

@@ -6,7 +6,7 @@ ghost use Rattle.kl1_store.specs.Hooks.{HasGrown};
 ghost use Rattle.kl1_modules.specs.Numbered.{AreRead, own_names, number_of};
 ghost use Rattle.kl1_modules.specs.Finding.{is_numbered};
 ghost use Rattle.kl1_account.specs.Fitting.{Reading, Fits};
-ghost use Rattle.kl1_account.specs.Kept.{AreGoalsIn};
+ghost use Rattle.kl1_account.specs.Kept.{AreGoalsIn, AreShoensIn};
 ghost use Rattle.kl1_account.specs.Naming.{AreSmall, ReadsDraft};
 ghost use Rattle.kl1_account.specs.Drafts.{restood};
 ghost use Rattle.kl1_account.specs.Loadings.{DraftsAs, LoadsAs, Settles};
@@ -14,12 +14,13 @@ ghost use Rattle.kl1_account.specs.Loadings.{DraftsAs, LoadsAs, Settles};
 use crate::draft::Change;
 use crate::looking_beside::look_at_all;
 use crate::names::{AccountNames, draft_row};
-use crate::refusal::Refusal;
 use kl1_clause::{Code, CodeFault};
+use kl1_event::Refusal;
 use kl1_goals::GoalTable;
-use kl1_model::limits::{MOST_ENTRIES, MOST_SOURCE_BYTES};
+use kl1_model::limits::{MOST_ENTRIES, MOST_MODULES, MOST_SOURCE_BYTES};
 use kl1_modules::{Loaded, Modules};
 use kl1_moves::Trial;
+use kl1_shoen::ShoenTree;
 use kl1_store::Store;
 use kl1_text::CellName;
 use std::alloc::{AllocError, Global};
@@ -61,6 +62,9 @@ fn refusal_of(
     }
     if names.are_too_many(draft.code().names()) {
         return Some(Refusal::Names);
+    }
+    if modules.len() >= MOST_MODULES {
+        return Some(Refusal::Limit);
     }
     if entries >= MOST_ENTRIES {
         return Some(Refusal::Journal);
@@ -104,6 +108,7 @@ fn prepare_parts(
     alloc: Global,
     store: &mut Store<CellName>,
     goals: &GoalTable<CellName>,
+    shoens: &ShoenTree<CellName>,
     modules: &mut Modules,
     names: &mut AccountNames,
     trial: &mut Trial<CellName>,
@@ -112,7 +117,8 @@ fn prepare_parts(
 ) -> Result<Vec<CellName>, AllocError>
     requires new { is_numbered modules.old.loaded (number_of draft.now) ≡ false }
     requires goals { AreGoalsIn store.old.held goals.now.goals }
-    ensures settles { OnOk result (Settles modules.old.loaded draft.now store.new.hooks store.old.held goals.now.goals changes.new.items) }
+    requires shoens { AreShoensIn store.old.held shoens.now.shoens }
+    ensures settles { OnOk result (Settles modules.old.loaded draft.now shoens.now.shoens store.new.hooks store.old.held goals.now.goals changes.new.items) }
     ensures row { IfOk result (λ row. row.items ≡ []) }
     ensures row_room { IfOk result (λ row. length (own_names draft.now.content) ≤ vec_capacity row) }
     ensures modules { modules.new.loaded ≡ modules.old.loaded }
@@ -123,7 +129,7 @@ fn prepare_parts(
     ensures grown { HasGrown store.old store.new }
 {
     changes.clear();
-    look_at_all(store, goals, modules, draft, trial, changes)?;
+    look_at_all(store, goals, shoens, modules, draft, trial, changes)?;
     let count = draft.code().names().len();
     modules.reserve(1)?;
     names.reserve(count)?;
@@ -135,6 +141,7 @@ pub(crate) fn prepare(
     alloc: Global,
     store: &mut Store<CellName>,
     goals: &GoalTable<CellName>,
+    shoens: &ShoenTree<CellName>,
     modules: &mut Modules,
     names: &mut AccountNames,
     trial: &mut Trial<CellName>,
@@ -143,7 +150,8 @@ pub(crate) fn prepare(
 ) -> Result<Vec<CellName>, AllocError>
     requires new { is_numbered modules.old.loaded (number_of draft.now) ≡ false }
     requires goals { AreGoalsIn store.old.held goals.now.goals }
-    ensures settles { OnOk result (Settles modules.old.loaded draft.now store.new.hooks store.old.held goals.now.goals changes.new.items) }
+    requires shoens { AreShoensIn store.old.held shoens.now.shoens }
+    ensures settles { OnOk result (Settles modules.old.loaded draft.now shoens.now.shoens store.new.hooks store.old.held goals.now.goals changes.new.items) }
     ensures row { IfOk result (λ row. row.items ≡ []) }
     ensures row_room { IfOk result (λ row. length (own_names draft.now.content) ≤ vec_capacity row) }
     ensures modules { modules.new.loaded ≡ modules.old.loaded }
@@ -154,7 +162,9 @@ pub(crate) fn prepare(
     ensures hooks { OnErr result (store.new.hooks ≡ store.old.hooks) }
 {
     let mark = store.mark();
-    match prepare_parts(alloc, store, goals, modules, names, trial, draft, changes) {
+    match prepare_parts(
+        alloc, store, goals, shoens, modules, names, trial, draft, changes,
+    ) {
         Ok(row) => Ok(row),
         Err(memory) => {
             store.back(mark);

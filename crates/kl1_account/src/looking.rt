@@ -1,26 +1,30 @@
 // Goals that are looked at again.
 
-ghost use Rattle.std.specs.Prelude.{◌≡◌, ◌+◌, ◌<◌, ◌^◌, [], length, IfOk, OnOk};
+ghost use Rattle.std.specs.Prelude.{◌≡◌, ℕ, List, IfOk, OnOk};
 ghost use Rattle.kl1_model.specs.Term.{Term};
 ghost use Rattle.kl1_text.specs.declared.cell_name.CellName.{CellName};
 ghost use Rattle.kl1_store.specs.Held.{Held, IsIn};
-ghost use Rattle.kl1_store.specs.InModules.{AreQualifiedIn};
 ghost use Rattle.kl1_store.specs.Hooks.{HasGrown};
 ghost use Rattle.kl1_clause.specs.Predicates.{AreSome};
 ghost use Rattle.kl1_moves.specs.Kinds.{IsKind, KindIn};
 ghost use Rattle.kl1_moves.specs.Moves.{HasPredicate};
+ghost use Rattle.kl1_goals.specs.declared.task.Task.TheVariants.{Monitor, Reduces};
+ghost use Rattle.kl1_shoen.specs.declared.shoen.Shoen.{Shoen};
+ghost use Rattle.kl1_modules.specs.Numbered.{Numbered};
 ghost use Rattle.kl1_modules.specs.Finding.{contents};
 ghost use Rattle.kl1_account.specs.Fitting.{Reading};
-ghost use Rattle.kl1_account.specs.Kept.{AreGoalsIn};
+ghost use Rattle.kl1_account.specs.Kept.{IsTaskIn, AreGoalsIn, AreShoensIn};
 ghost use Rattle.kl1_account.specs.Works.{Knows};
-ghost use Rattle.kl1_account.specs.Looking.{Serves, calls_same, StandsBy, StandsAt, FindsOut, Wakes, WakesTold, WakesAdded};
+ghost use Rattle.kl1_account.specs.Looking.{Serves, calls_same, StandsBy, HearsAt, StandsAt, FindsOut, Wakes, WakesTold, LooksAtOne, LooksAtAdded};
 
 use crate::draft::Change;
 use kl1_clause::Predicate;
-use kl1_goals::{GoalTable, Task};
+use kl1_goals::{Goal, GoalTable, Task};
 use kl1_modules::Modules;
 use kl1_moves::{Call, Kind, Trial, hang_on, kind_of_qualified, or_none, standing_of};
-use kl1_store::{Qualified, Store};
+use kl1_shoen::ShoenTree;
+use kl1_store::{Cell, Qualified, Store};
+use kl1_stream::{Control, read_control};
 use kl1_text::CellName;
 use std::alloc::AllocError;
 
@@ -34,6 +38,8 @@ pub(crate) fn predicate_of(modules: &Modules, kind: Kind<CellName>) -> Predicate
         Kind::Calls(call) => or_none(modules.find(call.module_name, call.name, call.count)),
         Kind::Unifies(_, _) => or_none(None),
         Kind::Assigns(_, _) => or_none(None),
+        Kind::Spells(_, _) => or_none(None),
+        Kind::Executes(_) => or_none(None),
         Kind::Goes => or_none(None),
         Kind::Waits(_) => or_none(None),
         Kind::Nothing => or_none(None),
@@ -52,6 +58,8 @@ fn calls_same(call: Call<CellName>, kind: Kind<CellName>) -> bool
         }
         Kind::Unifies(_, _) => false,
         Kind::Assigns(_, _) => false,
+        Kind::Spells(_, _) => false,
+        Kind::Executes(_) => false,
         Kind::Goes => false,
         Kind::Waits(_) => false,
         Kind::Nothing => false,
@@ -81,6 +89,8 @@ fn predicate_near<'a>(
         }
         Kind::Unifies(_, _) => predicate_of(modules, kind),
         Kind::Assigns(_, _) => predicate_of(modules, kind),
+        Kind::Spells(_, _) => predicate_of(modules, kind),
+        Kind::Executes(_) => predicate_of(modules, kind),
         Kind::Goes => predicate_of(modules, kind),
         Kind::Waits(_) => predicate_of(modules, kind),
         Kind::Nothing => predicate_of(modules, kind),
@@ -124,7 +134,7 @@ fn standing_at(
     requires cell { IsIn store.old.held cell.cell }
     requires some { AreSome predicate.names.now predicate.clauses.now }
     requires serves { Serves modules.now.loaded known predicate }
-    ensures stands { IfOk result (λ standing. StandsAt modules.now.loaded store.old.held store.new.hooks cell (record { number = number; standing = standing })) }
+    ensures stands { IfOk result (λ standing. (shoens : List (Shoen CellName)) (shoen : ℕ) → StandsAt modules.now.loaded shoens store.old.held store.new.hooks shoen (Reduces cell) (record { number = number; standing = standing })) }
     ensures held { store.new.held ≡ store.old.held }
     ensures grown { HasGrown store.old store.new }
 {
@@ -133,34 +143,108 @@ fn standing_at(
     hung_standing(store, kind, clauses, trial, number)
 }
 
-/// Looks at the goal of a number, which is for a cell: the clause by which it can step becomes one change more. The predicate of
-/// goals of one kind is known here and below.
-fn look_at_cell(
+/// The clause by which the monitor of a number can step that reads this control stream: 0, or none as long as it waits. The number is
+/// hung on the variable that it waits for then.
+fn control_standing(
     store: &mut Store<CellName>,
+    control: Cell<CellName>,
+    number: u64,
+) -> Result<Option<u64>, AllocError>
+    requires { IsIn store.old.held control }
+    ensures hears { IfOk result (λ standing. HearsAt store.old.held store.new.hooks control (record { number = number; standing = standing })) }
+    ensures held { store.new.held ≡ store.old.held }
+    ensures grown { HasGrown store.old store.new }
+{
+    match read_control(store, control) {
+        Control::Awaits(variable) => {
+            hang_on(store, &[variable], number)?;
+            Ok(None)
+        }
+        Control::Tells(_message, _rest) => Ok(Some(0)),
+        Control::TellsOther(_element, _rest) => Ok(Some(0)),
+        Control::Ends => Ok(Some(0)),
+        Control::BreaksOff(_cell) => Ok(Some(0)),
+    }
+}
+
+/// The same of the monitor of a shoen; none where there is no such shoen.
+pub(crate) fn monitor_standing(
+    store: &mut Store<CellName>,
+    shoens: &ShoenTree<CellName>,
+    number: u64,
+    shoen: u64,
+) -> Result<Option<u64>, AllocError>
+    requires { AreShoensIn store.old.held shoens.now.shoens }
+    ensures stands { IfOk result (λ standing. (modules : List Numbered) → StandsAt modules shoens.now.shoens store.old.held store.new.hooks shoen Monitor (record { number = number; standing = standing })) }
+    ensures held { store.new.held ≡ store.old.held }
+    ensures grown { HasGrown store.old store.new }
+{
+    match shoens.lend(shoen) {
+        None => Ok(None),
+        Some(found) => control_standing(store, found.control, number),
+    }
+}
+
+/// The clause by which the goal of a number can step, which is of a shoen and has a task, or none. The predicate of goals of one
+/// kind is known here and below; the number is hung on each variable that the goal waits for.
+fn task_standing(
+    store: &mut Store<CellName>,
+    shoens: &ShoenTree<CellName>,
     modules: &Modules,
     known: Kind<CellName>,
     predicate: Predicate<'_, CellName>,
     trial: &mut Trial<CellName>,
     number: u64,
-    cell: Qualified<CellName>,
-    changes: &mut Vec<Change>,
-) -> Result<(), AllocError>
-    requires cell { IsIn store.old.held cell.cell }
+    shoen: u64,
+    task: Task<CellName>,
+) -> Result<Option<u64>, AllocError>
+    requires task { IsTaskIn store.old.held task }
+    requires shoens { AreShoensIn store.old.held shoens.now.shoens }
     requires some { AreSome predicate.names.now predicate.clauses.now }
     requires serves { Serves modules.now.loaded known predicate }
-    ensures finds { OnOk result (FindsOut modules.now.loaded store.old.held store.new.hooks cell number changes.old.items changes.new.items) }
+    ensures stands { IfOk result (λ standing. StandsAt modules.now.loaded shoens.now.shoens store.old.held store.new.hooks shoen task (record { number = number; standing = standing })) }
     ensures held { store.new.held ≡ store.old.held }
     ensures grown { HasGrown store.old store.new }
 {
-    let standing = standing_at(store, modules, known, predicate, trial, number, cell)?;
+    match task {
+        Task::Monitor => monitor_standing(store, shoens, number, shoen),
+        Task::Reduces(cell) => standing_at(store, modules, known, predicate, trial, number, cell),
+    }
+}
+
+/// Looks at the goal of a number: the clause by which it can step becomes one change more.
+fn look_at_task(
+    store: &mut Store<CellName>,
+    shoens: &ShoenTree<CellName>,
+    modules: &Modules,
+    known: Kind<CellName>,
+    predicate: Predicate<'_, CellName>,
+    trial: &mut Trial<CellName>,
+    number: u64,
+    shoen: u64,
+    task: Task<CellName>,
+    changes: &mut Vec<Change>,
+) -> Result<(), AllocError>
+    requires task { IsTaskIn store.old.held task }
+    requires shoens { AreShoensIn store.old.held shoens.now.shoens }
+    requires some { AreSome predicate.names.now predicate.clauses.now }
+    requires serves { Serves modules.now.loaded known predicate }
+    ensures finds { OnOk result (FindsOut modules.now.loaded shoens.now.shoens store.old.held store.new.hooks shoen task number changes.old.items changes.new.items) }
+    ensures held { store.new.held ≡ store.old.held }
+    ensures grown { HasGrown store.old store.new }
+{
+    let standing = task_standing(
+        store, shoens, modules, known, predicate, trial, number, shoen, task,
+    )?;
     changes.push(Change { number, standing })?;
     Ok(())
 }
 
-/// Looks at the goal of a number, where it is there, is no monitor, and is not the one that is removed.
+/// Looks at the goal of a number, where it is there and is not the one that is removed.
 fn wake(
     store: &mut Store<CellName>,
     goals: &GoalTable<CellName>,
+    shoens: &ShoenTree<CellName>,
     modules: &Modules,
     known: Kind<CellName>,
     predicate: Predicate<'_, CellName>,
@@ -170,9 +254,10 @@ fn wake(
     changes: &mut Vec<Change>,
 ) -> Result<(), AllocError>
     requires goals { AreGoalsIn store.old.held goals.now.goals }
+    requires shoens { AreShoensIn store.old.held shoens.now.shoens }
     requires some { AreSome predicate.names.now predicate.clauses.now }
     requires serves { Serves modules.now.loaded known predicate }
-    ensures wakes { OnOk result (Wakes modules.now.loaded store.old.held store.old.hooks store.new.hooks goals.now.goals removed number changes.old.items changes.new.items) }
+    ensures wakes { OnOk result (Wakes modules.now.loaded shoens.now.shoens store.old.held store.old.hooks store.new.hooks goals.now.goals removed number changes.old.items changes.new.items) }
     ensures held { store.new.held ≡ store.old.held }
     ensures grown { HasGrown store.old store.new }
 {
@@ -181,19 +266,18 @@ fn wake(
     }
     match goals.get(number) {
         None => Ok(()),
-        Some(goal) => match goal.task {
-            Task::Monitor => Ok(()),
-            Task::Reduces(cell) => look_at_cell(
-                store, modules, known, predicate, trial, number, cell, changes,
-            ),
-        },
+        Some(goal) => look_at_task(
+            store, shoens, modules, known, predicate, trial, number, goal.shoen, goal.task, changes,
+        ),
     }
 }
 
-/// Looks at the goals of these numbers that are there, but the one that is removed. Where memory is refused, more may hang.
+/// Looks at the goals of these numbers that are there, monitors too, but the one that is removed. A goal that goes for another
+/// reason may be looked at as well: that makes nothing of the others. Where memory is refused, more may hang.
 pub(crate) fn wake_told(
     store: &mut Store<CellName>,
     goals: &GoalTable<CellName>,
+    shoens: &ShoenTree<CellName>,
     modules: &Modules,
     known: Kind<CellName>,
     predicate: Predicate<'_, CellName>,
@@ -203,48 +287,83 @@ pub(crate) fn wake_told(
     changes: &mut Vec<Change>,
 ) -> Result<(), AllocError>
     requires goals { AreGoalsIn store.old.held goals.now.goals }
+    requires shoens { AreShoensIn store.old.held shoens.now.shoens }
     requires some { AreSome predicate.names.now predicate.clauses.now }
     requires serves { Serves modules.now.loaded known predicate }
-    ensures wakes { OnOk result (WakesTold modules.now.loaded store.old.held store.old.hooks store.new.hooks goals.now.goals removed told.now changes.old.items changes.new.items) }
+    ensures wakes { OnOk result (WakesTold modules.now.loaded shoens.now.shoens store.old.held store.old.hooks store.new.hooks goals.now.goals removed told.now changes.old.items changes.new.items) }
     ensures held { store.new.held ≡ store.old.held }
     ensures grown { HasGrown store.old store.new }
 {
     for number in told {
         wake(
-            store, goals, modules, known, predicate, trial, removed, *number, changes,
+            store, goals, shoens, modules, known, predicate, trial, removed, *number, changes,
         )?;
     }
     Ok(())
 }
 
-/// Looks at goals for these cells, which have the numbers after the last: the clauses by which they can step are put down, one for
-/// each. Where memory is refused, more may hang.
-pub(crate) fn wake_added(
+/// A goal that comes, with the clause by which it can step, and whether its shoen lets it.
+fn looked_goal(
     store: &mut Store<CellName>,
+    shoens: &ShoenTree<CellName>,
     modules: &Modules,
     known: Kind<CellName>,
     predicate: Predicate<'_, CellName>,
     trial: &mut Trial<CellName>,
-    last_goal: u64,
-    cells: &[Qualified<CellName>],
-    standings: &mut Vec<Option<u64>>,
-) -> Result<(), AllocError>
-    requires cells { AreQualifiedIn store.old.held cells.now }
-    requires fits { last_goal + length cells.now < 2 ^ 64 }
-    requires empty { standings.old.items ≡ [] }
+    goal: Goal<CellName>,
+) -> Result<Goal<CellName>, AllocError>
+    requires task { IsTaskIn store.old.held goal.task }
+    requires shoens { AreShoensIn store.old.held shoens.now.shoens }
     requires some { AreSome predicate.names.now predicate.clauses.now }
     requires serves { Serves modules.now.loaded known predicate }
-    ensures wakes { OnOk result (WakesAdded modules.now.loaded store.old.held store.new.hooks last_goal cells.now standings.new.items) }
-    ensures count { OnOk result (length standings.new.items ≡ length cells.now) }
+    ensures looks { IfOk result (LooksAtOne modules.now.loaded shoens.now.shoens shoens.now.work store.old.held store.new.hooks goal) }
     ensures held { store.new.held ≡ store.old.held }
     ensures grown { HasGrown store.old store.new }
 {
-    standings.reserve(cells.len())?;
-    let mut number = last_goal;
-    for cell in cells {
-        number += 1;
-        let standing = standing_at(store, modules, known, predicate, trial, number, *cell)?;
-        standings.push_reserved(standing);
+    let standing = task_standing(
+        store,
+        shoens,
+        modules,
+        known,
+        predicate,
+        trial,
+        goal.number,
+        goal.shoen,
+        goal.task,
+    )?;
+    let is_enabled = goal.is_monitor() || shoens.is_enabled(goal.shoen);
+    Ok(Goal {
+        number: goal.number,
+        task: goal.task,
+        shoen: goal.shoen,
+        priority: goal.priority,
+        standing,
+        is_enabled,
+    })
+}
+
+/// Looks at goals that come: each gets the clause by which it can step, and whether its shoen lets it. Where memory is refused, more
+/// may hang.
+pub(crate) fn wake_added(
+    store: &mut Store<CellName>,
+    shoens: &ShoenTree<CellName>,
+    modules: &Modules,
+    known: Kind<CellName>,
+    predicate: Predicate<'_, CellName>,
+    trial: &mut Trial<CellName>,
+    added: &mut Vec<Goal<CellName>>,
+) -> Result<(), AllocError>
+    requires added { AreGoalsIn store.old.held added.old.items }
+    requires shoens { AreShoensIn store.old.held shoens.now.shoens }
+    requires some { AreSome predicate.names.now predicate.clauses.now }
+    requires serves { Serves modules.now.loaded known predicate }
+    ensures looks { OnOk result (LooksAtAdded modules.now.loaded shoens.now.shoens shoens.now.work store.old.held store.new.hooks added.old.items added.new.items) }
+    ensures held { store.new.held ≡ store.old.held }
+    ensures grown { HasGrown store.old store.new }
+{
+    for place in 0..added.len() {
+        let goal = added[place];
+        added[place] = looked_goal(store, shoens, modules, known, predicate, trial, goal)?;
     }
     Ok(())
 }

@@ -1,6 +1,6 @@
 // Goals that are looked at when a module is loaded.
 
-ghost use Rattle.std.specs.Prelude.{◌≡◌, ◌++◌, false, [], ◌∷◌, OnOk};
+ghost use Rattle.std.specs.Prelude.{◌≡◌, ℕ, ◌++◌, false, List, [], ◌∷◌, IfOk, OnOk};
 ghost use Rattle.kl1_model.specs.Term.{Term};
 ghost use Rattle.kl1_text.specs.declared.cell_name.CellName.{CellName};
 ghost use Rattle.kl1_store.specs.Held.{Held, IsIn};
@@ -8,19 +8,22 @@ ghost use Rattle.kl1_store.specs.Hooks.{HasGrown};
 ghost use Rattle.kl1_clause.specs.Predicates.{AreSome};
 ghost use Rattle.kl1_moves.specs.Kinds.{IsKind};
 ghost use Rattle.kl1_moves.specs.Moves.{HasPredicate};
+ghost use Rattle.kl1_goals.specs.declared.task.Task.TheVariants.{Reduces};
+ghost use Rattle.kl1_shoen.specs.declared.shoen.Shoen.{Shoen};
 ghost use Rattle.kl1_modules.specs.Numbered.{number_of};
 ghost use Rattle.kl1_modules.specs.Finding.{contents, is_numbered};
 ghost use Rattle.kl1_account.specs.Fitting.{Reading};
-ghost use Rattle.kl1_account.specs.Kept.{IsTaskIn, AreGoalsIn};
+ghost use Rattle.kl1_account.specs.Kept.{IsTaskIn, AreGoalsIn, AreShoensIn};
 ghost use Rattle.kl1_account.specs.Works.{Knows};
-ghost use Rattle.kl1_account.specs.Looking.{FindsOut, FindsTask, LooksBelow, LooksAtAll};
+ghost use Rattle.kl1_account.specs.Looking.{StandsAt, FindsOut, LooksBelow, LooksAtAll};
 
 use crate::draft::Change;
-use crate::looking::hung_standing;
+use crate::looking::{hung_standing, monitor_standing};
 use kl1_clause::Predicate;
 use kl1_goals::{Goal, GoalTable, Task};
 use kl1_modules::{Loaded, Modules};
 use kl1_moves::{Kind, Trial, kind_of_qualified, or_none};
+use kl1_shoen::ShoenTree;
 use kl1_store::{Qualified, Store};
 use kl1_text::CellName;
 use std::alloc::AllocError;
@@ -45,115 +48,128 @@ fn predicate_beside<'a>(
         )),
         Kind::Unifies(_, _) => or_none(None),
         Kind::Assigns(_, _) => or_none(None),
+        Kind::Spells(_, _) => or_none(None),
+        Kind::Executes(_) => or_none(None),
         Kind::Goes => or_none(None),
         Kind::Waits(_) => or_none(None),
         Kind::Nothing => or_none(None),
     }
 }
 
-/// Looks at the goal of a number, which is for a cell: the clause by which it can step becomes one change more.
-fn look_at_cell(
+/// The clause by which the goal of a number can step, which is for a cell, or none. The number is hung on each variable that the goal
+/// waits for.
+fn standing_beside(
     store: &mut Store<CellName>,
     modules: &Modules,
     draft: &Loaded,
     trial: &mut Trial<CellName>,
     number: u64,
     cell: Qualified<CellName>,
-    changes: &mut Vec<Change>,
-) -> Result<(), AllocError>
+) -> Result<Option<u64>, AllocError>
     requires cell { IsIn store.old.held cell.cell }
     requires new { is_numbered modules.now.loaded (number_of draft.now) ≡ false }
-    ensures finds { OnOk result (FindsOut (modules.now.loaded ++ draft.now ∷ []) store.old.held store.new.hooks cell number changes.old.items changes.new.items) }
+    ensures stands { IfOk result (λ standing. (shoens : List (Shoen CellName)) (shoen : ℕ) → StandsAt (modules.now.loaded ++ draft.now ∷ []) shoens store.old.held store.new.hooks shoen (Reduces cell) (record { number = number; standing = standing })) }
     ensures held { store.new.held ≡ store.old.held }
     ensures grown { HasGrown store.old store.new }
 {
     let kind = kind_of_qualified(store, cell);
     let predicate = predicate_beside(modules, draft, kind);
-    let standing = hung_standing(store, kind, predicate, trial, number)?;
-    changes.push(Change { number, standing })?;
-    Ok(())
+    hung_standing(store, kind, predicate, trial, number)
 }
 
-/// Looks at a goal, unless it is a monitor.
-fn look_at_task(
+/// The same of a goal of a shoen with a task.
+fn task_beside(
     store: &mut Store<CellName>,
+    shoens: &ShoenTree<CellName>,
     modules: &Modules,
     draft: &Loaded,
     trial: &mut Trial<CellName>,
     number: u64,
+    shoen: u64,
     task: Task<CellName>,
-    changes: &mut Vec<Change>,
-) -> Result<(), AllocError>
+) -> Result<Option<u64>, AllocError>
     requires task { IsTaskIn store.old.held task }
+    requires shoens { AreShoensIn store.old.held shoens.now.shoens }
     requires new { is_numbered modules.now.loaded (number_of draft.now) ≡ false }
-    ensures finds { OnOk result (FindsTask (modules.now.loaded ++ draft.now ∷ []) store.old.held store.new.hooks number task changes.old.items changes.new.items) }
+    ensures stands { IfOk result (λ standing. StandsAt (modules.now.loaded ++ draft.now ∷ []) shoens.now.shoens store.old.held store.new.hooks shoen task (record { number = number; standing = standing })) }
     ensures held { store.new.held ≡ store.old.held }
     ensures grown { HasGrown store.old store.new }
 {
     match task {
-        Task::Monitor => Ok(()),
-        Task::Reduces(cell) => look_at_cell(store, modules, draft, trial, number, cell, changes),
+        Task::Monitor => monitor_standing(store, shoens, number, shoen),
+        Task::Reduces(cell) => standing_beside(store, modules, draft, trial, number, cell),
     }
 }
 
-/// Looks at the goal of number 0, where there is one and it is no monitor.
+/// Looks at a goal: the clause by which it can step becomes one change more.
+fn look_at_goal(
+    store: &mut Store<CellName>,
+    shoens: &ShoenTree<CellName>,
+    modules: &Modules,
+    draft: &Loaded,
+    trial: &mut Trial<CellName>,
+    goal: Goal<CellName>,
+    changes: &mut Vec<Change>,
+) -> Result<(), AllocError>
+    requires task { IsTaskIn store.old.held goal.task }
+    requires shoens { AreShoensIn store.old.held shoens.now.shoens }
+    requires new { is_numbered modules.now.loaded (number_of draft.now) ≡ false }
+    ensures finds { OnOk result (FindsOut (modules.now.loaded ++ draft.now ∷ []) shoens.now.shoens store.old.held store.new.hooks goal.shoen goal.task goal.number changes.old.items changes.new.items) }
+    ensures held { store.new.held ≡ store.old.held }
+    ensures grown { HasGrown store.old store.new }
+{
+    let number = goal.number;
+    let standing = task_beside(
+        store, shoens, modules, draft, trial, number, goal.shoen, goal.task,
+    )?;
+    changes.push(Change { number, standing })?;
+    Ok(())
+}
+
+/// Looks at the goal of number 0, where there is one.
 fn look_at_first(
     store: &mut Store<CellName>,
     goals: &GoalTable<CellName>,
+    shoens: &ShoenTree<CellName>,
     modules: &Modules,
     draft: &Loaded,
     trial: &mut Trial<CellName>,
     changes: &mut Vec<Change>,
 ) -> Result<(), AllocError>
-    requires changes { changes.old.items ≡ [] }
     requires goals { AreGoalsIn store.old.held goals.now.goals }
+    requires shoens { AreShoensIn store.old.held shoens.now.shoens }
     requires new { is_numbered modules.now.loaded (number_of draft.now) ≡ false }
-    ensures looks { OnOk result (LooksBelow (modules.now.loaded ++ draft.now ∷ []) store.old.held store.new.hooks 1 goals.now.goals changes.new.items) }
+    ensures looks { OnOk result (LooksBelow (modules.now.loaded ++ draft.now ∷ []) shoens.now.shoens store.old.held store.new.hooks 1 goals.now.goals changes.new.items) }
     ensures held { store.new.held ≡ store.old.held }
     ensures grown { HasGrown store.old store.new }
 {
     match goals.get(0) {
         None => Ok(()),
-        Some(goal) => look_at_task(
-            store,
-            modules,
-            draft,
-            trial,
-            goal.number,
-            goal.task,
-            changes,
-        ),
+        Some(goal) => look_at_goal(store, shoens, modules, draft, trial, goal, changes),
     }
 }
 
-/// Looks at all goals but the monitors, where a module that is drafted is there too. Where memory is refused, more may hang.
+/// Looks at all goals, where a module that is drafted is there too. Where memory is refused, more may hang.
 pub(crate) fn look_at_all(
     store: &mut Store<CellName>,
     goals: &GoalTable<CellName>,
+    shoens: &ShoenTree<CellName>,
     modules: &Modules,
     draft: &Loaded,
     trial: &mut Trial<CellName>,
     changes: &mut Vec<Change>,
 ) -> Result<(), AllocError>
-    requires changes { changes.old.items ≡ [] }
     requires goals { AreGoalsIn store.old.held goals.now.goals }
+    requires shoens { AreShoensIn store.old.held shoens.now.shoens }
     requires new { is_numbered modules.now.loaded (number_of draft.now) ≡ false }
-    ensures looks { OnOk result (LooksAtAll (modules.now.loaded ++ draft.now ∷ []) store.old.held store.new.hooks goals.now.goals changes.new.items) }
+    ensures looks { OnOk result (LooksAtAll (modules.now.loaded ++ draft.now ∷ []) shoens.now.shoens store.old.held store.new.hooks goals.now.goals changes.new.items) }
     ensures held { store.new.held ≡ store.old.held }
     ensures grown { HasGrown store.old store.new }
 {
-    look_at_first(store, goals, modules, draft, trial, changes)?;
+    look_at_first(store, goals, shoens, modules, draft, trial, changes)?;
     let mut number = 0;
     while let Some(goal) = goals.after(number) {
-        look_at_task(
-            store,
-            modules,
-            draft,
-            trial,
-            goal.number,
-            goal.task,
-            changes,
-        )?;
+        look_at_goal(store, shoens, modules, draft, trial, goal, changes)?;
         number = goal.number;
     }
     Ok(())

@@ -1,20 +1,26 @@
-// Shoens that open.
+// The streams of shoens that open.
 
-ghost use Rattle.std.specs.Prelude.{◌≡◌, IfOk};
+ghost use Rattle.std.specs.Prelude.{◌≡◌, ◌<◌, IfOk};
+ghost use Rattle.kl1_text.specs.declared.cell_name.CellName.{CellName};
+ghost use Rattle.kl1_store.specs.Held.{IsIn};
 ghost use Rattle.kl1_store.specs.Hooks.{HasGrown};
-ghost use Rattle.kl1_account.specs.Starting.{OpensStreams};
+ghost use Rattle.kl1_account.specs.Starting.{OpensStreams, IsLink};
 
 use kl1_model::BuiltIn;
+use kl1_model::limits::MOST_REPORTS;
 use kl1_store::{Cell, Store};
 use kl1_text::{CellName, NameValue};
 use std::alloc::AllocError;
 
-/// The streams of a shoen that opens: the tail of its control stream, its report stream from the beginning, and the tail of that.
+/// The streams of a shoen: the number of the variable that is its control stream's tail; its report stream from its beginning, the
+/// tail of that, and whether it is broken; and how many reports the account made with these.
 #[derive(Clone, Copy)]
 pub(crate) struct Streams {
-    pub control: Cell<CellName>,
+    pub control: u32,
     pub reports: Cell<CellName>,
     pub tail: Cell<CellName>,
+    pub is_broken: bool,
+    pub made: u64,
 }
 
 /// What is drafted of a start: the streams of the shoen, and the clause by which its goal can step, or none.
@@ -24,23 +30,70 @@ pub(crate) struct Opening {
     pub standing: Option<u64>,
 }
 
-/// The streams of a shoen that opens and reports that it has started. Of their three variables one takes only a number: the report
-/// stream, whose first cell is there at once. Where memory is refused, the store may have grown.
-pub(crate) fn open_streams(store: &mut Store<CellName>) -> Result<Streams, AllocError>
-    ensures ok { IfOk result (OpensStreams store.old.held store.new.held) }
+/// A list of a name of the language and a rest.
+fn link(
+    store: &mut Store<CellName>,
+    name: BuiltIn,
+    rest: Cell<CellName>,
+) -> Result<Cell<CellName>, AllocError>
+    requires { IsIn store.old.held rest }
+    ensures ok { IfOk result (IsLink store.old.held store.new.held name rest) }
+    ensures grown { HasGrown store.old store.new }
+    ensures hooks { store.new.hooks ≡ store.old.hooks }
+{
+    let _formed = store.mark();
+    let list = CellName::of(BuiltIn::ListCell);
+    let structure = store.build_pair(list, Cell::Atom(CellName::of(name)), rest)?;
+    Ok(Cell::Structure(structure))
+}
+
+/// The streams of a shoen that opens, in an account that made so many reports, and that reports that it has started, and, where its
+/// allowance is 0, that it is exhausted. Of their variables some take only a number: the cells of what is reported are there at
+/// once. Where memory is refused, the store may have grown.
+pub(crate) fn open_streams(
+    store: &mut Store<CellName>,
+    allowance: u64,
+    made: u64,
+) -> Result<Streams, AllocError>
+    requires { 0 < store.old.held.variables }
+    ensures ok { IfOk result (OpensStreams allowance made store.old.held store.new.held) }
     ensures grown { HasGrown store.old store.new }
     ensures hooks { store.new.hooks ≡ store.old.hooks }
 {
     let _formed = store.mark();
     let control = store.fresh()?;
-    let _reports = store.fresh()?;
-    let tail = store.fresh()?;
-    let message = Cell::Atom(CellName::of(BuiltIn::Started));
-    let name = CellName::of(BuiltIn::ListCell);
-    let reports = store.build_pair(name, message, Cell::Variable(tail))?;
+    let first = store.fresh()?;
+    if MOST_REPORTS <= made {
+        let tail = Cell::Variable(first);
+        return Ok(Streams {
+            control,
+            reports: tail,
+            tail,
+            is_broken: true,
+            made,
+        });
+    }
+    let second = store.fresh()?;
+    if allowance != 0 || MOST_REPORTS <= made + 1 {
+        let tail = Cell::Variable(second);
+        let reports = link(store, BuiltIn::Started, tail)?;
+        return Ok(Streams {
+            control,
+            reports,
+            tail,
+            is_broken: allowance == 0,
+            made: made + 1,
+        });
+    }
+    let third = store.fresh()?;
+    let tail = Cell::Variable(third);
+    let exhausted = link(store, BuiltIn::Exhausted, tail)?;
+    let reports = link(store, BuiltIn::Started, exhausted)?;
     Ok(Streams {
-        control: Cell::Variable(control),
-        reports: Cell::Structure(reports),
-        tail: Cell::Variable(tail),
+        control,
+        reports,
+        tail,
+        is_broken: false,
+        made: made + 2,
     })
 }

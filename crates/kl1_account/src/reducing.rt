@@ -1,182 +1,294 @@
 // Reductions that are drafted.
 
-ghost use Rattle.std.specs.Prelude.{◌≡◌, ◌+◌, ◌<◌, ◌^◌, false, List, ℕ, length, Some, IfOk, OnOk};
-ghost use Rattle.kl1_atoms.specs.declared.known.Known.{Known};
-ghost use Rattle.kl1_store.specs.Held.{IsIn};
-ghost use Rattle.kl1_store.specs.InModules.{AreQualifiedIn};
-ghost use Rattle.kl1_store.specs.Hooks.{HasGrown};
+ghost use Rattle.std.specs.Prelude.{◌≡◌, ◌<◌, ◌≤◌, ℕ, List, Some, None, IfOk, IfErr};
+ghost use Rattle.kl1_model.specs.Limits.{most_entries, monitor_priority};
 ghost use Rattle.kl1_clause.specs.Predicates.{AreSome};
-ghost use Rattle.kl1_moves.specs.Moves.{MoveIn};
-ghost use Rattle.kl1_goals.specs.Tables.{IsKnown, AreInOrder};
-ghost use Rattle.kl1_account.specs.Account.{Account};
-ghost use Rattle.kl1_account.specs.Kept.{AreGoalsIn, AreOwned, AreUpTo, IsShoenIn, AreShoensIn, AreNumbered};
-ghost use Rattle.kl1_account.specs.Looking.{Serves};
-ghost use Rattle.kl1_account.specs.Reducing.{IsBegun, WakesAll, Finishes, ReducesAs};
+ghost use Rattle.kl1_moves.specs.Kinds.{IsKind, KindIn};
+ghost use Rattle.kl1_moves.specs.Moves.{HasPredicate, MoveIn, taken_places};
+ghost use Rattle.kl1_stream.specs.Controls.{ControlIn};
+ghost use Rattle.kl1_modules.specs.Finding.{contents};
+ghost use Rattle.kl1_model.specs.Term.{Term};
+ghost use Rattle.kl1_text.specs.declared.cell_name.CellName.{CellName};
+ghost use Rattle.kl1_store.specs.Held.{Held};
+ghost use Rattle.kl1_store.specs.Hooks.{HasGrown};
+ghost use Rattle.kl1_goals.specs.declared.task.Task.TheVariants.{Monitor, Reduces};
+ghost use Rattle.kl1_account.specs.Fitting.{Reading};
+ghost use Rattle.kl1_account.specs.Account.{aim};
+ghost use Rattle.kl1_account.specs.Kept.{AreShoensIn};
+ghost use Rattle.kl1_account.specs.Works.{Knows};
+ghost use Rattle.kl1_account.specs.Reducing.{RefusesAmong, IsSteppable, is_read, NotHeard, HeardAs, NotMade, IsMade, account_at, ReducesAs};
+ghost use Rattle.kl1_account.specs.Keeping.{IsKept};
+ghost use Rattle.kl1_account.specs.Drafts.{CanGoBack};
+ghost use Rattle.kl1_account.specs.Spelling.{HasRoomFor};
 
+use crate::acting::read;
+use crate::completing::finish;
+use crate::doing::do_or_spell;
 use crate::draft::Draft;
+use crate::installing::begin;
 use crate::limits::are_numbers;
-use crate::looking::{predicate_of, wake_added, wake_told};
-use crate::moving::do_move;
-use crate::refusal::Refusal;
-use crate::settling::settle;
+use crate::looking::predicate_of;
+use crate::names::AccountNames;
+use crate::settling::Walk;
 use kl1_clause::Predicate;
+use kl1_event::Refusal;
 use kl1_goals::{Goal, GoalTable, Task};
 use kl1_model::limits::MOST_ENTRIES;
 use kl1_modules::Modules;
 use kl1_moves::{Kind, Move, Trial, kind_of_qualified, move_of};
-use kl1_shoen::{Shoen, ShoenTree};
-use kl1_store::{Point, Store};
+use kl1_shoen::ShoenTree;
+use kl1_store::{Qualified, Store};
+use kl1_stream::{Control, read_control};
 use kl1_text::CellName;
 use std::alloc::AllocError;
 
-/// Begins a draft that removes a goal of a shoen.
-fn begin(draft: &mut Draft, goal: Goal<CellName>, shoen: &Shoen<CellName>, last_goal: u64)
-    ensures { IsBegun goal shoen.now last_goal draft.new }
-{
-    draft.removed = goal.number;
-    draft.cells.clear();
-    draft.priority = goal.priority;
-    draft.is_ending = false;
-    draft.shoen = *shoen;
-    draft.last_goal = last_goal;
-}
-
-/// The number after which there are so many more. Numbers that run out are refused as for want of memory.
-fn last_of(last: u64, more: usize) -> Result<u64, AllocError>
-    ensures { OnOk result (last + more < 2 ^ 64) }
-{
-    last.checked_add(more as u64).ok_or(AllocError)
-}
-
-/// Looks at the goals of a draft that hang on variables which were bound since a mark, and at those that come. The
-/// predicate of goals of one kind is known. Where memory is refused, more may hang.
-fn wake(
-    store: &mut Store<CellName>,
+/// The goal of a number, which may step, or why its reduction by the clause of a number is refused.
+fn steppable(
     goals: &GoalTable<CellName>,
+    number: u64,
+    clause: u64,
+) -> Result<Goal<CellName>, Refusal>
+    ensures refused { IfErr result (RefusesAmong goals.now.goals number clause) }
+    ensures found { IfOk result (IsSteppable goals.now.goals number clause) }
+    ensures number { IfOk result (λ g. g.number ≡ number) }
+    ensures level { IfOk result (λ g. g.priority ≤ monitor_priority) }
+{
+    if !are_numbers(number, clause) {
+        return Err(Refusal::Syntax);
+    }
+    let Some(goal) = goals.get(number) else {
+        return Err(Refusal::Step);
+    };
+    if !goal.is_enabled {
+        return Err(Refusal::Step);
+    }
+    Ok(goal)
+}
+
+/// Whether a monitor reads what stands before it: it isn't a variable.
+fn is_read(control: Control<CellName>) -> bool
+    ensures { result ≡ is_read control }
+{
+    match control {
+        Control::Awaits(_variable) => false,
+        Control::Tells(_message, _rest) => true,
+        Control::TellsOther(_element, _rest) => true,
+        Control::Ends => true,
+        Control::BreaksOff(_cell) => true,
+    }
+}
+
+/// What a monitor, which may step, reads by the clause of a number, for an account with so many entries in its journal, or why that is
+/// refused.
+fn control_to_read(
+    store: &Store<CellName>,
+    shoens: &ShoenTree<CellName>,
+    entries: u64,
+    goal: Goal<CellName>,
+    clause: u64,
+) -> Result<Control<CellName>, Refusal>
+    requires shoens { AreShoensIn store.now.held shoens.now.shoens }
+    ensures refused { IfErr result (NotHeard store.now.held shoens.now.shoens entries goal clause) }
+    ensures reads { IfOk result (HeardAs store.now.held shoens.now.shoens entries goal clause) }
+    ensures inside { IfOk result (ControlIn store.now.held) }
+    ensures room { IfOk result (λ control. entries < most_entries) }
+{
+    if clause != 0 {
+        return Err(Refusal::Step);
+    }
+    let Some(shoen) = shoens.lend(goal.shoen) else {
+        return Err(Refusal::Step);
+    };
+    let control = read_control(store, shoen.control);
+    if !is_read(control) {
+        return Err(Refusal::Step);
+    }
+    if MOST_ENTRIES <= entries {
+        return Err(Refusal::Journal);
+    }
+    Ok(control)
+}
+
+/// What a goal for a cell, which may step and is of a kind, does by the clause of a number of its predicate, for an account with so many
+/// entries in its journal, or why that is refused.
+fn move_to_make(
+    store: &Store<CellName>,
     modules: &Modules,
-    known: Kind<CellName>,
+    kind: Kind<CellName>,
     predicate: Predicate<'_, CellName>,
     trial: &mut Trial<CellName>,
-    draft: &mut Draft,
-    mark: Point,
-) -> Result<(), AllocError>
-    requires goals { AreGoalsIn store.old.held goals.now.goals }
-    requires order { AreInOrder goals.now.goals }
-    requires cells { AreQualifiedIn store.old.held draft.old.cells.items }
+    entries: u64,
+    cell: Qualified<CellName>,
+    clause: u64,
+) -> Result<Result<Move<CellName>, Refusal>, AllocError>
+    requires kind { KindIn store.now.held kind }
     requires some { AreSome predicate.names.now predicate.clauses.now }
-    requires serves { Serves modules.now.loaded known predicate }
-    requires fits { draft.old.last_goal + length draft.old.cells.items < 2 ^ 64 }
-    ensures wakes { OnOk result (WakesAll modules.now.loaded mark store.old store.new goals.now.goals draft.new) }
-    ensures count { OnOk result (length draft.new.standings.items ≡ length draft.new.cells.items) }
-    ensures rest { draft.new ≡ record draft.old { changes = draft.new.changes; standings = draft.new.standings; told = draft.new.told } }
-    ensures held { store.new.held ≡ store.old.held }
-    ensures grown { HasGrown store.old store.new }
+    requires is { (f : Reading) → Knows modules.now.loaded f → IsKind f store.now.held (aim f store.now.held cell) kind }
+    requires has { (f : Reading) → Knows modules.now.loaded f → (h : Held CellName) (t : Term) → IsKind f h t kind → HasPredicate f h (contents modules.now.loaded) kind predicate }
+    ensures refused { IfOk result (λ o. IfErr o (NotMade store.now.held modules.now.loaded entries cell clause)) }
+    ensures makes { IfOk result (λ o. IfOk o (IsMade store.now.held modules.now.loaded entries cell clause predicate.entry (taken_places trial.new) trial.new.text)) }
+    ensures inside { IfOk result (λ o. IfOk o (λ made. MoveIn store.now.held predicate.entry (taken_places trial.new) trial.new.text (Some made))) }
 {
-    draft.told.clear();
-    draft.changes.clear();
-    draft.standings.clear();
-    store.tell(mark, &mut draft.told)?;
-    wake_told(
-        store,
-        goals,
-        modules,
-        known,
-        predicate,
-        trial,
-        draft.removed,
-        &draft.told,
-        &mut draft.changes,
-    )?;
-    wake_added(
-        store,
-        modules,
-        known,
-        predicate,
-        trial,
-        draft.last_goal,
-        &draft.cells,
-        &mut draft.standings,
-    )
+    let Some(made) = move_of(store, kind, predicate, clause, trial)? else {
+        return Ok(Err(Refusal::Step));
+    };
+    if MOST_ENTRIES <= entries {
+        return Ok(Err(Refusal::Journal));
+    }
+    Ok(Ok(made))
 }
 
-/// Finishes a draft whose goal has done its move since a mark: looks at the shoen, and at the goals that are to be looked at, and
-/// makes room for those that come. The predicate of goals of one kind is known. Where memory is refused, the store may have grown.
-fn finish(
+/// Drafts what a monitor reads, which may step, by the clause of a number, for an account with this last number of a goal, so many
+/// variables, structures and reports, and so many entries in its journal, or says why it is refused.
+fn draft_reading(
     store: &mut Store<CellName>,
     goals: &mut GoalTable<CellName>,
+    shoens: &mut ShoenTree<CellName>,
     modules: &Modules,
-    known: Kind<CellName>,
-    predicate: Predicate<'_, CellName>,
+    names: &AccountNames,
     trial: &mut Trial<CellName>,
     draft: &mut Draft,
-    mark: Point,
-) -> Result<(), AllocError>
-    requires goals { AreGoalsIn store.old.held goals.old.goals }
-    requires order { AreInOrder goals.old.goals }
-    requires shoen { IsShoenIn store.old.held draft.old.shoen }
-    requires living { draft.old.is_ending ≡ false }
-    requires cells { AreQualifiedIn store.old.held draft.old.cells.items }
-    requires some { AreSome predicate.names.now predicate.clauses.now }
-    requires serves { Serves modules.now.loaded known predicate }
-    ensures ok { OnOk result (Finishes modules.now.loaded mark store.old store.new goals.old.goals goals.new.room draft.old draft.new) }
+    walk: &mut Walk,
+    last_goal: u64,
+    variables: u64,
+    nodes: u64,
+    reports: u64,
+    entries: u64,
+    goal: Goal<CellName>,
+    clause: u64,
+) -> Result<Option<Refusal>, AllocError>
+    requires steppable { IsSteppable goals.old.goals goal.number clause goal }
+    requires monitor { goal.task ≡ Monitor }
+    requires kept { (own : List ℕ) → IsKept (account_at own store.old.held goals.old.goals shoens.old modules.now.loaded names.now.names last_goal variables nodes reports entries) store.old.hooks goals.old.shoens }
+    ensures ok { IfOk result (λ refused. (own : List ℕ) → ReducesAs (account_at own store.old.held goals.old.goals shoens.old modules.now.loaded names.now.names last_goal variables nodes reports entries) goal.number clause store.old store.new shoens.old shoens.new goals.new draft.new refused) }
+    ensures back { CanGoBack shoens.old shoens.new }
+    ensures grown { HasGrown store.old store.new }
     ensures goals { goals.new.goals ≡ goals.old.goals }
     ensures shoens { goals.new.shoens ≡ goals.old.shoens }
-    ensures grown { HasGrown store.old store.new }
+    ensures unnamed { IfOk result (λ refused. refused ≡ None → draft.new.name ≡ None) }
 {
-    settle(store, goals, draft)?;
-    let _last = last_of(draft.last_goal, draft.cells.len())?;
-    wake(store, goals, modules, known, predicate, trial, draft, mark)?;
-    goals.reserve(draft.cells.len(), 0)
+    let control = match control_to_read(store, shoens, entries, goal, clause) {
+        Err(refusal) => return Ok(Some(refusal)),
+        Ok(control) => control,
+    };
+    let _single = goals.shoens();
+    let _worked = shoens.len();
+    let mark = store.mark();
+    begin(draft, 0, last_goal, variables, nodes, reports);
+    walk.reached.clear();
+    read(store, goals, shoens, draft, walk, goal.shoen, control)?;
+    draft.told.push(goal.number)?;
+    let predicate = predicate_of(modules, Kind::Nothing);
+    finish(
+        store,
+        goals,
+        shoens,
+        modules,
+        Kind::Nothing,
+        predicate,
+        trial,
+        draft,
+        walk,
+        mark,
+    )?;
+    Ok(None)
 }
 
-/// Drafts the reduction of the goal of a number by the clause of a number, where the journal has so many entries, or says why
-/// it is refused. Where memory is refused, the store may have grown.
+/// Drafts the move that a goal for a cell does, which may step, by the clause of a number, for an account with this last number of a
+/// goal, so many variables, structures and reports, and so many entries in its journal, or says why it is refused.
+fn draft_move(
+    store: &mut Store<CellName>,
+    goals: &mut GoalTable<CellName>,
+    shoens: &mut ShoenTree<CellName>,
+    modules: &Modules,
+    names: &mut AccountNames,
+    trial: &mut Trial<CellName>,
+    draft: &mut Draft,
+    walk: &mut Walk,
+    last_goal: u64,
+    variables: u64,
+    nodes: u64,
+    reports: u64,
+    entries: u64,
+    goal: Goal<CellName>,
+    cell: Qualified<CellName>,
+    clause: u64,
+) -> Result<Option<Refusal>, AllocError>
+    requires steppable { IsSteppable goals.old.goals goal.number clause goal }
+    requires reduces { goal.task ≡ Reduces cell }
+    requires level { goal.priority ≤ monitor_priority }
+    requires kept { (own : List ℕ) → IsKept (account_at own store.old.held goals.old.goals shoens.old modules.now.loaded names.old.names last_goal variables nodes reports entries) store.old.hooks goals.old.shoens }
+    ensures ok { IfOk result (λ refused. (own : List ℕ) → ReducesAs (account_at own store.old.held goals.old.goals shoens.old modules.now.loaded names.old.names last_goal variables nodes reports entries) goal.number clause store.old store.new shoens.old shoens.new goals.new draft.new refused) }
+    ensures back { CanGoBack shoens.old shoens.new }
+    ensures grown { HasGrown store.old store.new }
+    ensures goals { goals.new.goals ≡ goals.old.goals }
+    ensures shoens { goals.new.shoens ≡ goals.old.shoens }
+    ensures names { names.new.names ≡ names.old.names }
+    ensures room { IfOk result (λ refused. refused ≡ None → HasRoomFor names.new.room draft.new.name) }
+{
+    let kind = kind_of_qualified(store, cell);
+    let predicate = predicate_of(modules, kind);
+    let made = match move_to_make(
+        store, modules, kind, predicate, trial, entries, cell, clause,
+    )? {
+        Err(refusal) => return Ok(Some(refusal)),
+        Ok(made) => made,
+    };
+    let _ordered = goals.shoens();
+    let _worked = shoens.len();
+    let mark = store.mark();
+    begin(draft, goal.number, last_goal, variables, nodes, reports);
+    let alive = goals.alive() - 1;
+    do_or_spell(
+        store, goals, shoens, draft, walk, names, alive, predicate, made, trial, goal, cell,
+    )?;
+    finish(
+        store, goals, shoens, modules, kind, predicate, trial, draft, walk, mark,
+    )?;
+    Ok(None)
+}
+
+/// Drafts the reduction of the goal of a number by the clause of a number, for an account with this last number of a goal, so many
+/// variables, structures and reports, and so many entries in its journal, or says why it is refused. Where memory is refused, the store
+/// and the tree may have changed.
 pub(crate) fn draft_reduction(
     store: &mut Store<CellName>,
     goals: &mut GoalTable<CellName>,
-    shoens: &ShoenTree<CellName>,
+    shoens: &mut ShoenTree<CellName>,
     modules: &Modules,
+    names: &mut AccountNames,
     trial: &mut Trial<CellName>,
     draft: &mut Draft,
+    walk: &mut Walk,
     last_goal: u64,
+    variables: u64,
+    nodes: u64,
+    reports: u64,
     entries: u64,
     number: u64,
     clause: u64,
 ) -> Result<Option<Refusal>, AllocError>
-    requires some { 0 < store.old.held.variables }
-    requires goals { AreGoalsIn store.old.held goals.old.goals }
-    requires owned { AreOwned (length shoens.now.shoens) goals.old.goals }
-    requires shoens { AreShoensIn store.old.held shoens.now.shoens }
-    requires numbered { AreNumbered 0 shoens.now.shoens }
-    requires last { AreUpTo last_goal goals.old.goals }
-    ensures ok { IfOk result (λ refusal. (own_name : List ℕ) (names : List Known) → ReducesAs (record { own_name = own_name; held = store.old.held; goals = goals.old.goals; shoens = shoens.now.shoens; modules = modules.now.loaded; names = names; last_goal = last_goal; entries = entries }) store.old store.new number clause goals.old.shoens goals.new.room draft.new refusal) }
-    ensures goals { goals.new.goals ≡ goals.old.goals }
-    ensures count { goals.new.shoens ≡ goals.old.shoens }
+    requires kept { (own : List ℕ) → IsKept (account_at own store.old.held goals.old.goals shoens.old modules.now.loaded names.old.names last_goal variables nodes reports entries) store.old.hooks goals.old.shoens }
+    ensures ok { IfOk result (λ refused. (own : List ℕ) → ReducesAs (account_at own store.old.held goals.old.goals shoens.old modules.now.loaded names.old.names last_goal variables nodes reports entries) number clause store.old store.new shoens.old shoens.new goals.new draft.new refused) }
+    ensures back { CanGoBack shoens.old shoens.new }
     ensures grown { HasGrown store.old store.new }
+    ensures goals { goals.new.goals ≡ goals.old.goals }
+    ensures shoens { goals.new.shoens ≡ goals.old.shoens }
+    ensures names { names.new.names ≡ names.old.names }
+    ensures room { IfOk result (λ refused. refused ≡ None → HasRoomFor names.new.room draft.new.name) }
 {
-    if !are_numbers(number, clause) {
-        return Ok(Some(Refusal::Syntax));
+    let goal = match steppable(goals, number, clause) {
+        Err(refusal) => return Ok(Some(refusal)),
+        Ok(goal) => goal,
+    };
+    match goal.task {
+        Task::Monitor => draft_reading(
+            store, goals, shoens, modules, names, trial, draft, walk, last_goal, variables, nodes,
+            reports, entries, goal, clause,
+        ),
+        Task::Reduces(cell) => draft_move(
+            store, goals, shoens, modules, names, trial, draft, walk, last_goal, variables, nodes,
+            reports, entries, goal, cell, clause,
+        ),
     }
-    let Some(goal) = goals.get(number) else {
-        return Ok(Some(Refusal::Step));
-    };
-    let Task::Reduces(cell) = goal.task else {
-        return Ok(Some(Refusal::Step));
-    };
-    let kind = kind_of_qualified(store, cell);
-    let predicate = predicate_of(modules, kind);
-    let Some(made) = move_of(store, kind, predicate, clause, trial)? else {
-        return Ok(Some(Refusal::Step));
-    };
-    if entries >= MOST_ENTRIES {
-        return Ok(Some(Refusal::Journal));
-    }
-    let Some(shoen) = shoens.lend(goal.shoen) else {
-        unreachable!()
-    };
-    begin(draft, goal, shoen, last_goal);
-    let mark = store.mark();
-    do_move(store, predicate, made, trial, cell, draft)?;
-    finish(store, goals, modules, kind, predicate, trial, draft, mark)?;
-    Ok(None)
 }

@@ -5,11 +5,12 @@ ghost use Rattle.kl1_model.specs.Event.{is_range};
 ghost use Rattle.kl1_model.specs.Opening.{start_line, may_start};
 ghost use Rattle.kl1_account.specs.Starting.{StartsAs};
 
+use crate::counted::Counted;
 use crate::limits::is_number;
 use crate::names::AccountNames;
-use crate::refusal::Refusal;
 use itoa::Buffer;
 use kl1_clause::GoalCode;
+use kl1_event::Refusal;
 use kl1_model::limits::{MOST_ENTRIES, MOST_LINE_BYTES, MOST_PRIORITY};
 use kl1_read::is_goal;
 use kl1_term::{Term, put_whole};
@@ -78,17 +79,17 @@ fn may_start(
     Ok(line.len() <= MOST_LINE_BYTES)
 }
 
-/// The code of a goal that is to be started in an account with these names, whose journal has so many entries, or why it is refused.
+/// The code of a goal that is to be started in an account with these names and counts, or why it is refused.
 pub(crate) fn code_of(
     alloc: Global,
     names: &AccountNames,
-    entries: u64,
+    counted: Counted,
     allowance: u64,
     low: u64,
     high: u64,
     goal: &Term,
 ) -> Result<Starting, AllocError>
-    ensures { IfOk result (StartsAs names.now.names entries allowance low high goal.now) }
+    ensures { IfOk result (StartsAs names.now.names counted allowance low high goal.now) }
 {
     if !may_start(alloc, allowance, low, high, goal)? {
         return Ok(Starting::Refused(Refusal::Syntax));
@@ -97,7 +98,10 @@ pub(crate) fn code_of(
     if names.are_too_many(code.names()) {
         return Ok(Starting::Refused(Refusal::Names));
     }
-    if MOST_ENTRIES <= entries {
+    if !counted.has_room_to_start(goal.highest(), code.nodes()) {
+        return Ok(Starting::Refused(Refusal::Limit));
+    }
+    if MOST_ENTRIES <= counted.entries {
         return Ok(Starting::Refused(Refusal::Journal));
     }
     Ok(Starting::Coded(code))

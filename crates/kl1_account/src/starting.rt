@@ -14,7 +14,7 @@ ghost use Rattle.kl1_store.specs.Sound.{Grown, IsFormed};
 ghost use Rattle.kl1_clause.specs.NameList.{IsNameList};
 ghost use Rattle.kl1_clause.specs.Instructions.{AreNamed};
 ghost use Rattle.kl1_match.specs.Built.{AreBelow};
-ghost use Rattle.kl1_match.specs.Waiting.{AreUnbound};
+ghost use Rattle.kl1_match.specs.Waiting.{IsUnbound, AreUnbound};
 ghost use Rattle.kl1_match.specs.GoalCells.{goal_variables, HasRoomForGoal, BuildsGoal};
 ghost use Rattle.kl1_account.specs.Kept.{AreUpTo, AreOwned};
 ghost use Rattle.kl1_account.specs.Starting.{IsDrafted, IsPlaced, hooks_on};
@@ -22,14 +22,15 @@ ghost use Rattle.kl1_account.specs.Starting.{IsDrafted, IsPlaced, hooks_on};
 use crate::judging::draft_start;
 use crate::names::AccountNames;
 use crate::opening::Opening;
-use crate::placing::{hang_all, put_two};
+use crate::placing::{hang_all, hang_one, put_two};
 use kl1_clause::Instruction;
 use kl1_goals::GoalTable;
 use kl1_match::{Scratch, put_goal, reserve_goal};
+use kl1_model::Life;
 use kl1_modules::Modules;
 use kl1_moves::Trial;
-use kl1_shoen::{Life, Origin, Shoen, ShoenTree};
-use kl1_store::Store;
+use kl1_shoen::{Origin, Shoen, ShoenTree};
+use kl1_store::{Cell, Store};
 use kl1_text::{AtomText, CellName};
 use std::alloc::AllocError;
 
@@ -70,6 +71,7 @@ fn reserve_start(
     ensures goals { goals.new.goals ≡ goals.old.goals }
     ensures known { goals.new.shoens ≡ goals.old.shoens }
     ensures shoens { shoens.new.shoens ≡ shoens.old.shoens }
+    ensures work { shoens.new.work ≡ shoens.old.work }
     ensures names { names.new.names ≡ names.old.names }
     ensures scratch { goal_variables scratch.new ≡ goal_variables scratch.old }
 {
@@ -80,7 +82,8 @@ fn reserve_start(
     names.reserve(more_names)
 }
 
-/// Drafts a start of the goal of these names and this row, which has so many variables, and makes the room that it takes: nothing of
+/// Drafts a start of the goal of these names and this row, which has so many variables, in a shoen that may be charged so much, for
+/// an account that made so many reports, and makes the room that it takes: nothing of
 /// it can be refused then. Where memory is refused, the store holds what it held.
 pub(crate) fn prepare_start(
     store: &mut Store<CellName>,
@@ -91,6 +94,8 @@ pub(crate) fn prepare_start(
     texts: &[AtomText],
     row: &[Instruction],
     count: u64,
+    allowance: u64,
+    made: u64,
     numbers: &mut Vec<CellName>,
     scratch: &mut Scratch<CellName>,
     trial: &mut Trial<CellName>,
@@ -100,13 +105,13 @@ pub(crate) fn prepare_start(
     requires named { AreNamed (length texts.now) row.now }
     requires below { AreBelow (count + 1) row.now }
     requires empty { numbers.old.items ≡ [] }
-    ensures ok { IfOk result (IsDrafted modules.now.loaded names.old.names texts.now row.now count store.old.held store.new.held (goal_variables scratch.new) trial.new.awaited.items) }
+    ensures ok { IfOk result (IsDrafted modules.now.loaded names.old.names texts.now row.now count allowance made store.old.held store.new.held (goal_variables scratch.new) trial.new.awaited.items) }
     ensures grown { OnOk result (Grown store.old.held store.new.held) }
     ensures formed { IsFormed store.old.held }
     ensures empty { OnOk result (numbers.new.items ≡ []) }
     ensures room { OnOk result (length texts.now ≤ vec_capacity numbers.new) }
     ensures goal_room { OnOk result (HasRoomForGoal store.new.room scratch.new row.now) }
-    ensures hook_room { OnOk result (length trial.new.awaited.items ≤ store.new.hook_room) }
+    ensures hook_room { OnOk result (length trial.new.awaited.items + 1 ≤ store.new.hook_room) }
     ensures goals_room { OnOk result (2 ≤ goals.new.room) }
     ensures known_room { OnOk result (1 ≤ goals.new.shoen_room) }
     ensures shoens_room { OnOk result (1 ≤ shoens.new.room) }
@@ -116,11 +121,12 @@ pub(crate) fn prepare_start(
     ensures goals { goals.new.goals ≡ goals.old.goals }
     ensures known { goals.new.shoens ≡ goals.old.shoens }
     ensures shoens { shoens.new.shoens ≡ shoens.old.shoens }
+    ensures work { shoens.new.work ≡ shoens.old.work }
     ensures names { names.new.names ≡ names.old.names }
 {
     let mark = store.mark();
     let drafted = draft_start(
-        store, modules, names, texts, row, count, numbers, scratch, trial,
+        store, modules, names, texts, row, count, allowance, made, numbers, scratch, trial,
     );
     let opening = match drafted {
         Ok(opening) => opening,
@@ -129,7 +135,10 @@ pub(crate) fn prepare_start(
             return Err(memory);
         }
     };
-    let hooks = trial.awaited.len();
+    let Some(hooks) = trial.awaited.len().checked_add(1) else {
+        store.back(mark);
+        return Err(AllocError);
+    };
     match reserve_start(
         store,
         goals,
@@ -149,7 +158,7 @@ pub(crate) fn prepare_start(
 }
 
 /// Puts a start in place that was drafted, in room that was made for it: the goal, whose names have these numbers, hung on what it
-/// waits for, and its shoen with a monitor.
+/// waits for, and its shoen with a monitor, hung on the tail of the control stream.
 pub(crate) fn place(
     store: &mut Store<CellName>,
     goals: &mut GoalTable<CellName>,
@@ -169,7 +178,8 @@ pub(crate) fn place(
     requires below { AreBelow (length (goal_variables scratch.old)) row.now }
     requires variables { AreIn store.old.held (goal_variables scratch.old) }
     requires goal_room { HasRoomForGoal store.old.room scratch.old row.now }
-    requires hook_room { length awaited.now ≤ store.old.hook_room }
+    requires hook_room { length awaited.now + 1 ≤ store.old.hook_room }
+    requires control { IsUnbound store.old.held opening.streams.control }
     requires unbound { AreUnbound store.old.held awaited.now }
     requires goals_room { 2 ≤ goals.old.room }
     requires known_room { 1 ≤ goals.old.shoen_room }
@@ -180,28 +190,42 @@ pub(crate) fn place(
     requires count { goals.old.shoens ≡ length shoens.old.shoens }
     requires number { number ≡ suc (length shoens.old.shoens) }
     requires high { high ≤ monitor_priority }
-    ensures placed { IsPlaced numbers.now row.now (goal_variables scratch.old) store.old.held store.new.held goals.old.goals goals.new.goals shoens.old.shoens shoens.new.shoens last_goal allowance low high opening }
+    ensures placed { IsPlaced numbers.now row.now (goal_variables scratch.old) store.old.held store.new.held goals.old.goals goals.new.goals shoens.old.shoens shoens.new.shoens shoens.new.work last_goal allowance low high opening }
     ensures known { goals.new.shoens ≡ suc goals.old.shoens }
-    ensures hooks { store.new.hooks ≡ store.old.hooks ++ hooks_on awaited.now (last_goal + 2) }
+    ensures work { shoens.new.work ≡ shoens.old.work }
+    ensures hooks { store.new.hooks ≡ (store.old.hooks ++ hooks_on (opening.streams.control ∷ []) (last_goal + 1)) ++ hooks_on awaited.now (last_goal + 2) }
     ensures grown { Grown store.old.held store.new.held }
 {
     let cell = put_goal(store, numbers, row, scratch);
-    hang_all(store, awaited, last_goal + 2);
-    put_two(goals, last_goal, number, high, cell, opening.standing);
     let streams = opening.streams;
+    hang_one(store, streams.control, last_goal + 1);
+    hang_all(store, awaited, last_goal + 2);
+    let control = Cell::Variable(streams.control);
     shoens.open(Shoen {
         number,
-        life: Life::Living,
+        parent: 0,
         allowance,
         low,
         high,
-        control: streams.control,
+        control,
         tail: streams.tail,
-        is_broken: false,
+        life: Life::Living,
+        is_stopped: false,
+        is_broken: streams.is_broken,
         origin: Some(Origin {
             goal: cell,
             reports: streams.reports,
-            control: streams.control,
+            control,
         }),
     });
+    let is_enabled = shoens.is_enabled(number);
+    put_two(
+        goals,
+        last_goal,
+        number,
+        is_enabled,
+        high,
+        cell,
+        opening.standing,
+    );
 }

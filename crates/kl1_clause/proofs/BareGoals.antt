@@ -12,7 +12,7 @@ use Rattle.kl1_clause.specs.BareGoals.{module_of, bare, whole, whole_each, where
 use Rattle.kl1_clause.proofs.Growth.{with_none, with_more}
 
 -- a goal stands alone, or in the module of a name
-data Parts (t : Term) : Type 0 where
+pub data Parts (t : Term) : Type 0 where
   alone : module_of t ≡ None → bare t ≡ t → Parts t
   inside : (m : List ℕ) (u : Term) → t ≡ whole (Some m) u → module_of t ≡ Some m → bare t ≡ u → Parts t
 
@@ -23,7 +23,7 @@ by_name f m t true e =
 by_name f m t false e =
     alone (cond-false (bytes_eq f (codes ":")) (Some m) None e) (cond-false (bytes_eq f (codes ":")) t (structure f (more (atom m) (more t none))) e)
 
-parts : (t : Term) → Parts t
+pub parts : (t : Term) → Parts t
 parts (variable n) = alone refl refl
 parts (integer i) = alone refl refl
 parts (atom a) = alone refl refl
@@ -100,7 +100,7 @@ bare_by f m t true = append-nil (nodes_of t)
 bare_by f m t false = refl
 
 -- a node of more arguments isn't that of `:`
-three : (n : ℕ) → (suc (suc (suc n)) == 2) ≡ false
+pub three : (n : ℕ) → (suc (suc (suc n)) == 2) ≡ false
 three n = ne_eqb (suc (suc (suc n))) 2 (λ e. absurd (omega (arith, e)))
 
 split_many : (f m : List ℕ) (t u : Term) (us : Terms) → IsSplit (structure f (more (atom m) (more t (more u us))))

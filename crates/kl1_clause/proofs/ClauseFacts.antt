@@ -6,6 +6,7 @@ use Rattle.kl1_model.specs.TermCode.{NodeCode, nodes_of_all}
 use Rattle.kl1_model.specs.Module.{BodyGoal, Clause, goals_of}
 use Rattle.kl1_model.specs.Instance.{head_variables, fresh_variables}
 use Rattle.kl1_model.specs.State.{names_in, names_of_clause}
+use Rattle.kl1_model.specs.Nodes.{goals_nodes}
 use Rattle.kl1_model.specs.WaitsLaws.{is_guarded}
 use Rattle.kl1_term.proofs.Lent.{row_is, list_of-terms_of, terms_of-list_of}
 use Rattle.kl1_clause.specs.declared.compiled_clause.CompiledClause.{CompiledClause}
@@ -55,6 +56,7 @@ clause_stays names new c d g i =
       priorities = i.priorities;
       head_variables = i.head_variables;
       fresh_variables = i.fresh_variables;
+      nodes = i.nodes;
       plain = i.plain;
       guarded = i.guarded;
     }
@@ -134,6 +136,7 @@ pub record IsMade (names a b c d : List (List ℕ)) (compiled : CompiledClause) 
   pub count : compiled.count ≡ count_of clause.patterns
   pub head_variables : compiled.head_variables ≡ head_variables clause
   pub fresh_variables : compiled.fresh_variables ≡ fresh_variables clause
+  pub nodes : compiled.nodes ≡ goals_nodes (goals_of clause.body)
   pub plain : IsTrue compiled.is_plain → IsPlain compiled.patterns.items compiled.tests.items
   pub guarded : IsTrue (is_guarded clause)
 
@@ -158,6 +161,7 @@ made names a b c d compiled clause m =
         priorities = m.priorities;
         head_variables = m.head_variables;
         fresh_variables = m.fresh_variables;
+        nodes = m.nodes;
         plain = m.plain;
         guarded = m.guarded;
       },

@@ -12,3 +12,4 @@ pub mod Rising
 pub mod Guards
 pub mod BareGoals
 pub mod Bodies
+pub mod NodeCounts

@@ -4,6 +4,7 @@ use Rattle.kl1_model.specs.Term.{Term, terms_of, count_of}
 use Rattle.kl1_model.specs.TermCode.{nodes_of_all, read_nodes}
 use Rattle.kl1_model.specs.Module.{BodyGoal, Clause, goals_of}
 use Rattle.kl1_model.specs.Instance.{head_variables, fresh_variables}
+use Rattle.kl1_model.specs.Nodes.{goals_nodes}
 use Rattle.kl1_model.specs.WaitsLaws.{is_guarded}
 use Rattle.kl1_clause.specs.declared.compiled_clause.CompiledClause.{CompiledClause}
 use Rattle.kl1_clause.specs.declared.instruction.Instruction.{Instruction}
@@ -42,6 +43,7 @@ pub record IsCompiled (names : List (List ℕ)) (compiled : CompiledClause) (cla
   pub priorities : compiled.priorities.items ≡ priorities_of clause.body
   pub head_variables : compiled.head_variables ≡ head_variables clause
   pub fresh_variables : compiled.fresh_variables ≡ fresh_variables clause
+  pub nodes : compiled.nodes ≡ goals_nodes (goals_of clause.body)
   pub plain : IsTrue compiled.is_plain → IsPlain compiled.patterns.items compiled.tests.items
   pub guarded : IsTrue (is_guarded clause)
 

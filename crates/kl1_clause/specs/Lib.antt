@@ -7,6 +7,7 @@ pub mod Instructions
 pub mod ModuleCode
 pub mod Modules
 pub mod NameList
+pub mod NodeCounts
 pub mod Plain
 pub mod Predicates
 pub mod Putting

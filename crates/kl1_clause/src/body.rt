@@ -26,7 +26,7 @@ pub(crate) struct Body {
 }
 
 /// Whether a node is the name `:` of two arguments.
-fn is_colon(node: &Node) -> bool
+pub(crate) fn is_colon(node: &Node) -> bool
     ensures { result ≡ is_colon (code_of node.now) }
 {
     match node {

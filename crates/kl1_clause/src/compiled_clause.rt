@@ -16,6 +16,7 @@ use crate::body::body_of;
 use crate::instruction::Instruction;
 use crate::name::Name;
 use crate::names::Names;
+use crate::node_count::goals_nodes;
 use crate::plain::is_plain;
 use crate::rows::row_of;
 use kl1_read::{ClauseParts, GoalParts};
@@ -25,7 +26,8 @@ use std::alloc::{AllocError, Global};
 /// A clause as instructions: its predicate's name and number of arguments; the number of its section, from 0, between the
 /// `otherwise`s of its predicate; its patterns, its tests and the goals of its body, each a row of terms one behind another,
 /// where a goal that names its module by an atom stands without that name and the `:`; for each goal that name, and the
-/// priority that it names, if any; how many variables its head has, and how many others its body has; and whether it is plain:
+/// priority that it names, if any; how many variables its head has, and how many others its body has; how many structures stand in
+/// the arguments of its goals; and whether it is plain:
 /// where it is, it has no tests but `true`, and its head repeats no variable.
 #[derive(Drop)]
 pub struct CompiledClause {
@@ -39,6 +41,7 @@ pub struct CompiledClause {
     pub priorities: Vec<Option<u64>>,
     pub head_variables: u64,
     pub fresh_variables: u64,
+    pub nodes: u64,
     pub is_plain: bool,
 }
 
@@ -59,6 +62,7 @@ pub(crate) fn compiled_of(
     let priorities = priorities_of(alloc, &parts.body)?;
     let head_variables = highest_among(&parts.patterns);
     let fresh_variables = fresh_among(&parts.body, head_variables);
+    let nodes = goals_nodes(&parts.body);
     let count = parts.patterns.len();
     let is_plain = is_plain(patterns.as_slice(), tests.as_slice());
     Ok(CompiledClause {
@@ -72,6 +76,7 @@ pub(crate) fn compiled_of(
         priorities,
         head_variables,
         fresh_variables,
+        nodes,
         is_plain,
     })
 }

@@ -9,6 +9,7 @@ mod goal_code;
 mod instruction;
 mod name;
 mod names;
+mod node_count;
 mod plain;
 mod predicate;
 mod rows;

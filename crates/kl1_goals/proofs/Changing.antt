@@ -84,7 +84,7 @@ all_stay n from clause (s ∷ ss) p a = stay_on n clause s.is_held s.goal (goals
 
 -- a goal that stands by a clause
 abbrev pub standing_by : {N : Type 0} → Option ℕ → Goal N → Goal N
-standing_by clause g = record { number = g.number; task = g.task; shoen = g.shoen; priority = g.priority; standing = clause }
+standing_by clause g = record { number = g.number; task = g.task; shoen = g.shoen; priority = g.priority; standing = clause; is_enabled = g.is_enabled }
 
 stood_first : {N : Type 0} (clause : Option ℕ) (g : Goal N) (gs : List (Goal N)) → map (stood_by g.number clause) gs ≡ gs → standing_by clause g ∷ gs ≡ map (stood_by g.number clause) (g ∷ gs)
 stood_first clause g gs h = rw (eq-eqb g.number g.number refl, h) refl

@@ -3,3 +3,4 @@ pub mod Changing
 pub mod Ranking
 pub mod Shoens
 pub mod Tabling
+pub mod Flagging

@@ -10,47 +10,86 @@ use Rattle.kl1_goals.specs.Tables.{Ascend}
 use Rattle.kl1_goals.specs.Slots.{goals_in, numbers_of, rank_in}
 use Rattle.kl1_goals.proofs.Changing.{field_read}
 
+-- the clause by which a goal can step
+abbrev pub standing_in : {N : Type 0} → Goal N → Option ℕ
+standing_in g = cond g.is_enabled g.standing None
+
+some_if : (b : Bool) (o : Option ℕ) → (b && is_some o) ≡ is_some (cond b o None)
+some_if false o = refl
+some_if true o = refl
+
+ready_if : {N : Type 0} (g : Goal N) (b : Bool) (o : Option ℕ) → cond b (option_map (ready_by g) o) None ≡ option_map (ready_by g) (cond b o None)
+ready_if g false o = refl
+ready_if g true o = refl
+
+pub stands_is : {N : Type 0} (g : Goal N) → stands g ≡ is_some (standing_in g)
+stands_is g = some_if g.is_enabled g.standing
+
+ready_is : {N : Type 0} (g : Goal N) → ready_of g ≡ option_map (ready_by g) (standing_in g)
+ready_is g = ready_if g g.is_enabled g.standing
+
 -- what a rank says of a place
-rank_some : (b : Bool) (o : Option ℕ) (p c : ℕ) → b ≡ true → o ≡ Some c → rank_of (cond (b && is_some o) (Some p) None) ≡ p + 1
-rank_some b o p c e f = rw (e, f) refl
+rank_some : (b t : Bool) (p : ℕ) → b ≡ true → t ≡ true → rank_of (cond (b && t) (Some p) None) ≡ p + 1
+rank_some b t p e f = rw (e, f) refl
 
-standing_none : (b : Bool) (o : Option ℕ) (p : ℕ) → rank_of (cond (b && is_some o) (Some p) None) ≡ 0 → b ≡ true → o ≡ None
-standing_none true None p z e = refl
-standing_none true (Some c) p z e = absurd (omega (arith, z))
-standing_none false o p z e = absurd (false≢true e)
+rank_none : (b t : Bool) (p : ℕ) → rank_of (cond (b && t) (Some p) None) ≡ 0 → b ≡ true → t ≡ false
+rank_none true false p z e = refl
+rank_none true true p z e = absurd (omega (arith, z))
+rank_none false t p z e = absurd (false≢true e)
 
-ranked_held : (b : Bool) (o : Option ℕ) (p : ℕ) → 0 < rank_of (cond (b && is_some o) (Some p) None) → (b ≡ true) × (is_some o ≡ true)
-ranked_held true None p h = absurd (omega (arith, h))
-ranked_held true (Some c) p h = (refl, refl)
-ranked_held false o p h = absurd (omega (arith, h))
+ranked_held : (b t : Bool) (p : ℕ) → 0 < rank_of (cond (b && t) (Some p) None) → (b ≡ true) × (t ≡ true)
+ranked_held true false p h = absurd (omega (arith, h))
+ranked_held true true p h = (refl, refl)
+ranked_held false t p h = absurd (omega (arith, h))
 
-pub rank_held : {N : Type 0} (s : Slot N) (c : ℕ) → s.is_held ≡ true → s.goal.standing ≡ Some c → rank_in s ≡ s.goal.priority + 1
-rank_held s c = rank_some s.is_held s.goal.standing s.goal.priority c
+none_if : (o : Option ℕ) → is_some o ≡ false → o ≡ None
+none_if None e = refl
+none_if (Some c) e = absurd (false≢true (sym e))
+
+standing_none : {N : Type 0} (s : Slot N) → rank_in s ≡ 0 → s.is_held ≡ true → standing_in s.goal ≡ None
+standing_none s z e = none_if (standing_in s.goal) (sym (stands_is s.goal) ∙ rank_none s.is_held (stands s.goal) s.goal.priority z e)
+
+pub rank_held : {N : Type 0} (s : Slot N) (c : ℕ) → s.is_held ≡ true → standing_in s.goal ≡ Some c → rank_in s ≡ s.goal.priority + 1
+rank_held s c e f = rank_some s.is_held (stands s.goal) s.goal.priority e (stands_is s.goal ∙ ap is_some f)
 
 -- a place that is ready has a goal that can step
-pub ready_held : {N : Type 0} (s : Slot N) → 0 < rank_in s → (s.is_held ≡ true) × (is_some s.goal.standing ≡ true)
-ready_held s h = ranked_held s.is_held s.goal.standing s.goal.priority h
+pub ready_held : {N : Type 0} (s : Slot N) → 0 < rank_in s → (s.is_held ≡ true) × (stands s.goal ≡ true)
+ready_held s h = ranked_held s.is_held (stands s.goal) s.goal.priority h
+
+has_clause : (b : Bool) (o : Option ℕ) → (b && is_some o) ≡ true → is_some o ≡ true
+has_clause false o e = absurd (false≢true e)
+has_clause true o e = e
+
+pub stands_some : {N : Type 0} (g : Goal N) → stands g ≡ true → is_some g.standing ≡ true
+stands_some g = has_clause g.is_enabled g.standing
+
+same_clause : (b : Bool) (o : Option ℕ) (c : ℕ) → (b && is_some o) ≡ true → o ≡ Some c → cond b o None ≡ Some c
+same_clause false o c e f = absurd (false≢true e)
+same_clause true o c e f = f
+
+stands_by : {N : Type 0} (g : Goal N) (c : ℕ) → stands g ≡ true → g.standing ≡ Some c → standing_in g ≡ Some c
+stands_by g c = same_clause g.is_enabled g.standing c
 
 better_none : (best : Option Ready) → better best None ≡ best
 better_none None = refl
 better_none (Some b) = refl
 
 -- goals that can't step change nothing
-quiet_on : {N : Type 0} (best : Option Ready) (b : Bool) (g : Goal N) (gs : List (Goal N)) → (b ≡ true → g.standing ≡ None) → first_from best (cond b (g ∷ gs) gs) ≡ first_from best gs
+quiet_on : {N : Type 0} (best : Option Ready) (b : Bool) (g : Goal N) (gs : List (Goal N)) → (b ≡ true → standing_in g ≡ None) → first_from best (cond b (g ∷ gs) gs) ≡ first_from best gs
 quiet_on best false g gs h = refl
-quiet_on best true g gs h = rw (h refl) (ap (λ r. first_from r gs) (better_none best))
+quiet_on best true g gs h = ap (λ r. first_from (better best r) gs) (ready_is g ∙ ap (option_map (ready_by g)) (h refl)) ∙ ap (λ r. first_from r gs) (better_none best)
 
 pub none_first : {N : Type 0} (best : Option Ready) (ss : List (Slot N)) → AreNone (map rank_in ss) → first_from best (goals_in ss) ≡ best
 none_first best [] a = refl
-none_first best (s ∷ ss) a = quiet_on best s.is_held s.goal (goals_in ss) (standing_none s.is_held s.goal.standing s.goal.priority (a 0)) ∙ none_first best ss (λ j. a (suc j))
+none_first best (s ∷ ss) a = quiet_on best s.is_held s.goal (goals_in ss) (standing_none s (a 0)) ∙ none_first best ss (λ j. a (suc j))
 
-any_on : {N : Type 0} (b : Bool) (g : Goal N) (gs : List (Goal N)) → (b ≡ true → g.standing ≡ None) → list_any stands (cond b (g ∷ gs) gs) ≡ list_any stands gs
+any_on : {N : Type 0} (b : Bool) (g : Goal N) (gs : List (Goal N)) → (b ≡ true → standing_in g ≡ None) → list_any stands (cond b (g ∷ gs) gs) ≡ list_any stands gs
 any_on false g gs h = refl
-any_on true g gs h = rw (h refl) refl
+any_on true g gs h = ap (λ t. t || list_any stands gs) (stands_is g ∙ ap is_some (h refl))
 
 pub none_any : {N : Type 0} (ss : List (Slot N)) → AreNone (map rank_in ss) → list_any stands (goals_in ss) ≡ false
 none_any [] a = refl
-none_any (s ∷ ss) a = any_on s.is_held s.goal (goals_in ss) (standing_none s.is_held s.goal.standing s.goal.priority (a 0)) ∙ none_any ss (λ j. a (suc j))
+none_any (s ∷ ss) a = any_on s.is_held s.goal (goals_in ss) (standing_none s (a 0)) ∙ none_any ss (λ j. a (suc j))
 
 or_true : (b : Bool) → (b || true) ≡ true
 or_true false = refl
@@ -61,7 +100,8 @@ any_after false g gs e = e
 any_after true g gs e = rw e (or_true (stands g))
 
 any_here : {N : Type 0} (b : Bool) (g : Goal N) (gs : List (Goal N)) → b ≡ true → stands g ≡ true → list_any stands (cond b (g ∷ gs) gs) ≡ true
-any_here b g gs e f = rw (e, f) refl
+any_here true g gs e f = ap (λ t. t || list_any stands gs) f
+any_here false g gs e f = absurd (false≢true e)
 
 pub some_any : {N : Type 0} (ss : List (Slot N)) (k : ℕ) → 0 < get_or (map rank_in ss) k 0 → list_any stands (goals_in ss) ≡ true
 some_any [] k h = absurd (omega (arith, h))
@@ -88,17 +128,19 @@ overtakes : (best : Option Ready) (a : Ready) → IsLess best a.priority → bet
 overtakes None a h = refl
 overtakes (Some b) a h = rw (lt-ltb b.priority a.priority h) refl
 
-kept_on : {N : Type 0} (r : Ready) (b : Bool) (o : Option ℕ) (g : Goal N) (gs : List (Goal N)) → g.standing ≡ o → (b ≡ true → (c : ℕ) → o ≡ Some c → (g.priority ≤ r.priority) × (r.goal < g.number)) →
+kept_on : {N : Type 0} (r : Ready) (b : Bool) (o : Option ℕ) (g : Goal N) (gs : List (Goal N)) → standing_in g ≡ o → (b ≡ true → (c : ℕ) → o ≡ Some c → (g.priority ≤ r.priority) × (r.goal < g.number)) →
     first_from (Some r) (cond b (g ∷ gs) gs) ≡ first_from (Some r) gs
 kept_on r false o g gs e h = refl
-kept_on r true None g gs e h = rw e refl
-kept_on r true (Some c) g gs e h = let k = h refl c refl in rw e (ap (λ best. first_from best gs) (stays (ready_by g c) r (not_first (ready_by g c) r k.0 k.1)))
+kept_on r true None g gs e h = ap (λ q. first_from (better (Some r) q) gs) (ready_is g ∙ ap (option_map (ready_by g)) e)
+kept_on r true (Some c) g gs e h =
+    let k = h refl c refl in
+    ap (λ q. first_from (better (Some r) q) gs) (ready_is g ∙ ap (option_map (ready_by g)) e) ∙ ap (λ best. first_from best gs) (stays (ready_by g c) r (not_first (ready_by g c) r k.0 k.1))
 
 -- goals after the first
 first_stays : {N : Type 0} (r : Ready) (from : ℕ) (ss : List (Slot N)) → r.goal < from → Ascend from (numbers_of ss) → ((j : ℕ) → get_or (map rank_in ss) j 0 ≤ r.priority + 1) → first_from (Some r) (goals_in ss) ≡ Some r
 first_stays r from [] p a h = refl
 first_stays r from (s ∷ ss) p a h =
-    kept_on r s.is_held s.goal.standing s.goal (goals_in ss) refl (λ e c f. (omega (arith, h 0, rank_held s c e f), omega (arith, a.0)))
+    kept_on r s.is_held (standing_in s.goal) s.goal (goals_in ss) refl (λ e c f. (omega (arith, h 0, rank_held s c e f), omega (arith, a.0)))
     ∙ first_stays r (suc s.goal.number) ss (omega (arith, a.0)) a.1 (λ j. h (suc j))
 
 less_if : (t : Bool) (a b : Ready) (p : ℕ) → a.priority < p → b.priority < p → IsLess (cond t (Some a) (Some b)) p
@@ -111,19 +153,22 @@ less_better (Some b) None g p h f = h
 less_better None (Some c) g p h f = f c refl
 less_better (Some b) (Some c) g p h f = less_if (goes_first (ready_by g c) b) (ready_by g c) b p (f c refl) h
 
-less_on : {N : Type 0} (best : Option Ready) (b : Bool) (g : Goal N) (p : ℕ) → IsLess best p → (b ≡ true → (c : ℕ) → g.standing ≡ Some c → g.priority < p) → IsLess (cond b (better best (ready_of g)) best) p
+less_on : {N : Type 0} (best : Option Ready) (b : Bool) (g : Goal N) (p : ℕ) → IsLess best p → (b ≡ true → (c : ℕ) → standing_in g ≡ Some c → g.priority < p) → IsLess (cond b (better best (ready_of g)) best) p
 less_on best false g p h f = h
-less_on best true g p h f = less_better best g.standing g p h (f refl)
+less_on best true g p h f =
+    let L : Option Ready → Type 0 = λ r. IsLess (better best r) p in
+    subst L (sym (ready_is g)) (less_better best (standing_in g) g p h (f refl))
 
 first_on : {N : Type 0} (best : Option Ready) (b : Bool) (g : Goal N) (gs : List (Goal N)) → first_from best (cond b (g ∷ gs) gs) ≡ first_from (cond b (better best (ready_of g)) best) gs
 first_on best false g gs = refl
 first_on best true g gs = refl
 
-first_here : {N : Type 0} (best : Option Ready) (b : Bool) (g : Goal N) (gs : List (Goal N)) (c : ℕ) → b ≡ true → g.standing ≡ Some c → IsLess best g.priority → first_from best (cond b (g ∷ gs) gs) ≡ first_from (Some (ready_by g c)) gs
-first_here best b g gs c e f h = rw (e, f) (ap (λ r. first_from r gs) (overtakes best (ready_by g c) h))
+first_here : {N : Type 0} (best : Option Ready) (b : Bool) (g : Goal N) (gs : List (Goal N)) (c : ℕ) → b ≡ true → standing_in g ≡ Some c → IsLess best g.priority → first_from best (cond b (g ∷ gs) gs) ≡ first_from (Some (ready_by g c)) gs
+first_here best true g gs c e f h = ap (λ r. first_from (better best r) gs) (ready_is g ∙ ap (option_map (ready_by g)) f) ∙ ap (λ r. first_from r gs) (overtakes best (ready_by g c) h)
+first_here best false g gs c e f h = absurd (false≢true e)
 
 -- the first of the places is the first of the goals
-pub first_at : {N : Type 0} (best : Option Ready) (from : ℕ) (ss : List (Slot N)) (k : ℕ) (s : Slot N) (c : ℕ) → Ascend from (numbers_of ss) → k < length ss → get_or ss k s ≡ s → s.is_held ≡ true → s.goal.standing ≡ Some c →
+pub first_at : {N : Type 0} (best : Option Ready) (from : ℕ) (ss : List (Slot N)) (k : ℕ) (s : Slot N) (c : ℕ) → Ascend from (numbers_of ss) → k < length ss → get_or ss k s ≡ s → s.is_held ≡ true → standing_in s.goal ≡ Some c →
     IsLess best s.goal.priority → ((j : ℕ) → get_or (map rank_in ss) j 0 ≤ s.goal.priority + 1) → ((j : ℕ) → j < k → get_or (map rank_in ss) j 0 < s.goal.priority + 1) → first_from best (goals_in ss) ≡ Some (ready_by s.goal c)
 first_at best from [] k s c a w e held stood less all before = absurd (omega arith)
 first_at {N = N} best from (t ∷ ss) zero s c a w e held stood less all before =
@@ -139,6 +184,7 @@ picked ss ranks k s c a r f w e stood =
     let F : List ℕ → Type 0 = λ rs. IsFirst rs k in
     let h = subst F r f in
     let at = field_read rank_in ss k s w e in
-    let held = (ready_held s (omega (arith, at, h.ready))).0 in
-    let rank = rank_held s c held stood in
-    first_at None 0 ss k s c a w (sym e) held stood tt (λ j. omega (arith, h.greatest j, at, rank)) (λ j p. omega (arith, h.least j p, at, rank))
+    let ready = ready_held s (omega (arith, at, h.ready)) in
+    let clause = stands_by s.goal c ready.1 stood in
+    let rank = rank_held s c ready.0 clause in
+    first_at None 0 ss k s c a w (sym e) ready.0 clause tt (λ j. omega (arith, h.greatest j, at, rank)) (λ j p. omega (arith, h.least j p, at, rank))

@@ -89,7 +89,7 @@ stood_on : {N : Type 0} (f : Goal N → Goal N) (b : Bool) (g : Goal N) (gs : Li
 stood_on f false g gs = refl
 stood_on f true g gs = refl
 
-filter_stood : {N : Type 0} (p : Goal N → Bool) (f : Goal N → Goal N) → ((g : Goal N) → p (f g) ≡ p g) → (gs : List (Goal N)) → filter p (map f gs) ≡ map f (filter p gs)
+pub filter_stood : {N : Type 0} (p : Goal N → Bool) (f : Goal N → Goal N) → ((g : Goal N) → p (f g) ≡ p g) → (gs : List (Goal N)) → filter p (map f gs) ≡ map f (filter p gs)
 filter_stood p f same [] = refl
 filter_stood p f same (g ∷ gs) = rw (same g, filter_stood p f same gs) (stood_on f (p g) g (filter p gs))
 
@@ -212,3 +212,10 @@ pub any_beside : {N : Type 0} (p : Goal N → Bool) (b : Bool) (n count : ℕ) (
 any_beside p b n count gs g a f e s =
     let others = filter (is_other n) gs in
     above_fallen b (length (filter p others)) count (e ∙ count_beside p 0 n gs g a f ∙ ap (λ x. length (filter p others) + cond x 1 0) s) ∙ sym (any_counted p others)
+
+-- goals whose numbers are those of a monitor, if any, are one at most
+pub one_at_most : {N : Type 0} (gs : List (Goal N)) (o : Option ℕ) → map number_of gs ≡ option_to_list o → length gs ≤ 1
+one_at_most [] o e = omega arith
+one_at_most (g ∷ []) o e = omega arith
+one_at_most (g ∷ k ∷ gs) None e = absurd (cc)
+one_at_most (g ∷ k ∷ gs) (Some n) e = absurd (cc)

@@ -16,13 +16,13 @@ nothing_at : (n : ℕ) → tally_at [] n ≡ nothing
 nothing_at zero = refl
 nothing_at (suc n) = refl
 
-pub empty_table : {N : Type 0} → IsTable {N = N} [] 0 [] []
+pub empty_table : {N : Type 0} → IsTable {N = N} [] 0 [] [] 0
 empty_table {N = N} =
     let empty : (n : ℕ) → IsTally {N = N} n [] nothing = λ n. record { goals = refl; monitor = refl } in
-    record { slots = record { ascend = tt; low = tt; ranked = refl; counted = refl }; tallied = λ n. rw (nothing_at n) (empty n) }
+    record { slots = record { ascend = tt; low = tt; ranked = refl; counted = refl }; tallied = λ n. rw (nothing_at n) (empty n); alive = refl }
 
-pub opened_table : {N : Type 0} (ss : List (Slot N)) (empty : ℕ) (ranks : List ℕ) (ts : List Tally) → IsTable ss empty ranks ts → IsTable ss empty ranks (ts ++ nothing ∷ [])
-opened_table ss empty ranks ts h = record { slots = h.slots; tallied = λ n. rw (opened_tally ts n) (h.tallied n) }
+pub opened_table : {N : Type 0} (ss : List (Slot N)) (empty : ℕ) (ranks : List ℕ) (ts : List Tally) (alive : ℕ) → IsTable ss empty ranks ts alive → IsTable ss empty ranks (ts ++ nothing ∷ []) alive
+opened_table ss empty ranks ts alive h = record { slots = h.slots; tallied = λ n. rw (opened_tally ts n) (h.tallied n); alive = h.alive }
 
 -- a goal that was found passes the test
 some_on : {N : Type 0} (p : Goal N → Bool) (b : Bool) (h g : Goal N) (o : Option (Goal N)) → p h ≡ b → cond b (Some h) o ≡ Some g → (o ≡ Some g → p g ≡ true) → p g ≡ true
@@ -59,14 +59,14 @@ found_low q [] g a f = absurd (cc)
 found_low q (s ∷ ss) g a f = low_slot_on q s.is_held s.goal g (goals_in ss) a.0 f (found_low q ss g a.1)
 
 -- what is known of a goal that was found
-pub known_found : {N : Type 0} (q : Goal N → Bool) (ss : List (Slot N)) (empty : ℕ) (ranks : List ℕ) (ts : List Tally) (g : Goal N) → IsTable ss empty ranks ts → find q (goals_in ss) ≡ Some g → IsKnown g (length ts)
-known_found q ss empty ranks ts g h f =
+pub known_found : {N : Type 0} (q : Goal N → Bool) (ss : List (Slot N)) (empty : ℕ) (ranks : List ℕ) (ts : List Tally) (alive : ℕ) (g : Goal N) → IsTable ss empty ranks ts alive → find q (goals_in ss) ≡ Some g → IsKnown g (length ts)
+known_found q ss empty ranks ts alive g h f =
     let k = shoen_known g (goals_in ss) ts (λ p e. found_counts q p (goals_in ss) g f e) h.tallied in
     record { low = k.0; high = k.1; priority = found_low q ss g h.slots.low f }
 
-pub known_if : {N : Type 0} (q : Goal N → Bool) (ss : List (Slot N)) (empty : ℕ) (ranks : List ℕ) (ts : List Tally) (o : Option (Goal N)) → IsTable ss empty ranks ts → o ≡ find q (goals_in ss) → IfSome o (λ g. IsKnown g (length ts))
-known_if q ss empty ranks ts None h e = tt
-known_if q ss empty ranks ts (Some g) h e = known_found q ss empty ranks ts g h (sym e)
+pub known_if : {N : Type 0} (q : Goal N → Bool) (ss : List (Slot N)) (empty : ℕ) (ranks : List ℕ) (ts : List Tally) (alive : ℕ) (o : Option (Goal N)) → IsTable ss empty ranks ts alive → o ≡ find q (goals_in ss) → IfSome o (λ g. IsKnown g (length ts))
+known_if q ss empty ranks ts alive None h e = tt
+known_if q ss empty ranks ts alive (Some g) h e = known_found q ss empty ranks ts alive g h (sym e)
 
 pub after_if : {N : Type 0} (n : ℕ) (gs : List (Goal N)) (o : Option (Goal N)) → o ≡ find (is_after n) gs → IfSome o (λ g. n < g.number)
 after_if n gs None e = tt
@@ -86,5 +86,5 @@ missing_stood n clause [] e = refl
 missing_stood n clause (g ∷ gs) e = let m = missing_head (g.number == n) g (find (has_number n) gs) e in rw m.0 (ap (λ l. g ∷ l) (missing_stood n clause gs m.1))
 
 -- how many goals a shoen has, by what is kept of it
-pub goals_counted : {N : Type 0} (n : ℕ) (ss : List (Slot N)) (empty : ℕ) (ranks : List ℕ) (ts : List Tally) (t : Tally) (gs : List (Goal N)) → IsTable ss empty ranks ts → t ≡ tally_at ts n → goals_in ss ≡ gs → t.goals ≡ length (filter (is_goal_of n) gs)
-goals_counted n ss empty ranks ts t gs h e s = ap (λ (u : Tally). u.goals) e ∙ (h.tallied n).goals ∙ ap (λ l. length (filter (is_goal_of n) l)) s
+pub goals_counted : {N : Type 0} (n : ℕ) (ss : List (Slot N)) (empty : ℕ) (ranks : List ℕ) (ts : List Tally) (alive : ℕ) (t : Tally) (gs : List (Goal N)) → IsTable ss empty ranks ts alive → t ≡ tally_at ts n → goals_in ss ≡ gs → t.goals ≡ length (filter (is_goal_of n) gs)
+goals_counted n ss empty ranks ts alive t gs h e s = ap (λ (u : Tally). u.goals) e ∙ (h.tallied n).goals ∙ ap (λ l. length (filter (is_goal_of n) l)) s

@@ -12,9 +12,9 @@ pub record Ready : Type 0 where
 abbrev pub goes_first : Ready → Ready → Bool
 goes_first a b = nat_lt b.priority a.priority || a.priority == b.priority && nat_lt a.goal b.goal
 
--- whether a goal can step
+-- whether a goal can step: it may, and has a clause by which it could
 abbrev pub stands : {N : Type 0} → Goal N → Bool
-stands g = is_some g.standing
+stands g = g.is_enabled && is_some g.standing
 
 -- a goal that can step by a clause
 abbrev pub ready_by : {N : Type 0} → Goal N → ℕ → Ready
@@ -22,7 +22,7 @@ ready_by g clause = record { goal = g.number; clause = clause; priority = g.prio
 
 -- a goal, where it can step
 abbrev pub ready_of : {N : Type 0} → Goal N → Option Ready
-ready_of g = option_map (ready_by g) g.standing
+ready_of g = if g.is_enabled then option_map (ready_by g) g.standing else None
 
 -- the first of what is the first so far and another
 abbrev pub better : Option Ready → Option Ready → Option Ready

@@ -1,6 +1,6 @@
 -- A table of goals, as contracts see it.
-use Rattle.std.specs.Prelude.{◌≡◌, ℕ, suc, ◌<◌, ◌≤◌, List, [], ◌∷◌, map, false, true}
-use Rattle.std.specs.List.{list_any, AllByRecursion}
+use Rattle.std.specs.Prelude.{◌≡◌, ℕ, suc, ◌<◌, ◌≤◌, List, [], ◌∷◌, length, map, false, true}
+use Rattle.std.specs.List.{list_any, filter, AllByRecursion}
 use Rattle.kl1_model.specs.Limits.{monitor_priority}
 use Rattle.kl1_goals.specs.declared.goal.Goal.{Goal}
 use Rattle.kl1_goals.specs.Lists.{is_monitor, is_monitor_of, number_of}
@@ -38,3 +38,7 @@ pub record IsKnown {N : Type 0} (g : Goal N) (shoens : ℕ) : Type 0 where
 -- goals of a table are in order of number
 abbrev pub AreInOrder : {N : Type 0} → List (Goal N) → Type 0
 AreInOrder goals = Ascend 0 (map number_of goals)
+
+-- no shoen has two monitors
+abbrev pub AreSingle : {N : Type 0} → List (Goal N) → Type 0
+AreSingle goals = (n : ℕ) → length (filter (is_monitor_of n) goals) ≤ 1

@@ -1,5 +1,5 @@
 -- What a table keeps of each shoen.
-use Rattle.std.specs.Prelude.{◌≡◌, ℕ, ◌+◌, ◌-◌, if◌then◌else◌, List, ◌∷◌, map, length, get_or, Some, None}
+use Rattle.std.specs.Prelude.{◌≡◌, ℕ, ◌+◌, ◌-◌, not, if◌then◌else◌, List, ◌∷◌, map, length, get_or, Some, None}
 use Rattle.std.specs.List.{filter}
 use Rattle.std.specs.Option.{option_to_list}
 use Rattle.kl1_goals.specs.declared.goal.Goal.{Goal}
@@ -29,7 +29,8 @@ pub record IsTally {N : Type 0} (n : ℕ) (gs : List (Goal N)) (t : Tally) : Typ
   pub goals : t.goals ≡ length (filter (is_goal_of n) gs)
   pub monitor : map number_of (filter (is_monitor_of n) gs) ≡ option_to_list t.monitor
 
--- what a table keeps
-pub record IsTable {N : Type 0} (ss : List (Slot N)) (empty : ℕ) (ranks : List ℕ) (ts : List Tally) : Type 0 where
+-- what a table keeps, and how many goals it has other than monitors
+pub record IsTable {N : Type 0} (ss : List (Slot N)) (empty : ℕ) (ranks : List ℕ) (ts : List Tally) (count : ℕ) : Type 0 where
   pub slots : AreSlots ss empty ranks
   pub tallied : (n : ℕ) → IsTally n (goals_in ss) (tally_at ts n)
+  pub alive : count ≡ length (filter (λ g. not (is_monitor g)) (goals_in ss))

@@ -5,8 +5,9 @@ ghost use Rattle.kl1_goals.specs.Lists.{is_monitor, is_goal_of};
 
 use crate::task::Task;
 
-/// A goal: its number in the account, from 1, its task, the number of its shoen, its priority, at most a monitor's, and the
-/// number of the clause by which it can step, as of the last change; none where it can't step.
+/// A goal: its number in the account, from 1, its task, the number of its shoen, its priority, at most a monitor's, the number of
+/// the clause by which it could step, as of the last change, none where there is none, and whether its shoen lets it step; a
+/// monitor is always let.
 #[derive(Clone, Copy)]
 pub struct Goal<N> {
     pub number: u64,
@@ -14,6 +15,7 @@ pub struct Goal<N> {
     pub shoen: u64,
     pub priority: u64,
     pub standing: Option<u64>,
+    pub is_enabled: bool,
 }
 
 impl<N> Goal<N> {

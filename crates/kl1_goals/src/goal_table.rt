@@ -1,21 +1,23 @@
 // The table of goals.
 
-ghost use Rattle.std.specs.Prelude.{◌≡◌, ◌+◌, ◌<◌, ◌≤◌, ℕ, not, List, [], ◌∷◌, ◌++◌, None, map, option_map, IfSome, OnOk};
-ghost use Rattle.std.specs.List.{filter, find, list_any};
-ghost use Rattle.kl1_goals.specs.Lists.{has_number, is_other, is_after, is_monitor_of, is_goal_of, stood_by};
+ghost use Rattle.std.specs.Prelude.{◌≡◌, ◌+◌, ◌<◌, ◌≤◌, ◌&&◌, ℕ, not, List, [], ◌∷◌, ◌++◌, None, map, option_map, IfSome, OnOk};
+ghost use Rattle.std.specs.List.{filter, find, list_any, count_by};
+ghost use Rattle.kl1_goals.specs.Lists.{number_of, has_number, is_other, is_after, is_monitor, is_monitor_of, is_goal_of, is_flagged, stood_by, enabled_by};
 ghost use Rattle.kl1_goals.specs.Readies.{first_from, chosen, stands};
-ghost use Rattle.kl1_goals.specs.Tables.{Tabled, IsNext, IsKnown, AreInOrder};
+ghost use Rattle.kl1_goals.specs.Tables.{Tabled, IsNext, IsKnown, AreInOrder, AreSingle};
 
+use crate::flags::{count_flagged, drop_flagged, enable_all};
 use crate::goal::Goal;
 use crate::places::{append, bury, count_upto, first_held, held_place, make_end, stand, tidy};
 use crate::slot::Slot;
-use crate::tally::{Tally, lower, raise, tally_of};
+use crate::tally::{Tally, clear, lower, lower_alive, raise, raise_alive, tally_of};
 use kl1_queue::ReadyQueue;
 use kl1_text::NameValue;
 use std::alloc::{AllocError, Global};
 use std::marker::Model;
 
-/// The goals of an account in order of number, each with the clause by which it can step, and its shoens, counted from 1.
+/// The goals of an account in order of number, each with the clause by which it could step and whether it may, and its shoens,
+/// counted from 1.
 ///
 /// A goal that is removed leaves its place empty; empty places are dropped where no goal is after them, and where they come to
 /// more than three quarters.
@@ -25,6 +27,7 @@ pub struct GoalTable<N: NameValue> {
     empty: usize,
     queue: ReadyQueue,
     tallies: Vec<Tally>,
+    alive: u64,
 }
 
 impl<N: NameValue> Model for GoalTable<N> {
@@ -43,7 +46,7 @@ impl<N: NameValue> Model for GoalTable<N> {
       shoen_room = vec_capacity t.tallies - vec_len t.tallies;
     } };
 
-    ghost invariant = { λ t. IsTable t.slots.items t.empty t.queue.ranks t.tallies.items };
+    ghost invariant = { λ t. IsTable t.slots.items t.empty t.queue.ranks t.tallies.items t.alive };
 }
 
 impl<N: NameValue> GoalTable<N> {
@@ -57,6 +60,7 @@ impl<N: NameValue> GoalTable<N> {
             empty: 0,
             queue: ReadyQueue::new(alloc),
             tallies: Vec::new(alloc),
+            alive: 0,
         }
     }
 
@@ -96,6 +100,7 @@ impl<N: NameValue> GoalTable<N> {
     pub fn shoens(&self) -> usize
         ensures shoens { result ≡ self.now.shoens }
         ensures order { AreInOrder self.now.goals }
+        ensures single { AreSingle self.now.goals }
     {
         self.tallies.len()
     }
@@ -142,6 +147,7 @@ impl<N: NameValue> GoalTable<N> {
         );
         append(&mut self.slots, self.empty, &mut self.queue, goal);
         raise(&mut self.tallies, &goal);
+        self.alive = raise_alive(self.alive, &goal);
     }
 
     /// Removes the goal of a number, where there is one.
@@ -158,6 +164,7 @@ impl<N: NameValue> GoalTable<N> {
                 let goal = self.slots[place].goal;
                 bury(&mut self.slots, &mut self.empty, &mut self.queue, place);
                 lower(&mut self.tallies, &goal);
+                self.alive = lower_alive(self.alive, &goal);
                 tidy(&mut self.slots, &mut self.empty, &mut self.queue);
             }
         }
@@ -177,7 +184,27 @@ impl<N: NameValue> GoalTable<N> {
         }
     }
 
-    /// From now on the goal of a number can step by this clause, or can't step.
+    /// Removes the goals of shoens whose flags are set, of which the first is shoen 1's, monitors too.
+    pub fn remove_below(&mut self, flags: &[bool])
+        ensures goals { self.new.goals ≡ filter (λ g. not (is_flagged flags.now g)) self.old.goals }
+        ensures shoens { self.new.shoens ≡ self.old.shoens }
+        ensures room { self.old.room ≤ self.new.room }
+        ensures shoen_room { self.new.shoen_room ≡ self.old.shoen_room }
+    {
+        let gone = count_flagged(&self.slots, flags);
+        drop_flagged(&mut self.slots, &mut self.empty, &mut self.queue, flags);
+        clear(&mut self.tallies, flags);
+        self.alive -= gone;
+    }
+
+    /// From now on monitors may step, and the goals of shoens whose flags are set, of which the first is shoen 1's, and no others.
+    pub fn set_enabled(&mut self, flags: &[bool])
+        ensures { self.new ≡ record self.old { goals = map (enabled_by flags.now) self.old.goals } }
+    {
+        enable_all(&mut self.slots, self.empty, &mut self.queue, flags);
+    }
+
+    /// From now on the goal of a number has this clause by which it could step, or none.
     pub fn set_standing(&mut self, number: u64, standing: Option<u64>)
         ensures { self.new ≡ record self.old { goals = map (stood_by number standing) self.old.goals } }
     {
@@ -217,6 +244,27 @@ impl<N: NameValue> GoalTable<N> {
             None => false,
             Some(_) => true,
         }
+    }
+
+    /// How many goals there are other than monitors.
+    pub fn alive(&self) -> u64
+        ensures { result ≡ count_by (λ g. not (is_monitor g)) self.now.goals }
+    {
+        self.alive
+    }
+
+    /// How many goals there are other than monitors, of shoens whose flags are set, of which the first is shoen 1's.
+    pub fn count_below(&self, flags: &[bool]) -> u64
+        ensures { result ≡ count_by (λ g. not (is_monitor g) && is_flagged flags.now g) self.now.goals }
+    {
+        count_flagged(&self.slots, flags)
+    }
+
+    /// The number of a shoen's monitor, where it has one.
+    pub fn monitor_of(&self, shoen: u64) -> Option<u64>
+        ensures { result ≡ option_map number_of (find (is_monitor_of shoen) self.now.goals) }
+    {
+        tally_of(&self.tallies, shoen).monitor
     }
 
     /// Whether a shoen has a goal other than its monitor.

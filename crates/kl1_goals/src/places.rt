@@ -197,7 +197,7 @@ pub(crate) fn stand<N: NameValue>(
 }
 
 /// Ranks places anew.
-fn rank_all<N: NameValue>(slots: &Vec<Slot<N>>, queue: &mut ReadyQueue)
+pub(crate) fn rank_all<N: NameValue>(slots: &Vec<Slot<N>>, queue: &mut ReadyQueue)
     requires room { length slots.now.items ≤ queue.old.room + length queue.old.ranks }
     requires low { AreLow (map level_in slots.now.items) }
     ensures ranks { queue.new.ranks ≡ map rank_in slots.now.items }

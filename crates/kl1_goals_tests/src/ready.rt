@@ -1,8 +1,7 @@
-// Checks of the queue of places, the table of goals and the shoens.
+// Checks of the queue of places and the table of goals.
 
 mod checks;
 mod goals;
 mod queue;
-mod shoens;
 
 pub use checks::put_ready_checks;

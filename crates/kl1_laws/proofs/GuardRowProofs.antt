@@ -463,7 +463,7 @@ operand_at_the_start_row : is_read (lines (codes ":- module z." ∷ codes "p(X) 
 unfolding digits tokens_within expression_at series_by grouped_by body_by
 operand_at_the_start_row = refl
 
-priority_of_a_goal_row : read_module (lines (codes ":- module z." ∷ codes "p :- q@priority(1)." ∷ [])) ≡ bad 2
+priority_of_a_goal_row : is_read (lines (codes ":- module z." ∷ codes "p :- q@priority(1), m:q @ priority(4095), shoen:execute(1)@priority(0)." ∷ [])) ≡ true
 unfolding digits tokens_within expression_at series_by grouped_by body_by
 priority_of_a_goal_row = refl
 
@@ -471,11 +471,11 @@ priority_before_a_bar_row : read_module (lines (codes ":- module z." ∷ codes "
 unfolding digits tokens_within expression_at series_by grouped_by body_by
 priority_before_a_bar_row = refl
 
-execute_in_a_body_row : read_module (lines (codes ":- module z." ∷ codes "p :- shoen:execute(true,0,1,1,C,R)." ∷ [])) ≡ bad 2
+execute_in_a_body_row : is_read (lines (codes ":- module z." ∷ codes "p :- shoen:execute(true,0,1,1,C,R)." ∷ [])) ≡ true
 unfolding digits tokens_within expression_at series_by grouped_by body_by
 execute_in_a_body_row = refl
 
-atom_from_in_a_body_row : read_module (lines (codes ":- module z." ∷ codes "p(X) :- atom_from(X,Y)." ∷ [])) ≡ bad 2
+atom_from_in_a_body_row : is_read (lines (codes ":- module z." ∷ codes "p(X) :- atom_from(X,Y)." ∷ [])) ≡ true
 unfolding digits tokens_within expression_at series_by grouped_by body_by
 atom_from_in_a_body_row = refl
 

@@ -16,3 +16,4 @@ pub mod ReadCounts
 pub mod ReadStrict
 pub mod ReadPlain
 pub mod GuardRowProofs
+pub mod ShoenRowProofs

@@ -2,7 +2,8 @@
 use Rattle.std.specs.Prelude.{◌≡◌, ◌^◌, codes, List, [], ◌∷◌, ◌++◌, Option, Some, None, pos, ℕ, replicate, true, option_map}
 use Rattle.kl1_model.specs.Term.{Term, variable, integer, atom, structure, none, more}
 use Rattle.kl1_model.specs.Print.{print}
-use Rattle.kl1_model.specs.State.{State, fresh, shoen_at, terminated, Origin}
+use Rattle.kl1_model.specs.declared.life.Life.TheVariants.{Terminated}
+use Rattle.kl1_model.specs.State.{State, fresh, shoen_at, Origin}
 use Rattle.kl1_model.specs.Event.{Event, load, start, reduce, reduced, ran, quiet_is, refused, syntax, exists, step_refused, journal_full}
 use Rattle.kl1_model.specs.Step.{step, origin_at}
 use Rattle.kl1_model.specs.Choice.{first, quiet}
@@ -80,7 +81,7 @@ pub record AccountRowsHold : Type 0 where
   -- each report takes a variable, and the end of a stream none
   pub numbers_after_a_failure : numbers (after_lines (having one_fact) (codes "start 10 0 10 t:q(X,c)" ∷ codes "run 10" ∷ [])) ≡ 6 ∷ 2 ∷ 1 ∷ 3 ∷ []
   -- the shoen has ended
-  pub life_after_a_failure : option_map (λ h. h.life) (shoen_at 1 (after_lines (having one_fact) (codes "start 10 0 10 t:q(X,c)" ∷ codes "run 10" ∷ [])).shoens) ≡ Some terminated
+  pub life_after_a_failure : option_map (λ h. h.life) (shoen_at 1 (after_lines (having one_fact) (codes "start 10 0 10 t:q(X,c)" ∷ codes "run 10" ∷ [])).shoens) ≡ Some Terminated
   -- its monitor is gone
   pub goals_after_a_failure : (after_lines (having one_fact) (codes "start 10 0 10 t:q(X,c)" ∷ codes "run 10" ∷ [])).goals ≡ []
   -- a second shoen has a stream of its own
@@ -92,11 +93,11 @@ pub record AccountRowsHold : Type 0 where
   -- the same by named reductions
   pub append_by_reductions : stream 1 (after_events (after_lines (having app_text) (codes "start 100 0 10 app:app([1],[2],R)" ∷ [])) (reduce 2 2 ∷ reduce 3 0 ∷ reduce 4 1 ∷ reduce 5 0 ∷ [])) ≡ codes "[started,terminated]"
   -- a named reduction may take another candidate
-  pub second_of_two_clauses : option_map (λ o. print o.goal) (origin_at 1 (after_events (after_lines (having two_ways) (codes "start 1 0 1 m:m(X,R)" ∷ [])) (reduce 2 2 ∷ reduce 3 0 ∷ [])).shoens) ≡ Some (codes "m:m(_1,two)")
+  pub second_of_two_clauses : option_map (λ o. print o.goal) (origin_at 1 (after_events (after_lines (having two_ways) (codes "start 9 0 1 m:m(X,R)" ∷ [])) (reduce 2 2 ∷ reduce 3 0 ∷ [])).shoens) ≡ Some (codes "m:m(_1,two)")
   -- what is bound later shows in the reports before
-  pub reports_are_bound_later : stream 1 (after_lines (having three_goals) (codes "start 1 0 1 t:p" ∷ codes "run 9" ∷ [])) ≡ codes "[started,exception(failure,z:q(1)),exception(failure,'='(f(1),g(1))),terminated]"
+  pub reports_are_bound_later : stream 1 (after_lines (having three_goals) (codes "start 9 0 1 t:p" ∷ codes "run 9" ∷ [])) ≡ codes "[started,exception(failure,z:q(1)),exception(failure,'='(f(1),g(1))),terminated]"
   -- and before that they show the variable
-  pub reports_before_it : stream 1 (after_lines (having three_goals) (codes "start 1 0 1 t:p" ∷ codes "run 3" ∷ [])) ≡ codes "[started,exception(failure,z:q(_4)),exception(failure,'='(f(_4),g(_4)))|_6]"
+  pub reports_before_it : stream 1 (after_lines (having three_goals) (codes "start 9 0 1 t:p" ∷ codes "run 3" ∷ [])) ≡ codes "[started,exception(failure,z:q(_4)),exception(failure,'='(f(_4),g(_4)))|_6]"
   -- clause 0 of a goal that doesn't fail is refused
   pub clause_0_of_a_goal_with_candidates : (step (after_lines (having app_text) (codes "start 100 0 10 app:app([1],[2],R)" ∷ [])) (reduce 2 0)).reply ≡ refused step_refused
   -- a clause that rejects is refused

@@ -298,14 +298,14 @@ pub record GuardRowsHold : Type 0 where
   pub operand_past_the_end : read_module (lines (codes ":- module z." ∷ codes "p(X) :- X := 1 -9223372036854775808." ∷ [])) ≡ bad 2
   -- but is the least integer where no operator may stand
   pub operand_at_the_start : is_read (lines (codes ":- module z." ∷ codes "p(X) :- X := 1 - -9223372036854775808." ∷ [])) ≡ true
-  -- a priority isn't taken yet
-  pub priority_of_a_goal : read_module (lines (codes ":- module z." ∷ codes "p :- q@priority(1)." ∷ [])) ≡ bad 2
+  -- a goal of a user's predicate may name a priority from 0 to 4,095
+  pub priority_of_a_goal : is_read (lines (codes ":- module z." ∷ codes "p :- q@priority(1), m:q @ priority(4095), shoen:execute(1)@priority(0)." ∷ [])) ≡ true
   -- and none stands before a bar
   pub priority_before_a_bar : read_module (lines (codes ":- module z." ∷ codes "p :- true@priority(1) | true." ∷ [])) ≡ bad 2
-  -- nor is `shoen:execute` with six arguments
-  pub execute_in_a_body : read_module (lines (codes ":- module z." ∷ codes "p :- shoen:execute(true,0,1,1,C,R)." ∷ [])) ≡ bad 2
-  -- nor `atom_from` with two
-  pub atom_from_in_a_body : read_module (lines (codes ":- module z." ∷ codes "p(X) :- atom_from(X,Y)." ∷ [])) ≡ bad 2
+  -- `shoen:execute` with six arguments is a goal
+  pub execute_in_a_body : is_read (lines (codes ":- module z." ∷ codes "p :- shoen:execute(true,0,1,1,C,R)." ∷ [])) ≡ true
+  -- and so is `atom_from` with two
+  pub atom_from_in_a_body : is_read (lines (codes ":- module z." ∷ codes "p(X) :- atom_from(X,Y)." ∷ [])) ≡ true
   -- with another number of arguments they are calls
   pub execute_of_one : is_read (lines (codes ":- module z." ∷ codes "p :- shoen:execute(true), atom_from(X)." ∷ [])) ≡ true
   -- operators add depth as structures do, and parentheses none

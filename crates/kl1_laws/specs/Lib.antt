@@ -1,5 +1,6 @@
 pub mod Examples
 pub mod AccountRows
+pub mod ShoenRows
 pub mod ReadRows
 pub mod ReadFaults
 pub mod GuardRows

@@ -5,5 +5,6 @@ pub mod arithmetic;
 pub mod examples;
 pub mod reading;
 pub mod same;
+pub mod shoens;
 pub mod unification;
 pub mod waits;

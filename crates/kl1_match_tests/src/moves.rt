@@ -66,6 +66,8 @@ fn put_kind(answer: &mut Text, kind: &Kind<AtomText>) {
         Kind::Calls(_) => b" call",
         Kind::Unifies(_, _) => b" unification",
         Kind::Assigns(_, _) => b" assignment",
+        Kind::Spells(_, _) => b" spelling",
+        Kind::Executes(_) => b" execution",
         Kind::Goes => b" true",
         Kind::Waits(_) => b" unbound",
         Kind::Nothing => b" none",
@@ -155,8 +157,33 @@ fn put_raised(answer: &mut Text, kind: BuiltIn) -> Result<(), AllocError> {
     put_atom(&mut answer.bytes, &name)
 }
 
-/// Puts what a goal of a kind does by the clause of a number: the clause and the goals of its body, or the terms that it
-/// unifies, or the kind of the exception that it raises, or a word.
+/// Puts a name that a goal uses, and the term that it unifies with it.
+fn put_named(
+    answer: &mut Text,
+    store: &Store<AtomText>,
+    text: &[u8],
+    target: Cell<AtomText>,
+) -> Result<(), AllocError> {
+    answer.put(b" names ");
+    match AtomText::read(text) {
+        Some(name) => put_atom(&mut answer.bytes, &name)?,
+        None => answer.fail(),
+    }
+    put_cells(answer, store, &[target])
+}
+
+/// Puts the order for a shoen that a goal opens: the structure, and its six arguments.
+fn put_opened(
+    answer: &mut Text,
+    store: &Store<AtomText>,
+    structure: u32,
+) -> Result<(), AllocError> {
+    answer.put(b" opens");
+    put_cells(answer, store, &[Cell::Structure(structure)])
+}
+
+/// Puts what a goal of a kind does by the clause of a number: the clause and the goals of its body, the terms that it unifies,
+/// the name that it uses, the shoen that it opens, the kind of the exception that it raises, or a word.
 fn put_done(
     answer: &mut Text,
     store: &mut Store<AtomText>,
@@ -173,6 +200,8 @@ fn put_done(
         Some(Move::Raises(kind)) => put_raised(answer, kind)?,
         Some(Move::Goes) => answer.put(b" goes"),
         Some(Move::Unifies(left, right)) => put_cells(answer, store, &[left, right])?,
+        Some(Move::Names(target)) => put_named(answer, store, trial.text.as_slice(), target)?,
+        Some(Move::Opens(structure)) => put_opened(answer, store, structure)?,
         Some(Move::Commits(place)) => {
             answer.put(b" ");
             answer.put_number(clause);

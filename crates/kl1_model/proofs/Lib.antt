@@ -17,6 +17,7 @@ pub mod LeastClause
 pub mod SameStays
 pub mod ScanFinds
 pub mod ScanStays
+pub mod LookStays
 pub mod GuardStays
 pub mod Beside
 pub mod VerdictStays
@@ -25,3 +26,10 @@ pub mod VerdictWaits
 pub mod OpenSections
 pub mod TermStays
 pub mod ReadClauses
+pub mod ControlStays
+pub mod TreeKeeps
+pub mod TreeGrows
+pub mod TreeSteps
+pub mod TreeEndings
+pub mod TreeLives
+pub mod TreeLiving

@@ -14,7 +14,7 @@ use Rattle.kl1_model.specs.Reader.{clause_tree}
 use Rattle.kl1_model.specs.Numbering.{numbered_tokens}
 use Rattle.kl1_model.specs.Meaning.{pair, expression_term, series_terms, is_writable, variables_of, variables_in, numbered_after}
 use Rattle.kl1_model.specs.Goal.{is_test, is_goal, is_unqualified_goal, body_goal}
-use Rattle.kl1_model.specs.Module.{BodyGoal, Clause, goals_of, Module, Reading, good, bad, Item, items_of, named_module, each_of, head_patterns, is_fit_head, has_only, fit_test, without_priority, fit_goal, fit_body, clause_with, true_goal, clause_of_tree, clause_of, section_after, may_follow, with_clause, is_otherwise, if_good, clauses_ended, otherwise_on, clauses_from, module_with, module_named, module_of_items, read_module}
+use Rattle.kl1_model.specs.Module.{BodyGoal, Clause, goals_of, Module, Reading, good, bad, Item, items_of, named_module, each_of, head_patterns, is_fit_head, has_only, fit_test, without_priority, with_priority, may_name, fit_goal, fit_body, clause_with, true_goal, clause_of_tree, clause_of, section_after, may_follow, with_clause, is_otherwise, if_good, clauses_ended, otherwise_on, clauses_from, module_with, module_named, module_of_items, read_module}
 use Rattle.kl1_model.specs.ReadLaws.{variables_of_each, clause_variables, is_numbered_clause}
 use Rattle.kl1_model.specs.WaitsLaws.{is_guarded}
 use Rattle.kl1_model.proofs.ReadSound.{clause_trees_sound}
@@ -52,7 +52,10 @@ goal_kept m (plain_goal e) u h =
     let t = expression_term e in
     option_map_some without_priority (body_goal m t) u (else_none (is_writable t) (option_map without_priority (body_goal m t)) u h) (λ v found here.
     ap (λ (w : BodyGoal). variables_of w.goal) (sym here) ∙ goal_case (is_goal t) (is_unqualified_goal t) m t v found)
-goal_kept m (urgent_goal e quotes n) u h = absurd (none-some u h)
+goal_kept m (urgent_goal e quotes n) u h =
+    let t = expression_term e in
+    option_map_some (with_priority n) (body_goal m t) u (else_none (is_writable t && may_name n t) (option_map (with_priority n) (body_goal m t)) u h) (λ v found here.
+    ap (λ (w : BodyGoal). variables_of w.goal) (sym here) ∙ goal_case (is_goal t) (is_unqualified_goal t) m t v found)
 
 -- the goals of a body keep the variables of its trees
 body_kept : (m : List ℕ) (b : Body) (gs : List BodyGoal) → fit_body m b ≡ Some gs → variables_of_each (goals_of gs) ≡ variables_in (body_terms b)

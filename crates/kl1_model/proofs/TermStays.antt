@@ -1,19 +1,22 @@
 -- By which clause a term can step, and for what it waits, when variables are replaced.
 use Rattle.std.proofs.Common.{◌≡◌, ℕ, ◌==◌, Bool, true, false, if◌then◌else◌, List, [], ◌∷◌, ◌++◌, refl, sym, ap, ap₂, ◌∙◌}
-use Rattle.std.specs.Prelude.{codes, bytes_eq, Option, Some, None, option_map, is_some, find, filter}
+use Rattle.std.specs.Prelude.{not, ◌&&◌, codes, bytes_eq, Option, Some, None, option_map, is_some, find, filter}
 use Rattle.std.proofs.lemmas.Bool.{cond-false}
-use Rattle.kl1_model.specs.Term.{Term, variable, integer, atom, structure, Terms, none, more, substituted, each_substituted, Replacement, replaced}
+use Rattle.kl1_model.specs.Goal.{is_called, is_execute}
+use Rattle.kl1_model.specs.Look.{Spelling, spelled, awaits_code, misspelled, spelling, most_spelled, Look, right, waits_on, wrong, Order, order_look}
+use Rattle.kl1_model.specs.Term.{Term, variable, integer, atom, structure, Terms, none, more, count_of, substituted, each_substituted, Replacement, replaced}
 use Rattle.kl1_model.specs.Module.{Module, is_of}
 use Rattle.kl1_model.specs.Match.{Call, call_of, module_of, clauses_in, clauses_of}
 use Rattle.kl1_model.specs.Arithmetic.{Evaluated, comes_to, awaits, is_no_expression, evaluated}
-use Rattle.kl1_model.specs.Reduction.{Move, unifies, assigned, built_in_move, term_move}
+use Rattle.kl1_model.specs.Reduction.{Move, unifies, assigned, spells, ordered, order_move, execute_move, built_in_move, term_move}
 use Rattle.kl1_model.specs.Choice.{call_clauses}
-use Rattle.kl1_model.specs.Waits.{LeavesEach, least_clause, term_clause, awaited_by_clauses, awaited_by_evaluated, awaited_by_built_in, awaited_by_call, awaited_in_call, awaited_at_head}
+use Rattle.kl1_model.specs.Waits.{LeavesEach, least_clause, term_clause, awaited_by_clauses, awaited_by_evaluated, awaited_by_spelling, awaited_by_look, awaited_by_order, awaited_by_execute, awaited_by_built_in, awaited_by_call, awaited_in_call, awaited_at_head}
 use Rattle.kl1_model.specs.WaitsLaws.{call_substituted, HeadStays, TermStays}
 use Rattle.kl1_model.proofs.Substitutions.{count-each_substituted}
 use Rattle.kl1_model.proofs.LeastClause.{term_clause-call}
 use Rattle.kl1_model.proofs.SameStays.{left_front, left_back}
 use Rattle.kl1_model.proofs.ScanStays.{evaluated_stays}
+use Rattle.kl1_model.proofs.LookStays.{spelling_stays, order_substituted, order_stays}
 use Rattle.kl1_model.proofs.VerdictStays.{clauses_stay}
 
 -- ---- calls
@@ -39,7 +42,8 @@ call_of-other f (integer i) b e = refl
 call_of-other f (atom m) (variable p) e = refl
 call_of-other f (atom m) (integer j) e = refl
 call_of-other f (atom m) (atom p) e = cond-false (bytes_eq f (codes ":")) (Some (record { module_name = m; name = p; arguments = none })) None e
-call_of-other f (atom m) (structure p ts) e = cond-false (bytes_eq f (codes ":")) (Some (record { module_name = m; name = p; arguments = ts })) None e
+call_of-other f (atom m) (structure p ts) e =
+    ap (λ c. if c && not (is_execute m (structure p ts)) then Some (record { module_name = m; name = p; arguments = ts }) else None) e
 call_of-other f (structure g ts) b e = refl
 
 some_call : (s : ℕ → Term) (c : Bool) (k : Call) → (if c then Some (call_substituted s k) else None) ≡ option_map (call_substituted s) (if c then Some k else None)
@@ -53,7 +57,9 @@ pair_stays s f (integer i) b l = refl
 pair_stays s f (atom m) (variable p) l = ap (λ t. call_of (structure f (more (atom m) (more t none)))) l.0
 pair_stays s f (atom m) (integer j) l = refl
 pair_stays s f (atom m) (atom p) l = some_call s (bytes_eq f (codes ":")) (record { module_name = m; name = p; arguments = none })
-pair_stays s f (atom m) (structure p ts) l = some_call s (bytes_eq f (codes ":")) (record { module_name = m; name = p; arguments = ts })
+pair_stays s f (atom m) (structure p ts) l =
+    ap (λ n. if bytes_eq f (codes ":") && not (bytes_eq m (codes "shoen") && is_called (codes "execute") 6 p n) then Some (record { module_name = m; name = p; arguments = each_substituted s ts }) else None) (count-each_substituted s ts)
+    ∙ some_call s (bytes_eq f (codes ":") && not (is_execute m (structure p ts))) (record { module_name = m; name = p; arguments = ts })
 pair_stays s f (structure g ts) b l = refl
 
 two_stay : (s : ℕ → Term) (f : List ℕ) (a b : Term) (c : Bool) → bytes_eq f (codes ":") ≡ c → LeavesEach s (if c then awaited_in_call a b else []) →
@@ -106,12 +112,81 @@ assigned_is a b x (comes_to n) e = ap (λ z. is_some (assigned a z)) e
 assigned_is a b x (awaits v) e = ap (λ z. is_some (assigned a z)) e
 assigned_is a b x is_no_expression e = ap (λ z. is_some (assigned a z)) e
 
-pair_stays_by : (s : ℕ → Term) (c d : Bool) (a b : Term) → LeavesEach s (if d then awaited_by_evaluated (evaluated b) else []) →
-    is_some (if c then Some (unifies (substituted s a) (substituted s b)) else if d then assigned (substituted s a) (evaluated (substituted s b)) else None)
-    ≡ is_some (if c then Some (unifies a b) else if d then assigned a (evaluated b) else None)
-pair_stays_by s true d a b l = refl
-pair_stays_by s false true a b l = assigned_is (substituted s a) a (evaluated (substituted s b)) (evaluated b) (evaluated_stays s b l)
-pair_stays_by s false false a b l = refl
+spells_is : (a b : Term) (x y : Spelling) → x ≡ y → is_some (spells a x) ≡ is_some (spells b y)
+spells_is a b x (spelled text) e = ap (λ z. is_some (spells a z)) e
+spells_is a b x (awaits_code v) e = ap (λ z. is_some (spells a z)) e
+spells_is a b x misspelled e = ap (λ z. is_some (spells a z)) e
+
+ordered_is : (o p : Order) (x y : Look) → x ≡ y → is_some (ordered o x) ≡ is_some (ordered p y)
+ordered_is o p x right e = ap (λ z. is_some (ordered o z)) e
+ordered_is o p x (waits_on v) e = ap (λ z. is_some (ordered o z)) e
+ordered_is o p x wrong e = ap (λ z. is_some (ordered o z)) e
+
+no_order : (s : ℕ → Term) (c d : Bool) → is_some (if c then order_move None else None) ≡ is_some (if d then order_move None else None)
+no_order s true true = refl
+no_order s true false = refl
+no_order s false true = refl
+no_order s false false = refl
+
+no_awaited : (s : ℕ → Term) (c d : Bool) → (if c then awaited_by_order None else []) ≡ (if d then awaited_by_order None else [])
+no_awaited s true true = refl
+no_awaited s true false = refl
+no_awaited s false true = refl
+no_awaited s false false = refl
+
+six_stay : (s : ℕ → Term) (c : Bool) (o : Order) → LeavesEach s (if c then awaited_by_look (order_look o) else []) →
+    is_some (if c then ordered (order_substituted s o) (order_look (order_substituted s o)) else None) ≡ is_some (if c then ordered o (order_look o) else None)
+six_stay s true o l = ordered_is (order_substituted s o) o (order_look (order_substituted s o)) (order_look o) (order_stays s o l)
+six_stay s false o l = refl
+
+execute_stays : (s : ℕ → Term) (a b : Term) → LeavesEach s (awaited_in_call a b) → LeavesEach s (awaited_by_execute a b) → is_some (execute_move (substituted s a) (substituted s b)) ≡ is_some (execute_move a b)
+execute_stays s (variable m) b l k = ap (λ t. is_some (execute_move t (substituted s b))) l.0
+execute_stays s (integer i) b l k = refl
+execute_stays s (structure f ts) b l k = refl
+execute_stays s (atom m) (variable p) l k = ap (λ t. is_some (execute_move (atom m) t)) l.0
+execute_stays s (atom m) (integer j) l k = refl
+execute_stays s (atom m) (atom p) l k = refl
+execute_stays s (atom m) (structure p none) l k = refl
+execute_stays s (atom m) (structure p (more a none)) l k = refl
+execute_stays s (atom m) (structure p (more a (more b none))) l k = refl
+execute_stays s (atom m) (structure p (more a (more b (more c none)))) l k = refl
+execute_stays s (atom m) (structure p (more a (more b (more c (more d none))))) l k = refl
+execute_stays s (atom m) (structure p (more a (more b (more c (more d (more e none)))))) l k = refl
+execute_stays s (atom m) (structure p (more a (more b (more c (more d (more e (more g none))))))) l k =
+    six_stay s (is_execute m (structure p (more a (more b (more c (more d (more e (more g none)))))))) (record { goal = a; low = b; high = c; allowance = d; control = e; reports = g }) k
+execute_stays s (atom m) (structure p (more a (more b (more c (more d (more e (more g (more h us)))))))) l k = no_order s (bytes_eq m (codes "shoen") && is_called (codes "execute") 6 p (count_of (each_substituted s (more a (more b (more c (more d (more e (more g (more h us)))))))))) (bytes_eq m (codes "shoen") && is_called (codes "execute") 6 p (count_of (more a (more b (more c (more d (more e (more g (more h us)))))))))
+
+six_awaited_stay : (s : ℕ → Term) (c : Bool) (o : Order) → LeavesEach s (if c then awaited_by_look (order_look o) else []) →
+    (if c then awaited_by_look (order_look (order_substituted s o)) else []) ≡ (if c then awaited_by_look (order_look o) else [])
+six_awaited_stay s true o l = ap awaited_by_look (order_stays s o l)
+six_awaited_stay s false o l = refl
+
+execute_awaited_stays : (s : ℕ → Term) (a b : Term) → LeavesEach s (awaited_in_call a b) → LeavesEach s (awaited_by_execute a b) → awaited_by_execute (substituted s a) (substituted s b) ≡ awaited_by_execute a b
+execute_awaited_stays s (variable m) b l k = ap (λ t. awaited_by_execute t (substituted s b)) l.0
+execute_awaited_stays s (integer i) b l k = refl
+execute_awaited_stays s (structure f ts) b l k = refl
+execute_awaited_stays s (atom m) (variable p) l k = ap (awaited_by_execute (atom m)) l.0
+execute_awaited_stays s (atom m) (integer j) l k = refl
+execute_awaited_stays s (atom m) (atom p) l k = refl
+execute_awaited_stays s (atom m) (structure p none) l k = refl
+execute_awaited_stays s (atom m) (structure p (more a none)) l k = refl
+execute_awaited_stays s (atom m) (structure p (more a (more b none))) l k = refl
+execute_awaited_stays s (atom m) (structure p (more a (more b (more c none)))) l k = refl
+execute_awaited_stays s (atom m) (structure p (more a (more b (more c (more d none))))) l k = refl
+execute_awaited_stays s (atom m) (structure p (more a (more b (more c (more d (more e none)))))) l k = refl
+execute_awaited_stays s (atom m) (structure p (more a (more b (more c (more d (more e (more g none))))))) l k =
+    six_awaited_stay s (is_execute m (structure p (more a (more b (more c (more d (more e (more g none)))))))) (record { goal = a; low = b; high = c; allowance = d; control = e; reports = g }) k
+execute_awaited_stays s (atom m) (structure p (more a (more b (more c (more d (more e (more g (more h us)))))))) l k = no_awaited s (bytes_eq m (codes "shoen") && is_called (codes "execute") 6 p (count_of (each_substituted s (more a (more b (more c (more d (more e (more g (more h us)))))))))) (bytes_eq m (codes "shoen") && is_called (codes "execute") 6 p (count_of (more a (more b (more c (more d (more e (more g (more h us)))))))))
+
+pair_stays_by : (s : ℕ → Term) (c d e g : Bool) (a b : Term) → LeavesEach s (if g then awaited_in_call a b else []) →
+    LeavesEach s (if d then awaited_by_evaluated (evaluated b) else if e then awaited_by_spelling (spelling most_spelled a) else if g then awaited_by_execute a b else []) →
+    is_some (if c then Some (unifies (substituted s a) (substituted s b)) else if d then assigned (substituted s a) (evaluated (substituted s b)) else if e then spells (substituted s b) (spelling most_spelled (substituted s a)) else if g then execute_move (substituted s a) (substituted s b) else None)
+    ≡ is_some (if c then Some (unifies a b) else if d then assigned a (evaluated b) else if e then spells b (spelling most_spelled a) else if g then execute_move a b else None)
+pair_stays_by s true d e g a b l k = refl
+pair_stays_by s false true e g a b l k = assigned_is (substituted s a) a (evaluated (substituted s b)) (evaluated b) (evaluated_stays s b k)
+pair_stays_by s false false true g a b l k = spells_is (substituted s b) b (spelling most_spelled (substituted s a)) (spelling most_spelled a) (spelling_stays s most_spelled a k)
+pair_stays_by s false false false true a b l k = execute_stays s a b l k
+pair_stays_by s false false false false a b l k = refl
 
 built_in_stays : (s : ℕ → Term) (t : Term) → LeavesEach s (awaited_at_head t) → LeavesEach s (awaited_by_built_in t) → is_some (built_in_move (substituted s t)) ≡ is_some (built_in_move t)
 built_in_stays s (variable v) l k = ap (λ t. is_some (built_in_move t)) l.0
@@ -119,12 +194,17 @@ built_in_stays s (integer i) l k = refl
 built_in_stays s (atom a) l k = refl
 built_in_stays s (structure f none) l k = refl
 built_in_stays s (structure f (more a none)) l k = refl
-built_in_stays s (structure f (more a (more b none))) l k = pair_stays_by s (bytes_eq f (codes "=")) (bytes_eq f (codes ":=")) a b k
+built_in_stays s (structure f (more a (more b none))) l k = pair_stays_by s (bytes_eq f (codes "=")) (bytes_eq f (codes ":=")) (bytes_eq f (codes "atom_from")) (bytes_eq f (codes ":")) a b l k
 built_in_stays s (structure f (more a (more b (more c us)))) l k = refl
 
-awaited_if_stays : (s : ℕ → Term) (d : Bool) (b : Term) → LeavesEach s (if d then awaited_by_evaluated (evaluated b) else []) → (if d then awaited_by_evaluated (evaluated (substituted s b)) else []) ≡ (if d then awaited_by_evaluated (evaluated b) else [])
-awaited_if_stays s true b l = ap awaited_by_evaluated (evaluated_stays s b l)
-awaited_if_stays s false b l = refl
+awaited_if_stays : (s : ℕ → Term) (d e g : Bool) (a b : Term) → LeavesEach s (if g then awaited_in_call a b else []) →
+    LeavesEach s (if d then awaited_by_evaluated (evaluated b) else if e then awaited_by_spelling (spelling most_spelled a) else if g then awaited_by_execute a b else []) →
+    (if d then awaited_by_evaluated (evaluated (substituted s b)) else if e then awaited_by_spelling (spelling most_spelled (substituted s a)) else if g then awaited_by_execute (substituted s a) (substituted s b) else [])
+    ≡ (if d then awaited_by_evaluated (evaluated b) else if e then awaited_by_spelling (spelling most_spelled a) else if g then awaited_by_execute a b else [])
+awaited_if_stays s true e g a b l k = ap awaited_by_evaluated (evaluated_stays s b k)
+awaited_if_stays s false true g a b l k = ap awaited_by_spelling (spelling_stays s most_spelled a k)
+awaited_if_stays s false false true a b l k = execute_awaited_stays s a b l k
+awaited_if_stays s false false false a b l k = refl
 
 built_in_awaited_stays : (s : ℕ → Term) (t : Term) → LeavesEach s (awaited_at_head t) → LeavesEach s (awaited_by_built_in t) → awaited_by_built_in (substituted s t) ≡ awaited_by_built_in t
 built_in_awaited_stays s (variable v) l k = ap awaited_by_built_in l.0
@@ -132,7 +212,7 @@ built_in_awaited_stays s (integer i) l k = refl
 built_in_awaited_stays s (atom a) l k = refl
 built_in_awaited_stays s (structure f none) l k = refl
 built_in_awaited_stays s (structure f (more a none)) l k = refl
-built_in_awaited_stays s (structure f (more a (more b none))) l k = awaited_if_stays s (bytes_eq f (codes ":=")) b k
+built_in_awaited_stays s (structure f (more a (more b none))) l k = awaited_if_stays s (bytes_eq f (codes ":=")) (bytes_eq f (codes "atom_from")) (bytes_eq f (codes ":")) a b l k
 built_in_awaited_stays s (structure f (more a (more b (more c us)))) l k = refl
 
 -- a term that is no call takes 0, or nothing

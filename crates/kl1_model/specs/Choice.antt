@@ -4,7 +4,7 @@ use Rattle.std.specs.List.{list_any}
 use Rattle.kl1_model.specs.Match.{call_of, Call, candidates_of}
 use Rattle.kl1_model.specs.Module.{Module}
 use Rattle.kl1_model.specs.State.{Task, monitor, reduces, Goal, State}
-use Rattle.kl1_model.specs.Reduction.{move_of}
+use Rattle.kl1_model.specs.Reduction.{action_of}
 
 -- the numbers of a call's candidates
 abbrev pub call_clauses : List Module → Option Call → List ℕ
@@ -18,7 +18,7 @@ task_clauses modules (reduces t) = 0 ∷ call_clauses modules (call_of t)
 
 -- the clause by which a goal can step: the least that is allowed
 abbrev pub clause_for : State → Goal → Option ℕ
-clause_for s g = find (λ clause. is_some (move_of s g clause)) (task_clauses s.modules g.task)
+clause_for s g = find (λ clause. is_some (action_of s g clause)) (task_clauses s.modules g.task)
 
 -- whether a goal can step by some clause
 abbrev pub can_step : State → Goal → Bool

@@ -1,12 +1,16 @@
 -- Commands and replies as texts, and what a command does.
 use Rattle.std.specs.Prelude.{ℕ, zero, suc, nat_le, true, false, if◌then◌else◌, List, [], ◌∷◌, ◌++◌, length, codes, bytes_eq, decimal, Option, Some, None, option_map, option_and_then}
+use Rattle.kl1_model.specs.declared.message.Message.{Message}
+use Rattle.kl1_model.specs.declared.message.Message.TheVariants.{Stop, Start, Abort, Allow}
+use Rattle.kl1_model.specs.declared.condition.Condition.{Condition}
+use Rattle.kl1_model.specs.declared.condition.Condition.TheVariants.{Terminated, Aborted, Stopped, Exhausted, Running}
 use Rattle.kl1_model.specs.Term.{Term}
 use Rattle.kl1_model.specs.Name.{atom_text}
 use Rattle.kl1_model.specs.Limits.{most_command_bytes, most_steps}
 use Rattle.kl1_model.specs.Line.{word_in, behind_word_in, number_in, up_to, only_number, is_blank_line}
 use Rattle.kl1_model.specs.Module.{Reading, good, bad, read_goal}
 use Rattle.kl1_model.specs.State.{State}
-use Rattle.kl1_model.specs.Event.{Refusal, syntax, source, exists, no_shoen, step_refused, too_many_names, journal_full, value, is_quiet, Event, load, start, reduce, read, Reply, loaded, opened, reduced, ran, shown, quiet_is, refused, Stepped, refuse, is_range}
+use Rattle.kl1_model.specs.Event.{Refusal, syntax, source, exists, no_shoen, shoen_ended, step_refused, too_many_names, limit_passed, journal_full, value, status, reports, modules, is_quiet, Event, load, start, control, reduce, read, Reply, loaded, opened, sent, reduced, ran, shown, status_is, listed, quiet_is, refused, Stepped, refuse, is_range}
 use Rattle.kl1_model.specs.Step.{step}
 use Rattle.kl1_model.specs.Choice.{Chosen, first}
 use Rattle.kl1_model.specs.Record.{Request, load_of, spoiled_load, other_line}
@@ -32,11 +36,32 @@ start_command line =
 abbrev pub reduce_command : List ℕ → Option Command
 reduce_command line = option_and_then (λ goal. option_map (λ clause. does (reduce goal clause)) (only_number (behind_word_in line))) (number_in (word_in line))
 
+-- a shoen's number and how much more it may be charged, and nothing else
+abbrev pub allow_command : List ℕ → Option Command
+allow_command line = option_and_then (λ n. option_map (λ more. does (control n (Allow more))) (only_number (behind_word_in line))) (number_in (word_in line))
+
+-- a message to the shoen of a number, and nothing else
+abbrev pub send_command : Message → List ℕ → Option Command
+send_command m line = option_map (λ n. does (control n m)) (only_number line)
+
+-- the reports of a shoen from one on, where that is one
+abbrev pub reports_from : ℕ → ℕ → Option Command
+reports_from n from = if nat_le 1 from then Some (does (read (reports n from))) else None
+
+-- a shoen's number and a report's, from 1, and nothing else
+abbrev pub reports_command : List ℕ → Option Command
+reports_command line = option_and_then (λ n. option_and_then (reports_from n) (only_number (behind_word_in line))) (number_in (word_in line))
+
 -- the first word of a command, but for a load
 pub data Verb : Type 0 where
   starts : Verb
+  sends : Message → Verb
+  allows : Verb
   runs : Verb
   asks_value : Verb
+  asks_status : Verb
+  asks_reports : Verb
+  asks_modules : Verb
   asks_quiet : Verb
   reduces_goal : Verb
   unknown : Verb
@@ -46,7 +71,14 @@ abbrev pub verb_of : List ℕ → Verb
 verb_of w =
     if bytes_eq w (codes "start") then starts
     else if bytes_eq w (codes "run") then runs
+    else if bytes_eq w (codes "stop") then sends Stop
+    else if bytes_eq w (codes "resume") then sends Start
+    else if bytes_eq w (codes "abort") then sends Abort
+    else if bytes_eq w (codes "allow") then allows
     else if bytes_eq w (codes "value") then asks_value
+    else if bytes_eq w (codes "status") then asks_status
+    else if bytes_eq w (codes "reports") then asks_reports
+    else if bytes_eq w (codes "modules") then asks_modules
     else if bytes_eq w (codes "quiet") then asks_quiet
     else if bytes_eq w (codes "reduce") then reduces_goal
     else unknown
@@ -54,8 +86,13 @@ verb_of w =
 -- the command of a line by its first word and what is after it
 abbrev pub command_by : Verb → List ℕ → Option Command
 command_by starts rest = start_command rest
+command_by (sends m) rest = send_command m rest
+command_by allows rest = allow_command rest
 command_by runs rest = option_map run (up_to most_steps (only_number rest))
 command_by asks_value rest = option_map (λ n. does (read (value n))) (only_number rest)
+command_by asks_status rest = option_map (λ n. does (read (status n))) (only_number rest)
+command_by asks_reports rest = reports_command rest
+command_by asks_modules rest = if is_blank_line rest then Some (does (read modules)) else None
 command_by asks_quiet rest = if is_blank_line rest then Some (does (read is_quiet)) else None
 command_by reduces_goal rest = reduce_command rest
 command_by unknown rest = None
@@ -105,17 +142,31 @@ refusal_text syntax = codes "1 syntax"
 refusal_text (source line) = codes "2 source " ++ decimal line
 refusal_text exists = codes "3 exists"
 refusal_text no_shoen = codes "4 noshoen"
+refusal_text shoen_ended = codes "5 ended"
 refusal_text step_refused = codes "6 step"
 refusal_text too_many_names = codes "7 names"
+refusal_text limit_passed = codes "8 limit"
 refusal_text journal_full = codes "9 journal"
+
+-- the word for the state of a shoen
+abbrev pub condition_word : Condition → List ℕ
+condition_word Terminated = codes "terminated"
+condition_word Aborted = codes "aborted"
+condition_word Stopped = codes "stopped"
+condition_word Exhausted = codes "exhausted"
+condition_word Running = codes "running"
 
 -- the lines of a reply
 abbrev pub reply_lines : Reply → List (List ℕ)
 reply_lines (loaded name) = (codes "+ loaded " ++ atom_text name) ∷ []
 reply_lines (opened n) = (codes "+ shoen " ++ decimal n) ∷ []
+reply_lines sent = codes "+ sent" ∷ []
 reply_lines reduced = codes "+ reduced" ∷ []
 reply_lines (ran n) = (codes "+ " ++ decimal n) ∷ []
 reply_lines (shown text) = (codes "+ " ++ text) ∷ []
+reply_lines (status_is c charged allowance alive) =
+    (codes "+ " ++ condition_word c ++ codes " " ++ decimal charged ++ codes " " ++ decimal allowance ++ codes " " ++ decimal alive) ∷ []
+reply_lines (listed texts) = (codes "+ " ++ decimal (length texts)) ∷ texts
 reply_lines (quiet_is true) = codes "+ yes" ∷ []
 reply_lines (quiet_is false) = codes "+ no" ∷ []
 reply_lines (refused r) = (codes "- " ++ refusal_text r) ∷ []

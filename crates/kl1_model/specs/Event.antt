@@ -2,6 +2,8 @@
 use Rattle.std.specs.Prelude.{ℕ, suc, nat_le, nat_lt, ◌&&◌, Bool, if◌then◌else◌, List, length}
 pub use Rattle.kl1_model.specs.Limits.{most_source_bytes, most_entries, most_line_bytes, most_priority, most_names}
 use Rattle.kl1_model.specs.Limits.{number_limit}
+use Rattle.kl1_model.specs.declared.message.Message.{Message}
+use Rattle.kl1_model.specs.declared.condition.Condition.{Condition}
 use Rattle.kl1_model.specs.Term.{Term}
 use Rattle.kl1_model.specs.State.{State}
 
@@ -11,32 +13,42 @@ pub data Refusal : Type 0 where
   source : ℕ → Refusal
   exists : Refusal
   no_shoen : Refusal
+  shoen_ended : Refusal
   step_refused : Refusal
   too_many_names : Refusal
+  limit_passed : Refusal
   journal_full : Refusal
 
--- what is asked of an account without a change: the goal of a shoen as started, with what is bound now, and whether no goal
--- can step
+-- what is asked of an account without a change: the goal of a shoen as started, with what is bound now; the state of a shoen; the
+-- reports of a shoen from one on, the first being 1; the modules; and whether no goal can step
 pub data Query : Type 0 where
   value : ℕ → Query
+  status : ℕ → Query
+  reports : ℕ → ℕ → Query
+  modules : Query
   is_quiet : Query
 
 -- what may be done to an account: a module loaded from its source; a goal started with an allowance and priorities from low to high;
--- a goal reduced by the clause of a number, or 0; and a query
+-- a message sent to a shoen; a goal reduced by the clause of a number, or 0; and a query
 pub data Event : Type 0 where
   load : List ℕ → Event
   start : ℕ → ℕ → ℕ → Term → Event
+  control : ℕ → Message → Event
   reduce : ℕ → ℕ → Event
   read : Query → Event
 
--- an answer: the name of the module loaded, the number of the shoen opened, a reduction done, so many steps done by a run,
--- the printed goal, whether no goal can step, or a refusal
+-- an answer: the name of the module loaded, the number of the shoen opened, a message sent, a reduction done, so many steps done by
+-- a run, the printed goal, a shoen's state with what it was charged, its allowance and its goals alive, a list of texts, whether no
+-- goal can step, or a refusal
 pub data Reply : Type 0 where
   loaded : List ℕ → Reply
   opened : ℕ → Reply
+  sent : Reply
   reduced : Reply
   ran : ℕ → Reply
   shown : List ℕ → Reply
+  status_is : Condition → ℕ → ℕ → ℕ → Reply
+  listed : List (List ℕ) → Reply
   quiet_is : Bool → Reply
   refused : Refusal → Reply
 
@@ -64,6 +76,10 @@ recorded s after = if nat_lt s.entries most_entries then after else refuse s jou
 -- a change after which these names are used: refused where they are too many
 abbrev pub named : State → List (List ℕ) → Stepped → Stepped
 named s names after = if nat_le (length names) most_names then after else refuse s too_many_names
+
+-- a change that keeps to the limits of an account, as a test tells: refused where it doesn't
+abbrev pub limited : State → Bool → Stepped → Stepped
+limited s keeps after = if keeps then after else refuse s limit_passed
 
 -- whether priorities from low to high are a range
 abbrev pub is_range : ℕ → ℕ → Bool

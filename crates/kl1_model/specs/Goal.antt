@@ -30,12 +30,6 @@ is_head (atom p) = not (is_reserved p) && not (bytes_eq p (codes "true")) && not
 is_head (structure p ts) = not (is_reserved p) && not (is_atom_from p (count_of ts))
 is_head _ = false
 
--- a built-in goal: `true`, a unification of two terms, or a variable that becomes what an expression comes to
-abbrev pub is_built_in_goal : Term → Bool
-is_built_in_goal (atom a) = bytes_eq a (codes "true")
-is_built_in_goal (structure f ts) = is_called (codes "=") 2 f (count_of ts) || is_called (codes ":=") 2 f (count_of ts)
-is_built_in_goal _ = false
-
 -- what a module's name may stand before: an atom or a structure
 abbrev pub is_callee : Term → Bool
 is_callee (atom p) = true
@@ -46,6 +40,21 @@ is_callee _ = false
 abbrev pub is_execute : List ℕ → Term → Bool
 is_execute m (structure p ts) = bytes_eq m (codes "shoen") && is_called (codes "execute") 6 p (count_of ts)
 is_execute m _ = false
+
+-- whether a term is `shoen:execute` with six arguments
+abbrev pub is_execute_goal : Term → Bool
+is_execute_goal (structure f (more (atom m) (more b none))) = bytes_eq f (codes ":") && is_execute m b
+is_execute_goal _ = false
+
+-- a built-in goal of two terms: a unification, a variable that becomes what an expression comes to, or a name that codes spell
+abbrev pub is_pair_goal : List ℕ → ℕ → Bool
+is_pair_goal f n = is_called (codes "=") 2 f n || is_called (codes ":=") 2 f n || is_atom_from f n
+
+-- a built-in goal: `true`, one of two terms, or the opening of a shoen
+abbrev pub is_built_in_goal : Term → Bool
+is_built_in_goal (atom a) = bytes_eq a (codes "true")
+is_built_in_goal (structure f ts) = is_pair_goal f (count_of ts) || is_execute_goal (structure f ts)
+is_built_in_goal _ = false
 
 -- a goal of a module that it names
 abbrev pub is_qualified_goal : Term → Bool

@@ -1,5 +1,5 @@
 -- Body instance: the goals of a clause's body with the goal's terms in them.
-use Rattle.std.specs.Prelude.{ℕ, ◌+◌, ◌-◌, ◌==◌, nat_le, if◌then◌else◌, List, [], ◌∷◌, map}
+use Rattle.std.specs.Prelude.{ℕ, ◌+◌, ◌-◌, ◌==◌, nat_le, if◌then◌else◌, List, [], ◌∷◌, map, Option}
 use Rattle.kl1_model.specs.Term.{Term, variable, terms_of, Replacement, substituted}
 use Rattle.kl1_model.specs.Meaning.{highest_in, nil}
 use Rattle.kl1_model.specs.Module.{Clause, goals_of}
@@ -22,6 +22,10 @@ term_at (p ∷ places) v t = if p.number == v then p.by else term_at places v t
 abbrev pub body_variable : Clause → List Replacement → ℕ → ℕ → Term
 body_variable c places last v = if nat_le v (head_variables c) then term_at places v nil else variable (last + (v - head_variables c))
 
--- the goals of a clause's body, with these terms for its variables; none names a priority yet
+-- the goals of a clause's body, with these terms for its variables
 abbrev pub body_instance : Clause → List Replacement → ℕ → List Term
 body_instance c places last = map (substituted (body_variable c places last)) (goals_of c.body)
+
+-- the priorities that the goals of a clause's body name, if any
+abbrev pub body_priorities : Clause → List (Option ℕ)
+body_priorities c = map (λ g. g.priority) c.body

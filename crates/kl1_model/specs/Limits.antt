@@ -1,6 +1,6 @@
 -- Each number of the language and of the server, once, with its unit: the constants of src/limits.rt.
 use Rattle.std.specs.Prelude.{ℕ}
-use Rattle.kl1_model.specs.declared.limits.TheConstants.{MOST_NAME_BYTES, MOST_ARGUMENTS, MOST_DEPTH, MOST_OPERATORS, MOST_CLAUSES, MOST_SOURCE_BYTES, NUMBER_LIMIT, MOST_DIGITS, MOST_PRIORITY, MONITOR_PRIORITY, MOST_ENTRIES, MOST_LINE_BYTES, MOST_STEPS, MOST_COMMAND_BYTES, MOST_PRINTED_BYTES, MOST_ACCOUNT_NAME_BYTES, MOST_ACCOUNTS, MOST_SCRIPT_BYTES, MOST_WAITING_BYTES, FIRST_NUMBER, MOST_NAMES, BUCKETS_EACH}
+use Rattle.kl1_model.specs.declared.limits.TheConstants.{MOST_NAME_BYTES, MOST_ARGUMENTS, MOST_DEPTH, MOST_OPERATORS, MOST_CLAUSES, MOST_SOURCE_BYTES, NUMBER_LIMIT, MOST_DIGITS, MOST_PRIORITY, MONITOR_PRIORITY, MOST_ENTRIES, MOST_LINE_BYTES, MOST_STEPS, MOST_COMMAND_BYTES, MOST_PRINTED_BYTES, MOST_ACCOUNT_NAME_BYTES, MOST_ACCOUNTS, MOST_SCRIPT_BYTES, MOST_WAITING_BYTES, FIRST_NUMBER, MOST_NAMES, BUCKETS_EACH, MOST_MODULES, MOST_GOALS, MOST_VARIABLES, MOST_NODES, MOST_SHOENS, MOST_SHOEN_DEPTH, MOST_REPORTS, MOST_LISTED, MOST_ALLOWANCE, MOST_SPELLED}
 
 -- the most bytes of a name
 abbrev pub most_name_bytes : ℕ
@@ -89,3 +89,43 @@ most_names = MOST_NAMES
 -- the buckets of a table of names, for each account
 abbrev pub buckets_each : ℕ
 buckets_each = BUCKETS_EACH
+
+-- the most modules of an account
+abbrev pub most_modules : ℕ
+most_modules = MOST_MODULES
+
+-- the most goals of an account at one time; monitors don't count
+abbrev pub most_goals : ℕ
+most_goals = MOST_GOALS
+
+-- the most variables of an account's starts, messages from the console and commits
+abbrev pub most_variables : ℕ
+most_variables = MOST_VARIABLES
+
+-- the most structures of an account's starts, messages from the console and commits
+abbrev pub most_nodes : ℕ
+most_nodes = MOST_NODES
+
+-- the most shoens that an account opens
+abbrev pub most_shoens : ℕ
+most_shoens = MOST_SHOENS
+
+-- the most shoens on a path: how deep a shoen can be
+abbrev pub most_shoen_depth : ℕ
+most_shoen_depth = MOST_SHOEN_DEPTH
+
+-- the most reports of an account
+abbrev pub most_reports : ℕ
+most_reports = MOST_REPORTS
+
+-- the most lines of a reply that lists reports
+abbrev pub most_listed : ℕ
+most_listed = MOST_LISTED
+
+-- the greatest allowance of a shoen, in reductions
+abbrev pub most_allowance : ℕ
+most_allowance = MOST_ALLOWANCE
+
+-- the most cells of a list of codes that are spelled as a name
+abbrev pub most_spelled : ℕ
+most_spelled = MOST_SPELLED

@@ -1,11 +1,12 @@
 -- Match and verdict: whether a goal may commit to a clause, may not, or has to wait.
-use Rattle.std.specs.Prelude.{ℕ, suc, ◌+◌, ◌-◌, ◌==◌, nat_le, ◌&&◌, Bool, true, false, if◌then◌else◌, List, [], ◌∷◌, ◌++◌, bytes_eq, Option, Some, None, filter, find, codes}
+use Rattle.std.specs.Prelude.{ℕ, suc, ◌+◌, ◌-◌, ◌==◌, nat_le, not, ◌&&◌, Bool, true, false, if◌then◌else◌, List, [], ◌∷◌, ◌++◌, bytes_eq, Option, Some, None, filter, find, codes}
 use Rattle.std.specs.List.{list_all}
 use Rattle.std.specs.Ordering.{int_eq}
 use Rattle.kl1_model.specs.Term.{Term, variable, integer, atom, structure, Terms, none, more, terms_of, count_of, substituted, Replacement}
 use Rattle.kl1_model.specs.Meaning.{highest_in}
 pub use Rattle.kl1_model.specs.Guard.{Outcome, agrees, clashes, waits, both, decided}
 use Rattle.kl1_model.specs.Guard.{alike, test_of, outcome_by}
+use Rattle.kl1_model.specs.Goal.{is_execute}
 use Rattle.kl1_model.specs.Module.{Clause, Module, is_of}
 
 -- what a match gives: its outcome, and the term at each place of a head's variable, in order
@@ -123,10 +124,10 @@ pub record Call : Type 0 where
   pub name : List ℕ
   pub arguments : Terms
 
--- the call that a goal is, if it is one
+-- the call that a goal is, if it is one; `shoen:execute` with six arguments is none
 abbrev pub call_of : Term → Option Call
 call_of (structure f (more (atom m) (more (atom p) none))) = if bytes_eq f (codes ":") then Some (record { module_name = m; name = p; arguments = none }) else None
-call_of (structure f (more (atom m) (more (structure p ts) none))) = if bytes_eq f (codes ":") then Some (record { module_name = m; name = p; arguments = ts }) else None
+call_of (structure f (more (atom m) (more (structure p ts) none))) = if bytes_eq f (codes ":") && not (is_execute m (structure p ts)) then Some (record { module_name = m; name = p; arguments = ts }) else None
 call_of t = None
 
 -- the module of a name

@@ -1,7 +1,8 @@
 -- Modules and goals as texts mean them, and the line of the first bad item.
-use Rattle.std.specs.Prelude.{ℕ, suc, ◌==◌, nat_lt, not, ◌&&◌, ◌||◌, Bool, true, false, if◌then◌else◌, List, [], ◌∷◌, ◌++◌, length, codes, bytes_eq, Option, Some, None, is_some, is_none, option_map, option_and_then, unwrap_or, map}
+use Rattle.std.specs.Prelude.{ℕ, suc, ◌==◌, nat_le, nat_lt, not, ◌&&◌, ◌||◌, Bool, true, false, if◌then◌else◌, List, [], ◌∷◌, ◌++◌, length, codes, bytes_eq, Option, Some, None, is_some, is_none, option_map, option_and_then, unwrap_or, map}
 use Rattle.std.specs.List.{list_any, list_all}
 pub use Rattle.kl1_model.specs.Limits.{most_clauses}
+use Rattle.kl1_model.specs.Limits.{most_priority}
 use Rattle.kl1_model.specs.declared.sign.Sign.TheVariants.{Neck}
 use Rattle.kl1_model.specs.Term.{Term, atom, Terms, none, list_of, count_of}
 use Rattle.kl1_model.specs.Token.{Token, name_token, sign_token, end_token, Placed, Tokens, tokens_of_text}
@@ -9,7 +10,7 @@ use Rattle.kl1_model.specs.Grammar.{Head, bare_head, head_with, GoalTree, plain_
 use Rattle.kl1_model.specs.Numbering.{numbered_tokens}
 use Rattle.kl1_model.specs.Reader.{expression_tree, clause_tree}
 use Rattle.kl1_model.specs.Meaning.{expression_term, series_terms, head_term, is_writable, variables_of, variables_in}
-use Rattle.kl1_model.specs.Goal.{is_head, is_test, is_goal, body_goal}
+use Rattle.kl1_model.specs.Goal.{is_head, is_test, is_built_in_goal, is_goal, body_goal}
 
 -- a goal of a body, with the name of its module, and the priority that it names, if any
 pub record BodyGoal : Type 0 where
@@ -108,10 +109,19 @@ fit_test vs t = if is_writable t && is_test t && has_only vs t then Some t else 
 abbrev pub without_priority : Term → BodyGoal
 without_priority t = record { goal = t; priority = None }
 
--- a goal of the body, in a module of this name; none may name a priority yet
+-- a goal with a priority
+abbrev pub with_priority : ℕ → Term → BodyGoal
+with_priority n t = record { goal = t; priority = Some n }
+
+-- whether a goal may name this priority: it is none that is built in
+abbrev pub may_name : ℕ → Term → Bool
+may_name n t = not (is_built_in_goal t) && nat_le n most_priority
+
+-- a goal of the body, in a module of this name
 abbrev pub fit_goal : List ℕ → GoalTree → Option BodyGoal
 fit_goal m (plain_goal e) = if is_writable (expression_term e) then option_map without_priority (body_goal m (expression_term e)) else None
-fit_goal m (urgent_goal e quotes n) = None
+fit_goal m (urgent_goal e quotes n) =
+    if is_writable (expression_term e) && may_name n (expression_term e) then option_map (with_priority n) (body_goal m (expression_term e)) else None
 
 -- the goals of a body, as trees
 abbrev pub trees_of : Body → List GoalTree

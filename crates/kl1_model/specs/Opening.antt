@@ -1,13 +1,17 @@
 -- Starting a goal in a shoen of its own, and opening a shoen.
-use Rattle.std.specs.Prelude.{ℕ, suc, ◌+◌, nat_le, ◌&&◌, Bool, false, List, [], ◌∷◌, ◌++◌, length, codes, decimal, Some}
-use Rattle.kl1_model.specs.Limits.{monitor_priority}
-use Rattle.kl1_model.specs.Term.{Term, variable, atom, substituted}
+use Rattle.std.specs.Prelude.{ℕ, suc, ◌+◌, ◌==◌, nat_le, nat_lt, min, max, ◌&&◌, Bool, false, if◌then◌else◌, List, [], ◌∷◌, ◌++◌, length, codes, decimal, Option, Some, None}
+use Rattle.kl1_model.specs.Limits.{monitor_priority, most_goals, most_variables, most_nodes, most_shoens, most_shoen_depth}
+use Rattle.kl1_model.specs.declared.life.Life.TheVariants.{Living}
+use Rattle.kl1_model.specs.Term.{Term, variable, substituted}
 use Rattle.kl1_model.specs.Print.{print}
 use Rattle.kl1_model.specs.Goal.{is_goal}
 use Rattle.kl1_model.specs.Meaning.{highest, is_writable, is_numbered}
-use Rattle.kl1_model.specs.State.{monitor, reduces, Goal, living, Shoen, State, names_of, with_names}
+use Rattle.kl1_model.specs.Nodes.{goal_nodes}
+use Rattle.kl1_model.specs.State.{monitor, reduces, Goal, Shoen, State, shoen_at, names_of, with_names}
+use Rattle.kl1_model.specs.Tree.{depth_of, goals_alive}
+use Rattle.kl1_model.specs.Look.{Order, number_of_term}
 use Rattle.kl1_model.specs.Event.{is_number, is_range, most_line_bytes}
-use Rattle.kl1_model.specs.Report.{report}
+use Rattle.kl1_model.specs.Report.{report, started_report, exhausted_report}
 
 -- the line of a journal for a start
 abbrev pub start_line : ℕ → ℕ → ℕ → Term → List ℕ
@@ -25,15 +29,21 @@ opening_goals last h goal =
     record { number = suc last; task = monitor; shoen = h.number; priority = monitor_priority }
     ∷ record { number = suc (suc last); task = reduces goal; shoen = h.number; priority = h.high } ∷ []
 
--- a shoen that opens for a goal: it and the goal join the account, and it reports that it has started
+-- an account with one more shoen, with its monitor and its goal
+abbrev pub with_shoen : Shoen → Term → State → State
+with_shoen h goal s = record s {
+  goals = s.goals ++ opening_goals s.last_goal h goal;
+  shoens = s.shoens ++ h ∷ [];
+  last_goal = suc (suc s.last_goal);
+  last_shoen = h.number;
+}
+
+-- a shoen that opens for a goal: it and the goal join the account, and it reports that it has started, and after that, where its
+-- allowance is 0, that it is exhausted
 abbrev pub open_shoen : Shoen → Term → State → State
 open_shoen h goal s =
-    report h.number (atom (codes "started")) (record s {
-      goals = s.goals ++ opening_goals s.last_goal h goal;
-      shoens = s.shoens ++ h ∷ [];
-      last_goal = suc (suc s.last_goal);
-      last_shoen = h.number;
-    })
+    let opened = report h.number started_report (with_shoen h goal s) in
+    if h.allowance == 0 then report h.number exhausted_report opened else opened
 
 -- a goal with the account's next variables in place of its own
 abbrev pub with_next_variables : ℕ → Term → Term
@@ -44,7 +54,9 @@ abbrev pub started_shoen : State → ℕ → ℕ → ℕ → Term → Term → T
 started_shoen s allowance low high goal control tail =
     record {
       number = suc s.last_shoen;
-      life = living;
+      parent = 0;
+      life = Living;
+      is_stopped = false;
       allowance = allowance;
       low = low;
       high = high;
@@ -54,6 +66,13 @@ started_shoen s allowance low high goal control tail =
       origin = Some (record { goal = goal; reports = tail; control = control });
     }
 
+-- whether a start stays within the limits on goals, variables, structures and shoens; its variables are those of its goal, and two
+-- tails
+abbrev pub has_room_to_start : State → Term → Bool
+has_room_to_start s t =
+    nat_lt (goals_alive s) most_goals && nat_le (s.variables + suc (suc (highest t))) most_variables
+    && nat_le (s.nodes + goal_nodes t) most_nodes && nat_lt s.last_shoen most_shoens
+
 -- a start: the goal's names are used and its variables take the next numbers, then the control tail, then the report tail;
 -- then the shoen opens
 abbrev pub start_goal : State → ℕ → ℕ → ℕ → Term → State
@@ -61,4 +80,44 @@ start_goal s allowance low high t =
     let goal = with_next_variables s.last_variable t in
     let count = s.last_variable + highest t in
     open_shoen (started_shoen s allowance low high goal (variable (suc count)) (variable (suc (suc count)))) goal
-    (record s { names = with_names s.names (names_of t); last_variable = suc (suc count) })
+    (record s {
+      names = with_names s.names (names_of t);
+      last_variable = suc (suc count);
+      variables = s.variables + suc (suc (highest t));
+      nodes = s.nodes + goal_nodes t;
+    })
+
+-- a number clipped to a range
+abbrev pub clipped : ℕ → ℕ → ℕ → ℕ
+clipped low high n = max low (min n high)
+
+-- a priority clipped to the range of a shoen that may be there
+abbrev pub clipped_to : Option Shoen → ℕ → ℕ
+clipped_to None n = n
+clipped_to (Some h) n = clipped h.low h.high n
+
+-- the child that an order opens in a shoen, with the next number: its range is clipped to that of its parent
+abbrev pub child_shoen : State → ℕ → Order → Shoen
+child_shoen s parent o =
+    let clip = clipped_to (shoen_at parent s.shoens) in
+    record {
+      number = suc s.last_shoen;
+      parent = parent;
+      life = Living;
+      is_stopped = false;
+      allowance = number_of_term o.allowance;
+      low = clip (number_of_term o.low);
+      high = clip (number_of_term o.high);
+      control = o.control;
+      tail = o.reports;
+      is_broken = false;
+      origin = None;
+    }
+
+-- whether a shoen may open a child, within the limits on shoens and depth
+abbrev pub has_room_for_child : State → ℕ → Bool
+has_room_for_child s parent = nat_lt s.last_shoen most_shoens && nat_lt (depth_of s.shoens parent) most_shoen_depth
+
+-- a child opened in a shoen
+abbrev pub open_child : State → ℕ → Order → State
+open_child s parent o = open_shoen (child_shoen s parent o) o.goal s

@@ -1,41 +1,43 @@
 -- Reductions: what a goal can do, and what comes of it.
-use Rattle.std.specs.Prelude.{ℕ, suc, ◌+◌, ◌==◌, if◌then◌else◌, List, [], ◌∷◌, ◌++◌, length, find, codes, bytes_eq, Option, Some, None, option_map}
+use Rattle.std.specs.Prelude.{ℕ, suc, ◌+◌, ◌==◌, nat_le, min, ◌&&◌, Bool, true, false, if◌then◌else◌, List, [], ◌∷◌, ◌++◌, length, map, find, codes, bytes_eq, Option, Some, None, option_map}
+use Rattle.kl1_model.specs.Limits.{most_goals, most_variables, most_nodes, most_names, most_allowance}
 use Rattle.kl1_model.specs.Term.{Term, integer, atom, structure, none, more, Replacement}
 use Rattle.kl1_model.specs.declared.number.Number.{Number}
 use Rattle.kl1_model.specs.declared.number.Number.TheVariants.{Value, Overflow, ZeroDivisor}
+use Rattle.kl1_model.specs.declared.message.Message.{Message}
+use Rattle.kl1_model.specs.declared.message.Message.TheVariants.{Stop, Start, Abort, Allow}
 use Rattle.kl1_model.specs.Arithmetic.{Evaluated, comes_to, awaits, is_no_expression, evaluated}
 use Rattle.kl1_model.specs.Unify.{Equation, solve}
-use Rattle.kl1_model.specs.Module.{Module}
+use Rattle.kl1_model.specs.Goal.{is_execute}
+use Rattle.kl1_model.specs.Nodes.{goals_nodes}
+use Rattle.kl1_model.specs.Module.{Clause, goals_of, Module}
 use Rattle.kl1_model.specs.Match.{Call, call_of, Candidate, candidates_of, fails}
-use Rattle.kl1_model.specs.Instance.{body_instance, fresh_variables}
-use Rattle.kl1_model.specs.State.{Task, monitor, reduces, Goal, State, replace_all, without_goal}
+use Rattle.kl1_model.specs.Instance.{body_instance, body_priorities, fresh_variables}
+use Rattle.kl1_model.specs.Look.{Spelling, spelled, awaits_code, misspelled, spelling, most_spelled, Look, right, waits_on, wrong, Order, order_look}
+use Rattle.kl1_model.specs.Control.{Control, awaits_message, tells, tells_other, ends, breaks_off, control_of}
+use Rattle.kl1_model.specs.State.{Task, monitor, reduces, Goal, Shoen, State, shoen_at, replace_all, change_shoen, without_goal, with_name}
+use Rattle.kl1_model.specs.Tree.{goals_alive, charge, is_enabled}
 use Rattle.kl1_model.specs.Event.{step_refused, reduced, Stepped, refuse, with_entry, recorded}
-use Rattle.kl1_model.specs.Report.{report, exception, settle}
+pub use Rattle.kl1_model.specs.Report.{failure, overflow, illegal_input, exhaustion}
+use Rattle.kl1_model.specs.Report.{report, exception, stopped_report, resumed_report}
+use Rattle.kl1_model.specs.Ending.{without_monitor, settle, settle_charged, abort}
+use Rattle.kl1_model.specs.Opening.{clipped_to, has_room_for_child, open_child}
 
--- what a goal can do: commit to a clause, raise an exception of a kind, unify two terms, or nothing but go
+-- what a term can do as a goal: commit to a clause, raise an exception of a kind, unify two terms, use a text as a name and unify a
+-- term with it, open a shoen, or nothing but go
 pub data Move : Type 0 where
   commits : Candidate → Move
   raises : List ℕ → Move
   unifies : Term → Term → Move
+  names : List ℕ → Term → Move
+  opens : Order → Move
   goes : Move
-
--- the kind of exception of a goal that fails and of a unification that does
-abbrev pub failure : List ℕ
-failure = codes "failure"
 
 -- what a call can do by the clause of a number: commit to a candidate, or by 0 fail where each clause rejects it
 abbrev pub call_move : List Module → Call → ℕ → Option Move
 call_move modules call clause =
     if clause == 0 then (if fails modules call then Some (raises failure) else None)
     else option_map (λ k. commits k) (find (λ k. k.number == clause) (candidates_of modules call))
-
--- the kind of exception of a result outside 64 bits
-abbrev pub overflow : List ℕ
-overflow = codes "overflow"
-
--- the kind of exception of a wrong type and of a zero divisor
-abbrev pub illegal_input : List ℕ
-illegal_input = codes "illegal_input"
 
 -- what comes of a term that becomes a number
 abbrev pub becomes : Term → Number → Move
@@ -49,9 +51,41 @@ assigned a (comes_to n) = Some (becomes a n)
 assigned a (awaits v) = None
 assigned a is_no_expression = Some (raises illegal_input)
 
+-- what comes of a term that becomes the name that codes spell; it waits while the codes do
+abbrev pub spells : Term → Spelling → Option Move
+spells a (spelled text) = Some (names text a)
+spells a (awaits_code v) = None
+spells a misspelled = Some (raises illegal_input)
+
+-- what comes of an order for a new shoen by the look at it; it waits while an argument does
+abbrev pub ordered : Order → Look → Option Move
+ordered o right = Some (opens o)
+ordered o (waits_on v) = None
+ordered o wrong = Some (raises illegal_input)
+
+-- the order that the arguments of `shoen:execute` are
+abbrev pub order_of : Term → Option Order
+order_of (structure p (more g (more l (more h (more n (more c (more r none))))))) = Some (record { goal = g; low = l; high = h; allowance = n; control = c; reports = r })
+order_of t = None
+
+-- what comes of an order that may be there
+abbrev pub order_move : Option Order → Option Move
+order_move None = None
+order_move (Some o) = ordered o (order_look o)
+
+-- what a goal of the module of a name does, where it is `shoen:execute` with six arguments
+abbrev pub execute_move : Term → Term → Option Move
+execute_move (atom m) b = if is_execute m b then order_move (order_of b) else None
+execute_move a b = None
+
 -- what a built-in goal of two terms does
 abbrev pub pair_move : List ℕ → Term → Term → Option Move
-pair_move f a b = if bytes_eq f (codes "=") then Some (unifies a b) else if bytes_eq f (codes ":=") then assigned a (evaluated b) else None
+pair_move f a b =
+    if bytes_eq f (codes "=") then Some (unifies a b)
+    else if bytes_eq f (codes ":=") then assigned a (evaluated b)
+    else if bytes_eq f (codes "atom_from") then spells b (spelling most_spelled a)
+    else if bytes_eq f (codes ":") then execute_move a b
+    else None
 
 -- what a built-in goal does
 abbrev pub built_in_move : Term → Option Move
@@ -64,28 +98,60 @@ abbrev pub term_move : List Module → Term → ℕ → Option Call → Option M
 term_move modules t clause None = if clause == 0 then built_in_move t else None
 term_move modules t clause (Some call) = call_move modules call clause
 
--- what a task can do by the clause of a number; a monitor waits, as nothing is ever sent to it
-abbrev pub task_move : State → Task → ℕ → Option Move
-task_move s monitor clause = None
-task_move s (reduces t) clause = term_move s.modules t clause (call_of t)
+-- what a goal does in one step: the move of a term, or what a monitor reads
+pub data Action : Type 0 where
+  moves : Term → Move → Action
+  reads : Control → Action
+
+-- what a monitor reads, where it doesn't wait
+abbrev pub read_action : Control → Option Action
+read_action (awaits_message v) = None
+read_action (tells m rest) = Some (reads (tells m rest))
+read_action (tells_other m rest) = Some (reads (tells_other m rest))
+read_action ends = Some (reads ends)
+read_action (breaks_off t) = Some (reads (breaks_off t))
+
+-- what the monitor of a shoen that may be there can do, which takes 0 alone
+abbrev pub monitor_action : Option Shoen → ℕ → Option Action
+monitor_action None clause = None
+monitor_action (Some h) clause = if clause == 0 then read_action (control_of h.control) else None
+
+-- what a goal of a shoen can do by its task and the clause of a number
+abbrev pub task_action : State → ℕ → Task → ℕ → Option Action
+task_action s shoen monitor clause = monitor_action (shoen_at shoen s.shoens) clause
+task_action s shoen (reduces t) clause = option_map (moves t) (term_move s.modules t clause (call_of t))
 
 -- what a goal can do by the clause of a number, or nothing where that isn't allowed
-abbrev pub move_of : State → Goal → ℕ → Option Move
-move_of s g clause = task_move s g.task clause
+abbrev pub action_of : State → Goal → ℕ → Option Action
+action_of s g clause = if is_enabled s g then task_action s g.shoen g.task clause else None
 
--- goals with the next numbers, in a shoen, with a priority
-abbrev pub goals_from : ℕ → ℕ → ℕ → List Term → List Goal
-goals_from last shoen priority [] = []
-goals_from last shoen priority (t ∷ ts) = record { number = suc last; task = reduces t; shoen = shoen; priority = priority } ∷ goals_from (suc last) shoen priority ts
+-- the priority of a body's goal: that of the goal that commits, or the one that is named, clipped to the range of the shoen
+abbrev pub priority_of : Option Shoen → ℕ → Option ℕ → ℕ
+priority_of h own None = own
+priority_of h own (Some n) = clipped_to h n
+
+-- goals with the next numbers, in a shoen, each with its priority
+abbrev pub goals_from : ℕ → ℕ → List ℕ → List Term → List Goal
+goals_from last shoen priorities [] = []
+goals_from last shoen [] (t ∷ ts) = []
+goals_from last shoen (p ∷ ps) (t ∷ ts) = record { number = suc last; task = reduces t; shoen = shoen; priority = p } ∷ goals_from (suc last) shoen ps ts
+
+-- whether the body of a clause keeps to the limits on goals, variables and structures, in place of a goal that has been removed
+abbrev pub has_room_for : State → Clause → Bool
+has_room_for s c =
+    nat_le (goals_alive s + length c.body) most_goals && nat_le (s.variables + fresh_variables c) most_variables
+    && nat_le (s.nodes + goals_nodes (goals_of c.body)) most_nodes
 
 -- a goal's place taken by the body of a clause
 abbrev pub committed : Goal → Candidate → State → State
 committed g k s =
     let body = body_instance k.clause k.places s.last_variable in
     record s {
-      goals = s.goals ++ goals_from s.last_goal g.shoen g.priority body;
+      goals = s.goals ++ goals_from s.last_goal g.shoen (map (priority_of (shoen_at g.shoen s.shoens) g.priority) (body_priorities k.clause)) body;
       last_variable = s.last_variable + fresh_variables k.clause;
       last_goal = s.last_goal + length body;
+      variables = s.variables + fresh_variables k.clause;
+      nodes = s.nodes + goals_nodes (goals_of k.clause.body);
     }
 
 -- what a unification does: its replacements everywhere, or an exception
@@ -97,24 +163,69 @@ unified n goal (Some rs) s = replace_all rs s
 abbrev pub equation : Term → Term → List Equation
 equation a b = record { left = a; right = b } ∷ []
 
+-- an effect that keeps to a limit, as a test tells, or the exception of a goal by which the limit would be passed
+abbrev pub or_exhaustion : Bool → ℕ → Term → State → State → State
+or_exhaustion true n goal after s = after
+or_exhaustion false n goal after s = report n (exception exhaustion goal) s
+
+-- a text used as a name, which stays used where the unification with a term fails
+abbrev pub named_by : ℕ → Term → List ℕ → Term → State → State
+named_by n goal text a s = unified n goal (solve (equation a (atom text))) (record s { names = with_name s.names text })
+
 -- the effect of a move of a goal that has been removed
 abbrev pub moved : Goal → Term → Move → State → State
-moved g t (commits k) s = committed g k s
+moved g t (commits k) s = or_exhaustion (has_room_for s k.clause) g.shoen t (committed g k s) s
 moved g t (raises kind) s = report g.shoen (exception kind t) s
 moved g t (unifies a b) s = unified g.shoen t (solve (equation a b)) s
+moved g t (names text a) s = or_exhaustion (nat_le (length (with_name s.names text)) most_names) g.shoen t (named_by g.shoen t text a s) s
+moved g t (opens o) s = or_exhaustion (has_room_for_child s g.shoen) g.shoen t (open_child s g.shoen o) s
 moved g t goes s = s
 
--- the effect of a move by the goal's task
-abbrev pub effect_of : Goal → Task → Move → State → State
-effect_of g monitor m s = s
-effect_of g (reduces t) m s = moved g t m s
+-- a shoen stopped, and a report of it where it wasn't
+abbrev pub stopped_of : Option Shoen → ℕ → State → State
+stopped_of None n s = s
+stopped_of (Some h) n s = if h.is_stopped then s else report n stopped_report (change_shoen n (λ h. record h { is_stopped = true }) s)
 
--- a reduction, where it is allowed: the goal is removed, its move done, and its shoen terminates if it has no goal left
-abbrev pub reduced_by : State → Goal → Option Move → Stepped
+-- a shoen stopped no longer, and a report of it where it was
+abbrev pub resumed_of : Option Shoen → ℕ → State → State
+resumed_of None n s = s
+resumed_of (Some h) n s = if h.is_stopped then report n resumed_report (change_shoen n (λ h. record h { is_stopped = false }) s) else s
+
+-- a shoen whose allowance grows by so much, up to the greatest there is
+abbrev pub allowed_more : ℕ → Shoen → Shoen
+allowed_more extra h = record h { allowance = min (h.allowance + extra) most_allowance }
+
+-- the effect of a message to a shoen
+abbrev pub obeyed : ℕ → Message → State → State
+obeyed n Stop s = stopped_of (shoen_at n s.shoens) n s
+obeyed n Start s = resumed_of (shoen_at n s.shoens) n s
+obeyed n Abort s = abort n s
+obeyed n (Allow extra) s = change_shoen n (allowed_more extra) s
+
+-- a shoen whose monitor goes on with this control stream
+abbrev pub with_control : ℕ → Term → State → State
+with_control n rest s = change_shoen n (λ h. record h { control = rest }) s
+
+-- the effect of what the monitor of a shoen reads
+abbrev pub heard : ℕ → Control → State → State
+heard n (awaits_message v) s = s
+heard n (tells m rest) s = obeyed n m (with_control n rest s)
+heard n (tells_other m rest) s = report n (exception illegal_input m) (with_control n rest s)
+heard n ends s = without_monitor n s
+heard n (breaks_off t) s = report n (exception illegal_input t) (without_monitor n s)
+
+-- an account after what a goal does in one step: a goal that makes a move is removed, and its shoen charged; what a monitor reads
+-- charges nobody, and only terminations come after it
+abbrev pub acted : Goal → Action → State → State
+acted g (moves t m) s = settle_charged g.shoen (moved g t m (charge g.shoen (without_goal g.number s)))
+acted g (reads c) s = settle g.shoen (heard g.shoen c s)
+
+-- a reduction, where it is allowed
+abbrev pub reduced_by : State → Goal → Option Action → Stepped
 reduced_by s g None = refuse s step_refused
-reduced_by s g (Some m) = recorded s (record { state = settle g.shoen (effect_of g g.task m (without_goal g.number (with_entry s))); reply = reduced })
+reduced_by s g (Some a) = recorded s (record { state = acted g a (with_entry s); reply = reduced })
 
 -- a reduction of a goal that may be there
 abbrev pub reduce_goal : State → ℕ → Option Goal → Stepped
 reduce_goal s clause None = refuse s step_refused
-reduce_goal s clause (Some g) = reduced_by s g (move_of s g clause)
+reduce_goal s clause (Some g) = reduced_by s g (action_of s g clause)

@@ -1,21 +1,22 @@
--- Reports of a shoen, and its end.
-use Rattle.std.specs.Prelude.{ℕ, suc, ◌==◌, not, ◌&&◌, Bool, true, if◌then◌else◌, List, filter, codes, Option, Some, None}
-use Rattle.std.specs.List.{list_any}
+-- Reports of a shoen, and the end of its report stream.
+use Rattle.std.specs.Prelude.{ℕ, suc, nat_lt, not, ◌||◌, true, if◌then◌else◌, List, [], ◌∷◌, codes, Option, Some, None}
+use Rattle.kl1_model.specs.Limits.{most_reports}
 use Rattle.kl1_model.specs.Term.{Term, variable, atom, occurs}
 use Rattle.kl1_model.specs.Meaning.{pair, nil, cell}
-use Rattle.kl1_model.specs.State.{terminated, Shoen, State, shoen_at, replace_in_state, change_shoen, is_monitor, is_living}
+use Rattle.kl1_model.specs.State.{Shoen, State, shoen_at, replace_in_state, change_shoen}
 
 -- the report stream of a shoen broken
 abbrev pub broken_at : ℕ → State → State
 broken_at n s = change_shoen n (λ h. record h { is_broken = true }) s
 
--- a report on an unbroken stream with this tail: the tail becomes a cell of the message and the next variable;
--- where the tail is no variable, or stands in the message, the stream is broken from now on
+-- a report on an unbroken stream with this tail: the tail becomes a cell of the message and the next variable, and the account has
+-- made one report more; where the tail is no variable, or stands in the message, or the account has made its last report, the
+-- stream is broken from now on
 abbrev pub reported_at : ℕ → Term → Term → State → State
 reported_at n message (variable v) s =
     let next = suc s.last_variable in
-    if occurs v message then broken_at n s
-    else change_shoen n (λ h. record h { tail = variable next }) (record (replace_in_state v (cell message (variable next)) s) { last_variable = next })
+    if occurs v message || not (nat_lt s.reports most_reports) then broken_at n s
+    else change_shoen n (λ h. record h { tail = variable next }) (record (replace_in_state v (cell message (variable next)) s) { last_variable = next; reports = suc s.reports })
 reported_at n message t s = broken_at n s
 
 -- a report of a shoen; on a broken stream it is dropped
@@ -26,6 +27,11 @@ report_of (Some h) n message s = if h.is_broken then s else reported_at n messag
 -- a report of the shoen of a number
 abbrev pub report : ℕ → Term → State → State
 report n message s = report_of (shoen_at n s.shoens) n message s
+
+-- the same report of each of these shoens, in order
+abbrev pub report_each : List ℕ → Term → State → State
+report_each [] message s = s
+report_each (n ∷ ns) message s = report_each ns message (report n message s)
 
 -- the end of a report stream: an unbound tail becomes the empty list, where the stream isn't broken
 abbrev pub closed_at : Term → State → State
@@ -45,23 +51,42 @@ close n s = close_of (shoen_at n s.shoens) s
 abbrev pub exception : List ℕ → Term → Term
 exception kind goal = pair (codes "exception") (atom kind) goal
 
--- whether a shoen has a goal other than its monitor
-abbrev pub has_goal : ℕ → State → Bool
-has_goal n s = list_any (λ g. g.shoen == n && not (is_monitor g.task)) s.goals
+-- the kind of exception of a goal that fails and of a unification that does
+abbrev pub failure : List ℕ
+failure = codes "failure"
 
--- without the monitor of a shoen
-abbrev pub without_monitor : ℕ → State → State
-without_monitor n s = record s { goals = filter (λ g. not (g.shoen == n && is_monitor g.task)) s.goals }
+-- the kind of exception of a result outside 64 bits
+abbrev pub overflow : List ℕ
+overflow = codes "overflow"
 
--- a shoen ended as terminated: its monitor is gone, it reports that, and closes its stream
-abbrev pub terminate : ℕ → State → State
-terminate n s = close n (report n (atom (codes "terminated")) (without_monitor n (change_shoen n (λ h. record h { life = terminated }) s)))
+-- the kind of exception of a wrong type, of a zero divisor and of a bad control message
+abbrev pub illegal_input : List ℕ
+illegal_input = codes "illegal_input"
 
--- a shoen that may be there looked at after a reduction
-abbrev pub settle_of : Option Shoen → ℕ → State → State
-settle_of None n s = s
-settle_of (Some h) n s = if is_living h.life && not (has_goal n s) then terminate n s else s
+-- the kind of exception of a goal by which a limit would be passed
+abbrev pub exhaustion : List ℕ
+exhaustion = codes "exhaustion"
 
--- a shoen that lives and has no goal left terminates
-abbrev pub settle : ℕ → State → State
-settle n s = settle_of (shoen_at n s.shoens) n s
+-- the report of a shoen that opens
+abbrev pub started_report : Term
+started_report = atom (codes "started")
+
+-- the report of a shoen that is stopped
+abbrev pub stopped_report : Term
+stopped_report = atom (codes "stopped")
+
+-- the report of a shoen that is stopped no longer
+abbrev pub resumed_report : Term
+resumed_report = atom (codes "resumed")
+
+-- the report of a shoen that has reached its allowance
+abbrev pub exhausted_report : Term
+exhausted_report = atom (codes "exhausted")
+
+-- the report of a shoen that has no goal and no living child left
+abbrev pub terminated_report : Term
+terminated_report = atom (codes "terminated")
+
+-- the report of a shoen that is aborted
+abbrev pub aborted_report : Term
+aborted_report = atom (codes "aborted")

@@ -1,6 +1,8 @@
 -- The state of an account.
 use Rattle.std.specs.Prelude.{ℕ, ◌==◌, not, ◌||◌, Bool, true, false, if◌then◌else◌, List, [], ◌∷◌, ◌++◌, map, filter, find, bytes_eq, Option, option_map}
 use Rattle.std.specs.List.{list_any}
+use Rattle.kl1_model.specs.declared.life.Life.{Life}
+use Rattle.kl1_model.specs.declared.life.Life.TheVariants.{Living, Terminated, Aborted}
 use Rattle.kl1_model.specs.Text.{is_built_in}
 use Rattle.kl1_model.specs.Term.{Term, variable, integer, atom, structure, Terms, none, more, terms_of, replace, Replacement}
 use Rattle.kl1_model.specs.Module.{Clause, goals_of, Module}
@@ -17,11 +19,6 @@ pub record Goal : Type 0 where
   pub shoen : ℕ
   pub priority : ℕ
 
--- whether a shoen lives or has ended
-pub data Life : Type 0 where
-  living : Life
-  terminated : Life
-
 -- what the console keeps of a shoen that it started: the goal as started, the report stream from its beginning,
 -- and the tail of the control stream
 pub record Origin : Type 0 where
@@ -29,11 +26,14 @@ pub record Origin : Type 0 where
   pub reports : Term
   pub control : Term
 
--- a shoen: its number, whether it lives, the reductions that it may be charged, its priorities from low to high,
--- what is left of its control stream, the tail of its report stream, whether that stream is broken, and its origin at the console
+-- a shoen: its number; the number of its parent, 0 where the console started it; whether it lives, or how it ended, and whether
+-- it is stopped; the reductions that it may be charged; its priorities from low to high; what is left of its control stream, the
+-- tail of its report stream, whether that stream is broken, and its origin at the console
 pub record Shoen : Type 0 where
   pub number : ℕ
+  pub parent : ℕ
   pub life : Life
+  pub is_stopped : Bool
   pub allowance : ℕ
   pub low : ℕ
   pub high : ℕ
@@ -42,22 +42,44 @@ pub record Shoen : Type 0 where
   pub is_broken : Bool
   pub origin : Option Origin
 
--- an account: its own name; its goals, shoens and modules, each by number or in order of loading; the names it has used,
--- in order of first use; the last number of a variable, a goal and a shoen; and how many entries its journal has
+-- an account: its own name; its goals, shoens and modules, each by number or in order of loading; for each reduction that was
+-- charged, the number of its goal's shoen; the names it has used, in order of first use; the last number of a variable, a goal and
+-- a shoen; how many variables and structures its starts, messages from the console and commits had, how many reports it made, how
+-- many entries its journal has, and how many sessions are open
 pub record State : Type 0 where
   pub own_name : List ℕ
   pub goals : List Goal
   pub shoens : List Shoen
+  pub work : List ℕ
   pub modules : List Module
   pub names : List (List ℕ)
   pub last_variable : ℕ
   pub last_goal : ℕ
   pub last_shoen : ℕ
+  pub variables : ℕ
+  pub nodes : ℕ
+  pub reports : ℕ
   pub entries : ℕ
+  pub sessions : ℕ
 
 -- an account of this name in which nothing has happened
 abbrev pub fresh : List ℕ → State
-fresh name = record { own_name = name; goals = []; shoens = []; modules = []; names = []; last_variable = 0; last_goal = 0; last_shoen = 0; entries = 0 }
+fresh name = record {
+  own_name = name;
+  goals = [];
+  shoens = [];
+  work = [];
+  modules = [];
+  names = [];
+  last_variable = 0;
+  last_goal = 0;
+  last_shoen = 0;
+  variables = 0;
+  nodes = 0;
+  reports = 0;
+  entries = 0;
+  sessions = 0;
+}
 
 -- the goal of a number
 abbrev pub goal_at : ℕ → List Goal → Option Goal
@@ -142,5 +164,6 @@ is_monitor (reduces t) = false
 
 -- whether a shoen lives
 abbrev pub is_living : Life → Bool
-is_living living = true
-is_living terminated = false
+is_living Living = true
+is_living Terminated = false
+is_living Aborted = false

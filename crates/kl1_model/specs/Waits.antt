@@ -5,7 +5,9 @@ use Rattle.kl1_model.specs.Term.{Term, variable, atom, structure, Terms, none, m
 use Rattle.kl1_model.specs.Module.{Clause, Module}
 use Rattle.kl1_model.specs.Match.{Verdict, accepts, rejects, suspends, verdict, Call, call_of, clauses_of}
 use Rattle.kl1_model.specs.Arithmetic.{Evaluated, comes_to, awaits, is_no_expression, evaluated}
-use Rattle.kl1_model.specs.Reduction.{Move, term_move}
+use Rattle.kl1_model.specs.Goal.{is_execute}
+use Rattle.kl1_model.specs.Look.{Spelling, spelled, awaits_code, misspelled, spelling, most_spelled, Look, right, waits_on, wrong, Order, order_look}
+use Rattle.kl1_model.specs.Reduction.{Move, order_of, term_move}
 use Rattle.kl1_model.specs.Choice.{call_clauses}
 
 -- what a term can do by the clause of a number
@@ -82,9 +84,39 @@ awaited_by_evaluated (comes_to n) = []
 awaited_by_evaluated (awaits v) = v ∷ []
 awaited_by_evaluated is_no_expression = []
 
+-- the variable that a list of codes waits for
+abbrev pub awaited_by_spelling : Spelling → List ℕ
+awaited_by_spelling (spelled text) = []
+awaited_by_spelling (awaits_code v) = v ∷ []
+awaited_by_spelling misspelled = []
+
+-- the variable that a look at arguments waits for
+abbrev pub awaited_by_look : Look → List ℕ
+awaited_by_look right = []
+awaited_by_look (waits_on v) = v ∷ []
+awaited_by_look wrong = []
+
+-- the variable that an order that may be there waits for
+abbrev pub awaited_by_order : Option Order → List ℕ
+awaited_by_order None = []
+awaited_by_order (Some o) = awaited_by_look (order_look o)
+
+-- the variable that a goal of the module of a name waits for, where it is `shoen:execute` with six arguments
+abbrev pub awaited_by_execute : Term → Term → List ℕ
+awaited_by_execute (atom m) b = if is_execute m b then awaited_by_order (order_of b) else []
+awaited_by_execute a b = []
+
+-- the variables that a built-in goal of two terms waits for
+abbrev pub awaited_by_pair : List ℕ → Term → Term → List ℕ
+awaited_by_pair f a b =
+    if bytes_eq f (codes ":=") then awaited_by_evaluated (evaluated b)
+    else if bytes_eq f (codes "atom_from") then awaited_by_spelling (spelling most_spelled a)
+    else if bytes_eq f (codes ":") then awaited_by_execute a b
+    else []
+
 -- the variables that a term waits for as a built-in goal
 abbrev pub awaited_by_built_in : Term → List ℕ
-awaited_by_built_in (structure f (more a (more b none))) = if bytes_eq f (codes ":=") then awaited_by_evaluated (evaluated b) else []
+awaited_by_built_in (structure f (more a (more b none))) = awaited_by_pair f a b
 awaited_by_built_in t = []
 
 -- the variables that a term waits for as a goal

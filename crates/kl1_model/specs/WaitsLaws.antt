@@ -5,6 +5,7 @@ use Rattle.kl1_model.specs.Term.{Term, Terms, substituted, each_substituted, Rep
 use Rattle.kl1_model.specs.Meaning.{variables_in}
 use Rattle.kl1_model.specs.Module.{Clause, Module, has_only}
 use Rattle.kl1_model.specs.Match.{accepts, rejects, suspends, is_rejected, verdict, Candidate, candidate_by, candidates_from, Call, call_of}
+use Rattle.kl1_model.specs.Control.{Control, awaits_message, tells, tells_other, ends, breaks_off, control_of, awaited_by_control}
 use Rattle.kl1_model.specs.Waits.{LeavesEach, least_clause, awaited_by_clauses, awaited_at_head, awaited_by_term, term_clause}
 
 -- a place after a substitution
@@ -78,3 +79,15 @@ abbrev pub TermStays : Type 0
 TermStays =
     (modules : List Module) (s : ℕ → Term) (t : Term) → LeavesEach s (awaited_by_term modules t) →
     (term_clause modules (substituted s t) ≡ term_clause modules t) × (awaited_by_term modules (substituted s t) ≡ awaited_by_term modules t)
+
+-- what stands at the front of a control stream, after a substitution
+abbrev pub control_substituted : (ℕ → Term) → Control → Control
+control_substituted s (awaits_message v) = awaits_message v
+control_substituted s (tells m rest) = tells m (substituted s rest)
+control_substituted s (tells_other m rest) = tells_other (substituted s m) (substituted s rest)
+control_substituted s ends = ends
+control_substituted s (breaks_off t) = breaks_off (substituted s t)
+
+-- what a monitor reads stays, but for the rest of the stream, until the variable that it waits for is replaced
+abbrev pub ControlStays : Type 0
+ControlStays = (s : ℕ → Term) (t : Term) → LeavesEach s (awaited_by_control (control_of t)) → control_of (substituted s t) ≡ control_substituted s (control_of t)

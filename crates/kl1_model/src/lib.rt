@@ -3,8 +3,11 @@
 
 mod built_in;
 mod comparison;
+mod condition;
 mod inspection;
+mod life;
 pub mod limits;
+mod message;
 mod number;
 mod operator;
 mod pair_form;
@@ -13,7 +16,10 @@ mod sign;
 
 pub use built_in::BuiltIn;
 pub use comparison::Comparison;
+pub use condition::Condition;
 pub use inspection::Inspection;
+pub use life::Life;
+pub use message::Message;
 pub use number::Number;
 pub use operator::Operator;
 pub use pair_form::PairForm;

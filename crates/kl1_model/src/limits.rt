@@ -65,3 +65,33 @@ pub const MOST_NAMES: usize = 1_024;
 
 /// The buckets of a table of names, for each account.
 pub const BUCKETS_EACH: u64 = 2_048;
+
+/// The most modules of an account.
+pub const MOST_MODULES: usize = 32;
+
+/// The most goals of an account at one time; monitors don't count.
+pub const MOST_GOALS: u64 = 8_192;
+
+/// The most variables of an account's starts, messages from the console and commits.
+pub const MOST_VARIABLES: u64 = 262_144;
+
+/// The most structures of an account's starts, messages from the console and commits.
+pub const MOST_NODES: u64 = 1_048_576;
+
+/// The most shoens that an account opens.
+pub const MOST_SHOENS: u64 = 1_024;
+
+/// The most shoens on a path: how deep a shoen can be.
+pub const MOST_SHOEN_DEPTH: usize = 32;
+
+/// The most reports of an account.
+pub const MOST_REPORTS: u64 = 65_536;
+
+/// The most lines of a reply that lists reports.
+pub const MOST_LISTED: usize = 64;
+
+/// The greatest allowance of a shoen, in reductions.
+pub const MOST_ALLOWANCE: u64 = (1 << 63) - 1;
+
+/// The most cells of a list of codes that are spelled as a name.
+pub const MOST_SPELLED: usize = 63;

@@ -1,12 +1,13 @@
 -- Which goals are calls.
-use Rattle.std.specs.Prelude.{◌≡◌, ℕ, List, [], ◌∷◌, Option, Some, None}
+use Rattle.std.specs.Prelude.{◌≡◌, ℕ, ◌==◌, ◌&&◌, Bool, List, [], ◌∷◌, length, codes, bytes_eq, Option, Some, None}
 use Rattle.kl1_model.specs.Term.{Term, variable, integer, atom, structure, Terms, none, more, count_of}
 use Rattle.kl1_model.specs.Match as model
 use Rattle.kl1_model.specs.Match.{call_of}
-use Rattle.kl1_model.specs.Waits.{awaited_in_call}
+use Rattle.kl1_model.specs.Reduction.{execute_move}
+use Rattle.kl1_model.specs.Waits.{awaited_in_call, awaited_by_execute}
 use Rattle.kl1_store.specs.declared.cell.Cell.{Cell}
 use Rattle.kl1_store.specs.declared.cell.Cell.TheVariants.{Atom, Structure}
-use Rattle.kl1_store.specs.Held.{Held, IsIn}
+use Rattle.kl1_store.specs.Held.{Held, IsIn, arguments_of}
 use Rattle.kl1_store.specs.Meaning.{term_of}
 use Rattle.kl1_match.specs.Verdicts.{arguments_of_goal}
 use Rattle.kl1_moves.specs.declared.call.Call.{Call}
@@ -76,15 +77,30 @@ pub record Calls {N : Type 0} (f : N → List ℕ) (h : Held N) (left right : Te
 pub record CallsNothing (left right : Term) (vs : List ℕ) : Type 0 where
   pub call : (f : List ℕ) → call_of (structure f (more left (more right none))) ≡ None
   pub awaits : awaited_in_call left right ≡ vs
+  pub executes : execute_move left right ≡ None
+  pub executing : awaited_by_execute left right ≡ []
+
+-- what two terms are as a module's name and a goal in it
+abbrev pub CalledBetween : {N : Type 0} → (N → List ℕ) → Held N → Term → Term → Callee N → Type 0
+CalledBetween f h left right (callee.Calls c) = Calls f h left right c
+CalledBetween f h left right (callee.Waits v) = CallsNothing left right (v ∷ [])
+CalledBetween f h left right callee.Nothing = CallsNothing left right []
 
 -- what two cells are as a module's name and a goal in it
 abbrev pub CalledAs : {N : Type 0} → (N → List ℕ) → Held N → Cell N → Cell N → Callee N → Type 0
-CalledAs f h left right (callee.Calls c) = Calls f h (term_of f h left) (term_of f h right) c
-CalledAs f h left right (callee.Waits v) = CallsNothing (term_of f h left) (term_of f h right) (v ∷ [])
-CalledAs f h left right callee.Nothing = CallsNothing (term_of f h left) (term_of f h right) []
+CalledAs f h left right r = CalledBetween f h (term_of f h left) (term_of f h right) r
 
--- the goal of a call is of the store, and a variable is unbound
+-- so many arguments has the goal of a call, which is an atom or a structure
+abbrev pub IsCounted : {N : Type 0} → Held N → ℕ → Option ℕ → Type 0
+IsCounted h count None = count ≡ 0
+IsCounted h count (Some s) = count ≡ length (arguments_of h s)
+
+-- whether a call is of `shoen:execute` with six arguments
+abbrev pub is_order : {N : Type 0} → (N → List ℕ) → Call N → Bool
+is_order f c = bytes_eq (f c.module_name) (codes "shoen") && (bytes_eq (f c.name) (codes "execute") && c.count == 6)
+
+-- the goal of a call is of the store and has so many arguments, and a variable is unbound
 abbrev pub CalledInside : {N : Type 0} → Held N → Callee N → Type 0
-CalledInside h (callee.Calls c) = IsIn h (cell_of c)
+CalledInside h (callee.Calls c) = IsIn h (cell_of c) × IsCounted h c.count c.structure
 CalledInside h (callee.Waits v) = IsUnbound h v
 CalledInside h callee.Nothing = Unit {0}

@@ -1,8 +1,13 @@
 pub mod Shapes
+pub mod Tops
+pub mod Looks
+pub mod Orders
+pub mod Spellings
 pub mod Calls
 pub mod Kinds
 pub mod Moves
 pub mod Assigning
+pub mod Opening
 pub mod Standing
 pub mod Bodies
 pub mod Hanging

@@ -1,6 +1,6 @@
 // The goals of a clause that a goal commits to.
 
-ghost use Rattle.std.specs.Prelude.{◌≡◌, ℕ, ◌<◌, List, length, OnOk, slice_index_or};
+ghost use Rattle.std.specs.Prelude.{◌≡◌, ℕ, ◌<◌, List, length, OnOk};
 ghost use Rattle.kl1_model.specs.Match.{Candidate};
 ghost use Rattle.kl1_text.specs.Reading.{Reads};
 ghost use Rattle.kl1_store.specs.InModules.{AreQualifiedIn};
@@ -10,20 +10,13 @@ ghost use Rattle.kl1_match.specs.Instances.{AreThere};
 ghost use Rattle.kl1_moves.specs.Moves.{taken_places, IsCandidate};
 ghost use Rattle.kl1_moves.specs.Bodies.{IsBody};
 
+use crate::needs::nth;
 use crate::trial::Trial;
-use kl1_clause::{CompiledClause, Predicate};
+use kl1_clause::Predicate;
 use kl1_match::{put_instance, put_kept_instance};
 use kl1_store::{Qualified, Store};
 use kl1_text::NameValue;
 use std::alloc::AllocError;
-
-/// The clause at a place, from 0.
-fn nth(clauses: &[CompiledClause], place: usize) -> &CompiledClause
-    requires { place < length clauses.now }
-    ensures { result.now ≡ slice_index_or clauses.now place result.now }
-{
-    &clauses[place]
-}
 
 /// Puts in place of `goals` those of the body of the clause at a place of a predicate, with the terms at the trial's places in
 /// them, as a move that commits leaves them. Other variables are the next of the store, and no variable is bound. Where memory

@@ -14,6 +14,9 @@ ghost use Rattle.kl1_moves.specs.Moves.{taken_places, HasPredicate, MoveIn, Fail
 use crate::assigning::assigned;
 use crate::call::Call;
 use crate::kind::Kind;
+use crate::opening::{naming, opening};
+use crate::order::{look_at_order, order_at};
+use crate::spelling::spell;
 use crate::trial::Trial;
 use kl1_clause::Predicate;
 use kl1_guard::evaluate_cell;
@@ -24,17 +27,21 @@ use kl1_text::NameValue;
 use std::alloc::AllocError;
 
 /// What a goal can do: commit to the clause at a place among those of its predicate, from 0; raise an exception of the kind of a
-/// name; unify two terms; or nothing but go.
+/// name; unify two terms; use the text in the trial as a name and unify a term with it; open a shoen by the order that a structure
+/// of six arguments is; or nothing but go.
 #[derive(Clone, Copy)]
 pub enum Move<N> {
     Commits(usize),
     Raises(BuiltIn),
     Unifies(Cell<N>, Cell<N>),
+    Names(Cell<N>),
+    Opens(u32),
     Goes,
 }
 
 /// What a goal of a kind can do by the clause of a number, or nothing where that isn't allowed. Where it commits, the cells at
-/// the places of the clause's head are in the trial; otherwise nothing is said of what is there.
+/// the places of the clause's head are in the trial, and where it uses a name, its text is; otherwise nothing is said of what is
+/// there.
 pub fn move_of<N: NameValue>(
     store: &Store<N>,
     kind: Kind<N>,
@@ -44,8 +51,8 @@ pub fn move_of<N: NameValue>(
 ) -> Result<Option<Move<N>>, AllocError>
     requires kind { KindIn store.now.held kind }
     requires predicate { AreSome predicate.names.now predicate.clauses.now }
-    ensures inside { IfOk result (MoveIn store.now.held predicate.entry (taken_places trial.new)) }
-    ensures moves { IfOk result (λ found. (f : N → List ℕ) → Reads N.built f → (modules : List Module) (t : Term) → IsKind f store.now.held t kind → HasPredicate f store.now.held modules kind predicate.entry → MovesAs f store.now.held modules t clause predicate.entry (taken_places trial.new) found) }
+    ensures inside { IfOk result (MoveIn store.now.held predicate.entry (taken_places trial.new) trial.new.text) }
+    ensures moves { IfOk result (λ found. (f : N → List ℕ) → Reads N.built f → (modules : List Module) (t : Term) → IsKind f store.now.held t kind → HasPredicate f store.now.held modules kind predicate.entry → MovesAs f store.now.held modules t clause predicate.entry (taken_places trial.new) trial.new.text found) }
 {
     match kind {
         Kind::Calls(call) => {
@@ -64,6 +71,19 @@ pub fn move_of<N: NameValue>(
             if clause == 0 {
                 let value = evaluate_cell(store, right, &mut trial.guard)?;
                 return Ok(assigned(left, value));
+            }
+            Ok(None)
+        }
+        Kind::Spells(codes, target) => {
+            if clause == 0 {
+                return Ok(naming(target, spell(store, codes, &mut trial.text)));
+            }
+            Ok(None)
+        }
+        Kind::Executes(structure) => {
+            if clause == 0 {
+                let look = look_at_order(store, order_at(store, structure));
+                return Ok(opening(structure, look));
             }
             Ok(None)
         }
@@ -87,7 +107,7 @@ fn failing<N: NameValue>(
 ) -> Result<Option<Move<N>>, AllocError>
     requires call { IsIn store.now.held (cell_of call) }
     requires predicate { AreSome predicate.names.now predicate.clauses.now }
-    ensures inside { IfOk result (MoveIn store.now.held predicate.entry (taken_places trial.new)) }
+    ensures inside { IfOk result (MoveIn store.now.held predicate.entry (taken_places trial.new) trial.new.text) }
     ensures fails { IfOk result (λ found. (f : N → List ℕ) → Reads N.built f → (cs : List Clause) → AreCompiled (map f predicate.entry.names.now) predicate.entry.clauses.now cs → FailsAs f store.now.held call cs found) }
 {
     trial.awaited.clear();
@@ -121,7 +141,7 @@ fn committing_by_places<N: NameValue>(
     requires number { 0 < number }
     requires place { number - 1 < length predicate.clauses.now }
     requires predicate { AreSome predicate.names.now predicate.clauses.now }
-    ensures inside { IfOk result (MoveIn store.now.held predicate.entry (taken_places trial.new)) }
+    ensures inside { IfOk result (MoveIn store.now.held predicate.entry (taken_places trial.new) trial.new.text) }
     ensures commits { IfOk result (λ found. (f : N → List ℕ) → Reads N.built f → (cs : List Clause) → AreCompiled (map f predicate.entry.names.now) predicate.entry.clauses.now cs → CommitsAs f store.now.held call predicate.entry cs number (taken_places trial.new) found) }
 {
     let place = (number - 1) as usize;
@@ -153,7 +173,7 @@ fn committing<N: NameValue>(
     requires call { IsIn store.now.held (cell_of call) }
     requires number { 0 < number }
     requires predicate { AreSome predicate.names.now predicate.clauses.now }
-    ensures inside { IfOk result (MoveIn store.now.held predicate.entry (taken_places trial.new)) }
+    ensures inside { IfOk result (MoveIn store.now.held predicate.entry (taken_places trial.new) trial.new.text) }
     ensures commits { IfOk result (λ found. (f : N → List ℕ) → Reads N.built f → (cs : List Clause) → AreCompiled (map f predicate.entry.names.now) predicate.entry.clauses.now cs → CommitsAs f store.now.held call predicate.entry cs number (taken_places trial.new) found) }
 {
     let place = (number - 1) as usize;

@@ -11,6 +11,9 @@ ghost use Rattle.kl1_moves.specs.Moves.{HasPredicate};
 ghost use Rattle.kl1_moves.specs.Standing.{StandsAs};
 
 use crate::kind::Kind;
+use crate::look::Look;
+use crate::order::{look_at_order, order_at};
+use crate::spelling::{Spelling, spell};
 use crate::trial::Trial;
 use kl1_clause::Predicate;
 use kl1_guard::{Evaluated, evaluate_cell};
@@ -54,6 +57,22 @@ pub fn standing_of<N: NameValue>(
                 Evaluated::IsNoExpression => Ok(Some(0)),
             }
         }
+        Kind::Spells(codes, _) => match spell(store, codes, &mut trial.text) {
+            Spelling::Spelled => Ok(Some(0)),
+            Spelling::Waits(code) => {
+                trial.awaited.push(code)?;
+                Ok(None)
+            }
+            Spelling::Misspelled => Ok(Some(0)),
+        },
+        Kind::Executes(structure) => match look_at_order(store, order_at(store, structure)) {
+            Look::Right => Ok(Some(0)),
+            Look::Waits(argument) => {
+                trial.awaited.push(argument)?;
+                Ok(None)
+            }
+            Look::Wrong => Ok(Some(0)),
+        },
         Kind::Goes => Ok(Some(0)),
         Kind::Waits(variable) => {
             trial.awaited.push(variable)?;

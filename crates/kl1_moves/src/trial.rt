@@ -2,12 +2,12 @@
 
 use kl1_match::{Place, Scratch};
 use kl1_store::Cell;
-use kl1_text::NameValue;
+use kl1_text::{NameValue, ShortBytes};
 use std::alloc::Global;
 
 /// Lists that calls work with, and keep for the next: scratch of matching and of expressions, the cells at the places of the
-/// head's variables of the clause that was tried last, which the scratch has where they are kept in order, and the variables
-/// that a goal waits for. It takes no memory until a call needs some.
+/// head's variables of the clause that was tried last, which the scratch has where they are kept in order, the variables that a goal
+/// waits for, and the text that codes spell. It takes no memory until a call needs some.
 #[derive(Drop)]
 pub struct Trial<N: NameValue> {
     pub scratch: Scratch<N>,
@@ -15,6 +15,7 @@ pub struct Trial<N: NameValue> {
     pub places: Vec<Place<N>>,
     pub awaited: Vec<u32>,
     pub is_in_order: bool,
+    pub text: ShortBytes,
 }
 
 impl<N: NameValue> Trial<N> {
@@ -26,6 +27,7 @@ impl<N: NameValue> Trial<N> {
             places: Vec::new(alloc),
             awaited: Vec::new(alloc),
             is_in_order: false,
+            text: ShortBytes::new(),
         }
     }
 }

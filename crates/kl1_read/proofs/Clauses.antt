@@ -8,11 +8,13 @@ use Rattle.kl1_term.specs.Nodes.{code_of}
 use Rattle.kl1_term.specs.declared.node.Node.{Node}
 use Rattle.kl1_term.specs.declared.node.Node.TheVariants.{Atom, Structure}
 use Rattle.kl1_model.specs.Meaning.{pair}
-use Rattle.kl1_model.specs.Module.{BodyGoal, each_of, without_priority}
+use Rattle.kl1_model.specs.Module.{BodyGoal, each_of}
 use Rattle.kl1_read.specs.declared.clause_parts.GoalParts.{GoalParts}
+use Rattle.kl1_read.specs.declared.goal_terms.GoalTerm.{GoalTerm}
 use Rattle.kl1_read.specs.declared.role.Role.TheVariants.{Pattern}
 use Rattle.kl1_read.specs.Sources.{goal_of_parts}
-use Rattle.kl1_read.specs.Statements.{given, fit_as, fit_plain, fit_patterns, is_fit_name}
+use Rattle.kl1_read.specs.Statements.{given, fit_as, fit_named, fit_patterns, is_fit_name}
+use Rattle.kl1_read.specs.BodyGoals.{goal_of_term}
 
 -- what is given for the elements before, with these behind
 abbrev pub given_before : {B : Type 0} → List B → Option (List B) → Option (List B)
@@ -83,17 +85,18 @@ goals_turned (g ∷ gs) =
     ∙ ap (λ xs. xs ++ goal_of_parts g ∷ []) (goals_turned gs)
     ∙ sym (reverse-append (goal_of_parts g ∷ []) (map goal_of_parts gs))
 
--- the next term is no goal, or one without a priority
-pub goals_stop : (m : List ℕ) (old ts : List Term) (t : Term) (done : List GoalParts) (all : Option (List BodyGoal)) (x : Option Term) → given_before (reverse (map goal_of_parts done)) (each_of (fit_plain m) old) ≡ all → old ≡ ts ++ t ∷ [] → option_map without_priority x ≡ fit_plain m t → x ≡ None → None ≡ all
-goals_stop m old ts t done all x h e f is = each_stops (fit_plain m) old ts t (reverse (map goal_of_parts done)) all h e (sym f ∙ ap (option_map without_priority) is)
+-- the next term is no goal, or it is one
+pub goals_stop : (m : List ℕ) (old ts : List GoalTerm) (t : GoalTerm) (done : List GoalParts) (all : Option (List BodyGoal)) (x : Option GoalParts) → given_before (reverse (map goal_of_parts done)) (each_of (fit_named m) (map goal_of_term old)) ≡ all → old ≡ ts ++ t ∷ [] → option_map goal_of_parts x ≡ fit_named m (goal_of_term t) → x ≡ None → None ≡ all
+goals_stop m old ts t done all x h e f is =
+    each_stops (fit_named m) (map goal_of_term old) (map goal_of_term ts) (goal_of_term t) (reverse (map goal_of_parts done)) all h (ap (map goal_of_term) e ∙ map-append goal_of_term ts (t ∷ [])) (sym f ∙ ap (option_map goal_of_parts) is)
 
-pub goals_go : (m : List ℕ) (old ts : List Term) (t u : Term) (done now : List GoalParts) (all : Option (List BodyGoal)) (x : Option Term) → given_before (reverse (map goal_of_parts done)) (each_of (fit_plain m) old) ≡ all → old ≡ ts ++ t ∷ [] → option_map without_priority x ≡ fit_plain m t → x ≡ Some u → now ≡ done ++ record { goal = u; priority = None } ∷ [] → given_before (reverse (map goal_of_parts now)) (each_of (fit_plain m) ts) ≡ all
+pub goals_go : (m : List ℕ) (old ts : List GoalTerm) (t : GoalTerm) (u : GoalParts) (done now : List GoalParts) (all : Option (List BodyGoal)) (x : Option GoalParts) → given_before (reverse (map goal_of_parts done)) (each_of (fit_named m) (map goal_of_term old)) ≡ all → old ≡ ts ++ t ∷ [] → option_map goal_of_parts x ≡ fit_named m (goal_of_term t) → x ≡ Some u → now ≡ done ++ u ∷ [] → given_before (reverse (map goal_of_parts now)) (each_of (fit_named m) (map goal_of_term ts)) ≡ all
 goals_go m old ts t u done now all x h e f is n =
-    each_goes (fit_plain m) old ts t (without_priority u) (map goal_of_parts done) (map goal_of_parts now) all h e (sym f ∙ ap (option_map without_priority) is)
-    (ap (map goal_of_parts) n ∙ map-append goal_of_parts done (record { goal = u; priority = None } ∷ []))
+    each_goes (fit_named m) (map goal_of_term old) (map goal_of_term ts) (goal_of_term t) (goal_of_parts u) (map goal_of_parts done) (map goal_of_parts now) all h (ap (map goal_of_term) e ∙ map-append goal_of_term ts (t ∷ [])) (sym f ∙ ap (option_map goal_of_parts) is)
+    (ap (map goal_of_parts) n ∙ map-append goal_of_parts done (u ∷ []))
 
-pub goals_end : (m : List ℕ) (ts : List Term) (done now : List GoalParts) (all : Option (List BodyGoal)) → length ts ≡ 0 → given_before (reverse (map goal_of_parts done)) (each_of (fit_plain m) ts) ≡ all → now ≡ reverse done → Some (map goal_of_parts now) ≡ all
-goals_end m [] done now all e h n = ap (λ (gs : List GoalParts). Some (map goal_of_parts gs)) n ∙ ap (λ (gs : List BodyGoal). Some gs) (goals_turned done) ∙ each_ends (fit_plain m) [] (map goal_of_parts done) all refl h
+pub goals_end : (m : List ℕ) (ts : List GoalTerm) (done now : List GoalParts) (all : Option (List BodyGoal)) → length ts ≡ 0 → given_before (reverse (map goal_of_parts done)) (each_of (fit_named m) (map goal_of_term ts)) ≡ all → now ≡ reverse done → Some (map goal_of_parts now) ≡ all
+goals_end m [] done now all e h n = ap (λ (gs : List GoalParts). Some (map goal_of_parts gs)) n ∙ ap (λ (gs : List BodyGoal). Some gs) (goals_turned done) ∙ each_ends (fit_named m) [] (map goal_of_parts done) all refl h
 goals_end m (t ∷ ts) done now all e h n = absurd (omega arith)
 
 -- each pattern is itself

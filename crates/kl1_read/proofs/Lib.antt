@@ -3,6 +3,7 @@ pub mod Doomed
 pub mod FitHeads
 pub mod Follows
 pub mod Clauses
+pub mod BodyGoals
 pub mod GoalFronts
 pub mod Goings
 pub mod HeadFronts

@@ -1,5 +1,5 @@
 -- A clause read as terms is the clause of the definitions.
-use Rattle.std.proofs.Common.{◌≡◌, ℕ, zero, suc, nat_le, ◌⊎◌, inl, inr, ◌&&◌, ◌||◌, Bool, true, false, if◌then◌else◌, List, [], ◌∷◌, ◌++◌, length, append_assoc, Option, Some, None, option_map, option_and_then, refl, ap, sym, ◌∙◌, subst}
+use Rattle.std.proofs.Common.{◌≡◌, ℕ, nat_le, ◌⊎◌, inl, inr, ◌&&◌, Bool, true, false, if◌then◌else◌, List, [], ◌∷◌, ◌++◌, map, append_assoc, append-nil, Option, Some, None, option_map, option_and_then, refl, ap, sym, ◌∙◌, subst}
 use Rattle.std.specs.List.{list_all}
 use Rattle.std.proofs.lemmas.Bool.{true≢false, and_cases, and_parts}
 use Rattle.std.proofs.lemmas.List.Folds.{list_all-append}
@@ -7,18 +7,20 @@ use Rattle.std.proofs.lemmas.Option.{none-some, same_Some}
 use Rattle.kl1_model.specs.declared.sign.Sign.TheVariants.{Neck, Bar}
 use Rattle.kl1_model.specs.Term.{Term, structure, Terms, none, more, terms_of, list_of}
 use Rattle.kl1_model.specs.Token.{Token, name_token, sign_token}
-use Rattle.kl1_model.specs.Grammar.{Numbered, Expression, Series, last, another, Head, bare_head, head_with, GoalTree, plain_goal, urgent_goal, Body, last_goal, another_goal, ClauseTree, fact, rule, guarded, series_tokens, body_tokens, clause_tokens}
+use Rattle.kl1_model.specs.Grammar.{Numbered, Series, last, another, Head, bare_head, head_with, GoalTree, plain_goal, urgent_goal, Body, last_goal, another_goal, ClauseTree, fact, rule, guarded, series_tokens, body_tokens, clause_tokens}
 use Rattle.kl1_model.specs.Numbering.{numbered_tokens}
-use Rattle.kl1_model.specs.Reader.{Answer, then_read, then_skip, if_there, behind_open, behind_close, behind_neck, behind_bar, behind_comma, behind_at, digits_in_front, priority_in_front, series_by, series_at, priority_at, body_by, body_at, tests_of, behind_neck_at, clause_at, all_read, clause_tree}
+use Rattle.kl1_model.specs.Reader.{Answer, then_read, then_skip, if_there, behind_open, behind_close, behind_neck, behind_bar, behind_comma, behind_at, series_at, body_at, tests_of, behind_neck_at, clause_at, all_read, clause_tree}
 use Rattle.kl1_model.specs.Meaning.{expression_term, series_terms, head_term, is_writable, variables_in, highest, highest_in, numbered_after}
 use Rattle.kl1_model.specs.Goal.{is_head, is_test, body_goal}
-use Rattle.kl1_model.specs.Module.{BodyGoal, Clause, each_of, head_name, head_patterns, is_fit_head, without_priority, fit_goal, fit_body, true_goal, clause_of_tree}
-use Rattle.kl1_model.proofs.ReadSound.{at_is, clause_trees_sound}
+use Rattle.kl1_model.specs.Module.{BodyGoal, Clause, each_of, head_name, head_patterns, is_fit_head, without_priority, fit_goal, fit_body, trees_of, true_goal, clause_of_tree}
+use Rattle.kl1_model.proofs.ReadSound.{bar_is, clause_trees_sound}
 use Rattle.kl1_model.proofs.ReadSteps.{clauses_go_on}
 use Rattle.kl1_model.proofs.ReadMeans.{numbers_of, series_variables, head_variables}
 use Rattle.kl1_model.proofs.ReadOrder.{numbered_in_order}
 use Rattle.kl1_read.specs.Meanings.{reading, answer_map, series_read, fit}
-use Rattle.kl1_read.specs.Statements.{Heading, Statement, written_series, guarded_read, statement_read, heading_term, is_fit_name, fit_test_upto, fit_plain, clause_of_statement}
+use Rattle.kl1_read.specs.Statements.{Heading, Statement, statement_by, with_body, written_series, guarded_read, statement_read, heading_term, is_fit_name, fit_patterns, fit_test_upto, may_have, fit_named, clause_behind, clause_of_statement}
+use Rattle.kl1_read.specs.BodyGoals.{goal_named, goals_read, are_written, written, written_goals, goals_named, priority_read, with_front, goals_after, terms_after}
+use Rattle.kl1_read.proofs.BodyGoals.{goals_chunked, terms_written, terms_unwritten}
 use Rattle.kl1_read.proofs.Unwritable.{structure_unwritable}
 use Rattle.kl1_read.proofs.HeadNumbers.{tests_fit, numbered_front, numbered_some}
 
@@ -60,7 +62,7 @@ patterns_by h tests body true ps = refl
 patterns_by h tests body false ps = refl
 
 -- a head with tests and a body means the same clause
-statement_means : (m : List ℕ) (h : Head) (tests body : List Term) (goals : Option (List BodyGoal)) → each_of (fit_plain m) body ≡ goals → clause_of_statement m (record { heading = heading h; tests = tests; body = body }) ≡ clause_upto h tests goals
+statement_means : (m : List ℕ) (h : Head) (tests : List Term) (body : List BodyGoal) (goals : Option (List BodyGoal)) → each_of (fit_named m) body ≡ goals → clause_of_statement m (record { heading = heading h; tests = tests; body = body }) ≡ clause_upto h tests goals
 statement_means m h tests body goals e =
     ap (λ gs. option_and_then (λ qs. clause_by h tests gs (terms_of qs)) (if◌then◌else◌ {A = Option (List Term)} (is_fit_name (head_name h) (list_of (head_patterns h))) (Some (list_of (head_patterns h))) None)) e
     ∙ patterns_by h tests goals (is_fit_name (head_name h) (list_of (head_patterns h))) (list_of (head_patterns h))
@@ -74,294 +76,281 @@ tree_clause m x = option_and_then (clause_of_tree_upto m) (all_read x)
 abbrev terms_clause : List ℕ → Answer Statement → Option Clause
 terms_clause m x = option_and_then (clause_of_statement m) (all_read x)
 
-both_none : {A : Type 0} (b : Bool) → if◌then◌else◌ {A = Option A} b None None ≡ None
-both_none true = refl
-both_none false = refl
-
 none_then : {A B : Type 0} (x : Option A) → ◌≡◌ {A = Option B} (option_and_then (λ y. None) x) None
 none_then None = refl
 none_then (Some y) = refl
 
--- what is given for no term that can't be written is given for no list with such a term
-module _ {B : Type 0} (f : Term → Option B) (fails : (t : Term) → is_writable t ≡ false → f t ≡ None) where
-  one_fails : (t : Term) (ts : List Term) → (list_all is_writable ts ≡ false → each_of f ts ≡ None) → (is_writable t ≡ false) ⊎ (list_all is_writable ts ≡ false) → each_of f (t ∷ ts) ≡ None
+-- what is given for nothing that isn't fit is given for no list with such an element
+module _ {A B : Type 0} (fits : A → Bool) (f : A → Option B) (fails : (t : A) → fits t ≡ false → f t ≡ None) where
+  one_fails : (t : A) (ts : List A) → (list_all fits ts ≡ false → each_of f ts ≡ None) → (fits t ≡ false) ⊎ (list_all fits ts ≡ false) → each_of f (t ∷ ts) ≡ None
   one_fails t ts rest (inl e) = ap (λ x. option_and_then (λ y. option_map (λ ys. y ∷ ys) (each_of f ts)) x) (fails t e)
   one_fails t ts rest (inr e) = ap (λ (x : Option (List B)). option_and_then (λ y. option_map (λ ys. y ∷ ys) x) (f t)) (rest e) ∙ none_then (f t)
 
-  each_fails : (ts : List Term) → list_all is_writable ts ≡ false → each_of f ts ≡ None
+  each_fails : (ts : List A) → list_all fits ts ≡ false → each_of f ts ≡ None
   each_fails [] h = absurd (true≢false h)
-  each_fails (t ∷ ts) h = one_fails t ts (each_fails ts) (and_cases (is_writable t) (list_all is_writable ts) h)
+  each_fails (t ∷ ts) h = one_fails t ts (each_fails ts) (and_cases (fits t) (list_all fits ts) h)
 
 test_fails : (most : ℕ) (t : Term) → is_writable t ≡ false → fit_test_upto most t ≡ None
 test_fails most t h = ap (λ b. if◌then◌else◌ {A = Option Term} (b && is_test t && nat_le (highest t) most) (Some t) None) h
 
-plain_fails : (m : List ℕ) (t : Term) → is_writable t ≡ false → fit_plain m t ≡ None
-plain_fails m t h = ap (λ b. if◌then◌else◌ {A = Option BodyGoal} b (option_map without_priority (body_goal m t)) None) h
+goal_fails : (m : List ℕ) (g : BodyGoal) → is_writable g.goal ≡ false → fit_named m g ≡ None
+goal_fails m g h = ap (λ b. if◌then◌else◌ {A = Option BodyGoal} (b && may_have g.priority g.goal) (option_map (λ t. record { goal = t; priority = g.priority }) (body_goal m g.goal)) None) h
 
--- nothing comes of tests that can't be written, of no body, nor of a head that may not stand there
-body_gone : (h : Head) (tests : List Term) (body : Option (List BodyGoal)) → body ≡ None → clause_upto h tests body ≡ None
-body_gone h tests body e =
-    ap (λ x. clause_upto h tests x) e
-    ∙ ap (λ (x : Option Clause). if◌then◌else◌ {A = Option Clause} (is_fit_head h) x None) (none_then (each_of (fit_test_upto (highest_in (head_patterns h))) tests))
-    ∙ both_none (is_fit_head h)
-
-tests_gone : (h : Head) (tests : List Term) (body : Option (List BodyGoal)) → list_all is_writable tests ≡ false → clause_upto h tests body ≡ None
-tests_gone h tests body e =
-    ap (λ (x : Option (List Term)). if◌then◌else◌ {A = Option Clause} (is_fit_head h) (option_and_then (λ ts. option_map (λ gs. record { name = head_name h; patterns = head_patterns h; tests = ts; section = 0; body = gs }) body) x) None) (each_fails (fit_test_upto (highest_in (head_patterns h))) (test_fails (highest_in (head_patterns h))) tests e)
-    ∙ both_none (is_fit_head h)
-
+-- nothing comes of a head that may not stand there
 head_gone : (h : Head) (tests : List Term) (body : Option (List BodyGoal)) → is_fit_head h ≡ false → clause_upto h tests body ≡ None
 head_gone h tests body e =
     ap (λ b. if◌then◌else◌ {A = Option Clause} b (clause_by h tests body (head_patterns h)) None) e
 
--- whether a goal of a body names a priority
-abbrev is_urgent : GoalTree → Bool
-is_urgent (plain_goal e) = false
-is_urgent (urgent_goal e quotes n) = true
+-- a goal with its priority is fit where its tree is
+and_true : (b : Bool) → b && true ≡ b
+and_true true = refl
+and_true false = refl
 
-abbrev has_priority : Body → Bool
-has_priority (last_goal g) = is_urgent g
-has_priority (another_goal g b) = is_urgent g || has_priority b
+goal_fits : (m : List ℕ) (g : GoalTree) → fit_named m (goal_named g) ≡ fit_goal m g
+goal_fits m (plain_goal e) = ap (λ b. if◌then◌else◌ {A = Option BodyGoal} b (option_map without_priority (body_goal m (expression_term e))) None) (and_true (is_writable (expression_term e)))
+goal_fits m (urgent_goal e quotes n) = refl
 
--- a body with a priority is none yet, and its goals are no tests
-urgent_none : (m : List ℕ) (b : Body) → has_priority b ≡ true → fit_body m b ≡ None
-urgent_none m (last_goal (plain_goal e)) h = absurd (true≢false (sym h))
-urgent_none m (last_goal (urgent_goal e quotes n)) h = refl
-urgent_none m (another_goal (plain_goal e) b) h =
-    ap (λ (x : Option (List BodyGoal)). option_and_then (λ y. option_map (λ ys. y ∷ ys) x) (fit_goal m (plain_goal e))) (urgent_none m b h) ∙ none_then (fit_goal m (plain_goal e))
-urgent_none m (another_goal (urgent_goal e quotes n) b) h = refl
+goals_fit : (m : List ℕ) (gs : List GoalTree) → each_of (fit_named m) (map goal_named gs) ≡ each_of (fit_goal m) gs
+goals_fit m [] = refl
+goals_fit m (g ∷ gs) =
+    ap (λ x. option_and_then (λ y. option_map (λ ys. y ∷ ys) (each_of (fit_named m) (map goal_named gs))) x) (goal_fits m g)
+    ∙ ap (λ (x : Option (List BodyGoal)). option_and_then (λ y. option_map (λ ys. y ∷ ys) x) (fit_goal m g)) (goals_fit m gs)
 
-urgent_tests : (b : Body) → has_priority b ≡ true → tests_of b ≡ None
-urgent_tests (last_goal (plain_goal e)) h = absurd (true≢false (sym h))
-urgent_tests (last_goal (urgent_goal e quotes n)) h = refl
-urgent_tests (another_goal (plain_goal e) b) h = ap (option_map (λ s. another e s)) (urgent_tests b h)
-urgent_tests (another_goal (urgent_goal e quotes n) b) h = refl
+-- the terms of goals, where none names a priority
+abbrev plain_by : Option ℕ → Term → Option (List Term) → Option (List Term)
+plain_by None t x = option_map (λ ts. t ∷ ts) x
+plain_by (Some n) t x = None
 
--- expressions as the goals of a body, none of which names a priority
-abbrev plain_body : Series → Body
-plain_body (last e) = last_goal (plain_goal e)
-plain_body (another e s) = another_goal (plain_goal e) (plain_body s)
+abbrev plain_terms : List BodyGoal → Option (List Term)
+plain_terms [] = Some []
+plain_terms (g ∷ gs) = plain_by g.priority g.goal (plain_terms gs)
 
-plain_fit : (m : List ℕ) (s : Series) → each_of (fit_plain m) (list_of (series_terms s)) ≡ fit_body m (plain_body s)
-plain_fit m (last e) = refl
-plain_fit m (another e s) = ap (λ (x : Option (List BodyGoal)). option_and_then (λ y. option_map (λ ys. y ∷ ys) x) (fit_plain m (expression_term e))) (plain_fit m s)
+mapped : {A B C : Type 0} (f : B → C) (g : A → B) (x : Option A) → option_map f (option_map g x) ≡ option_map (λ a. f (g a)) x
+mapped f g None = refl
+mapped f g (Some a) = refl
 
-plain_tests : (s : Series) → tests_of (plain_body s) ≡ Some s
-plain_tests (last e) = refl
-plain_tests (another e s) = ap (option_map (λ s. another e s)) (plain_tests s)
+abbrev names : Body → List BodyGoal
+names b = map goal_named (trees_of b)
 
--- goals without priorities that were read as expressions, and no others
-abbrev plain_after : Answer Series → Answer Body
-plain_after None = None
-plain_after (Some r) = if_there (behind_at r.1) (Some (plain_body r.0, r.1)) (λ vs. None)
+tests_plain : (b : Body) → option_map (λ s. list_of (series_terms s)) (tests_of b) ≡ plain_terms (names b)
+tests_plain (last_goal (plain_goal e)) = refl
+tests_plain (last_goal (urgent_goal e quotes n)) = refl
+tests_plain (another_goal (plain_goal e) b) =
+    mapped (λ s. list_of (series_terms s)) (λ s. another e s) (tests_of b)
+    ∙ sym (mapped (λ ts. expression_term e ∷ ts) (λ s. list_of (series_terms s)) (tests_of b))
+    ∙ ap (option_map (λ ts. expression_term e ∷ ts)) (tests_plain b)
+tests_plain (another_goal (urgent_goal e quotes n) b) = refl
 
--- what goes on behind a body; nothing comes of one with a priority
-abbrev BodyGoing : Type 0
-BodyGoing = Body → List Numbered → Answer ClauseTree
+-- goals without priorities are terms; those of which one has a priority are none
+plain_again : (ts : List Term) → plain_terms (goals_named None ts) ≡ Some ts
+plain_again [] = refl
+plain_again (t ∷ []) = refl
+plain_again (t ∷ u ∷ ts) = ap (option_map (λ us. t ∷ us)) (plain_again (u ∷ ts))
 
-abbrev Refuses : List ℕ → BodyGoing → Type 0
-Refuses m k = (b : Body) (us : List Numbered) → has_priority b ≡ true → tree_clause m (k b us) ≡ None
+urgent_terms : (n : ℕ) (s : Series) (gs : List BodyGoal) → plain_terms (goals_named (Some n) (list_of (series_terms s)) ++ gs) ≡ None
+urgent_terms n (last e) gs = refl
+urgent_terms n (another e (last f)) gs = refl
+urgent_terms n (another e (another f s)) gs = ap (option_map (λ us. expression_term e ∷ us)) (urgent_terms n (another f s) gs)
 
--- goals behind the first one
-abbrev goals_on : ℕ → GoalTree → List Numbered → Answer Body
-goals_on n g us = if_there (behind_comma us) (Some (last_goal g, us)) (λ vs. then_read (body_by reading n vs) (λ b ws. Some (another_goal g b, ws)))
+one_plain : (p : Option ℕ) (t : Term) (x : Option (List Term)) (b : Bool) (ts : List Term) → ((us : List Term) → x ≡ Some us → b ≡ list_all is_writable us) → plain_by p t x ≡ Some ts → (is_writable t && b) ≡ list_all is_writable ts
+one_plain None t None b ts same h = absurd (none-some ts h)
+one_plain None t (Some us) b ts same h = ap (λ c. is_writable t && c) (same us refl) ∙ ap (list_all is_writable) (same_Some (t ∷ us) ts h)
+one_plain (Some n) t x b ts same h = absurd (none-some ts h)
 
-abbrev series_on : ℕ → Expression → List Numbered → Answer Series
-series_on n e us = if_there (behind_comma us) (Some (last e, us)) (λ vs. then_read (series_by reading n vs) (λ s ws. Some (another e s, ws)))
+plain_written : (gs : List BodyGoal) (ts : List Term) → plain_terms gs ≡ Some ts → are_written gs ≡ list_all is_writable ts
+plain_written [] ts h = ap (list_all is_writable) (same_Some [] ts h)
+plain_written (g ∷ gs) ts h = one_plain g.priority g.goal (plain_terms gs) (are_written gs) ts (plain_written gs) h
 
-module _ (m : List ℕ) (n : ℕ) where
-  urgent_by : (k : BodyGoing) (e : Expression) (quotes : Bool) (p : ℕ) → Refuses m k → (x : Answer Body) → tree_clause m (then_read (then_read x (λ b ws. Some (another_goal (urgent_goal e quotes p) b, ws))) k) ≡ None
-  urgent_by k e quotes p gone None = refl
-  urgent_by k e quotes p gone (Some r) = gone (another_goal (urgent_goal e quotes p) r.0) r.1 refl
+-- nothing comes of a clause with a test or a goal that can't be written
+none_behind : (x : Option (List Term)) (f : List Term → Option Clause) → ((ps : List Term) → f ps ≡ None) → option_and_then f x ≡ None
+none_behind None f nothing = refl
+none_behind (Some ps) f nothing = nothing ps
 
-  urgent_there : (k : BodyGoing) (e : Expression) (quotes : Bool) (p : ℕ) (us : List Numbered) → Refuses m k → (y : Option (List Numbered)) → tree_clause m (then_read (if_there y (Some (last_goal (urgent_goal e quotes p), us)) (λ vs. then_read (body_by reading n vs) (λ b ws. Some (another_goal (urgent_goal e quotes p) b, ws)))) k) ≡ None
-  urgent_there k e quotes p us gone None = gone (last_goal (urgent_goal e quotes p)) us refl
-  urgent_there k e quotes p us gone (Some vs) = urgent_by k e quotes p gone (body_by reading n vs)
+body_gone : (m : List ℕ) (h : Heading) (tests : List Term) (gs : List BodyGoal) (us : List Numbered) → are_written gs ≡ false → terms_clause m (Some (statement_by h tests gs, us)) ≡ None
+body_gone m h tests gs [] e =
+    none_behind (fit_patterns h.name h.arguments) (clause_behind m (statement_by h tests gs)) (λ ps.
+    ap (λ (x : Option (List BodyGoal)). option_and_then (λ ts. option_map (λ gs. record { name = h.name; patterns = terms_of ps; tests = ts; section = 0; body = gs }) x) (each_of (fit_test_upto (highest_in (terms_of ps))) tests)) (each_fails (λ (g : BodyGoal). is_writable g.goal) (fit_named m) (goal_fails m) gs e)
+    ∙ none_then (each_of (fit_test_upto (highest_in (terms_of ps))) tests))
+body_gone m h tests gs (u ∷ us) e = refl
 
-  -- nothing comes of a goal with a priority
-  abbrev Nothing : BodyGoing → Answer GoalTree → Type 0
-  Nothing k x = tree_clause m (then_read (then_read x (goals_on n)) k) ≡ None
+tests_gone : (m : List ℕ) (h : Heading) (tests : List Term) (gs : List BodyGoal) (us : List Numbered) → list_all is_writable tests ≡ false → terms_clause m (Some (statement_by h tests gs, us)) ≡ None
+tests_gone m h tests gs [] e =
+    none_behind (fit_patterns h.name h.arguments) (clause_behind m (statement_by h tests gs)) (λ ps.
+    ap (λ (x : Option (List Term)). option_and_then (λ ts. option_map (λ gs. record { name = h.name; patterns = terms_of ps; tests = ts; section = 0; body = gs }) (each_of (fit_named m) gs)) x) (each_fails is_writable (fit_test_upto (highest_in (terms_of ps))) (test_fails (highest_in (terms_of ps))) tests e))
+tests_gone m h tests gs (u ∷ us) e = refl
 
-  read_none : {A : Type 0} (k : BodyGoing) (x : Answer A) (go : A → List Numbered → Answer GoalTree) → ((a : A) (us : List Numbered) → Nothing k (go a us)) → Nothing k (then_read x go)
-  read_none k None go all = refl
-  read_none k (Some r) go all = all r.0 r.1
+tests_gone_with : (m : List ℕ) (h : Heading) (tests : List Term) (x : Answer (List BodyGoal)) → list_all is_writable tests ≡ false → terms_clause m (with_body h tests x) ≡ None
+tests_gone_with m h tests None e = refl
+tests_gone_with m h tests (Some r) e = tests_gone m h tests r.0 r.1 e
 
-  skip_none : (k : BodyGoing) (x : Option (List Numbered)) (go : List Numbered → Answer GoalTree) → ((us : List Numbered) → Nothing k (go us)) → Nothing k (then_skip x go)
-  skip_none k None go all = refl
-  skip_none k (Some us) go all = all us
+-- what is behind a neck, as the goals of a body, before it is known whether they can be written
+abbrev behind_goals : Heading → List BodyGoal → List Numbered → Option (List Numbered) → Answer Statement
+behind_goals h gs us y = if_there y (Some (statement_by h [] gs, us)) (λ vs. option_and_then (λ ts. with_body h ts (goals_read vs)) (plain_terms gs))
 
-  priority_none : (k : BodyGoing) (e : Expression) (ts : List Numbered) → Refuses m k → Nothing k (priority_at e ts)
-  priority_none k e ts gone =
-      read_none k (priority_in_front ts) _ (λ quotes us.
-      skip_none k (behind_open us) _ (λ vs.
-      read_none k (digits_in_front vs) _ (λ p ws.
-      skip_none k (behind_close ws) _ (λ xs. urgent_there k e quotes p xs gone (behind_comma xs)))))
+abbrev behind_all : Heading → Answer (List BodyGoal) → Answer Statement
+behind_all h x = then_read x (λ gs us. behind_goals h gs us (behind_bar us))
 
--- no clause comes of terms behind which an `@` stands
-at_end : (e : Expression) (n : ℕ) (us vs : List Numbered) → behind_at us ≡ Some vs → plain_after (series_on n e us) ≡ None
-at_end e n us vs h = subst (λ xs. plain_after (series_on n e xs) ≡ None) (at_is us vs h) refl
+-- trees and goals mean the same
+rule_means : (m : List ℕ) (h : Head) (b : Body) (us : List Numbered) → tree_clause m (Some (rule h b, us)) ≡ terms_clause m (Some (statement_by (heading h) [] (names b), us))
+rule_means m h b [] = sym (statement_means m h [] (names b) (fit_body m b) (goals_fit m (trees_of b)))
+rule_means m h b (u ∷ us) = refl
 
-body_again : {A : Type 0} (g : GoalTree) (k : Body → List Numbered → Answer A) (x : Answer Body) → then_read (then_read x (λ b ws. Some (another_goal g b, ws))) k ≡ then_read x (λ b ws. k (another_goal g b) ws)
-body_again g k None = refl
-body_again g k (Some r) = refl
+guarded_mean : (m : List ℕ) (h : Head) (s : Series) (b : Body) (us : List Numbered) → tree_clause m (Some (guarded h s b, us)) ≡ terms_clause m (Some (statement_by (heading h) (list_of (series_terms s)) (names b), us))
+guarded_mean m h s b [] = sym (statement_means m h (list_of (series_terms s)) (names b) (fit_body m b) (goals_fit m (trees_of b)))
+guarded_mean m h s b (u ∷ us) = refl
 
-plain_there : (e : Expression) (s : Series) (ws : List Numbered) (k : BodyGoing) (y : Option (List Numbered)) → then_read (if_there y (Some (plain_body s, ws)) (λ vs. None)) (λ b ws. k (another_goal (plain_goal e) b) ws) ≡ then_read (if_there y (Some (plain_body (another e s), ws)) (λ vs. None)) k
-plain_there e s ws k None = refl
-plain_there e s ws k (Some vs) = refl
-
-plain_again : (e : Expression) (k : BodyGoing) (x : Answer Series) → then_read (plain_after x) (λ b ws. k (another_goal (plain_goal e) b) ws) ≡ then_read (plain_after (then_read x (λ s ws. Some (another e s, ws)))) k
-plain_again e k None = refl
-plain_again e k (Some r) = plain_there e r.0 r.1 k (behind_at r.1)
-
--- so many goals are read as so many expressions
-abbrev AllPlain : List ℕ → ℕ → Type 0
-AllPlain m n = (ts : List Numbered) (k : BodyGoing) → Refuses m k → tree_clause m (then_read (body_by reading n ts) k) ≡ tree_clause m (then_read (plain_after (series_by reading n ts)) k)
-
-comma_plain : (m : List ℕ) (n : ℕ) (e : Expression) (us : List Numbered) (k : BodyGoing) (y : Option (List Numbered)) → AllPlain m n → Refuses m k → behind_at us ≡ None →
-    tree_clause m (then_read (if_there y (Some (last_goal (plain_goal e), us)) (λ vs. then_read (body_by reading n vs) (λ b ws. Some (another_goal (plain_goal e) b, ws)))) k)
-    ≡ tree_clause m (then_read (plain_after (if_there y (Some (last e, us)) (λ vs. then_read (series_by reading n vs) (λ s ws. Some (another e s, ws))))) k)
-comma_plain m n e us k None others gone h = sym (ap (λ y. tree_clause m (then_read (if_there y (Some (plain_body (last e), us)) (λ vs. None)) k)) h)
-comma_plain m n e us k (Some vs) others gone h =
-    ap (tree_clause m) (body_again (plain_goal e) k (body_by reading n vs))
-    ∙ others vs (λ b ws. k (another_goal (plain_goal e) b) ws) (λ b ws urgent. gone (another_goal (plain_goal e) b) ws urgent)
-    ∙ ap (tree_clause m) (plain_again e k (series_by reading n vs))
-
-at_plain : (m : List ℕ) (n : ℕ) (e : Expression) (us : List Numbered) (k : BodyGoing) (y : Option (List Numbered)) → AllPlain m n → Refuses m k → behind_at us ≡ y →
-    tree_clause m (then_read (then_read (if_there y (Some (plain_goal e, us)) (λ vs. priority_at e vs)) (goals_on n)) k) ≡ tree_clause m (then_read (plain_after (series_on n e us)) k)
-at_plain m n e us k None others gone h = comma_plain m n e us k (behind_comma us) others gone h
-at_plain m n e us k (Some vs) others gone h =
-    priority_none m n k e vs gone ∙ sym (ap (λ x. tree_clause m (then_read x k)) (at_end e n us vs h))
-
-first_plain : (m : List ℕ) (n : ℕ) (k : BodyGoing) (x : Answer Expression) → AllPlain m n → Refuses m k →
-    tree_clause m (then_read (then_read (then_read x (λ e us. if_there (behind_at us) (Some (plain_goal e, us)) (λ vs. priority_at e vs))) (goals_on n)) k) ≡ tree_clause m (then_read (plain_after (then_read x (series_on n))) k)
-first_plain m n k None others gone = refl
-first_plain m n k (Some r) others gone = at_plain m n r.0 r.1 k (behind_at r.1) others gone refl
-
-bodies_plain : (m : List ℕ) (n : ℕ) → AllPlain m n
-unfolding body_by series_by
-bodies_plain m zero ts k gone = refl
-bodies_plain m (suc n) ts k gone = first_plain m n k (reading ts) (bodies_plain m n) gone
-
--- the goals behind a neck are read as expressions
-body_plain : (m : List ℕ) (ts : List Numbered) (k : BodyGoing) → Refuses m k → tree_clause m (then_read (body_at reading ts) k) ≡ tree_clause m (then_read (plain_after (series_at reading ts)) k)
-body_plain m ts k gone = bodies_plain m (suc (length ts)) ts k gone
-
--- a tree of which no clause comes, with or without something behind it
-gone : (m : List ℕ) (t : ClauseTree) (us : List Numbered) → clause_of_tree_upto m t ≡ None → tree_clause m (Some (t, us)) ≡ None
-gone m t [] e = e
-gone m t (u ∷ us) e = refl
-
--- the terms behind a neck
-last_means : (m : List ℕ) (h : Head) (s : Series) (us : List Numbered) → tree_clause m (Some (rule h (plain_body s), us)) ≡ terms_clause m (Some (record { heading = heading h; tests = []; body = list_of (series_terms s) }, us))
-last_means m h s [] = sym (statement_means m h [] (list_of (series_terms s)) (fit_body m (plain_body s)) (plain_fit m s))
-last_means m h s (u ∷ us) = refl
-
-both_mean : (m : List ℕ) (h : Head) (s b : Series) (us : List Numbered) → tree_clause m (Some (guarded h s (plain_body b), us)) ≡ terms_clause m (Some (record { heading = heading h; tests = list_of (series_terms s); body = list_of (series_terms b) }, us))
-both_mean m h s b [] = sym (statement_means m h (list_of (series_terms s)) (list_of (series_terms b)) (fit_body m (plain_body b)) (plain_fit m b))
-both_mean m h s b (u ∷ us) = refl
-
-fact_means : (m : List ℕ) (h : Head) (us : List Numbered) → tree_clause m (Some (fact h, us)) ≡ terms_clause m (Some (record { heading = heading h; tests = []; body = true_goal ∷ [] }, us))
-fact_means m h [] = sym (statement_means m h [] (true_goal ∷ []) (Some (without_priority true_goal ∷ [])) refl)
+fact_means : (m : List ℕ) (h : Head) (us : List Numbered) → tree_clause m (Some (fact h, us)) ≡ terms_clause m (Some (statement_by (heading h) [] (without_priority true_goal ∷ []), us))
+fact_means m h [] = sym (statement_means m h [] (without_priority true_goal ∷ []) (Some (without_priority true_goal ∷ [])) refl)
 fact_means m h (u ∷ us) = refl
-
--- terms behind which an `@` stands are no clause
-at_none : (m : List ℕ) (s : Statement) (us vs : List Numbered) → behind_at us ≡ Some vs → terms_clause m (Some (s, us)) ≡ None
-at_none m s us vs h = subst (λ xs. terms_clause m (Some (s, xs)) ≡ None) (at_is us vs h) refl
 
 -- a body behind a bar
 abbrev behind_bar_at : Head → Series → Answer Body → Answer ClauseTree
 behind_bar_at h s x = then_read x (λ body ws. Some (guarded h s body, ws))
 
-abbrev behind_bar_read : Heading → List Term → Answer (List Term) → Answer Statement
-behind_bar_read h tests x = then_read x (λ b ws. Some (record { heading = h; tests = tests; body = b }, ws))
-
-plain_gone : (m : List ℕ) (h : Head) (tests : List Term) (s : Series) → list_all is_writable (list_of (series_terms s)) ≡ false → clause_upto h tests (fit_body m (plain_body s)) ≡ None
-plain_gone m h tests s e = body_gone h tests (fit_body m (plain_body s)) (sym (plain_fit m s) ∙ each_fails (fit_plain m) (plain_fails m) (list_of (series_terms s)) e)
-
-written_none : (m : List ℕ) (h : Heading) (tests : List Term) (us vs : List Numbered) (s : List Term) (b : Bool) → behind_at us ≡ Some vs → terms_clause m (behind_bar_read h tests (if◌then◌else◌ {A = Answer (List Term)} b (Some (s, us)) None)) ≡ None
-written_none m h tests us vs s true e = at_none m (record { heading = h; tests = tests; body = s }) us vs e
-written_none m h tests us vs s false e = refl
-
-second_by : (m : List ℕ) (h : Head) (s body : Series) (ws : List Numbered) (b : Bool) → list_all is_writable (list_of (series_terms body)) ≡ b → tree_clause m (Some (guarded h s (plain_body body), ws)) ≡ terms_clause m (behind_bar_read (heading h) (list_of (series_terms s)) (if◌then◌else◌ {A = Answer (List Term)} b (Some (list_of (series_terms body), ws)) None))
-second_by m h s body ws true e = both_mean m h s body ws
-second_by m h s body ws false e = gone m (guarded h s (plain_body body)) ws (plain_gone m h (list_of (series_terms s)) body e)
-
-second_at : (m : List ℕ) (h : Head) (s body : Series) (ws : List Numbered) (y : Option (List Numbered)) → behind_at ws ≡ y → tree_clause m (behind_bar_at h s (if_there y (Some (plain_body body, ws)) (λ vs. None))) ≡ terms_clause m (behind_bar_read (heading h) (list_of (series_terms s)) (fit (Some (list_of (series_terms body), ws))))
-second_at m h s body ws None e = second_by m h s body ws (list_all is_writable (list_of (series_terms body))) refl
-second_at m h s body ws (Some vs) e = sym (written_none m (heading h) (list_of (series_terms s)) ws vs (list_of (series_terms body)) (list_all is_writable (list_of (series_terms body))) e)
-
-second_means : (m : List ℕ) (h : Head) (s : Series) (x : Answer Series) → tree_clause m (behind_bar_at h s (plain_after x)) ≡ terms_clause m (behind_bar_read (heading h) (list_of (series_terms s)) (fit (listed x)))
-second_means m h s None = refl
-second_means m h s (Some r) = second_at m h s r.0 r.1 (behind_at r.1) refl
-
-second_body : (m : List ℕ) (h : Head) (s : Series) (vs : List Numbered) → tree_clause m (behind_bar_at h s (body_at reading vs)) ≡ terms_clause m (behind_bar_read (heading h) (list_of (series_terms s)) (fit (listed (series_at reading vs))))
-second_body m h s vs =
-    body_plain m vs (λ body ws. Some (guarded h s body, ws)) (λ b ws urgent. gone m (guarded h s b) ws (body_gone h (list_of (series_terms s)) (fit_body m b) (urgent_none m b urgent)))
-    ∙ second_means m h s (series_at reading vs)
-
-second_gone : (m : List ℕ) (h : Head) (s : Series) (x : Answer Body) → ((b : Body) → clause_of_tree_upto m (guarded h s b) ≡ None) → tree_clause m (behind_bar_at h s x) ≡ None
-second_gone m h s None nothing = refl
-second_gone m h s (Some r) nothing = gone m (guarded h s r.0) r.1 (nothing r.0)
-
 -- a body, or tests with what is behind them
 abbrev behind_body_at : Head → Body → List Numbered → Option Series → Option (List Numbered) → Answer ClauseTree
 behind_body_at h b us x y = if_there y (Some (rule h b, us)) (λ vs. option_and_then (λ s. behind_bar_at h s (body_at reading vs)) x)
 
-abbrev after_body : Head → BodyGoing
-after_body h b us = behind_body_at h b us (tests_of b) (behind_bar us)
+second_means : (m : List ℕ) (h : Head) (s : Series) (x : Answer Body) → tree_clause m (behind_bar_at h s x) ≡ terms_clause m (with_body (heading h) (list_of (series_terms s)) (answer_map names x))
+second_means m h s None = refl
+second_means m h s (Some r) = guarded_mean m h s r.0 r.1
 
-abbrev behind_tests_read : Heading → List Term → List Numbered → Option (List Numbered) → Answer Statement
-behind_tests_read h tests us y = if_there y (Some (record { heading = h; tests = []; body = tests }, us)) (λ vs. behind_bar_read h tests (fit (listed (series_at reading vs))))
+tests_mean : (m : List ℕ) (h : Head) (vs : List Numbered) (x : Option Series) → tree_clause m (option_and_then (λ s. behind_bar_at h s (body_at reading vs)) x) ≡ terms_clause m (option_and_then (λ ts. with_body (heading h) ts (goals_read vs)) (option_map (λ s. list_of (series_terms s)) x))
+unfolding goals_read
+tests_mean m h vs None = refl
+tests_mean m h vs (Some s) = second_means m h s (body_at reading vs)
 
-tests_mean : (m : List ℕ) (h : Head) (s : Series) (us : List Numbered) (y : Option (List Numbered)) → tree_clause m (behind_body_at h (plain_body s) us (Some s) y) ≡ terms_clause m (behind_tests_read (heading h) (list_of (series_terms s)) us y)
-tests_mean m h s us None = last_means m h s us
-tests_mean m h s us (Some vs) = second_body m h s vs
+goals_mean : (m : List ℕ) (h : Head) (b : Body) (us : List Numbered) (y : Option (List Numbered)) → tree_clause m (behind_body_at h b us (tests_of b) y) ≡ terms_clause m (behind_goals (heading h) (names b) us y)
+goals_mean m h b us None = rule_means m h b us
+goals_mean m h b us (Some vs) =
+    tests_mean m h vs (tests_of b)
+    ∙ ap (λ x. terms_clause m (option_and_then (λ ts. with_body (heading h) ts (goals_read vs)) x)) (tests_plain b)
 
-body_none : (m : List ℕ) (h : Head) (b : Body) (us : List Numbered) (x : Option Series) (y : Option (List Numbered)) → clause_of_tree_upto m (rule h b) ≡ None → ((s : Series) → x ≡ Some s → (c : Body) → clause_of_tree_upto m (guarded h s c) ≡ None) → tree_clause m (behind_body_at h b us x y) ≡ None
-body_none m h b us x None e nothing = gone m (rule h b) us e
-body_none m h b us None (Some vs) e nothing = refl
-body_none m h b us (Some s) (Some vs) e nothing = second_gone m h s (body_at reading vs) (nothing s refl)
+neck_means : (m : List ℕ) (h : Head) (x : Answer Body) → tree_clause m (then_read x (λ b us. behind_body_at h b us (tests_of b) (behind_bar us))) ≡ terms_clause m (behind_all (heading h) (answer_map names x))
+neck_means m h None = refl
+neck_means m h (Some r) = goals_mean m h r.0 r.1 (behind_bar r.1)
 
--- nothing comes of goals of which one names a priority
-urgent_refused : (m : List ℕ) (h : Head) → Refuses m (after_body h)
-urgent_refused m h b us urgent =
-    ap (λ x. tree_clause m (behind_body_at h b us x (behind_bar us))) (urgent_tests b urgent)
-    ∙ body_none m h b us None (behind_bar us) (body_gone h [] (fit_body m b) (urgent_none m b urgent)) (λ s e. absurd (none-some s e))
+necks_mean : (m : List ℕ) (h : Head) (ts : List Numbered) → tree_clause m (behind_neck_at reading h ts) ≡ terms_clause m (behind_all (heading h) (goals_read ts))
+unfolding goals_read
+necks_mean m h ts = neck_means m h (body_at reading ts)
 
-first_by : (m : List ℕ) (h : Head) (s : Series) (us : List Numbered) (b : Bool) → list_all is_writable (list_of (series_terms s)) ≡ b → tree_clause m (behind_body_at h (plain_body s) us (Some s) (behind_bar us)) ≡ terms_clause m (then_read (if◌then◌else◌ {A = Answer (List Term)} b (Some (list_of (series_terms s), us)) None) (λ ts vs. behind_tests_read (heading h) ts vs (behind_bar vs)))
-first_by m h s us true e = tests_mean m h s us (behind_bar us)
-first_by m h s us false e =
-    body_none m h (plain_body s) us (Some s) (behind_bar us) (plain_gone m h [] s e) (λ t same c. ap (λ u. clause_of_tree_upto m (guarded h u c)) (sym (same_Some s t same)) ∙ tests_gone h (list_of (series_terms s)) (fit_body m c) e)
+-- no clause comes of goals of which one can't be written
+unwritten_tests : (m : List ℕ) (h : Heading) (gs : List BodyGoal) (vs : List Numbered) (x : Option (List Term)) → plain_terms gs ≡ x → are_written gs ≡ false → terms_clause m (option_and_then (λ ts. with_body h ts (goals_read vs)) x) ≡ None
+unwritten_tests m h gs vs None e w = refl
+unwritten_tests m h gs vs (Some ts) e w = tests_gone_with m h ts (goals_read vs) (sym (plain_written gs ts e) ∙ w)
 
-tests_at_none : (m : List ℕ) (h : Heading) (us vs : List Numbered) (s : List Term) (b : Bool) → behind_at us ≡ Some vs → terms_clause m (then_read (if◌then◌else◌ {A = Answer (List Term)} b (Some (s, us)) None) (λ ts ws. behind_tests_read h ts ws (behind_bar ws))) ≡ None
-tests_at_none m h us vs s true e = subst (λ xs. terms_clause m (behind_tests_read h s xs (behind_bar xs)) ≡ None) (at_is us vs e) refl
-tests_at_none m h us vs s false e = refl
+unwritten_goals : (m : List ℕ) (h : Heading) (gs : List BodyGoal) (us : List Numbered) (y : Option (List Numbered)) → are_written gs ≡ false → terms_clause m (behind_goals h gs us y) ≡ None
+unwritten_goals m h gs us None w = body_gone m h [] gs us w
+unwritten_goals m h gs us (Some vs) w = unwritten_tests m h gs vs (plain_terms gs) refl w
 
-first_at : (m : List ℕ) (h : Head) (s : Series) (us : List Numbered) (y : Option (List Numbered)) → behind_at us ≡ y → tree_clause m (then_read (if_there y (Some (plain_body s, us)) (λ vs. None)) (after_body h)) ≡ terms_clause m (then_read (fit (Some (list_of (series_terms s), us))) (λ ts vs. behind_tests_read (heading h) ts vs (behind_bar vs)))
-first_at m h s us None e =
-    ap (λ x. tree_clause m (behind_body_at h (plain_body s) us x (behind_bar us))) (plain_tests s)
-    ∙ first_by m h s us (list_all is_writable (list_of (series_terms s))) refl
-first_at m h s us (Some vs) e = sym (tests_at_none m (heading h) us vs (list_of (series_terms s)) (list_all is_writable (list_of (series_terms s))) e)
+kept_none : (gs : List BodyGoal) (us : List Numbered) (b : Bool) → if◌then◌else◌ {A = Answer (List BodyGoal)} b (Some (gs, us)) None ≡ None → b ≡ false
+kept_none gs us true h = absurd (none-some (gs, us) (sym h))
+kept_none gs us false h = refl
 
-first_means : (m : List ℕ) (h : Head) (x : Answer Series) → tree_clause m (then_read (plain_after x) (after_body h)) ≡ terms_clause m (then_read (fit (listed x)) (λ ts vs. behind_tests_read (heading h) ts vs (behind_bar vs)))
-first_means m h None = refl
-first_means m h (Some r) = first_at m h r.0 r.1 (behind_at r.1) refl
+unwritten_all : (m : List ℕ) (h : Heading) (x : Answer (List BodyGoal)) → written x ≡ None → terms_clause m (behind_all h x) ≡ None
+unwritten_all m h None w = refl
+unwritten_all m h (Some r) w = unwritten_goals m h r.0 r.1 (behind_bar r.1) (kept_none r.0 r.1 (are_written r.0) w)
+
+kept_means : (m : List ℕ) (h : Heading) (tests : List Term) (gs : List BodyGoal) (us : List Numbered) (b : Bool) → are_written gs ≡ b → terms_clause m (Some (statement_by h tests gs, us)) ≡ terms_clause m (with_body h tests (if◌then◌else◌ {A = Answer (List BodyGoal)} b (Some (gs, us)) None))
+kept_means m h tests gs us true w = refl
+kept_means m h tests gs us false w = body_gone m h tests gs us w
+
+written_means : (m : List ℕ) (h : Heading) (tests : List Term) (x : Answer (List BodyGoal)) → terms_clause m (with_body h tests x) ≡ terms_clause m (with_body h tests (written x))
+written_means m h tests None = refl
+written_means m h tests (Some r) = kept_means m h tests r.0 r.1 (are_written r.0) refl
+
+-- goals of which one names a priority are no tests
+bar_none : (m : List ℕ) (s : Statement) (us vs : List Numbered) → behind_bar us ≡ Some vs → terms_clause m (Some (s, us)) ≡ None
+bar_none m s us vs h = subst (λ xs. terms_clause m (Some (s, xs)) ≡ None) (bar_is us vs h) refl
+
+urgent_by : (m : List ℕ) (h : Heading) (gs : List BodyGoal) (us : List Numbered) (y : Option (List Numbered)) → behind_bar us ≡ y → plain_terms gs ≡ None → terms_clause m (behind_goals h gs us y) ≡ terms_clause m (Some (statement_by h [] gs, us))
+urgent_by m h gs us None bar urgent = refl
+urgent_by m h gs us (Some vs) bar urgent =
+    ap (λ x. terms_clause m (option_and_then (λ ts. with_body h ts (goals_read vs)) x)) urgent ∙ sym (bar_none m (statement_by h [] gs) us vs bar)
+
+module _ (m : List ℕ) (h : Heading) (s : Series) where
+  abbrev urgent : ℕ → List BodyGoal
+  urgent n = goals_named (Some n) (list_of (series_terms s))
+
+  behind_front : (n : ℕ) (x : Answer (List BodyGoal)) → terms_clause m (behind_all h (with_front (urgent n) x)) ≡ terms_clause m (with_body h [] (with_front (urgent n) x))
+  behind_front n None = refl
+  behind_front n (Some r) = urgent_by m h (urgent n ++ r.0) r.1 (behind_bar r.1) refl (urgent_terms n s r.0)
+
+  behind_urgent : (n : ℕ) (ws : List Numbered) (y : Option (List Numbered)) →
+      terms_clause m (behind_all h (if_there y (Some (urgent n, ws)) (λ xs. with_front (urgent n) (goals_read xs))))
+      ≡ terms_clause m (with_body h [] (if_there y (Some (urgent n, ws)) (λ xs. with_front (urgent n) (goals_read xs))))
+  behind_urgent n ws None = urgent_by m h (urgent n) ws (behind_bar ws) refl (ap plain_terms (sym (append-nil (urgent n))) ∙ urgent_terms n s [])
+  behind_urgent n ws (Some xs) = behind_front n (goals_read xs)
+
+  behind_number : (x : Answer ℕ) →
+      terms_clause m (behind_all h (then_read x (λ n ws. goals_after goals_read (urgent n) ws)))
+      ≡ terms_clause m (with_body h [] (then_read x (λ n ws. goals_after goals_read (urgent n) ws)))
+  behind_number None = refl
+  behind_number (Some r) = behind_urgent r.0 r.1 (behind_comma r.1)
+
+  behind_terms : (us : List Numbered) (y : Option (List Numbered)) → behind_bar us ≡ None →
+      terms_clause m (behind_all h (if_there y (Some (goals_named None (list_of (series_terms s)), us)) (λ vs. then_read (priority_read vs) (λ n ws. goals_after goals_read (urgent n) ws))))
+      ≡ terms_clause m (with_body h [] (if_there y (Some (goals_named None (list_of (series_terms s)), us)) (λ vs. then_read (priority_read vs) (λ n ws. goals_after goals_read (urgent n) ws))))
+  behind_terms us None bar = ap (λ y. terms_clause m (behind_goals h (goals_named None (list_of (series_terms s))) us y)) bar
+  behind_terms us (Some vs) bar = behind_number (priority_read vs)
+
+-- terms behind a neck, with what follows them
+abbrev after_series : Heading → List Term → List Numbered → Option (List Numbered) → Answer Statement
+after_series h ts us y = if_there y (with_body h [] (terms_after written_goals ts us)) (λ vs. with_body h ts (written_goals vs))
+
+tests_there : (m : List ℕ) (h : Heading) (ts : List Term) (us vs : List Numbered) → behind_bar us ≡ Some vs → terms_clause m (behind_all h (terms_after goals_read ts us)) ≡ terms_clause m (with_body h ts (goals_read vs))
+tests_there m h ts us vs bar =
+    subst (λ xs. terms_clause m (behind_all h (terms_after goals_read ts xs)) ≡ terms_clause m (with_body h ts (goals_read vs))) (bar_is us vs bar)
+    (ap (λ x. terms_clause m (option_and_then (λ ts. with_body h ts (goals_read vs)) x)) (plain_again ts))
+
+series_bar : (m : List ℕ) (h : Heading) (s : Series) (us : List Numbered) (y : Option (List Numbered)) → behind_bar us ≡ y → list_all is_writable (list_of (series_terms s)) ≡ true →
+    terms_clause m (behind_all h (terms_after goals_read (list_of (series_terms s)) us)) ≡ terms_clause m (after_series h (list_of (series_terms s)) us y)
+series_bar m h s us None bar w =
+    behind_terms m h s us (behind_at us) bar
+    ∙ written_means m h [] (terms_after goals_read (list_of (series_terms s)) us)
+    ∙ ap (λ x. terms_clause m (with_body h [] x)) (terms_written (list_of (series_terms s)) us w)
+series_bar m h s us (Some vs) bar w =
+    tests_there m h (list_of (series_terms s)) us vs bar ∙ written_means m h (list_of (series_terms s)) (goals_read vs)
+
+series_by_written : (m : List ℕ) (h : Heading) (s : Series) (us : List Numbered) (b : Bool) → list_all is_writable (list_of (series_terms s)) ≡ b →
+    terms_clause m (behind_all h (terms_after goals_read (list_of (series_terms s)) us)) ≡ terms_clause m (then_read (if◌then◌else◌ {A = Answer (List Term)} b (Some (list_of (series_terms s), us)) None) (λ ts vs. after_series h ts vs (behind_bar vs)))
+series_by_written m h s us true w = series_bar m h s us (behind_bar us) refl w
+series_by_written m h s us false w = unwritten_all m h (terms_after goals_read (list_of (series_terms s)) us) (terms_unwritten (list_of (series_terms s)) us w)
+
+series_mean : (m : List ℕ) (h : Heading) (x : Answer Series) → terms_clause m (behind_all h (then_read (listed x) (terms_after goals_read))) ≡ terms_clause m (then_read (fit (listed x)) (λ ts vs. after_series h ts vs (behind_bar vs)))
+series_mean m h None = refl
+series_mean m h (Some r) = series_by_written m h r.0 r.1 (list_all is_writable (list_of (series_terms r.0))) refl
 
 guarded_means : (m : List ℕ) (h : Head) (ts : List Numbered) → tree_clause m (behind_neck_at reading h ts) ≡ terms_clause m (guarded_read (heading h) ts)
 unfolding series_read
-guarded_means m h ts = body_plain m ts (after_body h) (urgent_refused m h) ∙ first_means m h (series_at reading ts)
+guarded_means m h ts =
+    necks_mean m h ts
+    ∙ ap (λ x. terms_clause m (behind_all (heading h) x)) (goals_chunked ts)
+    ∙ series_mean m (heading h) (series_at reading ts)
 
-first_gone : (m : List ℕ) (h : Head) (x : Answer Body) → is_fit_head h ≡ false → tree_clause m (then_read x (after_body h)) ≡ None
+gone : (m : List ℕ) (t : ClauseTree) (us : List Numbered) → clause_of_tree_upto m t ≡ None → tree_clause m (Some (t, us)) ≡ None
+gone m t [] e = e
+gone m t (u ∷ us) e = refl
+
+second_gone : (m : List ℕ) (h : Head) (s : Series) (x : Answer Body) → is_fit_head h ≡ false → tree_clause m (behind_bar_at h s x) ≡ None
+second_gone m h s None e = refl
+second_gone m h s (Some r) e = gone m (guarded h s r.0) r.1 (head_gone h (list_of (series_terms s)) (fit_body m r.0) e)
+
+body_none : (m : List ℕ) (h : Head) (b : Body) (us : List Numbered) (x : Option Series) (y : Option (List Numbered)) → is_fit_head h ≡ false → tree_clause m (behind_body_at h b us x y) ≡ None
+body_none m h b us x None e = gone m (rule h b) us (head_gone h [] (fit_body m b) e)
+body_none m h b us None (Some vs) e = refl
+body_none m h b us (Some s) (Some vs) e = second_gone m h s (body_at reading vs) e
+
+first_gone : (m : List ℕ) (h : Head) (x : Answer Body) → is_fit_head h ≡ false → tree_clause m (then_read x (λ b us. behind_body_at h b us (tests_of b) (behind_bar us))) ≡ None
 first_gone m h None e = refl
-first_gone m h (Some r) e =
-    body_none m h r.0 r.1 (tests_of r.0) (behind_bar r.1) (head_gone h [] (fit_body m r.0) e) (λ s same c. head_gone h (list_of (series_terms s)) (fit_body m c) e)
+first_gone m h (Some r) e = body_none m h r.0 r.1 (tests_of r.0) (behind_bar r.1) e
 
 -- what is behind a head
 abbrev behind_head_at : Head → List Numbered → Option (List Numbered) → Answer ClauseTree
 behind_head_at h us y = if_there y (Some (fact h, us)) (λ vs. behind_neck_at reading h vs)
 
 abbrev behind_head_read : Heading → List Numbered → Option (List Numbered) → Answer Statement
-behind_head_read h us y = if_there y (Some (record { heading = h; tests = []; body = true_goal ∷ [] }, us)) (λ vs. guarded_read h vs)
+behind_head_read h us y = if_there y (Some (record { heading = h; tests = []; body = without_priority true_goal ∷ [] }, us)) (λ vs. guarded_read h vs)
 
 head_means : (m : List ℕ) (h : Head) (us : List Numbered) (y : Option (List Numbered)) → tree_clause m (behind_head_at h us y) ≡ terms_clause m (behind_head_read (heading h) us y)
 head_means m h us None = fact_means m h us

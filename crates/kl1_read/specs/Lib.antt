@@ -12,6 +12,7 @@ pub mod Series
 pub mod WholeTexts
 pub mod Sources
 pub mod Statements
+pub mod BodyGoals
 pub mod Heads
 pub mod GoalNodes
 pub mod Started

@@ -4,8 +4,10 @@ ghost use Rattle.std.specs.Prelude.{◌≡◌, [], map, IfOk};
 ghost use Rattle.kl1_model.specs.Reader.{all_read};
 ghost use Rattle.kl1_model.specs.Numbering.{numbered_tokens};
 ghost use Rattle.kl1_read.specs.Views.{kept_token, numbered_token};
+ghost use Rattle.kl1_read.specs.BodyGoals.{goal_of_term};
 ghost use Rattle.kl1_read.specs.Statements.{Heading, given, left_view, statement_view, statement_by, written_series, statement_of, statement_read, body_read, guarded_read};
 
+use crate::goal_terms::{GoalTerm, read_goals, read_on};
 use crate::head_terms::read_head;
 use crate::kept::Kept;
 use crate::mark::{Mark, behind_mark};
@@ -15,7 +17,6 @@ use crate::piece::Piece;
 use crate::series::read_series;
 use kl1_text::AtomText;
 use std::alloc::{AllocError, Global};
-use std::mem::swap;
 
 /// A clause as terms, its name and the arguments of its head first: it isn't known yet whether they may stand where they
 /// stand.
@@ -24,7 +25,7 @@ pub(crate) struct ClauseTerms {
     pub(crate) name: AtomText,
     pub(crate) arguments: Vec<Piece>,
     pub(crate) tests: Vec<Piece>,
-    pub(crate) body: Vec<Piece>,
+    pub(crate) body: Vec<GoalTerm>,
 }
 
 /// Reads the clause that all tokens of an item are, as terms. Answers false where they are no clause, or no text can write
@@ -70,15 +71,19 @@ fn read_body<'a>(
     alloc: Global,
     tokens: &'a [Numbered],
     tests: &mut Vec<Piece>,
-    body: &mut Vec<Piece>,
+    body: &mut Vec<GoalTerm>,
 ) -> Result<Option<&'a [Numbered]>, AllocError>
     requires tests { tests.old.items ≡ [] }
     requires body { body.old.items ≡ [] }
-    ensures { IfOk result (λ r. (h : Heading) → statement_view r (statement_by h tests.new.items body.new.items) ≡ body_read h (map numbered_token tokens.now)) }
+    ensures { IfOk result (λ r. (h : Heading) → statement_view r (statement_by h tests.new.items (map goal_of_term body.new.items)) ≡ body_read h (map numbered_token tokens.now)) }
 {
     match behind_mark(Mark::Neck, tokens) {
         None => {
-            body.push(Piece::atom(alloc, AtomText::of(b"true"))?)?;
+            let term = Piece::atom(alloc, AtomText::of(b"true"))?;
+            body.push(GoalTerm {
+                term,
+                priority: None,
+            })?;
             Ok(Some(tokens))
         }
         Some(behind) => read_guarded(alloc, behind, tests, body),
@@ -90,20 +95,21 @@ fn read_guarded<'a>(
     alloc: Global,
     tokens: &'a [Numbered],
     tests: &mut Vec<Piece>,
-    body: &mut Vec<Piece>,
+    body: &mut Vec<GoalTerm>,
 ) -> Result<Option<&'a [Numbered]>, AllocError>
-    requires { tests.old.items ≡ [] }
-    ensures { IfOk result (λ r. (h : Heading) → statement_view r (statement_by h tests.new.items body.new.items) ≡ guarded_read h (map numbered_token tokens.now)) }
+    requires tests { tests.old.items ≡ [] }
+    requires body { body.old.items ≡ [] }
+    ensures { IfOk result (λ r. (h : Heading) → statement_view r (statement_by h tests.new.items (map goal_of_term body.new.items)) ≡ guarded_read h (map numbered_token tokens.now)) }
 {
-    match put_series(alloc, tokens, body) {
-        Ok(Some(rest)) => match behind_mark(Mark::Bar, rest) {
-            None => Ok(Some(rest)),
+    match read_series(alloc, tokens)? {
+        None => Ok(None),
+        Some((terms, rest)) => match behind_mark(Mark::Bar, rest) {
+            None => read_on(alloc, terms, rest, body),
             Some(inside) => {
-                swap(tests, body);
-                put_series(alloc, inside, body)
+                *tests = terms;
+                read_goals(alloc, inside, body)
             }
         },
-        other => other,
     }
 }
 

@@ -13,6 +13,7 @@ mod following;
 mod frame;
 mod front;
 mod goal_kinds;
+mod goal_terms;
 mod goals;
 mod head_kinds;
 mod head_terms;

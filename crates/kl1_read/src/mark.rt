@@ -18,6 +18,7 @@ pub(crate) enum Mark {
     Bar,
     Colon,
     Neck,
+    At,
 }
 
 /// The sign of a mark.
@@ -32,6 +33,7 @@ fn sign_of(mark: Mark) -> Sign
         Mark::Bar => Sign::Bar,
         Mark::Colon => Sign::Colon,
         Mark::Neck => Sign::Neck,
+        Mark::At => Sign::At,
     }
 }
 

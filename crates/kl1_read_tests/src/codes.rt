@@ -38,12 +38,15 @@ fn put_predicate(answer: &mut Text, code: &Code, predicate: &[u8]) {
     }
 }
 
-/// Puts how many clauses a code has, and how many instructions the patterns of the first one are.
+/// Puts how many clauses a code has, how many instructions the patterns of the first one are, and how many structures stand in the
+/// arguments of its goals.
 fn put_sizes(answer: &mut Text, code: &Code) {
     answer.put_number(code.clause_count() as u64);
     answer.put(b" ");
     if let [first, ..] = code.clauses() {
         answer.put_number(first.patterns.len() as u64);
+        answer.put(b" ");
+        answer.put_number(first.nodes);
     }
 }
 
@@ -64,8 +67,8 @@ fn put_compiled(answer: &mut Text, code: &Code, source: &[u8]) {
 }
 
 /// Puts a clause: in angle brackets its predicate, with `+` and the number of its section where that isn't 0, the numbers of
-/// the variables of its head and of its others, its patterns, tests and goals, and the modules of its goals, with `?` between
-/// them.
+/// the variables of its head and of its others, its patterns, tests and goals, and the modules of its goals with their priorities,
+/// with `?` between them.
 fn put_clause(answer: &mut Text, clause: &CompiledClause) {
     answer.put(b" <");
     put_structure(answer, clause.name, clause.count as u64);
@@ -83,17 +86,26 @@ fn put_clause(answer: &mut Text, clause: &CompiledClause) {
     answer.put(b" ?");
     put_row(answer, clause.goals.as_slice());
     answer.put(b" ?");
-    put_modules(answer, clause.modules.as_slice());
+    put_modules(
+        answer,
+        clause.modules.as_slice(),
+        clause.priorities.as_slice(),
+    );
     answer.put(b">");
 }
 
-/// Puts the names of modules, each behind a space, and `-` where there is none.
-fn put_modules(answer: &mut Text, modules: &[Option<Name>]) {
-    for name in modules {
+/// Puts the names of modules, each behind a space, and `-` where there is none; with `@` and the priority of the goal, where it
+/// names one.
+fn put_modules(answer: &mut Text, modules: &[Option<Name>], priorities: &[Option<u64>]) {
+    for place in 0..modules.len() {
         answer.put(b" ");
-        match name {
+        match modules[place] {
             None => answer.put(b"-"),
-            Some(name) => put_name(answer, *name),
+            Some(name) => put_name(answer, name),
+        }
+        if let Some(Some(priority)) = priorities.get(place) {
+            answer.put(b"@");
+            answer.put_number(*priority);
         }
     }
 }

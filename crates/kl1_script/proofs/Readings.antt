@@ -12,14 +12,6 @@ use Rattle.kl1_account.specs.Naming.{Grows}
 pub fits_before : (old new : List Known) (f : Reading) → Grows old new → Fits new f → Fits old f
 fits_before old new f grows fits = record { reads = fits.reads; texts = λ t n e. fits.texts t n (grows t n e) }
 
--- names stay known by one step and another
-pub grows_on : (old mid new : List Known) → Grows old mid → Grows mid new → Grows old new
-grows_on old mid new first then = λ t n e. then t n (first t n e)
-
--- no name is forgotten where nothing changes
-pub grows_same : (ks : List Known) → Grows ks ks
-grows_same ks = λ t n e. e
-
 -- the reading of names that are known; other numbers are read as what is no name
 abbrev pub reading_of : List Known → Reading
 reading_of ks c = reading 1 ks (record { number = c.number })

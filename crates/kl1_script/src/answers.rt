@@ -6,19 +6,16 @@ ghost use Rattle.kl1_model.specs.Limits.{most_waiting_bytes};
 ghost use Rattle.kl1_model.specs.Script.{is_served, written_reply};
 ghost use Rattle.kl1_account.specs.Fitting.{Reading, Fits};
 ghost use Rattle.kl1_account.specs.Account.{state_of};
-ghost use Rattle.kl1_account.specs.Naming.{Grows};
-ghost use Rattle.kl1_script.specs.Commands.{command_view};
+ghost use Rattle.kl1_command.specs.Commands.{command_view};
 ghost use Rattle.kl1_lines.specs.Records.{request_of};
 ghost use Rattle.kl1_script.specs.Told.{state_by, told_by};
 
-use crate::command::Command;
-use crate::parsed::{Parsed, command_in};
-use crate::performed::{Performed, perform};
-use crate::replies::put_reply_of;
 use crate::served::Served;
 use kl1_atoms::AtomSource;
+use kl1_command::{Command, Parsed, Performed, command_in, perform, put_lines};
+use kl1_event::{Refusal, Reply};
 use kl1_lines::{Record, is_same};
-use kl1_user::{AccountName, Refusal, Reply};
+use kl1_user::AccountName;
 use std::alloc::{AllocError, Global};
 
 /// Whether a name is that of the account that is served, which is the first.
@@ -43,7 +40,7 @@ pub(crate) fn put_record<A: AtomSource + Drop>(
     requires few { length out.old.items < most_waiting_bytes }
     ensures state { OnOk result ((f : Reading) → Fits served.new.names f → state_of f served.new ≡ state_by accounts.now (state_of f served.old) (record { name = found.entry.name.now; request = request_of found.entry.request })) }
     ensures reply { OnOk result ((f : Reading) → Fits served.new.names f → out.new.items ≡ out.old.items ++ told_by accounts.now (state_of f served.old) (record { name = found.entry.name.now; request = request_of found.entry.request })) }
-    ensures grows { Grows served.old.names served.new.names }
+    ensures before { (f : Reading) → Fits served.new.names f → Fits served.old.names f }
     ensures err { OnErr result (out.new.items ≡ out.old.items) }
 {
     if !is_served(accounts, found.name) {
@@ -51,7 +48,7 @@ pub(crate) fn put_record<A: AtomSource + Drop>(
     }
     match command_in(alloc, found.request) {
         Ok(Parsed::Command(command)) => put_performed(served, &command, found.name, out),
-        Ok(Parsed::Refused) => put_reply_of(out, found.name, &Reply::Refused(Refusal::Syntax)),
+        Ok(Parsed::Refused) => put_lines(out, found.name, &Reply::Refused(Refusal::Syntax)),
         Err(error) => Err(error),
     }
 }
@@ -65,11 +62,11 @@ fn put_performed<A: AtomSource + Drop>(
 ) -> Result<(), AllocError>
     ensures state { OnOk result ((f : Reading) → Fits served.new.names f → state_of f served.new ≡ (act (state_of f served.old) (command_view command.now)).state) }
     ensures reply { OnOk result ((f : Reading) → Fits served.new.names f → out.new.items ≡ out.old.items ++ written_reply name.now (reply_lines (act (state_of f served.old) (command_view command.now)).reply)) }
-    ensures grows { Grows served.old.names served.new.names }
+    ensures before { (f : Reading) → Fits served.new.names f → Fits served.old.names f }
     ensures err { OnErr result (out.new.items ≡ out.old.items) }
 {
     match perform(served, command) {
-        Performed::Whole(reply) => put_reply_of(out, name, &reply),
+        Performed::Whole(reply) => put_lines(out, name, &reply),
         Performed::Short { steps: _steps } => Err(AllocError),
         Performed::Memory => Err(AllocError),
     }

@@ -11,7 +11,6 @@ ghost use Rattle.kl1_script.specs.Scripts.{Answered, BreaksOff, Closes, Ends, Fi
 ghost use Rattle.kl1_model.specs.State.{fresh};
 ghost use Rattle.kl1_account.specs.Fitting.{Reading, Fits};
 ghost use Rattle.kl1_account.specs.Account.{state_of};
-ghost use Rattle.kl1_account.specs.Naming.{Grows};
 ghost use Rattle.kl1_script.specs.Told.{state_by, told_by};
 ghost use Rattle.kl1_lines.specs.Records.{request_of};
 ghost use Rattle.kl1_lines.specs.declared.script_fault.ScriptFault.TheVariants as faults;
@@ -161,7 +160,7 @@ fn answer_record<A: AtomSource + Drop, W: Sink>(
     requires few { length out.old.items < most_waiting_bytes }
     ensures state { OnOk result ((f : Reading) → Fits served.new.names f → state_of f served.new ≡ state_by accounts.now (state_of f served.old) (record { name = found.entry.name.now; request = request_of found.entry.request })) }
     ensures bytes { (f : Reading) → Fits served.new.names f → Passes (W.contents sink.old) (W.contents sink.new) (W.failures sink.old) (W.failures sink.new) out.old.items (told_by accounts.now (state_of f served.old) (record { name = found.entry.name.now; request = request_of found.entry.request })) out.new.items result }
-    ensures grows { Grows served.old.names served.new.names }
+    ensures before { (f : Reading) → Fits served.new.names f → Fits served.old.names f }
     ensures few { OnOk result (length out.new.items < most_waiting_bytes) }
 {
     match put_record(alloc, accounts, served, found, out) {

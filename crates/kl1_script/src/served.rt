@@ -1,18 +1,16 @@
 // The account that is served, with its seat.
 
-ghost use Rattle.std.specs.Prelude.{◌≡◌, [], IfOk, OnErr, option_map};
+ghost use Rattle.std.specs.Prelude.{◌≡◌, [], IfOk};
 ghost use Rattle.kl1_model.specs.State.{fresh};
-ghost use Rattle.kl1_model.specs.Event.{reduce as reduce_event};
-ghost use Rattle.kl1_model.specs.Step.{step};
-ghost use Rattle.kl1_model.specs.Choice.{first, quiet};
+ghost use Rattle.kl1_model.specs.Choice.{quiet};
 ghost use Rattle.kl1_atoms.specs.Names.{AreNames};
-ghost use Rattle.kl1_account.specs.Fitting.{Reading, Fits};
+ghost use Rattle.kl1_account.specs.Fitting.{Reading as NameReading, Fits};
 ghost use Rattle.kl1_account.specs.Account.{state_of};
-ghost use Rattle.kl1_account.specs.Naming.{Grows};
-ghost use Rattle.kl1_account.specs.Views.{event_of, reply_of, reduced_or, chosen_of};
 
 use kl1_atoms::AtomSource;
-use kl1_user::{AccountName, ClauseNo, Event, GoalNo, Refusal, Reply, UserState};
+use kl1_command::Host;
+use kl1_event::{ClauseNo, Event, GoalNo, Reply};
+use kl1_user::{AccountName, UserState};
 use std::alloc::{AllocError, Global};
 use std::marker::Model;
 
@@ -50,40 +48,15 @@ impl<A: AtomSource + Drop> Served<A> {
     ) -> Result<Self, AllocError>
         requires of { A.is_of names seat }
         requires nothing { A.knows seat ≡ [] }
-        ensures { IfOk result (λ served. (f : Reading) → state_of f served ≡ fresh name) }
+        ensures { IfOk result (λ served. (f : NameReading) → state_of f served ≡ fresh name) }
     {
         let user = UserState::fresh(alloc, name)?;
         Ok(Served { user, names, seat })
     }
 
-    /// What an event does to the account, and the reply.
-    pub fn apply(&mut self, event: &Event) -> Result<Reply, AllocError>
-        ensures step { IfOk result (λ reply. (f : Reading) → Fits self.new.names f → step (state_of f self.old) (event_of event.now) ≡ record { state = state_of f self.new; reply = reply_of reply }) }
-        ensures err { OnErr result (self.new ≡ self.old) }
-        ensures grows { Grows self.old.names self.new.names }
-    {
-        self.user.apply(&mut self.names, &mut self.seat, event)
-    }
-
-    /// Reduces a goal by a clause, or says why it is refused.
-    pub fn reduce(&mut self, goal: GoalNo, clause: ClauseNo) -> Result<Option<Refusal>, AllocError>
-        ensures step { IfOk result (λ refused. (f : Reading) → Fits self.old.names f → step (state_of f self.old) (reduce_event goal.0 clause.0) ≡ record { state = state_of f self.new; reply = reduced_or refused }) }
-        ensures names { self.new.names ≡ self.old.names }
-        ensures err { OnErr result (self.new ≡ self.old) }
-    {
-        self.user.reduce(goal, clause)
-    }
-
-    /// The first goal that can step, with the clause by which it steps.
-    pub fn pick(&self) -> Option<(GoalNo, ClauseNo)>
-        ensures { (f : Reading) → Fits self.now.names f → option_map chosen_of result ≡ first (state_of f self.now) }
-    {
-        self.user.pick()
-    }
-
     /// Whether no goal can step.
     pub fn quiet(&self) -> bool
-        ensures { (f : Reading) → Fits self.now.names f → result ≡ quiet (state_of f self.now) }
+        ensures { (f : NameReading) → Fits self.now.names f → result ≡ quiet (state_of f self.now) }
     {
         self.user.quiet()
     }
@@ -93,5 +66,21 @@ impl<A: AtomSource + Drop> Served<A> {
         ensures { AreNames self.now.names }
     {
         let _seat = &self.seat;
+    }
+}
+
+impl<A: AtomSource + Drop> Host for Served<A> {
+    ghost Reading = { NameReading };
+
+    ghost fits = { λ s f. Fits s.names f };
+
+    ghost state = { state_of };
+
+    fn apply(&mut self, event: &Event) -> Result<Reply, AllocError> {
+        self.user.apply(&mut self.names, &mut self.seat, event)
+    }
+
+    fn pick(&self) -> Option<(GoalNo, ClauseNo)> {
+        self.user.pick()
     }
 }

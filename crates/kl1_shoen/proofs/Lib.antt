@@ -1,2 +1,8 @@
+pub mod Putting
 pub mod Numbered
+pub mod Paths
+pub mod Charges
+pub mod Changing
+pub mod Counting
+pub mod Flags
 pub mod Meaning

@@ -1,14 +1,53 @@
--- Shoens that are found and exchanged, as the definitions have them.
-use Rattle.std.proofs.Common.{◌≡◌, ℕ, suc, ◌≤◌, Bool, true, false, ◌==◌, if◌then◌else◌, List, [], ◌∷◌, map, refl, sym, ap, ◌∙◌, arith}
-use Rattle.std.specs.Prelude.{Some, find, option_map}
-use Rattle.std.proofs.lemmas.Bool.{ne_eqb, eqb-true}
+-- The words of shoens in order of number, as the definitions have them over a state, for each reading of the names.
+use Rattle.std.proofs.Common.{◌≡◌, ℕ, ◌+◌, Bool, true, false, ◌==◌, ◌&&◌, ◌||◌, not, if◌then◌else◌, nat_le, List, [], ◌∷◌, map, length, count_by, refl, ap, ap₂, ◌∙◌}
+use Rattle.std.specs.Prelude.{Option, Some, None, find, option_map, unwrap_or, cond}
+use Rattle.std.specs.List.{list_any}
+use Rattle.std.proofs.lemmas.List.Sums.{sum_by-cons}
+use Rattle.kl1_model.specs.declared.life.Life.TheVariants.{Aborted}
+use Rattle.kl1_model.specs.Module.{is_among}
 use Rattle.kl1_model.specs.State as model
-use Rattle.kl1_model.specs.State.{shoen_at}
+use Rattle.kl1_model.specs.State.{State, shoen_at, is_living}
+use Rattle.kl1_model.specs.Tree.{parents_of, path_within, path, is_on_path, depth_of, charged_of, is_exhausted, is_blocking, is_enabled_in, is_living_child}
+use Rattle.kl1_model.specs.Tree as tree
+use Rattle.kl1_model.specs.Ending.{has_living_child, lives, has_reached, aborted_below}
 use Rattle.kl1_store.specs.Held.{Held}
 use Rattle.kl1_shoen.specs.declared.shoen.Shoen.{Shoen}
-use Rattle.kl1_shoen.specs.Shoens.{has_number, exchanged, AreNumbered}
-use Rattle.kl1_shoen.proofs.Numbered.{exchanged_low}
+use Rattle.kl1_shoen.specs.Shoens.{has_number, shoen_in, parents_in, path_in, is_on_path_in, charged_in, is_exhausted_in, is_blocking_in, is_blocking_at, is_enabled_at, has_reached_in, lives_in, is_living_child_of, changed, aborted_below_in}
 use Rattle.kl1_shoen.specs.Meaning.{shoen_of}
+
+-- one reduction more charges just its path one more
+pub charge_is : {N : Type 0} (ss : List (Shoen N)) (work : List ℕ) (n a : ℕ) → charged_in ss (n ∷ work) a ≡ (if is_on_path_in ss a n then 1 else 0) + charged_in ss work a
+charge_is ss work n a = sum_by-cons (λ w. cond (is_on_path_in ss a w) 1 0) n work
+
+pub parents_are : {N : Type 0} (f : N → List ℕ) (h : Held N) (ss : List (Shoen N)) → parents_of (map (shoen_of f h) ss) ≡ parents_in ss
+parents_are f h [] = refl
+parents_are f h (s ∷ ss) = ap (λ (ps : List ℕ). s.parent ∷ ps) (parents_are f h ss)
+
+pub path_is : {N : Type 0} (f : N → List ℕ) (h : Held N) (ss : List (Shoen N)) (n : ℕ) → path (map (shoen_of f h) ss) n ≡ path_in ss n
+path_is f h ss n = ap (λ ps. path_within n ps n) (parents_are f h ss)
+
+pub on_path_is : {N : Type 0} (f : N → List ℕ) (h : Held N) (ss : List (Shoen N)) (a n : ℕ) → is_on_path (map (shoen_of f h) ss) a n ≡ is_on_path_in ss a n
+on_path_is f h ss a n = ap (is_among a) (path_is f h ss n)
+
+pub depth_is : {N : Type 0} (f : N → List ℕ) (h : Held N) (ss : List (Shoen N)) (n : ℕ) → depth_of (map (shoen_of f h) ss) n ≡ length (path_in ss n)
+depth_is f h ss n = ap (λ (ns : List ℕ). length ns) (path_is f h ss n)
+
+-- a state has these shoens and this work, names read by f
+pub record Has {N : Type 0} (f : N → List ℕ) (h : Held N) (ss : List (Shoen N)) (work : List ℕ) (s : State) : Type 0 where
+  pub shoens : s.shoens ≡ map (shoen_of f h) ss
+  pub charged : s.work ≡ work
+
+pub charged_is : {N : Type 0} (f : N → List ℕ) (h : Held N) (ss : List (Shoen N)) (work : List ℕ) (s : State) → Has f h ss work s → (a : ℕ) → charged_of s a ≡ charged_in ss work a
+charged_is f h ss work s e a =
+    ap (λ hs. count_by (λ w. is_among a (path_within w (parents_of hs) w)) s.work) e.shoens
+    ∙ ap (count_by (λ w. is_among a (path_within w (parents_of (map (shoen_of f h) ss)) w))) e.charged
+    ∙ ap (λ ps. count_by (λ w. is_among a (path_within w ps w)) work) (parents_are f h ss)
+
+pub exhausted_is : {N : Type 0} (f : N → List ℕ) (h : Held N) (ss : List (Shoen N)) (work : List ℕ) (s : State) → Has f h ss work s → (x : Shoen N) → is_exhausted s (shoen_of f h x) ≡ is_exhausted_in ss work x
+exhausted_is f h ss work s e x = ap (nat_le x.allowance) (charged_is f h ss work s e x.number)
+
+pub blocking_is : {N : Type 0} (f : N → List ℕ) (h : Held N) (ss : List (Shoen N)) (work : List ℕ) (s : State) → Has f h ss work s → (x : Shoen N) → is_blocking s (shoen_of f h x) ≡ is_blocking_in ss work x
+blocking_is f h ss work s e x = ap (λ b. x.is_stopped || not (is_living x.life) || b) (exhausted_is f h ss work s e x)
 
 found_first : {N : Type 0} (f : N → List ℕ) (h : Held N) (n : ℕ) (s : Shoen N) (ss : List (Shoen N)) (b : Bool) → shoen_at n (map (shoen_of f h) ss) ≡ option_map (shoen_of f h) (find (has_number n) ss) →
     (if b then Some (shoen_of f h s) else shoen_at n (map (shoen_of f h) ss)) ≡ option_map (shoen_of f h) (if b then Some s else find (has_number n) ss)
@@ -20,41 +59,65 @@ pub shoen_at_is : {N : Type 0} (f : N → List ℕ) (h : Held N) (n : ℕ) (ss :
 shoen_at_is f h n [] = refl
 shoen_at_is f h n (s ∷ ss) = found_first f h n s ss (s.number == n) (shoen_at_is f h n ss)
 
--- shoens, that of a number changed
-abbrev pub changed_to : ℕ → (model.Shoen → model.Shoen) → List model.Shoen → List model.Shoen
-changed_to n change shoens = map (λ h. if h.number == n then change h else h) shoens
+-- a test of the shoen of a number, where it comes to the same of each
+pub tested_is : {N : Type 0} (f : N → List ℕ) (h : Held N) (ss : List (Shoen N)) (hs : List model.Shoen) (p : model.Shoen → Bool) (q : Shoen N → Bool) (n : ℕ) → hs ≡ map (shoen_of f h) ss → ((x : Shoen N) → p (shoen_of f h x) ≡ q x) →
+    unwrap_or (option_map p (shoen_at n hs)) false ≡ unwrap_or (option_map q (shoen_in n ss)) false
+tested_is {N = N} f h ss hs p q n e same =
+    ap (λ ks. unwrap_or (option_map p (shoen_at n ks)) false) e
+    ∙ ap (λ (o : Option model.Shoen). unwrap_or (option_map p o) false) (shoen_at_is f h n ss)
+    ∙ by_case (find (has_number n) ss)
+  where
+    by_case : (o : Option (Shoen N)) → unwrap_or (option_map p (option_map (shoen_of f h) o)) false ≡ unwrap_or (option_map q o) false
+    by_case None = refl
+    by_case (Some x) = same x
 
--- no shoen has a number that is too low
-changed_low : {N : Type 0} (f : N → List ℕ) (h : Held N) (change : model.Shoen → model.Shoen) (n last : ℕ) (ss : List (Shoen N)) → AreNumbered last ss → n ≤ last → changed_to n change (map (shoen_of f h) ss) ≡ map (shoen_of f h) ss
-changed_low f h change n last [] a le = refl
-changed_low f h change n last (s ∷ ss) a le =
-    let m = a.0 in
-    ap (λ b. (if b then change (shoen_of f h s) else shoen_of f h s) ∷ changed_to n change (map (shoen_of f h) ss)) (ne_eqb s.number n (λ x. omega arith))
-    ∙ ap (λ xs. shoen_of f h s ∷ xs) (changed_low f h change n (suc last) ss a.1 (omega arith))
+pub blocking_at_is : {N : Type 0} (f : N → List ℕ) (h : Held N) (ss : List (Shoen N)) (work : List ℕ) (s : State) → Has f h ss work s → (n : ℕ) → tree.is_blocking_at s n ≡ is_blocking_at ss work n
+blocking_at_is f h ss work s e n = tested_is f h ss s.shoens (is_blocking s) (is_blocking_in ss work) n e.shoens (blocking_is f h ss work s e)
 
-exchanged_first : {N : Type 0} (f : N → List ℕ) (h : Held N) (change : model.Shoen → model.Shoen) (r s : Shoen N) (last : ℕ) (x : Shoen N) (ss : List (Shoen N)) (b : Bool) → AreNumbered last (x ∷ ss) →
-    find (has_number r.number) (x ∷ ss) ≡ Some s → change (shoen_of f h s) ≡ shoen_of f h r → (x.number == r.number) ≡ b →
-    (find (has_number r.number) ss ≡ Some s → changed_to r.number change (map (shoen_of f h) ss) ≡ map (shoen_of f h) (exchanged r ss)) →
-    changed_to r.number change (map (shoen_of f h) (x ∷ ss)) ≡ map (shoen_of f h) (exchanged r (x ∷ ss))
-exchanged_first {N = N} f h change r s last x ss true a e c p later =
-    let rest : List model.Shoen = changed_to r.number change (map (shoen_of f h) ss) in
-    let found : Some x ≡ Some s = sym (ap (λ b. if b then Some x else find (has_number r.number) ss) p) ∙ e in
-    let is : x ≡ s = cc in
-    let n : x.number ≡ r.number = eqb-true x.number r.number p in
-    let m = a.0 in
-    ap (λ b. (if b then change (shoen_of f h x) else shoen_of f h x) ∷ rest) p
-    ∙ ap (λ y. y ∷ rest) (ap (λ (y : Shoen N). change (shoen_of f h y)) is ∙ c)
-    ∙ ap (λ ys. shoen_of f h r ∷ ys) (changed_low f h change r.number (suc last) ss a.1 (omega arith) ∙ ap (map (shoen_of f h)) (sym (exchanged_low (suc last) ss r a.1 (omega arith))))
-    ∙ ap (λ b. map (shoen_of f h) ((if b then r else x) ∷ exchanged r ss)) (sym p)
-exchanged_first f h change r s last x ss false a e c p later =
-    let rest : List model.Shoen = changed_to r.number change (map (shoen_of f h) ss) in
-    ap (λ b. (if b then change (shoen_of f h x) else shoen_of f h x) ∷ rest) p
-    ∙ ap (λ ys. shoen_of f h x ∷ ys) (later (sym (ap (λ b. if b then Some x else find (has_number r.number) ss) p) ∙ e))
-    ∙ ap (λ b. map (shoen_of f h) ((if b then r else x) ∷ exchanged r ss)) (sym p)
+any_same : (p q : ℕ → Bool) → ((n : ℕ) → p n ≡ q n) → (ns : List ℕ) → list_any p ns ≡ list_any q ns
+any_same p q e [] = refl
+any_same p q e (n ∷ ns) = ap₂ (λ b c. b || c) (e n) (any_same p q e ns)
 
--- a change of the definitions' shoen of a number is an exchange, where it makes of that shoen what is put in its place
-pub exchanged_is : {N : Type 0} (f : N → List ℕ) (h : Held N) (change : model.Shoen → model.Shoen) (r s : Shoen N) (last : ℕ) (ss : List (Shoen N)) → AreNumbered last ss →
-    find (has_number r.number) ss ≡ Some s → change (shoen_of f h s) ≡ shoen_of f h r →
-    changed_to r.number change (map (shoen_of f h) ss) ≡ map (shoen_of f h) (exchanged r ss)
-exchanged_is f h change r s last [] a e c = refl
-exchanged_is f h change r s last (x ∷ ss) a e c = exchanged_first f h change r s last x ss (x.number == r.number) a e c refl (λ later. exchanged_is f h change r s (suc last) ss a.1 later c)
+pub enabled_is : {N : Type 0} (f : N → List ℕ) (h : Held N) (ss : List (Shoen N)) (work : List ℕ) (s : State) → Has f h ss work s → (n : ℕ) → is_enabled_in s n ≡ is_enabled_at ss work n
+enabled_is f h ss work s e n =
+    ap (λ hs. not (list_any (tree.is_blocking_at s) (path hs n))) e.shoens
+    ∙ ap (λ ns. not (list_any (tree.is_blocking_at s) ns)) (path_is f h ss n)
+    ∙ ap not (any_same (tree.is_blocking_at s) (is_blocking_at ss work) (blocking_at_is f h ss work s e) (path_in ss n))
+
+pub reached_is : {N : Type 0} (f : N → List ℕ) (h : Held N) (ss : List (Shoen N)) (work : List ℕ) (s : State) → Has f h ss work s → (n : ℕ) → has_reached s n ≡ has_reached_in ss work n
+reached_is f h ss work s e n =
+    tested_is f h ss s.shoens (λ k. k.allowance == charged_of s n) (λ k. k.allowance == charged_in ss work n) n e.shoens (λ x. ap (λ (m : ℕ). x.allowance == m) (charged_is f h ss work s e n))
+
+pub lives_is : {N : Type 0} (f : N → List ℕ) (h : Held N) (ss : List (Shoen N)) (s : State) → s.shoens ≡ map (shoen_of f h) ss → (n : ℕ) → lives n s ≡ lives_in ss n
+lives_is f h ss s e n = tested_is f h ss s.shoens (λ k. is_living k.life) (λ k. is_living k.life) n e (λ x. refl)
+
+any_child : {N : Type 0} (f : N → List ℕ) (h : Held N) (ss : List (Shoen N)) (n : ℕ) → list_any (is_living_child n) (map (shoen_of f h) ss) ≡ list_any (is_living_child_of n) ss
+any_child f h [] n = refl
+any_child f h (s ∷ ss) n = ap (λ b. is_living_child_of n s || b) (any_child f h ss n)
+
+pub living_child_is : {N : Type 0} (f : N → List ℕ) (h : Held N) (ss : List (Shoen N)) (s : State) → s.shoens ≡ map (shoen_of f h) ss → (n : ℕ) → has_living_child n s ≡ list_any (is_living_child_of n) ss
+living_child_is f h ss s e n = ap (λ hs. list_any (is_living_child n) hs) e ∙ any_child f h ss n
+
+changed_if : {N : Type 0} (f : N → List ℕ) (h : Held N) (c : Bool) (x : Shoen N) (y : model.Shoen) (z : Shoen N) → y ≡ shoen_of f h z → (if c then y else shoen_of f h x) ≡ shoen_of f h (if c then z else x)
+changed_if f h true x y z e = e
+changed_if f h false x y z e = refl
+
+-- a change of the definitions' shoen of a number, where it comes to the same of each
+pub changed_is : {N : Type 0} (f : N → List ℕ) (h : Held N) (n : ℕ) (change : model.Shoen → model.Shoen) (make : Shoen N → Shoen N) → ((x : Shoen N) → change (shoen_of f h x) ≡ shoen_of f h (make x)) → (ss : List (Shoen N)) →
+    map (λ k. if k.number == n then change k else k) (map (shoen_of f h) ss) ≡ map (shoen_of f h) (changed n make ss)
+changed_is f h n change make e [] = refl
+changed_is f h n change make e (x ∷ ss) = ap₂ (λ (k : model.Shoen) (ks : List model.Shoen). k ∷ ks) (changed_if f h (x.number == n) x (change (shoen_of f h x)) (make x) (e x)) (changed_is f h n change make e ss)
+
+aborted_one : {N : Type 0} (f : N → List ℕ) (h : Held N) (ss : List (Shoen N)) (n : ℕ) (x : Shoen N) → aborted_below (map (shoen_of f h) ss) n (shoen_of f h x) ≡ shoen_of f h (aborted_below_in ss n x)
+aborted_one {N = N} f h ss n x =
+    let ended : Shoen N = record x { life = Aborted } in
+    ap (λ b. if is_living x.life && b then shoen_of f h ended else shoen_of f h x) (on_path_is f h ss n x.number)
+    ∙ changed_if f h (is_living x.life && is_on_path_in ss n x.number) x (shoen_of f h ended) ended refl
+
+aborted_each : {N : Type 0} (f : N → List ℕ) (h : Held N) (ss : List (Shoen N)) (n : ℕ) (xs : List (Shoen N)) → map (aborted_below (map (shoen_of f h) ss) n) (map (shoen_of f h) xs) ≡ map (shoen_of f h) (map (aborted_below_in ss n) xs)
+aborted_each f h ss n [] = refl
+aborted_each f h ss n (x ∷ xs) = ap₂ (λ (k : model.Shoen) (ks : List model.Shoen). k ∷ ks) (aborted_one f h ss n x) (aborted_each f h ss n xs)
+
+-- an abort of the definitions' shoens
+pub aborted_is : {N : Type 0} (f : N → List ℕ) (h : Held N) (ss : List (Shoen N)) (n : ℕ) → map (aborted_below (map (shoen_of f h) ss) n) (map (shoen_of f h) ss) ≡ map (shoen_of f h) (map (aborted_below_in ss n) ss)
+aborted_is f h ss n = aborted_each f h ss n ss

@@ -1,10 +1,11 @@
 -- Shoens in order of number, found and exchanged by place.
-use Rattle.std.proofs.Common.{◌≡◌, ℕ, zero, suc, ◌+◌, ◌-◌, ◌<◌, ◌≤◌, if◌then◌else◌, List, [], ◌∷◌, ◌++◌, length, refl, sym, ap, ◌∙◌, arith, subst}
+use Rattle.std.proofs.Common.{◌≡◌, ℕ, zero, suc, ◌+◌, ◌-◌, ◌<◌, ◌≤◌, if◌then◌else◌, List, [], ◌∷◌, ◌++◌, length, get_or, refl, sym, ap, ◌∙◌, arith, subst}
 use Rattle.std.specs.Prelude.{Option, Some, None, find, option_copied, slice_get, slice_set, IfSome}
 use Rattle.std.specs.Borrow.{Bor}
 use Rattle.std.proofs.lemmas.Bool.{ne_eqb, eq-eqb}
+use Rattle.std.proofs.lemmas.Option.{none-some, same_Some}
 use Rattle.kl1_shoen.specs.declared.shoen.Shoen.{Shoen}
-use Rattle.kl1_shoen.specs.Shoens.{has_number, exchanged, AreNumbered}
+use Rattle.kl1_shoen.specs.Shoens.{has_number, AreNumbered}
 
 pub numbered_push : {N : Type 0} (last : ℕ) (ss : List (Shoen N)) (s : Shoen N) → AreNumbered last ss → s.number ≡ suc (last + length ss) → AreNumbered last (ss ++ s ∷ [])
 numbered_push last [] s a e = (omega arith, tt)
@@ -51,34 +52,16 @@ number_at {N = N} n ss (Some s) a lt e =
     let Q : Option (Shoen N) → Type 0 = λ z. IfSome z (λ (x : Shoen N). x.number ≡ n) in
     subst Q (sym e) (subst P (omega arith) (number_from 0 (n - 1) ss a))
 
--- a shoen whose number none has leaves all as they are
-pub exchanged_low : {N : Type 0} (last : ℕ) (ss : List (Shoen N)) (s : Shoen N) → AreNumbered last ss → s.number ≤ last → exchanged s ss ≡ ss
-exchanged_low last [] s a le = refl
-exchanged_low last (r ∷ ss) s a le =
-    let m = a.0 in
-    ap (λ c. (if c then s else r) ∷ exchanged s ss) (ne_eqb r.number s.number (λ x. omega arith)) ∙ ap (λ rs. r ∷ rs) (exchanged_low (suc last) ss s a.1 (omega arith))
+some_number : {N : Type 0} (o : Option (Shoen N)) (s : Shoen N) (n : ℕ) → o ≡ Some s → IfSome o (λ r. r.number ≡ n) → s.number ≡ n
+some_number None s n e h = absurd (none-some s e)
+some_number (Some r) s n e h = ap (λ (x : Shoen _). x.number) (sym (same_Some r s e)) ∙ h
 
-exchanged_high : {N : Type 0} (last : ℕ) (ss : List (Shoen N)) (s : Shoen N) → AreNumbered last ss → last + length ss < s.number → exchanged s ss ≡ ss
-exchanged_high last [] s a le = refl
-exchanged_high last (r ∷ ss) s a le =
-    let m = a.0 in
-    ap (λ c. (if c then s else r) ∷ exchanged s ss) (ne_eqb r.number s.number (λ x. omega arith)) ∙ ap (λ rs. r ∷ rs) (exchanged_high (suc last) ss s a.1 (omega arith))
+-- a shoen that is found has that number
+pub number_is : {N : Type 0} (n : ℕ) (s : Shoen N) (ss : List (Shoen N)) → AreNumbered 0 ss → 0 < n → find (has_number n) ss ≡ Some s → s.number ≡ n
+number_is n s ss a lt e =
+    some_number (slice_get ss (n - 1)) s (suc (0 + (n - 1))) (sym (found_at n ss a lt) ∙ e) (number_from 0 (n - 1) ss a) ∙ omega (arith, lt)
 
-exchanged_from : {N : Type 0} (last i : ℕ) (ss : List (Shoen N)) (s : Shoen N) → AreNumbered last ss → s.number ≡ suc (last + i) → exchanged s ss ≡ slice_set ss i s
-exchanged_from last i [] s a e = refl
-exchanged_from last zero (r ∷ ss) s a e =
-    let m = a.0 in
-    ap (λ c. (if c then s else r) ∷ exchanged s ss) (eq-eqb r.number s.number (omega arith)) ∙ ap (λ rs. s ∷ rs) (exchanged_low (suc last) ss s a.1 (omega arith))
-exchanged_from last (suc i) (r ∷ ss) s a e =
-    let m = a.0 in
-    ap (λ c. (if c then s else r) ∷ exchanged s ss) (ne_eqb r.number s.number (λ x. omega arith)) ∙ ap (λ rs. r ∷ rs) (exchanged_from (suc last) i ss s a.1 (omega arith))
-
--- a shoen is exchanged at the place of its number
-pub exchanged_at : {N : Type 0} (ss : List (Shoen N)) (s : Shoen N) → AreNumbered 0 ss → 0 < s.number → exchanged s ss ≡ slice_set ss (s.number - 1) s
-exchanged_at ss s a lt = exchanged_from 0 (s.number - 1) ss s a (omega arith)
-
-pub exchanged_none : {N : Type 0} (ss : List (Shoen N)) (s : Shoen N) → AreNumbered 0 ss → s.number ≡ 0 → exchanged s ss ≡ ss
-exchanged_none ss s a e = exchanged_low 0 ss s a (omega arith)
-
-pub exchanged_beyond : {N : Type 0} (ss : List (Shoen N)) (s : Shoen N) → AreNumbered 0 ss → length ss < s.number → exchanged s ss ≡ ss
-exchanged_beyond ss s a lt = exchanged_high 0 ss s a (omega arith)
+pub numbered_get : {N : Type 0} (last i : ℕ) (ss : List (Shoen N)) (x : Shoen N) → AreNumbered last ss → i < length ss → x ≡ get_or ss i x → x.number ≡ suc (last + i)
+numbered_get last i [] x a lt e = absurd (omega (arith, lt))
+numbered_get last zero (s ∷ ss) x a lt e = ap (λ (y : Shoen _). y.number) e ∙ a.0 ∙ omega arith
+numbered_get last (suc i) (s ∷ ss) x a lt e = numbered_get (suc last) i ss x a.1 (omega (arith, lt)) e ∙ omega arith

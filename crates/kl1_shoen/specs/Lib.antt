@@ -1,2 +1,4 @@
+pub mod Tracked
 pub mod Shoens
+pub mod Changes
 pub mod Meaning

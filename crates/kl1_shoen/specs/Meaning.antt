@@ -2,18 +2,10 @@
 use Rattle.std.specs.Prelude.{ℕ, List, Option, Some, None, option_map}
 use Rattle.std.specs.List.{AllByRecursion}
 use Rattle.kl1_model.specs.State as model
-use Rattle.kl1_model.specs.State.{living, terminated}
 use Rattle.kl1_store.specs.Held.{Held, IsIn}
 use Rattle.kl1_store.specs.Meaning.{term_of}
-use Rattle.kl1_shoen.specs.declared.life.Life.{Life}
-use Rattle.kl1_shoen.specs.declared.life.Life.TheVariants.{Living, Terminated}
 use Rattle.kl1_shoen.specs.declared.shoen.Origin.{Origin}
 use Rattle.kl1_shoen.specs.declared.shoen.Shoen.{Shoen}
-
--- whether a shoen lives
-abbrev pub life_of : Life → model.Life
-life_of Living = living
-life_of Terminated = terminated
 
 -- what the console keeps, with the cells of a store, names read by f
 abbrev pub origin_of : {N : Type 0} → (N → List ℕ) → Held N → Origin N → model.Origin
@@ -23,7 +15,9 @@ origin_of f h o = record { goal = term_of f h o.goal; reports = term_of f h o.re
 abbrev pub shoen_of : {N : Type 0} → (N → List ℕ) → Held N → Shoen N → model.Shoen
 shoen_of f h s = record {
   number = s.number;
-  life = life_of s.life;
+  parent = s.parent;
+  life = s.life;
+  is_stopped = s.is_stopped;
   allowance = s.allowance;
   low = s.low;
   high = s.high;

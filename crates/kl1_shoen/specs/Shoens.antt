@@ -1,21 +1,115 @@
--- Shoens in order of number.
-use Rattle.std.specs.Prelude.{◌≡◌, ℕ, suc, ◌==◌, Bool, if◌then◌else◌, List, [], ◌∷◌, map}
+-- Shoens in order of number, as a tree: paths, charges, and which are enabled.
+use Rattle.std.specs.Prelude.{◌≡◌, ◌≤◌, ℕ, suc, ◌==◌, nat_le, not, ◌&&◌, ◌||◌, Bool, false, if◌then◌else◌, Option, List, [], ◌∷◌, map, length, find, get_or, count_by, option_map, unwrap_or}
+use Rattle.std.specs.List.{AllByRecursion, list_any}
+use Rattle.kl1_model.specs.declared.life.Life.{Life}
+use Rattle.kl1_model.specs.declared.life.Life.TheVariants.{Aborted}
+use Rattle.kl1_model.specs.Module.{is_among}
+use Rattle.kl1_model.specs.State.{is_living}
+use Rattle.kl1_model.specs.Tree.{path_within}
+use Rattle.kl1_model.specs.TreeLaws.{ParentsAreLower}
 use Rattle.kl1_shoen.specs.declared.shoen.Shoen.{Shoen}
+use Rattle.kl1_shoen.specs.Tracked.{Tracked}
 
--- shoens in order of number, from 1, and how many more can be opened without asking for memory
+-- the shoens of an account in order of number, from 1; for each charged reduction the number of its shoen, the newest first; both as
+-- they were when the event began; and how many more shoens can be opened without asking for memory
 pub record Tree (N : Type 0) : Type 0 where
   pub shoens : List (Shoen N)
+  pub work : List ℕ
+  pub kept : List (Shoen N)
+  pub kept_work : List ℕ
   pub room : ℕ
 
 -- whether a shoen has this number
 abbrev pub has_number : {N : Type 0} → ℕ → Shoen N → Bool
 has_number n s = s.number == n
 
--- a shoen in place of that of its number, and all others as they are
-abbrev pub exchanged : {N : Type 0} → Shoen N → List (Shoen N) → List (Shoen N)
-exchanged s ss = map (λ h. if has_number s.number h then s else h) ss
+-- the shoen of a number
+abbrev pub shoen_in : {N : Type 0} → ℕ → List (Shoen N) → Option (Shoen N)
+shoen_in n shoens = find (has_number n) shoens
 
 -- shoens have the numbers after this one, in order
 abbrev pub AreNumbered : {N : Type 0} → ℕ → List (Shoen N) → Type 0
 AreNumbered last [] = Unit {0}
 AreNumbered last (s ∷ ss) = (s.number ≡ suc last) × AreNumbered (suc last) ss
+
+-- the number of each shoen's parent
+abbrev pub parents_in : {N : Type 0} → List (Shoen N) → List ℕ
+parents_in shoens = map (λ h. h.parent) shoens
+
+-- each shoen's parent has a lesser number
+abbrev pub AreLower : {N : Type 0} → List (Shoen N) → Type 0
+AreLower shoens = ParentsAreLower (parents_in shoens)
+
+-- the path of a shoen: it and all its ancestors, innermost first
+abbrev pub path_in : {N : Type 0} → List (Shoen N) → ℕ → List ℕ
+path_in shoens n = path_within n (parents_in shoens) n
+
+-- whether a shoen is on the path of another
+abbrev pub is_on_path_in : {N : Type 0} → List (Shoen N) → ℕ → ℕ → Bool
+is_on_path_in shoens a n = is_among a (path_in shoens n)
+
+-- what a shoen is charged: one for each reduction that was done in it or below it
+abbrev pub charged_in : {N : Type 0} → List (Shoen N) → List ℕ → ℕ → ℕ
+charged_in shoens work a = count_by (λ w. is_on_path_in shoens a w) work
+
+-- whether a shoen was charged as much as it may be
+abbrev pub is_exhausted_in : {N : Type 0} → List (Shoen N) → List ℕ → Shoen N → Bool
+is_exhausted_in shoens work h = nat_le h.allowance (charged_in shoens work h.number)
+
+-- whether a shoen holds back the goals in it and below it
+abbrev pub is_blocking_in : {N : Type 0} → List (Shoen N) → List ℕ → Shoen N → Bool
+is_blocking_in shoens work h = h.is_stopped || not (is_living h.life) || is_exhausted_in shoens work h
+
+-- the same of the shoen of a number
+abbrev pub is_blocking_at : {N : Type 0} → List (Shoen N) → List ℕ → ℕ → Bool
+is_blocking_at shoens work n = unwrap_or (option_map (is_blocking_in shoens work) (shoen_in n shoens)) false
+
+-- whether goals of a shoen are enabled: no shoen on its path holds them back
+abbrev pub is_enabled_at : {N : Type 0} → List (Shoen N) → List ℕ → ℕ → Bool
+is_enabled_at shoens work n = not (list_any (is_blocking_at shoens work) (path_in shoens n))
+
+-- whether the shoen of a number was charged just what it may be
+abbrev pub has_reached_in : {N : Type 0} → List (Shoen N) → List ℕ → ℕ → Bool
+has_reached_in shoens work n = unwrap_or (option_map (λ h. h.allowance == charged_in shoens work n) (shoen_in n shoens)) false
+
+-- whether the shoen of a number lives
+abbrev pub lives_in : {N : Type 0} → List (Shoen N) → ℕ → Bool
+lives_in shoens n = unwrap_or (option_map (λ h. is_living h.life) (shoen_in n shoens)) false
+
+-- whether a shoen lives and is a child of another
+abbrev pub is_living_child_of : {N : Type 0} → ℕ → Shoen N → Bool
+is_living_child_of n h = h.parent == n && is_living h.life
+
+-- shoens, that of a number changed
+abbrev pub changed : {N : Type 0} → ℕ → (Shoen N → Shoen N) → List (Shoen N) → List (Shoen N)
+changed n f shoens = map (λ h. if has_number n h then f h else h) shoens
+
+-- a shoen after an abort of one on whose path it may be: it is ended, where it lives
+abbrev pub aborted_below_in : {N : Type 0} → List (Shoen N) → ℕ → Shoen N → Shoen N
+aborted_below_in shoens n h = if is_living h.life && is_on_path_in shoens n h.number then record h { life = Aborted } else h
+
+-- shoens in order of number are a tree, and each was charged what the reductions come to
+pub record AreCharged {N : Type 0} (shoens : List (Shoen N)) (charges work : List ℕ) : Type 0 where
+  pub numbered : AreNumbered 0 shoens
+  pub lower : AreLower shoens
+  pub worked : AllByRecursion (λ w. w ≤ length shoens) work
+  pub count : length charges ≡ length shoens
+  pub charged : (k : ℕ) → get_or charges k 0 ≡ charged_in shoens work (suc k)
+
+-- of a shoen of this parent and life, 1 where it is a living child of that of a number
+abbrev pub counted_under : ℕ → ℕ → Life → ℕ
+counted_under n parent life = if parent == n && is_living life then 1 else 0
+
+-- of each number, from 0, how many shoens live whose parent has it
+pub record AreCounted {N : Type 0} (shoens : List (Shoen N)) (children : List ℕ) : Type 0 where
+  pub lower : AreLower shoens
+  pub count : length children ≡ length shoens
+  pub counted : (n : ℕ) → get_or children n 0 ≡ count_by (is_living_child_of n) shoens
+
+-- shoens with their counts, now and as they were, and room in each list for what is promised
+pub record IsCounted {N : Type 0} (shoens : Tracked (Shoen N)) (children : Tracked ℕ) (room : ℕ) : Type 0 where
+  pub now : AreCounted shoens.now children.now
+  pub kept : AreCounted shoens.kept children.kept
+  pub shoens_room : room ≤ shoens.room
+  pub children_room : room ≤ children.room
+  pub changes : room ≤ children.changes

@@ -1,10 +1,12 @@
-//! The shoens of an account in order of number, each with its life, allowance, priorities and streams.
+//! The shoens of an account as a tree in order of number, with what each is charged, and with the way back to an event's beginning.
 #![tactic(auto)]
 
-mod life;
+mod change;
+mod counted;
 mod shoen;
+mod tracked;
 mod tree;
+mod work;
 
-pub use life::Life;
 pub use shoen::{Origin, Shoen};
 pub use tree::ShoenTree;

@@ -1,6 +1,9 @@
 // Shoens, and what the console keeps of them.
 
-use crate::life::Life;
+ghost use Rattle.std.specs.Prelude.{◌≡◌};
+ghost use Rattle.kl1_model.specs.State.{is_living as living};
+
+use kl1_model::Life;
 use kl1_store::Cell;
 
 /// What the console keeps of a shoen that it started: the goal as started, the report stream from its beginning, and the tail
@@ -12,18 +15,31 @@ pub struct Origin<N> {
     pub control: Cell<N>,
 }
 
-/// A shoen: its number in the account, from 1, the reductions that it may be charged, its priorities from low to high, what is
-/// left of its control stream, the tail of its report stream, whether it lives, whether that stream is broken, and its origin
-/// at the console. The small ones stand side by side, so that it has 128 bytes, which are copied without a call.
+/// A shoen: its number in the account, from 1, and that of its parent, 0 where the console started it; the reductions that it may
+/// be charged; its priorities from low to high; what is left of its control stream, and the tail of its report stream; whether it
+/// lives, whether it is stopped, and whether its report stream is broken; and its origin at the console.
 #[derive(Clone, Copy)]
 pub struct Shoen<N> {
     pub number: u64,
+    pub parent: u64,
     pub allowance: u64,
     pub low: u64,
     pub high: u64,
     pub control: Cell<N>,
     pub tail: Cell<N>,
     pub life: Life,
+    pub is_stopped: bool,
     pub is_broken: bool,
     pub origin: Option<Origin<N>>,
+}
+
+/// Whether a shoen of this life lives.
+pub fn is_living(life: Life) -> bool
+    ensures { result ≡ living life }
+{
+    match life {
+        Life::Living => true,
+        Life::Terminated => false,
+        Life::Aborted => false,
+    }
 }

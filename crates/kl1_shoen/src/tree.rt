@@ -1,9 +1,18 @@
 // The shoens of an account.
 
-ghost use Rattle.std.specs.Prelude.{◌≡◌, ◌<◌, ◌≤◌, ◌+◌, ◌-◌, [], ◌∷◌, ◌++◌, suc, length, find, option_and_then, option_copied, slice_get, IfSome, OnOk};
-ghost use Rattle.kl1_shoen.specs.Shoens.{has_number, exchanged, AreNumbered};
+mod changing;
+mod charging;
+mod marking;
+mod walking;
 
-use crate::shoen::{Origin, Shoen};
+ghost use Rattle.std.specs.Prelude.{◌≡◌, ◌<◌, ◌≤◌, ◌+◌, ◌-◌, [], ◌∷◌, ◌++◌, suc, min, length, find, option_and_then, option_copied, option_map, unwrap_or, slice_get, IfSome, OnOk};
+ghost use Rattle.std.specs.List.{AllByRecursion};
+ghost use Rattle.kl1_shoen.specs.Shoens.{has_number, shoen_in, path_in, lives_in, AreNumbered, AreLower};
+
+use crate::counted::CountedShoens;
+use crate::shoen::{Origin, Shoen, is_living};
+use crate::tracked::TrackedList;
+use crate::work::Work;
 use kl1_text::NameValue;
 use std::alloc::{AllocError, Global};
 use std::marker::Model;
@@ -15,57 +24,83 @@ fn at<N: NameValue>(shoens: &[Shoen<N>], place: usize) -> Option<&Shoen<N>>
     shoens.get(place)
 }
 
-/// The shoens of an account, each at the place of its number.
+/// The shoens of an account, each at the place of its number, with what each was charged, and both as they were when the event
+/// began; and the list that an abort writes, kept from one to the next.
 #[derive(Drop)]
 pub struct ShoenTree<N: NameValue> {
-    shoens: Vec<Shoen<N>>,
+    shoens: CountedShoens<N>,
+    charges: TrackedList<u64>,
+    work: Work,
+    kept_work: Work,
+    are_below: Vec<bool>,
 }
 
 impl<N: NameValue> Model for ShoenTree<N> {
-    ghost use Rattle.std.specs.Prelude.{◌-◌, vec_len, vec_capacity};
-    ghost use Rattle.kl1_shoen.specs.Shoens.{Tree, AreNumbered};
+    ghost use Rattle.std.specs.Prelude.{min};
+    ghost use Rattle.kl1_shoen.specs.Shoens.{Tree, AreCharged};
 
     ghost Value = { Tree N };
 
-    ghost view = { λ t. record { shoens = t.shoens.items; room = vec_capacity t.shoens - vec_len t.shoens } };
+    ghost view = { λ t. record {
+      shoens = t.shoens.now;
+      work = t.work;
+      kept = t.shoens.kept;
+      kept_work = t.kept_work;
+      room = min t.shoens.room t.charges.room;
+    } };
 
-    ghost invariant = { λ t. AreNumbered 0 t.shoens.items };
+    ghost invariant = { λ t. AreCharged t.shoens.now t.charges.now t.work × AreCharged t.shoens.kept t.charges.kept t.kept_work };
 }
 
 impl<N: NameValue> ShoenTree<N> {
     /// No shoens.
     pub fn new(alloc: Global) -> Self
-        ensures { result.shoens ≡ [] }
+        ensures shoens { result.shoens ≡ [] }
+        ensures work { result.work ≡ [] }
+        ensures kept { result.kept ≡ [] }
+        ensures kept_work { result.kept_work ≡ [] }
     {
         ShoenTree {
-            shoens: Vec::new(alloc),
+            shoens: CountedShoens::new(alloc),
+            charges: TrackedList::new(alloc),
+            work: Work::new(),
+            kept_work: Work::new(),
+            are_below: Vec::new(alloc),
         }
-    }
-
-    /// Makes room for `more` shoens: to open these can't be refused then.
-    pub fn reserve(&mut self, more: usize) -> Result<(), AllocError>
-        ensures room { OnOk result (more ≤ self.new.room) }
-        ensures keeps { self.old.room ≤ self.new.room }
-        ensures same { self.new.shoens ≡ self.old.shoens }
-    {
-        self.shoens.reserve(more)
     }
 
     /// How many shoens there are: the number of the last one.
     pub fn len(&self) -> u64
         ensures value { result ≡ length self.now.shoens }
         ensures numbered { AreNumbered 0 self.now.shoens }
+        ensures lower { AreLower self.now.shoens }
+        ensures worked { AllByRecursion (λ w. w ≤ length self.now.shoens) self.now.work }
     {
-        self.shoens.len() as u64
+        self.shoens.items().len() as u64
     }
 
-    /// Takes a shoen in, whose number is the next one.
+    /// Makes room for `more` shoens: to open these can't be refused then.
+    pub fn reserve(&mut self, more: usize) -> Result<(), AllocError>
+        ensures room { OnOk result (more ≤ self.new.room) }
+        ensures keeps { self.old.room ≤ self.new.room }
+        ensures shoens { self.new.shoens ≡ self.old.shoens }
+        ensures work { self.new.work ≡ self.old.work }
+        ensures kept { self.new.kept ≡ self.old.kept }
+        ensures kept_work { self.new.kept_work ≡ self.old.kept_work }
+    {
+        self.shoens.reserve(more)?;
+        self.charges.reserve(more)
+    }
+
+    /// Takes a shoen in, whose number is the next one, and whose parent is there.
     pub fn open(&mut self, shoen: Shoen<N>)
         requires room { 0 < self.old.room }
         requires number { shoen.number ≡ suc (length self.old.shoens) }
-        ensures { self.new ≡ record { shoens = self.old.shoens ++ shoen ∷ []; room = self.old.room - 1 } }
+        requires parent { shoen.parent ≤ length self.old.shoens }
+        ensures { self.new ≡ record self.old { shoens = self.old.shoens ++ shoen ∷ []; room = self.old.room - 1 } }
     {
-        self.shoens.push_reserved(shoen);
+        self.shoens.push(shoen);
+        self.charges.push(0);
     }
 
     /// The shoen of a number, lent.
@@ -74,25 +109,7 @@ impl<N: NameValue> ShoenTree<N> {
         ensures number { IfSome result (λ shoen. shoen.now.number ≡ number) }
     {
         let _numbered = self.len();
-        if number == 0 {
-            return None;
-        }
-        at(&self.shoens, (number - 1) as usize)
-    }
-
-    /// Puts a shoen in place of that of its number, if there is one.
-    pub fn set(&mut self, shoen: &Shoen<N>)
-        ensures { self.new ≡ record self.old { shoens = exchanged shoen.now self.old.shoens } }
-    {
-        let number = shoen.number;
-        let count = self.len();
-        if number == 0 {
-            return;
-        }
-        if count < number {
-            return;
-        }
-        self.shoens[(number - 1) as usize] = *shoen;
+        lent(self.shoens.items(), number)
     }
 
     /// What the console keeps of the shoen of a number.
@@ -101,4 +118,60 @@ impl<N: NameValue> ShoenTree<N> {
     {
         self.lend(number)?.origin
     }
+
+    /// Whether the shoen of a number lives.
+    pub fn lives(&self, number: u64) -> bool
+        ensures { result ≡ lives_in self.now.shoens number }
+    {
+        let Some(shoen) = self.lend(number) else {
+            return false;
+        };
+        is_living(shoen.life)
+    }
+
+    /// The number of the parent of the shoen of a number; 0 where the console started it, and where no shoen has the number.
+    pub fn parent(&self, number: u64) -> u64
+        ensures value { result ≡ unwrap_or (option_map (λ h. h.parent) (find (has_number number) self.now.shoens)) 0 }
+        ensures below { 0 < number → result < number }
+        ensures path { 0 < number → path_in self.now.shoens number ≡ number ∷ path_in self.now.shoens result }
+        ensures end { number ≡ 0 → path_in self.now.shoens number ≡ [] }
+    {
+        let _lower = self.len();
+        parent_of(self.shoens.items(), number)
+    }
+}
+
+/// The shoen of a number, lent.
+fn lent<N: NameValue>(shoens: &[Shoen<N>], number: u64) -> Option<&Shoen<N>>
+    requires { AreNumbered 0 shoens.now }
+    ensures value { option_copied result ≡ find (has_number number) shoens.now }
+    ensures number { IfSome result (λ shoen. shoen.now.number ≡ number) }
+{
+    if number == 0 {
+        return None;
+    }
+    at(shoens, (number - 1) as usize)
+}
+
+/// The number of the parent of the shoen of a number, as `parent`.
+fn parent_of<N: NameValue>(shoens: &[Shoen<N>], number: u64) -> u64
+    requires numbered { AreNumbered 0 shoens.now }
+    requires lower { AreLower shoens.now }
+    ensures value { result ≡ unwrap_or (option_map (λ h. h.parent) (find (has_number number) shoens.now)) 0 }
+    ensures below { 0 < number → result < number }
+    ensures path { 0 < number → path_in shoens.now number ≡ number ∷ path_in shoens.now result }
+    ensures end { number ≡ 0 → path_in shoens.now number ≡ [] }
+{
+    parent_named(shoens, number)
+}
+
+/// The number of the parent that a shoen names.
+fn parent_named<N: NameValue>(shoens: &[Shoen<N>], number: u64) -> u64
+    requires { AreNumbered 0 shoens.now }
+    ensures { result ≡ unwrap_or (option_map (λ h. h.parent) (find (has_number number) shoens.now)) 0 }
+{
+    let Some(shoen) = lent(shoens, number) else {
+        return 0;
+    };
+    shoen.parent
 }

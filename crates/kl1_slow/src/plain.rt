@@ -1,122 +1,74 @@
 // A slow account over whole terms, to compare with: each step goes over all goals and clauses, and replaces variables
 // everywhere, as the language's rules say it.
 
-use crate::expressions::{Outcome, outcome_of, scanned};
-use crate::guards::Verdict;
-use crate::matching::{arguments_of, clause_of, heads_of, judged, put_instance};
-use crate::nodes::{Row, highest_in, replace_in, split_term};
-use crate::solving::solve;
+use crate::candidates::{MANY, can_step, clause_for};
+use crate::controls::{Heard, heard_of};
+use crate::counting::{put_module_names, put_names, structures_in};
+use crate::matching::put_instance;
+use crate::nodes::{Row, highest_in, replace_in};
+use crate::tree::{PlainLife, PlainShoen, is_enabled, shoen_at};
 use kl1_read::{Source, read_module};
-use kl1_term::{Node, Printer};
+use kl1_term::Node;
+use kl1_text::AtomText;
 use std::alloc::{AllocError, Global};
 
-/// More than the clauses of any predicate of the rows.
-const MANY: u64 = 9;
+/// The priority of monitors.
+const MONITOR_PRIORITY: u64 = 4096;
 
-/// The most bytes of a goal that are shown.
-const MOST_SHOWN: usize = 4000;
+/// The most names of an account beside those of the language.
+pub const MOST_NAMES: usize = 1024;
 
-/// A goal other than a monitor.
-#[derive(Drop)]
-struct PlainGoal {
-    number: u64,
-    term: Row,
-    shoen: u64,
-    priority: u64,
+/// The most modules of an account.
+const MOST_MODULES: usize = 32;
+
+/// The most goals alive.
+pub const MOST_GOALS: u64 = 8192;
+
+/// The most variables of starts, messages and commits.
+pub const MOST_VARIABLES: u64 = 262_144;
+
+/// The most structures of starts, messages and commits.
+pub const MOST_NODES: u64 = 1_048_576;
+
+/// The most shoens that are opened.
+pub const MOST_SHOENS: usize = 1024;
+
+/// What is answered to a change.
+#[derive(Clone, Copy)]
+pub enum Answer {
+    /// It is done.
+    Done,
+    /// A shoen of this number is open.
+    Opened(u64),
+    /// It is refused, with this number.
+    Refused(u64),
 }
 
-/// An account over whole terms: its goals, the goal of each shoen as started, its modules, and the last numbers. The terms of
-/// reports are left out, since nothing can ask for them; each takes a variable's number.
+/// A goal, or the monitor of a shoen, which has no term.
+#[derive(Drop)]
+pub struct PlainGoal {
+    pub number: u64,
+    pub term: Row,
+    pub shoen: u64,
+    pub priority: u64,
+    pub is_monitor: bool,
+}
+
+/// An account over whole terms: its goals with the monitors, its shoens, its modules with the sizes of their sources, its names, the
+/// last numbers, and what counts for limits.
 #[derive(Drop)]
 pub struct Plain {
-    alloc: Global,
-    goals: Vec<PlainGoal>,
-    shoens: Vec<Row>,
-    modules: Vec<Source>,
-    last_variable: u64,
+    pub(crate) alloc: Global,
+    pub(crate) goals: Vec<PlainGoal>,
+    pub(crate) shoens: Vec<PlainShoen>,
+    pub(crate) modules: Vec<Source>,
+    pub(crate) sizes: Vec<u64>,
+    pub(crate) names: Vec<AtomText>,
+    pub(crate) last_variable: u64,
     last_goal: u64,
-}
-
-/// The number for what a goal does that waits for the result of an expression, 0 where it can compute one.
-fn clause_for_expression(expression: &[Node]) -> u64 {
-    match scanned(expression) {
-        Some(Outcome::Waits) => MANY,
-        _ => 0,
-    }
-}
-
-/// The least number of a clause by which a goal can step, 0 where none can or will; `MANY` where it waits. A clause that waits
-/// holds back all clauses of later sections.
-fn clause_for(alloc: Global, modules: &[Source], term: &[Node]) -> Option<u64> {
-    if let Some(pair) = arguments_of(term, b":=") {
-        return Some(clause_for_expression(split_term(pair).1));
-    }
-    let mut places = Vec::new(alloc);
-    let mut last_section = u64::MAX;
-    for number in 1..MANY {
-        let Some(parts) = clause_of(modules, term, number) else {
-            return Some(if last_section == u64::MAX { 0 } else { MANY });
-        };
-        match judged(alloc, parts, term, &mut places)? {
-            Verdict::Rejects => (),
-            Verdict::Suspends => last_section = last_section.min(parts.section),
-            Verdict::Accepts => {
-                if parts.section <= last_section {
-                    return Some(number);
-                }
-            }
-        }
-    }
-    None
-}
-
-/// Whether all clauses of the sections above one reject a goal.
-fn are_rejected_above(
-    alloc: Global,
-    modules: &[Source],
-    term: &[Node],
-    section: u64,
-) -> Option<bool> {
-    let mut places = Vec::new(alloc);
-    for number in 1..MANY {
-        match clause_of(modules, term, number) {
-            Some(parts) if parts.section < section => {
-                if !matches!(judged(alloc, parts, term, &mut places)?, Verdict::Rejects) {
-                    return Some(false);
-                }
-            }
-            _ => return Some(true),
-        }
-    }
-    None
-}
-
-/// Whether a goal can step by the clause of a number; the variables of the clause's head are put down, each with the term at its
-/// place behind it.
-fn can_step(
-    alloc: Global,
-    modules: &[Source],
-    term: &[Node],
-    clause: u64,
-    places: &mut Row,
-) -> Option<bool> {
-    if clause == 0 {
-        return Some(clause_for(alloc, modules, term)? == 0);
-    }
-    let Some(parts) = clause_of(modules, term, clause) else {
-        return Some(false);
-    };
-    match judged(alloc, parts, term, places)? {
-        Verdict::Accepts => are_rejected_above(alloc, modules, term, parts.section),
-        _ => Some(false),
-    }
-}
-
-/// The text of a term, cut as an account cuts it.
-fn printed(alloc: Global, row: &[Node]) -> Result<Vec<u8>, AllocError> {
-    let mut printer = Printer::new(alloc, Some(MOST_SHOWN));
-    printer.put_all(row)?;
-    printer.into_text()
+    pub(crate) variables: u64,
+    pub(crate) nodes: u64,
+    pub(crate) reports: u64,
 }
 
 /// Whether a goal goes before another.
@@ -127,6 +79,21 @@ fn goes_before(goal: &PlainGoal, other: &PlainGoal) -> bool {
     goal.priority > other.priority
 }
 
+/// Whether a module of a name is among others.
+fn has_module(modules: &[Source], name: &AtomText) -> bool {
+    for module in modules {
+        if module.name.is(name) {
+            return true;
+        }
+    }
+    false
+}
+
+/// The row of a variable.
+pub fn variable_row(alloc: Global, number: u64) -> Result<Row, AllocError> {
+    Vec::from_slice(alloc, &[Node::Variable(number)])
+}
+
 impl Plain {
     /// An account in which nothing has happened.
     pub fn fresh(alloc: Global) -> Self {
@@ -135,18 +102,52 @@ impl Plain {
             goals: Vec::new(alloc),
             shoens: Vec::new(alloc),
             modules: Vec::new(alloc),
+            sizes: Vec::new(alloc),
+            names: Vec::new(alloc),
             last_variable: 0,
             last_goal: 0,
+            variables: 0,
+            nodes: 0,
+            reports: 0,
         }
     }
 
     /// Takes the next numbers of variables.
-    fn take_variables(&mut self, count: u64) {
+    pub(crate) fn take_variables(&mut self, count: u64) {
         self.last_variable = self.last_variable.saturating_add(count);
     }
 
+    /// Counts variables and structures for the limits on them.
+    pub(crate) fn count_written(&mut self, variables: u64, nodes: u64) {
+        self.variables = self.variables.saturating_add(variables);
+        self.nodes = self.nodes.saturating_add(nodes);
+    }
+
+    /// Whether so many variables and structures more keep to the limits.
+    pub(crate) fn has_room(&self, variables: u64, nodes: u64) -> bool {
+        self.variables.saturating_add(variables) <= MOST_VARIABLES
+            && self.nodes.saturating_add(nodes) <= MOST_NODES
+    }
+
+    /// How many goals there are other than monitors.
+    pub(crate) fn alive(&self) -> u64 {
+        let mut count: u64 = 0;
+        for goal in &self.goals {
+            if !goal.is_monitor {
+                count = count.saturating_add(1);
+            }
+        }
+        count
+    }
+
     /// Puts a goal behind the others.
-    fn put_goal(&mut self, term: Row, shoen: u64, priority: u64) -> Result<(), AllocError> {
+    pub(crate) fn put_goal(
+        &mut self,
+        term: Row,
+        shoen: u64,
+        priority: u64,
+        is_monitor: bool,
+    ) -> Result<(), AllocError> {
         self.last_goal = self.last_goal.saturating_add(1);
         let number = self.last_goal;
         let goal = PlainGoal {
@@ -154,44 +155,140 @@ impl Plain {
             term,
             shoen,
             priority,
+            is_monitor,
         };
         self.goals.push(goal)?;
         Ok(())
     }
 
-    /// Puts a module behind the others.
-    fn put_module(&mut self, module: Source) -> Result<(), AllocError> {
+    /// Puts a module behind the others, with the size of its source and the names that are known then.
+    fn put_module(
+        &mut self,
+        module: Source,
+        bytes: u64,
+        names: Vec<AtomText>,
+    ) -> Result<(), AllocError> {
         self.modules.push(module)?;
+        self.sizes.push(bytes)?;
+        self.names = names;
         Ok(())
     }
 
-    /// Loads a module, and says whether its source is good and memory suffices.
-    pub fn load(&mut self, source: &[u8]) -> bool {
-        match read_module(self.alloc, source) {
-            Ok(module) => self.put_module(module).is_ok(),
-            Err(_fault) => false,
+    /// The names that are known.
+    pub(crate) fn known_names(&self) -> Result<Vec<AtomText>, AllocError> {
+        Vec::from_slice(self.alloc, self.names.as_slice())
+    }
+
+    /// Loads a module whose source is good.
+    pub fn load(&mut self, source: &[u8]) -> Option<Answer> {
+        let module = read_module(self.alloc, source).ok()?;
+        if has_module(self.modules.as_slice(), &module.name) {
+            return Some(Answer::Refused(3));
         }
+        let mut names = self.known_names().ok()?;
+        put_module_names(&mut names, &module).ok()?;
+        if names.len() > MOST_NAMES {
+            return Some(Answer::Refused(7));
+        }
+        if self.modules.len() >= MOST_MODULES {
+            return Some(Answer::Refused(8));
+        }
+        self.put_module(module, source.len() as u64, names).ok()?;
+        Some(Answer::Done)
     }
 
     /// A term, with the first terms at the places of its first variables, of which there are so many, and with the next variables
     /// in place of the others.
-    fn instance(&self, nodes: &[Node], heads: u64, places: &[Node]) -> Result<Row, AllocError> {
+    pub(crate) fn instance(
+        &self,
+        nodes: &[Node],
+        heads: u64,
+        places: &[Node],
+    ) -> Result<Row, AllocError> {
         let mut row = Vec::new(self.alloc);
         put_instance(&mut row, nodes, heads, places, self.last_variable)?;
         Ok(row)
     }
 
-    /// Starts a goal that may be started, and gives its shoen's number. The shoen's monitor, its control stream and its report
-    /// stream take numbers, and so does its first report.
-    pub fn start(&mut self, priority: u64, goal: &[Node]) -> Result<u64, AllocError> {
-        let copy = self.instance(goal, 0, &[])?;
-        self.shoens.push(copy)?;
-        let term = self.instance(goal, 0, &[])?;
-        self.take_variables(highest_in(goal).saturating_add(3));
-        self.last_goal = self.last_goal.saturating_add(1);
-        let shoen = self.count();
-        self.put_goal(term, shoen, priority)?;
-        Ok(shoen)
+    /// Whether a start of a goal keeps to the limits but that on names.
+    fn has_room_to_start(&self, goal: &[Node]) -> bool {
+        self.alive() < MOST_GOALS
+            && self.has_room(highest_in(goal).saturating_add(2), structures_in(goal))
+            && self.shoens.len() < MOST_SHOENS
+    }
+
+    /// Starts a goal that may be started, with an allowance and priorities from `low` to `high`. Its variables take the next
+    /// numbers, then the ends of the control stream and of the report stream.
+    pub fn start(&mut self, allowance: u64, low: u64, high: u64, goal: &[Node]) -> Option<Answer> {
+        let mut names = self.known_names().ok()?;
+        put_names(&mut names, goal).ok()?;
+        if names.len() > MOST_NAMES {
+            return Some(Answer::Refused(7));
+        }
+        if !self.has_room_to_start(goal) {
+            return Some(Answer::Refused(8));
+        }
+        self.names = names;
+        let term = self.instance(goal, 0, &[]).ok()?;
+        let kept = self.instance(goal, 0, &[]).ok()?;
+        let count = highest_in(goal);
+        let control = self.last_variable.saturating_add(count).saturating_add(1);
+        let tail = control.saturating_add(1);
+        self.take_variables(count.saturating_add(2));
+        self.count_written(count.saturating_add(2), structures_in(goal));
+        let shoen = PlainShoen {
+            parent: 0,
+            allowance,
+            charged: 0,
+            low,
+            high,
+            life: PlainLife::Lives,
+            is_stopped: false,
+            is_broken: false,
+            control: variable_row(self.alloc, control).ok()?,
+            tail: variable_row(self.alloc, tail).ok()?,
+            goal: kept,
+            reports: variable_row(self.alloc, tail).ok()?,
+            end: variable_row(self.alloc, control).ok()?,
+        };
+        self.open(shoen, term)?;
+        Some(Answer::Opened(self.count()))
+    }
+
+    /// Opens a shoen for a goal: its monitor takes the next number and the goal the one after, and it reports that it has started,
+    /// and after that, where its allowance is 0, that it is exhausted.
+    pub(crate) fn open(&mut self, shoen: PlainShoen, term: Row) -> Option<()> {
+        let priority = shoen.high;
+        let is_exhausted = shoen.allowance == 0;
+        self.shoens.push(shoen).ok()?;
+        let number = self.count();
+        let nothing = Vec::new(self.alloc);
+        self.put_goal(nothing, number, MONITOR_PRIORITY, true).ok()?;
+        self.put_goal(term, number, priority, false).ok()?;
+        self.report_word(number, b"started")?;
+        if is_exhausted {
+            self.report_word(number, b"exhausted")?;
+        }
+        Some(())
+    }
+
+    /// The number of the clause by which the monitor of a shoen can step: 0, or `MANY` where it waits.
+    fn monitor_clause(&self, shoen: u64) -> u64 {
+        match shoen_at(self.shoens.as_slice(), shoen) {
+            Some(shoen) if !matches!(heard_of(shoen.control.as_slice()).0, Heard::Waits) => 0,
+            _ => MANY,
+        }
+    }
+
+    /// The number of the clause by which a goal can step, `MANY` where it waits or isn't enabled.
+    fn clause_of_goal(&self, goal: &PlainGoal) -> Option<u64> {
+        if goal.is_monitor {
+            return Some(self.monitor_clause(goal.shoen));
+        }
+        if !is_enabled(self.shoens.as_slice(), goal.shoen) {
+            return Some(MANY);
+        }
+        clause_for(self.alloc, self.modules.as_slice(), goal.term.as_slice())
     }
 
     /// The first goal that can step, with its clause; 0 and 0 where there is none.
@@ -199,7 +296,7 @@ impl Plain {
         let mut best = None;
         let mut found = (0, 0);
         for goal in &self.goals {
-            let clause = clause_for(self.alloc, self.modules.as_slice(), goal.term.as_slice())?;
+            let clause = self.clause_of_goal(goal)?;
             let is_first = match best {
                 None => true,
                 Some(other) => goes_before(goal, other),
@@ -213,121 +310,18 @@ impl Plain {
     }
 
     /// Replaces a variable everywhere.
-    fn replace(&mut self, number: u64, by: &[Node]) -> Result<(), AllocError> {
+    pub(crate) fn replace(&mut self, number: u64, by: &[Node]) -> Result<(), AllocError> {
         for goal in &mut self.goals {
             replace_in(&mut goal.term, number, by)?;
         }
         for shoen in &mut self.shoens {
-            replace_in(shoen, number, by)?;
+            replace_in(&mut shoen.control, number, by)?;
+            replace_in(&mut shoen.tail, number, by)?;
+            replace_in(&mut shoen.goal, number, by)?;
+            replace_in(&mut shoen.reports, number, by)?;
+            replace_in(&mut shoen.end, number, by)?;
         }
         Ok(())
-    }
-
-    /// Replaces variables everywhere, one after another, each by the term behind it.
-    fn replace_all(&mut self, found: &[Node]) -> Result<(), AllocError> {
-        let mut left = found;
-        for _ in 0..found.len() {
-            let [Node::Variable(number), behind @ ..] = left else {
-                break;
-            };
-            let (by, rest) = split_term(behind);
-            self.replace(*number, by)?;
-            left = rest;
-        }
-        Ok(())
-    }
-
-    /// Makes two terms one, which stand one behind the other, or reports that they can't be.
-    fn unify(&mut self, pair: &[Node]) -> Option<()> {
-        let mut found = Vec::new(self.alloc);
-        if solve(self.alloc, pair, &mut found)? {
-            return self.replace_all(found.as_slice()).ok();
-        }
-        self.take_variables(1);
-        Some(())
-    }
-
-    /// Makes a term what the expression behind it comes to, or reports that it comes to nothing.
-    fn assign(&mut self, pair: &[Node]) -> Option<()> {
-        let (left, expression) = split_term(pair);
-        match outcome_of(self.alloc, expression)? {
-            Outcome::Is(number) => {
-                let mut both = Vec::from_slice(self.alloc, left).ok()?;
-                both.push(Node::Integer(number)).ok()?;
-                self.unify(both.as_slice())
-            }
-            _ => {
-                self.take_variables(1);
-                Some(())
-            }
-        }
-    }
-
-    /// Does what a goal does that steps by no clause, and was removed: two terms become one, or it fails, or it is `true`.
-    fn end(&mut self, term: &[Node]) -> Option<()> {
-        if let Some(pair) = arguments_of(term, b"=") {
-            return self.unify(pair);
-        }
-        if let Some(pair) = arguments_of(term, b":=") {
-            return self.assign(pair);
-        }
-        if let [Node::Structure(_name, _count), ..] = term {
-            self.take_variables(1);
-        }
-        Some(())
-    }
-
-    /// The instances of the goals in the body of the clause of a number, and how many of their variables are new.
-    fn body_of(&self, goal: &PlainGoal, clause: u64, places: &[Node]) -> Option<(Vec<Row>, u64)> {
-        let parts = clause_of(self.modules.as_slice(), goal.term.as_slice(), clause)?;
-        let heads = heads_of(parts);
-        let mut most = heads;
-        let mut body = Vec::new(self.alloc);
-        for part in &parts.body {
-            let nodes = part.goal.nodes();
-            most = highest_in(nodes).max(most);
-            body.push(self.instance(nodes, heads, places).ok()?).ok()?;
-        }
-        Some((body, most.saturating_sub(heads)))
-    }
-
-    /// Puts terms behind the goals, as goals of a shoen with a priority.
-    fn put_goals(&mut self, terms: Vec<Row>, shoen: u64, priority: u64) -> Result<(), AllocError> {
-        for term in terms {
-            self.put_goal(term, shoen, priority)?;
-        }
-        Ok(())
-    }
-
-    /// Puts the goals of a clause's body behind the others, in place of a goal that was removed.
-    fn commit(&mut self, goal: &PlainGoal, clause: u64, places: &[Node]) -> Option<()> {
-        let (body, count) = self.body_of(goal, clause, places)?;
-        self.take_variables(count);
-        self.put_goals(body, goal.shoen, goal.priority).ok()
-    }
-
-    /// Whether a shoen has a goal.
-    fn has_goal(&self, shoen: u64) -> bool {
-        for goal in &self.goals {
-            if goal.shoen == shoen {
-                return true;
-            }
-        }
-        false
-    }
-
-    /// Does what a goal does by the clause of a number, by which it can step, and which was removed. A shoen without a goal
-    /// reports its end.
-    fn step(&mut self, goal: &PlainGoal, clause: u64, places: &[Node]) -> Option<()> {
-        if clause == 0 {
-            self.end(goal.term.as_slice())?;
-        } else {
-            self.commit(goal, clause, places)?;
-        }
-        if !self.has_goal(goal.shoen) {
-            self.take_variables(1);
-        }
-        Some(())
     }
 
     /// The place of the goal of a number; behind all goals, where there is none.
@@ -343,13 +337,17 @@ impl Plain {
     /// Whether the goal at a place can step by the clause of a number; the term at the place of each of its variables is put
     /// down.
     fn can_step_at(&self, place: usize, clause: u64, places: &mut Row) -> Option<bool> {
-        match self.goals.get(place) {
-            None => Some(false),
-            Some(goal) => {
-                let modules = self.modules.as_slice();
-                can_step(self.alloc, modules, goal.term.as_slice(), clause, places)
-            }
+        let Some(goal) = self.goals.get(place) else {
+            return Some(false);
+        };
+        if goal.is_monitor {
+            return Some(clause == 0 && self.monitor_clause(goal.shoen) == 0);
         }
+        if !is_enabled(self.shoens.as_slice(), goal.shoen) {
+            return Some(false);
+        }
+        let modules = self.modules.as_slice();
+        can_step(self.alloc, modules, goal.term.as_slice(), clause, places)
     }
 
     /// Reduces the goal at a place by the clause of a number, by which it can step.
@@ -357,30 +355,27 @@ impl Plain {
         if place >= self.goals.len() {
             return None;
         }
+        if self.goals[place].is_monitor {
+            let shoen = self.goals[place].shoen;
+            return self.read_control(shoen);
+        }
         let goal = self.goals.remove(place);
         self.step(&goal, clause, places)
     }
 
-    /// Reduces the goal of a number, where it can step by the clause of a number, and says whether it can.
-    pub fn reduce(&mut self, number: u64, clause: u64) -> Option<bool> {
+    /// Reduces the goal of a number by the clause of a number.
+    pub fn reduce(&mut self, number: u64, clause: u64) -> Option<Answer> {
         let place = self.place_of(number);
         let mut places = Vec::new(self.alloc);
         if !self.can_step_at(place, clause, &mut places)? {
-            return Some(false);
+            return Some(Answer::Refused(6));
         }
         self.step_at(place, clause, places.as_slice())?;
-        Some(true)
+        Some(Answer::Done)
     }
 
     /// How many shoens there are.
     pub fn count(&self) -> u64 {
         self.shoens.len() as u64
-    }
-
-    /// The goal of a shoen, whose number is from 1, as it is shown.
-    pub fn value(&self, shoen: u64) -> Option<Vec<u8>> {
-        let place = shoen.saturating_sub(1) as usize;
-        let row = self.shoens.get(place)?;
-        printed(self.alloc, row.as_slice()).ok()
     }
 }

@@ -27,3 +27,4 @@ pub mod Freeing
 pub mod Tops
 pub mod Placing
 pub mod InModules
+pub mod Constants

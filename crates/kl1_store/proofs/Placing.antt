@@ -1,17 +1,17 @@
 -- The arguments of all structures are the store's list of arguments.
-use Rattle.std.proofs.Common.{◌≡◌, ℕ, zero, suc, ◌+◌, ◌<◌, ◌≤◌, List, [], ◌∷◌, ◌++◌, length, take, drop, refl, sym, ap, ◌∙◌, arith, subst}
+use Rattle.std.proofs.Common.{◌≡◌, ℕ, zero, suc, ◌+◌, ◌<◌, List, [], ◌∷◌, ◌++◌, length, take, drop, sym, ap, ◌∙◌, arith, subst}
 use Rattle.std.specs.Prelude.{Some, slice_get, slice_index_or}
 use Rattle.std.proofs.lemmas.List.{nil_from_length, take-append-drop}
 use Rattle.kl1_store.specs.declared.cell.Cell.{Cell}
 use Rattle.kl1_store.specs.declared.node.Node.{Node}
 use Rattle.kl1_store.specs.declared.binding.Binding.{Binding}
-use Rattle.kl1_store.specs.Held.{Shape, Held, AreWithin, IsIn, AreIn, arguments_of}
+use Rattle.kl1_store.specs.Held.{Shape, Held, AreWithin, IsIn, AreIn}
 use Rattle.kl1_store.specs.Inside.{shapes_in, AreLaid, held_in, IsInside}
 use Rattle.kl1_store.specs.Sound.{Built, IsFormed}
 use Rattle.kl1_store.specs.Places.{arguments_among, all_arguments, StandFrom}
 use Rattle.kl1_store.proofs.Growing.{AreWithin-more}
 use Rattle.kl1_store.proofs.Laid.{rest_laid}
-use Rattle.kl1_store.proofs.Lists.{ReadAt, read_at}
+use Rattle.kl1_store.proofs.Lists.{ReadAt}
 use Rattle.kl1_store.proofs.Terms.{within_at}
 use Rattle.kl1_store.proofs.Tops.{AreWithin-append}
 

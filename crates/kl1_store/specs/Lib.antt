@@ -27,3 +27,4 @@ pub mod Tops
 pub mod Places
 pub mod Unbound
 pub mod InModules
+pub mod Constants

@@ -12,6 +12,9 @@ ghost use Rattle.kl1_store.specs.Sameness.{SameAs, NamesUnbound, AlikeAs};
 ghost use Rattle.kl1_store.specs.Hooks.{Kept, hanging_on, told_by, point_of, HasGrown};
 ghost use Rattle.kl1_store.specs.Tops.{firsts, others};
 
+mod build_one;
+mod constants;
+
 use crate::cell::Cell;
 use crate::cells::Cells;
 use crate::compare::compare;

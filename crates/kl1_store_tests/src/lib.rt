@@ -3,6 +3,7 @@
 
 mod acts;
 mod answer;
+mod controls;
 mod operands;
 mod rooms;
 mod sheet;

@@ -3,7 +3,7 @@
 use crate::answer::{Answer, is_wanted};
 use crate::operands::read_cells;
 use crate::written::Written;
-use crate::{acts, rooms, streams, undone, views};
+use crate::{acts, controls, rooms, streams, undone, views};
 use kl1_rows::cut;
 use kl1_store::{Cell, Store};
 use std::alloc::{AllocError, Global};
@@ -28,14 +28,17 @@ enum Way {
     See,
     /// It is on a report stream.
     Stream,
+    /// It is on a control stream, or on a list.
+    Control,
 }
 
 /// The ways by the words that stand before an act; an act without one is done plainly.
-const WAYS: [(&[u8], Way); 4] = [
+const WAYS: [(&[u8], Way); 5] = [
     (b"back ", Way::Back),
     (b"room ", Way::Room),
     (b"see ", Way::See),
     (b"stream ", Way::Stream),
+    (b"control ", Way::Control),
 ];
 
 /// In what way an act is done, by the word before it, and the act.
@@ -83,6 +86,7 @@ impl<N: Written> Sheet<N> {
             Way::Room => rooms::answer(&mut self.store, cells),
             Way::See => Ok(views::answer(&self.store, self.told.as_slice(), letter, cells)),
             Way::Stream => streams::answer(&mut self.store, letter, cells),
+            Way::Control => controls::answer(&mut self.store, letter, cells),
             Way::Plain => acts::answer(&mut self.store, &mut self.told, letter, cells),
         }
     }

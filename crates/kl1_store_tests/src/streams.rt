@@ -12,6 +12,7 @@ fn send<N: NameValue>(
     store: &mut Store<N>,
     tail: Cell<N>,
     is_broken: bool,
+    is_last: bool,
     message: Cell<N>,
 ) -> Result<Answer<N>, AllocError> {
     if !store.holds(tail) {
@@ -20,7 +21,7 @@ fn send<N: NameValue>(
     if !store.holds(message) {
         return Ok(Answer::Nothing);
     }
-    match append_report(store, tail, is_broken, message)? {
+    match append_report(store, tail, is_broken, is_last, message)? {
         Told::Sent(next) => Ok(Answer::Is(Cell::Variable(next))),
         Told::Broken => Ok(Answer::Broken),
         Told::Dropped => Ok(Answer::Dropped),
@@ -43,7 +44,7 @@ fn told<N: NameValue>(
     Ok(Answer::Done)
 }
 
-/// What an act on a stream comes to: `send`, or `drop` on one that is broken; `end`, or `leave` on one that is broken; or
+/// What an act on a stream comes to: `send`, `last` after the last report, or `drop` on one that is broken; `end`, or `leave` on one that is broken; or
 /// `fail`, by its first letter.
 pub fn answer<N: NameValue>(
     store: &mut Store<N>,
@@ -51,7 +52,7 @@ pub fn answer<N: NameValue>(
     cells: &[Cell<N>],
 ) -> Result<Answer<N>, AllocError> {
     match cells {
-        [tail, message] => send(store, *tail, letter == b'd', *message),
+        [tail, message] => send(store, *tail, letter == b'd', letter == b'l', *message),
         [cell] => told(store, letter, *cell),
         _ => Ok(Answer::Nothing),
     }

@@ -1,5 +1,5 @@
 -- What becomes of a report, and of a stream that ends.
-use Rattle.std.specs.Prelude.{◌≡◌, ℕ, Bool, true, false, List}
+use Rattle.std.specs.Prelude.{◌≡◌, ℕ, Bool, true, false, ◌||◌, List}
 use Rattle.kl1_model.specs.declared.built_in.BuiltIn.{BuiltIn}
 use Rattle.kl1_model.specs.Term.{Term, variable, integer, atom, structure, occurs}
 use Rattle.kl1_text.specs.Reading.{Reads}
@@ -10,31 +10,32 @@ use Rattle.kl1_stream.specs.declared.told.Told.{Told}
 use Rattle.kl1_stream.specs.declared.told.Told.TheVariants.{Dropped, Broken, Sent}
 use Rattle.kl1_stream.specs.Sendings.{AreSent, Ends}
 
--- a message breaks a stream with this tail
-abbrev pub Breaks : Term → Term → Type 0
-Breaks (variable v) message = occurs v message ≡ true
-Breaks (integer i) message = Unit {0}
-Breaks (atom a) message = Unit {0}
-Breaks (structure f ts) message = Unit {0}
+-- a message breaks a stream with this tail, where the account has made its last report or not
+abbrev pub Breaks : Bool → Term → Term → Type 0
+Breaks is_last (variable v) message = (occurs v message || is_last) ≡ true
+Breaks is_last (integer i) message = Unit {0}
+Breaks is_last (atom a) message = Unit {0}
+Breaks is_last (structure f ts) message = Unit {0}
 
 -- a message broke a stream
-pub record HasBroken {N : Type 0} (built : BuiltIn → N) (old new : Held N) (tail : Cell N) (is_broken : Bool) (message : Cell N) : Type 0 where
+pub record HasBroken {N : Type 0} (built : BuiltIn → N) (old new : Held N) (tail : Cell N) (is_broken is_last : Bool) (message : Cell N) : Type 0 where
   pub whole : is_broken ≡ false
   pub same : new ≡ old
-  pub breaks : (f : N → List ℕ) → Reads built f → Breaks (term_of f old tail) (term_of f old message)
+  pub breaks : (f : N → List ℕ) → Reads built f → Breaks is_last (term_of f old tail) (term_of f old message)
 
 -- a message was sent on a stream, in place of the variable of a number
-pub record HasSent {N : Type 0} (built : BuiltIn → N) (old new : Held N) (tail : Cell N) (is_broken : Bool) (message : Cell N) (next : ℕ) : Type 0 where
+pub record HasSent {N : Type 0} (built : BuiltIn → N) (old new : Held N) (tail : Cell N) (is_broken is_last : Bool) (message : Cell N) (next : ℕ) : Type 0 where
   pub whole : is_broken ≡ false
+  pub more : is_last ≡ false
   pub number : ℕ
   pub tail_is : (f : N → List ℕ) → term_of f old tail ≡ variable number
   pub sent : AreSent built old new number message next
 
--- what became of a report
-abbrev pub ToldAs : {N : Type 0} → (BuiltIn → N) → Held N → Held N → Cell N → Bool → Cell N → Told → Type 0
-ToldAs built old new tail is_broken message Dropped = (is_broken ≡ true) × (new ≡ old)
-ToldAs built old new tail is_broken message Broken = HasBroken built old new tail is_broken message
-ToldAs built old new tail is_broken message (Sent next) = HasSent built old new tail is_broken message next
+-- what became of a report, where the account has made its last one or not
+abbrev pub ToldAs : {N : Type 0} → (BuiltIn → N) → Held N → Held N → Cell N → Bool → Bool → Cell N → Told → Type 0
+ToldAs built old new tail is_broken is_last message Dropped = (is_broken ≡ true) × (new ≡ old)
+ToldAs built old new tail is_broken is_last message Broken = HasBroken built old new tail is_broken is_last message
+ToldAs built old new tail is_broken is_last message (Sent next) = HasSent built old new tail is_broken is_last message next
 
 -- for one reading of the names, a stream with this tail has ended: an unbound tail has become the empty list, and where it is none, nothing is new
 abbrev pub EndsAt : {N : Type 0} → (N → List ℕ) → Held N → Held N → Term → Type 0

@@ -1,11 +1,18 @@
-//! What shoens report: messages at the end of streams, the end of streams, and exceptions, over cells.
+//! Streams of shoens, over cells: what is reported and what is told on control streams, the end of streams, and exceptions.
 #![tactic(auto)]
 
+mod console;
+mod control;
+mod elements;
 mod exceptions;
 mod reports;
 mod sending;
 mod told;
+mod tops;
 
+pub use console::send_message;
+pub use control::{Control, read_control};
+pub use elements::{next_element, nth_cell};
 pub use exceptions::exception_of;
 pub use reports::{append_report, close_report};
 pub use told::Told;

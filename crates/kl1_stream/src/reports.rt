@@ -13,17 +13,19 @@ use kl1_store::{Cell, Store};
 use kl1_text::NameValue;
 use std::alloc::AllocError;
 
-/// Puts a message at the end of a report stream, if that can be. Where memory is refused, the store may have grown.
+/// Puts a message at the end of a report stream, if that can be: where the account has made its last report (`is_last`), a stream
+/// that isn't broken breaks. Where memory is refused, the store may have grown.
 #[tactic(auto, using(crate::proofs::Tails::has_sent))]
 pub fn append_report<N: NameValue>(
     store: &mut Store<N>,
     tail: Cell<N>,
     is_broken: bool,
+    is_last: bool,
     message: Cell<N>,
 ) -> Result<Told, AllocError>
     requires tail { IsIn store.old.held tail }
     requires message { IsIn store.old.held message }
-    ensures told { IfOk result (ToldAs N.built store.old.held store.new.held tail is_broken message) }
+    ensures told { IfOk result (ToldAs N.built store.old.held store.new.held tail is_broken is_last message) }
     ensures grown { Grown store.old.held store.new.held }
     ensures spends { SpendsOnMessage store.old.held store.old.room store.new.held store.new.room }
     ensures hooks { store.new.hooks ≡ store.old.hooks }
@@ -31,6 +33,9 @@ pub fn append_report<N: NameValue>(
 {
     if is_broken {
         return Ok(Told::Dropped);
+    }
+    if is_last {
+        return Ok(Told::Broken);
     }
     let _formed = store.mark();
     match store.walk(tail) {

@@ -26,7 +26,7 @@ pub enum Part {
 }
 
 /// The parts by the two words that name them at the front of a heading.
-const PARTS: [(&[u8], Part); 48] = [
+const PARTS: [(&[u8], Part); 45] = [
     (b"store numbers ", Part::Numbers),
     (b"store texts ", Part::Texts),
     (b"read name ", Part::Read(kl1_read_tests::Kind::Name)),
@@ -78,9 +78,6 @@ const PARTS: [(&[u8], Part); 48] = [
     (b"script record ", Part::Script(script::Kind::Record)),
     (b"script accounts ", Part::Script(script::Kind::Accounts)),
     (b"script account ", Part::Script(script::Kind::Account)),
-    (b"script command ", Part::Script(script::Kind::Command)),
-    (b"script load ", Part::Script(script::Kind::Load)),
-    (b"script reply ", Part::Script(script::Kind::Reply)),
     (b"script fault ", Part::Script(script::Kind::Fault)),
     (b"script read ", Part::Script(script::Kind::Read)),
     (b"script write ", Part::Script(script::Kind::Write)),

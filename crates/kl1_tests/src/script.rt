@@ -1,13 +1,12 @@
 // Rows on scripts, from their lines to what is written for them.
 
 mod accounts;
-mod commands;
 mod devices;
+mod faults;
 mod kind;
 mod lines;
 mod over_both;
 mod records;
-mod replies;
 mod rows;
 mod scripts;
 mod streams;

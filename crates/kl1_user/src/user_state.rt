@@ -2,13 +2,13 @@
 
 ghost use Rattle.std.specs.Prelude.{◌≡◌, [], IfOk, OnErr, option_map};
 ghost use Rattle.kl1_model.specs.State.{fresh};
-ghost use Rattle.kl1_model.specs.Event.{reduce as reduce_event};
+ghost use Rattle.kl1_model.specs.Event.{reduce as reduce_event, read};
 ghost use Rattle.kl1_model.specs.Step.{step};
 ghost use Rattle.kl1_model.specs.Choice.{first, quiet};
 ghost use Rattle.kl1_account.specs.Fitting.{Reading, Fits};
 ghost use Rattle.kl1_account.specs.Account.{state_of};
 ghost use Rattle.kl1_account.specs.Naming.{Keeps};
-ghost use Rattle.kl1_account.specs.Views.{event_of, reply_of, reduced_or, chosen_of};
+ghost use Rattle.kl1_event.specs.Views.{event_of, query_of, reply_of, reduced_or, chosen_of};
 
 use kl1_account::{Account, AccountName, ClauseNo, Event, GoalNo, Query, Refusal, Reply};
 use kl1_atoms::AtomSource;
@@ -64,11 +64,10 @@ impl<A: AtomSource> UserState<A> {
         ensures knows { A.knows seat.new ≡ self.new.names }
     {
         match event {
-            Event::Reduce { goal, clause } => Ok(reply_to(self.account.reduce(goal.0, clause.0)?)),
-            Event::Read(query) => match *query {
-                Query::Value(number) => self.account.value(names, seat, number.0),
-                Query::Quiet => Ok(Reply::Quiet(self.account.quiet())),
-            },
+            Event::Reduce { goal, clause } => Ok(reply_to(
+                self.account.reduce(names, seat, goal.0, clause.0)?,
+            )),
+            Event::Read(query) => self.answer(names, seat, *query),
             Event::Load { source } => self.account.load(names, seat, source.as_slice()),
             Event::Start {
                 allowance,
@@ -78,16 +77,44 @@ impl<A: AtomSource> UserState<A> {
             } => self
                 .account
                 .start(names, seat, *allowance, *low, *high, goal),
+            Event::Control { shoen, message } => self.account.send(shoen.0, *message),
+        }
+    }
+
+    /// What is answered to a query, which changes nothing.
+    fn answer(&self, names: &mut A, seat: &mut A::Seat, query: Query) -> Result<Reply, AllocError>
+        requires of { A.is_of names.old seat.old }
+        requires knows { A.knows seat.old ≡ self.now.names }
+        ensures step { IfOk result (λ reply. (f : Reading) → Fits self.now.names f → step (state_of f self.now) (read (query_of query)) ≡ record { state = state_of f self.now; reply = reply_of reply }) }
+        ensures keeps { Keeps A.is_of A.place A.knows names.old names.new seat.old seat.new }
+        ensures knows { A.knows seat.new ≡ self.now.names }
+    {
+        match query {
+            Query::Value(number) => self.account.value(names, seat, number.0),
+            Query::Status(number) => self.account.status(number.0),
+            Query::Reports { shoen, from } => self.account.reports(names, seat, shoen.0, from),
+            Query::Modules => self.account.modules(),
+            Query::Quiet => Ok(Reply::Quiet(self.account.quiet())),
         }
     }
 
     /// Reduces a goal by a clause, or says why it is refused: what `apply` does where the event is a reduction, and its reply.
-    pub fn reduce(&mut self, goal: GoalNo, clause: ClauseNo) -> Result<Option<Refusal>, AllocError>
-        ensures step { IfOk result (λ refused. (f : Reading) → Fits self.old.names f → step (state_of f self.old) (reduce_event goal.0 clause.0) ≡ record { state = state_of f self.new; reply = reduced_or refused }) }
-        ensures names { self.new.names ≡ self.old.names }
+    pub fn reduce(
+        &mut self,
+        names: &mut A,
+        seat: &mut A::Seat,
+        goal: GoalNo,
+        clause: ClauseNo,
+    ) -> Result<Option<Refusal>, AllocError>
+        requires of { A.is_of names.old seat.old }
+        requires knows { A.knows seat.old ≡ self.old.names }
+        ensures step { IfOk result (λ refused. (f : Reading) → Fits self.new.names f → step (state_of f self.old) (reduce_event goal.0 clause.0) ≡ record { state = state_of f self.new; reply = reduced_or refused }) }
         ensures err { OnErr result (self.new ≡ self.old) }
+        ensures seat { OnErr result (A.knows seat.new ≡ A.knows seat.old) }
+        ensures keeps { Keeps A.is_of A.place A.knows names.old names.new seat.old seat.new }
+        ensures knows { A.knows seat.new ≡ self.new.names }
     {
-        self.account.reduce(goal.0, clause.0)
+        self.account.reduce(names, seat, goal.0, clause.0)
     }
 
     /// The first goal that can step, with the clause by which it steps.

@@ -9,16 +9,21 @@
 // | `step` | the first goal is reduced |
 // | `value S` | the goal of shoen S is shown |
 // | `quiet` | whether no goal can step is asked |
+// | `stop S`, `resume S`, `abort S`, `allow S N` | the message is sent to shoen S |
+// | `status S` | the state of shoen S is shown |
+// | `reports S N` | the reports of shoen S from number N on are shown |
+// | `modules` | the modules are shown |
 // | `run N` | the first goal is reduced, again and again, at most N times; the answer is how often |
 // | `first` | nothing; the answer is the first goal with its clause, as `2 by 1`, or `quiet` |
 
 use crate::answers::is_answered;
 use crate::made::made_goal;
 use crate::player::Player;
+use kl1_event::{ClauseNo, Event, GoalNo, Query, ShoenNo};
+use kl1_model::Message;
 use kl1_read::read_goal;
 use kl1_rows::{cut, is_counted, number_of};
 use kl1_term::Term;
-use kl1_user::{ClauseNo, Event, GoalNo, Query, ShoenNo};
 use std::alloc::Global;
 
 /// The start of a goal with an allowance and priorities.
@@ -69,14 +74,60 @@ fn made_start(alloc: Global, words: &[u8]) -> Option<Event> {
     Some(start_event(10, 0, 10, goal))
 }
 
-/// The question that an act is.
-fn question_of(word: &[u8], words: &[u8]) -> Option<Event> {
-    if word == b"value".as_slice() {
-        Some(Event::Read(Query::Value(ShoenNo(number_of(words)))))
-    } else if word == b"quiet".as_slice() {
-        Some(Event::Read(Query::Quiet))
+/// The message that a word and a number are.
+fn message_of(word: &[u8], number: u64) -> Option<Message> {
+    if word == b"stop".as_slice() {
+        Some(Message::Stop)
+    } else if word == b"resume".as_slice() {
+        Some(Message::Start)
+    } else if word == b"abort".as_slice() {
+        Some(Message::Abort)
+    } else if word == b"allow".as_slice() {
+        Some(Message::Allow(number))
     } else {
         None
+    }
+}
+
+/// The message to a shoen that an act is.
+fn control_of(word: &[u8], words: &[u8]) -> Option<Event> {
+    let (shoen, more) = cut(words, b' ');
+    let message = message_of(word, number_of(more))?;
+    let shoen = ShoenNo(number_of(shoen));
+    Some(Event::Control { shoen, message })
+}
+
+/// The question for reports of a shoen from one on.
+fn reports_of(words: &[u8]) -> Query {
+    let (shoen, from) = cut(words, b' ');
+    Query::Reports {
+        shoen: ShoenNo(number_of(shoen)),
+        from: number_of(from),
+    }
+}
+
+/// The question that an act is.
+fn question_of(word: &[u8], words: &[u8]) -> Option<Query> {
+    if word == b"value".as_slice() {
+        Some(Query::Value(ShoenNo(number_of(words))))
+    } else if word == b"status".as_slice() {
+        Some(Query::Status(ShoenNo(number_of(words))))
+    } else if word == b"reports".as_slice() {
+        Some(reports_of(words))
+    } else if word == b"modules".as_slice() {
+        Some(Query::Modules)
+    } else if word == b"quiet".as_slice() {
+        Some(Query::Quiet)
+    } else {
+        None
+    }
+}
+
+/// The message or the question that an act is.
+fn other_of(word: &[u8], words: &[u8]) -> Option<Event> {
+    match question_of(word, words) {
+        Some(query) => Some(Event::Read(query)),
+        None => control_of(word, words),
     }
 }
 
@@ -93,7 +144,7 @@ pub fn event_of(alloc: Global, user: &Player, word: &[u8], words: &[u8]) -> Opti
     } else if word == b"step".as_slice() {
         first_step(user)
     } else {
-        question_of(word, words)
+        other_of(word, words)
     }
 }
 

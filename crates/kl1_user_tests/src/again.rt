@@ -7,46 +7,80 @@
 // | any other | the act, and where it is refused memory the same once more, if the account answers as before |
 
 use crate::acts::event_of;
-use crate::answers::{is_answered, is_first, is_reply};
+use crate::answers::{condition_word, is_answered, is_first, is_reply};
 use crate::player::Player;
-use kl1_rows::cut;
-use kl1_user::{ClauseNo, Event, GoalNo, Query, Reply, ShoenNo};
+use kl1_event::{ClauseNo, Event, GoalNo, Query, Reply, ShoenNo};
+use kl1_rows::{Text, cut};
 use std::alloc::{AllocError, Global};
 
 /// More than the shoens of any account of the rows.
 const MANY: u64 = 99;
 
-/// What an account answers: its first goal with its clause, whether no goal can step, and the goal of each shoen, with a line
-/// feed after it.
+/// What an account answers: its first goal with its clause, whether no goal can step, and what is shown of each shoen, with line
+/// feeds after it.
 #[derive(Drop)]
 struct Seen {
     first: Option<(GoalNo, ClauseNo)>,
     is_quiet: bool,
-    values: Vec<u8>,
+    shown: Vec<u8>,
 }
 
-/// Puts the goal of each shoen behind others, with a line feed after it.
-fn put_values(user: &mut Player, values: &mut Vec<u8>) -> Result<(), AllocError> {
-    for number in 1..MANY {
-        match user.apply(&Event::Read(Query::Value(ShoenNo(number))))? {
-            Reply::Shown(text) => {
-                values.extend_from_slice(text.as_slice())?;
-                values.push(b'\n')?;
+/// Puts what a reply shows, with a line feed after it; nothing of a refusal.
+fn put_shown(out: &mut Text, reply: &Reply) {
+    match reply {
+        Reply::Shown(text) => out.put(text.as_slice()),
+        Reply::Status {
+            condition,
+            charged,
+            allowance,
+            alive,
+        } => {
+            out.put(condition_word(*condition));
+            for number in [*charged, *allowance, *alive] {
+                out.put(b" ");
+                out.put_number(number);
             }
-            _ => return Ok(()),
         }
+        Reply::Listed(listed) => {
+            for text in listed.texts() {
+                out.put(text.as_slice());
+                out.put(b"\n");
+            }
+        }
+        _ => (),
+    }
+    out.put(b"\n");
+}
+
+/// Puts what is shown of each shoen: its state, its goal and its first reports.
+fn put_shoens(user: &mut Player, out: &mut Text) -> Result<(), AllocError> {
+    for number in 1..MANY {
+        let shoen = ShoenNo(number);
+        let status = user.apply(&Event::Read(Query::Status(shoen)))?;
+        if let Reply::Refused(_refusal) = status {
+            return Ok(());
+        }
+        put_shown(out, &status);
+        put_shown(out, &user.apply(&Event::Read(Query::Value(shoen)))?);
+        put_shown(
+            out,
+            &user.apply(&Event::Read(Query::Reports { shoen, from: 1 }))?,
+        );
     }
     Ok(())
 }
 
 /// What an account answers, where memory is not refused.
 fn seen_once(alloc: Global, user: &mut Player) -> Option<Seen> {
-    let mut values = Vec::new(alloc);
-    put_values(user, &mut values).ok()?;
+    let mut shown = Text::new(alloc);
+    put_shoens(user, &mut shown).ok()?;
+    if shown.has_failed {
+        return None;
+    }
     Some(Seen {
         first: user.pick(),
         is_quiet: user.quiet(),
-        values,
+        shown: shown.bytes,
     })
 }
 
@@ -76,7 +110,7 @@ fn is_as_before(alloc: Global, user: &mut Player, before: &Seen) -> bool {
     goal == goal_now
         && clause == clause_now
         && before.is_quiet == now.is_quiet
-        && before.values.as_slice() == now.values.as_slice()
+        && before.shown.as_slice() == now.shown.as_slice()
 }
 
 /// The event that an act is, at the second try where memory is refused at the first.

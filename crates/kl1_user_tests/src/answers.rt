@@ -1,19 +1,22 @@
 // Answers of an account beside the texts that are wanted.
 
 use crate::player::Player;
+use kl1_event::{Event, Query, Refusal, Reply, ShoenNo};
+use kl1_model::Condition;
 use kl1_rows::{cut, is_counted, is_joined, number_of};
 use kl1_text::AtomText;
-use kl1_user::{Event, Query, Refusal, Reply, ShoenNo};
 
 /// The number and word of a refusal; for the line of a source nothing.
-fn word_of(refusal: Refusal) -> &'static [u8] {
+pub fn refusal_word(refusal: Refusal) -> &'static [u8] {
     match refusal {
         Refusal::Syntax => b"- 1 syntax",
         Refusal::Source { line: _ } => b"",
         Refusal::Exists => b"- 3 exists",
         Refusal::NoShoen => b"- 4 noshoen",
+        Refusal::Ended => b"- 5 ended",
         Refusal::Step => b"- 6 step",
         Refusal::Names => b"- 7 names",
+        Refusal::Limit => b"- 8 limit",
         Refusal::Journal => b"- 9 journal",
     }
 }
@@ -23,7 +26,7 @@ fn is_refusal(refusal: Refusal, wanted: &[u8]) -> bool {
     if let Refusal::Source { line } = refusal {
         return is_counted(wanted, b"- 2 source ", line);
     }
-    word_of(refusal) == wanted
+    refusal_word(refusal) == wanted
 }
 
 /// Whether a text says that a module of this name is loaded.
@@ -36,6 +39,7 @@ fn is_change(reply: &Reply, wanted: &[u8]) -> bool {
     match reply {
         Reply::Loaded(name) => is_loaded(name, wanted),
         Reply::Opened(shoen) => is_counted(wanted, b"+ shoen ", shoen.0),
+        Reply::Sent => wanted == b"+ sent".as_slice(),
         Reply::Reduced => wanted == b"+ reduced".as_slice(),
         _ => false,
     }
@@ -47,13 +51,76 @@ pub fn is_told_quiet(is_quiet: bool, wanted: &[u8]) -> bool {
     word == wanted
 }
 
+/// The word for the state of a shoen.
+pub fn condition_word(condition: Condition) -> &'static [u8] {
+    match condition {
+        Condition::Terminated => b"terminated",
+        Condition::Aborted => b"aborted",
+        Condition::Stopped => b"stopped",
+        Condition::Exhausted => b"exhausted",
+        Condition::Running => b"running",
+    }
+}
+
+/// Whether a text shows a shoen by the word for its state, and by what it was charged, its allowance and its goals.
+pub fn is_status(word: &[u8], numbers: &[u64], wanted: &[u8]) -> bool {
+    let Some(text) = wanted.strip_prefix(b"+ ") else {
+        return false;
+    };
+    let (first, behind) = cut(text, b' ');
+    if first != word {
+        return false;
+    }
+    let mut left = behind;
+    for number in numbers {
+        let (digits, behind) = cut(left, b' ');
+        if digits.is_empty() || number_of(digits) != *number {
+            return false;
+        }
+        left = behind;
+    }
+    left.is_empty()
+}
+
+/// Whether a text has the number of some lines, and these lines, each behind a line feed.
+pub fn are_listed(lines: &[Vec<u8>], wanted: &[u8]) -> bool {
+    let (first, behind) = cut(wanted, b'\n');
+    let mut left = behind;
+    for line in lines {
+        let (text, behind) = cut(left, b'\n');
+        if text != line.as_slice() {
+            return false;
+        }
+        left = behind;
+    }
+    left.is_empty() && is_counted(first, b"+ ", lines.len() as u64)
+}
+
+/// Whether a reply to a question that tells several things has this text.
+fn is_told(reply: &Reply, wanted: &[u8]) -> bool {
+    match reply {
+        Reply::Status {
+            condition,
+            charged,
+            allowance,
+            alive,
+        } => is_status(
+            condition_word(*condition),
+            &[*charged, *allowance, *alive],
+            wanted,
+        ),
+        Reply::Listed(listed) => are_listed(listed.texts(), wanted),
+        _ => is_change(reply, wanted),
+    }
+}
+
 /// Whether a reply has this text.
 pub fn is_reply(reply: &Reply, wanted: &[u8]) -> bool {
     match reply {
         Reply::Shown(text) => is_joined(wanted, b"+ ", text.as_slice()),
         Reply::Quiet(is_quiet) => is_told_quiet(*is_quiet, wanted),
         Reply::Refused(refusal) => is_refusal(*refusal, wanted),
-        _ => is_change(reply, wanted),
+        _ => is_told(reply, wanted),
     }
 }
 

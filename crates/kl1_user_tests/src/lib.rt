@@ -9,6 +9,7 @@ mod beside;
 mod made;
 mod over_accounts;
 mod player;
+mod playing;
 mod reductions;
 mod seats;
 

@@ -5,7 +5,8 @@ ghost use Rattle.kl1_atoms.specs.Plain.{IsSeatOf};
 
 use crate::seats::names_of_one;
 use kl1_atoms::{PlainSeat, PlainTable};
-use kl1_user::{AccountName, ClauseNo, Event, GoalNo, Reply, UserState};
+use kl1_event::{ClauseNo, Event, GoalNo, Reply};
+use kl1_user::{AccountName, UserState};
 use std::alloc::{AllocError, Global};
 use std::marker::Model;
 

@@ -1,10 +1,10 @@
 // The checks by their names.
 
 use crate::ready::goals::{
-    ends_of_shoens_are_seen, goals_are_found, the_greatest_priority_then_the_least_number,
+    ends_of_shoens_are_seen, goals_are_found, goals_of_flags_are_removed, goals_wait_for_flags,
+    the_greatest_priority_then_the_least_number,
 };
 use crate::ready::queue::{places_come_in_order, the_greatest_priority_then_the_least_place};
-use crate::ready::shoens::shoens_are_found;
 use kl1_rows::{Text, put_check};
 
 /// Puts a line on each check behind a report.
@@ -32,10 +32,12 @@ pub fn put_ready_checks(out: &mut Text) {
         b"ready the_last_goal_of_a_shoen_is_told_from_others",
         done,
     );
-    let done = shoens_are_found(alloc);
+    let done = goals_wait_for_flags(alloc);
+    put_check(out, b"ready goals_of_shoens_without_their_flags_wait", done);
+    let done = goals_of_flags_are_removed(alloc);
     put_check(
         out,
-        b"ready shoens_are_found_and_changed_by_their_numbers",
+        b"ready goals_of_shoens_with_their_flags_are_removed",
         done,
     );
 }

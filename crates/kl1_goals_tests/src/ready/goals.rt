@@ -1,6 +1,6 @@
 // That goals are found by their numbers, and the first by the greatest priority, and of equal ones by the least number.
 
-ghost use Rattle.std.specs.Prelude.{◌≡◌, ◌≤◌, [], None};
+ghost use Rattle.std.specs.Prelude.{◌≡◌, ◌≤◌, true, [], None};
 ghost use Rattle.kl1_goals.specs.declared.task.Task.TheVariants.{Monitor, Reduces};
 ghost use Rattle.kl1_store.specs.declared.cell.Cell.TheVariants.{Integer};
 
@@ -11,7 +11,7 @@ use std::alloc::{AllocError, Global};
 
 /// The monitor of a shoen.
 fn monitor(number: u64, shoen: u64) -> Goal<AtomNo>
-    ensures { result ≡ record { number = number; task = Monitor; shoen = shoen; priority = 4096; standing = None } }
+    ensures { result ≡ record { number = number; task = Monitor; shoen = shoen; priority = 4096; standing = None; is_enabled = true } }
 {
     Goal {
         number,
@@ -19,12 +19,13 @@ fn monitor(number: u64, shoen: u64) -> Goal<AtomNo>
         shoen,
         priority: 4096,
         standing: None,
+        is_enabled: true,
     }
 }
 
 /// A goal of a shoen with a priority, whose term is an integer.
 fn goal(number: u64, shoen: u64, priority: u64, term: i64) -> Goal<AtomNo>
-    ensures { result ≡ record { number = number; task = Reduces (record { module_name = None; cell = Integer term }); shoen = shoen; priority = priority; standing = None } }
+    ensures { result ≡ record { number = number; task = Reduces (record { module_name = None; cell = Integer term }); shoen = shoen; priority = priority; standing = None; is_enabled = true } }
 {
     Goal {
         number,
@@ -35,6 +36,7 @@ fn goal(number: u64, shoen: u64, priority: u64, term: i64) -> Goal<AtomNo>
         shoen,
         priority,
         standing: None,
+        is_enabled: true,
     }
 }
 
@@ -174,4 +176,53 @@ pub fn ends_of_shoens_are_seen(alloc: Global) -> Result<bool, AllocError> {
     table.remove_monitor(1);
     let removed = table.get(1).is_none() & table.has_goal(2);
     Ok(before & one & none & monitor & removed)
+}
+
+/// Whether goals of shoens whose flags aren't set can't step until they are, and monitors can.
+pub fn goals_wait_for_flags(alloc: Global) -> Result<bool, AllocError> {
+    let mut table = filled(alloc)?;
+    table.set_standing(2, Some(3));
+    table.set_standing(7, Some(1));
+    let all = is_first(&table, 7, 1);
+    table.set_enabled(&[true, false]);
+    let one = is_first(&table, 2, 3);
+    table.set_standing(5, Some(1));
+    let monitor = is_first(&table, 5, 1);
+    table.set_standing(5, None);
+    table.set_enabled(&[false]);
+    let none = is_quiet(&table);
+    table.set_standing(4, Some(2));
+    let held = is_quiet(&table);
+    table.set_enabled(&[true, true, true]);
+    let back = is_first(&table, 4, 2);
+    Ok(all & one & monitor & none & held & back)
+}
+
+/// Whether a number was found, and is this one.
+fn is_number(found: Option<u64>, number: u64) -> bool {
+    match found {
+        None => false,
+        Some(value) => value == number,
+    }
+}
+
+/// Whether goals of shoens whose flags are set are counted without monitors, and removed with them.
+pub fn goals_of_flags_are_removed(alloc: Global) -> Result<bool, AllocError> {
+    let mut table = filled(alloc)?;
+    let two = table.count_below(&[true, false, true]) == 2;
+    let one = table.count_below(&[false, true]) == 1;
+    let counts = (table.alive() == 3) & two & one & (table.count_below(&[]) == 0);
+    let monitors = is_number(table.monitor_of(1), 1) & is_number(table.monitor_of(2), 5);
+    let no_monitor = table.monitor_of(0).is_none() & table.monitor_of(3).is_none();
+    table.set_standing(4, Some(2));
+    table.set_standing(7, Some(1));
+    table.remove_below(&[true, false, true]);
+    let left = is_monitor(table.after(0), 5, 2)
+        & is_goal(table.after(5), 7, 2, 30, 70)
+        & table.after(7).is_none();
+    let first = is_first(&table, 7, 1);
+    let known = (table.shoens() == 3) & (table.alive() == 1) & table.monitor_of(1).is_none();
+    table.remove_below(&[false, true]);
+    let none = table.after(0).is_none() & (table.alive() == 0) & is_quiet(&table);
+    Ok(counts & monitors & no_monitor & left & first & known & none)
 }

@@ -21,12 +21,6 @@ pub enum Kind {
     Accounts,
     /// Whether a word is the name of an account.
     Account,
-    /// The command of a line.
-    Command,
-    /// The source that a load loads.
-    Load,
-    /// What is written for a reply.
-    Reply,
     /// The text of a fault.
     Fault,
     /// What is read from a stream.

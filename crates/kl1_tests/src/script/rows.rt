@@ -1,13 +1,12 @@
 // The answers to rows, by the kinds of their groups.
 
 use crate::script::accounts::{is_account, is_accounts};
-use crate::script::commands::{is_command, is_load};
 use crate::script::devices::{is_read, is_written};
+use crate::script::faults::is_fault;
 use crate::script::kind::Kind;
 use crate::script::lines::{is_blank, is_line, is_name, is_number, is_source, is_word};
 use crate::script::over_both::is_over_both;
 use crate::script::records::is_record;
-use crate::script::replies::{is_fault, is_reply};
 use crate::script::scripts::{is_run, is_script};
 use std::alloc::Global;
 
@@ -23,9 +22,6 @@ pub fn is_right(alloc: Global, kind: Kind, act: &[u8], wanted: &[u8]) -> bool {
         Kind::Record => is_record(act, wanted),
         Kind::Accounts => is_accounts(alloc, act, wanted),
         Kind::Account => is_account(act, wanted),
-        Kind::Command => is_command(alloc, act, wanted),
-        Kind::Load => is_load(alloc, act, wanted),
-        Kind::Reply => is_reply(alloc, act, wanted),
         Kind::Fault => is_fault(alloc, act, wanted),
         Kind::Read => is_read(alloc, act, wanted),
         Kind::Write => is_written(alloc, act, wanted),

@@ -1,21 +1,14 @@
-use Rattle.std.proofs.Common.{not, ◌≤◌, List, sym, subst}
-use Rattle.kl1_text.specs.declared.cell_name.CellName.{CellName}
-use Rattle.kl1_goals.specs.declared.goal.Goal.{Goal}
-use Rattle.kl1_goals.specs.Lists.{is_other, is_monitor_of}
-use Rattle.kl1_account.specs.Kept.{AreUpTo}
-use Rattle.kl1_account.proofs.Goals.{filter_up_to}
-use Rattle.kl1_account.proofs.Restood.{restood_holds}
+use Rattle.std.proofs.Common.{◌+◌, if◌then◌else◌, ap, ◌∙◌}
+use Rattle.kl1_account.specs.Drafts.{restood, goals_left}
+use Rattle.kl1_account.proofs.Installs.{left_in_steps, next_same}
 use Rattle.kl1_account.proofs.installing.install.Goals as goal
-use Rattle.kl1_account.proofs.installing.install.Goals.{then-draft, else-draft}
 
-pub put_goals-requires-clause-last : goal.put_goals-requires-clause-last
-put_goals-requires-clause-last c =
+pub put_goals-requires-clause-next : goal.put_goals-requires-clause-next
+put_goals-requires-clause-next c =
     let d = c.args.draft.now in
-    let P : List (Goal CellName) → Type 0 = λ gs. AreUpTo d.last_goal gs in
-    let up : P c.remove.new.self.goals = subst P (sym c.remove.ensures.goals) (filter_up_to d.last_goal (is_other d.removed) c.args.goals.now.goals c.requires.last) in
-    let left : P c.if-draft.goals.goals =
-    elim c.if-draft.branch [
-      | then-draft w ↦ rw w.goals-is (subst P (sym w.remove_monitor.ensures.goals) (filter_up_to d.last_goal (λ g. not (is_monitor_of d.shoen.number g)) c.remove.new.self.goals up))
-      | else-draft w ↦ rw w.goals-is up
-    ] in
-    subst P (sym c.restand.ensures.goals) (restood_holds (λ g. g.number ≤ d.last_goal) (λ g o p. p) c.deref.result.now c.if-draft.goals.goals left)
+    let goals = c.args.goals.now.goals in
+    next_same (restood d.changes.items (goals_left goals d)) c.open_next.new.goals.goals d.added.items c.deref-4.result.now (if c.args.opens then c.args.goals.now.shoens + 1 else c.args.goals.now.shoens) c.open_next.new.goals.shoens
+    (left_in_steps goals c.remove.new.self.goals c.remove_aborted.new.goals.goals c.remove_monitors.new.goals.goals c.restand.new.goals.goals c.open_next.new.goals.goals d.removed d.aborted.items c.deref.result.now d.ended.items c.deref-2.result.now d.changes.items c.deref-3.result.now
+    c.deref.ensures.value c.deref-2.ensures.value c.deref-3.ensures.value c.remove.ensures.goals c.remove_aborted.ensures.goals c.remove_monitors.ensures.goals c.restand.ensures.goals c.open_next.ensures.goals)
+    (c.open_next.ensures.count ∙ ap (λ n. if c.args.opens then n + 1 else n) (c.restand.ensures.count ∙ c.remove_monitors.ensures.count ∙ c.remove_aborted.ensures.count ∙ c.remove.ensures.shoens))
+    c.deref-4.ensures.value c.requires.next

@@ -6,6 +6,7 @@ use Rattle.kl1_account.proofs.installing.restand.Given as goal
 abbrev pub invariant-loop-change : goal.invariant-loop-change
 invariant-loop-change l = record {
   goals : restood (drop l.change-index l.changes) l.goals.goals ≡ restood l.changes l.initial.goals.goals;
-  room : l.goals.room ≡ l.initial.goals.room;
   count : l.goals.shoens ≡ l.initial.goals.shoens;
+  room : l.goals.room ≡ l.initial.goals.room;
+  shoen_room : l.goals.shoen_room ≡ l.initial.goals.shoen_room;
 }

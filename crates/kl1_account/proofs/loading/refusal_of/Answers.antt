@@ -1,5 +1,5 @@
-use Rattle.std.proofs.Common.{◌∙◌}
-use Rattle.kl1_account.proofs.Loads.{tells_name, is_free, crowds_is, draft_exists, draft_crowds, draft_full, draft_loads}
+use Rattle.std.proofs.Common.{◌∙◌, arith}
+use Rattle.kl1_account.proofs.Loads.{tells_name, is_free, crowds_is, draft_exists, draft_crowds, draft_limit, draft_full, draft_loads}
 use Rattle.kl1_account.proofs.loading.refusal_of.Goals as goal
 
 pub returns-then-has : goal.returns-then-has
@@ -19,6 +19,15 @@ returns-then-are_too_many c =
     let many = crowds_is names d c.code.result.now c.names.result.now c.are_too_many.result c.are_too_many.ensures c.names.ensures.value c.code.ensures in
     draft_crowds ms names c.args.entries d (there ∙ c.if-has.false) (many ∙ c.if-are_too_many.true)
 
+pub returns-then-len-ge-MOST_MODULES : goal.returns-then-len-ge-MOST_MODULES
+returns-then-len-ge-MOST_MODULES c =
+    let ms = c.args.modules.now.loaded in
+    let names = c.args.names.now.names in
+    let d = c.args.draft.now in
+    let there = tells_name ms names d c.number.result c.has.result c.requires.reads c.requires.rows c.number.ensures c.has.ensures.tells in
+    let many = crowds_is names d c.code.result.now c.names.result.now c.are_too_many.result c.are_too_many.ensures c.names.ensures.value c.code.ensures in
+    draft_limit ms names c.args.entries d (there ∙ c.if-has.false) (many ∙ c.if-are_too_many.false) (omega arith)
+
 pub returns-then-entries-ge-MOST_ENTRIES : goal.returns-then-entries-ge-MOST_ENTRIES
 returns-then-entries-ge-MOST_ENTRIES c =
     let ms = c.args.modules.now.loaded in
@@ -26,7 +35,7 @@ returns-then-entries-ge-MOST_ENTRIES c =
     let d = c.args.draft.now in
     let there = tells_name ms names d c.number.result c.has.result c.requires.reads c.requires.rows c.number.ensures c.has.ensures.tells in
     let many = crowds_is names d c.code.result.now c.names.result.now c.are_too_many.result c.are_too_many.ensures c.names.ensures.value c.code.ensures in
-    draft_full ms names c.args.entries d (there ∙ c.if-has.false) (many ∙ c.if-are_too_many.false) c.if-entries-ge-MOST_ENTRIES.true
+    draft_full ms names c.args.entries d (there ∙ c.if-has.false) (many ∙ c.if-are_too_many.false) (omega arith) c.if-entries-ge-MOST_ENTRIES.true
 
 pub returns : goal.returns
 returns c =
@@ -36,4 +45,4 @@ returns c =
     let there = tells_name ms names d c.number.result c.has.result c.requires.reads c.requires.rows c.number.ensures c.has.ensures.tells in
     let free = is_free ms d c.number.result c.has.result c.has.ensures.value c.number.ensures in
     let many = crowds_is names d c.code.result.now c.names.result.now c.are_too_many.result c.are_too_many.ensures c.names.ensures.value c.code.ensures in
-    draft_loads ms names c.args.entries d c.requires.reads (free ∙ c.if-has.false) (there ∙ c.if-has.false) (many ∙ c.if-are_too_many.false) c.if-entries-ge-MOST_ENTRIES.false
+    draft_loads ms names c.args.entries d c.requires.reads (free ∙ c.if-has.false) (there ∙ c.if-has.false) (many ∙ c.if-are_too_many.false) (omega arith) c.if-entries-ge-MOST_ENTRIES.false

@@ -1,4 +1,4 @@
-use Rattle.std.proofs.Common.{◌≡◌, [], length, arith, sym, rules}
+use Rattle.std.proofs.Common.{◌≡◌, [], arith, sym, rules}
 use Rattle.std.specs.Vec.{vec_len}
 use Rattle.std.proofs.lemmas.List.{nil_from_length}
 use Rattle.kl1_account.proofs.Looks.{stands_by}

@@ -1,6 +1,9 @@
-use Rattle.std.proofs.Common.{ℕ}
+use Rattle.std.proofs.Common.{ℕ, List}
 use Rattle.std.specs.Prelude.{Option}
 use Rattle.std.proofs.lemmas.Result.{IfOk-weaker}
+use Rattle.kl1_text.specs.declared.cell_name.CellName.{CellName}
+use Rattle.kl1_goals.specs.declared.task.Task.TheVariants.{Reduces}
+use Rattle.kl1_shoen.specs.declared.shoen.Shoen.{Shoen}
 use Rattle.kl1_account.specs.declared.draft.Change.{Change}
 use Rattle.kl1_account.specs.Looking.{StandsBy, StandsAt}
 use Rattle.kl1_account.proofs.Looks.{serves_has, stands_at}
@@ -15,6 +18,6 @@ returns-clause-stands c =
     let kind = c.kind_of_qualified-kind.result in
     let p = c.predicate_near-clauses.result in
     let one : Option ℕ → Change = λ s. record { number = c.args.number; standing = s } in
-    IfOk-weaker c.hung_standing.result (λ s. StandsBy h hooks kind p (one s)) (λ s. StandsAt ms h hooks x (one s))
-    (λ s found. stands_at ms h hooks x kind p (one s) c.kind_of_qualified-kind.ensures.kind (serves_has ms kind p c.predicate_near-clauses.ensures.serves) found)
+    IfOk-weaker c.hung_standing.result (λ s. StandsBy h hooks kind p (one s)) (λ s. (shoens : List (Shoen CellName)) (shoen : ℕ) → StandsAt ms shoens h hooks shoen (Reduces x) (one s))
+    (λ s found shoens shoen. stands_at ms shoens h hooks shoen x kind p (one s) c.kind_of_qualified-kind.ensures.kind (serves_has ms kind p c.predicate_near-clauses.ensures.serves) found)
     c.hung_standing.ensures.stands

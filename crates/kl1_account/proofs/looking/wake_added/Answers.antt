@@ -1,21 +1,29 @@
-use Rattle.std.proofs.Common.{arith, sym, subst, get_or}
+use Rattle.std.proofs.Common.{◌+◌, ◌≡◌, suc, arith, subst, ℕ, slice_set}
 use Rattle.kl1_text.specs.declared.cell_name.CellName.{CellName}
-use Rattle.kl1_store.specs.declared.cell.Cell.TheVariants.{Variable}
-use Rattle.kl1_store.specs.Held.{Held, IsIn}
-use Rattle.kl1_account.proofs.Added.{next_added, nth_in}
+use Rattle.kl1_goals.specs.declared.goal.Goal.{Goal}
+use Rattle.kl1_account.specs.Looking.{LooksAtOne}
+use Rattle.kl1_account.proofs.Added.{StillLooks, none_looked, next_looked, all_looked}
 use Rattle.kl1_account.proofs.looking.wake_added.Goals as goal
-use Rattle.kl1_account.specs.Account.{whole}
 
-pub standing_at-requires-clause-cell : goal.standing_at-requires-clause-cell
-standing_at-requires-clause-cell c =
-    let P : Held CellName → Type 0 = λ h. IsIn h (get_or c.args.cells.now c.loop-cell.cell-index (whole (Variable 0))).cell in
-    subst P (sym c.loop-cell.invariant.adds.held) (nth_in c.args.store.now.held c.args.cells.now c.loop-cell.cell-index (whole (Variable 0)) c.requires.cells c.loop-cell-test.true)
+pub loop-place-init : goal.loop-place-init
+loop-place-init c = none_looked c.args.modules.now.loaded c.args.shoens.now.shoens c.args.shoens.now.work c.args.store.now c.args.added.now.items c.requires.added
 
-pub loop-cell-preserved : goal.loop-cell-preserved
-loop-cell-preserved c = record {
-  number = omega arith;
-  adds =
-      next_added c.args.modules.now.loaded c.args.store.now c.loop-cell.store c.standing_at.new.store c.args.last_goal c.loop-cell.number c.args.cells.now c.loop-cell.cell-index (whole (Variable 0)) c.loop-cell.standings.items c.push_reserved.new.self.items c.in_ok-standing.standing
-      c.loop-cell-test.true c.loop-cell.invariant.number c.loop-cell.invariant.adds c.in_ok-standing.ensures.held c.in_ok-standing.ensures.grown c.in_ok-standing.ensures.stands c.push_reserved.ensures.items;
-  room = omega (arith, c.push_reserved.ensures.len, c.push_reserved.ensures.capacity);
-}
+pub loop-place-preserved : goal.loop-place-preserved
+loop-place-preserved c =
+    let ms = c.args.modules.now.loaded in
+    let ss = c.args.shoens.now.shoens in
+    let work = c.args.shoens.now.work in
+    let now = c.loop-place.added.items in
+    let k = c.loop-place.place in
+    let x = c.in_ok-added.field-0 in
+    let N : ℕ → Type 0 = λ n. StillLooks ms ss work c.args.store.now c.looked_goal.new.store n c.args.added.now.items (slice_set now k x) in
+    let L : Goal CellName → Type 0 = λ g. LooksAtOne ms ss work c.loop-place.store.held c.looked_goal.new.store.hooks g x in
+    let next : suc k ≡ k + 1 = omega arith in
+    subst N next
+    (next_looked ms ss work c.args.store.now c.loop-place.store c.looked_goal.new.store k c.args.added.now.items now c.index-goal.result.now x (omega (arith, c.loop-place-test.true, c.loop-place.invariant.count)) c.loop-place.invariant
+    c.in_ok-added.ensures.held c.in_ok-added.ensures.grown (subst L c.index-goal.ensures c.in_ok-added.ensures.looks))
+
+pub returns-clause-looks : goal.returns-clause-looks
+returns-clause-looks c =
+    all_looked c.args.modules.now.loaded c.args.shoens.now.shoens c.args.shoens.now.work c.args.store.now c.loop-place.store c.loop-place.place c.args.added.now.items c.loop-place.added.items
+    (omega (arith, c.loop-place-test.false, c.loop-place.invariant.count, c.loop-place.auto.place-end)) c.loop-place.invariant

@@ -10,4 +10,4 @@ put-requires-clause-next c =
 pub put-requires-2-clause-next : goal.put-requires-2-clause-next
 put-requires-2-clause-next c =
     let t = c.args.goals.now in
-    goal_next c.args.last_goal t.shoens c.put.new.self.shoens c.args.shoen (c.args.last_goal + 2) c.args.high t.goals c.open.new.self.goals c.put.new.self.goals _ c.args.cell c.args.standing c.requires.last c.open.ensures.goals c.put.ensures.goals refl c.requires.shoen (c.put.ensures.shoens ∙ c.open.ensures.shoens) refl c.requires.high
+    goal_next c.args.last_goal t.shoens c.put.new.self.shoens c.args.shoen (c.args.last_goal + 2) c.args.high t.goals c.open.new.self.goals c.put.new.self.goals _ c.args.cell c.args.standing c.args.is_enabled c.requires.last c.open.ensures.goals c.put.ensures.goals refl c.requires.shoen (c.put.ensures.shoens ∙ c.open.ensures.shoens) refl c.requires.high

@@ -1,10 +1,12 @@
-use Rattle.std.proofs.Common.{◌≡◌, ◌-◌, map, refl, ap, sym, ◌∙◌}
+use Rattle.std.proofs.Common.{◌≡◌, ◌-◌, map, refl, ap, sym, ◌∙◌, arith}
 use Rattle.kl1_model.specs.Term.{terms_of}
 use Rattle.kl1_model.specs.Meaning.{highest_in}
 use Rattle.kl1_model.specs.Module.{goals_of}
 use Rattle.kl1_term.proofs.Rows.{count_of-terms_of}
 use Rattle.kl1_read.specs.Sources.{clause_of_parts, goal_of_parts}
+use Rattle.kl1_clause.specs.Instructions.{code_in}
 use Rattle.kl1_clause.proofs.ClauseFacts.{made}
+use Rattle.kl1_clause.proofs.NodeCounts.{goals_fit}
 use Rattle.kl1_clause.proofs.compiled_clause.compiled_of.Goals as goal
 
 pub returns : goal.returns
@@ -13,7 +15,7 @@ returns c =
     let head : c.highest_among-head_variables.result ≡ highest_in (terms_of p.patterns.items) = c.highest_among-head_variables.ensures ∙ ap (λ x. highest_in (terms_of x)) c.deref-5.ensures.value in
     let fresh : c.fresh_among-fresh_variables.result ≡ highest_in (terms_of (goals_of (map goal_of_parts p.body.items))) - highest_in (terms_of p.patterns.items) = c.fresh_among-fresh_variables.ensures ∙ (ap (λ x. highest_in (terms_of (goals_of (map goal_of_parts x))) - c.highest_among-head_variables.result) c.deref-6.ensures.value ∙ ap (λ n. highest_in (terms_of (goals_of (map goal_of_parts p.body.items))) - n) head) in
     let all = made c.args.names.now c.placed.new.self c.row_of.new.names c.row_of-2.new.names c.body_of.new.names
-    (record { name = c.in_ok-name.name; count = c.len-count.result; section = p.section; patterns = c.in_ok-patterns.patterns; tests = c.in_ok-tests.tests; goals = c.in_ok-body.body.goals; modules = c.in_ok-body.body.modules; priorities = c.in_ok-priorities.priorities; head_variables = c.highest_among-head_variables.result; fresh_variables = c.fresh_among-fresh_variables.result; is_plain = c.is_plain-is_plain.result })
+    (record { name = c.in_ok-name.name; count = c.len-count.result; section = p.section; patterns = c.in_ok-patterns.patterns; tests = c.in_ok-tests.tests; goals = c.in_ok-body.body.goals; modules = c.in_ok-body.body.modules; priorities = c.in_ok-priorities.priorities; head_variables = c.highest_among-head_variables.result; fresh_variables = c.fresh_among-fresh_variables.result; nodes = c.goals_nodes-nodes.result; is_plain = c.is_plain-is_plain.result })
     (clause_of_parts p)
     (record {
       parted = record {
@@ -33,7 +35,17 @@ returns c =
       count = c.len-count.ensures ∙ (p.patterns.ok.0 ∙ sym (count_of-terms_of p.patterns.items));
       head_variables = head;
       fresh_variables = fresh;
+      nodes = rw c.deref-7.ensures.value at c.goals_nodes-nodes.ensures;
       plain = rw c.as_slice.ensures.value at (rw c.as_slice-2.ensures.value at c.is_plain-is_plain.ensures);
       guarded = c.requires;
     }) in
     record { names = all.0; clause = all.1 }
+
+pub goals_nodes-nodes-requires : goal.goals_nodes-nodes-requires
+goals_nodes-nodes-requires c =
+    let p = c.args.parts.now in
+    rw c.deref-7.ensures.value (
+    goals_fit (goals_of (map goal_of_parts p.body.items)) c.in_ok-body.body.goals.items (code_in c.body_of.new.names)
+    (rw c.deref-3.ensures.value at c.in_ok-body.ensures.row_is.nodes_are)
+    (omega (arith, c.in_ok-body.body.goals.ok.0))
+    )

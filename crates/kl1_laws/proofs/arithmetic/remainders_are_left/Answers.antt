@@ -1,4 +1,4 @@
-use Rattle.std.proofs.Common.{◌≡◌, ℕ, zero, suc, ◌%◌, ℤ, pos, negsuc, neg_ℤ, ◌≤ℤ◌, unsigned_abs, arith}
+use Rattle.std.proofs.Common.{ℕ, zero, suc, ◌%◌, pos, negsuc, neg_ℤ, ◌≤ℤ◌, unsigned_abs, arith}
 use Rattle.std.proofs.lemmas.Int.{ints, quot-rem, rem_below}
 use Rattle.kl1_laws.specs.ArithmeticLaws.{RemaindersKeepSigns}
 use Rattle.kl1_laws.proofs.arithmetic.remainders_are_left.Goals as goal

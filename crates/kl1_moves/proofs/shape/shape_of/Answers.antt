@@ -1,17 +1,14 @@
-use Rattle.std.proofs.Common.{[], sym, refl, ◌∙◌}
-use Rattle.kl1_model.specs.Term.{integer}
-use Rattle.kl1_store.specs.Meaning.{term_of}
+use Rattle.std.proofs.Common.{sym, ap, ◌∙◌}
 use Rattle.kl1_match.proofs.Cells.{at_variable, at_integer, at_atom}
-use Rattle.kl1_moves.proofs.Tops.{no_goal, other_structure, two_arguments, argument_in}
+use Rattle.kl1_moves.proofs.Tops.{other_structure, two_arguments, argument_in}
+use Rattle.kl1_moves.specs.Shapes.{is_other}
 use Rattle.kl1_moves.proofs.shape.shape_of.Goals as goal
 
 pub returns-in-Variable-clause-shape : goal.returns-in-Variable-clause-shape
 returns-in-Variable-clause-shape g c = λ f. sym (c.walk.ensures.means f) ∙ at_variable f c.args.store.now.held c.walk.result c.in-Variable.variable c.in-Variable.is c.walk.ensures.walked
 
 pub returns-in-Integer-clause-shape : goal.returns-in-Integer-clause-shape
-returns-in-Integer-clause-shape g c = λ f.
-    no_goal (term_of f c.args.store.now.held c.args.goal) (integer c.in-Integer.field-0) []
-    (sym (c.walk.ensures.means f) ∙ at_integer f c.args.store.now.held c.walk.result c.in-Integer.field-0 c.in-Integer.is) (record { call = refl; built_in = refl; awaits = refl; waits_no_more = refl })
+returns-in-Integer-clause-shape g c = λ f. ap is_other (sym (c.walk.ensures.means f) ∙ at_integer f c.args.store.now.held c.walk.result c.in-Integer.field-0 c.in-Integer.is)
 
 pub returns-in-Atom-clause-shape : goal.returns-in-Atom-clause-shape
 returns-in-Atom-clause-shape g c = λ f. sym (c.walk.ensures.means f) ∙ at_atom f c.args.store.now.held c.walk.result c.in-Atom.name c.in-Atom.is

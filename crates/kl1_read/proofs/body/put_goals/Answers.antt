@@ -4,12 +4,12 @@ use Rattle.kl1_read.proofs.body.put_goals.Goals as goal
 
 pub returns-in-None : goal.returns-in-None
 returns-in-None c =
-    goals_stop c.args.module_name c.loop-piece.pieces.items c.pop.new.self.items c.in-Some.piece c.loop-piece.goals.items _ c.in_ok-goal_of.field-0 c.loop-piece.invariant c.in-Some.ensures.items c.in_ok-goal_of.ensures c.in-None.is
+    goals_stop c.args.module_name c.loop-term.terms.items c.pop.new.self.items c.in-Some.term c.loop-term.goals.items _ c.in_ok-goal_of.field-0 c.loop-term.invariant c.in-Some.ensures.items c.in_ok-goal_of.ensures c.in-None.is
 
-pub loop-piece-preserved : goal.loop-piece-preserved
-loop-piece-preserved c =
-    goals_go c.args.module_name c.loop-piece.pieces.items c.pop.new.self.items c.in-Some.piece c.in-Some-2.goal c.loop-piece.goals.items c.push.new.self.items _ c.in_ok-goal_of.field-0 c.loop-piece.invariant c.in-Some.ensures.items c.in_ok-goal_of.ensures c.in-Some-2.is c.in_ok-push-in-Some-2.ensures.items
+pub loop-term-preserved : goal.loop-term-preserved
+loop-term-preserved c =
+    goals_go c.args.module_name c.loop-term.terms.items c.pop.new.self.items c.in-Some.term c.in-Some-2.goal c.loop-term.goals.items c.push.new.self.items _ c.in_ok-goal_of.field-0 c.loop-term.invariant c.in-Some.ensures.items c.in_ok-goal_of.ensures c.in-Some-2.is c.in_ok-push-in-Some-2.ensures.items
 
 pub returns : goal.returns
 returns c =
-    goals_end c.args.module_name c.loop-piece.pieces.items c.loop-piece.goals.items c.reverse.new.self.items _ (omega (arith, c.in_default.ensures.cases.0, c.loop-piece.pieces.ok.0)) c.loop-piece.invariant c.reverse.ensures.items
+    goals_end c.args.module_name c.loop-term.terms.items c.loop-term.goals.items c.reverse.new.self.items _ (omega (arith, c.in_default.ensures.cases.0, c.loop-term.terms.ok.0)) c.loop-term.invariant c.reverse.ensures.items

@@ -1,84 +1,139 @@
-use Rattle.std.proofs.Common.{◌≡◌, ◌+◌, length, arith, refl, ◌∙◌}
-use Rattle.kl1_account.specs.Account.{Account}
+use Rattle.std.proofs.Common.{◌≡◌, ℕ, suc, ◌+◌, Bool, nat_lt, List, length, refl, sym, ap, ap₂, subst, arith}
+use Rattle.kl1_text.specs.declared.cell_name.CellName.{CellName}
+use Rattle.kl1_atoms.specs.declared.known.Known.{Known}
+use Rattle.kl1_shoen.specs.Shoens.{Tree}
 use Rattle.kl1_account.specs.Accounts.{kept_in}
-use Rattle.kl1_account.specs.Reducing.{put_in}
-use Rattle.kl1_account.proofs.Reduced.{kept_same, done_of, refused_of, as_before, refused_step, fits_same, placed_as, done_step, kept_done}
+use Rattle.kl1_account.specs.Calling.{IsNewName}
+use Rattle.kl1_account.proofs.ReducePut.{kept_at, comes_of, reduced_of, refused_of, published_of, fits_table, put_kept, put_steps, as_before, still_kept, refused_step}
 use Rattle.kl1_account.proofs.account.Account.reduce.Goals as goal
 
-pub invariant_of-self-in-Some : goal.invariant_of-self-in-Some
-invariant_of-self-in-Some c =
+pub draft_reduction-drafted-requires : goal.draft_reduction-drafted-requires
+draft_reduction-drafted-requires g c =
     let u = c.self.inside in
-    let k = c.draft_reduction.new.store in
-    let gs = c.draft_reduction.new.goals in
-    let r = refused_of (kept_in u) u.store k c.args.number c.args.clause u.goals.shoens gs.room c.draft_reduction.new.draft c.in-Ok.refused c.in-Some.refusal c.in-Some.is (c.in-Ok.ensures.ok u.name u.names.names) in
-    let same = as_before (kept_in u) k.held gs.goals r.held c.in-Ok.ensures.goals in
-    let z : Account = record (kept_in u) { held = k.held; goals = gs.goals } in
-    kept_same (kept_in u) z u.store.hooks k.hooks u.goals.shoens gs.shoens same r.hooks c.in-Ok.ensures.count c.self.invariant
+    record {
+      kept = kept_at (kept_in u) c.begin.new.self u.store.hooks u.goals.shoens (ap (λ (x : Tree CellName). x.shoens) c.begin.ensures) (ap (λ (x : Tree CellName). x.work) c.begin.ensures) c.self.invariant;
+    }
+
+pub invariant_of-self-in-Some : goal.invariant_of-self-in-Some
+invariant_of-self-in-Some g c =
+    let u = c.self.inside in
+    let a = kept_in u in
+    let k = c.draft_reduction-drafted.new.store in
+    let t = c.begin.new.self in
+    let v = c.draft_reduction-drafted.new.shoens in
+    let table = c.draft_reduction-drafted.new.goals in
+    let d = c.draft_reduction-drafted.new.draft in
+    let came =
+    comes_of a t c.args.number c.args.clause u.store k v table d c.in-Ok.refused (ap (λ (x : Tree CellName). x.shoens) c.begin.ensures) (ap (λ (x : Tree CellName). x.work) c.begin.ensures) c.in-Ok.ensures.ok in
+    let r = refused_of a c.args.number c.args.clause u.store k t v table d c.in-Ok.refused c.in-Some.refusal c.in-Some.is came in
+    let back = as_before a c.args.number c.args.clause u.store k t v c.in-Some.refusal table.goals c.draft_reduction-drafted.new.names.names r refl (ap (λ (x : Tree CellName). x.shoens) c.begin.ensures) (ap (λ (x : Tree CellName). x.work) c.begin.ensures) c.draft_reduction-drafted.ensures.goals c.draft_reduction-drafted.ensures.names in
+    still_kept a _ u.store.hooks k.hooks u.goals.shoens table.shoens back r.hooks c.draft_reduction-drafted.ensures.shoens c.self.invariant
 
 pub returns-in-Some-clause-step : goal.returns-in-Some-clause-step
-returns-in-Some-clause-step c =
+returns-in-Some-clause-step g c =
     let u = c.self.inside in
-    let k = c.draft_reduction.new.store in
-    let gs = c.draft_reduction.new.goals in
-    let r = refused_of (kept_in u) u.store k c.args.number c.args.clause u.goals.shoens gs.room c.draft_reduction.new.draft c.in-Ok.refused c.in-Some.refusal c.in-Some.is (c.in-Ok.ensures.ok u.name u.names.names) in
-    let same = as_before (kept_in u) k.held gs.goals r.held c.in-Ok.ensures.goals in
-    let z : Account = record (kept_in u) { held = k.held; goals = gs.goals } in
-    refused_step (kept_in u) c.args.self.now z u.store k u.store.hooks u.goals.shoens c.args.number c.args.clause c.in-Some.refusal c.self.view_is c.self.invariant same r
+    let a = kept_in u in
+    let k = c.draft_reduction-drafted.new.store in
+    let t = c.begin.new.self in
+    let v = c.draft_reduction-drafted.new.shoens in
+    let table = c.draft_reduction-drafted.new.goals in
+    let d = c.draft_reduction-drafted.new.draft in
+    let came =
+    comes_of a t c.args.number c.args.clause u.store k v table d c.in-Ok.refused (ap (λ (x : Tree CellName). x.shoens) c.begin.ensures) (ap (λ (x : Tree CellName). x.work) c.begin.ensures) c.in-Ok.ensures.ok in
+    let r = refused_of a c.args.number c.args.clause u.store k t v table d c.in-Ok.refused c.in-Some.refusal c.in-Some.is came in
+    let back = as_before a c.args.number c.args.clause u.store k t v c.in-Some.refusal table.goals c.draft_reduction-drafted.new.names.names r refl (ap (λ (x : Tree CellName). x.shoens) c.begin.ensures) (ap (λ (x : Tree CellName). x.work) c.begin.ensures) c.draft_reduction-drafted.ensures.goals c.draft_reduction-drafted.ensures.names in
+    λ f fits. refused_step a c.args.self.now _ c.args.number c.args.clause u.store k t v c.in-Some.refusal u.store.hooks u.goals.shoens c.self.view_is back c.self.invariant r f fits
+
+pub spell_anew-requires-clause-name : goal.spell_anew-requires-clause-name
+spell_anew-requires-clause-name g c =
+    let u = c.self.inside in
+    let a = kept_in u in
+    let k = c.draft_reduction-drafted.new.store in
+    let t = c.begin.new.self in
+    let v = c.draft_reduction-drafted.new.shoens in
+    let table = c.draft_reduction-drafted.new.goals in
+    let d = c.draft_reduction-drafted.new.draft in
+    let came =
+    comes_of a t c.args.number c.args.clause u.store k v table d c.in-Ok.refused (ap (λ (x : Tree CellName). x.shoens) c.begin.ensures) (ap (λ (x : Tree CellName). x.work) c.begin.ensures) c.in-Ok.ensures.ok in
+    let r = reduced_of a c.args.number c.args.clause u.store k t v table d c.in-Ok.refused c.in_default.is came in
+    let N : List Known → Type 0 = λ ks. IsNewName ks d.name in
+    subst N (sym c.draft_reduction-drafted.ensures.names) r.name
+
+pub spell_anew-requires-clause-spelled : goal.spell_anew-requires-clause-spelled
+spell_anew-requires-clause-spelled g c =
+    let u = c.self.inside in
+    let a = kept_in u in
+    let k = c.draft_reduction-drafted.new.store in
+    let t = c.begin.new.self in
+    let v = c.draft_reduction-drafted.new.shoens in
+    let table = c.draft_reduction-drafted.new.goals in
+    let d = c.draft_reduction-drafted.new.draft in
+    let came =
+    comes_of a t c.args.number c.args.clause u.store k v table d c.in-Ok.refused (ap (λ (x : Tree CellName). x.shoens) c.begin.ensures) (ap (λ (x : Tree CellName). x.work) c.begin.ensures) c.in-Ok.ensures.ok in
+    let r = reduced_of a c.args.number c.args.clause u.store k t v table d c.in-Ok.refused c.in_default.is came in
+    r.spelled
+
+pub spell_anew-requires-clause-has : goal.spell_anew-requires-clause-has
+spell_anew-requires-clause-has g c =
+    let u = c.self.inside in
+    let a = kept_in u in
+    let k = c.draft_reduction-drafted.new.store in
+    let t = c.begin.new.self in
+    let v = c.draft_reduction-drafted.new.shoens in
+    let table = c.draft_reduction-drafted.new.goals in
+    let d = c.draft_reduction-drafted.new.draft in
+    let came =
+    comes_of a t c.args.number c.args.clause u.store k v table d c.in-Ok.refused (ap (λ (x : Tree CellName). x.shoens) c.begin.ensures) (ap (λ (x : Tree CellName). x.work) c.begin.ensures) c.in-Ok.ensures.ok in
+    let r = reduced_of a c.args.number c.args.clause u.store k t v table d c.in-Ok.refused c.in_default.is came in
+    r.has
 
 pub install-requires : goal.install-requires
-install-requires c =
+install-requires g c =
     let u = c.self.inside in
-    let d = c.draft_reduction.new.draft in
-    let k = c.draft_reduction.new.store in
-    let gs = c.draft_reduction.new.goals in
-    let r = done_of (kept_in u) u.store k c.args.number c.args.clause u.goals.shoens gs.room d c.in-Ok.refused c.in_default.is (c.in-Ok.ensures.ok u.name u.names.names) in
-    fits_same u.goals.goals gs.goals u.goals.shoens gs.shoens gs.room d c.in-Ok.ensures.goals c.in-Ok.ensures.count r.fitting
-
-pub overflow_add-self : goal.overflow_add-self
-overflow_add-self c =
-    let u = c.self.inside in
-    let d = c.draft_reduction.new.draft in
-    let k = c.draft_reduction.new.store in
-    let gs = c.draft_reduction.new.goals in
-    let r = done_of (kept_in u) u.store k c.args.number c.args.clause u.goals.shoens gs.room d c.in-Ok.refused c.in_default.is (c.in-Ok.ensures.ok u.name u.names.names) in
-    let numbers = r.fitting.numbers in
-    let counted = c.len.ensures in
-    omega (arith, d.cells.ok.0, numbers, counted)
-
-pub overflow_add-self-2 : goal.overflow_add-self-2
-overflow_add-self-2 c =
-    let u = c.self.inside in
-    let d = c.draft_reduction.new.draft in
-    let k = c.draft_reduction.new.store in
-    let gs = c.draft_reduction.new.goals in
-    let r = done_of (kept_in u) u.store k c.args.number c.args.clause u.goals.shoens gs.room d c.in-Ok.refused c.in_default.is (c.in-Ok.ensures.ok u.name u.names.names) in
-    let journal = r.journal in
-    omega (arith, journal)
+    let a = kept_in u in
+    let k = c.draft_reduction-drafted.new.store in
+    let t = c.begin.new.self in
+    let v = c.draft_reduction-drafted.new.shoens in
+    let table = c.draft_reduction-drafted.new.goals in
+    let d = c.draft_reduction-drafted.new.draft in
+    let came =
+    comes_of a t c.args.number c.args.clause u.store k v table d c.in-Ok.refused (ap (λ (x : Tree CellName). x.shoens) c.begin.ensures) (ap (λ (x : Tree CellName). x.work) c.begin.ensures) c.in-Ok.ensures.ok in
+    let r = reduced_of a c.args.number c.args.clause u.store k t v table d c.in-Ok.refused c.in_default.is came in
+    let opens : Bool = nat_lt c.shoens.result c.len.result in
+    let is : opens ≡ nat_lt table.shoens (length v.shoens) = ap₂ (λ (m n : ℕ). nat_lt m n) c.shoens.ensures.shoens c.len.ensures.value in
+    fits_table a c.args.number c.args.clause k v table d opens r c.draft_reduction-drafted.ensures.goals is
 
 pub invariant_of-self-2 : goal.invariant_of-self-2
-invariant_of-self-2 c =
+invariant_of-self-2 g c =
     let u = c.self.inside in
-    let d = c.draft_reduction.new.draft in
-    let k = c.draft_reduction.new.store in
-    let gs = c.draft_reduction.new.goals in
-    let r = done_of (kept_in u) u.store k c.args.number c.args.clause u.goals.shoens gs.room d c.in-Ok.refused c.in_default.is (c.in-Ok.ensures.ok u.name u.names.names) in
-    let counted = c.len.ensures in
-    let last : d.last_goal + c.len.result ≡ d.last_goal + length d.cells.items = omega (arith, d.cells.ok.0, counted) in
-    let same = placed_as (kept_in u) k.held d gs.goals c.install.new.goals.goals c.install.new.shoens.shoens (d.last_goal + c.len.result) (u.entries + 1) c.in-Ok.ensures.goals c.install.ensures.goals c.install.ensures.shoens last (omega arith) in
-    let z : Account = record (kept_in u) { held = k.held; goals = c.install.new.goals.goals; shoens = c.install.new.shoens.shoens; last_goal = d.last_goal + c.len.result; entries = u.entries + 1 } in
-    let count : c.install.new.goals.shoens ≡ u.goals.shoens = c.install.ensures.count ∙ c.in-Ok.ensures.count in
-    kept_same (put_in (kept_in u) k.held d) z k.hooks k.hooks u.goals.shoens c.install.new.goals.shoens same refl count
-    (kept_done (kept_in u) u.store k u.goals.shoens c.args.number c.args.clause u.goals.shoens gs.room d refl c.self.invariant r)
+    let a = kept_in u in
+    let k = c.draft_reduction-drafted.new.store in
+    let t = c.begin.new.self in
+    let v = c.draft_reduction-drafted.new.shoens in
+    let table = c.draft_reduction-drafted.new.goals in
+    let d = c.draft_reduction-drafted.new.draft in
+    let came =
+    comes_of a t c.args.number c.args.clause u.store k v table d c.in-Ok.refused (ap (λ (x : Tree CellName). x.shoens) c.begin.ensures) (ap (λ (x : Tree CellName). x.work) c.begin.ensures) c.in-Ok.ensures.ok in
+    let r = reduced_of a c.args.number c.args.clause u.store k t v table d c.in-Ok.refused c.in_default.is came in
+    let p = published_of a.names c.draft_reduction-drafted.new.names.names c.spell_anew.new.known.names d k.held c.spell_anew.new.store.held c.draft_reduction-drafted.ensures.names c.spell_anew.ensures.published in
+    let one : u.entries + 1 ≡ suc u.entries = omega arith in
+    let opens : Bool = nat_lt c.shoens.result c.len.result in
+    let is : opens ≡ nat_lt table.shoens (length v.shoens) = ap₂ (λ (m n : ℕ). nat_lt m n) c.shoens.ensures.shoens c.len.ensures.value in
+    put_kept a c.args.number c.args.clause k v table d c.spell_anew.new.known.names c.spell_anew.new.store.held c.install.new.goals.goals (u.entries + 1) r p c.draft_reduction-drafted.ensures.goals c.install.ensures.goals one
+    c.spell_anew.new.store.hooks c.install.new.goals.shoens opens c.spell_anew.ensures.hooks is c.install.ensures.count
 
 pub returns-clause-step : goal.returns-clause-step
-returns-clause-step c =
+returns-clause-step g c =
     let u = c.self.inside in
-    let d = c.draft_reduction.new.draft in
-    let k = c.draft_reduction.new.store in
-    let gs = c.draft_reduction.new.goals in
-    let r = done_of (kept_in u) u.store k c.args.number c.args.clause u.goals.shoens gs.room d c.in-Ok.refused c.in_default.is (c.in-Ok.ensures.ok u.name u.names.names) in
-    let counted = c.len.ensures in
-    let last : d.last_goal + c.len.result ≡ d.last_goal + length d.cells.items = omega (arith, d.cells.ok.0, counted) in
-    let same = placed_as (kept_in u) k.held d gs.goals c.install.new.goals.goals c.install.new.shoens.shoens (d.last_goal + c.len.result) (u.entries + 1) c.in-Ok.ensures.goals c.install.ensures.goals c.install.ensures.shoens last (omega arith) in
-    let z : Account = record (kept_in u) { held = k.held; goals = c.install.new.goals.goals; shoens = c.install.new.shoens.shoens; last_goal = d.last_goal + c.len.result; entries = u.entries + 1 } in
-    done_step (kept_in u) c.args.self.now z u.store k u.store.hooks u.goals.shoens c.args.number c.args.clause u.goals.shoens gs.room d c.self.view_is c.self.invariant same r
+    let a = kept_in u in
+    let k = c.draft_reduction-drafted.new.store in
+    let t = c.begin.new.self in
+    let v = c.draft_reduction-drafted.new.shoens in
+    let table = c.draft_reduction-drafted.new.goals in
+    let d = c.draft_reduction-drafted.new.draft in
+    let came =
+    comes_of a t c.args.number c.args.clause u.store k v table d c.in-Ok.refused (ap (λ (x : Tree CellName). x.shoens) c.begin.ensures) (ap (λ (x : Tree CellName). x.work) c.begin.ensures) c.in-Ok.ensures.ok in
+    let r = reduced_of a c.args.number c.args.clause u.store k t v table d c.in-Ok.refused c.in_default.is came in
+    let p = published_of a.names c.draft_reduction-drafted.new.names.names c.spell_anew.new.known.names d k.held c.spell_anew.new.store.held c.draft_reduction-drafted.ensures.names c.spell_anew.ensures.published in
+    let one : u.entries + 1 ≡ suc u.entries = omega arith in
+    λ f fits. put_steps a c.args.number c.args.clause k v table d c.spell_anew.new.known.names c.spell_anew.new.store.held c.install.new.goals.goals (u.entries + 1) r p c.draft_reduction-drafted.ensures.goals c.install.ensures.goals one c.args.self.now c.self.view_is f fits

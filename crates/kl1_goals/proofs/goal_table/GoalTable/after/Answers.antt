@@ -22,5 +22,5 @@ pub returns-clause-known : goal.returns-clause-known
 returns-clause-known g c =
     let s = c.self.inside in
     let ss = s.slots.items in
-    rw (← c.self.view_is) (known_if (is_after c.args.number) ss s.empty s.queue.ranks s.tallies.items c.first_held.result c.self.invariant
+    rw (← c.self.view_is) (known_if (is_after c.args.number) ss s.empty s.queue.ranks s.tallies.items s.alive c.first_held.result c.self.invariant
     (c.first_held.ensures ∙ sym (find_after c.args.number 0 c.count_upto-from.result ss c.self.invariant.slots.ascend c.count_upto-from.ensures)))

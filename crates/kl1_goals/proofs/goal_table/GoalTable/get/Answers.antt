@@ -17,5 +17,5 @@ returns-in-Some-clause-goal g c =
 pub returns-in-Some-clause-known : goal.returns-in-Some-clause-known
 returns-in-Some-clause-known g c =
     let s = c.self.inside in
-    rw (← c.self.view_is) (known_found (has_number c.args.number) s.slots.items s.empty s.queue.ranks s.tallies.items c.index.result.now.goal c.self.invariant
+    rw (← c.self.view_is) (known_found (has_number c.args.number) s.slots.items s.empty s.queue.ranks s.tallies.items s.alive c.index.result.now.goal c.self.invariant
     (find_held s.slots.items c.args.number c.in-Some.place c.index.result.now c.in-Some.ensures.0 c.self.invariant.slots.ascend c.in-Some.ensures.1 c.index.ensures))

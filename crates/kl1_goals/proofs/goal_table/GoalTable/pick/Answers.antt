@@ -5,7 +5,7 @@ use Rattle.kl1_queue.specs.Ranks.{AreNone, IsFirst}
 use Rattle.kl1_goals.specs.Readies.{chosen}
 use Rattle.kl1_goals.specs.Slots.{rank_in}
 use Rattle.kl1_goals.proofs.Changing.{field_read}
-use Rattle.kl1_goals.proofs.Ranking.{none_first, picked, ready_held}
+use Rattle.kl1_goals.proofs.Ranking.{none_first, picked, ready_held, stands_some}
 use Rattle.kl1_goals.proofs.goal_table.GoalTable.pick.Goals as goal
 
 pub returns-in-None : goal.returns-in-None
@@ -22,7 +22,7 @@ returns-in-None-standing g c =
     let first = subst A c.self.invariant.slots.ranked c.in-Some.ensures in
     let within : c.in-Some.place < length ss = omega (arith, first.within, length-map ss (rank_in {N = g.row.N.Denot})) in
     let at = field_read rank_in ss c.in-Some.place x within c.index.ensures in
-    let stands = (ready_held x (omega (arith, at, first.ready))).1 in
+    let stands = stands_some x.goal (ready_held x (omega (arith, at, first.ready))).1 in
     absurd (false≢true (ap is_some (sym c.in-None-standing.is) ∙ stands))
 
 pub returns-in-Some-standing : goal.returns-in-Some-standing

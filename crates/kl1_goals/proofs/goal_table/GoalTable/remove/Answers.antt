@@ -6,6 +6,7 @@ use Rattle.kl1_goals.specs.Tallies.{tally_at}
 use Rattle.kl1_goals.proofs.Changing.{find_held, held_here, number_here}
 use Rattle.kl1_goals.proofs.Shoens.{lowered_tally}
 use Rattle.kl1_goals.proofs.Tabling.{known_found, missing_others}
+use Rattle.kl1_goals.proofs.Flagging.{alive_lowered}
 use Rattle.kl1_goals.proofs.goal_table.GoalTable.remove.Goals as goal
 
 pub returns-in-None-clause-goals : goal.returns-in-None-clause-goals
@@ -19,13 +20,13 @@ bury-requires-clause-place g c =
 pub lower-requires-clause-low : goal.lower-requires-clause-low
 lower-requires-clause-low g c =
     let s = c.self.inside in
-    (known_found (has_number c.args.number) s.slots.items s.empty s.queue.ranks s.tallies.items c.index.result.now.goal c.self.invariant
+    (known_found (has_number c.args.number) s.slots.items s.empty s.queue.ranks s.tallies.items s.alive c.index.result.now.goal c.self.invariant
     (find_held s.slots.items c.args.number c.in-Some.place c.index.result.now c.in-Some.ensures.0 c.self.invariant.slots.ascend c.in-Some.ensures.1 c.index.ensures)).low
 
 pub lower-requires-clause-high : goal.lower-requires-clause-high
 lower-requires-clause-high g c =
     let s = c.self.inside in
-    (known_found (has_number c.args.number) s.slots.items s.empty s.queue.ranks s.tallies.items c.index.result.now.goal c.self.invariant
+    (known_found (has_number c.args.number) s.slots.items s.empty s.queue.ranks s.tallies.items s.alive c.index.result.now.goal c.self.invariant
     (find_held s.slots.items c.args.number c.in-Some.place c.index.result.now c.in-Some.ensures.0 c.self.invariant.slots.ascend c.in-Some.ensures.1 c.index.ensures)).high
 
 pub invariant_of-self : goal.invariant_of-self
@@ -36,6 +37,7 @@ invariant_of-self g c =
     record {
       slots = c.tidy.ensures.slots;
       tallied = λ n. rw (c.tidy.ensures.goals, c.lower.ensures.tallies n) (lowered_tally n x.goal (goals_in s.slots.items) (goals_in c.bury.new.slots.items) (tally_at s.tallies.items n) w (c.self.invariant.tallied n));
+      alive = rw c.tidy.ensures.goals (c.lower_alive-self-inside.ensures ∙ alive_lowered x.goal (goals_in s.slots.items) (goals_in c.bury.new.slots.items) s.alive w c.self.invariant.alive);
     }
 
 pub returns-in-Some-clause-goals : goal.returns-in-Some-clause-goals

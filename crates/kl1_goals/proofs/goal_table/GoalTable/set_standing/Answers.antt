@@ -5,6 +5,7 @@ use Rattle.kl1_goals.specs.Tallies.{tally_at}
 use Rattle.kl1_goals.proofs.Changing.{held_itself}
 use Rattle.kl1_goals.proofs.Shoens.{stood_tally}
 use Rattle.kl1_goals.proofs.Tabling.{missing_stood}
+use Rattle.kl1_goals.proofs.Flagging.{alive_stood}
 use Rattle.kl1_goals.proofs.goal_table.GoalTable.set_standing.Goals as goal
 
 pub stand-requires-clause-place : goal.stand-requires-clause-place
@@ -18,6 +19,7 @@ invariant_of-self g c =
     record {
       slots = c.stand.ensures.slots;
       tallied = λ n. rw goals (stood_tally n x.goal.number c.args.standing (goals_in s.slots.items) (tally_at s.tallies.items n) (c.self.invariant.tallied n));
+      alive = rw goals (alive_stood x.goal.number c.args.standing (goals_in s.slots.items) s.alive c.self.invariant.alive);
     }
 
 pub returns-in-None : goal.returns-in-None

@@ -1,12 +1,12 @@
 use Rattle.std.proofs.Common.{◌∙◌, sym, ap}
 use Rattle.kl1_model.specs.Event as model
-use Rattle.kl1_account.specs.Views.{event_of}
-use Rattle.kl1_user.proofs.Steps.{does_same, reduces_same}
+use Rattle.kl1_event.specs.Views.{event_of}
+use Rattle.kl1_user.proofs.Steps.{does_same, reduces_same, leaves_names}
 use Rattle.kl1_user.proofs.user_state.UserState.apply.Goals as goal
 
 pub returns-in_ok-reduce-in-Reduce-clause-step : goal.returns-in_ok-reduce-in-Reduce-clause-step
 returns-in_ok-reduce-in-Reduce-clause-step g c =
-    reduces_same c.in_ok-reduce-in-Reduce.field-0 c.reply_to.result c.args.self.now c.self.inside.account c.reduce.new.self c.in-Reduce.goal.0 c.in-Reduce.clause.0 (event_of c.args.event.now) c.self.view_is (sym (ap event_of c.in-Reduce.is)) c.reduce.ensures.names c.reply_to.ensures c.in_ok-reduce-in-Reduce.ensures.step
+    reduces_same c.in_ok-reduce-in-Reduce.field-0 c.reply_to.result c.args.self.now c.self.inside.account c.reduce.new.self c.in-Reduce.goal.0 c.in-Reduce.clause.0 (event_of c.args.event.now) c.self.view_is (sym (ap event_of c.in-Reduce.is)) c.reply_to.ensures c.in_ok-reduce-in-Reduce.ensures.step
 
 pub returns-in-Load-clause-step : goal.returns-in-Load-clause-step
 returns-in-Load-clause-step g c =
@@ -15,3 +15,7 @@ returns-in-Load-clause-step g c =
 pub returns-in-Start-clause-step : goal.returns-in-Start-clause-step
 returns-in-Start-clause-step g c =
     does_same c.start.result c.args.self.now c.self.inside.account c.start.new.self (model.start c.in-Start.allowance c.in-Start.low c.in-Start.high c.in-Start.goal) (event_of c.args.event.now) c.self.view_is (sym (ap event_of c.in-Start.is)) c.start.ensures.step
+
+pub returns-in-Control-clause-step : goal.returns-in-Control-clause-step
+returns-in-Control-clause-step g c =
+    leaves_names c.send.result c.args.self.now c.self.inside.account c.send.new.self (model.control c.in-Control.shoen.0 c.in-Control.message) (event_of c.args.event.now) c.self.view_is (sym (ap event_of c.in-Control.is)) c.send.ensures.names c.send.ensures.step

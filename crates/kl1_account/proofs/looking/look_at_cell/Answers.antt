@@ -1,7 +1,0 @@
-use Rattle.kl1_account.proofs.Looks.{finds_out}
-use Rattle.kl1_account.proofs.looking.look_at_cell.Goals as goal
-
-pub returns-clause-finds : goal.returns-clause-finds
-returns-clause-finds c =
-    finds_out c.args.modules.now.loaded c.args.store.now.held c.standing_at.new.store.hooks c.args.cell c.args.number c.in_ok-standing.standing c.args.changes.now.items c.push.new.self.items
-    c.in_ok-standing.ensures.stands c.in_ok-push.ensures.items

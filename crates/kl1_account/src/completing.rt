@@ -1,0 +1,123 @@
+// Drafts that are finished.
+
+ghost use Rattle.std.specs.Prelude.{◌≡◌, ◌+◌, ◌≤◌, [], length, OnOk};
+ghost use Rattle.kl1_store.specs.Hooks.{HasGrown};
+ghost use Rattle.kl1_clause.specs.Predicates.{AreSome};
+ghost use Rattle.kl1_account.specs.Kept.{AreGoalsIn, AreShoensIn};
+ghost use Rattle.kl1_account.specs.Drafts.{goals_left};
+ghost use Rattle.kl1_account.specs.Installing.{AreNext};
+ghost use Rattle.kl1_account.specs.Looking.{Serves};
+ghost use Rattle.kl1_account.specs.Finishing.{LooksAgain, ShiftsFor, Finishes};
+
+use crate::draft::Draft;
+use crate::looking::{wake_added, wake_told};
+use crate::settling::Walk;
+use kl1_clause::Predicate;
+use kl1_goals::GoalTable;
+use kl1_modules::Modules;
+use kl1_moves::{Kind, Trial};
+use kl1_shoen::ShoenTree;
+use kl1_store::{Point, Store};
+use kl1_text::CellName;
+use std::alloc::AllocError;
+
+/// Looks at the goals that were told of bindings since a mark, and at those that come. The predicate of goals of one kind is known.
+fn look_again(
+    store: &mut Store<CellName>,
+    goals: &GoalTable<CellName>,
+    shoens: &ShoenTree<CellName>,
+    modules: &Modules,
+    known: Kind<CellName>,
+    predicate: Predicate<'_, CellName>,
+    trial: &mut Trial<CellName>,
+    draft: &mut Draft,
+    mark: Point,
+) -> Result<(), AllocError>
+    requires goals { AreGoalsIn store.old.held goals.now.goals }
+    requires added { AreGoalsIn store.old.held draft.old.added.items }
+    requires shoens { AreShoensIn store.old.held shoens.now.shoens }
+    requires some { AreSome predicate.names.now predicate.clauses.now }
+    requires serves { Serves modules.now.loaded known predicate }
+    requires changes { draft.old.changes.items ≡ [] }
+    ensures looks { OnOk result (LooksAgain modules.now.loaded mark store.old store.new shoens.now goals.now.goals draft.old draft.new) }
+    ensures rest { OnOk result (draft.new ≡ record draft.old { changes = draft.new.changes; told = draft.new.told; added = draft.new.added }) }
+    ensures held { store.new.held ≡ store.old.held }
+    ensures grown { HasGrown store.old store.new }
+{
+    let _order = goals.shoens();
+    store.tell(mark, &mut draft.told)?;
+    wake_told(
+        store,
+        goals,
+        shoens,
+        modules,
+        known,
+        predicate,
+        trial,
+        draft.removed,
+        &draft.told,
+        &mut draft.changes,
+    )?;
+    wake_added(
+        store,
+        shoens,
+        modules,
+        known,
+        predicate,
+        trial,
+        &mut draft.added,
+    )
+}
+
+/// Finds which goals may step now, where that may be other than before.
+fn set_flags(shoens: &ShoenTree<CellName>, draft: &mut Draft, walk: &Walk) -> Result<(), AllocError>
+    ensures flags { OnOk result (ShiftsFor shoens.now walk.now.reached.items draft.old draft.new) }
+    ensures rest { OnOk result (draft.new ≡ record draft.old { enabled = draft.new.enabled; shifts = draft.new.shifts }) }
+{
+    if !walk.reached.is_empty() || !draft.ended.is_empty() {
+        draft.shifts = true;
+    }
+    if draft.shifts {
+        shoens.flags(&mut draft.enabled)?;
+    }
+    Ok(())
+}
+
+/// Finishes a draft of what was done since a mark: looks at the goals that are to be looked at, finds which goals may step now where that
+/// may be other than before, and makes room for what comes. The predicate of goals of one kind is known. Where memory is refused, the
+/// store may have grown.
+pub(crate) fn finish(
+    store: &mut Store<CellName>,
+    goals: &mut GoalTable<CellName>,
+    shoens: &ShoenTree<CellName>,
+    modules: &Modules,
+    known: Kind<CellName>,
+    predicate: Predicate<'_, CellName>,
+    trial: &mut Trial<CellName>,
+    draft: &mut Draft,
+    walk: &Walk,
+    mark: Point,
+) -> Result<(), AllocError>
+    requires goals { AreGoalsIn store.old.held goals.old.goals }
+    requires added { AreGoalsIn store.old.held draft.old.added.items }
+    requires shoens { AreShoensIn store.old.held shoens.now.shoens }
+    requires some { AreSome predicate.names.now predicate.clauses.now }
+    requires serves { Serves modules.now.loaded known predicate }
+    requires changes { draft.old.changes.items ≡ [] }
+    requires next { AreNext goals.old.goals (length shoens.now.shoens) draft.old.added.items }
+    requires stay { goals_left draft.old.added.items draft.old ≡ draft.old.added.items }
+    requires known_shoens { goals.old.shoens ≤ length shoens.now.shoens }
+    requires one_opens { length shoens.now.shoens ≤ goals.old.shoens + 1 }
+    ensures finishes { OnOk result (Finishes modules.now.loaded mark store.old store.new shoens.now goals.old.goals goals.new walk.now.reached.items draft.old draft.new) }
+    ensures held { store.new.held ≡ store.old.held }
+    ensures grown { HasGrown store.old store.new }
+    ensures goals { goals.new.goals ≡ goals.old.goals }
+    ensures count { goals.new.shoens ≡ goals.old.shoens }
+{
+    let _numbered = shoens.len();
+    look_again(
+        store, goals, shoens, modules, known, predicate, trial, draft, mark,
+    )?;
+    set_flags(shoens, draft, walk)?;
+    goals.reserve(draft.added.len(), 1)
+}

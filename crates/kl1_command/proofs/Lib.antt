@@ -1,0 +1,4 @@
+pub mod Lines
+pub mod Starts
+pub mod Runs
+pub mod Reductions

@@ -1,0 +1,32 @@
+// What a command asks of an account.
+
+ghost use Rattle.std.specs.Prelude.{◌≡◌, IfOk, OnErr, option_map};
+ghost use Rattle.kl1_model.specs.State.{State};
+ghost use Rattle.kl1_model.specs.Step.{step};
+ghost use Rattle.kl1_model.specs.Choice.{first};
+ghost use Rattle.kl1_event.specs.Views.{event_of, reply_of, chosen_of};
+
+use kl1_event::{ClauseNo, Event, GoalNo, Reply};
+use std::alloc::AllocError;
+
+/// What has one account to which commands are done.
+pub trait Host {
+    /// What reads the names of a host as texts.
+    ghost Reading: { Type 0 };
+
+    /// Whether a reading reads the names of a host as they are.
+    ghost fits: { Self → Reading → Type 0 };
+
+    /// The account that a host has by a reading.
+    ghost state: { Reading → Self → State };
+
+    /// What an event does to the account, and the reply. Where memory is refused, the host is as it was.
+    fn apply(&mut self, event: &Event) -> Result<Reply, AllocError>
+        ensures step { IfOk result (λ reply. (f : Reading) → fits self.new f → step (state f self.old) (event_of event.now) ≡ record { state = state f self.new; reply = reply_of reply }) }
+        ensures err { OnErr result (self.new ≡ self.old) }
+        ensures before { (f : Reading) → fits self.new f → fits self.old f };
+
+    /// The first goal that can step, with the clause by which it steps.
+    fn pick(&self) -> Option<(GoalNo, ClauseNo)>
+        ensures { (f : Reading) → fits self.now f → option_map chosen_of result ≡ first (state f self.now) };
+}

@@ -1,0 +1,15 @@
+//! Commands: what a line asks of an account, what a command does to it, and the bytes of its reply.
+#![tactic(auto)]
+
+mod command;
+mod first_step;
+mod host;
+mod parsed;
+mod performed;
+mod replies;
+
+pub use command::Command;
+pub use host::Host;
+pub use parsed::{Parsed, command_in, parse};
+pub use performed::{Performed, perform};
+pub use replies::{put_lines, put_reply};

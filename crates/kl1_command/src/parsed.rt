@@ -1,0 +1,250 @@
+// The commands of lines and records.
+
+ghost use Rattle.std.specs.Prelude.{◌≡◌, IfOk, Some};
+ghost use Rattle.kl1_model.specs.Command.{parse, command_by, command_of, does, runs, asks_value, asks_status, asks_modules, asks_quiet, start_command, start_with, reduce_command, allow_command, send_command, reports_command};
+ghost use Rattle.kl1_model.specs.Module.{read_goal};
+ghost use Rattle.kl1_lines.specs.Records.{request_of};
+ghost use Rattle.kl1_event.specs.Views.{event_of};
+ghost use Rattle.kl1_command.specs.Commands.{parsed_view};
+
+use crate::command::Command;
+use kl1_event::{ClauseNo, Event, GoalNo, Query, ShoenNo};
+use kl1_lines::{Request, is_blank_line, is_same, number_in, only_number, split_word, up_to};
+use kl1_model::Message;
+use kl1_model::limits::{MOST_COMMAND_BYTES, MOST_PRIORITY, MOST_STEPS};
+use kl1_read::{ReadFault, read_goal};
+use std::alloc::{AllocError, Global};
+
+/// What a line or a record asks for.
+#[derive(Drop)]
+pub enum Parsed {
+    /// This command.
+    Command(Command),
+    /// No command, which is refused.
+    Refused,
+}
+
+/// The command of a record.
+pub fn command_in(alloc: Global, request: Request<'_>) -> Result<Parsed, AllocError>
+    ensures { IfOk result (λ parsed. parsed_view parsed ≡ command_of (request_of request.entry)) }
+{
+    match request {
+        Request::Load(source) => {
+            let source = Vec::from_slice(alloc, source)?;
+            Ok(does(Event::Load { source }))
+        }
+        Request::SpoiledLoad => Ok(Parsed::Refused),
+        Request::Line(line) => parse(alloc, line),
+    }
+}
+
+/// The command of a line, without its end. A load alone is none, since its source is not there.
+pub fn parse(alloc: Global, line: &[u8]) -> Result<Parsed, AllocError>
+    ensures { IfOk result (λ parsed. parsed_view parsed ≡ parse line.now) }
+{
+    if line.len() > MOST_COMMAND_BYTES {
+        return Ok(Parsed::Refused);
+    }
+    let (word, rest) = split_word(line);
+    if is_same(word, b"start") {
+        parse_start(alloc, rest)
+    } else if is_same(word, b"run") {
+        Ok(parse_run(rest))
+    } else if is_same(word, b"stop") {
+        Ok(parse_send(Message::Stop, rest))
+    } else if is_same(word, b"resume") {
+        Ok(parse_send(Message::Start, rest))
+    } else if is_same(word, b"abort") {
+        Ok(parse_send(Message::Abort, rest))
+    } else if is_same(word, b"allow") {
+        Ok(parse_allow(rest))
+    } else if is_same(word, b"value") {
+        Ok(parse_value(rest))
+    } else if is_same(word, b"status") {
+        Ok(parse_status(rest))
+    } else if is_same(word, b"reports") {
+        Ok(parse_reports(rest))
+    } else if is_same(word, b"modules") {
+        Ok(parse_modules(rest))
+    } else if is_same(word, b"quiet") {
+        Ok(parse_quiet(rest))
+    } else if is_same(word, b"reduce") {
+        Ok(parse_reduce(rest))
+    } else {
+        Ok(Parsed::Refused)
+    }
+}
+
+/// The command that is one event.
+fn does(event: Event) -> Parsed
+    ensures { parsed_view result ≡ Some (does (event_of event)) }
+{
+    Parsed::Command(Command::Does(event))
+}
+
+/// What stands after `run`.
+fn parse_run(rest: &[u8]) -> Parsed
+    ensures { parsed_view result ≡ command_by runs rest.now }
+{
+    match up_to(MOST_STEPS, only_number(rest)) {
+        Some(steps) => Parsed::Command(Command::Run(steps)),
+        None => Parsed::Refused,
+    }
+}
+
+/// What stands after `stop`, `resume` and `abort`, by which this message is sent.
+fn parse_send(message: Message, rest: &[u8]) -> Parsed
+    ensures { parsed_view result ≡ send_command message rest.now }
+{
+    match only_number(rest) {
+        Some(shoen) => does(Event::Control {
+            shoen: ShoenNo(shoen),
+            message,
+        }),
+        None => Parsed::Refused,
+    }
+}
+
+/// What stands after `allow`.
+fn parse_allow(rest: &[u8]) -> Parsed
+    ensures { parsed_view result ≡ allow_command rest.now }
+{
+    let (first, rest) = split_word(rest);
+    let Some(shoen) = number_in(first) else {
+        return Parsed::Refused;
+    };
+    let Some(more) = only_number(rest) else {
+        return Parsed::Refused;
+    };
+    does(Event::Control {
+        shoen: ShoenNo(shoen),
+        message: Message::Allow(more),
+    })
+}
+
+/// What stands after `value`.
+fn parse_value(rest: &[u8]) -> Parsed
+    ensures { parsed_view result ≡ command_by asks_value rest.now }
+{
+    match only_number(rest) {
+        Some(shoen) => does(Event::Read(Query::Value(ShoenNo(shoen)))),
+        None => Parsed::Refused,
+    }
+}
+
+/// What stands after `status`.
+fn parse_status(rest: &[u8]) -> Parsed
+    ensures { parsed_view result ≡ command_by asks_status rest.now }
+{
+    match only_number(rest) {
+        Some(shoen) => does(Event::Read(Query::Status(ShoenNo(shoen)))),
+        None => Parsed::Refused,
+    }
+}
+
+/// What stands after `reports`: a shoen's number, and that of the first report, from 1.
+fn parse_reports(rest: &[u8]) -> Parsed
+    ensures { parsed_view result ≡ reports_command rest.now }
+{
+    let (first, rest) = split_word(rest);
+    let Some(shoen) = number_in(first) else {
+        return Parsed::Refused;
+    };
+    let Some(from) = only_number(rest) else {
+        return Parsed::Refused;
+    };
+    if from < 1 {
+        return Parsed::Refused;
+    }
+    does(Event::Read(Query::Reports {
+        shoen: ShoenNo(shoen),
+        from,
+    }))
+}
+
+/// What stands after `modules`.
+fn parse_modules(rest: &[u8]) -> Parsed
+    ensures { parsed_view result ≡ command_by asks_modules rest.now }
+{
+    if is_blank_line(rest) {
+        does(Event::Read(Query::Modules))
+    } else {
+        Parsed::Refused
+    }
+}
+
+/// What stands after `quiet`.
+fn parse_quiet(rest: &[u8]) -> Parsed
+    ensures { parsed_view result ≡ command_by asks_quiet rest.now }
+{
+    if is_blank_line(rest) {
+        does(Event::Read(Query::Quiet))
+    } else {
+        Parsed::Refused
+    }
+}
+
+/// What stands after `reduce`.
+fn parse_reduce(rest: &[u8]) -> Parsed
+    ensures { parsed_view result ≡ reduce_command rest.now }
+{
+    let (first, rest) = split_word(rest);
+    let Some(goal) = number_in(first) else {
+        return Parsed::Refused;
+    };
+    let Some(clause) = only_number(rest) else {
+        return Parsed::Refused;
+    };
+    does(Event::Reduce {
+        goal: GoalNo(goal),
+        clause: ClauseNo(clause),
+    })
+}
+
+/// What stands after `start`.
+fn parse_start(alloc: Global, rest: &[u8]) -> Result<Parsed, AllocError>
+    ensures { IfOk result (λ parsed. parsed_view parsed ≡ start_command rest.now) }
+{
+    let (first, rest) = split_word(rest);
+    let (second, rest) = split_word(rest);
+    let (third, goal) = split_word(rest);
+    let Some(allowance) = number_in(first) else {
+        return Ok(Parsed::Refused);
+    };
+    let Some(low) = number_in(second) else {
+        return Ok(Parsed::Refused);
+    };
+    let Some(high) = number_in(third) else {
+        return Ok(Parsed::Refused);
+    };
+    start_of(alloc, allowance, low, high, goal)
+}
+
+#[tactic(auto, using(crate::proofs::Starts::out_of_order, crate::proofs::Starts::too_great))]
+/// The start of the goal that bytes are, if the priorities are a range and there is one.
+fn start_of(
+    alloc: Global,
+    allowance: u64,
+    low: u64,
+    high: u64,
+    goal: &[u8],
+) -> Result<Parsed, AllocError>
+    ensures { IfOk result (λ parsed. parsed_view parsed ≡ start_with allowance low high (read_goal goal.now)) }
+{
+    if low > high {
+        return Ok(Parsed::Refused);
+    }
+    if high > MOST_PRIORITY {
+        return Ok(Parsed::Refused);
+    }
+    match read_goal(alloc, goal) {
+        Ok(goal) => Ok(does(Event::Start {
+            allowance,
+            low,
+            high,
+            goal,
+        })),
+        Err(ReadFault::Bad { line: _line }) => Ok(Parsed::Refused),
+        Err(ReadFault::Memory) => Err(AllocError),
+    }
+}

@@ -1,0 +1,73 @@
+// What a command does to an account.
+
+ghost use Rattle.std.specs.Prelude.{◌≡◌};
+ghost use Rattle.kl1_model.specs.Command as model;
+ghost use Rattle.kl1_model.specs.State.{State};
+ghost use Rattle.kl1_event.specs.Views.{refusal_of, reply_of};
+ghost use Rattle.kl1_command.specs.Commands.{command_view};
+ghost use Rattle.kl1_command.specs.Performing.{IsUntouched, Performs};
+
+use crate::command::Command;
+use crate::first_step::{FirstStep, reduce_first};
+use crate::host::Host;
+use kl1_event::{Refusal, Reply};
+
+/// What became of a command.
+#[derive(Drop)]
+pub enum Performed {
+    /// It is done, with this reply.
+    Whole(Reply),
+    /// Memory was refused in the midst of a run, after so many of its steps, at least one.
+    Short { steps: u64 },
+    /// Memory was refused, and the host is as it was.
+    Memory,
+}
+
+/// Does a command.
+pub fn perform<H: Host>(host: &mut H, command: &Command) -> Performed
+    ensures does { (f : H.Reading) → H.fits host.new f → Performs (H.state f host.old) (command_view command.now) result (H.state f host.new) }
+    ensures memory { IsUntouched result host.old host.new }
+    ensures before { (f : H.Reading) → H.fits host.new f → H.fits host.old f }
+{
+    match command {
+        Command::Does(event) => match host.apply(event) {
+            Ok(reply) => Performed::Whole(reply),
+            Err(_) => Performed::Memory,
+        },
+        Command::Run(most) => run(host, *most),
+    }
+}
+
+/// Reduces the first goal that can step, again and again, at most so many times.
+fn run<H: Host>(host: &mut H, most: u64) -> Performed
+    ensures does { (f : H.Reading) → H.fits host.new f → Performs (H.state f host.old) (model.run most) result (H.state f host.new) }
+    ensures memory { IsUntouched result host.old host.new }
+    ensures before { (f : H.Reading) → H.fits host.new f → H.fits host.old f }
+{
+    let mut done = 0;
+    while done < most {
+        match reduce_first(host) {
+            FirstStep::Quiet => return Performed::Whole(Reply::Ran(done)),
+            FirstStep::Done => done += 1,
+            FirstStep::Refused(refusal) => return Performed::Whole(stopped(done, refusal)),
+            FirstStep::Memory => {
+                if done == 0 {
+                    return Performed::Memory;
+                }
+                return Performed::Short { steps: done };
+            }
+        }
+    }
+    Performed::Whole(Reply::Ran(done))
+}
+
+/// The reply to a run whose next step is refused, after so many that are done.
+fn stopped(done: u64, refusal: Refusal) -> Reply
+    ensures { (user : State) → model.stopped_by user done (refusal_of refusal) ≡ record { state = user; reply = reply_of result } }
+{
+    if done == 0 {
+        Reply::Refused(refusal)
+    } else {
+        Reply::Ran(done)
+    }
+}

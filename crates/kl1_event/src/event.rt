@@ -1,0 +1,51 @@
+// What may be done to an account.
+
+use crate::numbers::{ClauseNo, GoalNo, ShoenNo};
+use kl1_model::Message;
+use kl1_term::Term;
+
+/// What is asked of an account without a change.
+#[derive(Clone, Copy)]
+pub enum Query {
+    /// The goal of a shoen as started, with what is bound now.
+    Value(ShoenNo),
+    /// The state of a shoen, with what it was charged, its allowance and its goals alive.
+    Status(ShoenNo),
+    /// The reports of a shoen from one on, the first being 1.
+    Reports { shoen: ShoenNo, from: u64 },
+    /// The modules, in order of loading.
+    Modules,
+    /// Whether no goal can step.
+    Quiet,
+}
+
+/// What may be done to an account. Any numbers, goals and lengths may stand here: those that the language does not allow
+/// are refused.
+#[derive(Drop)]
+pub enum Event {
+    /// A module is loaded from its source.
+    Load {
+        source: Vec<u8>,
+    },
+    /// A goal, its variables numbered from 1 by first occurrence, is started in a shoen of its own, which may be charged
+    /// `allowance` reductions and has the priorities `low` to `high`.
+    Start {
+        allowance: u64,
+        low: u64,
+        high: u64,
+        goal: Term,
+    },
+    /// A message is sent to a shoen that the console started, on its control stream.
+    Control {
+        shoen: ShoenNo,
+        message: Message,
+    },
+    /// A goal is reduced by the clause of a number in its predicate, from 1, or by 0, the number for a goal that fails and
+    /// for a built-in goal.
+    Reduce {
+        goal: GoalNo,
+        clause: ClauseNo,
+    },
+    /// Nothing changes.
+    Read(Query),
+}

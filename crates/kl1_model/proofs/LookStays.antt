@@ -1,0 +1,135 @@
+-- What looks at arguments come to, and what lists of codes spell, when variables are replaced.
+use Rattle.std.proofs.Common.{◌≡◌, ℕ, zero, suc, Bool, true, false, if◌then◌else◌, refl, ap, ap₂, ◌∙◌}
+use Rattle.std.specs.Prelude.{codes, bytes_eq, pos, negsuc, nat_le, ◌||◌}
+use Rattle.kl1_model.specs.Text.{is_name_byte}
+use Rattle.kl1_model.specs.Term.{Term, variable, integer, atom, structure, none, more, substituted}
+use Rattle.kl1_model.specs.Look.{Spelling, spelled, awaits_code, misspelled, spelled_before, spelled_by, spelling, Look, right, waits_on, wrong, right_if, then_look, callee_look, goal_look, priority_look, allowance_look, number_of_term, Order, order_look}
+use Rattle.kl1_model.specs.Waits.{LeavesEach, awaited_by_spelling, awaited_by_look}
+
+-- ---- lists of codes
+
+before_left : (s : ℕ → Term) (n : ℕ) (x : Spelling) → LeavesEach s (awaited_by_spelling (spelled_before n x)) → LeavesEach s (awaited_by_spelling x)
+before_left s n (spelled text) l = tt
+before_left s n (awaits_code v) l = l
+before_left s n misspelled l = tt
+
+code_stays : (s : ℕ → Term) (n : ℕ) (fits : Bool) (x y : Spelling) → (LeavesEach s (awaited_by_spelling x) → y ≡ x) → LeavesEach s (awaited_by_spelling (if fits then spelled_before n x else misspelled)) →
+    (if fits then spelled_before n y else misspelled) ≡ (if fits then spelled_before n x else misspelled)
+code_stays s n true x y f l = ap (spelled_before n) (f (before_left s n x l))
+code_stays s n false x y f l = refl
+
+element_stays : (s : ℕ → Term) (h : Term) (x y : Spelling) → (LeavesEach s (awaited_by_spelling x) → y ≡ x) → LeavesEach s (awaited_by_spelling (spelled_by h x)) → spelled_by (substituted s h) y ≡ spelled_by h x
+element_stays s (variable v) x y f l = ap (λ t. spelled_by t y) l.0
+element_stays s (integer (pos n)) x y f l = code_stays s n (is_name_byte n) x y f l
+element_stays s (integer (negsuc n)) x y f l = refl
+element_stays s (atom a) x y f l = refl
+element_stays s (structure g us) x y f l = refl
+
+cell_stays : (s : ℕ → Term) (is_cell : Bool) (h : Term) (x y : Spelling) → (LeavesEach s (awaited_by_spelling x) → y ≡ x) → LeavesEach s (awaited_by_spelling (if is_cell then spelled_by h x else misspelled)) →
+    (if is_cell then spelled_by (substituted s h) y else misspelled) ≡ (if is_cell then spelled_by h x else misspelled)
+cell_stays s true h x y f l = element_stays s h x y f l
+cell_stays s false h x y f l = refl
+
+-- what a list of codes comes to stays until the variable that it waits for is replaced
+pub spelling_stays : (s : ℕ → Term) (most : ℕ) (t : Term) → LeavesEach s (awaited_by_spelling (spelling most t)) → spelling most (substituted s t) ≡ spelling most t
+spelling_stays s zero (variable v) l = ap (spelling zero) l.0
+spelling_stays s zero (integer i) l = refl
+spelling_stays s zero (atom a) l = refl
+spelling_stays s zero (structure f none) l = refl
+spelling_stays s zero (structure f (more h none)) l = refl
+spelling_stays s zero (structure f (more h (more t none))) l = refl
+spelling_stays s zero (structure f (more h (more t (more u us)))) l = refl
+spelling_stays s (suc most) (variable v) l = ap (spelling (suc most)) l.0
+spelling_stays s (suc most) (integer i) l = refl
+spelling_stays s (suc most) (atom a) l = refl
+spelling_stays s (suc most) (structure f none) l = refl
+spelling_stays s (suc most) (structure f (more h none)) l = refl
+spelling_stays s (suc most) (structure f (more h (more t none))) l = cell_stays s (bytes_eq f (codes ".")) h (spelling most t) (spelling most (substituted s t)) (spelling_stays s most t) l
+spelling_stays s (suc most) (structure f (more h (more t (more u us)))) l = refl
+
+-- ---- looks
+
+then_stays : (s : ℕ → Term) (x y x' y' : Look) → (LeavesEach s (awaited_by_look x) → x' ≡ x) → (LeavesEach s (awaited_by_look x) → LeavesEach s (awaited_by_look y) → y' ≡ y) →
+    LeavesEach s (awaited_by_look (then_look x y)) → then_look x' y' ≡ then_look x y
+then_stays s right y x' y' f g l = ap (λ z. then_look z y') (f tt) ∙ g tt l
+then_stays s (waits_on v) y x' y' f g l = ap (λ z. then_look z y') (f l)
+then_stays s wrong y x' y' f g l = ap (λ z. then_look z y') (f tt)
+
+callee_stays : (s : ℕ → Term) (a b : Term) → LeavesEach s (awaited_by_look (callee_look a b)) → callee_look (substituted s a) (substituted s b) ≡ callee_look a b
+callee_stays s (variable m) b l = ap (λ t. callee_look t (substituted s b)) l.0
+callee_stays s (integer i) (variable p) l = ap (callee_look (integer i)) l.0
+callee_stays s (integer i) (integer j) l = refl
+callee_stays s (integer i) (atom p) l = refl
+callee_stays s (integer i) (structure g us) l = refl
+callee_stays s (atom m) (variable p) l = ap (callee_look (atom m)) l.0
+callee_stays s (atom m) (integer j) l = refl
+callee_stays s (atom m) (atom p) l = refl
+callee_stays s (atom m) (structure g us) l = refl
+callee_stays s (structure f ts) (variable p) l = ap (callee_look (substituted s (structure f ts))) l.0
+callee_stays s (structure f ts) (integer j) l = refl
+callee_stays s (structure f ts) (atom p) l = refl
+callee_stays s (structure f ts) (structure g us) l = refl
+
+two_stay : (s : ℕ → Term) (c d : Bool) (a b : Term) → LeavesEach s (awaited_by_look (if c then callee_look a b else right_if d)) →
+    (if c then callee_look (substituted s a) (substituted s b) else right_if d) ≡ (if c then callee_look a b else right_if d)
+two_stay s true d a b l = callee_stays s a b l
+two_stay s false d a b l = refl
+
+goal_stays : (s : ℕ → Term) (t : Term) → LeavesEach s (awaited_by_look (goal_look t)) → goal_look (substituted s t) ≡ goal_look t
+goal_stays s (variable v) l = ap goal_look l.0
+goal_stays s (integer i) l = refl
+goal_stays s (atom a) l = refl
+goal_stays s (structure f none) l = refl
+goal_stays s (structure f (more a none)) l = refl
+goal_stays s (structure f (more a (more b none))) l =
+    two_stay s (bytes_eq f (codes ":")) (bytes_eq f (codes "=") || bytes_eq f (codes ":=") || bytes_eq f (codes "atom_from")) a b l
+goal_stays s (structure f (more a (more b (more c us)))) l = refl
+
+priority_stays : (s : ℕ → Term) (t : Term) → LeavesEach s (awaited_by_look (priority_look t)) → priority_look (substituted s t) ≡ priority_look t
+priority_stays s (variable v) l = ap priority_look l.0
+priority_stays s (integer (pos n)) l = refl
+priority_stays s (integer (negsuc n)) l = refl
+priority_stays s (atom a) l = refl
+priority_stays s (structure f ts) l = refl
+
+allowance_stays : (s : ℕ → Term) (t : Term) → LeavesEach s (awaited_by_look (allowance_look t)) → allowance_look (substituted s t) ≡ allowance_look t
+allowance_stays s (variable v) l = ap allowance_look l.0
+allowance_stays s (integer (pos n)) l = refl
+allowance_stays s (integer (negsuc n)) l = refl
+allowance_stays s (atom a) l = refl
+allowance_stays s (structure f ts) l = refl
+
+number_stays : (s : ℕ → Term) (t : Term) → LeavesEach s (awaited_by_look (priority_look t)) → number_of_term (substituted s t) ≡ number_of_term t
+number_stays s (variable v) l = ap number_of_term l.0
+number_stays s (integer i) l = refl
+number_stays s (atom a) l = refl
+number_stays s (structure f ts) l = refl
+
+-- an order after a substitution
+abbrev pub order_substituted : (ℕ → Term) → Order → Order
+order_substituted s o = record {
+  goal = substituted s o.goal;
+  low = substituted s o.low;
+  high = substituted s o.high;
+  allowance = substituted s o.allowance;
+  control = substituted s o.control;
+  reports = substituted s o.reports;
+}
+
+-- the look at an order stays until the variable that it waits for is replaced
+pub order_stays : (s : ℕ → Term) (o : Order) → LeavesEach s (awaited_by_look (order_look o)) → order_look (order_substituted s o) ≡ order_look o
+order_stays s o l =
+    let p = order_substituted s o in
+    let range = right_if (nat_le (number_of_term o.low) (number_of_term o.high)) in
+    let range' = right_if (nat_le (number_of_term p.low) (number_of_term p.high)) in
+    let third = then_look (allowance_look o.allowance) range in
+    let third' = then_look (allowance_look p.allowance) range' in
+    let second = then_look (priority_look o.high) third in
+    let second' = then_look (priority_look p.high) third' in
+    let first = then_look (priority_look o.low) second in
+    let first' = then_look (priority_look p.low) second' in
+    then_stays s (goal_look o.goal) first (goal_look p.goal) first' (goal_stays s o.goal) (λ g.
+    then_stays s (priority_look o.low) second (priority_look p.low) second' (priority_stays s o.low) (λ low.
+    then_stays s (priority_look o.high) third (priority_look p.high) third' (priority_stays s o.high) (λ high.
+    then_stays s (allowance_look o.allowance) range (allowance_look p.allowance) range' (allowance_stays s o.allowance) (λ n r.
+    ap₂ (λ x y. right_if (nat_le x y)) (number_stays s o.low low) (number_stays s o.high high))))) l

@@ -1,0 +1,279 @@
+-- What each event does to the tree of shoens and to charges, and that a refused event changes nothing.
+use Rattle.std.proofs.Common.{◌≡◌, ◌≤◌, ℕ, suc, ◌+◌, ◌==◌, ◌&&◌, Bool, true, false, if◌then◌else◌, List, refl, sym, ap, ◌∙◌, subst, arith}
+use Rattle.std.proofs.lemmas.Bool.{false≢true}
+use Rattle.std.specs.Prelude.{nat_lt, nat_le, length, Option, Some, None, option_map, is_some}
+use Rattle.std.proofs.lemmas.Option.{none-some, same_Some}
+use Rattle.kl1_model.specs.declared.message.Message.{Message}
+use Rattle.kl1_model.specs.Limits.{most_modules}
+use Rattle.kl1_model.specs.Term.{Term, variable, integer, atom, structure}
+use Rattle.kl1_model.specs.Meaning.{cell, highest}
+use Rattle.kl1_model.specs.Nodes.{goal_nodes}
+use Rattle.kl1_model.specs.Module.{Module, Reading, good, bad, read_module}
+use Rattle.kl1_model.specs.Match.{call_of, module_of}
+use Rattle.kl1_model.specs.State.{Task, monitor, reduces, Goal, Origin, Shoen, State, goal_at, shoen_at, names_of, names_of_module, with_names, replace_in_state, change_shoen, is_monitor, is_living}
+use Rattle.kl1_model.specs.Tree.{is_on_path, charged_of, is_enabled}
+use Rattle.kl1_model.specs.Control.{Control, awaits_message, tells, tells_other, ends, breaks_off, control_of, message_term, message_nodes}
+use Rattle.kl1_model.specs.Event.{Refusal, syntax, source, exists, no_shoen, shoen_ended, step_refused, too_many_names, limit_passed, journal_full, Query, value, status, reports, modules, is_quiet, load, start, control, reduce, read, Reply, loaded, opened, sent, reduced, Stepped, refuse, is_number, most_source_bytes, most_names, most_entries, with_entry, recorded, named, limited}
+use Rattle.kl1_model.specs.Reduction.{Move, Action, moves, reads, term_move, read_action, monitor_action, task_action, action_of, acted, reduced_by, reduce_goal}
+use Rattle.kl1_model.specs.Opening.{may_start, has_room_to_start, with_next_variables, started_shoen, start_goal}
+use Rattle.kl1_model.specs.Sending.{may_send, has_room_to_send, with_control_tail, sent_on, send_by, send_to}
+use Rattle.kl1_model.specs.Asking.{origin_at, value_of, status_of, reports_of, answer}
+use Rattle.kl1_model.specs.Step.{with_module, load_module, step}
+use Rattle.kl1_model.specs.TreeLaws.{IsTree, FreshIsTree, TreesStay, ReductionsCharge, MonitorsChargeNobody, OthersChargeNobody, is_refused, RefusalsChangeNothing}
+use Rattle.kl1_model.proofs.TreeKeeps.{Keeps, keeps_same, keeps_both, kept_tree, keeps_change, keeps_replace}
+use Rattle.kl1_model.proofs.TreeGrows.{Follows, follows_kept, follows_then, opening_follows, acted_move, acted_reading, charged_among, charged_kept, with_entry_keeps, found_within}
+
+pub fresh_is_tree : FreshIsTree
+fresh_is_tree name = record { numbered = tt; lower = λ k. omega arith; count = refl; owners = tt; worked = tt }
+
+-- ---- what is refused changes nothing, and what follows an event that is no reduction
+
+-- an event's outcome: what follows the account, and no change where it is refused
+record Comes (s : State) (x : Stepped) : Type 0 where
+  follows : Follows 0 s x.state
+  kept : is_refused x.reply ≡ true → x.state ≡ s
+
+comes_refused : (s : State) (r : Refusal) → Comes s (refuse s r)
+comes_refused s r = record { follows = follows_kept 0 s s (keeps_same s); kept = λ e. refl }
+
+comes_said : (s : State) (r : Reply) → Comes s (record { state = s; reply = r })
+comes_said s r = record { follows = follows_kept 0 s s (keeps_same s); kept = λ e. refl }
+
+comes_if : (c : Bool) (s : State) (x y : Stepped) → Comes s x → Comes s y → Comes s (if c then x else y)
+comes_if true s x y p q = p
+comes_if false s x y p q = q
+
+comes_or : (c : Bool) (s : State) (x : Stepped) (r : Refusal) → Comes s x → Comes s (if c then x else refuse s r)
+comes_or c s x r p = comes_if c s x (refuse s r) p (comes_refused s r)
+
+comes_loaded : (s : State) (m : Module) → Comes s (record { state = with_entry (with_module s m); reply = loaded m.name })
+comes_loaded s m = record {
+  follows = follows_kept 0 s (with_entry (with_module s m)) (record { parents = refl; work = refl; last = refl; owners = λ n a. a; numbered = λ n a. a });
+  kept = λ e. absurd (false≢true e);
+}
+
+comes_load : (s : State) (r : Reading Module) → Comes s (load_module s r)
+comes_load s (bad line) = comes_refused s (source line)
+comes_load s (good m) =
+    let x : Stepped = record { state = with_entry (with_module s m); reply = loaded m.name } in
+    let a = recorded s x in
+    let b = limited s (nat_lt (length s.modules) most_modules) a in
+    let c = named s (with_names s.names (names_of_module m)) b in
+    comes_if (is_some (module_of s.modules m.name)) s (refuse s exists) c (comes_refused s exists)
+    (comes_or (nat_le (length (with_names s.names (names_of_module m))) most_names) s b too_many_names
+    (comes_or (nat_lt (length s.modules) most_modules) s a limit_passed
+    (comes_or (nat_lt s.entries most_entries) s x journal_full (comes_loaded s m))))
+
+start_follows : (s : State) (allowance low high : ℕ) (t : Term) → Follows 0 s (start_goal s allowance low high t)
+start_follows s allowance low high t =
+    let goal = with_next_variables s.last_variable t in
+    let count = s.last_variable + highest t in
+    let h = started_shoen s allowance low high goal (variable (suc count)) (variable (suc (suc count))) in
+    let u = record s { names = with_names s.names (names_of t); last_variable = suc (suc count); variables = s.variables + suc (suc (highest t)); nodes = s.nodes + goal_nodes t } in
+    let f = opening_follows 0 h goal u refl (λ few. few) in
+    let k : Keeps s u = record { parents = refl; work = refl; last = refl; owners = λ n a. a; numbered = λ n a. a } in
+    record { more = f.more; parents = f.parents; work = f.work; tree = λ few tree. f.tree few (kept_tree s u k tree) }
+
+comes_started : (s : State) (allowance low high : ℕ) (t : Term) → Comes s (record { state = with_entry (start_goal s allowance low high t); reply = opened (suc s.last_shoen) })
+comes_started s allowance low high t = record {
+  follows = follows_then 0 s (start_goal s allowance low high t) (with_entry (start_goal s allowance low high t)) (start_follows s allowance low high t) (with_entry_keeps (start_goal s allowance low high t));
+  kept = λ e. absurd (false≢true e);
+}
+
+comes_start : (s : State) (allowance low high : ℕ) (t : Term) → Comes s (step s (start allowance low high t))
+comes_start s allowance low high t =
+    let x : Stepped = record { state = with_entry (start_goal s allowance low high t); reply = opened (suc s.last_shoen) } in
+    let a = recorded s x in
+    let b = limited s (has_room_to_start s t) a in
+    let c = named s (with_names s.names (names_of t)) b in
+    comes_or (may_start allowance low high t) s c syntax
+    (comes_or (nat_le (length (with_names s.names (names_of t))) most_names) s b too_many_names
+    (comes_or (has_room_to_start s t) s a limit_passed
+    (comes_or (nat_lt s.entries most_entries) s x journal_full (comes_started s allowance low high t))))
+
+sent_keeps : (n : ℕ) (m : Message) (t : Term) (s : State) → Keeps s (sent_on n m t s)
+sent_keeps n m (variable v) s =
+    let next = suc s.last_variable in
+    let by = cell (message_term m) (variable next) in
+    let u = record (replace_in_state v by s) { last_variable = next; variables = suc s.variables; nodes = s.nodes + message_nodes m } in
+    let k = keeps_replace v by s in
+    let b : Keeps s u = record { parents = k.parents; work = k.work; last = k.last; owners = k.owners; numbered = k.numbered } in
+    keeps_both s u (change_shoen n (with_control_tail (variable next)) u) b (keeps_change n (with_control_tail (variable next)) u (λ h. refl) (λ h. refl))
+sent_keeps n m (integer i) s = keeps_same s
+sent_keeps n m (atom a) s = keeps_same s
+sent_keeps n m (structure f ts) s = keeps_same s
+
+comes_sent : (s : State) (n : ℕ) (m : Message) (t : Term) → Comes s (record { state = with_entry (sent_on n m t s); reply = sent })
+comes_sent s n m t = record {
+  follows = follows_kept 0 s (with_entry (sent_on n m t s)) (keeps_both s (sent_on n m t s) (with_entry (sent_on n m t s)) (sent_keeps n m t s) (with_entry_keeps (sent_on n m t s)));
+  kept = λ e. absurd (false≢true e);
+}
+
+comes_send_by : (s : State) (n : ℕ) (m : Message) (h : Shoen) (o : Option Origin) → Comes s (send_by s n m h o)
+comes_send_by s n m h None = comes_refused s no_shoen
+comes_send_by s n m h (Some o) =
+    let x : Stepped = record { state = with_entry (sent_on n m o.control s); reply = sent } in
+    let a = recorded s x in
+    comes_or (is_living h.life) s (limited s (has_room_to_send s m) a) shoen_ended
+    (comes_or (has_room_to_send s m) s a limit_passed (comes_or (nat_lt s.entries most_entries) s x journal_full (comes_sent s n m o.control)))
+
+comes_send : (s : State) (n : ℕ) (m : Message) (o : Option Shoen) → Comes s (send_to s n m o)
+comes_send s n m None = comes_refused s no_shoen
+comes_send s n m (Some h) = comes_send_by s n m h h.origin
+
+comes_value : (s : State) (o : Option Origin) → Comes s (value_of s o)
+comes_value s None = comes_refused s no_shoen
+comes_value s (Some o) = comes_said s _
+
+comes_status : (s : State) (o : Option Shoen) → Comes s (status_of s o)
+comes_status s None = comes_refused s no_shoen
+comes_status s (Some h) = comes_said s _
+
+comes_reports : (s : State) (from : ℕ) (o : Option Origin) → Comes s (reports_of s from o)
+comes_reports s from None = comes_refused s no_shoen
+comes_reports s from (Some o) = comes_said s _
+
+comes_answer : (s : State) (q : Query) → Comes s (answer s q)
+comes_answer s (value n) = comes_or (is_number n) s (value_of s (origin_at n s.shoens)) syntax (comes_value s (origin_at n s.shoens))
+comes_answer s (status n) = comes_or (is_number n) s (status_of s (shoen_at n s.shoens)) syntax (comes_status s (shoen_at n s.shoens))
+comes_answer s (reports n from) = comes_or (is_number n && is_number from && nat_le 1 from) s (reports_of s from (origin_at n s.shoens)) syntax (comes_reports s from (origin_at n s.shoens))
+comes_answer s modules = comes_said s _
+comes_answer s is_quiet = comes_said s _
+
+-- ---- reductions
+
+-- what comes of a reduction of a goal, with what it charges
+record Reduces (s : State) (g : Goal) (x : Stepped) : Type 0 where
+  tree : IsTree s → g.shoen ≤ s.last_shoen → IsTree x.state
+  kept : is_refused x.reply ≡ true → x.state ≡ s
+  charges : IsTree s → g.shoen ≤ s.last_shoen → is_monitor g.task ≡ false → x.reply ≡ reduced → (a : ℕ) → charged_of x.state a ≡ (if is_on_path s.shoens a g.shoen then 1 else 0) + charged_of s a
+  spares : is_monitor g.task ≡ true → (a : ℕ) → charged_of x.state a ≡ charged_of s a
+
+reduces_refused : (s : State) (g : Goal) (r : Refusal) → Reduces s g (refuse s r)
+reduces_refused s g r = record { tree = λ tree few. tree; kept = λ e. refl; charges = λ tree few m e a. absurd (false≢true (sym (ap is_refused e))); spares = λ m a. refl }
+
+reduces_or : (c : Bool) (s : State) (g : Goal) (x : Stepped) (r : Refusal) → Reduces s g x → Reduces s g (if c then x else refuse s r)
+reduces_or true s g x r p = p
+reduces_or false s g x r p = reduces_refused s g r
+
+abbrev is_reading : Action → Bool
+is_reading (moves t m) = false
+is_reading (reads c) = true
+
+-- a monitor makes no move, and no other goal reads
+no_reading : (c : Control) (x : Option Move) (t : Term) → option_map (moves t) x ≡ Some (reads c) → ⊥
+no_reading c None t e = none-some (reads c) e
+no_reading c (Some m) t e = false≢true (ap is_reading (same_Some (moves t m) (reads c) e))
+
+abbrev is_move : Action → Bool
+is_move (moves t m) = true
+is_move (reads c) = false
+
+no_move : (x : Control) (t : Term) (m : Move) → read_action x ≡ Some (moves t m) → ⊥
+no_move (awaits_message v) t m e = none-some (moves t m) e
+no_move (tells n rest) t m e = false≢true (ap is_move (same_Some (reads (tells n rest)) (moves t m) e))
+no_move (tells_other n rest) t m e = false≢true (ap is_move (same_Some (reads (tells_other n rest)) (moves t m) e))
+no_move ends t m e = false≢true (ap is_move (same_Some (reads ends) (moves t m) e))
+no_move (breaks_off u) t m e = false≢true (ap is_move (same_Some (reads (breaks_off u)) (moves t m) e))
+
+some_if : {A : Type 0} (c : Bool) (o : Option A) (a : A) → (if c then o else None) ≡ Some a → o ≡ Some a
+some_if true o a e = e
+some_if false o a e = absurd (none-some a e)
+
+monitor_no_move : (o : Option Shoen) (clause : ℕ) (t : Term) (m : Move) → monitor_action o clause ≡ Some (moves t m) → ⊥
+monitor_no_move None clause t m e = none-some (moves t m) e
+monitor_no_move (Some h) clause t m e = no_move (control_of h.control) t m (some_if (clause == 0) (read_action (control_of h.control)) (moves t m) e)
+
+task_moves : (s : State) (n : ℕ) (task : Task) (clause : ℕ) (t : Term) (m : Move) → task_action s n task clause ≡ Some (moves t m) → is_monitor task ≡ true → ⊥
+task_moves s n monitor clause t m e h = monitor_no_move (shoen_at n s.shoens) clause t m e
+task_moves s n (reduces u) clause t m e h = false≢true h
+
+task_reads : (s : State) (n : ℕ) (task : Task) (clause : ℕ) (c : Control) → task_action s n task clause ≡ Some (reads c) → is_monitor task ≡ false → ⊥
+task_reads s n monitor clause c e h = false≢true (sym h)
+task_reads s n (reduces u) clause c e h = no_reading c (term_move s.modules u clause (call_of u)) u e
+
+reduces_by : (s : State) (g : Goal) (clause : ℕ) (o : Option Action) → action_of s g clause ≡ o → Reduces s g (reduced_by s g o)
+reduces_by s g clause None e = reduces_refused s g step_refused
+reduces_by s g clause (Some (moves t m)) e =
+    let x : Stepped = record { state = acted g (moves t m) (with_entry s); reply = reduced } in
+    let k = with_entry_keeps s in
+    reduces_or (nat_lt s.entries most_entries) s g x journal_full (record {
+      tree = λ tree few. (acted_move g t m (with_entry s) few (kept_tree s (with_entry s) k tree)).0;
+      kept = λ r. absurd (false≢true r);
+      charges = λ tree few h r a. (acted_move g t m (with_entry s) few (kept_tree s (with_entry s) k tree)).1 a;
+      spares = λ h a. absurd (task_moves s g.shoen g.task clause t m (some_if (is_enabled s g) (task_action s g.shoen g.task clause) (moves t m) e) h);
+    })
+reduces_by s g clause (Some (reads c)) e =
+    let t = acted g (reads c) (with_entry s) in
+    let x : Stepped = record { state = t; reply = reduced } in
+    let k = keeps_both s (with_entry s) t (with_entry_keeps s) (acted_reading g c (with_entry s)) in
+    reduces_or (nat_lt s.entries most_entries) s g x journal_full (record {
+      tree = λ tree few. kept_tree s t k tree;
+      kept = λ r. absurd (false≢true r);
+      charges = λ tree few h r a. absurd (task_reads s g.shoen g.task clause c (some_if (is_enabled s g) (task_action s g.shoen g.task clause) (reads c) e) h);
+      spares = λ h a. charged_kept s t a k;
+    })
+
+-- a reduction of a goal that may be there
+reduces_goal : (s : State) (goal clause : ℕ) (g : Goal) → goal_at goal s.goals ≡ Some g → Reduces s g (step s (reduce goal clause))
+reduces_goal s goal clause g e =
+    subst (λ o. Reduces s g (if is_number goal && is_number clause then reduce_goal s clause o else refuse s syntax)) (sym e)
+    (reduces_or (is_number goal && is_number clause) s g (reduced_by s g (action_of s g clause)) syntax (reduces_by s g clause (action_of s g clause) refl))
+
+pub reductions_charge : ReductionsCharge
+reductions_charge s goal clause g tree e h r a = (reduces_goal s goal clause g e).charges tree (found_within s.last_shoen goal s.goals g e tree.owners) h r a
+
+pub monitors_charge_nobody : MonitorsChargeNobody
+monitors_charge_nobody s goal clause g tree e h a = (reduces_goal s goal clause g e).spares h a
+
+-- where no goal has the number, the event is refused
+no_goal : (s : State) (goal clause : ℕ) → goal_at goal s.goals ≡ None → (step s (reduce goal clause)).state ≡ s
+no_goal s goal clause e =
+    ap (λ o. (if is_number goal && is_number clause then reduce_goal s clause o else refuse s syntax).state) e ∙ both_refused (is_number goal && is_number clause)
+  where
+    both_refused : (c : Bool) → (if c then refuse s step_refused else refuse s syntax).state ≡ s
+    both_refused true = refl
+    both_refused false = refl
+
+reduction_tree : (s : State) (goal clause : ℕ) (o : Option Goal) → goal_at goal s.goals ≡ o → IsTree s → IsTree (step s (reduce goal clause)).state
+reduction_tree s goal clause None e tree = subst IsTree (sym (no_goal s goal clause e)) tree
+reduction_tree s goal clause (Some g) e tree = (reduces_goal s goal clause g e).tree tree (found_within s.last_shoen goal s.goals g e tree.owners)
+
+reduction_kept : (s : State) (goal clause : ℕ) (o : Option Goal) → goal_at goal s.goals ≡ o → is_refused (step s (reduce goal clause)).reply ≡ true → (step s (reduce goal clause)).state ≡ s
+reduction_kept s goal clause None e r = no_goal s goal clause e
+reduction_kept s goal clause (Some g) e r = (reduces_goal s goal clause g e).kept r
+
+-- ---- all events
+
+comes_load_event : (s : State) (text : List ℕ) → Comes s (step s (load text))
+comes_load_event s text = comes_or (nat_le (length text) most_source_bytes) s (load_module s (read_module text)) syntax (comes_load s (read_module text))
+
+comes_control : (s : State) (n : ℕ) (m : Message) → Comes s (step s (control n m))
+comes_control s n m = comes_or (may_send n m) s (send_to s n m (shoen_at n s.shoens)) syntax (comes_send s n m (shoen_at n s.shoens))
+
+tree_from : (s : State) (x : Stepped) → Comes s x → IsTree s → IsTree x.state
+tree_from s x c tree = c.follows.tree (omega arith) tree
+
+pub trees_stay : TreesStay
+trees_stay s (load text) tree = tree_from s (step s (load text)) (comes_load_event s text) tree
+trees_stay s (start allowance low high t) tree = tree_from s (step s (start allowance low high t)) (comes_start s allowance low high t) tree
+trees_stay s (control n m) tree = tree_from s (step s (control n m)) (comes_control s n m) tree
+trees_stay s (reduce goal clause) tree = reduction_tree s goal clause (goal_at goal s.goals) refl tree
+trees_stay s (read q) tree = tree_from s (answer s q) (comes_answer s q) tree
+
+charged_from : (s : State) (x : Stepped) (a : ℕ) → Comes s x → IsTree s → charged_of x.state a ≡ charged_of s a
+charged_from s x a c tree = charged_among s x.state c.follows.more a tree c.follows.parents c.follows.work
+
+pub others_charge_nobody : OthersChargeNobody
+others_charge_nobody s (load text) tree e a = charged_from s (step s (load text)) a (comes_load_event s text) tree
+others_charge_nobody s (start allowance low high t) tree e a = charged_from s (step s (start allowance low high t)) a (comes_start s allowance low high t) tree
+others_charge_nobody s (control n m) tree e a = charged_from s (step s (control n m)) a (comes_control s n m) tree
+others_charge_nobody s (reduce goal clause) tree e a = absurd (false≢true (sym e))
+others_charge_nobody s (read q) tree e a = charged_from s (answer s q) a (comes_answer s q) tree
+
+pub refusals_change_nothing : RefusalsChangeNothing
+refusals_change_nothing s (load text) e = (comes_load_event s text).kept e
+refusals_change_nothing s (start allowance low high t) e = (comes_start s allowance low high t).kept e
+refusals_change_nothing s (control n m) e = (comes_control s n m).kept e
+refusals_change_nothing s (reduce goal clause) e = reduction_kept s goal clause (goal_at goal s.goals) refl e
+refusals_change_nothing s (read q) e = (comes_answer s q).kept e

@@ -1,0 +1,66 @@
+-- What is asked of an account, and the answers.
+use Rattle.std.specs.Prelude.{ℕ, ◌-◌, nat_le, ◌&&◌, if◌then◌else◌, List, [], ◌∷◌, ◌++◌, length, map, take, drop, codes, bytes_eq, decimal, Option, Some, None, option_and_then}
+use Rattle.kl1_model.specs.Limits.{most_listed}
+use Rattle.kl1_model.specs.declared.life.Life.{Life}
+use Rattle.kl1_model.specs.declared.life.Life.TheVariants.{Living, Terminated, Aborted}
+use Rattle.kl1_model.specs.declared.condition.Condition.{Condition}
+use Rattle.kl1_model.specs.declared.condition.Condition.TheVariants.{Terminated as HasTerminated, Aborted as IsAborted, Stopped, Exhausted, Running}
+use Rattle.kl1_model.specs.Term.{Term, structure, Terms, none, more}
+use Rattle.kl1_model.specs.Name.{atom_text}
+use Rattle.kl1_model.specs.Print.{cut_print}
+use Rattle.kl1_model.specs.Module.{Module}
+use Rattle.kl1_model.specs.State.{Origin, Shoen, State, shoen_at}
+use Rattle.kl1_model.specs.Tree.{charged_of, is_exhausted, goals_below}
+use Rattle.kl1_model.specs.Event.{syntax, no_shoen, Query, value, status, reports, modules, is_quiet, shown, status_is, listed, quiet_is, Stepped, refuse, is_number}
+use Rattle.kl1_model.specs.Choice.{quiet}
+
+-- the goal that the console started, printed and cut
+abbrev pub value_of : State → Option Origin → Stepped
+value_of s None = refuse s no_shoen
+value_of s (Some o) = record { state = s; reply = shown (cut_print o.goal) }
+
+-- what the console keeps of the shoen of a number, where it started one
+abbrev pub origin_at : ℕ → List Shoen → Option Origin
+origin_at n shoens = option_and_then (λ h. h.origin) (shoen_at n shoens)
+
+-- the state of a shoen as it is shown, by whether it lives
+abbrev pub condition_by : State → Shoen → Life → Condition
+condition_by s h Terminated = HasTerminated
+condition_by s h Aborted = IsAborted
+condition_by s h Living = if h.is_stopped then Stopped else if is_exhausted s h then Exhausted else Running
+
+-- the state of a shoen as it is shown
+abbrev pub condition_of : State → Shoen → Condition
+condition_of s h = condition_by s h h.life
+
+-- the state of a shoen that may be there, with what it was charged, its allowance, and how many goals there are in it and below it
+abbrev pub status_of : State → Option Shoen → Stepped
+status_of s None = refuse s no_shoen
+status_of s (Some h) = record { state = s; reply = status_is (condition_of s h) (charged_of s h.number) h.allowance (goals_below s h.number) }
+
+-- the elements of a list, as far as there are cells
+abbrev mutual
+  pub elements_of : Term → List Term
+  elements_of (structure f ts) = elements_in f ts
+  elements_of _ = []
+
+  pub elements_in : List ℕ → Terms → List Term
+  elements_in f (more h (more t none)) = if bytes_eq f (codes ".") then h ∷ elements_of t else []
+  elements_in f _ = []
+
+-- the reports of a shoen that the console started from one on, the first being 1, each printed and cut: at most 64
+abbrev pub reports_of : State → ℕ → Option Origin → Stepped
+reports_of s from None = refuse s no_shoen
+reports_of s from (Some o) = record { state = s; reply = listed (map cut_print (take most_listed (drop (from - 1) (elements_of o.reports)))) }
+
+-- a module with how many bytes its source has, and how many clauses
+abbrev pub module_line : Module → List ℕ
+module_line m = atom_text m.name ++ codes " " ++ decimal (length m.source) ++ codes " " ++ decimal (length m.clauses)
+
+-- the answer to a query, which changes nothing
+abbrev pub answer : State → Query → Stepped
+answer s (value n) = if is_number n then value_of s (origin_at n s.shoens) else refuse s syntax
+answer s (status n) = if is_number n then status_of s (shoen_at n s.shoens) else refuse s syntax
+answer s (reports n from) = if is_number n && is_number from && nat_le 1 from then reports_of s from (origin_at n s.shoens) else refuse s syntax
+answer s modules = record { state = s; reply = listed (map module_line s.modules) }
+answer s is_quiet = record { state = s; reply = quiet_is (quiet s) }

@@ -1,0 +1,76 @@
+-- Control messages: as terms, and what a monitor reads.
+use Rattle.std.specs.Prelude.{ℕ, if◌then◌else◌, pos, List, [], ◌∷◌, codes, bytes_eq}
+use Rattle.kl1_model.specs.declared.message.Message.{Message}
+use Rattle.kl1_model.specs.declared.message.Message.TheVariants.{Stop, Start, Abort, Allow}
+use Rattle.kl1_model.specs.Term.{Term, variable, integer, atom, structure, none, more}
+
+-- the term of a message
+abbrev pub message_term : Message → Term
+message_term Stop = atom (codes "stop")
+message_term Start = atom (codes "start")
+message_term Abort = atom (codes "abort")
+message_term (Allow n) = structure (codes "allow") (more (integer (pos n)) none)
+
+-- how many structures a message takes on the console's control stream, its list cell among them
+abbrev pub message_nodes : Message → ℕ
+message_nodes Stop = 1
+message_nodes Start = 1
+message_nodes Abort = 1
+message_nodes (Allow n) = 2
+
+-- what an element of a control stream says: a message, any other thing, or nothing as long as a variable is unbound
+pub data Word : Type 0 where
+  says : Message → Word
+  says_other : Word
+  unsaid : ℕ → Word
+
+-- what an atom says
+abbrev pub atom_word : List ℕ → Word
+atom_word a =
+    if bytes_eq a (codes "stop") then says Stop
+    else if bytes_eq a (codes "start") then says Start
+    else if bytes_eq a (codes "abort") then says Abort
+    else says_other
+
+-- what `allow` of a term says: the term is an integer from 0
+abbrev pub allow_word : Term → Word
+allow_word (variable v) = unsaid v
+allow_word (integer (pos n)) = says (Allow n)
+allow_word _ = says_other
+
+-- what an element of a control stream says
+abbrev pub word_of : Term → Word
+word_of (variable v) = unsaid v
+word_of (atom a) = atom_word a
+word_of (structure f (more n none)) = if bytes_eq f (codes "allow") then allow_word n else says_other
+word_of _ = says_other
+
+-- what stands at the front of a control stream: nothing yet, for want of a variable's value; a message and the rest; any other
+-- element and the rest; the end; or a term that is no stream
+pub data Control : Type 0 where
+  awaits_message : ℕ → Control
+  tells : Message → Term → Control
+  tells_other : Term → Term → Control
+  ends : Control
+  breaks_off : Term → Control
+
+-- what an element at the front of a control stream comes to, with the rest after it
+abbrev pub control_by : Term → Term → Word → Control
+control_by m rest (says message) = tells message rest
+control_by m rest says_other = tells_other m rest
+control_by m rest (unsaid v) = awaits_message v
+
+-- what stands at the front of a control stream
+abbrev pub control_of : Term → Control
+control_of (variable v) = awaits_message v
+control_of (atom a) = if bytes_eq a (codes "[]") then ends else breaks_off (atom a)
+control_of (structure f (more m (more rest none))) = if bytes_eq f (codes ".") then control_by m rest (word_of m) else breaks_off (structure f (more m (more rest none)))
+control_of t = breaks_off t
+
+-- the variables for which a monitor waits
+abbrev pub awaited_by_control : Control → List ℕ
+awaited_by_control (awaits_message v) = v ∷ []
+awaited_by_control (tells m rest) = []
+awaited_by_control (tells_other m rest) = []
+awaited_by_control ends = []
+awaited_by_control (breaks_off t) = []

@@ -1,0 +1,58 @@
+-- Messages from the console.
+use Rattle.std.specs.Prelude.{ℕ, suc, ◌+◌, nat_le, ◌&&◌, Bool, true, if◌then◌else◌, Option, Some, None, option_map}
+use Rattle.kl1_model.specs.Limits.{most_variables, most_nodes}
+use Rattle.kl1_model.specs.declared.message.Message.{Message}
+use Rattle.kl1_model.specs.declared.message.Message.TheVariants.{Stop, Start, Abort, Allow}
+use Rattle.kl1_model.specs.Term.{Term, variable}
+use Rattle.kl1_model.specs.Meaning.{cell}
+use Rattle.kl1_model.specs.Control.{message_term, message_nodes}
+use Rattle.kl1_model.specs.State.{Origin, Shoen, State, replace_in_state, change_shoen, is_living}
+use Rattle.kl1_model.specs.Event.{no_shoen, shoen_ended, sent, Stepped, refuse, is_number, with_entry, recorded, limited}
+
+-- whether a message has numbers in range
+abbrev pub is_message : Message → Bool
+is_message Stop = true
+is_message Start = true
+is_message Abort = true
+is_message (Allow n) = is_number n
+
+-- whether a message to the shoen of a number has numbers in range
+abbrev pub may_send : ℕ → Message → Bool
+may_send n m = is_number n && is_message m
+
+-- whether a message stays within the limits on variables and structures
+abbrev pub has_room_to_send : State → Message → Bool
+has_room_to_send s m = nat_le (suc s.variables) most_variables && nat_le (s.nodes + message_nodes m) most_nodes
+
+-- what the console keeps, with this tail of the control stream
+abbrev pub origin_with : Term → Origin → Origin
+origin_with t o = record o { control = t }
+
+-- a shoen whose control stream goes on at the console with this tail
+abbrev pub with_control_tail : Term → Shoen → Shoen
+with_control_tail t h = record h { origin = option_map (origin_with t) h.origin }
+
+-- a message put on the control stream of a shoen, whose tail at the console is this: the tail, which is a variable as long as the
+-- shoen lives, becomes a cell of the message and the next variable
+abbrev pub sent_on : ℕ → Message → Term → State → State
+sent_on n m (variable v) s =
+    let next = suc s.last_variable in
+    change_shoen n (with_control_tail (variable next)) (record (replace_in_state v (cell (message_term m) (variable next)) s) {
+      last_variable = next;
+      variables = suc s.variables;
+      nodes = s.nodes + message_nodes m;
+    })
+sent_on n m t s = s
+
+-- a message to a shoen with what the console keeps of it, if it started it
+abbrev pub send_by : State → ℕ → Message → Shoen → Option Origin → Stepped
+send_by s n m h None = refuse s no_shoen
+send_by s n m h (Some o) =
+    if is_living h.life
+    then limited s (has_room_to_send s m) (recorded s (record { state = with_entry (sent_on n m o.control s); reply = sent }))
+    else refuse s shoen_ended
+
+-- a message to a shoen that may be there
+abbrev pub send_to : State → ℕ → Message → Option Shoen → Stepped
+send_to s n m None = refuse s no_shoen
+send_to s n m (Some h) = send_by s n m h h.origin

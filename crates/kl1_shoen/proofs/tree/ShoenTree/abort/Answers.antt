@@ -1,0 +1,12 @@
+use Rattle.std.proofs.Common.{List, sym, subst}
+use Rattle.kl1_shoen.specs.Shoens.{AreCharged}
+use Rattle.kl1_shoen.specs.declared.shoen.Shoen.{Shoen}
+use Rattle.kl1_shoen.proofs.Charges.{charged_with}
+use Rattle.kl1_shoen.proofs.tree.ShoenTree.abort.Goals as goal
+
+pub invariant_of-self-2 : goal.invariant_of-self-2
+invariant_of-self-2 g c =
+    let i = c.self.inside in (
+      charged_with i.shoens.now c.abort_all.new.shoens.now i.charges.now i.work c.self.invariant.0 c.abort_all.ensures.numbered c.abort_all.ensures.parents,
+      subst (λ (ss : List (Shoen g.row.N.Denot)). AreCharged ss i.charges.kept i.kept_work) (sym c.abort_all.ensures.kept) c.self.invariant.1,
+    )

@@ -1,0 +1,22 @@
+-- What becomes of one shoen.
+use Rattle.std.specs.Prelude.{◌+◌, min, true, option_map}
+use Rattle.kl1_model.specs.Limits.{most_allowance}
+use Rattle.kl1_store.specs.declared.cell.Cell.{Cell}
+use Rattle.kl1_shoen.specs.declared.shoen.Shoen.{Shoen}
+use Rattle.kl1_shoen.specs.declared.shoen.Origin.{Origin}
+use Rattle.kl1_shoen.specs.declared.change.Change.{Change}
+use Rattle.kl1_shoen.specs.declared.change.Change.TheVariants.{Tail, Control, OriginControl, Breaks, Stopped, Allows, Ends}
+
+-- what the console keeps, with this tail of the control stream
+abbrev pub with_control : {N : Type 0} → Cell N → Origin N → Origin N
+with_control control o = record o { control = control }
+
+-- a shoen after a change
+abbrev pub changed_by : {N : Type 0} → Change N → Shoen N → Shoen N
+changed_by (Tail tail) h = record h { tail = tail }
+changed_by (Control control) h = record h { control = control }
+changed_by (OriginControl control) h = record h { origin = option_map (with_control control) h.origin }
+changed_by Breaks h = record h { is_broken = true }
+changed_by (Stopped is_stopped) h = record h { is_stopped = is_stopped }
+changed_by (Allows extra) h = record h { allowance = min (h.allowance + extra) most_allowance }
+changed_by (Ends life) h = record h { life = life }

@@ -1,0 +1,80 @@
+// What becomes of one shoen.
+
+ghost use Rattle.std.specs.Prelude.{◌≡◌, ◌+◌, min, option_map};
+ghost use Rattle.kl1_model.specs.Limits.{most_allowance};
+ghost use Rattle.kl1_shoen.specs.Changes.{changed_by, with_control as kept_with};
+
+use crate::shoen::{Origin, Shoen};
+use kl1_model::Life;
+use kl1_model::limits::MOST_ALLOWANCE;
+use kl1_store::Cell;
+use kl1_text::NameValue;
+
+/// What becomes of one shoen.
+#[derive(Clone, Copy)]
+pub enum Change<N> {
+    /// Its report stream has this tail.
+    Tail(Cell<N>),
+    /// This is left of its control stream.
+    Control(Cell<N>),
+    /// The console keeps this tail of its control stream.
+    OriginControl(Cell<N>),
+    /// Its report stream is broken.
+    Breaks,
+    /// It is stopped, or not.
+    Stopped(bool),
+    /// It may be charged so many reductions more, up to the greatest allowance.
+    Allows(u64),
+    /// It has this life.
+    Ends(Life),
+}
+
+/// An allowance, in reductions, after it was raised: it ends at the greatest there is.
+fn raised(allowance: u64, extra: u64) -> u64
+    ensures { result ≡ min (allowance + extra) most_allowance }
+{
+    if MOST_ALLOWANCE <= allowance {
+        return MOST_ALLOWANCE;
+    }
+    if MOST_ALLOWANCE - allowance <= extra {
+        return MOST_ALLOWANCE;
+    }
+    allowance + extra
+}
+
+/// What the console keeps, with this tail of the control stream.
+fn with_control<N: NameValue>(origin: Option<Origin<N>>, control: Cell<N>) -> Option<Origin<N>>
+    ensures { result ≡ option_map (kept_with control) origin }
+{
+    match origin {
+        None => None,
+        Some(origin) => Some(Origin { control, ..origin }),
+    }
+}
+
+/// A shoen after a change.
+pub fn changed<N: NameValue>(shoen: Shoen<N>, change: Change<N>) -> Shoen<N>
+    ensures { result ≡ changed_by change shoen }
+{
+    match change {
+        Change::Tail(tail) => Shoen { tail, ..shoen },
+        Change::Control(control) => Shoen { control, ..shoen },
+        Change::OriginControl(control) => Shoen {
+            origin: with_control(shoen.origin, control),
+            ..shoen
+        },
+        Change::Breaks => Shoen {
+            is_broken: true,
+            ..shoen
+        },
+        Change::Stopped(is_stopped) => Shoen {
+            is_stopped,
+            ..shoen
+        },
+        Change::Allows(extra) => Shoen {
+            allowance: raised(shoen.allowance, extra),
+            ..shoen
+        },
+        Change::Ends(life) => Shoen { life, ..shoen },
+    }
+}

@@ -1,0 +1,177 @@
+// Shoens with a count of the living children of each, and what they were when they were last marked.
+
+ghost use Rattle.std.specs.Prelude.{◌≡◌, ◌<◌, ◌≤◌, ◌+◌, ◌-◌, ◌∷◌, ◌++◌, [], ℕ, set, get_or, length, OnOk, IsTrue};
+ghost use Rattle.std.specs.List.{list_any};
+ghost use Rattle.kl1_model.specs.State.{is_living as living};
+ghost use Rattle.kl1_shoen.specs.Shoens.{counted_under, is_living_child_of, AreLower};
+
+use crate::shoen::{Shoen, is_living};
+use crate::tracked::{TrackedList, item_at};
+use kl1_model::Life;
+use kl1_text::NameValue;
+use std::alloc::{AllocError, Global};
+use std::marker::Model;
+
+/// The shoens of an account; for each number, from 0, how many shoens live whose parent has it; and how many shoens more can be
+/// taken in without asking for memory.
+#[derive(Drop)]
+pub struct CountedShoens<N: NameValue> {
+    shoens: TrackedList<Shoen<N>>,
+    children: TrackedList<u64>,
+    room: usize,
+}
+
+impl<N: NameValue> Model for CountedShoens<N> {
+    ghost use Rattle.std.specs.Prelude.{◌-◌, min};
+    ghost use Rattle.kl1_shoen.specs.declared.shoen.Shoen.{Shoen};
+    ghost use Rattle.kl1_shoen.specs.Tracked.{Tracked};
+    ghost use Rattle.kl1_shoen.specs.Shoens.{IsCounted};
+
+    ghost Value = { Tracked (Shoen N) };
+
+    ghost view = { λ t. record {
+      now = t.shoens.now;
+      kept = t.shoens.kept;
+      room = t.room;
+      changes = min t.shoens.changes (t.children.changes - t.room);
+    } };
+
+    ghost invariant = { λ t. IsCounted t.shoens t.children t.room };
+}
+
+impl<N: NameValue> CountedShoens<N> {
+    /// No shoens.
+    pub fn new(alloc: Global) -> Self
+        ensures now { result.now ≡ [] }
+        ensures kept { result.kept ≡ [] }
+    {
+        CountedShoens {
+            shoens: TrackedList::new(alloc),
+            children: TrackedList::new(alloc),
+            room: 0,
+        }
+    }
+
+    /// The shoens.
+    pub fn items(&self) -> &[Shoen<N>]
+        ensures { result.now ≡ self.now.now }
+    {
+        self.shoens.items()
+    }
+
+    /// Marks the shoens as they are: `back` comes back to this.
+    pub fn begin(&mut self)
+        ensures now { self.new.now ≡ self.old.now }
+        ensures kept { self.new.kept ≡ self.old.now }
+        ensures room { self.new.room ≡ self.old.room }
+    {
+        self.shoens.begin();
+        self.children.begin();
+    }
+
+    /// Puts the shoens back to what they were when they were last marked, without memory.
+    pub fn back(&mut self)
+        ensures now { self.new.now ≡ self.old.kept }
+        ensures kept { self.new.kept ≡ self.old.kept }
+        ensures room { self.old.room ≤ self.new.room }
+    {
+        self.shoens.back();
+        self.children.back();
+    }
+
+    /// Makes room for `more` shoens.
+    pub fn reserve(&mut self, more: usize) -> Result<(), AllocError>
+        ensures room { OnOk result (more ≤ self.new.room) }
+        ensures keeps { self.old.room ≤ self.new.room }
+        ensures now { self.new.now ≡ self.old.now }
+        ensures kept { self.new.kept ≡ self.old.kept }
+    {
+        self.shoens.reserve(more)?;
+        self.children.reserve(more)?;
+        self.children.reserve_changes(more)?;
+        if self.room < more {
+            self.room = more;
+        }
+        Ok(())
+    }
+
+    /// Makes room for `more` changes.
+    pub fn reserve_changes(&mut self, more: usize) -> Result<(), AllocError>
+        ensures changes { OnOk result (more ≤ self.new.changes) }
+        ensures now { self.new.now ≡ self.old.now }
+        ensures kept { self.new.kept ≡ self.old.kept }
+        ensures room { self.new.room ≡ self.old.room }
+    {
+        let all = self.room.checked_add(more).ok_or(AllocError)?;
+        self.shoens.reserve_changes(more)?;
+        self.children.reserve_changes(all)
+    }
+
+    /// Takes a shoen in, whose parent is there.
+    pub fn push(&mut self, shoen: Shoen<N>)
+        requires room { 0 < self.old.room }
+        requires parent { shoen.parent ≤ length self.old.now }
+        ensures now { self.new.now ≡ self.old.now ++ shoen ∷ [] }
+        ensures kept { self.new.kept ≡ self.old.kept }
+        ensures room { self.new.room + 1 ≡ self.old.room }
+    {
+        self.shoens.push(shoen);
+        self.children.push(0);
+        recount(&mut self.children, shoen.parent, Life::Aborted, shoen.life);
+        self.room -= 1;
+    }
+
+    /// Puts a shoen in place of another of the same parent.
+    pub fn put(&mut self, place: usize, shoen: Shoen<N>)
+        requires place { place < length self.old.now }
+        requires parent { shoen.parent ≡ (get_or self.old.now place shoen).parent }
+        requires changes { 0 < self.old.changes }
+        ensures now { self.new.now ≡ set self.old.now place shoen }
+        ensures kept { self.new.kept ≡ self.old.kept }
+        ensures room { self.new.room ≡ self.old.room }
+        ensures changes { self.old.changes ≤ self.new.changes + 1 }
+    {
+        let was = item_at(self.shoens.items(), place);
+        self.shoens.put(place, shoen);
+        recount(&mut self.children, was.parent, was.life, shoen.life);
+    }
+
+    /// Whether a shoen lives whose parent has this number.
+    pub fn has_living_child(&self, number: u64) -> bool
+        ensures { result ≡ list_any (is_living_child_of number) self.now.now }
+    {
+        let children = self.children.items();
+        let place = number as usize;
+        if children.len() <= place {
+            return false;
+        }
+        let count = children[place];
+        if count == 0 {
+            return false;
+        }
+        true
+    }
+}
+
+/// Counts a shoen of this parent anew, whose life was the one and is the other.
+fn recount(children: &mut TrackedList<u64>, parent: u64, before: Life, after: Life)
+    requires place { parent < length children.old.now }
+    requires changes { 0 < children.old.changes }
+    requires some { counted_under parent parent before ≤ get_or children.old.now parent 0 }
+    requires few { get_or children.old.now parent 0 ≤ length children.old.now }
+    ensures counts { (n : ℕ) → get_or children.new.now n 0 + counted_under n parent before ≡ get_or children.old.now n 0 + counted_under n parent after }
+    ensures len { length children.new.now ≡ length children.old.now }
+    ensures kept { children.new.kept ≡ children.old.kept }
+    ensures room { children.new.room ≡ children.old.room }
+    ensures changes { children.old.changes ≤ children.new.changes + 1 }
+{
+    let place = parent as usize;
+    let count = children.items()[place];
+    if is_living(before) {
+        if !is_living(after) {
+            children.put(place, count - 1);
+        }
+    } else if is_living(after) {
+        children.put(place, count + 1);
+    }
+}

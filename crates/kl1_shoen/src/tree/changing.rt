@@ -1,0 +1,169 @@
+// Changes of shoens.
+
+ghost use Rattle.std.specs.Prelude.{◌≡◌, ◌<◌, ◌≤◌, ◌+◌, ◌&&◌, if◌then◌else◌, min, map, length, get_or, set, option_map, true, OnOk, OnErr, find};
+ghost use Rattle.kl1_model.specs.Limits.{most_allowance};
+ghost use Rattle.kl1_model.specs.State.{is_living as living};
+ghost use Rattle.kl1_model.specs.declared.life.Life.TheVariants.{Aborted};
+ghost use Rattle.kl1_shoen.specs.Shoens.{has_number, changed, aborted_below_in, parents_in, AreNumbered, AreLower};
+ghost use Rattle.kl1_shoen.specs.Changes.{changed_by, with_control};
+
+use crate::change::{Change, changed};
+use crate::counted::CountedShoens;
+use crate::shoen::{Shoen, is_living};
+use crate::tree::walking::tell_below;
+use crate::tree::{ShoenTree, lent};
+use kl1_model::Life;
+use kl1_store::Cell;
+use kl1_text::NameValue;
+use std::alloc::AllocError;
+
+impl<N: NameValue> ShoenTree<N> {
+    /// Changes the shoen of a number, if there is one.
+    fn change(&mut self, number: u64, change: Change<N>) -> Result<(), AllocError>
+        ensures ok { OnOk result (self.new ≡ record self.old { shoens = changed number (changed_by change) self.old.shoens }) }
+        ensures err { OnErr result (self.new ≡ self.old) }
+    {
+        change_one(&mut self.shoens, number, change)?;
+        Ok(())
+    }
+
+    /// Sets the tail of a shoen's report stream.
+    pub fn set_tail(&mut self, number: u64, tail: Cell<N>) -> Result<(), AllocError>
+        ensures ok { OnOk result (self.new ≡ record self.old { shoens = changed number (λ h. record h { tail = tail }) self.old.shoens }) }
+        ensures err { OnErr result (self.new ≡ self.old) }
+    {
+        self.change(number, Change::Tail(tail))
+    }
+
+    /// Sets what is left of a shoen's control stream.
+    pub fn set_control(&mut self, number: u64, control: Cell<N>) -> Result<(), AllocError>
+        ensures ok { OnOk result (self.new ≡ record self.old { shoens = changed number (λ h. record h { control = control }) self.old.shoens }) }
+        ensures err { OnErr result (self.new ≡ self.old) }
+    {
+        self.change(number, Change::Control(control))
+    }
+
+    /// Sets the tail of the control stream that the console keeps, if the console started the shoen.
+    pub fn set_origin_control(&mut self, number: u64, control: Cell<N>) -> Result<(), AllocError>
+        ensures ok { OnOk result (self.new ≡ record self.old { shoens = changed number (λ h. record h { origin = option_map (with_control control) h.origin }) self.old.shoens }) }
+        ensures err { OnErr result (self.new ≡ self.old) }
+    {
+        self.change(number, Change::OriginControl(control))
+    }
+
+    /// Breaks a shoen's report stream.
+    pub fn break_stream(&mut self, number: u64) -> Result<(), AllocError>
+        ensures ok { OnOk result (self.new ≡ record self.old { shoens = changed number (λ h. record h { is_broken = true }) self.old.shoens }) }
+        ensures err { OnErr result (self.new ≡ self.old) }
+    {
+        self.change(number, Change::Breaks)
+    }
+
+    /// Stops a shoen, or lets it go on.
+    pub fn set_stopped(&mut self, number: u64, is_stopped: bool) -> Result<(), AllocError>
+        ensures ok { OnOk result (self.new ≡ record self.old { shoens = changed number (λ h. record h { is_stopped = is_stopped }) self.old.shoens }) }
+        ensures err { OnErr result (self.new ≡ self.old) }
+    {
+        self.change(number, Change::Stopped(is_stopped))
+    }
+
+    /// Raises a shoen's allowance by so many reductions, up to the greatest there is.
+    pub fn allow(&mut self, number: u64, extra: u64) -> Result<(), AllocError>
+        ensures ok { OnOk result (self.new ≡ record self.old { shoens = changed number (λ h. record h { allowance = min (h.allowance + extra) most_allowance }) self.old.shoens }) }
+        ensures err { OnErr result (self.new ≡ self.old) }
+    {
+        self.change(number, Change::Allows(extra))
+    }
+
+    /// Gives a shoen this life.
+    pub fn end(&mut self, number: u64, life: Life) -> Result<(), AllocError>
+        ensures ok { OnOk result (self.new ≡ record self.old { shoens = changed number (λ h. record h { life = life }) self.old.shoens }) }
+        ensures err { OnErr result (self.new ≡ self.old) }
+    {
+        self.change(number, Change::Ends(life))
+    }
+
+    /// Ends a shoen and all below it that live, as aborted.
+    pub fn abort(&mut self, number: u64) -> Result<(), AllocError>
+        ensures ok { OnOk result (self.new ≡ record self.old { shoens = map (aborted_below_in self.old.shoens number) self.old.shoens }) }
+        ensures err { OnErr result (self.new ≡ self.old) }
+    {
+        abort_all(&mut self.shoens, number, &mut self.are_below)?;
+        Ok(())
+    }
+}
+
+/// Changes the shoen of a number, if there is one.
+fn change_one<N: NameValue>(
+    shoens: &mut CountedShoens<N>,
+    number: u64,
+    change: Change<N>,
+) -> Result<(), AllocError>
+    requires { AreNumbered 0 shoens.old.now }
+    ensures ok { OnOk result (shoens.new.now ≡ changed number (changed_by change) shoens.old.now) }
+    ensures err { OnErr result (shoens.new.now ≡ shoens.old.now) }
+    ensures kept { shoens.new.kept ≡ shoens.old.kept }
+    ensures room { shoens.new.room ≡ shoens.old.room }
+    ensures numbered { AreNumbered 0 shoens.new.now }
+    ensures parents { parents_in shoens.new.now ≡ parents_in shoens.old.now }
+{
+    let Some(shoen) = lent(shoens.items(), number).copied() else {
+        return Ok(());
+    };
+    shoens.reserve_changes(1)?;
+    shoens.put((number - 1) as usize, changed(shoen, change));
+    Ok(())
+}
+
+/// Ends a shoen and all below it that live, as aborted.
+fn abort_all<N: NameValue>(
+    shoens: &mut CountedShoens<N>,
+    number: u64,
+    are_below: &mut Vec<bool>,
+) -> Result<(), AllocError>
+    requires numbered { AreNumbered 0 shoens.old.now }
+    requires lower { AreLower shoens.old.now }
+    ensures ok { OnOk result (shoens.new.now ≡ map (aborted_below_in shoens.old.now number) shoens.old.now) }
+    ensures err { OnErr result (shoens.new.now ≡ shoens.old.now) }
+    ensures kept { shoens.new.kept ≡ shoens.old.kept }
+    ensures room { shoens.new.room ≡ shoens.old.room }
+    ensures numbered { AreNumbered 0 shoens.new.now }
+    ensures parents { parents_in shoens.new.now ≡ parents_in shoens.old.now }
+{
+    tell_below(shoens.items(), number, are_below)?;
+    shoens.reserve_changes(shoens.items().len())?;
+    for place in 0..shoens.items().len() {
+        let shoen = shoens.items()[place];
+        abort_at(shoens, place, shoen, are_below[place]);
+    }
+    Ok(())
+}
+
+/// Ends the shoen at a place as aborted, where it lives and is the one that is aborted, or below that.
+#[tactic(auto, using(crate::proofs::Counting::got_any, crate::proofs::Counting::put_itself))]
+fn abort_at<N: NameValue>(
+    shoens: &mut CountedShoens<N>,
+    place: usize,
+    shoen: Shoen<N>,
+    is_below: bool,
+)
+    requires place { place < length shoens.old.now }
+    requires shoen { shoen ≡ get_or shoens.old.now place shoen }
+    requires changes { 0 < shoens.old.changes }
+    ensures now { shoens.new.now ≡ set shoens.old.now place (if living shoen.life && is_below then record shoen { life = Aborted } else shoen) }
+    ensures kept { shoens.new.kept ≡ shoens.old.kept }
+    ensures room { shoens.new.room ≡ shoens.old.room }
+    ensures changes { shoens.old.changes ≤ shoens.new.changes + 1 }
+{
+    if !is_living(shoen.life) {
+        return;
+    }
+    if !is_below {
+        return;
+    }
+    let aborted = Shoen {
+        life: Life::Aborted,
+        ..shoen
+    };
+    shoens.put(place, aborted);
+}

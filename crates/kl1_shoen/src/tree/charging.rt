@@ -1,0 +1,146 @@
+// Charges, and what comes of them.
+
+ghost use Rattle.std.specs.Prelude.{ℕ, suc, get_or, if◌then◌else◌, ◌≡◌, ◌<◌, ◌≤◌, ◌+◌, ◌-◌, ◌^◌, ◌∷◌, length, set, map, unwrap_or, option_map, not, ◌&&◌, OnOk, OnErr};
+ghost use Rattle.kl1_shoen.specs.Shoens.{AreNumbered, AreLower, path_in, is_on_path_in, charged_in, has_reached_in, is_blocking_at, is_enabled_at};
+
+use crate::shoen::{Shoen, is_living};
+use crate::tracked::TrackedList;
+use crate::tree::walking::flag_of;
+use crate::tree::{ShoenTree, parent_of};
+use kl1_text::NameValue;
+use std::alloc::AllocError;
+
+impl<N: NameValue> ShoenTree<N> {
+    /// Charges a reduction that was done in a shoen: to it, and to each of its ancestors.
+    pub fn charge(&mut self, number: u64) -> Result<(), AllocError>
+        requires some { 0 < number }
+        requires within { number ≤ length self.old.shoens }
+        requires few { length self.old.work + 1 < 2 ^ 63 }
+        ensures ok { OnOk result (self.new ≡ record self.old { work = number ∷ self.old.work }) }
+        ensures err { OnErr result (self.new ≡ self.old) }
+    {
+        self.charges.reserve_changes(number as usize)?;
+        raise(self.shoens.items(), &mut self.charges, number);
+        self.work.add(number);
+        Ok(())
+    }
+
+    /// What the shoen of a number was charged, in reductions; 0 where no shoen has the number.
+    pub fn charged(&self, number: u64) -> u64
+        ensures { result ≡ charged_in self.now.shoens self.now.work number }
+    {
+        if number == 0 {
+            return 0;
+        }
+        let charges = self.charges.items();
+        let place = (number - 1) as usize;
+        if place < charges.len() {
+            return charges[place];
+        }
+        0
+    }
+
+    /// Whether the shoen of a number was charged just what it may be.
+    pub fn has_reached(&self, number: u64) -> bool
+        ensures { result ≡ has_reached_in self.now.shoens self.now.work number }
+    {
+        let Some(shoen) = self.lend(number) else {
+            return false;
+        };
+        shoen.allowance == self.charged(number)
+    }
+
+    /// Whether the shoen of a number holds back the goals in it and below it.
+    fn is_blocking(&self, number: u64) -> bool
+        ensures { result ≡ is_blocking_at self.now.shoens self.now.work number }
+    {
+        let Some(shoen) = self.lend(number) else {
+            return false;
+        };
+        if shoen.is_stopped {
+            return true;
+        }
+        if !is_living(shoen.life) {
+            return true;
+        }
+        shoen.allowance <= self.charged(number)
+    }
+
+    /// Whether the goals of a shoen are enabled: no shoen on its path is stopped, has ended, or was charged what it may be.
+    pub fn is_enabled(&self, number: u64) -> bool
+        ensures { result ≡ is_enabled_at self.now.shoens self.now.work number }
+    {
+        let mut at = number;
+        'path: loop {
+            let up = self.parent(at);
+            if at == 0 {
+                return true;
+            }
+            if self.is_blocking(at) {
+                return false;
+            }
+            at = up;
+        }
+    }
+
+    /// Whether the goals of each shoen are enabled, in order of number.
+    pub fn flags(&self, out: &mut Vec<bool>) -> Result<(), AllocError>
+        ensures { OnOk result (out.new.items ≡ map (λ h. is_enabled_at self.now.shoens self.now.work h.number) self.now.shoens) }
+    {
+        let _lower = self.len();
+        out.clear();
+        for shoen in self.shoens.items() {
+            let is_blocking = self.is_blocking(shoen.number);
+            let is_parent_enabled = flag_of(out, shoen.parent, true);
+            out.push(is_enabled_with(is_blocking, is_parent_enabled))?;
+        }
+        Ok(())
+    }
+}
+
+/// Whether the goals of a shoen are enabled, which holds them back or not, and whose parent's are enabled or not.
+fn is_enabled_with(is_blocking: bool, is_parent_enabled: bool) -> bool
+    ensures { result ≡ (not is_blocking && is_parent_enabled) }
+{
+    !is_blocking && is_parent_enabled
+}
+
+/// Charges one reduction more to each shoen on the path of one.
+fn raise<N: NameValue>(shoens: &[Shoen<N>], charges: &mut TrackedList<u64>, number: u64)
+    requires numbered { AreNumbered 0 shoens.now }
+    requires lower { AreLower shoens.now }
+    requires count { length charges.old.now ≡ length shoens.now }
+    requires within { number ≤ length shoens.now }
+    requires few { (k : ℕ) → get_or charges.old.now k 0 < 2 ^ 63 }
+    requires changes { number ≤ charges.old.changes }
+    ensures charged { (k : ℕ) → get_or charges.new.now k 0 ≡ (if is_on_path_in shoens.now (suc k) number then 1 else 0) + get_or charges.old.now k 0 }
+    ensures count { length charges.new.now ≡ length charges.old.now }
+    ensures kept { charges.new.kept ≡ charges.old.kept }
+    ensures room { charges.new.room ≡ charges.old.room }
+{
+    let mut at = number;
+    while at > 0 {
+        at = raise_at(shoens, charges, at);
+    }
+}
+
+/// Charges one reduction more to the shoen of a number alone, and gives the number of its parent.
+fn raise_at<N: NameValue>(shoens: &[Shoen<N>], charges: &mut TrackedList<u64>, number: u64) -> u64
+    requires numbered { AreNumbered 0 shoens.now }
+    requires lower { AreLower shoens.now }
+    requires some { 0 < number }
+    requires within { number ≤ length charges.old.now }
+    requires few { get_or charges.old.now (number - 1) 0 ≤ 2 ^ 63 }
+    requires changes { 0 < charges.old.changes }
+    ensures charged { charges.new.now ≡ set charges.old.now (number - 1) (get_or charges.old.now (number - 1) 0 + 1) }
+    ensures below { result < number }
+    ensures path { path_in shoens.now number ≡ number ∷ path_in shoens.now result }
+    ensures kept { charges.new.kept ≡ charges.old.kept }
+    ensures room { charges.new.room ≡ charges.old.room }
+    ensures changes { charges.new.changes + 1 ≡ charges.old.changes }
+{
+    let place = (number - 1) as usize;
+    let charged = charges.items()[place];
+    charges.put(place, charged + 1);
+    parent_of(shoens, number)
+}
