@@ -9,4 +9,4 @@ if exists(":CompilerSet") != 2
 endif
 
 CompilerSet makeprg=kl1_run\ --check\ %:S
-CompilerSet errorformat=%f:%l:\ %m,%-G%.%#
+CompilerSet errorformat=%f:%l:\ %m
