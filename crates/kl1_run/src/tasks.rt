@@ -110,8 +110,9 @@ fn fault_of(alloc: Global, stop: Stop, names: &[&str], goal: &str) -> Result<Fau
     match stop {
         Stop::Source { place, refusal } => {
             let mut lines = Vec::new(alloc);
-            let name = names.get(place).map_or("", |name| *name);
-            put_fault(&mut lines, name.as_bytes(), refusal)?;
+            if let Some(name) = names.get(place) {
+                put_fault(&mut lines, name.as_bytes(), refusal)?;
+            }
             Ok(Fault::Lines(lines))
         }
         Stop::Goal(refusal) => {
