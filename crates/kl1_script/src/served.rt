@@ -62,7 +62,7 @@ impl<A: AtomSource + Drop> Served<A> {
     }
 
     /// The names of the account are one to one with their numbers.
-    pub(crate) fn shows_names(&self)
+    pub fn shows_names(&self)
         ensures { AreNames self.now.names }
     {
         let _seat = &self.seat;
