@@ -34,7 +34,7 @@ impl<'a, C: CodeSource> Model for CodedModule<'a, C> {
 
 impl<'a, C: CodeSource> CodedModule<'a, C> {
     /// A module with its code in the source where that stands.
-    pub fn new(loaded: &'a Loaded<C>, codes: &'a C) -> Self
+    pub fn over(loaded: &'a Loaded<C>, codes: &'a C) -> Self
         requires { C.has codes.now loaded.now.place }
         ensures { result ≡ loaded.now }
     {

@@ -35,7 +35,7 @@ impl<'a, C: CodeSource> Model for CodedModules<'a, C> {
 
 impl<'a, C: CodeSource> CodedModules<'a, C> {
     /// Modules with the source where their codes stand.
-    pub fn new(modules: &'a Modules<C>, codes: &'a C) -> Self
+    pub fn over(modules: &'a Modules<C>, codes: &'a C) -> Self
         requires { ArePlaced (C.has codes.now) modules.now.loaded }
         ensures { result ≡ modules.now }
     {
@@ -55,7 +55,7 @@ impl<'a, C: CodeSource> CodedModules<'a, C> {
     {
         match self.modules.get(place) {
             None => None,
-            Some(loaded) => Some(CodedModule::new(loaded, self.codes)),
+            Some(loaded) => Some(CodedModule::over(loaded, self.codes)),
         }
     }
 

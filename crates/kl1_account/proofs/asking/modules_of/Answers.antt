@@ -4,7 +4,7 @@ use Rattle.kl1_account.proofs.Statuses.{lines_of, lines_more}
 use Rattle.kl1_account.proofs.asking.modules_of.Goals as goal
 
 pub loop-place-preserved : goal.loop-place-preserved
-loop-place-preserved c =
+loop-place-preserved g c =
     let ls = c.args.loaded.now.loaded in
     let place = c.loop-place.place in
     let next : suc place ≡ place + 1 = omega arith in

@@ -11,7 +11,7 @@ use Rattle.kl1_account.specs.Account.{Account, state_of}
 use Rattle.kl1_account.proofs.account.Account.modules.Goals as goal
 
 pub returns : goal.returns
-returns c =
+returns g c =
     let b = c.args.self.now in
     let P : Reply → Type 0 = λ reply. (s : State) → s.modules ≡ contents c.self.inside.modules.loaded → step s (read modules_query) ≡ record { state = s; reply = reply_of reply } in
     let Q : Reply → Type 0 = λ reply. (f : Reading) → Fits b.names f → step (state_of f b) (read modules_query) ≡ record { state = state_of f b; reply = reply_of reply } in

@@ -6,7 +6,7 @@ use Rattle.kl1_account.proofs.Sent.{sent_of, refused_of, sent_kept, sent_step, r
 use Rattle.kl1_account.proofs.account.Account.send.Goals as goal
 
 pub invariant_of-self-2 : goal.invariant_of-self-2
-invariant_of-self-2 c =
+invariant_of-self-2 g c =
     let u = c.self.inside in
     let k = c.draft_message-drafted.new.store in
     let t = c.begin.new.self in
@@ -18,7 +18,7 @@ invariant_of-self-2 c =
     (ap (λ (x : Tree CellName). x.shoens) c.begin.ensures) (ap (λ (x : Tree CellName). x.work) c.begin.ensures) s c.draft_message-drafted.ensures.grown.held c.install.ensures.goals one c.install.ensures.count
 
 pub returns-in-Some-clause-step : goal.returns-in-Some-clause-step
-returns-in-Some-clause-step c =
+returns-in-Some-clause-step g c =
     let u = c.self.inside in
     let k = c.draft_message-drafted.new.store in
     let t = c.begin.new.self in
@@ -29,7 +29,7 @@ returns-in-Some-clause-step c =
     (ap (λ (x : Tree CellName). x.shoens) c.begin.ensures) (ap (λ (x : Tree CellName). x.work) c.begin.ensures) r f
 
 pub returns-clause-step : goal.returns-clause-step
-returns-clause-step c =
+returns-clause-step g c =
     let u = c.self.inside in
     let k = c.draft_message-drafted.new.store in
     let t = c.begin.new.self in
