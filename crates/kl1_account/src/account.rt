@@ -212,12 +212,7 @@ impl<C: CodeSource> Account<C> {
     }
 
     /// Sends a message to the shoen of a number, which the console started.
-    pub fn send(
-        &mut self,
-        codes: &C,
-        number: u64,
-        message: Message,
-    ) -> Result<Reply, AllocError>
+    pub fn send(&mut self, codes: &C, number: u64, message: Message) -> Result<Reply, AllocError>
         requires { ArePlaced (C.has codes.now) self.old.modules }
         ensures step { IfOk result (λ reply. (f : Reading) → Fits self.old.names f → step (state_of f self.old) (control number message) ≡ record { state = state_of f self.new; reply = reply_of reply }) }
         ensures names { self.new.names ≡ self.old.names }

@@ -167,7 +167,10 @@ fn put_count(line: &mut Vec<u8>, count: usize) -> Result<(), AllocError>
 }
 
 /// The modules, in order of loading.
-pub(crate) fn modules_of<C: CodeSource>(alloc: Global, loaded: &CodedModules<'_, C>) -> Result<Reply, AllocError>
+pub(crate) fn modules_of<C: CodeSource>(
+    alloc: Global,
+    loaded: &CodedModules<'_, C>,
+) -> Result<Reply, AllocError>
     ensures { IfOk result (λ reply. (s : State) → s.modules ≡ contents loaded.now.loaded → step s (read modules) ≡ record { state = s; reply = reply_of reply }) }
 {
     let mut listed = Listed::new(alloc);

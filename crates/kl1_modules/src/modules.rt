@@ -136,11 +136,7 @@ fn loaded_under<C: CodeSource>(
 
 /// Puts a module under a number that none has, where there is room.
 #[tactic(auto, using(crate::proofs::Shelving::entry_is_last))]
-fn put_last<C: CodeSource>(
-    modules: &mut IndexMap<u64, Loaded<C>>,
-    number: u64,
-    loaded: Loaded<C>,
-)
+fn put_last<C: CodeSource>(modules: &mut IndexMap<u64, Loaded<C>>, number: u64, loaded: Loaded<C>)
     requires room { 0 < spare modules.old }
     requires new { get nat_eq modules.old number ≡ None }
     ensures entries { modules.new.entries ≡ modules.old.entries ++ (number, loaded) ∷ [] }

@@ -243,12 +243,7 @@ fn renumber(
 }
 
 /// Puts the predicates of a module by the name that was its second at first, and by another.
-fn put_by_names(
-    seen: &mut Text,
-    codes: &PlainCodes,
-    draft: &Loaded<PlainCodes>,
-    spare: CellName,
-) {
+fn put_by_names(seen: &mut Text, codes: &PlainCodes, draft: &Loaded<PlainCodes>, spare: CellName) {
     put_found(seen, draft.find(codes, spare, 2));
     put_found(seen, draft.find(codes, name(71), 2));
 }

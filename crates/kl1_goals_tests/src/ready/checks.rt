@@ -33,11 +33,7 @@ pub fn put_ready_checks(out: &mut Text) {
         done,
     );
     let done = goals_wait_for_flags(alloc);
-    put_check(
-        out,
-        b"ready goals_of_shoens_without_their_flags_wait",
-        done,
-    );
+    put_check(out, b"ready goals_of_shoens_without_their_flags_wait", done);
     let done = goals_of_flags_are_removed(alloc);
     put_check(
         out,
