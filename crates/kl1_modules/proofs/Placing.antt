@@ -1,6 +1,6 @@
 -- Where the codes of modules stand.
-use Rattle.std.proofs.Common.{◌≡◌, ℕ, List, [], ◌∷◌, ◌++◌}
-use Rattle.std.specs.Prelude.{◌↔◌}
+use Rattle.std.proofs.Common.{◌≡◌, ℕ, zero, suc, List, [], ◌∷◌, ◌++◌, subst}
+use Rattle.std.specs.Prelude.{◌↔◌, Some, slice_get}
 use Rattle.kl1_modules.specs.Numbered.{Numbered, ArePlaced}
 
 -- where every place will do
@@ -17,3 +17,9 @@ placed_still old new same (l ∷ ls) a = ((same l.place).0 a.0, placed_still old
 pub placed_more : (has : ℕ × ℕ → Type 0) (ls : List Numbered) (d : Numbered) → ArePlaced has ls → has d.place → ArePlaced has (ls ++ d ∷ [])
 placed_more has [] d a h = (h, tt)
 placed_more has (l ∷ ls) d a h = (a.0, placed_more has ls d a.1 h)
+
+-- the code of a module stands where those of all do
+pub placed_in : (has : ℕ × ℕ → Type 0) (ls : List Numbered) (k : ℕ) (l : Numbered) → ArePlaced has ls → slice_get ls k ≡ Some l → has l.place
+placed_in has [] k l a e = absurd (cc)
+placed_in has (m ∷ ls) zero l a e = let same : m ≡ l = cc in let P : Numbered → Type 0 = λ x. has x.place in subst P same a.0
+placed_in has (m ∷ ls) (suc k) l a e = placed_in has ls k l a.1 e
