@@ -58,12 +58,12 @@ pub record IsDraftOf (ms : List Numbered) (names : List Known) (entries : ℕ) (
   pub loads : (s : State) → step s (load source) ≡ load_module s (good d.content)
 
 -- what comes of a source that is to be loaded
-abbrev pub LoadsAs : {C : Type 0} → List Numbered → List Known → ℕ → List ℕ → Loading C → Type 0
+abbrev pub LoadsAs : {C R : Type 0} → List Numbered → List Known → ℕ → List ℕ → Loading C R → Type 0
 LoadsAs ms names entries source (Refused r) = RefusesLoad ms names entries source r
 LoadsAs ms names entries source (Drafted d) = IsDraftOf ms names entries source d
 
 -- the code of a module that is drafted stands at one of these places
-abbrev pub StandsIn : {C : Type 0} → (ℕ × ℕ → Type 0) → Loading C → Type 0
+abbrev pub StandsIn : {C R : Type 0} → (ℕ × ℕ → Type 0) → Loading C R → Type 0
 StandsIn has (Refused r) = Unit {0}
 StandsIn has (Drafted d) = has d.place
 

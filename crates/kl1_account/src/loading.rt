@@ -68,9 +68,11 @@ fn row_of(alloc: Global, names: &AccountNames, code: &Code) -> Result<Vec<CellNa
 fn refusal_of<C: CodeSource>(
     modules: &Modules<C>,
     names: &AccountNames,
+    codes: &C,
     entries: u64,
-    draft: &CodedModule<'_, C>,
+    draft: &Loaded<C>,
 ) -> Option<Refusal>
+    requires of { C.has codes.now draft.now.place }
     requires reads { ReadsDraft names.now.names (own_names draft.now.content) draft.now.row }
     requires rows { (f : Reading) → Fits names.now.names f → AreRead f modules.now.loaded }
     ensures { DraftsAs modules.now.loaded names.now.names entries draft.now result }
@@ -78,7 +80,7 @@ fn refusal_of<C: CodeSource>(
     if modules.has(draft.number()) {
         return Some(Refusal::Exists);
     }
-    if names.are_too_many(draft.code().names()) {
+    if names.are_too_many(draft.code(codes).names()) {
         return Some(Refusal::Names);
     }
     if modules.len() >= MOST_MODULES {
@@ -118,8 +120,7 @@ pub(crate) fn draft_module<C: CodeSource>(
         Err(CodeFault::Memory) => return Err(AllocError),
     };
     let draft = number_module(alloc, names, codes, code)?;
-    let refused = refusal_of(modules, names, entries, &CodedModule::over(&draft, codes));
-    match refused {
+    match refusal_of(modules, names, codes, entries, &draft) {
         None => Ok(Loading::Drafted(draft)),
         Some(refusal) => Ok(Loading::Refused(refusal)),
     }
