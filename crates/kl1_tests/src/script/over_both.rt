@@ -7,6 +7,7 @@ use kl1_script::{Counted, accounts_in, answer_over};
 use kl1_user::AccountName;
 use kl1_user_tests::names_of_one;
 use std::alloc::Global;
+use std::sync::Wait;
 
 /// Whether these bytes are written for the records of a text, over plain tables of names and of codes.
 fn is_answered(alloc: Global, accounts: &[AccountName], records: &[u8], output: &[u8]) -> bool {
@@ -38,7 +39,7 @@ fn is_over_plain(alloc: Global, script: &[u8], output: &[u8]) -> bool {
     }
 }
 
-/// Whether these bytes are written for a script, over a shared table of names as over a plain one.
-pub fn is_over_both(alloc: Global, script: &[u8], output: &[u8]) -> bool {
-    is_script(alloc, script, output) && is_over_plain(alloc, script, output)
+/// Whether these bytes are written for a script, over shared tables of names and of codes as over plain ones.
+pub fn is_over_both<H: Wait>(rt: &H, alloc: Global, script: &[u8], output: &[u8]) -> bool {
+    is_script(rt, alloc, script, output) && is_over_plain(alloc, script, output)
 }
