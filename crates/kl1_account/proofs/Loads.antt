@@ -44,7 +44,7 @@ use Rattle.kl1_account.specs.Drafts.{restood_by, restood}
 use Rattle.kl1_account.specs.Kept.{IsTaskIn, IsOwned}
 use Rattle.kl1_account.specs.Settled.{front_with, control_with, task_clause, awaited_by_task, AreSettled, IsEnabled}
 use Rattle.kl1_account.specs.Keeping.{IsKept}
-use Rattle.kl1_account.specs.Loadings.{IsDraft, DraftsAs, IsDraftOf, LoadsAs, Settles}
+use Rattle.kl1_account.specs.Loadings.{IsDraft, DraftsAs, IsDraftOf, LoadsAs, StandsIn, Settles}
 use Rattle.kl1_account.proofs.ModuleNames.{of_module}
 use Rattle.kl1_account.proofs.Restood.{restood_holds, restood_read}
 
@@ -290,6 +290,10 @@ load_kept a source d old hooks known changes names row i r =
 -- a module that was drafted
 drafted_at : {C R : Type 0} (ms : List Numbered) (names : List Known) (entries : ℕ) (source : List ℕ) (l : Loading C R) (d : Numbered) → LoadsAs ms names entries source l → l ≡ Drafted d → IsDraftOf ms names entries source d
 drafted_at {C} {R} ms names entries source l d is e = let P : Loading C R → Type 0 = λ x. LoadsAs ms names entries source x in subst P e is
+
+-- its code stands where the loading says
+pub stands_at : {C R : Type 0} (has : ℕ × ℕ → Type 0) (l : Loading C R) (d : Numbered) → StandsIn has l → l ≡ Drafted d → has d.place
+stands_at {C} {R} has l d is e = let P : Loading C R → Type 0 = λ x. StandsIn has x in subst P e is
 
 -- a draft for which all that wants memory is done, and the names of which are published
 pub ready : {C R : Type 0} (a : Account) (source : List ℕ) (l : Loading C R) (d : Numbered) (hooks : List Hook) (found changes : List Change) (used names : List Known) (code : Module) (texts : List (List ℕ)) (items row : List CellName) →
