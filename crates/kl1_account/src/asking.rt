@@ -104,7 +104,7 @@ fn list_cells<A: AtomSource>(
         let Some((element, rest)) = next_element(store, at) else {
             return Ok(listed);
         };
-        let text = print_cell(alloc, names, seat, store, element, MOST_PRINTED_BYTES)?;
+        let text = print_cell(alloc, names, seat, store, element, Some(MOST_PRINTED_BYTES))?;
         listed.push(text)?;
         at = rest;
         left -= 1;

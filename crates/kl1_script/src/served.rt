@@ -9,7 +9,7 @@ ghost use Rattle.kl1_account.specs.Account.{state_of};
 
 use kl1_atoms::AtomSource;
 use kl1_command::Host;
-use kl1_event::{ClauseNo, Event, GoalNo, Reply};
+use kl1_event::{ClauseNo, Event, GoalNo, Reply, ShoenNo};
 use kl1_user::{AccountName, UserState};
 use std::alloc::{AllocError, Global};
 use std::marker::Model;
@@ -78,6 +78,11 @@ impl<A: AtomSource + Drop> Host for Served<A> {
 
     fn apply(&mut self, event: &Event) -> Result<Reply, AllocError> {
         self.user.apply(&mut self.names, &mut self.seat, event)
+    }
+
+    fn whole_value(&mut self, shoen: ShoenNo) -> Result<Option<Vec<u8>>, AllocError> {
+        self.user
+            .whole_value(&mut self.names, &mut self.seat, shoen.0)
     }
 
     fn pick(&self) -> Option<(GoalNo, ClauseNo)> {
