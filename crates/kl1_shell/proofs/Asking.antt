@@ -6,7 +6,7 @@ use Rattle.kl1_model.specs.Asking.{answer, value_of, status_of, reports_of, orig
 use Rattle.kl1_model.specs.Choice.{Chosen, first}
 use Rattle.kl1_model.specs.Step.{step}
 use Rattle.kl1_shell.specs.declared.ending.Ending.{Ending}
-use Rattle.kl1_shell.specs.Answers.{shown_in, value_line, ending_in, ending_of}
+use Rattle.kl1_shell.specs.Answers.{value_text, value_line, ending_in, ending_of}
 
 value_stays : (s : State) (v : Bool) (o : Option Origin) → (if v then value_of s o else refuse s syntax).state ≡ s
 value_stays s true None = refl
@@ -39,10 +39,10 @@ stays s after q reply e = sym (ap (λ (d : Stepped). d.state) e) ∙ asking_stay
 pub answered : (s after : State) (q : Query) (reply : Reply) → step s (read q) ≡ record { state = after; reply = reply } → (answer after q).reply ≡ reply
 answered s after q reply e = ap (λ (t : State). (answer t q).reply) (stays s after q reply e) ∙ ap (λ (d : Stepped). d.reply) e
 
--- the line of the goal that is shown
-pub line_is : (s : State) (n : ℕ) (reply : Reply) (line : List ℕ) → (answer s (value n)).reply ≡ reply → line ≡ shown_in reply ++ 10 ∷ [] → line ≡ value_line s n
+-- the line of the goal, whole or as a reply shows it
+pub line_is : (is_whole : Bool) (s : State) (n : ℕ) (text line : List ℕ) → text ≡ value_text is_whole s n → line ≡ text ++ 10 ∷ [] → line ≡ value_line is_whole s n
 unfolding value_line
-line_is s n reply line told is = is ∙ ap (λ (r : Reply). shown_in r ++ 10 ∷ []) (sym told)
+line_is is_whole s n text line told is = is ∙ ap (λ t. t ++ 10 ∷ []) told
 
 -- how the shoen stands whose state is told
 pub ending_is : (s : State) (n : ℕ) (raised still_now : Bool) (reply : Reply) (e : Ending) → (answer s (status n)).reply ≡ reply → still_now ≡ is_none (first s) → e ≡ ending_in still_now raised reply → e ≡ ending_of s n raised

@@ -1,5 +1,5 @@
 -- What is told of a shoen once its run is over.
-use Rattle.std.specs.Prelude.{◌≡◌, ℕ, nat_eq, Bool, true, false, if◌then◌else◌, List, [], ◌∷◌, ◌++◌, map, take, filter, codes, Option, Some, None, is_none, Ok, Err}
+use Rattle.std.specs.Prelude.{◌≡◌, ℕ, nat_eq, Bool, true, false, if◌then◌else◌, List, [], ◌∷◌, ◌++◌, map, take, filter, codes, Option, Some, None, unwrap_or, is_none, Ok, Err}
 use Rattle.std.specs.List.{starts_with}
 use Rattle.std.specs.declared.result.Result.{Result}
 use Rattle.std.specs.Io.KnownBytes.{Appends}
@@ -13,12 +13,14 @@ use Rattle.kl1_model.specs.Asking.{answer, origin_at, elements_of}
 use Rattle.kl1_model.specs.Choice.{first}
 use Rattle.kl1_model.specs.Command.{written_line, written_lines}
 use Rattle.kl1_event.specs.Views.{refusal_of}
+use Rattle.kl1_event.specs.Whole.{whole_value}
 use Rattle.kl1_lines.specs.Devices.{AppendsFront}
 use Rattle.kl1_shell.specs.declared.answers.Answers.{Answers}
 use Rattle.kl1_shell.specs.declared.ending.Ending.{Ending}
 use Rattle.kl1_shell.specs.declared.ending.Ending.TheVariants as ending
 use Rattle.kl1_shell.specs.declared.stop.Stop.{Stop}
 use Rattle.kl1_shell.specs.declared.stop.Stop.TheVariants as stop
+use Rattle.kl1_shell.specs.declared.wanted.Wanted.{Wanted}
 use Rattle.kl1_shell.specs.Works.{Worked, worked, source_refused, goal_refused}
 
 -- the goal that a reply shows
@@ -47,9 +49,21 @@ listed_in (status_is c charged allowance alive) = []
 listed_in (quiet_is b) = []
 listed_in (refused r) = []
 
--- the line of a shoen's goal as it was started, with what is bound now
-unfoldable pub value_line : State → ℕ → List ℕ
-value_line s n = written_line (shown_in (answer s (value n)).reply)
+-- a shoen's goal as it was started, with what is bound now, as a reply shows it
+abbrev pub shown_text : State → ℕ → List ℕ
+shown_text s n = shown_in (answer s (value n)).reply
+
+-- that goal without the cut of a reply
+abbrev pub whole_text : State → ℕ → List ℕ
+whole_text s n = unwrap_or (whole_value s n) []
+
+-- that goal whole, or as a reply shows it
+abbrev pub value_text : Bool → State → ℕ → List ℕ
+value_text is_whole s n = if is_whole then whole_text s n else shown_text s n
+
+-- its line
+unfoldable pub value_line : Bool → State → ℕ → List ℕ
+value_line is_whole s n = written_line (value_text is_whole s n)
 
 -- the reports of a shoen that the console started, each printed and cut
 abbrev pub reports_by : Option Origin → List (List ℕ)
@@ -110,38 +124,38 @@ ending_in is_quiet raised (refused r) = ending.Unfinished
 unfoldable pub ending_of : State → ℕ → Bool → Ending
 ending_of s n raised = ending_in (is_none (first s)) raised (answer s (status n)).reply
 
--- what is told of a shoen
-pub record Tells (s : State) (n : ℕ) (a : Answers) : Type 0 where
-  pub value : a.value.items ≡ value_line s n
+-- what is told of a shoen, as it is wanted
+pub record Tells (wanted : Wanted) (s : State) (n : ℕ) (a : Answers) : Type 0 where
+  pub value : a.value.items ≡ value_line wanted.whole s n
   pub reports : a.reports.items ≡ report_lines s n
   pub exceptions : a.exceptions.items ≡ exception_lines s n
   pub ending : a.ending ≡ ending_of s n (is_some_byte (exception_lines s n))
 
--- what is written to the first stream: the goal, and the reports where they are wanted
-abbrev pub out_text : Bool → State → ℕ → List ℕ
-out_text with_reports s n = value_line s n ++ (if with_reports then report_lines s n else [])
+-- what is written to the first stream: the goal, whole where that is wanted, and the reports where they are wanted
+abbrev pub out_text : Wanted → State → ℕ → List ℕ
+out_text wanted s n = value_line wanted.whole s n ++ (if wanted.reports then report_lines s n else [])
 
 -- the shoen's run is over, and what is told of it was written to two streams, and nothing else
-pub record Shows (w : Worked) (with_reports : Bool) (out out' err err' : Option (List ℕ)) (e : Ending) (s : State) : Type 0 where
+pub record Shows (w : Worked) (wanted : Wanted) (out out' err err' : Option (List ℕ)) (e : Ending) (s : State) : Type 0 where
   pub shoen : ℕ
   pub works : w ≡ worked shoen s
-  pub value : Appends out out' (out_text with_reports s shoen)
+  pub value : Appends out out' (out_text wanted s shoen)
   pub exceptions : Appends err err' (exception_lines s shoen)
   pub ending : e ≡ ending_of s shoen (is_some_byte (exception_lines s shoen))
 
 -- the shoen's run is over, and a write failed: of what was to be written first, the bytes up to some place were
-pub record Breaks (w : Worked) (with_reports : Bool) (out out' : Option (List ℕ)) (s : State) : Type 0 where
+pub record Breaks (w : Worked) (wanted : Wanted) (out out' : Option (List ℕ)) (s : State) : Type 0 where
   pub shoen : ℕ
   pub works : w ≡ worked shoen s
-  pub front : AppendsFront out out' (out_text with_reports s shoen)
+  pub front : AppendsFront out out' (out_text wanted s shoen)
 
 -- how the answers of a shoen were written to two streams: all of them; or a write failed
-abbrev pub IsToldTo : Answers → Bool → Option (List ℕ) → Option (List ℕ) → Option (List ℕ) → Option (List ℕ) → Result Ending Stop → Type 0
-IsToldTo a b out out' err err' (Ok e) = Appends out out' (a.value.items ++ (if b then a.reports.items else [])) × Appends err err' a.exceptions.items × (e ≡ a.ending)
-IsToldTo a b out out' err err' (Err (stop.Source place r)) = ⊥
-IsToldTo a b out out' err err' (Err (stop.Goal r)) = ⊥
-IsToldTo a b out out' err err' (Err stop.Memory) = ⊥
-IsToldTo a b out out' err err' (Err stop.Write) = AppendsFront out out' (a.value.items ++ (if b then a.reports.items else []))
+abbrev pub IsToldTo : Answers → Wanted → Option (List ℕ) → Option (List ℕ) → Option (List ℕ) → Option (List ℕ) → Result Ending Stop → Type 0
+IsToldTo a wanted out out' err err' (Ok e) = Appends out out' (a.value.items ++ (if wanted.reports then a.reports.items else [])) × Appends err err' a.exceptions.items × (e ≡ a.ending)
+IsToldTo a wanted out out' err err' (Err (stop.Source place r)) = ⊥
+IsToldTo a wanted out out' err err' (Err (stop.Goal r)) = ⊥
+IsToldTo a wanted out out' err err' (Err stop.Memory) = ⊥
+IsToldTo a wanted out out' err err' (Err stop.Write) = AppendsFront out out' (a.value.items ++ (if wanted.reports then a.reports.items else []))
 
 -- nothing was written
 pub record WritesNone (out out' err err' : Option (List ℕ)) : Type 0 where
@@ -149,9 +163,9 @@ pub record WritesNone (out out' err err' : Option (List ℕ)) : Type 0 where
   pub second : err' ≡ err
 
 -- what was written, by how the work ended
-abbrev pub IsRun : Worked → Bool → Option (List ℕ) → Option (List ℕ) → Option (List ℕ) → Option (List ℕ) → Result Ending Stop → State → Type 0
-IsRun w b out out' err err' (Ok e) s = Shows w b out out' err err' e s
-IsRun w b out out' err err' (Err (stop.Source place r)) s = (w ≡ source_refused place (refusal_of r) s) × WritesNone out out' err err'
-IsRun w b out out' err err' (Err (stop.Goal r)) s = (w ≡ goal_refused (refusal_of r) s) × WritesNone out out' err err'
-IsRun w b out out' err err' (Err stop.Memory) s = WritesNone out out' err err'
-IsRun w b out out' err err' (Err stop.Write) s = Breaks w b out out' s
+abbrev pub IsRun : Worked → Wanted → Option (List ℕ) → Option (List ℕ) → Option (List ℕ) → Option (List ℕ) → Result Ending Stop → State → Type 0
+IsRun w wanted out out' err err' (Ok e) s = Shows w wanted out out' err err' e s
+IsRun w wanted out out' err err' (Err (stop.Source place r)) s = (w ≡ source_refused place (refusal_of r) s) × WritesNone out out' err err'
+IsRun w wanted out out' err err' (Err (stop.Goal r)) s = (w ≡ goal_refused (refusal_of r) s) × WritesNone out out' err err'
+IsRun w wanted out out' err err' (Err stop.Memory) s = WritesNone out out' err err'
+IsRun w wanted out out' err err' (Err stop.Write) s = Breaks w wanted out out' s

@@ -4,11 +4,12 @@ ghost use Rattle.std.specs.Prelude.{◌≡◌, ◌∷◌, ◌++◌, IfOk, OnOk};
 ghost use Rattle.kl1_model.specs.Asking.{answer};
 ghost use Rattle.kl1_model.specs.Event as model;
 ghost use Rattle.kl1_event.specs.Views.{reply_of};
-ghost use Rattle.kl1_shell.specs.Answers.{shown_in, value_line, ending_by, ending_in, ending_of, Tells};
+ghost use Rattle.kl1_shell.specs.Answers.{shown_in, shown_text, value_text, value_line, ending_by, ending_in, ending_of, Tells};
 
 use crate::asked::ask;
 use crate::ending::Ending;
 use crate::reports::{Reported, reported_by};
+use crate::wanted::Wanted;
 use kl1_command::Host;
 use kl1_event::{Query, Reply, ShoenNo};
 use kl1_model::Condition;
@@ -45,14 +46,48 @@ fn shown_in(alloc: Global, reply: Reply) -> Vec<u8>
     }
 }
 
-/// The line of a shoen's goal as started, with what is bound now.
-fn value_line<H: Host>(alloc: Global, host: &mut H, shoen: ShoenNo) -> Result<Vec<u8>, AllocError>
-    ensures value { IfOk result (λ line. (f : H.Reading) → H.fits host.new f → line.items ≡ value_line (H.state f host.new) shoen.0) }
+/// A shoen's goal as started, with what is bound now, as a reply shows it.
+fn shown_text<H: Host>(alloc: Global, host: &mut H, shoen: ShoenNo) -> Result<Vec<u8>, AllocError>
+    ensures text { IfOk result (λ text. (f : H.Reading) → H.fits host.new f → text.items ≡ shown_text (H.state f host.new) shoen.0) }
     ensures same { (f : H.Reading) → H.fits host.new f → H.state f host.new ≡ H.state f host.old }
     ensures before { (f : H.Reading) → H.fits host.new f → H.fits host.old f }
 {
     let reply = ask(host, Query::Value(shoen))?;
-    let mut line = shown_in(alloc, reply);
+    Ok(shown_in(alloc, reply))
+}
+
+/// That goal whole, or as a reply shows it.
+fn value_text<H: Host>(
+    alloc: Global,
+    host: &mut H,
+    shoen: ShoenNo,
+    is_whole: bool,
+) -> Result<Vec<u8>, AllocError>
+    ensures text { IfOk result (λ text. (f : H.Reading) → H.fits host.new f → text.items ≡ value_text is_whole (H.state f host.new) shoen.0) }
+    ensures same { (f : H.Reading) → H.fits host.new f → H.state f host.new ≡ H.state f host.old }
+    ensures before { (f : H.Reading) → H.fits host.new f → H.fits host.old f }
+{
+    if !is_whole {
+        return shown_text(alloc, host, shoen);
+    }
+    match host.whole_value(shoen)? {
+        Some(text) => Ok(text),
+        None => Ok(Vec::new(alloc)),
+    }
+}
+
+/// Its line.
+fn value_line<H: Host>(
+    alloc: Global,
+    host: &mut H,
+    shoen: ShoenNo,
+    is_whole: bool,
+) -> Result<Vec<u8>, AllocError>
+    ensures value { IfOk result (λ line. (f : H.Reading) → H.fits host.new f → line.items ≡ value_line is_whole (H.state f host.new) shoen.0) }
+    ensures same { (f : H.Reading) → H.fits host.new f → H.state f host.new ≡ H.state f host.old }
+    ensures before { (f : H.Reading) → H.fits host.new f → H.fits host.old f }
+{
+    let mut line = value_text(alloc, host, shoen, is_whole)?;
     line.push(b'\n')?;
     Ok(line)
 }
@@ -113,17 +148,18 @@ fn ending_of<H: Host>(host: &mut H, shoen: ShoenNo, raised: bool) -> Result<Endi
     Ok(ending_in(is_quiet, raised, &reply))
 }
 
-/// What is told of a shoen. Nothing changes.
+/// What is told of a shoen, as it is wanted. Nothing changes.
 pub fn answers_of<H: Host>(
     alloc: Global,
     host: &mut H,
     shoen: ShoenNo,
+    wanted: Wanted,
 ) -> Result<Answers, AllocError>
-    ensures tells { IfOk result (λ answers. (f : H.Reading) → H.fits host.new f → Tells (H.state f host.new) shoen.0 answers) }
+    ensures tells { IfOk result (λ answers. (f : H.Reading) → H.fits host.new f → Tells wanted (H.state f host.new) shoen.0 answers) }
     ensures same { (f : H.Reading) → H.fits host.new f → H.state f host.new ≡ H.state f host.old }
     ensures before { (f : H.Reading) → H.fits host.new f → H.fits host.old f }
 {
-    let value = value_line(alloc, host, shoen)?;
+    let value = value_line(alloc, host, shoen, wanted.whole)?;
     let Reported {
         reports,
         exceptions,

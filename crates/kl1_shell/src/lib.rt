@@ -14,6 +14,7 @@ mod shell;
 mod source_file;
 mod starts;
 mod stop;
+mod wanted;
 mod watch;
 mod works;
 
@@ -31,5 +32,6 @@ pub use script::put_script;
 pub use shell::run;
 pub use source_file::SourceFile;
 pub use stop::Stop;
+pub use wanted::Wanted;
 pub use watch::Watch;
 pub use works::{Work, do_work};
