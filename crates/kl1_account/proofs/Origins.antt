@@ -13,9 +13,9 @@ use Rattle.kl1_store.specs.Held.{Held}
 use Rattle.kl1_shoen.specs.declared.shoen.Origin.{Origin}
 use Rattle.kl1_shoen.specs.declared.shoen.Shoen.{Shoen}
 use Rattle.kl1_shoen.specs.Shoens.{has_number}
-use Rattle.kl1_account.specs.Fitting.{Reading}
-use Rattle.kl1_account.specs.Account.{Account, Means, meaning, origin_with, shoen_with, state_of}
-use Rattle.kl1_account.specs.Kept.{IsKeptIn, IsOriginIn, AreShoensIn}
+use Rattle.kl1_effects.specs.Fitting.{Reading}
+use Rattle.kl1_effects.specs.Account.{Account, Means, meaning, origin_with, shoen_with, state_of}
+use Rattle.kl1_effects.specs.Kept.{IsKeptIn, IsOriginIn, AreShoensIn}
 
 -- what the console keeps of the shoen of a number
 abbrev pub kept_at : ℕ → List (Shoen CellName) → Option (Origin CellName)

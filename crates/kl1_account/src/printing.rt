@@ -5,9 +5,9 @@ ghost use Rattle.kl1_model.specs.Print.{print};
 ghost use Rattle.kl1_term.specs.Nodes.{count_in};
 ghost use Rattle.kl1_term.specs.Page.{limited};
 ghost use Rattle.kl1_store.specs.Held.{IsIn, AreIn, arguments_of};
-ghost use Rattle.kl1_account.specs.Fitting.{Reading, Fits};
-ghost use Rattle.kl1_account.specs.Account.{meaning};
-ghost use Rattle.kl1_account.specs.Naming.{AreSmall, Keeps};
+ghost use Rattle.kl1_effects.specs.Fitting.{Reading, Fits};
+ghost use Rattle.kl1_effects.specs.Account.{meaning};
+ghost use Rattle.kl1_effects.specs.Naming.{AreSmall, Keeps};
 ghost use Rattle.kl1_account.specs.Tops.{node_with, count_at, IsNext, TakesTop};
 
 use crate::top::Top;

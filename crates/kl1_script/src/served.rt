@@ -4,8 +4,8 @@ ghost use Rattle.std.specs.Prelude.{◌≡◌, [], IfOk};
 ghost use Rattle.kl1_model.specs.State.{fresh};
 ghost use Rattle.kl1_model.specs.Choice.{quiet};
 ghost use Rattle.kl1_atoms.specs.Names.{AreNames};
-ghost use Rattle.kl1_account.specs.Fitting.{Reading as NameReading, Fits};
-ghost use Rattle.kl1_account.specs.Account.{state_of};
+ghost use Rattle.kl1_effects.specs.Fitting.{Reading as NameReading, Fits};
+ghost use Rattle.kl1_effects.specs.Account.{state_of};
 
 use kl1_atoms::AtomSource;
 use kl1_command::Host;
@@ -25,7 +25,7 @@ pub struct Served<A: AtomSource + Drop> {
 impl<A: AtomSource + Drop> Model for Served<A> {
     ghost use Rattle.std.specs.Coded.{codes};
     ghost use Rattle.kl1_modules.specs.Numbered.{numbered_code};
-    ghost use Rattle.kl1_account.specs.Account.{Account as Kept};
+    ghost use Rattle.kl1_effects.specs.Account.{Account as Kept};
 
     ghost Value = { Kept };
 

@@ -5,9 +5,9 @@ ghost use Rattle.kl1_model.specs.State.{fresh};
 ghost use Rattle.kl1_model.specs.Event.{reduce as reduce_event, read};
 ghost use Rattle.kl1_model.specs.Step.{step};
 ghost use Rattle.kl1_model.specs.Choice.{first, quiet};
-ghost use Rattle.kl1_account.specs.Fitting.{Reading, Fits};
-ghost use Rattle.kl1_account.specs.Account.{state_of};
-ghost use Rattle.kl1_account.specs.Naming.{Keeps};
+ghost use Rattle.kl1_effects.specs.Fitting.{Reading, Fits};
+ghost use Rattle.kl1_effects.specs.Account.{state_of};
+ghost use Rattle.kl1_effects.specs.Naming.{Keeps};
 ghost use Rattle.kl1_event.specs.Views.{event_of, query_of, reply_of, reduced_or, chosen_of};
 ghost use Rattle.kl1_event.specs.Whole.{whole_value};
 
@@ -26,7 +26,7 @@ pub struct UserState<A: AtomSource> {
 impl<A: AtomSource> Model for UserState<A> {
     ghost use Rattle.std.specs.Coded.{codes};
     ghost use Rattle.kl1_modules.specs.Numbered.{numbered_code};
-    ghost use Rattle.kl1_account.specs.Account.{Account as Kept};
+    ghost use Rattle.kl1_effects.specs.Account.{Account as Kept};
 
     ghost Value = { Kept };
 

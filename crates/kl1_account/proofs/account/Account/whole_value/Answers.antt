@@ -2,8 +2,8 @@ use Rattle.std.proofs.Common.{◌≡◌, List, sym, ap, ◌∙◌, subst}
 use Rattle.std.specs.Prelude.{Option, Some, None, option_map}
 use Rattle.kl1_event.specs.Whole.{whole_value, whole_of}
 use Rattle.kl1_atoms.specs.declared.known.Known.{Known}
-use Rattle.kl1_account.specs.Fitting.{Fits}
-use Rattle.kl1_account.specs.Account.{Account, meaning, origin_with, state_of}
+use Rattle.kl1_effects.specs.Fitting.{Fits}
+use Rattle.kl1_effects.specs.Account.{Account, meaning, origin_with, state_of}
 use Rattle.kl1_account.specs.Accounts.{kept_in}
 use Rattle.kl1_account.proofs.Origins.{kept_at, origin_in, goal_named, whole_none, whole_some}
 use Rattle.kl1_account.proofs.account.Account.whole_value.Goals as goal
