@@ -2,7 +2,7 @@
 
 _kl1_run() {
     local word=${COMP_WORDS[COMP_CWORD]} before=${COMP_WORDS[COMP_CWORD - 1]}
-    local options="--steps --allowance --reports --check --script --help"
+    local options="--steps --allowance --reports --whole --check --script --help"
     COMPREPLY=()
     case $before in
     --steps | --allowance)

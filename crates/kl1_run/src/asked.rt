@@ -2,12 +2,12 @@
 
 use crate::fault::Fault;
 use clap::{Arg, ArgAction, ArgMatches, Command, value_parser};
-use kl1_shell::{MOST_ALLOWANCE, MOST_STEPS};
+use kl1_shell::{MOST_ALLOWANCE, MOST_STEPS, Wanted};
 use std::alloc::{AllocError, Global};
 
 /// How the program is called.
 const USAGE: &str =
-    "kl1_run [--steps N] [--allowance N] [--reports] FILE... GOAL\n       kl1_run --check FILE...\n       kl1_run --script [--steps N] [--allowance N] [--reports] FILE... GOAL";
+    "kl1_run [--steps N] [--allowance N] [--reports] [--whole] FILE... GOAL\n       kl1_run --check FILE...\n       kl1_run --script [--steps N] [--allowance N] [--reports] FILE... GOAL";
 
 /// What is to be done with the files.
 #[derive(Clone, Copy)]
@@ -31,8 +31,8 @@ pub struct Asked<'a> {
     pub steps: u64,
     /// The allowance of the goal's shoen, in reductions.
     pub allowance: u64,
-    /// Whether the reports are told too.
-    pub with_reports: bool,
+    /// What is told of the goal.
+    pub wanted: Wanted,
 }
 
 /// The flag of a name, with what help says of it.
@@ -61,6 +61,13 @@ fn command<'a>(alloc: Global) -> Result<Command<'a>, AllocError> {
         "Let the goal be charged N reductions at most",
     );
     let reports = flag(alloc, "reports", "Tell the goal's reports too");
+    let whole = flag(
+        alloc,
+        "whole",
+        "Tell the goal whole, not cut after 4,000 bytes",
+    )
+    .conflicts_with("check")?
+    .conflicts_with("script")?;
     let check = flag(
         alloc,
         "check",
@@ -79,6 +86,7 @@ fn command<'a>(alloc: Global) -> Result<Command<'a>, AllocError> {
         .arg(steps)?
         .arg(allowance)?
         .arg(reports)?
+        .arg(whole)?
         .arg(check)?
         .arg(script)?
         .arg(words)
@@ -102,7 +110,10 @@ pub fn asked_in<'a>(alloc: Global, words: &'a [String]) -> Result<Asked<'a>, Fau
         allowance: matches
             .get_one::<u64>("allowance")
             .unwrap_or(MOST_ALLOWANCE),
-        with_reports: matches.get_flag("reports"),
+        wanted: Wanted {
+            reports: matches.get_flag("reports"),
+            whole: matches.get_flag("whole"),
+        },
     })
 }
 

@@ -62,7 +62,7 @@ fn write_script(
         &goal,
         asked.allowance,
         asked.steps,
-        asked.with_reports,
+        asked.wanted.reports,
         &mut script,
     )?;
     match rt.stdout().write_all(script.as_slice()) {
@@ -90,14 +90,7 @@ fn run_goal(
         allowance: asked.allowance,
         steps: asked.steps,
     };
-    let ending = run_alone(
-        alloc,
-        work,
-        asked.with_reports,
-        &mut progress,
-        &mut out,
-        &mut err,
-    );
+    let ending = run_alone(alloc, work, asked.wanted, &mut progress, &mut out, &mut err);
     progress.clear();
     match ending {
         Ok(ending) => Ok(tell_ending(rt, ending)?),
