@@ -1,4 +1,4 @@
-use Rattle.std.proofs.Common.{◌≡◌, ◌∙◌, ap, rules, codes}
+use Rattle.std.proofs.Common.{◌≡◌, ◌∙◌, ap, rules}
 use Rattle.kl1_model.specs.State.{fresh}
 use Rattle.kl1_effects.specs.Account.{state_of}
 use Rattle.kl1_script.proofs.Readings.{reading_of, reading_fits}
