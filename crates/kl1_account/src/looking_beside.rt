@@ -12,14 +12,14 @@ ghost use Rattle.kl1_goals.specs.declared.task.Task.TheVariants.{Reduces};
 ghost use Rattle.kl1_shoen.specs.declared.shoen.Shoen.{Shoen};
 ghost use Rattle.kl1_modules.specs.Numbered.{number_of};
 ghost use Rattle.kl1_modules.specs.Finding.{contents, is_numbered};
-ghost use Rattle.kl1_account.specs.Fitting.{Reading};
-ghost use Rattle.kl1_account.specs.Kept.{IsTaskIn, AreGoalsIn, AreShoensIn};
-ghost use Rattle.kl1_account.specs.Works.{Knows};
+ghost use Rattle.kl1_effects.specs.Fitting.{Reading};
+ghost use Rattle.kl1_effects.specs.Kept.{IsTaskIn, AreGoalsIn, AreShoensIn};
+ghost use Rattle.kl1_effects.specs.Works.{Knows};
 ghost use Rattle.kl1_account.specs.Looking.{StandsAt, FindsOut, LooksBelow, LooksAtAll};
 
-use crate::draft::Change;
 use crate::looking::{hung_standing, monitor_standing};
 use kl1_clause::Predicate;
+use kl1_effects::Change;
 use kl1_goals::{Goal, GoalTable, Task};
 use kl1_modules::{Loaded, Modules};
 use kl1_moves::{Kind, Trial, kind_of_qualified, or_none};

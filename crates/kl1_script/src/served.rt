@@ -4,12 +4,12 @@ ghost use Rattle.std.specs.Prelude.{◌≡◌, [], IfOk};
 ghost use Rattle.kl1_model.specs.State.{fresh};
 ghost use Rattle.kl1_model.specs.Choice.{quiet};
 ghost use Rattle.kl1_atoms.specs.Names.{AreNames};
-ghost use Rattle.kl1_account.specs.Fitting.{Reading as NameReading, Fits};
-ghost use Rattle.kl1_account.specs.Account.{state_of};
+ghost use Rattle.kl1_effects.specs.Fitting.{Reading as NameReading, Fits};
+ghost use Rattle.kl1_effects.specs.Account.{state_of};
 
 use kl1_atoms::AtomSource;
 use kl1_command::Host;
-use kl1_event::{ClauseNo, Event, GoalNo, Reply};
+use kl1_event::{ClauseNo, Event, GoalNo, Reply, ShoenNo};
 use kl1_user::{AccountName, UserState};
 use std::alloc::{AllocError, Global};
 use std::marker::Model;
@@ -25,7 +25,7 @@ pub struct Served<A: AtomSource + Drop> {
 impl<A: AtomSource + Drop> Model for Served<A> {
     ghost use Rattle.std.specs.Coded.{codes};
     ghost use Rattle.kl1_modules.specs.Numbered.{numbered_code};
-    ghost use Rattle.kl1_account.specs.Account.{Account as Kept};
+    ghost use Rattle.kl1_effects.specs.Account.{Account as Kept};
 
     ghost Value = { Kept };
 
@@ -62,7 +62,7 @@ impl<A: AtomSource + Drop> Served<A> {
     }
 
     /// The names of the account are one to one with their numbers.
-    pub(crate) fn shows_names(&self)
+    pub fn shows_names(&self)
         ensures { AreNames self.now.names }
     {
         let _seat = &self.seat;
@@ -78,6 +78,11 @@ impl<A: AtomSource + Drop> Host for Served<A> {
 
     fn apply(&mut self, event: &Event) -> Result<Reply, AllocError> {
         self.user.apply(&mut self.names, &mut self.seat, event)
+    }
+
+    fn whole_value(&mut self, shoen: ShoenNo) -> Result<Option<Vec<u8>>, AllocError> {
+        self.user
+            .whole_value(&mut self.names, &mut self.seat, shoen.0)
     }
 
     fn pick(&self) -> Option<(GoalNo, ClauseNo)> {
