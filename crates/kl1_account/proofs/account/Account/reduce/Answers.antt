@@ -11,7 +11,7 @@ pub draft_reduction-drafted-requires : goal.draft_reduction-drafted-requires
 draft_reduction-drafted-requires g c =
     let u = c.self.inside in
     record {
-      kept = kept_at (kept_in u) c.begin.new.self u.store.hooks u.goals.shoens (ap (λ (x : Tree CellName). x.shoens) c.begin.ensures) (ap (λ (x : Tree CellName). x.work) c.begin.ensures) c.self.invariant;
+      kept = rw c.over.ensures (kept_at (kept_in u) c.begin.new.self u.store.hooks u.goals.shoens (ap (λ (x : Tree CellName). x.shoens) c.begin.ensures) (ap (λ (x : Tree CellName). x.work) c.begin.ensures) c.self.invariant);
     }
 
 pub invariant_of-self-in-Some : goal.invariant_of-self-in-Some
