@@ -21,7 +21,7 @@ pub struct Served<A: AtomSource + Drop, C: CodeSource + Drop> {
     user: UserState<A, C>,
     names: A,
     seat: A::Seat,
-    codes: C,
+    code_source: C,
 }
 
 impl<A: AtomSource + Drop, C: CodeSource + Drop> Model for Served<A, C> {
@@ -37,7 +37,7 @@ impl<A: AtomSource + Drop, C: CodeSource + Drop> Model for Served<A, C> {
 
     ghost view = { λ s. s.user };
 
-    ghost invariant = { λ s. A.is_of s.names s.seat × (A.knows s.seat ≡ s.user.names) × ArePlaced (C.has s.codes) s.user.modules };
+    ghost invariant = { λ s. A.is_of s.names s.seat × (A.knows s.seat ≡ s.user.names) × ArePlaced (C.has s.code_source) s.user.modules };
 }
 
 impl<A: AtomSource + Drop, C: CodeSource + Drop> Served<A, C> {
@@ -58,7 +58,7 @@ impl<A: AtomSource + Drop, C: CodeSource + Drop> Served<A, C> {
             user,
             names,
             seat,
-            codes,
+            code_source: codes,
         })
     }
 
@@ -85,8 +85,12 @@ impl<A: AtomSource + Drop, C: CodeSource + Drop> Host for Served<A, C> {
     ghost state = { state_of };
 
     fn apply(&mut self, event: &Event) -> Result<Reply, AllocError> {
-        self.user
-            .apply(&mut self.names, &mut self.seat, &mut self.codes, event)
+        self.user.apply(
+            &mut self.names,
+            &mut self.seat,
+            &mut self.code_source,
+            event,
+        )
     }
 
     fn pick(&self) -> Option<(GoalNo, ClauseNo)> {

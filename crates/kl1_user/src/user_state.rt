@@ -23,7 +23,7 @@ use std::marker::{Model, PhantomData};
 pub struct UserState<A: AtomSource, C: CodeSource> {
     account: Account<C>,
     source: PhantomData<A>,
-    codes: PhantomData<C>,
+    code_source: PhantomData<C>,
 }
 
 impl<A: AtomSource, C: CodeSource> Model for UserState<A, C> {
@@ -49,7 +49,7 @@ impl<A: AtomSource, C: CodeSource> UserState<A, C> {
         Ok(UserState {
             account,
             source: PhantomData,
-            codes: PhantomData,
+            code_source: PhantomData,
         })
     }
 
