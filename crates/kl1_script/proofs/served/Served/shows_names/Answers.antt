@@ -7,4 +7,4 @@ use Rattle.kl1_script.proofs.served.Served.shows_names.Goals as goal
 pub returns : goal.returns
 returns g c =
     let P : List Known → Type 0 = λ ks. AreNames ks in
-    subst P (c.self.invariant.1.0 ∙ ap (λ (a : Account). a.names) c.self.view_is) (g.met.A.AtomSource.one_to_one c.self.inside.names c.self.inside.seat c.self.invariant.0)
+    subst P (c.self.invariant.1 ∙ ap (λ (a : Account). a.names) c.self.view_is) (g.met.A.AtomSource.one_to_one c.self.inside.names c.self.inside.seat c.self.invariant.0)

@@ -11,4 +11,4 @@ returns-clause-step g c =
 
 pub returns-clause-before : goal.returns-clause-before
 returns-clause-before g c = λ f fits.
-    fits_before c.args.self.now.names c.apply.new.self.names f (grows_as (g.A.AtomSource.knows c.self.inside.seat) (g.A.AtomSource.knows c.apply.new.seat) c.args.self.now.names c.apply.new.self.names (c.self.invariant.1.0 ∙ ap (λ (a : Account). a.names) c.self.view_is) c.apply.ensures.knows c.apply.ensures.keeps.grows) fits
+    fits_before c.args.self.now.names c.apply.new.self.names f (grows_as (g.A.AtomSource.knows c.self.inside.seat) (g.A.AtomSource.knows c.apply.new.seat) c.args.self.now.names c.apply.new.self.names (c.self.invariant.1 ∙ ap (λ (a : Account). a.names) c.self.view_is) c.apply.ensures.knows c.apply.ensures.keeps.grows) fits
