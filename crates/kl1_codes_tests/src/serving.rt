@@ -25,7 +25,8 @@ const ALICE: [&[u8]; 4] = [
 const BOB: [&[u8]; 3] = [b"start 10 0 10 o:p(b,R)", b"run 10", b"value 1"];
 
 /// What both answer.
-const ANSWERS: &[u8] = b"alice + loaded app\nbob + loaded o\nalice + shoen 1\nalice + 4\nalice + app:app([1],[2],[1,2])\nalice + terminated 4 100 0\nbob + shoen 1\nbob + 2\nbob + o:p(b,2)\n";
+const ANSWERS: &[u8] =
+    b"alice + loaded app\nbob + loaded o\nalice + shoen 1\nalice + 4\nalice + app:app([1],[2],[1,2])\nalice + terminated 4 100 0\nbob + shoen 1\nbob + 2\nbob + o:p(b,2)\n";
 
 /// The reply to a command, or nothing where memory is refused.
 fn reply_once<A: AtomSource + Drop, C: CodeSource + Drop>(
