@@ -9,10 +9,10 @@ use Rattle.kl1_shoen.specs.declared.shoen.Shoen.{Shoen}
 use Rattle.kl1_modules.specs.Numbered.{Numbered}
 use Rattle.kl1_moves.specs.Hanging.{AreAmong}
 use Rattle.kl1_moves.proofs.Hooked.{HasGrown-same, HasGrown-trans, grown_among}
-use Rattle.kl1_account.specs.Fitting.{Reading}
-use Rattle.kl1_account.specs.Kept.{IsTaskIn, AreGoalsIn}
-use Rattle.kl1_account.specs.Works.{Knows}
-use Rattle.kl1_account.specs.Settled.{IsSettled, AreSettled, IsEnabled}
+use Rattle.kl1_effects.specs.Fitting.{Reading}
+use Rattle.kl1_effects.specs.Kept.{IsTaskIn, AreGoalsIn}
+use Rattle.kl1_effects.specs.Works.{Knows}
+use Rattle.kl1_effects.specs.Settled.{IsSettled, AreSettled, IsEnabled}
 use Rattle.kl1_account.specs.Looking.{unlooked, LooksAtOne, LooksAtAdded}
 use Rattle.kl1_account.proofs.SettledStays.{settled_more}
 use Rattle.kl1_account.proofs.Restood.{each_is}

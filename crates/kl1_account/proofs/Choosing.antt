@@ -25,9 +25,9 @@ use Rattle.kl1_shoen.proofs.Meaning.{Has, enabled_is}
 use Rattle.kl1_goals.specs.Readies.{Ready, goes_first, stands, ready_by, ready_of, better, first_from, chosen as chosen_pair}
 use Rattle.kl1_modules.specs.Numbered.{Numbered}
 use Rattle.kl1_modules.specs.Finding.{contents}
-use Rattle.kl1_account.specs.Fitting.{Reading, Fits}
-use Rattle.kl1_account.specs.Account.{Account, Means, meaning, aim_with, goal_with, task_with, shoen_with, state_of}
-use Rattle.kl1_account.specs.Settled.{front_with, control_with, control_clause, monitor_clause, task_clause, IsSettled, AreSettled, IsEnabled, AreEnabled}
+use Rattle.kl1_effects.specs.Fitting.{Reading, Fits}
+use Rattle.kl1_effects.specs.Account.{Account, Means, meaning, aim_with, goal_with, task_with, shoen_with, state_of}
+use Rattle.kl1_effects.specs.Settled.{front_with, control_with, control_clause, monitor_clause, task_clause, IsSettled, AreSettled, IsEnabled, AreEnabled}
 
 -- ---- one goal before another
 

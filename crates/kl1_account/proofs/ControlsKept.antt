@@ -4,10 +4,10 @@ use Rattle.kl1_text.specs.declared.cell_name.CellName.{CellName}
 use Rattle.kl1_goals.specs.declared.goal.Goal.{Goal}
 use Rattle.kl1_shoen.specs.declared.shoen.Shoen.{Shoen}
 use Rattle.kl1_shoen.specs.Shoens.{AreNumbered}
-use Rattle.kl1_account.specs.Kept.{AreOwned}
+use Rattle.kl1_effects.specs.Kept.{AreOwned}
 use Rattle.kl1_account.specs.Waking.{KeepControls}
-use Rattle.kl1_account.specs.Frames.{KeepsFrames}
-use Rattle.kl1_account.proofs.Frames.{controls_stay}
+use Rattle.kl1_effects.specs.Frames.{KeepsFrames}
+use Rattle.kl1_effects.proofs.Frames.{controls_stay}
 
 -- each monitor of shoens that stay has
 pub frames_controls : (numbers : List ℕ) (before after : List (Shoen CellName)) (goals : List (Goal CellName)) → AreNumbered 0 before → AreOwned (length before) goals → KeepsFrames before after → KeepControls numbers before after goals

@@ -19,8 +19,8 @@ use Rattle.kl1_moves.specs.Orders.{order_at, IsOrder}
 use Rattle.kl1_moves.specs.Moves.{MovesAs, MoveIn}
 use Rattle.kl1_modules.specs.Numbered.{Numbered}
 use Rattle.kl1_modules.specs.Finding.{contents}
-use Rattle.kl1_account.specs.Fitting.{Reading}
-use Rattle.kl1_account.specs.Account.{meaning, aim}
+use Rattle.kl1_effects.specs.Fitting.{Reading}
+use Rattle.kl1_effects.specs.Account.{meaning, aim}
 use Rattle.kl1_account.specs.Reducing.{move_or_go, move_at}
 
 -- six cells are an order

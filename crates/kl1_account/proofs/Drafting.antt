@@ -21,18 +21,18 @@ use Rattle.kl1_moves.specs.Moves.{HasPredicate}
 use Rattle.kl1_moves.specs.Standing.{StandsAs}
 use Rattle.kl1_modules.specs.Numbered.{Numbered}
 use Rattle.kl1_modules.specs.Finding.{contents}
-use Rattle.kl1_account.specs.Fitting.{Reading, built}
-use Rattle.kl1_account.specs.Account.{meaning}
-use Rattle.kl1_account.specs.Works.{Knows}
+use Rattle.kl1_effects.specs.Fitting.{Reading, built}
+use Rattle.kl1_effects.specs.Account.{meaning}
+use Rattle.kl1_effects.specs.Works.{Knows}
 use Rattle.kl1_atoms.specs.declared.known.Known.{Known}
 use Rattle.kl1_atoms.specs.Names.{AreNames}
 use Rattle.kl1_match.specs.Variables.{with_variables}
 use Rattle.kl1_account.specs.declared.opening.Streams.{Streams}
 use Rattle.kl1_account.specs.declared.opening.Opening.{Opening}
-use Rattle.kl1_account.specs.Naming.{AreSmall, ReadsDraft}
+use Rattle.kl1_effects.specs.Naming.{AreSmall, ReadsDraft}
 use Rattle.kl1_match.specs.GoalCells.{AreGoalVariables, BuildsGoal}
 use Rattle.kl1_account.specs.Starting.{OpensStreams, Judges, IsDrafted}
-use Rattle.kl1_account.proofs.States.{in_grown}
+use Rattle.kl1_effects.proofs.States.{in_grown}
 
 -- the clause by which the goal that was built can step
 pub judges : (ms : List Numbered) (numbers : List CellName) (row : List Instruction) (cells was : List (Cell CellName)) (h old mid : Held CellName) (x : Cell CellName) (kind : Kind CellName) (p : Predicate CellName) (awaited : List ℕ) (standing : Option ℕ) →

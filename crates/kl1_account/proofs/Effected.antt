@@ -33,19 +33,19 @@ use Rattle.kl1_goals.specs.Lists.{has_number, is_other}
 use Rattle.kl1_shoen.specs.Shoens.{Tree}
 use Rattle.kl1_modules.specs.Numbered.{Numbered}
 use Rattle.kl1_modules.specs.Finding.{contents}
-use Rattle.kl1_account.specs.declared.draft.Draft.{Draft}
-use Rattle.kl1_account.specs.declared.draft.Spelled.{Spelled}
-use Rattle.kl1_account.specs.Fitting.{Reading, Fits}
-use Rattle.kl1_account.specs.Account.{Account, Means, meaning, task_with, goal_with, aim, aim_with, state_of, texts_of}
-use Rattle.kl1_account.specs.Kept.{IsTaskIn, IsOwned}
-use Rattle.kl1_account.specs.Works.{Made, IsMadeIn, Knows, worked}
-use Rattle.kl1_account.specs.Calling.{keeps_names, name_of}
-use Rattle.kl1_account.specs.Drafts.{made_of}
-use Rattle.kl1_account.specs.Installing.{IsBegun}
+use Rattle.kl1_effects.specs.declared.draft.Draft.{Draft}
+use Rattle.kl1_effects.specs.declared.draft.Spelled.{Spelled}
+use Rattle.kl1_effects.specs.Fitting.{Reading, Fits}
+use Rattle.kl1_effects.specs.Account.{Account, Means, meaning, task_with, goal_with, aim, aim_with, state_of, texts_of}
+use Rattle.kl1_effects.specs.Kept.{IsTaskIn, IsOwned}
+use Rattle.kl1_effects.specs.Works.{Made, IsMadeIn, Knows, worked}
+use Rattle.kl1_effects.specs.Calling.{keeps_names, name_of}
+use Rattle.kl1_effects.specs.Drafts.{made_of}
+use Rattle.kl1_effects.specs.Installing.{IsBegun}
 use Rattle.kl1_account.specs.Keeping.{IsKept}
-use Rattle.kl1_account.specs.Acting.{Reads}
-use Rattle.kl1_account.specs.Moving.{name_for}
-use Rattle.kl1_account.specs.Spelling.{IsNamedBy, IsPublishedBy, Does, ReadsAll, ReadsNew, ReadsText, Respells}
+use Rattle.kl1_acts.specs.Acting.{Reads}
+use Rattle.kl1_effects.specs.Moving.{name_for}
+use Rattle.kl1_acts.specs.Spelling.{IsNamedBy, IsPublishedBy, Does, ReadsAll, ReadsNew, ReadsText, Respells}
 use Rattle.kl1_account.specs.Reducing.{IsSteppable, IsMade, HeardAs, move_at}
 use Rattle.kl1_account.proofs.LookedAt.{filter_holds}
 use Rattle.kl1_account.proofs.Named.{IsAtomAt, atom_at, otherwise, otherwise_fits, otherwise_other, both_read, first_read, second_read, as_modules, fits_modules, modules_fit}

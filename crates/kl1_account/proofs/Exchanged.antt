@@ -22,14 +22,14 @@ use Rattle.kl1_shoen.specs.Shoens.{shoen_in}
 use Rattle.kl1_modules.specs.Numbered.{Numbered}
 use Rattle.kl1_modules.specs.Finding.{contents}
 use Rattle.kl1_moves.specs.Hanging.{HangsOnEach}
-use Rattle.kl1_account.specs.Fitting.{Reading, Fits, built}
-use Rattle.kl1_account.specs.Account.{Means, meaning, task_with, goal_with, shoen_with, texts_of}
-use Rattle.kl1_account.specs.Naming.{AreSmall}
-use Rattle.kl1_account.specs.Calling.{spare}
-use Rattle.kl1_account.specs.Settled.{control_with, task_clause, awaited_by_task, IsSettled, AreSettled}
-use Rattle.kl1_account.proofs.KnownNames.{not_known}
-use Rattle.kl1_account.proofs.States.{found_in}
-use Rattle.kl1_account.proofs.DraftRows.{by_text}
+use Rattle.kl1_effects.specs.Fitting.{Reading, Fits, built}
+use Rattle.kl1_effects.specs.Account.{Means, meaning, task_with, goal_with, shoen_with, texts_of}
+use Rattle.kl1_effects.specs.Naming.{AreSmall}
+use Rattle.kl1_effects.specs.Calling.{spare}
+use Rattle.kl1_effects.specs.Settled.{control_with, task_clause, awaited_by_task, IsSettled, AreSettled}
+use Rattle.kl1_effects.proofs.KnownNames.{not_known}
+use Rattle.kl1_effects.proofs.States.{found_in}
+use Rattle.kl1_effects.proofs.DraftRows.{by_text}
 
 -- ---- two numbers, each in place of the other
 

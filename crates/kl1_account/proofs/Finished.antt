@@ -14,15 +14,15 @@ use Rattle.kl1_goals.specs.Tables.{Tabled, AreBefore, IsNext}
 use Rattle.kl1_shoen.specs.declared.shoen.Shoen.{Shoen}
 use Rattle.kl1_shoen.specs.Shoens.{Tree, AreNumbered, is_enabled_at}
 use Rattle.kl1_modules.specs.Numbered.{Numbered}
-use Rattle.kl1_account.specs.declared.draft.Draft.{Draft}
-use Rattle.kl1_account.specs.Account.{Means, goal_with}
-use Rattle.kl1_account.specs.Kept.{IsTaskIn, IsOwned, AreOwned}
-use Rattle.kl1_account.specs.Drafts.{without_monitors, restood, goals_left}
-use Rattle.kl1_account.specs.Settled.{IsSettled, IsEnabled, AreEnabled}
+use Rattle.kl1_effects.specs.declared.draft.Draft.{Draft}
+use Rattle.kl1_effects.specs.Account.{Means, goal_with}
+use Rattle.kl1_effects.specs.Kept.{IsTaskIn, IsOwned, AreOwned}
+use Rattle.kl1_effects.specs.Drafts.{without_monitors, restood, goals_left}
+use Rattle.kl1_effects.specs.Settled.{IsSettled, IsEnabled, AreEnabled}
 use Rattle.kl1_account.specs.Looking.{unlooked}
-use Rattle.kl1_account.specs.Installing.{AreNext, shifted, goals_after}
+use Rattle.kl1_effects.specs.Installing.{AreNext, shifted, goals_after}
 use Rattle.kl1_account.specs.Finishing.{goals_placed, SettlesTo, LooksAgain, SameFlags, ShiftsFor, EnablesTo, Finishes}
-use Rattle.kl1_account.proofs.Goals.{filter_append}
+use Rattle.kl1_effects.proofs.Goals.{filter_append}
 use Rattle.kl1_account.proofs.Restood.{each_append, each_part, restood_holds, restood_read}
 use Rattle.kl1_account.proofs.LookedAt.{filter_holds, left_holds}
 

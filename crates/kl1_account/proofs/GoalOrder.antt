@@ -7,7 +7,7 @@ use Rattle.kl1_text.specs.declared.cell_name.CellName.{CellName}
 use Rattle.kl1_goals.specs.declared.goal.Goal.{Goal}
 use Rattle.kl1_goals.specs.Lists.{number_of, has_number, is_after}
 use Rattle.kl1_goals.specs.Tables.{Ascend}
-use Rattle.kl1_account.specs.Kept.{AreUpTo}
+use Rattle.kl1_effects.specs.Kept.{AreUpTo}
 use Rattle.kl1_account.proofs.Restood.{each_is}
 
 -- this is the first goal with a number of at least so much, as far as another one is concerned

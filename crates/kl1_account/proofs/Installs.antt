@@ -4,10 +4,10 @@ use Rattle.std.specs.Prelude.{filter}
 use Rattle.kl1_text.specs.declared.cell_name.CellName.{CellName}
 use Rattle.kl1_goals.specs.declared.goal.Goal.{Goal}
 use Rattle.kl1_goals.specs.Lists.{is_flagged, is_other}
-use Rattle.kl1_account.specs.declared.draft.Change.{Change}
-use Rattle.kl1_account.specs.Drafts.{without_monitors, restood}
-use Rattle.kl1_account.specs.Installing.{AreNext}
-use Rattle.kl1_account.proofs.Goals.{all_stay}
+use Rattle.kl1_effects.specs.declared.draft.Change.{Change}
+use Rattle.kl1_effects.specs.Drafts.{without_monitors, restood}
+use Rattle.kl1_effects.specs.Installing.{AreNext}
+use Rattle.kl1_effects.proofs.Goals.{all_stay}
 
 -- without flags each goal stays
 pub empty_flags : (flags : List Bool) (gs : List (Goal CellName)) → length flags ≡ 0 → gs ≡ filter (λ g. not (is_flagged flags g)) gs

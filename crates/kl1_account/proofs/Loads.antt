@@ -30,22 +30,22 @@ use Rattle.kl1_modules.specs.Finding.{contents, is_numbered, TellsModule}
 use Rattle.kl1_modules.proofs.Names.{number_reads}
 use Rattle.kl1_modules.proofs.Shelving.{tells}
 use Rattle.kl1_moves.specs.Hanging.{HangsOnEach}
-use Rattle.kl1_account.specs.declared.draft.Change.{Change}
+use Rattle.kl1_effects.specs.declared.draft.Change.{Change}
 use Rattle.kl1_account.specs.declared.loading.Loading.{Loading}
 use Rattle.kl1_account.specs.declared.loading.Loading.TheVariants.{Refused, Drafted}
 use Rattle.kl1_event.specs.declared.refusal.Refusal.{Refusal}
 use Rattle.kl1_event.specs.Views.{refusal_of}
 use Rattle.kl1_event.specs.declared.refusal.Refusal.TheVariants.{Exists, Names, Limit, Journal}
-use Rattle.kl1_account.specs.Fitting.{Reading, Fits, built}
-use Rattle.kl1_account.specs.Account.{Account, Means, meaning, task_with, goal_with, shoen_with, texts_of, state_of}
-use Rattle.kl1_account.specs.Naming.{AreSmall, ReadsDraft, AreNumbersOf}
-use Rattle.kl1_account.specs.Works.{Knows}
-use Rattle.kl1_account.specs.Drafts.{restood_by, restood}
-use Rattle.kl1_account.specs.Kept.{IsTaskIn, IsOwned}
-use Rattle.kl1_account.specs.Settled.{front_with, control_with, task_clause, awaited_by_task, AreSettled, IsEnabled}
+use Rattle.kl1_effects.specs.Fitting.{Reading, Fits, built}
+use Rattle.kl1_effects.specs.Account.{Account, Means, meaning, task_with, goal_with, shoen_with, texts_of, state_of}
+use Rattle.kl1_effects.specs.Naming.{AreSmall, ReadsDraft, AreNumbersOf}
+use Rattle.kl1_effects.specs.Works.{Knows}
+use Rattle.kl1_effects.specs.Drafts.{restood_by, restood}
+use Rattle.kl1_effects.specs.Kept.{IsTaskIn, IsOwned}
+use Rattle.kl1_effects.specs.Settled.{front_with, control_with, task_clause, awaited_by_task, AreSettled, IsEnabled}
 use Rattle.kl1_account.specs.Keeping.{IsKept}
 use Rattle.kl1_account.specs.Loadings.{IsDraft, DraftsAs, IsDraftOf, LoadsAs, StandsIn, Settles}
-use Rattle.kl1_account.proofs.ModuleNames.{of_module}
+use Rattle.kl1_effects.proofs.ModuleNames.{of_module}
 use Rattle.kl1_account.proofs.Restood.{restood_holds, restood_read}
 
 -- ---- whether a drafted module may be loaded

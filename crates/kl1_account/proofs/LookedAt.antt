@@ -14,9 +14,9 @@ use Rattle.kl1_goals.specs.Lists.{is_other, has_number, is_monitor_of, is_flagge
 use Rattle.kl1_goals.specs.Tables.{Ascend, AreInOrder}
 use Rattle.kl1_shoen.specs.declared.shoen.Shoen.{Shoen}
 use Rattle.kl1_modules.specs.Numbered.{Numbered}
-use Rattle.kl1_account.specs.declared.draft.Draft.{Draft}
-use Rattle.kl1_account.specs.Drafts.{restood, without_monitors, goals_left}
-use Rattle.kl1_account.specs.Settled.{IsSettled, AreSettled}
+use Rattle.kl1_effects.specs.declared.draft.Draft.{Draft}
+use Rattle.kl1_effects.specs.Drafts.{restood, without_monitors, goals_left}
+use Rattle.kl1_effects.specs.Settled.{IsSettled, AreSettled}
 use Rattle.kl1_account.specs.Waking.{is_among, IsSettledOr, AreSettledOr, KeepControls}
 use Rattle.kl1_account.specs.Looking.{AreOthersOf, WakesTold, LooksAtAdded}
 use Rattle.kl1_account.specs.Finishing.{SettlesTo, goals_placed}

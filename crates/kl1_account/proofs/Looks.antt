@@ -32,14 +32,14 @@ use Rattle.kl1_modules.specs.Numbered.{Numbered}
 use Rattle.kl1_modules.specs.Finding.{contents, Finds}
 use Rattle.kl1_moves.specs.Hanging.{HangsOnEach}
 use Rattle.kl1_moves.proofs.Hooked.{hangs_on_same}
-use Rattle.kl1_account.specs.declared.draft.Change.{Change}
-use Rattle.kl1_account.specs.Fitting.{Reading, built}
-use Rattle.kl1_account.specs.Account.{meaning, aim}
-use Rattle.kl1_account.specs.Works.{Knows}
-use Rattle.kl1_account.specs.Settled.{control_at, front_with, monitor_clause, awaited_by_monitor, IsEnabled}
+use Rattle.kl1_effects.specs.declared.draft.Change.{Change}
+use Rattle.kl1_effects.specs.Fitting.{Reading, built}
+use Rattle.kl1_effects.specs.Account.{meaning, aim}
+use Rattle.kl1_effects.specs.Works.{Knows}
+use Rattle.kl1_effects.specs.Settled.{control_at, front_with, monitor_clause, awaited_by_monitor, IsEnabled}
 use Rattle.kl1_account.specs.Looking.{Serves, calls_same, StandsBy, HearsAt, StandsAt, FindsOut, unlooked, LooksAtOne}
 use Rattle.kl1_store.specs.InModules.{qualified_term}
-use Rattle.kl1_account.proofs.Aims.{kind_at}
+use Rattle.kl1_effects.proofs.Aims.{kind_at}
 use Rattle.kl1_account.proofs.Waking.{found_out}
 
 -- the predicate of a call is what was found of it, or none

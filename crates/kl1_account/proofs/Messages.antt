@@ -25,13 +25,13 @@ use Rattle.kl1_shoen.specs.declared.shoen.Shoen.{Shoen}
 use Rattle.kl1_shoen.specs.Shoens.{shoen_in, changed, lives_in}
 use Rattle.kl1_shoen.specs.Changes.{with_control}
 use Rattle.kl1_event.specs.declared.refusal.Refusal.TheVariants.{Syntax, NoShoen, Ended, Limit, Journal}
-use Rattle.kl1_account.specs.declared.draft.Draft.{Draft}
-use Rattle.kl1_account.specs.Fitting.{built}
-use Rattle.kl1_account.specs.Account.{Means, meaning, origin_with, shoen_with, state_with, with_kept}
-use Rattle.kl1_account.specs.Kept.{IsOriginIn, AreShoensIn}
+use Rattle.kl1_effects.specs.declared.draft.Draft.{Draft}
+use Rattle.kl1_effects.specs.Fitting.{built}
+use Rattle.kl1_effects.specs.Account.{Means, meaning, origin_with, shoen_with, state_with, with_kept}
+use Rattle.kl1_effects.specs.Kept.{IsOriginIn, AreShoensIn}
 use Rattle.kl1_account.specs.Sending.{bare, AreAlike, Counts, Refuses, Allows, PutsOn}
-use Rattle.kl1_account.proofs.States.{same_state, replaced_state, found_in, changed_in, shoens_grown, shoens_changed}
-use Rattle.kl1_account.proofs.Works.{next_in}
+use Rattle.kl1_effects.proofs.States.{same_state, replaced_state, found_in, changed_in, shoens_grown, shoens_changed}
+use Rattle.kl1_effects.proofs.Works.{next_in}
 use Rattle.kl1_account.proofs.Origins.{kept_at}
 
 -- ---- when a message is refused

@@ -5,7 +5,7 @@ use Rattle.kl1_model.specs.Control.{Control, awaits_message, tells, tells_other,
 use Rattle.kl1_model.specs.Waits.{LeavesEach}
 use Rattle.kl1_model.specs.WaitsLaws.{control_substituted}
 use Rattle.kl1_model.proofs.ControlStays.{control_stays}
-use Rattle.kl1_account.specs.Settled.{control_clause}
+use Rattle.kl1_effects.specs.Settled.{control_clause}
 
 same_clause : (s : ℕ → Term) (c : Control) → control_clause (control_substituted s c) ≡ control_clause c
 same_clause s (awaits_message v) = refl

@@ -25,9 +25,9 @@ use Rattle.kl1_store.specs.Sound.{IsFormed, IsBoundTo}
 use Rattle.kl1_store.proofs.Terms.{term_of-Integer, term_of-Atom, term_of-unbound, term_of-Structure}
 use Rattle.kl1_store.proofs.Walking.{found_itself, bound_at}
 use Rattle.kl1_modules.specs.Numbered.{Numbered, IsRead, AreRead}
-use Rattle.kl1_account.specs.Fitting.{Reading, Fits, built}
-use Rattle.kl1_account.specs.Account.{meaning}
-use Rattle.kl1_account.proofs.KnownNames.{not_known}
+use Rattle.kl1_effects.specs.Fitting.{Reading, Fits, built}
+use Rattle.kl1_effects.specs.Account.{meaning}
+use Rattle.kl1_effects.proofs.KnownNames.{not_known}
 
 -- ---- cells that are atoms
 

@@ -21,10 +21,10 @@ use Rattle.kl1_goals.specs.declared.goal.Goal.{Goal}
 use Rattle.kl1_shoen.specs.declared.shoen.Shoen.{Shoen}
 use Rattle.kl1_shoen.specs.Shoens.{AreNumbered}
 use Rattle.kl1_account.specs.declared.opening.Streams.{Streams}
-use Rattle.kl1_account.specs.Account.{Means, goal_with, shoen_with, state_with}
-use Rattle.kl1_account.specs.Kept.{AreGoalsIn, AreShoensIn}
+use Rattle.kl1_effects.specs.Account.{Means, goal_with, shoen_with, state_with}
+use Rattle.kl1_effects.specs.Kept.{AreGoalsIn, AreShoensIn}
 use Rattle.kl1_account.specs.Starting.{Opens, tells, tells_at, first_streams, streams_opened, two_goals, shoen_opened}
-use Rattle.kl1_account.proofs.States.{Agree, same_goals, same_shoens, replaced_state}
+use Rattle.kl1_effects.proofs.States.{Agree, same_goals, same_shoens, replaced_state}
 use Rattle.kl1_account.proofs.Beyond.{absent_next}
 use Rattle.kl1_account.proofs.Streaming.{started_on, broken_first, first_told}
 

@@ -7,14 +7,15 @@ use Rattle.kl1_model.specs.State.{shoen_at}
 use Rattle.kl1_model.specs.Event.{no_shoen, syntax, shown, refuse, read, value, Stepped, is_number}
 use Rattle.kl1_model.specs.Asking.{value_of}
 use Rattle.kl1_model.specs.Step.{step, origin_at}
+use Rattle.kl1_event.specs.Whole.{whole_of, whole_value}
 use Rattle.kl1_text.specs.declared.cell_name.CellName.{CellName}
 use Rattle.kl1_store.specs.Held.{Held}
 use Rattle.kl1_shoen.specs.declared.shoen.Origin.{Origin}
 use Rattle.kl1_shoen.specs.declared.shoen.Shoen.{Shoen}
 use Rattle.kl1_shoen.specs.Shoens.{has_number}
-use Rattle.kl1_account.specs.Fitting.{Reading}
-use Rattle.kl1_account.specs.Account.{Account, Means, meaning, origin_with, shoen_with, state_of}
-use Rattle.kl1_account.specs.Kept.{IsKeptIn, IsOriginIn, AreShoensIn}
+use Rattle.kl1_effects.specs.Fitting.{Reading}
+use Rattle.kl1_effects.specs.Account.{Account, Means, meaning, origin_with, shoen_with, state_of}
+use Rattle.kl1_effects.specs.Kept.{IsKeptIn, IsOriginIn, AreShoensIn}
 
 -- what the console keeps of the shoen of a number
 abbrev pub kept_at : ℕ → List (Shoen CellName) → Option (Origin CellName)
@@ -63,3 +64,11 @@ reads_none f a n b e = reads_as f a n None b e
 -- where something is kept
 pub reads_some : (f : Reading) (a : Account) (n : ℕ) (o : Origin CellName) (text : List ℕ) → is_number n ≡ true → kept_at n a.shoens ≡ Some o → text ≡ cut_text 4000 (print (meaning f a.held o.goal)) → step (state_of f a) (read (value n)) ≡ record { state = state_of f a; reply = shown text }
 reads_some f a n o text b e is = reads_as f a n (Some o) b e ∙ ap (λ (t : List ℕ). let z : Stepped = record { state = state_of f a; reply = shown t } in z) (sym is)
+
+-- nothing is shown whole where nothing is kept
+pub whole_none : (f : Reading) (a : Account) (n : ℕ) → kept_at n a.shoens ≡ None → None ≡ whole_value (state_of f a) n
+whole_none f a n e = sym (ap whole_of (origin_is f a n None e))
+
+-- what is kept is shown whole
+pub whole_some : (f : Reading) (a : Account) (n : ℕ) (o : Origin CellName) (text : List ℕ) → kept_at n a.shoens ≡ Some o → text ≡ print (meaning f a.held o.goal) → Some text ≡ whole_value (state_of f a) n
+whole_some f a n o text e is = ap Some is ∙ sym (ap whole_of (origin_is f a n (Some o) e))

@@ -11,13 +11,13 @@ use Rattle.kl1_goals.specs.declared.goal.Goal.{Goal}
 use Rattle.kl1_goals.specs.Lists.{is_other, is_flagged}
 use Rattle.kl1_shoen.specs.declared.shoen.Shoen.{Shoen}
 use Rattle.kl1_shoen.specs.Shoens.{Tree}
-use Rattle.kl1_account.specs.declared.draft.Draft.{Draft}
-use Rattle.kl1_account.specs.Fitting.{Reading}
-use Rattle.kl1_account.specs.Account.{Account, meaning, goal_with, state_of, texts_of}
-use Rattle.kl1_account.specs.Works.{Made, worked}
-use Rattle.kl1_account.specs.Drafts.{staying, goals_left, names_with, made_of}
-use Rattle.kl1_account.specs.Installing.{IsBegun}
-use Rattle.kl1_account.proofs.Goals.{all_stay, others_read}
+use Rattle.kl1_effects.specs.declared.draft.Draft.{Draft}
+use Rattle.kl1_effects.specs.Fitting.{Reading}
+use Rattle.kl1_effects.specs.Account.{Account, meaning, goal_with, state_of, texts_of}
+use Rattle.kl1_effects.specs.Works.{Made, worked}
+use Rattle.kl1_effects.specs.Drafts.{staying, goals_left, names_with, made_of}
+use Rattle.kl1_effects.specs.Installing.{IsBegun}
+use Rattle.kl1_effects.proofs.Goals.{all_stay, others_read}
 
 -- where no goal has the number 0, none goes with it
 pub none_goes : (gs : List (Goal CellName)) → AllByRecursion (λ g. 0 < g.number) gs → filter (is_other 0) gs ≡ gs

@@ -12,10 +12,10 @@ use Rattle.kl1_goals.specs.Tables.{AreInOrder}
 use Rattle.kl1_shoen.specs.declared.shoen.Shoen.{Shoen}
 use Rattle.kl1_modules.specs.Numbered.{Numbered}
 use Rattle.kl1_moves.specs.Hanging.{AreAmong}
-use Rattle.kl1_account.specs.declared.draft.Change.{Change}
-use Rattle.kl1_account.specs.Fitting.{Reading}
-use Rattle.kl1_account.specs.Drafts.{restood, restood_by}
-use Rattle.kl1_account.specs.Settled.{IsSettled}
+use Rattle.kl1_effects.specs.declared.draft.Change.{Change}
+use Rattle.kl1_effects.specs.Fitting.{Reading}
+use Rattle.kl1_effects.specs.Drafts.{restood, restood_by}
+use Rattle.kl1_effects.specs.Settled.{IsSettled}
 use Rattle.kl1_account.specs.Waking.{IsFoundOut}
 use Rattle.kl1_account.specs.Looking.{FindsOut, IsReached, LooksBelow, LooksAtAll}
 use Rattle.kl1_account.proofs.SettledStays.{settled_more}

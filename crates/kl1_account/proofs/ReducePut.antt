@@ -12,13 +12,13 @@ use Rattle.kl1_goals.specs.Tables.{Tabled}
 use Rattle.kl1_shoen.specs.Shoens.{Tree}
 use Rattle.kl1_event.specs.declared.refusal.Refusal.{Refusal}
 use Rattle.kl1_event.specs.Views.{reduced_or, refusal_of}
-use Rattle.kl1_account.specs.declared.draft.Draft.{Draft}
-use Rattle.kl1_account.specs.Fitting.{Reading, Fits}
-use Rattle.kl1_account.specs.Account.{Account, state_of}
-use Rattle.kl1_account.specs.Works.{Knows}
-use Rattle.kl1_account.specs.Installing.{IsFitting, goals_after}
+use Rattle.kl1_effects.specs.declared.draft.Draft.{Draft}
+use Rattle.kl1_effects.specs.Fitting.{Reading, Fits}
+use Rattle.kl1_effects.specs.Account.{Account, state_of}
+use Rattle.kl1_effects.specs.Works.{Knows}
+use Rattle.kl1_effects.specs.Installing.{IsFitting, goals_after}
 use Rattle.kl1_account.specs.Keeping.{IsKept}
-use Rattle.kl1_account.specs.Spelling.{IsPublished}
+use Rattle.kl1_acts.specs.Spelling.{IsPublished}
 use Rattle.kl1_account.specs.Reducing.{account_at, named_in, IsReduced, IsRefused, ReducesAs}
 use Rattle.kl1_account.proofs.Sent.{as_was}
 

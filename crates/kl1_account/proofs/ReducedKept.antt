@@ -17,24 +17,24 @@ use Rattle.kl1_goals.specs.declared.goal.Goal.{Goal}
 use Rattle.kl1_goals.specs.Tables.{Tabled}
 use Rattle.kl1_shoen.specs.declared.shoen.Shoen.{Shoen}
 use Rattle.kl1_shoen.specs.Shoens.{Tree, is_enabled_at}
-use Rattle.kl1_account.specs.declared.draft.Draft.{Draft}
-use Rattle.kl1_account.specs.declared.draft.Spelled.{Spelled}
-use Rattle.kl1_account.specs.Fitting.{Reading, Fits}
-use Rattle.kl1_account.specs.Account.{Account, meaning, goal_with, state_of, texts_of}
-use Rattle.kl1_account.specs.Kept.{AreGoalsIn, AreOwned, AreUpTo, AreShoensIn}
-use Rattle.kl1_account.specs.Works.{worked}
-use Rattle.kl1_account.specs.Drafts.{goals_left, names_with, made_of}
-use Rattle.kl1_account.specs.Installing.{IsBegun, goals_after}
-use Rattle.kl1_account.specs.Settled.{AreSettled}
+use Rattle.kl1_effects.specs.declared.draft.Draft.{Draft}
+use Rattle.kl1_effects.specs.declared.draft.Spelled.{Spelled}
+use Rattle.kl1_effects.specs.Fitting.{Reading, Fits}
+use Rattle.kl1_effects.specs.Account.{Account, meaning, goal_with, state_of, texts_of}
+use Rattle.kl1_effects.specs.Kept.{AreGoalsIn, AreOwned, AreUpTo, AreShoensIn}
+use Rattle.kl1_effects.specs.Works.{worked}
+use Rattle.kl1_effects.specs.Drafts.{goals_left, names_with, made_of}
+use Rattle.kl1_effects.specs.Installing.{IsBegun, goals_after}
+use Rattle.kl1_effects.specs.Settled.{AreSettled}
 use Rattle.kl1_account.specs.Keeping.{IsKept}
 use Rattle.kl1_account.specs.Waking.{KeepControls}
 use Rattle.kl1_account.specs.Finishing.{SameFlags, Finishes}
-use Rattle.kl1_account.specs.Leaving.{Leaves}
-use Rattle.kl1_account.specs.Calling.{IsNewName, spare}
-use Rattle.kl1_account.specs.Spelling.{IsSpelledIn, IsSparedIn, HasName, Respells, ReadsNew, IsPublished, IsPublishedBy}
+use Rattle.kl1_effects.specs.Leaving.{Leaves}
+use Rattle.kl1_effects.specs.Calling.{IsNewName, spare}
+use Rattle.kl1_acts.specs.Spelling.{IsSpelledIn, IsSparedIn, HasName, Respells, ReadsNew, IsPublished, IsPublishedBy}
 use Rattle.kl1_account.specs.Reducing.{named_in, IsReduced}
 use Rattle.kl1_account.proofs.Effected.{IsEffect}
-use Rattle.kl1_account.proofs.States.{goals_grown}
+use Rattle.kl1_effects.proofs.States.{goals_grown}
 use Rattle.kl1_account.proofs.Restood.{each_is}
 use Rattle.kl1_account.proofs.StartKept.{owned_more, up_to_more}
 use Rattle.kl1_account.proofs.Finished.{known_after, next_owned}

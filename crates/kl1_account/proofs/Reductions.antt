@@ -25,22 +25,22 @@ use Rattle.kl1_goals.specs.Lists.{number_of, has_number, is_other, is_monitor, i
 use Rattle.kl1_goals.specs.Tables.{Tabled, Ascend, AreInOrder, AreSingle}
 use Rattle.kl1_shoen.specs.declared.shoen.Shoen.{Shoen}
 use Rattle.kl1_shoen.specs.Shoens.{Tree, is_enabled_at}
-use Rattle.kl1_account.specs.declared.draft.Draft.{Draft}
-use Rattle.kl1_account.specs.declared.draft.Spelled.{Spelled}
-use Rattle.kl1_account.specs.Account.{Account, texts_of}
-use Rattle.kl1_account.specs.Kept.{AreOwned, AreShoensIn}
-use Rattle.kl1_account.specs.Drafts.{goals_left}
-use Rattle.kl1_account.specs.Installing.{IsBegun}
-use Rattle.kl1_account.specs.Settled.{IsEnabled}
+use Rattle.kl1_effects.specs.declared.draft.Draft.{Draft}
+use Rattle.kl1_effects.specs.declared.draft.Spelled.{Spelled}
+use Rattle.kl1_effects.specs.Account.{Account, texts_of}
+use Rattle.kl1_effects.specs.Kept.{AreOwned, AreShoensIn}
+use Rattle.kl1_effects.specs.Drafts.{goals_left}
+use Rattle.kl1_effects.specs.Installing.{IsBegun}
+use Rattle.kl1_effects.specs.Settled.{IsEnabled}
 use Rattle.kl1_account.specs.Waking.{is_among, KeepControls}
-use Rattle.kl1_account.specs.Outlines.{KeepsOthers}
-use Rattle.kl1_account.specs.Leaving.{Leaves, IsHeard}
+use Rattle.kl1_effects.specs.Outlines.{KeepsOthers}
+use Rattle.kl1_effects.specs.Leaving.{Leaves, IsHeard}
 use Rattle.kl1_account.specs.Finishing.{Finishes}
 use Rattle.kl1_account.specs.Keeping.{IsKept}
-use Rattle.kl1_account.specs.Acting.{Reads}
-use Rattle.kl1_account.specs.Calling.{keeps_names, name_of, IsNewName}
-use Rattle.kl1_account.specs.Moving.{name_for}
-use Rattle.kl1_account.specs.Spelling.{IsSpelledIn, IsSparedIn, HasName, Does}
+use Rattle.kl1_acts.specs.Acting.{Reads}
+use Rattle.kl1_effects.specs.Calling.{keeps_names, name_of, IsNewName}
+use Rattle.kl1_effects.specs.Moving.{name_for}
+use Rattle.kl1_acts.specs.Spelling.{IsSpelledIn, IsSparedIn, HasName, Does}
 use Rattle.kl1_account.specs.Reducing.{IsSteppable, IsMade, HeardAs, IsReduced}
 use Rattle.kl1_account.proofs.PutIn.{begun_left}
 use Rattle.kl1_account.proofs.Steps.{found_holds}

@@ -11,10 +11,10 @@ use Rattle.kl1_goals.specs.declared.task.Task.TheVariants.{Monitor, Reduces}
 use Rattle.kl1_goals.specs.declared.goal.Goal.{Goal}
 use Rattle.kl1_shoen.specs.declared.shoen.Origin.{Origin}
 use Rattle.kl1_shoen.specs.declared.shoen.Shoen.{Shoen}
-use Rattle.kl1_account.specs.declared.draft.Spelled.{Spelled}
-use Rattle.kl1_account.specs.Kept.{IsTaskIn, AreGoalsIn, IsOriginIn, AreShoensIn}
-use Rattle.kl1_account.specs.Calling.{spare}
-use Rattle.kl1_account.specs.Spelling.{IsSpelledIn, IsSparedIn, Respells}
+use Rattle.kl1_effects.specs.declared.draft.Spelled.{Spelled}
+use Rattle.kl1_effects.specs.Kept.{IsTaskIn, AreGoalsIn, IsOriginIn, AreShoensIn}
+use Rattle.kl1_effects.specs.Calling.{spare}
+use Rattle.kl1_acts.specs.Spelling.{IsSpelledIn, IsSparedIn, Respells}
 
 -- ---- cells of such stores
 

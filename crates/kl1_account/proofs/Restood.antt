@@ -6,9 +6,9 @@ use Rattle.kl1_model.specs.State as model
 use Rattle.kl1_text.specs.declared.cell_name.CellName.{CellName}
 use Rattle.kl1_goals.specs.declared.task.Task.{Task}
 use Rattle.kl1_goals.specs.declared.goal.Goal.{Goal}
-use Rattle.kl1_account.specs.declared.draft.Change.{Change}
-use Rattle.kl1_account.specs.Account.{Means, goal_with}
-use Rattle.kl1_account.specs.Drafts.{restood_by, restood}
+use Rattle.kl1_effects.specs.declared.draft.Change.{Change}
+use Rattle.kl1_effects.specs.Account.{Means, goal_with}
+use Rattle.kl1_effects.specs.Drafts.{restood_by, restood}
 
 -- a fact of each goal's number and task
 abbrev pub AllTasks : (ℕ → Task CellName → Type 0) → List (Goal CellName) → Type 0

@@ -29,21 +29,21 @@ use Rattle.kl1_shoen.specs.Shoens as shoens
 use Rattle.kl1_modules.specs.Numbered.{Numbered}
 use Rattle.kl1_event.specs.declared.refusal.Refusal.{Refusal}
 use Rattle.kl1_event.specs.Views.{refusal_of}
-use Rattle.kl1_account.specs.declared.draft.Draft.{Draft}
-use Rattle.kl1_account.specs.declared.draft.Change.{Change}
-use Rattle.kl1_account.specs.Fitting.{Reading, Fits, built}
-use Rattle.kl1_account.specs.Account.{Account, meaning, with_kept, state_of}
-use Rattle.kl1_account.specs.Kept.{IsTaskIn, IsOwned, AreOwned, AreGoalsIn, AreShoensIn}
+use Rattle.kl1_effects.specs.declared.draft.Draft.{Draft}
+use Rattle.kl1_effects.specs.declared.draft.Change.{Change}
+use Rattle.kl1_effects.specs.Fitting.{Reading, Fits, built}
+use Rattle.kl1_effects.specs.Account.{Account, meaning, with_kept, state_of}
+use Rattle.kl1_effects.specs.Kept.{IsTaskIn, IsOwned, AreOwned, AreGoalsIn, AreShoensIn}
 use Rattle.kl1_account.specs.Keeping.{IsKept}
-use Rattle.kl1_account.specs.Works.{Knows}
-use Rattle.kl1_account.specs.Drafts.{restood, staying}
-use Rattle.kl1_account.specs.Installing.{IsBegun, goals_after}
-use Rattle.kl1_account.specs.Settled.{control_at, AreSettled, IsEnabled, AreEnabled}
+use Rattle.kl1_effects.specs.Works.{Knows}
+use Rattle.kl1_effects.specs.Drafts.{restood, staying}
+use Rattle.kl1_effects.specs.Installing.{IsBegun, goals_after}
+use Rattle.kl1_effects.specs.Settled.{control_at, AreSettled, IsEnabled, AreEnabled}
 use Rattle.kl1_account.specs.Waking.{is_among, KeepControls}
 use Rattle.kl1_account.specs.Looking.{AreOthersOf, WakesTold}
 use Rattle.kl1_account.specs.Sending.{bare, AreAlike, Allows, PutsOn, IsSent, IsRefused, SendsAs}
-use Rattle.kl1_account.proofs.Goals.{all_stay}
-use Rattle.kl1_account.proofs.States.{goals_grown}
+use Rattle.kl1_effects.proofs.Goals.{all_stay}
+use Rattle.kl1_effects.proofs.States.{goals_grown}
 use Rattle.kl1_account.proofs.Restood.{restood_holds, restood_read}
 use Rattle.kl1_account.proofs.Waking.{AreTold, told_are_pending}
 

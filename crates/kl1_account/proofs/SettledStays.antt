@@ -25,11 +25,11 @@ use Rattle.kl1_shoen.specs.Shoens.{shoen_in}
 use Rattle.kl1_modules.specs.Numbered.{Numbered}
 use Rattle.kl1_modules.specs.Finding.{contents}
 use Rattle.kl1_moves.specs.Hanging.{HangsOnEach}
-use Rattle.kl1_account.specs.Fitting.{Reading}
-use Rattle.kl1_account.specs.Account.{meaning, task_with, aim}
-use Rattle.kl1_account.specs.Kept.{IsTaskIn, AreShoensIn}
-use Rattle.kl1_account.specs.Settled.{control_at, front_with, control_with, control_clause, monitor_clause, awaited_by_monitor, task_clause, awaited_by_task, IsSettled}
-use Rattle.kl1_account.proofs.Aims.{aim_later}
+use Rattle.kl1_effects.specs.Fitting.{Reading}
+use Rattle.kl1_effects.specs.Account.{meaning, task_with, aim}
+use Rattle.kl1_effects.specs.Kept.{IsTaskIn, AreShoensIn}
+use Rattle.kl1_effects.specs.Settled.{control_at, front_with, control_with, control_clause, monitor_clause, awaited_by_monitor, task_clause, awaited_by_task, IsSettled}
+use Rattle.kl1_effects.proofs.Aims.{aim_later}
 
 -- a number hangs on no variable of these
 abbrev pub HangsOnNone : List Hook → ℕ → List ℕ → Type 0

@@ -17,8 +17,8 @@ use Rattle.kl1_store.proofs.Terms.{term_of-Integer, term_of-Atom, term_of-unboun
 use Rattle.kl1_store.proofs.Tops.{AreWithin-append, AreWithin-left, AreWithin-reverse, AreWithin-back}
 use Rattle.kl1_account.specs.declared.top.Top.{Top}
 use Rattle.kl1_account.specs.declared.top.Top.TheVariants as top
-use Rattle.kl1_account.specs.Fitting.{Reading}
-use Rattle.kl1_account.specs.Account.{meaning}
+use Rattle.kl1_effects.specs.Fitting.{Reading}
+use Rattle.kl1_effects.specs.Account.{meaning}
 use Rattle.kl1_account.specs.Tops.{node_with, count_at, stacked_terms, weight, ReadsTop, IsNext, Takes}
 
 -- an argument more on a stack

@@ -22,11 +22,11 @@ use Rattle.kl1_shoen.specs.declared.shoen.Shoen.{Shoen}
 use Rattle.kl1_shoen.specs.Shoens.{AreNumbered, is_enabled_at}
 use Rattle.kl1_shoen.proofs.Numbered.{numbered_push}
 use Rattle.kl1_account.specs.declared.opening.Opening.{Opening}
-use Rattle.kl1_account.specs.Fitting.{Reading, Fits}
-use Rattle.kl1_account.specs.Account.{Account, Means, task_with, goal_with, state_of}
-use Rattle.kl1_account.specs.Kept.{AreGoalsIn, AreOwned, AreUpTo, IsShoenIn, AreShoensIn}
+use Rattle.kl1_effects.specs.Fitting.{Reading, Fits}
+use Rattle.kl1_effects.specs.Account.{Account, Means, task_with, goal_with, state_of}
+use Rattle.kl1_effects.specs.Kept.{AreGoalsIn, AreOwned, AreUpTo, IsShoenIn, AreShoensIn}
 use Rattle.kl1_account.specs.Starting.{two_goals, shoen_opened}
-use Rattle.kl1_account.proofs.States.{in_grown, goals_grown, shoens_grown}
+use Rattle.kl1_effects.proofs.States.{in_grown, goals_grown, shoens_grown}
 use Rattle.kl1_account.proofs.Started.{IsFirm, IsStart, started_state}
 
 -- ---- lists that are one or two longer

@@ -43,14 +43,14 @@ use Rattle.kl1_account.specs.declared.counted.Counted.{Counted}
 use Rattle.kl1_account.specs.declared.startable.Starting.{Starting}
 use Rattle.kl1_account.specs.declared.startable.Starting.TheVariants.{Refused}
 use Rattle.kl1_account.specs.declared.opening.Opening.{Opening}
-use Rattle.kl1_account.specs.Fitting.{Reading, Fits}
-use Rattle.kl1_account.specs.Account.{Account, meaning, task_with, state_of, texts_of}
-use Rattle.kl1_account.specs.Kept.{IsTaskIn, AreGoalsIn, AreOwned, AreShoensIn}
-use Rattle.kl1_account.specs.Settled.{control_at, front_with, control_with, monitor_clause, awaited_by_monitor, task_clause, awaited_by_task, IsSettled, AreSettled, IsEnabled, AreEnabled}
+use Rattle.kl1_effects.specs.Fitting.{Reading, Fits}
+use Rattle.kl1_effects.specs.Account.{Account, meaning, task_with, state_of, texts_of}
+use Rattle.kl1_effects.specs.Kept.{IsTaskIn, AreGoalsIn, AreOwned, AreShoensIn}
+use Rattle.kl1_effects.specs.Settled.{control_at, front_with, control_with, monitor_clause, awaited_by_monitor, task_clause, awaited_by_task, IsSettled, AreSettled, IsEnabled, AreEnabled}
 use Rattle.kl1_account.specs.Keeping.{IsKept}
-use Rattle.kl1_account.specs.Naming.{AreSmall, AreNumbersOf}
+use Rattle.kl1_effects.specs.Naming.{AreSmall, AreNumbersOf}
 use Rattle.kl1_account.specs.Starting.{HasNames, has_room_beside, StartsAs, IsDrafted, IsPlaced, two_goals, shoen_opened, hooks_on}
-use Rattle.kl1_account.proofs.States.{Agree, aims_same}
+use Rattle.kl1_effects.proofs.States.{Agree, aims_same}
 use Rattle.kl1_account.proofs.Restood.{each_append}
 use Rattle.kl1_account.proofs.SettledStays.{hung_more}
 use Rattle.kl1_account.proofs.Flags.{enabled_stays, found_new}

@@ -16,7 +16,7 @@ use Rattle.kl1_event.specs.declared.refusal.Refusal.TheVariants.{Names, Limit, J
 use Rattle.kl1_account.specs.declared.counted.Counted.{Counted}
 use Rattle.kl1_account.specs.declared.startable.Starting.{Starting}
 use Rattle.kl1_account.specs.declared.startable.Starting.TheVariants.{Refused, Coded}
-use Rattle.kl1_account.specs.Account.{texts_of}
+use Rattle.kl1_effects.specs.Account.{texts_of}
 use Rattle.kl1_account.specs.Starting.{HasNames, has_room_beside, IsStartable, StartsAs}
 use Rattle.kl1_account.proofs.NamesOnce.{collected}
 

@@ -27,12 +27,12 @@ use Rattle.kl1_shoen.specs.declared.shoen.Shoen.{Shoen}
 use Rattle.kl1_shoen.specs.Shoens.{AreNumbered, is_enabled_at}
 use Rattle.kl1_account.specs.declared.counted.Counted.{Counted}
 use Rattle.kl1_account.specs.declared.opening.Opening.{Opening}
-use Rattle.kl1_account.specs.Fitting.{Reading, Fits}
-use Rattle.kl1_account.specs.Account.{Account, meaning, goal_with, shoen_with, state_of, texts_of}
-use Rattle.kl1_account.specs.Naming.{AreNumbersOf}
-use Rattle.kl1_account.specs.Kept.{AreGoalsIn, AreShoensIn}
+use Rattle.kl1_effects.specs.Fitting.{Reading, Fits}
+use Rattle.kl1_effects.specs.Account.{Account, meaning, goal_with, shoen_with, state_of, texts_of}
+use Rattle.kl1_effects.specs.Naming.{AreNumbersOf}
+use Rattle.kl1_effects.specs.Kept.{AreGoalsIn, AreShoensIn}
 use Rattle.kl1_account.specs.Starting.{HasNames, IsStartable, streams_opened, IsDrafted, IsPlaced}
-use Rattle.kl1_account.proofs.States.{Agree, in_grown}
+use Rattle.kl1_effects.proofs.States.{Agree, in_grown}
 use Rattle.kl1_account.proofs.Beyond.{absent_beyond}
 use Rattle.kl1_account.proofs.Opened.{opens_with, start_opens}
 use Rattle.kl1_account.proofs.Streaming.{opens_same}

@@ -23,10 +23,10 @@ use Rattle.kl1_shoen.specs.declared.shoen.Shoen.{Shoen}
 use Rattle.kl1_shoen.specs.Shoens.{has_number, AreNumbered, parents_in, charged_in, is_on_path_in}
 use Rattle.kl1_modules.specs.Numbered.{Numbered}
 use Rattle.kl1_modules.specs.Finding.{contents}
-use Rattle.kl1_account.specs.Account.{Means, task_with, goal_with, shoen_with, state_with}
-use Rattle.kl1_account.specs.Kept.{AreOwned}
+use Rattle.kl1_effects.specs.Account.{Means, task_with, goal_with, shoen_with, state_with}
+use Rattle.kl1_effects.specs.Kept.{AreOwned}
 use Rattle.kl1_account.specs.Asked.{condition_at, condition_by}
-use Rattle.kl1_account.proofs.States.{found_in}
+use Rattle.kl1_effects.proofs.States.{found_in}
 
 -- ---- the tree
 

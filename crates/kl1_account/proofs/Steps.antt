@@ -24,11 +24,11 @@ use Rattle.kl1_goals.specs.Lists.{has_number}
 use Rattle.kl1_shoen.specs.declared.shoen.Shoen.{Shoen}
 use Rattle.kl1_shoen.specs.Shoens.{shoen_in}
 use Rattle.kl1_modules.specs.Finding.{contents}
-use Rattle.kl1_account.specs.Fitting.{Reading}
-use Rattle.kl1_account.specs.Account.{Account, Means, meaning, task_with, goal_with, shoen_with, state_of, aim}
-use Rattle.kl1_account.specs.Settled.{IsEnabled, AreEnabled}
+use Rattle.kl1_effects.specs.Fitting.{Reading}
+use Rattle.kl1_effects.specs.Account.{Account, Means, meaning, task_with, goal_with, shoen_with, state_of, aim}
+use Rattle.kl1_effects.specs.Settled.{IsEnabled, AreEnabled}
 use Rattle.kl1_account.specs.Reducing.{IsSteppable, is_read}
-use Rattle.kl1_account.proofs.States.{found_in}
+use Rattle.kl1_effects.proofs.States.{found_in}
 use Rattle.kl1_account.proofs.Choosing.{enabled_read}
 
 -- ---- the goal of a number

@@ -18,10 +18,10 @@ use Rattle.kl1_store.proofs.Grows.{Grown-variable}
 use Rattle.kl1_store.proofs.Terms.{term_of-variable, term_of-structure, term_of-unbound, term_of-Atom}
 use Rattle.kl1_match.proofs.Places.{beyond_unbound}
 use Rattle.kl1_stream.proofs.Pairs.{with_pair, pair_means}
-use Rattle.kl1_account.specs.Fitting.{Reading, built}
-use Rattle.kl1_account.specs.Account.{meaning}
+use Rattle.kl1_effects.specs.Fitting.{Reading, built}
+use Rattle.kl1_effects.specs.Account.{meaning}
 use Rattle.kl1_account.specs.Starting.{Opens, tells, first_streams, streams_opened, IsLink, OpensStreams}
-use Rattle.kl1_account.proofs.States.{in_grown}
+use Rattle.kl1_effects.proofs.States.{in_grown}
 
 -- ---- a list cell that is built
 

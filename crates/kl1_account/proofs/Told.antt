@@ -12,11 +12,11 @@ use Rattle.kl1_goals.specs.Lists.{has_number}
 use Rattle.kl1_shoen.specs.declared.shoen.Shoen.{Shoen}
 use Rattle.kl1_modules.specs.Numbered.{Numbered}
 use Rattle.kl1_moves.specs.Hanging.{AreAmong}
-use Rattle.kl1_account.specs.declared.draft.Change.{Change}
-use Rattle.kl1_account.specs.Fitting.{Reading}
-use Rattle.kl1_account.specs.Kept.{IsTaskIn, AreGoalsIn}
-use Rattle.kl1_account.specs.Works.{Knows}
-use Rattle.kl1_account.specs.Drafts.{restood}
+use Rattle.kl1_effects.specs.declared.draft.Change.{Change}
+use Rattle.kl1_effects.specs.Fitting.{Reading}
+use Rattle.kl1_effects.specs.Kept.{IsTaskIn, AreGoalsIn}
+use Rattle.kl1_effects.specs.Works.{Knows}
+use Rattle.kl1_effects.specs.Drafts.{restood}
 use Rattle.kl1_account.specs.Waking.{AreSettledOr, IsFor, AreFor}
 use Rattle.kl1_account.specs.Looking.{FindsOut, AreOthersOf, Wakes, WakesTold}
 use Rattle.kl1_account.proofs.GoalOrder.{same_goal}

@@ -10,8 +10,8 @@ use Rattle.kl1_goals.specs.declared.task.Task.TheVariants.{Monitor, Reduces}
 use Rattle.kl1_goals.specs.declared.goal.Goal.{Goal}
 use Rattle.kl1_goals.specs.Lists.{is_monitor, is_monitor_of}
 use Rattle.kl1_goals.specs.Tables.{AreBefore, IsNext}
-use Rattle.kl1_account.specs.Kept.{AreOwned, AreUpTo}
-use Rattle.kl1_account.specs.Account.{whole}
+use Rattle.kl1_effects.specs.Kept.{AreOwned, AreUpTo}
+use Rattle.kl1_effects.specs.Account.{whole}
 
 pub before_next : (last n : ℕ) (gs : List (Goal CellName)) → last < n → AreUpTo last gs → AreBefore n gs
 before_next last n [] lt a = tt

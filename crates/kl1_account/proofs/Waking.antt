@@ -14,12 +14,12 @@ use Rattle.kl1_shoen.specs.declared.shoen.Shoen.{Shoen}
 use Rattle.kl1_modules.specs.Numbered.{Numbered}
 use Rattle.kl1_modules.specs.Finding.{contents}
 use Rattle.kl1_moves.specs.Hanging.{HangsOnEach, AreAmong}
-use Rattle.kl1_account.specs.declared.draft.Change.{Change}
-use Rattle.kl1_account.specs.Fitting.{Reading}
-use Rattle.kl1_account.specs.Account.{meaning, task_with}
-use Rattle.kl1_account.specs.Kept.{IsTaskIn, AreGoalsIn, AreShoensIn}
-use Rattle.kl1_account.specs.Drafts.{restood_by}
-use Rattle.kl1_account.specs.Settled.{control_with, awaited_by_task, IsSettled, AreSettled}
+use Rattle.kl1_effects.specs.declared.draft.Change.{Change}
+use Rattle.kl1_effects.specs.Fitting.{Reading}
+use Rattle.kl1_effects.specs.Account.{meaning, task_with}
+use Rattle.kl1_effects.specs.Kept.{IsTaskIn, AreGoalsIn, AreShoensIn}
+use Rattle.kl1_effects.specs.Drafts.{restood_by}
+use Rattle.kl1_effects.specs.Settled.{control_with, awaited_by_task, IsSettled, AreSettled}
 use Rattle.kl1_account.specs.Waking.{IsPending, IsSettledOr, AreSettledOr, IsFor, AreFor, is_among, IsFoundOut, KeepsControl, KeepControls}
 use Rattle.kl1_account.proofs.SettledStays.{HangsOnNone, stays_settled, settled_more}
 

@@ -1,6 +1,6 @@
 -- What the fields of an account stand for.
 use Rattle.kl1_account.specs.declared.account.Account.TheInside.{Inside}
-use Rattle.kl1_account.specs.Account.{Account}
+use Rattle.kl1_effects.specs.Account.{Account}
 use Rattle.kl1_account.specs.Keeping as keeping
 
 -- what an account keeps

@@ -11,16 +11,16 @@ use Rattle.kl1_goals.specs.Tables.{Tabled}
 use Rattle.kl1_shoen.specs.declared.shoen.Shoen.{Shoen}
 use Rattle.kl1_shoen.specs.Shoens.{Tree, is_enabled_at}
 use Rattle.kl1_modules.specs.Numbered.{Numbered}
-use Rattle.kl1_account.specs.declared.draft.Draft.{Draft}
-use Rattle.kl1_account.specs.Fitting.{Reading}
-use Rattle.kl1_account.specs.Account.{Means, goal_with}
-use Rattle.kl1_account.specs.Kept.{AreGoalsIn, AreOwned, AreUpTo, AreShoensIn}
-use Rattle.kl1_account.specs.Works.{Knows}
-use Rattle.kl1_account.specs.Drafts.{goals_left, restood}
-use Rattle.kl1_account.specs.Settled.{AreSettled, AreEnabled}
+use Rattle.kl1_effects.specs.declared.draft.Draft.{Draft}
+use Rattle.kl1_effects.specs.Fitting.{Reading}
+use Rattle.kl1_effects.specs.Account.{Means, goal_with}
+use Rattle.kl1_effects.specs.Kept.{AreGoalsIn, AreOwned, AreUpTo, AreShoensIn}
+use Rattle.kl1_effects.specs.Works.{Knows}
+use Rattle.kl1_effects.specs.Drafts.{goals_left, restood}
+use Rattle.kl1_effects.specs.Settled.{AreSettled, AreEnabled}
 use Rattle.kl1_account.specs.Waking.{KeepControls}
 use Rattle.kl1_account.specs.Looking.{unlooked}
-use Rattle.kl1_account.specs.Installing.{goals_after, IsFitting}
+use Rattle.kl1_effects.specs.Installing.{goals_after, IsFitting}
 
 -- the goals of an account that a draft leaves, after its changes, and those that come; whether they may step is as it was
 abbrev pub goals_placed : List (Goal CellName) → Draft → List (Goal CellName)

@@ -4,11 +4,11 @@ use Rattle.std.specs.List.{AllByRecursion}
 use Rattle.kl1_model.specs.Limits.{most_entries}
 use Rattle.kl1_store.specs.Hooks.{Hook}
 use Rattle.kl1_modules.specs.Numbered.{AreRead}
-use Rattle.kl1_account.specs.Fitting.{Reading, Fits}
-use Rattle.kl1_account.specs.Account.{Account, state_of}
-use Rattle.kl1_account.specs.Kept.{AreGoalsIn, AreOwned, AreUpTo, AreShoensIn}
-use Rattle.kl1_account.specs.Settled.{AreSettled, AreEnabled}
-use Rattle.kl1_account.specs.Naming.{AreSmall}
+use Rattle.kl1_effects.specs.Fitting.{Reading, Fits}
+use Rattle.kl1_effects.specs.Account.{Account, state_of}
+use Rattle.kl1_effects.specs.Kept.{AreGoalsIn, AreOwned, AreUpTo, AreShoensIn}
+use Rattle.kl1_effects.specs.Settled.{AreSettled, AreEnabled}
+use Rattle.kl1_effects.specs.Naming.{AreSmall}
 
 -- what always holds of an account, on whose variables these numbers hang, and whose table of goals knows so many shoens; that its
 -- shoens are a tree is what the tree of shoens keeps

@@ -15,16 +15,16 @@ use Rattle.kl1_goals.specs.declared.goal.Goal.{Goal}
 use Rattle.kl1_shoen.specs.declared.shoen.Shoen.{Shoen}
 use Rattle.kl1_modules.specs.Numbered.{Numbered, own_names, number_of}
 use Rattle.kl1_modules.specs.Finding.{contents, is_numbered}
-use Rattle.kl1_account.specs.declared.draft.Change.{Change}
+use Rattle.kl1_effects.specs.declared.draft.Change.{Change}
 use Rattle.kl1_account.specs.declared.loading.Loading.{Loading}
 use Rattle.kl1_account.specs.declared.loading.Loading.TheVariants.{Refused, Drafted}
 use Rattle.kl1_event.specs.declared.refusal.Refusal.{Refusal}
-use Rattle.kl1_account.specs.Fitting.{Reading}
-use Rattle.kl1_account.specs.Account.{texts_of}
-use Rattle.kl1_account.specs.Naming.{ReadsDraft}
-use Rattle.kl1_account.specs.Works.{Knows}
-use Rattle.kl1_account.specs.Drafts.{restood}
-use Rattle.kl1_account.specs.Settled.{AreSettled}
+use Rattle.kl1_effects.specs.Fitting.{Reading}
+use Rattle.kl1_effects.specs.Account.{texts_of}
+use Rattle.kl1_effects.specs.Naming.{ReadsDraft}
+use Rattle.kl1_effects.specs.Works.{Knows}
+use Rattle.kl1_effects.specs.Drafts.{restood}
+use Rattle.kl1_effects.specs.Settled.{AreSettled}
 use Rattle.kl1_event.specs.Views.{refusal_of}
 
 -- a state with these modules and names, and so many entries

@@ -26,12 +26,12 @@ use Rattle.kl1_shoen.specs.declared.shoen.Shoen.{Shoen}
 use Rattle.kl1_modules.specs.Numbered.{Numbered}
 use Rattle.kl1_modules.specs.Finding.{contents, Asks}
 use Rattle.kl1_moves.specs.Hanging.{HangsOnEach}
-use Rattle.kl1_account.specs.declared.draft.Change.{Change}
-use Rattle.kl1_account.specs.Fitting.{Reading, built}
-use Rattle.kl1_account.specs.Account.{aim}
-use Rattle.kl1_account.specs.Works.{Knows}
-use Rattle.kl1_account.specs.Drafts.{restood}
-use Rattle.kl1_account.specs.Settled.{control_clause, IsSettled, AreSettled, IsEnabled, AreEnabled}
+use Rattle.kl1_effects.specs.declared.draft.Change.{Change}
+use Rattle.kl1_effects.specs.Fitting.{Reading, built}
+use Rattle.kl1_effects.specs.Account.{aim}
+use Rattle.kl1_effects.specs.Works.{Knows}
+use Rattle.kl1_effects.specs.Drafts.{restood}
+use Rattle.kl1_effects.specs.Settled.{control_clause, IsSettled, AreSettled, IsEnabled, AreEnabled}
 use Rattle.kl1_account.specs.Waking.{AreSettledOr, IsFoundOut}
 
 -- however names are read, these are the clauses of the predicate that goals of a kind call

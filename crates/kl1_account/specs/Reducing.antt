@@ -28,16 +28,16 @@ use Rattle.kl1_modules.specs.Numbered.{Numbered}
 use Rattle.kl1_modules.specs.Finding.{contents}
 use Rattle.kl1_event.specs.declared.refusal.Refusal.{Refusal}
 use Rattle.kl1_event.specs.Views.{refusal_of}
-use Rattle.kl1_account.specs.declared.draft.Draft.{Draft}
+use Rattle.kl1_effects.specs.declared.draft.Draft.{Draft}
 use Rattle.kl1_atoms.specs.declared.known.Known.{Known}
-use Rattle.kl1_account.specs.Fitting.{Reading, Fits}
-use Rattle.kl1_account.specs.Account.{Account, state_of, aim}
-use Rattle.kl1_account.specs.Works.{Knows}
-use Rattle.kl1_account.specs.Installing.{goals_after, IsFitting}
-use Rattle.kl1_account.specs.Settled.{AreEnabled}
+use Rattle.kl1_effects.specs.Fitting.{Reading, Fits}
+use Rattle.kl1_effects.specs.Account.{Account, state_of, aim}
+use Rattle.kl1_effects.specs.Works.{Knows}
+use Rattle.kl1_effects.specs.Installing.{goals_after, IsFitting}
+use Rattle.kl1_effects.specs.Settled.{AreEnabled}
 use Rattle.kl1_account.specs.Keeping.{IsKept}
-use Rattle.kl1_account.specs.Calling.{IsNewName}
-use Rattle.kl1_account.specs.Spelling.{IsSpelledIn, HasName, IsPublished}
+use Rattle.kl1_effects.specs.Calling.{IsNewName}
+use Rattle.kl1_acts.specs.Spelling.{IsSpelledIn, HasName, IsPublished}
 
 -- a reduction of an account is refused, for each reading that knows its modules
 abbrev pub Refuses : Account → ℕ → ℕ → Refusal → Type 0

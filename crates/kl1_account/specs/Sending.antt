@@ -20,14 +20,14 @@ use Rattle.kl1_shoen.specs.declared.shoen.Origin.{Origin}
 use Rattle.kl1_shoen.specs.declared.shoen.Shoen.{Shoen}
 use Rattle.kl1_shoen.specs.Shoens.{Tree, shoen_in}
 use Rattle.kl1_modules.specs.Numbered.{Numbered}
-use Rattle.kl1_account.specs.declared.draft.Draft.{Draft}
-use Rattle.kl1_account.specs.Fitting.{Reading, built}
-use Rattle.kl1_account.specs.Account.{Means, meaning, state_with, with_kept}
-use Rattle.kl1_account.specs.Kept.{AreGoalsIn, AreShoensIn}
-use Rattle.kl1_account.specs.Works.{Knows}
-use Rattle.kl1_account.specs.Drafts.{restood}
-use Rattle.kl1_account.specs.Installing.{goals_after}
-use Rattle.kl1_account.specs.Settled.{AreSettled}
+use Rattle.kl1_effects.specs.declared.draft.Draft.{Draft}
+use Rattle.kl1_effects.specs.Fitting.{Reading, built}
+use Rattle.kl1_effects.specs.Account.{Means, meaning, state_with, with_kept}
+use Rattle.kl1_effects.specs.Kept.{AreGoalsIn, AreShoensIn}
+use Rattle.kl1_effects.specs.Works.{Knows}
+use Rattle.kl1_effects.specs.Drafts.{restood}
+use Rattle.kl1_effects.specs.Installing.{goals_after}
+use Rattle.kl1_effects.specs.Settled.{AreSettled}
 
 -- a shoen without what the console keeps of it
 abbrev pub bare : Shoen CellName → Shoen CellName

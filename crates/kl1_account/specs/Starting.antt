@@ -41,10 +41,10 @@ use Rattle.kl1_account.specs.declared.startable.Starting.{Starting}
 use Rattle.kl1_account.specs.declared.startable.Starting.TheVariants.{Refused, Coded}
 use Rattle.kl1_account.specs.declared.opening.Streams.{Streams}
 use Rattle.kl1_account.specs.declared.opening.Opening.{Opening}
-use Rattle.kl1_account.specs.Fitting.{Reading, Fits, built}
-use Rattle.kl1_account.specs.Account.{meaning, texts_of, whole}
-use Rattle.kl1_account.specs.Naming.{AreSmall}
-use Rattle.kl1_account.specs.Works.{Knows}
+use Rattle.kl1_effects.specs.Fitting.{Reading, Fits, built}
+use Rattle.kl1_effects.specs.Account.{meaning, texts_of, whole}
+use Rattle.kl1_effects.specs.Naming.{AreSmall}
+use Rattle.kl1_effects.specs.Works.{Knows}
 
 -- a state with these names, and so much of what is limited
 pub record HasNames (s : State) (names : List Known) (counted : Counted) : Type 0 where

@@ -10,8 +10,8 @@ use Rattle.kl1_store.specs.Held.{Held, AreIn}
 use Rattle.kl1_store.specs.ComparesEach.{term_list}
 use Rattle.kl1_account.specs.declared.top.Top.{Top}
 use Rattle.kl1_account.specs.declared.top.Top.TheVariants as top
-use Rattle.kl1_account.specs.Fitting.{Reading}
-use Rattle.kl1_account.specs.Account.{meaning}
+use Rattle.kl1_effects.specs.Fitting.{Reading}
+use Rattle.kl1_effects.specs.Account.{meaning}
 
 -- what is at the top of a term, with its name read as a text
 abbrev pub node_with : Reading → Top → Node

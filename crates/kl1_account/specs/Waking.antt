@@ -11,10 +11,10 @@ use Rattle.kl1_shoen.specs.declared.shoen.Shoen.{Shoen}
 use Rattle.kl1_modules.specs.Numbered.{Numbered}
 use Rattle.kl1_modules.specs.Finding.{contents}
 use Rattle.kl1_moves.specs.Hanging.{HangsOnEach}
-use Rattle.kl1_account.specs.declared.draft.Change.{Change}
-use Rattle.kl1_account.specs.Fitting.{Reading}
-use Rattle.kl1_account.specs.Account.{meaning, task_with}
-use Rattle.kl1_account.specs.Settled.{control_at, control_with, task_clause, awaited_by_task, IsSettled}
+use Rattle.kl1_effects.specs.declared.draft.Change.{Change}
+use Rattle.kl1_effects.specs.Fitting.{Reading}
+use Rattle.kl1_effects.specs.Account.{meaning, task_with}
+use Rattle.kl1_effects.specs.Settled.{control_at, control_with, task_clause, awaited_by_task, IsSettled}
 
 -- whether a number is among others
 abbrev pub is_among : ℕ → List ℕ → Bool

@@ -5,30 +5,29 @@ ghost use Rattle.kl1_model.specs.State.{fresh};
 ghost use Rattle.kl1_model.specs.Step.{step};
 ghost use Rattle.kl1_model.specs.Choice.{first, quiet};
 ghost use Rattle.kl1_model.specs.Event.{load as load_event, start as start_event, control, reduce, read, value, status, reports, modules as modules_query};
-ghost use Rattle.kl1_account.specs.Fitting.{Reading, Fits};
-ghost use Rattle.kl1_account.specs.Account.{state_of};
-ghost use Rattle.kl1_account.specs.Naming.{Keeps};
+ghost use Rattle.kl1_effects.specs.Fitting.{Reading, Fits};
+ghost use Rattle.kl1_effects.specs.Account.{state_of};
+ghost use Rattle.kl1_effects.specs.Naming.{Keeps};
 ghost use Rattle.kl1_account.specs.Starting.{HasNames};
 ghost use Rattle.kl1_event.specs.Views.{reply_of, reduced_or, chosen_of};
 ghost use Rattle.kl1_modules.specs.Numbered.{ArePlaced};
+ghost use Rattle.kl1_event.specs.Whole.{whole_value};
 
 use crate::account_name::AccountName;
 use crate::asking::{modules_of, reports_of, status_of};
 use crate::counted::Counted;
-use crate::draft::Draft;
 use crate::installing::install;
 use crate::limits::is_number;
 use crate::loading::{Loading, draft_module, install_module, prepare};
-use crate::names::{AccountNames, publish};
 use crate::printing::print_cell;
 use crate::reducing::draft_reduction;
 use crate::sending::draft_message;
-use crate::settling::Walk;
-use crate::spelling::spell_anew;
 use crate::startable::{Starting, code_of};
 use crate::starting::{next_goals, next_number, place, prepare_start};
+use kl1_acts::spell_anew;
 use kl1_atoms::AtomSource;
 use kl1_codes::CodeSource;
+use kl1_effects::{AccountNames, Draft, Walk, publish};
 use kl1_event::{ClauseNo, GoalNo, Refusal, Reply, ShoenNo};
 use kl1_goals::GoalTable;
 use kl1_match::Scratch;
@@ -69,7 +68,7 @@ pub struct Account<C: CodeSource> {
 impl<C: CodeSource> Model for Account<C> {
     ghost use Rattle.std.specs.Coded.{codes};
     ghost use Rattle.kl1_modules.specs.Numbered.{numbered_code};
-    ghost use Rattle.kl1_account.specs.Account.{Account as Kept};
+    ghost use Rattle.kl1_effects.specs.Account.{Account as Kept};
 
     ghost Value = { Kept };
 
@@ -451,9 +450,32 @@ impl<C: CodeSource> Account<C> {
                     seat,
                     &self.store,
                     origin.goal,
-                    MOST_PRINTED_BYTES,
+                    Some(MOST_PRINTED_BYTES),
                 )?;
                 Ok(Reply::Shown(text))
+            }
+        }
+    }
+
+    /// The goal of the shoen of a number, as started, with what is bound now, without the cut of a reply; `None` where the
+    /// console started no shoen of this number.
+    pub fn whole_value<A: AtomSource>(
+        &self,
+        names: &mut A,
+        seat: &mut A::Seat,
+        number: u64,
+    ) -> Result<Option<Vec<u8>>, AllocError>
+        requires of { A.is_of names.old seat.old }
+        requires knows { A.knows seat.old ≡ self.now.names }
+        ensures whole { IfOk result (λ shown. (f : Reading) → Fits self.now.names f → option_map (λ text. text.items) shown ≡ whole_value (state_of f self.now) number) }
+        ensures keeps { Keeps A.is_of A.place A.knows names.old names.new seat.old seat.new }
+        ensures knows { A.knows seat.new ≡ self.now.names }
+    {
+        match self.shoens.origin_at(number) {
+            None => Ok(None),
+            Some(origin) => {
+                let text = print_cell(self.alloc, names, seat, &self.store, origin.goal, None)?;
+                Ok(Some(text))
             }
         }
     }

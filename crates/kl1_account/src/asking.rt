@@ -12,10 +12,10 @@ ghost use Rattle.kl1_shoen.specs.Shoens.{is_exhausted_in};
 ghost use Rattle.kl1_goals.specs.declared.goal.Goal.{Goal};
 ghost use Rattle.kl1_modules.specs.Finding.{contents};
 ghost use Rattle.kl1_text.specs.declared.cell_name.CellName.{CellName};
-ghost use Rattle.kl1_account.specs.Fitting.{Reading, Fits};
-ghost use Rattle.kl1_account.specs.Account.{Means, meaning, shoen_with, state_with, with_kept};
-ghost use Rattle.kl1_account.specs.Kept.{AreOwned, AreShoensIn};
-ghost use Rattle.kl1_account.specs.Naming.{AreSmall, Keeps};
+ghost use Rattle.kl1_effects.specs.Fitting.{Reading, Fits};
+ghost use Rattle.kl1_effects.specs.Account.{Means, meaning, shoen_with, state_with, with_kept};
+ghost use Rattle.kl1_effects.specs.Kept.{AreOwned, AreShoensIn};
+ghost use Rattle.kl1_effects.specs.Naming.{AreSmall, Keeps};
 ghost use Rattle.kl1_account.specs.Asked.{condition_by, cells_of};
 
 use crate::limits::{are_numbers, is_number};
@@ -105,7 +105,7 @@ fn list_cells<A: AtomSource>(
         let Some((element, rest)) = next_element(store, at) else {
             return Ok(listed);
         };
-        let text = print_cell(alloc, names, seat, store, element, MOST_PRINTED_BYTES)?;
+        let text = print_cell(alloc, names, seat, store, element, Some(MOST_PRINTED_BYTES))?;
         listed.push(text)?;
         at = rest;
         left -= 1;

@@ -3,17 +3,16 @@
 ghost use Rattle.std.specs.Prelude.{◌≡◌, ◌+◌, ◌≤◌, [], length, OnOk};
 ghost use Rattle.kl1_store.specs.Hooks.{HasGrown};
 ghost use Rattle.kl1_clause.specs.Predicates.{AreSome};
-ghost use Rattle.kl1_account.specs.Kept.{AreGoalsIn, AreShoensIn};
-ghost use Rattle.kl1_account.specs.Drafts.{goals_left};
-ghost use Rattle.kl1_account.specs.Installing.{AreNext};
+ghost use Rattle.kl1_effects.specs.Kept.{AreGoalsIn, AreShoensIn};
+ghost use Rattle.kl1_effects.specs.Drafts.{goals_left};
+ghost use Rattle.kl1_effects.specs.Installing.{AreNext};
 ghost use Rattle.kl1_account.specs.Looking.{Serves};
 ghost use Rattle.kl1_account.specs.Finishing.{LooksAgain, ShiftsFor, Finishes};
 
-use crate::draft::Draft;
 use crate::looking::{wake_added, wake_told};
-use crate::settling::Walk;
 use kl1_clause::Predicate;
 use kl1_codes::CodeSource;
+use kl1_effects::{Draft, Walk};
 use kl1_goals::GoalTable;
 use kl1_modules::CodedModules;
 use kl1_moves::{Kind, Trial};

@@ -2,10 +2,10 @@
 
 ghost use Rattle.std.specs.Prelude.{◌≡◌, ◌+◌, ◌≤◌, if◌then◌else◌, not, ◌++◌, length, filter};
 ghost use Rattle.kl1_goals.specs.Lists.{is_flagged};
-ghost use Rattle.kl1_account.specs.Drafts.{without_monitors, restood};
-ghost use Rattle.kl1_account.specs.Installing.{IsBegun, AreNext, shifted, goals_after, IsFitting, Opens};
+ghost use Rattle.kl1_effects.specs.Drafts.{without_monitors, restood};
+ghost use Rattle.kl1_effects.specs.Installing.{IsBegun, AreNext, shifted, goals_after, IsFitting, Opens};
 
-use crate::draft::{Change, Draft};
+use kl1_effects::{Change, Draft};
 use kl1_goals::{Goal, GoalTable};
 use kl1_text::CellName;
 

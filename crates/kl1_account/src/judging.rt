@@ -11,10 +11,10 @@ ghost use Rattle.kl1_match.specs.GoalCells.{goal_variables};
 ghost use Rattle.kl1_account.specs.Starting.{Judges, IsDrafted};
 
 use crate::looking::predicate_of;
-use crate::names::{AccountNames, draft_row};
 use crate::opening::{Opening, open_streams};
 use kl1_clause::Instruction;
 use kl1_codes::CodeSource;
+use kl1_effects::{AccountNames, draft_row};
 use kl1_match::{Scratch, put_goal, put_goal_variables, reserve_goal};
 use kl1_modules::CodedModules;
 use kl1_moves::{Trial, kind_of, standing_of};

@@ -12,14 +12,14 @@ ghost use Rattle.kl1_goals.specs.declared.task.Task.TheVariants.{Monitor, Reduce
 ghost use Rattle.kl1_shoen.specs.declared.shoen.Shoen.{Shoen};
 ghost use Rattle.kl1_modules.specs.Numbered.{Numbered};
 ghost use Rattle.kl1_modules.specs.Finding.{contents};
-ghost use Rattle.kl1_account.specs.Fitting.{Reading};
-ghost use Rattle.kl1_account.specs.Kept.{IsTaskIn, AreGoalsIn, AreShoensIn};
-ghost use Rattle.kl1_account.specs.Works.{Knows};
+ghost use Rattle.kl1_effects.specs.Fitting.{Reading};
+ghost use Rattle.kl1_effects.specs.Kept.{IsTaskIn, AreGoalsIn, AreShoensIn};
+ghost use Rattle.kl1_effects.specs.Works.{Knows};
 ghost use Rattle.kl1_account.specs.Looking.{Serves, calls_same, StandsBy, HearsAt, StandsAt, FindsOut, Wakes, WakesTold, LooksAtOne, LooksAtAdded};
 
-use crate::draft::Change;
 use kl1_clause::Predicate;
 use kl1_codes::CodeSource;
+use kl1_effects::Change;
 use kl1_goals::{Goal, GoalTable, Task};
 use kl1_modules::CodedModules;
 use kl1_moves::{Call, Kind, Trial, hang_on, kind_of_qualified, or_none, standing_of};

@@ -3,7 +3,7 @@
 ghost use Rattle.std.specs.Prelude.{◌≡◌, ◌+◌, ◌<◌, ◌≤◌, ◌^◌, ◌++◌, ◌∷◌, [], suc, length};
 ghost use Rattle.kl1_model.specs.Limits.{monitor_priority};
 ghost use Rattle.kl1_match.specs.Waiting.{IsUnbound, AreUnbound};
-ghost use Rattle.kl1_account.specs.Kept.{AreUpTo, AreOwned};
+ghost use Rattle.kl1_effects.specs.Kept.{AreUpTo, AreOwned};
 ghost use Rattle.kl1_account.specs.Starting.{two_goals, hooks_on};
 
 use kl1_goals::{Goal, GoalTable, Task};

@@ -1,12 +1,13 @@
 // Terms printed straight from cells.
 
 ghost use Rattle.std.specs.Prelude.{◌≡◌, ◌<◌, ◌++◌, ℕ, length, reverse, IfOk, OnOk};
-ghost use Rattle.kl1_model.specs.Print.{print, cut_text};
+ghost use Rattle.kl1_model.specs.Print.{print};
 ghost use Rattle.kl1_term.specs.Nodes.{count_in};
+ghost use Rattle.kl1_term.specs.Page.{limited};
 ghost use Rattle.kl1_store.specs.Held.{IsIn, AreIn, arguments_of};
-ghost use Rattle.kl1_account.specs.Fitting.{Reading, Fits};
-ghost use Rattle.kl1_account.specs.Account.{meaning};
-ghost use Rattle.kl1_account.specs.Naming.{AreSmall, Keeps};
+ghost use Rattle.kl1_effects.specs.Fitting.{Reading, Fits};
+ghost use Rattle.kl1_effects.specs.Account.{meaning};
+ghost use Rattle.kl1_effects.specs.Naming.{AreSmall, Keeps};
 ghost use Rattle.kl1_account.specs.Tops.{node_with, count_at, IsNext, TakesTop};
 
 use crate::top::Top;
@@ -109,24 +110,24 @@ fn node_of<A: AtomSource>(names: &mut A, seat: &mut A::Seat, top: Top) -> Node
     }
 }
 
-/// The text of a cell's term, cut after so many bytes, with three dots where it is longer.
+/// The text of a cell's term: where a number of bytes is given, it is cut after so many, with three dots where it is longer.
 pub(crate) fn print_cell<A: AtomSource>(
     alloc: Global,
     names: &mut A,
     seat: &mut A::Seat,
     store: &Store<CellName>,
     cell: Cell<CellName>,
-    most: usize,
+    most: Option<usize>,
 ) -> Result<Vec<u8>, AllocError>
     requires cell { IsIn store.now.held cell }
     requires of { A.is_of names.old seat.old }
     requires small { AreSmall (A.knows seat.old) }
     requires named { (f g : Reading) → Fits (A.knows seat.old) f → Fits (A.knows seat.old) g → meaning f store.now.held cell ≡ meaning g store.now.held cell }
-    ensures text { IfOk result (λ text. (f : Reading) → Fits (A.knows seat.old) f → text.items ≡ cut_text most (print (meaning f store.now.held cell))) }
+    ensures text { IfOk result (λ text. (f : Reading) → Fits (A.knows seat.old) f → text.items ≡ limited most (print (meaning f store.now.held cell))) }
     ensures keeps { Keeps A.is_of A.place A.knows names.old names.new seat.old seat.new }
     ensures knows { A.knows seat.new ≡ A.knows seat.old }
 {
-    let mut printer = Printer::new(alloc, Some(most));
+    let mut printer = Printer::new(alloc, most);
     let mut stack = Vec::new(alloc);
     stack.push(cell)?;
     while !printer.is_done() {

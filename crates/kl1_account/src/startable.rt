@@ -7,9 +7,9 @@ ghost use Rattle.kl1_account.specs.Starting.{StartsAs};
 
 use crate::counted::Counted;
 use crate::limits::is_number;
-use crate::names::AccountNames;
 use itoa::Buffer;
 use kl1_clause::GoalCode;
+use kl1_effects::AccountNames;
 use kl1_event::Refusal;
 use kl1_model::limits::{MOST_ENTRIES, MOST_LINE_BYTES, MOST_PRIORITY};
 use kl1_read::is_goal;

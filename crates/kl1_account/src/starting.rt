@@ -16,15 +16,15 @@ ghost use Rattle.kl1_clause.specs.Instructions.{AreNamed};
 ghost use Rattle.kl1_match.specs.Built.{AreBelow};
 ghost use Rattle.kl1_match.specs.Waiting.{IsUnbound, AreUnbound};
 ghost use Rattle.kl1_match.specs.GoalCells.{goal_variables, HasRoomForGoal, BuildsGoal};
-ghost use Rattle.kl1_account.specs.Kept.{AreUpTo, AreOwned};
+ghost use Rattle.kl1_effects.specs.Kept.{AreUpTo, AreOwned};
 ghost use Rattle.kl1_account.specs.Starting.{IsDrafted, IsPlaced, hooks_on};
 
 use crate::judging::draft_start;
-use crate::names::AccountNames;
 use crate::opening::Opening;
 use crate::placing::{hang_all, hang_one, put_two};
 use kl1_clause::Instruction;
 use kl1_codes::CodeSource;
+use kl1_effects::AccountNames;
 use kl1_goals::GoalTable;
 use kl1_match::{Scratch, put_goal, reserve_goal};
 use kl1_model::Life;

@@ -5,8 +5,9 @@ ghost use Rattle.kl1_model.specs.State.{State};
 ghost use Rattle.kl1_model.specs.Step.{step};
 ghost use Rattle.kl1_model.specs.Choice.{first};
 ghost use Rattle.kl1_event.specs.Views.{event_of, reply_of, chosen_of};
+ghost use Rattle.kl1_event.specs.Whole.{whole_value};
 
-use kl1_event::{ClauseNo, Event, GoalNo, Reply};
+use kl1_event::{ClauseNo, Event, GoalNo, Reply, ShoenNo};
 use std::alloc::AllocError;
 
 /// What has one account to which commands are done.
@@ -24,6 +25,13 @@ pub trait Host {
     fn apply(&mut self, event: &Event) -> Result<Reply, AllocError>
         ensures step { IfOk result (λ reply. (f : Reading) → fits self.new f → step (state f self.old) (event_of event.now) ≡ record { state = state f self.new; reply = reply_of reply }) }
         ensures err { OnErr result (self.new ≡ self.old) }
+        ensures before { (f : Reading) → fits self.new f → fits self.old f };
+
+    /// The goal of a shoen, as started, with what is bound now, without the cut of a reply; `None` where the console started no
+    /// shoen of this number. The account stays as it was.
+    fn whole_value(&mut self, shoen: ShoenNo) -> Result<Option<Vec<u8>>, AllocError>
+        ensures whole { IfOk result (λ shown. (f : Reading) → fits self.new f → option_map (λ text. text.items) shown ≡ whole_value (state f self.new) shoen.0) }
+        ensures same { (f : Reading) → fits self.new f → state f self.new ≡ state f self.old }
         ensures before { (f : Reading) → fits self.new f → fits self.old f };
 
     /// The first goal that can step, with the clause by which it steps.

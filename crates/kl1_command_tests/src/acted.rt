@@ -4,7 +4,7 @@ ghost use Rattle.kl1_model.specs.State.{fresh};
 ghost use Rattle.std.specs.Prelude.{[]};
 
 use kl1_command::{Host, Parsed, Performed, parse, perform, put_reply};
-use kl1_event::{ClauseNo, Event, GoalNo, Refusal, Reply};
+use kl1_event::{ClauseNo, Event, GoalNo, Refusal, Reply, ShoenNo};
 use kl1_rows::{Text, cut};
 use std::alloc::{AllocError, Global};
 
@@ -30,6 +30,10 @@ impl Host for Letters<'_> {
         };
         self.left = left;
         Ok(reply_by(is_done, event))
+    }
+
+    fn whole_value(&mut self, _shoen: ShoenNo) -> Result<Option<Vec<u8>>, AllocError> {
+        Ok(None)
     }
 
     fn pick(&self) -> Option<(GoalNo, ClauseNo)> {

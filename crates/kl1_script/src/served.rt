@@ -4,13 +4,13 @@ ghost use Rattle.std.specs.Prelude.{◌≡◌, [], IfOk};
 ghost use Rattle.kl1_model.specs.State.{fresh};
 ghost use Rattle.kl1_model.specs.Choice.{quiet};
 ghost use Rattle.kl1_atoms.specs.Names.{AreNames};
-ghost use Rattle.kl1_account.specs.Fitting.{Reading as NameReading, Fits};
-ghost use Rattle.kl1_account.specs.Account.{state_of};
+ghost use Rattle.kl1_effects.specs.Fitting.{Reading as NameReading, Fits};
+ghost use Rattle.kl1_effects.specs.Account.{state_of};
 
 use kl1_atoms::AtomSource;
 use kl1_codes::CodeSource;
 use kl1_command::Host;
-use kl1_event::{ClauseNo, Event, GoalNo, Reply};
+use kl1_event::{ClauseNo, Event, GoalNo, Reply, ShoenNo};
 use kl1_user::{AccountName, UserState};
 use std::alloc::{AllocError, Global};
 use std::marker::Model;
@@ -27,7 +27,7 @@ pub struct Served<A: AtomSource + Drop, C: CodeSource + Drop> {
 impl<A: AtomSource + Drop, C: CodeSource + Drop> Model for Served<A, C> {
     ghost use Rattle.std.specs.Coded.{codes};
     ghost use Rattle.kl1_modules.specs.Numbered.{numbered_code, ArePlaced};
-    ghost use Rattle.kl1_account.specs.Account.{Account as Kept};
+    ghost use Rattle.kl1_effects.specs.Account.{Account as Kept};
 
     ghost Value = { Kept };
 
@@ -70,7 +70,7 @@ impl<A: AtomSource + Drop, C: CodeSource + Drop> Served<A, C> {
     }
 
     /// The names of the account are one to one with their numbers.
-    pub(crate) fn shows_names(&self)
+    pub fn shows_names(&self)
         ensures { AreNames self.now.names }
     {
         let _seat = &self.seat;
@@ -91,6 +91,11 @@ impl<A: AtomSource + Drop, C: CodeSource + Drop> Host for Served<A, C> {
             &mut self.code_source,
             event,
         )
+    }
+
+    fn whole_value(&mut self, shoen: ShoenNo) -> Result<Option<Vec<u8>>, AllocError> {
+        self.user
+            .whole_value(&mut self.names, &mut self.seat, shoen.0)
     }
 
     fn pick(&self) -> Option<(GoalNo, ClauseNo)> {

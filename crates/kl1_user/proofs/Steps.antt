@@ -7,8 +7,8 @@ use Rattle.kl1_model.specs.Step.{step}
 use Rattle.kl1_atoms.specs.declared.known.Known.{Known}
 use Rattle.kl1_event.specs.declared.refusal.Refusal.{Refusal}
 use Rattle.kl1_event.specs.declared.reply.Reply.{Reply}
-use Rattle.kl1_account.specs.Account.{Account, state_of}
-use Rattle.kl1_account.specs.Fitting.{Reading, Fits}
+use Rattle.kl1_effects.specs.Account.{Account, state_of}
+use Rattle.kl1_effects.specs.Fitting.{Reading, Fits}
 use Rattle.kl1_event.specs.Views.{reply_of, reduced_or}
 
 -- an event did this to an account, where it was answered

@@ -6,10 +6,11 @@ ghost use Rattle.kl1_model.specs.Event.{reduce as reduce_event, read};
 ghost use Rattle.kl1_model.specs.Step.{step};
 ghost use Rattle.kl1_model.specs.Choice.{first, quiet};
 ghost use Rattle.kl1_modules.specs.Numbered.{ArePlaced};
-ghost use Rattle.kl1_account.specs.Fitting.{Reading, Fits};
-ghost use Rattle.kl1_account.specs.Account.{state_of};
-ghost use Rattle.kl1_account.specs.Naming.{Keeps};
+ghost use Rattle.kl1_effects.specs.Fitting.{Reading, Fits};
+ghost use Rattle.kl1_effects.specs.Account.{state_of};
+ghost use Rattle.kl1_effects.specs.Naming.{Keeps};
 ghost use Rattle.kl1_event.specs.Views.{event_of, query_of, reply_of, reduced_or, chosen_of};
+ghost use Rattle.kl1_event.specs.Whole.{whole_value};
 
 use kl1_account::{Account, AccountName, ClauseNo, Event, GoalNo, Query, Refusal, Reply};
 use kl1_atoms::AtomSource;
@@ -29,7 +30,7 @@ pub struct UserState<A: AtomSource, C: CodeSource> {
 impl<A: AtomSource, C: CodeSource> Model for UserState<A, C> {
     ghost use Rattle.std.specs.Coded.{codes};
     ghost use Rattle.kl1_modules.specs.Numbered.{numbered_code};
-    ghost use Rattle.kl1_account.specs.Account.{Account as Kept};
+    ghost use Rattle.kl1_effects.specs.Account.{Account as Kept};
 
     ghost Value = { Kept };
 
@@ -113,6 +114,23 @@ impl<A: AtomSource, C: CodeSource> UserState<A, C> {
             Query::Modules => self.account.modules(codes),
             Query::Quiet => Ok(Reply::Quiet(self.account.quiet())),
         }
+    }
+
+    /// The goal of the shoen of a number, as started, with what is bound now, without the cut of a reply; `None` where the
+    /// console started no shoen of this number.
+    pub fn whole_value(
+        &self,
+        names: &mut A,
+        seat: &mut A::Seat,
+        number: u64,
+    ) -> Result<Option<Vec<u8>>, AllocError>
+        requires of { A.is_of names.old seat.old }
+        requires knows { A.knows seat.old ≡ self.now.names }
+        ensures whole { IfOk result (λ shown. (f : Reading) → Fits self.now.names f → option_map (λ text. text.items) shown ≡ whole_value (state_of f self.now) number) }
+        ensures keeps { Keeps A.is_of A.place A.knows names.old names.new seat.old seat.new }
+        ensures knows { A.knows seat.new ≡ self.now.names }
+    {
+        self.account.whole_value(names, seat, number)
     }
 
     /// Reduces a goal by a clause, or says why it is refused: what `apply` does where the event is a reduction, and its reply.

@@ -1,6 +1,6 @@
 use Rattle.std.proofs.Common.{◌-◌, List, sym, ◌∙◌, arith, subst}
 use Rattle.kl1_atoms.specs.declared.known.Known.{Known}
-use Rattle.kl1_account.specs.Fitting.{Fits}
+use Rattle.kl1_effects.specs.Fitting.{Fits}
 use Rattle.kl1_account.proofs.Listing.{listed_more}
 use Rattle.kl1_account.proofs.asking.list_cells.Goals as goal
 

@@ -1,5 +1,5 @@
 use Rattle.std.proofs.Common.{◌≡◌}
-use Rattle.kl1_account.specs.Naming.{Keeps}
+use Rattle.kl1_effects.specs.Naming.{Keeps}
 use Rattle.kl1_account.proofs.Listing.{IsListing}
 use Rattle.kl1_account.proofs.asking.list_cells.Given as goal
 

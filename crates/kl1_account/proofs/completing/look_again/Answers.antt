@@ -1,7 +1,7 @@
 use Rattle.std.proofs.Common.{ℕ, List, [], subst}
 use Rattle.std.proofs.lemmas.Result.{on_ok_weaker}
-use Rattle.kl1_account.specs.declared.draft.Change.{Change}
-use Rattle.kl1_account.specs.declared.draft.Draft.{Draft}
+use Rattle.kl1_effects.specs.declared.draft.Change.{Change}
+use Rattle.kl1_effects.specs.declared.draft.Draft.{Draft}
 use Rattle.kl1_account.specs.Looking.{WakesTold}
 use Rattle.kl1_account.proofs.LookedAt.{settled_placed}
 use Rattle.kl1_account.proofs.completing.look_again.Goals as goal

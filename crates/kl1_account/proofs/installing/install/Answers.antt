@@ -1,5 +1,5 @@
 use Rattle.std.proofs.Common.{◌+◌, if◌then◌else◌, ap, ◌∙◌}
-use Rattle.kl1_account.specs.Drafts.{restood, goals_left}
+use Rattle.kl1_effects.specs.Drafts.{restood, goals_left}
 use Rattle.kl1_account.proofs.Installs.{left_in_steps, next_same}
 use Rattle.kl1_account.proofs.installing.install.Goals as goal
 

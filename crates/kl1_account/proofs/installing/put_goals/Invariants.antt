@@ -1,5 +1,5 @@
 use Rattle.std.proofs.Common.{◌≡◌, ◌+◌, ◌≤◌, ◌++◌, length, drop}
-use Rattle.kl1_account.specs.Installing.{AreNext}
+use Rattle.kl1_effects.specs.Installing.{AreNext}
 use Rattle.kl1_account.proofs.installing.put_goals.Given as goal
 
 -- with the goals that are left there are all, and there is room for them

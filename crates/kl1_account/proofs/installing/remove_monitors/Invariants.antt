@@ -1,5 +1,5 @@
 use Rattle.std.proofs.Common.{◌≡◌, ◌≤◌, drop}
-use Rattle.kl1_account.specs.Drafts.{without_monitors}
+use Rattle.kl1_effects.specs.Drafts.{without_monitors}
 use Rattle.kl1_account.proofs.installing.remove_monitors.Given as goal
 
 -- without the monitors that are left the goals are as without all

@@ -1,5 +1,5 @@
 use Rattle.std.proofs.Common.{◌≡◌, drop}
-use Rattle.kl1_account.specs.Drafts.{restood}
+use Rattle.kl1_effects.specs.Drafts.{restood}
 use Rattle.kl1_account.proofs.installing.restand.Given as goal
 
 -- after the changes that are left the goals are as after all

@@ -2,7 +2,7 @@ use Rattle.std.proofs.Common.{◌∙◌, ap}
 use Rattle.std.specs.Prelude.{None}
 use Rattle.kl1_modules.specs.Numbered.{number_of}
 use Rattle.kl1_modules.specs.Finding.{is_numbered}
-use Rattle.kl1_account.specs.declared.draft.Change.{Change}
+use Rattle.kl1_effects.specs.declared.draft.Change.{Change}
 use Rattle.kl1_account.proofs.Loads.{one_more_change}
 use Rattle.kl1_account.proofs.loading.install_module.Goals as goal
 

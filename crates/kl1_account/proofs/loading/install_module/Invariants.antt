@@ -1,5 +1,5 @@
 use Rattle.std.proofs.Common.{◌≡◌, take}
-use Rattle.kl1_account.specs.Drafts.{restood}
+use Rattle.kl1_effects.specs.Drafts.{restood}
 use Rattle.kl1_account.proofs.loading.install_module.Given as goal
 
 -- the changes so far are made

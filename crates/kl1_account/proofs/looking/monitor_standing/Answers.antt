@@ -5,7 +5,7 @@ use Rattle.kl1_text.specs.declared.cell_name.CellName.{CellName}
 use Rattle.kl1_goals.specs.declared.task.Task.TheVariants.{Monitor}
 use Rattle.kl1_shoen.specs.declared.shoen.Shoen.{Shoen}
 use Rattle.kl1_modules.specs.Numbered.{Numbered}
-use Rattle.kl1_account.specs.declared.draft.Change.{Change}
+use Rattle.kl1_effects.specs.declared.draft.Change.{Change}
 use Rattle.kl1_account.specs.Looking.{HearsAt, StandsAt}
 use Rattle.kl1_account.proofs.SettledStays.{control_in}
 use Rattle.kl1_account.proofs.Looks.{nobody_stands, monitor_stands}

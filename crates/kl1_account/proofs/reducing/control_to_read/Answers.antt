@@ -1,9 +1,9 @@
 use Rattle.std.proofs.Common.{refl, sym, ap, ◌∙◌}
 use Rattle.std.specs.Prelude.{Some, None, option_copied}
 use Rattle.kl1_shoen.specs.Shoens.{shoen_in}
-use Rattle.kl1_account.specs.Account.{Account, meaning, shoen_with}
+use Rattle.kl1_effects.specs.Account.{Account, meaning, shoen_with}
 use Rattle.kl1_account.specs.Reducing.{with_tree}
-use Rattle.kl1_account.proofs.States.{found_shoen_in}
+use Rattle.kl1_effects.proofs.States.{found_shoen_in}
 use Rattle.kl1_stream.specs.Controls.{control_as}
 use Rattle.kl1_model.specs.Reduction.{reads}
 use Rattle.kl1_account.proofs.Steps.{steps_not, steps_full, steps_on, monitor_does, monitor_takes, monitor_reads, is_some_read, is_none_read}

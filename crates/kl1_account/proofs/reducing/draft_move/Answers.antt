@@ -2,12 +2,12 @@ use Rattle.std.proofs.Common.{ℕ, ◌≤◌, [], length, refl, sym, arith, subs
 use Rattle.kl1_goals.specs.declared.task.Task.{Task}
 use Rattle.kl1_moves.specs.Moves.{taken_places}
 use Rattle.kl1_text.specs.declared.cell_name.CellName.{CellName}
-use Rattle.kl1_account.specs.Account.{Account}
-use Rattle.kl1_account.specs.Kept.{IsTaskIn, IsOwned, AreUpTo}
-use Rattle.kl1_account.specs.Settled.{IsEnabled}
+use Rattle.kl1_effects.specs.Account.{Account}
+use Rattle.kl1_effects.specs.Kept.{IsTaskIn, IsOwned, AreUpTo}
+use Rattle.kl1_effects.specs.Settled.{IsEnabled}
 use Rattle.kl1_account.specs.Reducing.{account_at}
-use Rattle.kl1_account.proofs.Aims.{kind_at}
-use Rattle.kl1_account.proofs.States.{goals_grown}
+use Rattle.kl1_effects.proofs.Aims.{kind_at}
+use Rattle.kl1_effects.proofs.States.{goals_grown}
 use Rattle.kl1_account.proofs.Steps.{found_holds}
 use Rattle.kl1_account.proofs.Reductions.{shoen_lets, alive_left, does_reduces}
 use Rattle.kl1_account.proofs.reducing.draft_move.Goals as goal

@@ -1,7 +1,7 @@
 use Rattle.std.proofs.Common.{refl, arith, []}
-use Rattle.kl1_account.specs.Account.{Account, texts_of}
+use Rattle.kl1_effects.specs.Account.{Account, texts_of}
 use Rattle.kl1_account.specs.Reducing.{account_at}
-use Rattle.kl1_account.proofs.States.{goals_grown}
+use Rattle.kl1_effects.proofs.States.{goals_grown}
 use Rattle.kl1_account.proofs.Reductions.{heard_reduces}
 use Rattle.kl1_account.proofs.reducing.draft_reading.Goals as goal
 

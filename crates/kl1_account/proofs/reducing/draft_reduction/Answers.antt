@@ -1,5 +1,5 @@
 use Rattle.std.proofs.Common.{refl}
-use Rattle.kl1_account.specs.Account.{Account}
+use Rattle.kl1_effects.specs.Account.{Account}
 use Rattle.kl1_account.specs.Reducing.{account_at}
 use Rattle.kl1_account.proofs.reducing.draft_reduction.Goals as goal
 

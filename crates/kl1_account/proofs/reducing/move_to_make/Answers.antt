@@ -5,7 +5,7 @@ use Rattle.kl1_text.specs.declared.cell_name.CellName.{CellName}
 use Rattle.kl1_moves.specs.declared.moves.Move.{Move}
 use Rattle.kl1_moves.specs.Moves.{MovesAs, MoveIn, taken_places}
 use Rattle.kl1_modules.specs.Finding.{contents}
-use Rattle.kl1_account.specs.Account.{Account, aim}
+use Rattle.kl1_effects.specs.Account.{Account, aim}
 use Rattle.kl1_account.specs.Reducing.{with_modules, move_at}
 use Rattle.kl1_account.proofs.Steps.{steps_not, steps_full, goal_does}
 use Rattle.kl1_account.proofs.Drafted.{allowed_move}

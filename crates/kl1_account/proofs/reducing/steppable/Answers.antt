@@ -1,5 +1,5 @@
 use Rattle.std.proofs.Common.{sym, ◌∙◌}
-use Rattle.kl1_account.specs.Account.{Account}
+use Rattle.kl1_effects.specs.Account.{Account}
 use Rattle.kl1_account.proofs.Steps.{steps_nowhere, steps_held, not_so}
 use Rattle.kl1_account.proofs.reducing.steppable.Goals as goal
 

@@ -1,5 +1,5 @@
 use Rattle.kl1_account.proofs.Origins.{origin_in}
-use Rattle.kl1_account.proofs.States.{goals_grown}
+use Rattle.kl1_effects.proofs.States.{goals_grown}
 use Rattle.kl1_account.proofs.Sent.{is_sent}
 use Rattle.kl1_account.proofs.sending.draft_message.Goals as goal
 

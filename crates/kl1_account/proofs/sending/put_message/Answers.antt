@@ -2,9 +2,9 @@ use Rattle.std.proofs.Common.{◌≡◌, ◌+◌, List, sym, ap, arith, subst}
 use Rattle.kl1_text.specs.declared.cell_name.CellName.{CellName}
 use Rattle.kl1_shoen.specs.declared.shoen.Shoen.{Shoen}
 use Rattle.kl1_shoen.specs.Shoens.{Tree, changed}
-use Rattle.kl1_account.specs.declared.draft.Draft.{Draft}
+use Rattle.kl1_effects.specs.declared.draft.Draft.{Draft}
 use Rattle.kl1_account.specs.Sending.{PutsOn}
-use Rattle.kl1_account.proofs.States.{shoens_grown}
+use Rattle.kl1_effects.proofs.States.{shoens_grown}
 use Rattle.kl1_account.proofs.Messages.{going_on, puts, puts_inside, puts_alike}
 use Rattle.kl1_account.proofs.sending.put_message.Goals as goal
 

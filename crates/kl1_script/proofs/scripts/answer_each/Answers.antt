@@ -1,5 +1,5 @@
 use Rattle.std.proofs.Common.{◌∙◌, true, false, refl, sym}
-use Rattle.kl1_account.specs.Account.{state_of}
+use Rattle.kl1_effects.specs.Account.{state_of}
 use Rattle.kl1_lines.specs.Records.{request_of}
 use Rattle.kl1_script.proofs.Endings.{more_done, fails_there, ends_here, finish_waiting}
 use Rattle.kl1_script.proofs.Readings.{reading_of, reading_fits}

@@ -1,7 +1,7 @@
 use Rattle.std.proofs.Common.{◌≡◌, ◌<◌, length}
 use Rattle.kl1_model.specs.Limits.{most_waiting_bytes}
-use Rattle.kl1_account.specs.Fitting.{Reading, Fits}
-use Rattle.kl1_account.specs.Account.{state_of}
+use Rattle.kl1_effects.specs.Fitting.{Reading, Fits}
+use Rattle.kl1_effects.specs.Account.{state_of}
 use Rattle.kl1_script.proofs.Endings.{Underway}
 use Rattle.kl1_script.proofs.scripts.answer_each.Given as goal
 

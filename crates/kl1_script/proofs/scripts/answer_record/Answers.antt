@@ -1,5 +1,5 @@
 use Rattle.std.proofs.Common.{subst, List, ℕ, ◌∙◌}
-use Rattle.kl1_account.specs.Account.{state_of}
+use Rattle.kl1_effects.specs.Account.{state_of}
 use Rattle.kl1_lines.specs.Records.{request_of}
 use Rattle.kl1_script.specs.Scripts.{Stops}
 use Rattle.kl1_script.specs.Told.{told_by}

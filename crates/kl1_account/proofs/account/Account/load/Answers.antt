@@ -2,7 +2,7 @@ use Rattle.std.proofs.Common.{◌≡◌, ℕ, List, [], ◌∷◌, ◌++◌, ref
 use Rattle.std.specs.Prelude.{◌↔◌}
 use Rattle.kl1_atoms.specs.declared.known.Known.{Known}
 use Rattle.kl1_atoms.specs.Names.{AreNames}
-use Rattle.kl1_account.specs.Account.{Account}
+use Rattle.kl1_effects.specs.Account.{Account}
 use Rattle.kl1_text.specs.declared.cell_name.CellName.{CellName}
 use Rattle.kl1_goals.specs.Tables.{Tabled}
 use Rattle.kl1_modules.specs.Numbered.{Numbered, ArePlaced}

@@ -7,8 +7,8 @@ use Rattle.kl1_event.specs.declared.reply.Reply.{Reply}
 use Rattle.kl1_event.specs.Views.{reply_of}
 use Rattle.kl1_modules.specs.Finding.{contents}
 use Rattle.kl1_modules.specs.Shelves.{Shelf}
-use Rattle.kl1_account.specs.Fitting.{Reading, Fits}
-use Rattle.kl1_account.specs.Account.{Account, state_of}
+use Rattle.kl1_effects.specs.Fitting.{Reading, Fits}
+use Rattle.kl1_effects.specs.Account.{Account, state_of}
 use Rattle.kl1_account.proofs.account.Account.modules.Goals as goal
 
 pub returns : goal.returns

@@ -3,7 +3,7 @@ use Rattle.kl1_text.specs.declared.cell_name.CellName.{CellName}
 use Rattle.kl1_atoms.specs.declared.known.Known.{Known}
 use Rattle.kl1_shoen.specs.Shoens.{Tree}
 use Rattle.kl1_account.specs.Accounts.{kept_in}
-use Rattle.kl1_account.specs.Calling.{IsNewName}
+use Rattle.kl1_effects.specs.Calling.{IsNewName}
 use Rattle.kl1_account.proofs.ReducePut.{kept_at, comes_of, reduced_of, refused_of, published_of, fits_table, put_kept, put_steps, as_before, still_kept, refused_step}
 use Rattle.kl1_account.proofs.account.Account.reduce.Goals as goal
 

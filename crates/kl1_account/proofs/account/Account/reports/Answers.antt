@@ -1,8 +1,8 @@
 use Rattle.std.proofs.Common.{◌≡◌, List, sym, ap, ◌∙◌, subst}
 use Rattle.kl1_model.specs.State.{State}
 use Rattle.kl1_atoms.specs.declared.known.Known.{Known}
-use Rattle.kl1_account.specs.Fitting.{Fits}
-use Rattle.kl1_account.specs.Account.{Account}
+use Rattle.kl1_effects.specs.Fitting.{Fits}
+use Rattle.kl1_effects.specs.Account.{Account}
 use Rattle.kl1_account.specs.Accounts.{kept_in}
 use Rattle.kl1_account.proofs.account.Account.reports.Goals as goal
 

@@ -14,8 +14,8 @@ use Rattle.kl1_clause.specs.Instructions.{IsRowOf}
 use Rattle.kl1_match.specs.Built.{AreBelow}
 use Rattle.kl1_match.specs.GoalCells.{goal_variables}
 use Rattle.kl1_event.specs.Views.{refusal_of}
-use Rattle.kl1_account.specs.Fitting.{Reading, Fits}
-use Rattle.kl1_account.specs.Account.{Account, state_of, texts_of}
+use Rattle.kl1_effects.specs.Fitting.{Reading, Fits}
+use Rattle.kl1_effects.specs.Account.{Account, state_of, texts_of}
 use Rattle.kl1_account.specs.Accounts.{kept_in}
 use Rattle.kl1_account.specs.Starting.{HasNames, hooks_on}
 use Rattle.kl1_account.proofs.StartChecks.{goal_below, may_numbered, may_high, may_low}

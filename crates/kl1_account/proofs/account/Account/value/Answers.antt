@@ -3,8 +3,8 @@ use Rattle.std.specs.Prelude.{Some, None}
 use Rattle.kl1_model.specs.Event.{no_shoen, shown, refuse, read, value}
 use Rattle.kl1_model.specs.Step.{step}
 use Rattle.kl1_atoms.specs.declared.known.Known.{Known}
-use Rattle.kl1_account.specs.Fitting.{Fits}
-use Rattle.kl1_account.specs.Account.{Account, state_of}
+use Rattle.kl1_effects.specs.Fitting.{Fits}
+use Rattle.kl1_effects.specs.Account.{Account, state_of}
 use Rattle.kl1_account.specs.Accounts.{kept_in}
 use Rattle.kl1_account.proofs.Origins.{kept_at, origin_in, goal_named, reads_none, reads_some}
 use Rattle.kl1_account.proofs.account.Account.value.Goals as goal

@@ -1,7 +1,7 @@
 use Rattle.std.proofs.Common.{List, ◌∙◌, ap, subst}
 use Rattle.kl1_atoms.specs.declared.known.Known.{Known}
 use Rattle.kl1_atoms.specs.Names.{AreNames}
-use Rattle.kl1_account.specs.Account.{Account}
+use Rattle.kl1_effects.specs.Account.{Account}
 use Rattle.kl1_script.proofs.served.Served.shows_names.Goals as goal
 
 pub returns : goal.returns

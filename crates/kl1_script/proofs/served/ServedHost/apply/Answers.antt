@@ -1,5 +1,5 @@
 use Rattle.std.proofs.Common.{◌∙◌, ap, refl}
-use Rattle.kl1_account.specs.Account.{Account}
+use Rattle.kl1_effects.specs.Account.{Account}
 use Rattle.kl1_event.specs.Views.{event_of}
 use Rattle.kl1_user.proofs.Steps.{does_same}
 use Rattle.kl1_script.proofs.Readings.{fits_before, grows_as}

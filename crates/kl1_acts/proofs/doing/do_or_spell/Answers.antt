@@ -1,0 +1,52 @@
+use Rattle.std.proofs.Common.{◌≡◌, ℕ, List, ap, ◌∙◌, subst}
+use Rattle.std.proofs.lemmas.Result.{on_ok_weaker}
+use Rattle.kl1_atoms.specs.declared.known.Known.{Known}
+use Rattle.kl1_atoms.specs.Names.{number_by}
+use Rattle.kl1_moves.specs.Moves.{taken_places}
+use Rattle.kl1_acts.specs.Acting.{Acts}
+use Rattle.kl1_acts.specs.Spelling.{Spells}
+use Rattle.kl1_effects.proofs.Frames.{on_ok_both}
+use Rattle.kl1_acts.proofs.NewNames.{does_acts, does_spelled, spelled_new}
+use Rattle.kl1_acts.proofs.doing.do_or_spell.Goals as goal
+
+pub returns-in_default-clause-does : goal.returns-in_default-clause-does
+returns-in_default-clause-does c =
+    let p = c.args.predicate in
+    let text = c.args.trial.now.text in
+    let ts = taken_places c.args.trial.now in
+    let h = c.args.store.now.held in
+    let k = c.act.new.store.held in
+    let t = c.args.shoens.now in
+    let u = c.act.new.shoens in
+    let d = c.args.draft.now in
+    let e = c.act.new.draft in
+    let goals = c.args.goals.now.goals in
+    let A : List Known → Type 0 = λ ns. Acts p c.args.made ts text c.args.goal c.args.cell goals ns h k t u d e in
+    on_ok_both c.act.result
+    (λ acts same. does_acts p c.args.made ts text c.args.goal c.args.cell goals c.args.names.now.names h k t u d e (c.name_to_spell.ensures.none c.in_default.is) (same ∙ c.requires.unspelled) (subst A c.reserve.ensures.names acts))
+    c.act.ensures.ok c.act.ensures.spelled
+
+pub spell-requires-clause-new : goal.spell-requires-clause-new
+spell-requires-clause-new c =
+    let known = c.args.names.now.names in
+    ap (number_by known) (c.of-text.ensures ∙ c.as_slice.ensures) ∙ spelled_new c.args.made c.args.store.now.held known c.args.trial.now.text c.in-Some.variable c.in-Some.ensures.spells
+
+pub returns-clause-does : goal.returns-clause-does
+returns-clause-does c =
+    let p = c.args.predicate in
+    let text = c.args.trial.now.text in
+    let ts = taken_places c.args.trial.now in
+    let known = c.args.names.now.names in
+    let v = c.in-Some.variable in
+    let h = c.args.store.now.held in
+    let k = c.spell.new.store.held in
+    let t = c.args.shoens.now in
+    let u = c.spell.new.shoens in
+    let d = c.args.draft.now in
+    let e = c.spell.new.draft in
+    let goals = c.args.goals.now.goals in
+    let same : c.of-text.result ≡ text = c.of-text.ensures ∙ c.as_slice.ensures in
+    let S : List ℕ → Type 0 = λ l. Spells c.args.goal.shoen l v goals known h k t u d e in
+    on_ok_weaker c.spell.result
+    (λ spells. does_spelled p c.args.made ts text v c.args.goal c.args.cell goals known h k t u d e c.in-Some.ensures.spells c.requires.none (subst S same spells))
+    c.spell.ensures.spells

@@ -1,0 +1,4 @@
+pub mod Faults
+pub mod Scripts
+pub mod Works
+pub mod Answers

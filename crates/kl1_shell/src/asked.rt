@@ -1,0 +1,21 @@
+// What is asked of an account.
+
+ghost use Rattle.std.specs.Prelude.{◌≡◌, IfOk};
+ghost use Rattle.kl1_model.specs.Asking.{answer};
+ghost use Rattle.kl1_event.specs.Views.{query_of, reply_of};
+
+use kl1_command::Host;
+use kl1_event::{Event, Query, Reply};
+use std::alloc::AllocError;
+
+/// What is answered to a query, which changes nothing.
+pub(crate) fn ask<H: Host>(host: &mut H, query: Query) -> Result<Reply, AllocError>
+    ensures reply { IfOk result (λ reply. (f : H.Reading) → H.fits host.new f → (answer (H.state f host.new) (query_of query)).reply ≡ reply_of reply) }
+    ensures same { (f : H.Reading) → H.fits host.new f → H.state f host.new ≡ H.state f host.old }
+    ensures before { (f : H.Reading) → H.fits host.new f → H.fits host.old f }
+{
+    match host.apply(&Event::Read(query)) {
+        Ok(reply) => Ok(reply),
+        Err(error) => Err(error),
+    }
+}

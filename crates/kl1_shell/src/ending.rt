@@ -1,0 +1,16 @@
+// How a shoen stands once its run is over.
+
+/// How a shoen stands once its run is over.
+#[derive(Clone, Copy)]
+pub enum Ending {
+    /// It terminated, and reported no exception.
+    Terminated,
+    /// It terminated, and reported exceptions.
+    Raised,
+    /// No goal can step, and so many in it and below it wait for ever.
+    Waits(u64),
+    /// It was charged all of its allowance.
+    Exhausted,
+    /// Goals can step, but all steps of the run are done, or the journal is full.
+    Unfinished,
+}

@@ -1,0 +1,68 @@
+// A run in slices, which is told as it goes on.
+
+ghost use Rattle.std.specs.Prelude.{◌≡◌, OnOk};
+ghost use Rattle.kl1_model.specs.Command.{run_from};
+
+use crate::asked::ask;
+use crate::watch::Watch;
+use kl1_command::{Command, Host, Performed, perform};
+use kl1_event::{Query, Reply, ShoenNo};
+use std::alloc::AllocError;
+
+/// The most steps between two looks at what is told.
+const SLICE: u64 = 4_096;
+
+/// Does first steps, at most so many. After an `Err` some of them may be done.
+fn run_slice<H: Host>(host: &mut H, steps: u64) -> Result<(), AllocError>
+    ensures does { OnOk result ((f : H.Reading) → H.fits host.new f → (run_from steps 0 (H.state f host.old)).state ≡ H.state f host.new) }
+    ensures before { (f : H.Reading) → H.fits host.new f → H.fits host.old f }
+{
+    match perform(host, &Command::Run(steps)) {
+        Performed::Whole(_reply) => Ok(()),
+        Performed::Short { steps: _steps } => Err(AllocError),
+        Performed::Memory => Err(AllocError),
+    }
+}
+
+/// Tells what the shoen was charged, and how many goals are alive in it and below it, where that is due.
+fn tell_progress<H: Host, T: Watch>(
+    host: &mut H,
+    shoen: ShoenNo,
+    watch: &mut T,
+) -> Result<(), AllocError>
+    ensures same { OnOk result ((f : H.Reading) → H.fits host.new f → H.state f host.new ≡ H.state f host.old) }
+    ensures before { (f : H.Reading) → H.fits host.new f → H.fits host.old f }
+{
+    if !watch.is_due() {
+        return Ok(());
+    }
+    let reply = ask(host, Query::Status(shoen))?;
+    if let Reply::Status { charged, alive, .. } = reply {
+        watch.tell(charged, alive);
+    }
+    Ok(())
+}
+
+/// Does first steps, one after another, at most so many and until none can step. After an `Err` some of them may be done.
+pub(crate) fn run_watched<H: Host, T: Watch>(
+    host: &mut H,
+    shoen: ShoenNo,
+    steps: u64,
+    watch: &mut T,
+) -> Result<(), AllocError>
+    ensures does { OnOk result ((f : H.Reading) → H.fits host.new f → (run_from steps 0 (H.state f host.old)).state ≡ H.state f host.new) }
+    ensures before { (f : H.Reading) → H.fits host.new f → H.fits host.old f }
+{
+    let mut left = steps;
+    while 0 < left {
+        let slice = left.min(SLICE);
+        run_slice(host, slice)?;
+        left -= slice;
+        tell_progress(host, shoen, watch)?;
+        match host.pick() {
+            None => return Ok(()),
+            Some(_next) => {}
+        }
+    }
+    Ok(())
+}

@@ -1,0 +1,53 @@
+// A goal that is started.
+
+ghost use Rattle.std.specs.Prelude.{◌≡◌, option_map};
+ghost use Rattle.kl1_model.specs.Limits.{most_priority};
+ghost use Rattle.kl1_model.specs.Event as model;
+ghost use Rattle.kl1_model.specs.Step.{step};
+ghost use Rattle.kl1_event.specs.Views.{reply_of};
+ghost use Rattle.kl1_shell.specs.Works.{opened_in, IsStarted};
+
+use crate::loads::refusal_in;
+use crate::stop::Stop;
+use kl1_command::Host;
+use kl1_event::{Event, Refusal, Reply, ShoenNo};
+use kl1_model::limits::MOST_PRIORITY;
+use kl1_term::Term;
+
+/// The shoen that a reply opened, if it opened one.
+fn opened_in(reply: &Reply) -> Option<ShoenNo>
+    ensures { option_map (λ n. n.0) result ≡ opened_in (reply_of reply.now) }
+{
+    match reply {
+        Reply::Opened(shoen) => Some(*shoen),
+        Reply::Loaded(_name) => None,
+        Reply::Sent => None,
+        Reply::Reduced => None,
+        Reply::Ran(_steps) => None,
+        Reply::Shown(_text) => None,
+        Reply::Status { .. } => None,
+        Reply::Listed(_texts) => None,
+        Reply::Quiet(_is_quiet) => None,
+        Reply::Refused(_refusal) => None,
+    }
+}
+
+/// Starts a goal with an allowance and all priorities, and answers the number of its shoen.
+pub(crate) fn start<H: Host>(host: &mut H, goal: Term, allowance: u64) -> Result<ShoenNo, Stop>
+    ensures does { (f : H.Reading) → H.fits host.new f → IsStarted (step (H.state f host.old) (model.start allowance 0 most_priority goal)) result (H.state f host.new) }
+    ensures before { (f : H.Reading) → H.fits host.new f → H.fits host.old f }
+{
+    let event = Event::Start {
+        allowance,
+        low: 0,
+        high: MOST_PRIORITY,
+        goal,
+    };
+    match host.apply(&event) {
+        Ok(reply) => match opened_in(&reply) {
+            Some(shoen) => Ok(shoen),
+            None => Err(Stop::Goal(refusal_in(&reply).unwrap_or(Refusal::Syntax))),
+        },
+        Err(_) => Err(Stop::Memory),
+    }
+}

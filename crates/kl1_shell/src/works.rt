@@ -1,0 +1,73 @@
+// The work: sources, a goal, and its run.
+
+ghost use Rattle.kl1_model.specs.Limits.{most_priority};
+ghost use Rattle.kl1_model.specs.Event as model;
+ghost use Rattle.kl1_model.specs.Step.{step};
+ghost use Rattle.kl1_shell.specs.Works.{texts_of, started, worked_of, IsWorked};
+
+use crate::loads::load_each;
+use crate::runs::run_watched;
+use crate::source_file::SourceFile;
+use crate::starts::start;
+use crate::stop::Stop;
+use crate::watch::Watch;
+use kl1_command::Host;
+use kl1_event::ShoenNo;
+use kl1_term::Term;
+use std::alloc::Global;
+
+/// What is to be done on an account.
+#[derive(Drop)]
+pub struct Work {
+    /// The files whose sources are loaded, in order.
+    pub files: Vec<SourceFile>,
+    /// The goal that is started.
+    pub goal: Term,
+    /// What the goal's shoen may be charged, in reductions.
+    pub allowance: u64,
+    /// The most first steps that are done. After as many as a journal has entries more change nothing.
+    pub steps: u64,
+}
+
+/// Loads the sources in order, starts the goal with all priorities, and does first steps until none can step or all are done.
+/// Answers the number of the goal's shoen.
+pub fn do_work<H: Host, T: Watch>(
+    alloc: Global,
+    host: &mut H,
+    work: Work,
+    watch: &mut T,
+) -> Result<ShoenNo, Stop>
+    ensures does { (f : H.Reading) → H.fits host.new f → IsWorked (worked_of (H.state f host.old) (texts_of work.files.items) work.goal work.allowance work.steps) result (H.state f host.new) }
+    ensures before { (f : H.Reading) → H.fits host.new f → H.fits host.old f }
+{
+    let Work {
+        files,
+        goal,
+        allowance,
+        steps,
+    } = work;
+    match load_each(alloc, host, files.as_slice()) {
+        Ok(()) => start_and_run(host, goal, allowance, steps, watch),
+        Err(stop) => Err(stop),
+    }
+}
+
+/// Starts a goal with an allowance and all priorities, and does first steps until none can step or all are done.
+fn start_and_run<H: Host, T: Watch>(
+    host: &mut H,
+    goal: Term,
+    allowance: u64,
+    steps: u64,
+    watch: &mut T,
+) -> Result<ShoenNo, Stop>
+    ensures does { (f : H.Reading) → H.fits host.new f → IsWorked (started steps (step (H.state f host.old) (model.start allowance 0 most_priority goal))) result (H.state f host.new) }
+    ensures before { (f : H.Reading) → H.fits host.new f → H.fits host.old f }
+{
+    match start(host, goal, allowance) {
+        Ok(shoen) => match run_watched(host, shoen, steps, watch) {
+            Ok(()) => Ok(shoen),
+            Err(_) => Err(Stop::Memory),
+        },
+        Err(stop) => Err(stop),
+    }
+}

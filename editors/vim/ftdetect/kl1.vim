@@ -1,0 +1,1 @@
+autocmd BufNewFile,BufRead *.kl1 setfiletype kl1
