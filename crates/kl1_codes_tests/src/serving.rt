@@ -13,17 +13,6 @@ use kl1_user::AccountName;
 use std::alloc::{AllocError, Global};
 use std::sync::Wait;
 
-/// What is asked of alice when both have loaded, a line each.
-const ALICE: [&[u8]; 4] = [
-    b"start 100 0 10 app:app([1],[2],R)",
-    b"run 100",
-    b"value 1",
-    b"status 1",
-];
-
-/// What is asked of bob then.
-const BOB: [&[u8]; 3] = [b"start 10 0 10 o:p(b,R)", b"run 10", b"value 1"];
-
 /// What both answer.
 const ANSWERS: &[u8] =
     b"alice + loaded app\nbob + loaded o\nalice + shoen 1\nalice + 4\nalice + app:app([1],[2],[1,2])\nalice + terminated 4 100 0\nbob + shoen 1\nbob + 2\nbob + o:p(b,2)\n";
@@ -97,16 +86,42 @@ fn put_answer<A: AtomSource + Drop, C: CodeSource + Drop>(
     }
 }
 
-/// Puts what an account answers to lines.
-fn put_answers<A: AtomSource + Drop, C: CodeSource + Drop>(
+/// Puts what an account answers to a line.
+fn put_line<A: AtomSource + Drop, C: CodeSource + Drop>(
     seen: &mut Text,
     served: &mut Served<A, C>,
     name: &[u8],
-    lines: &[&[u8]],
+    line: &[u8],
 ) {
-    for line in lines {
-        put_answer(seen, served, name, Request::Line(line));
-    }
+    put_answer(seen, served, name, Request::Line(line));
+}
+
+/// Puts what an account answers to a load.
+fn put_load<A: AtomSource + Drop, C: CodeSource + Drop>(
+    seen: &mut Text,
+    served: &mut Served<A, C>,
+    name: &[u8],
+    source: &[u8],
+) {
+    put_answer(seen, served, name, Request::Load(source));
+}
+
+/// Puts what alice answers when module `app` is loaded.
+fn put_alice<A: AtomSource + Drop, C: CodeSource + Drop>(
+    seen: &mut Text,
+    alice: &mut Served<A, C>,
+) {
+    put_line(seen, alice, b"alice", b"start 100 0 10 app:app([1],[2],R)");
+    put_line(seen, alice, b"alice", b"run 100");
+    put_line(seen, alice, b"alice", b"value 1");
+    put_line(seen, alice, b"alice", b"status 1");
+}
+
+/// Puts what bob answers when module `o` is loaded.
+fn put_bob<A: AtomSource + Drop, C: CodeSource + Drop>(seen: &mut Text, bob: &mut Served<A, C>) {
+    put_line(seen, bob, b"bob", b"start 10 0 10 o:p(b,R)");
+    put_line(seen, bob, b"bob", b"run 10");
+    put_line(seen, bob, b"bob", b"value 1");
 }
 
 /// Puts what two accounts answer: both load, and then each does what is asked of it.
@@ -115,10 +130,10 @@ fn put_both<A: AtomSource + Drop, C: CodeSource + Drop>(
     alice: &mut Served<A, C>,
     bob: &mut Served<A, C>,
 ) {
-    put_answer(seen, alice, b"alice", Request::Load(APP));
-    put_answer(seen, bob, b"bob", Request::Load(O));
-    put_answers(seen, alice, b"alice", ALICE.as_slice());
-    put_answers(seen, bob, b"bob", BOB.as_slice());
+    put_load(seen, alice, b"alice", APP);
+    put_load(seen, bob, b"bob", O);
+    put_alice(seen, alice);
+    put_bob(seen, bob);
 }
 
 /// Whether two accounts over one table of names and this table of codes answer what they have to.
