@@ -16,7 +16,7 @@ fn main(rt: HostRuntime) -> ExitCode {
         Ok(false) => {
             let mut source = Counted::new(rt.stdin());
             let mut sink = Counted::new(rt.stdout());
-            match run_script(rt.alloc(), &mut source, &mut sink) {
+            match run_script(&rt, rt.alloc(), &mut source, &mut sink) {
                 Ok(()) => ExitCode::SUCCESS,
                 Err(fault) => tell_fault(&rt, fault),
             }

@@ -44,7 +44,7 @@ use Rattle.kl1_effects.specs.Drafts.{restood_by, restood}
 use Rattle.kl1_effects.specs.Kept.{IsTaskIn, IsOwned}
 use Rattle.kl1_effects.specs.Settled.{front_with, control_with, task_clause, awaited_by_task, AreSettled, IsEnabled}
 use Rattle.kl1_account.specs.Keeping.{IsKept}
-use Rattle.kl1_account.specs.Loadings.{IsDraft, DraftsAs, IsDraftOf, LoadsAs, Settles}
+use Rattle.kl1_account.specs.Loadings.{IsDraft, DraftsAs, IsDraftOf, LoadsAs, StandsIn, Settles}
 use Rattle.kl1_effects.proofs.ModuleNames.{of_module}
 use Rattle.kl1_account.proofs.Restood.{restood_holds, restood_read}
 
@@ -288,11 +288,15 @@ load_kept a source d old hooks known changes names row i r =
     }
 
 -- a module that was drafted
-drafted_at : (ms : List Numbered) (names : List Known) (entries : ℕ) (source : List ℕ) (l : Loading) (d : Numbered) → LoadsAs ms names entries source l → l ≡ Drafted d → IsDraftOf ms names entries source d
-drafted_at ms names entries source l d is e = let P : Loading → Type 0 = λ x. LoadsAs ms names entries source x in subst P e is
+drafted_at : {C R : Type 0} (ms : List Numbered) (names : List Known) (entries : ℕ) (source : List ℕ) (l : Loading C R) (d : Numbered) → LoadsAs ms names entries source l → l ≡ Drafted d → IsDraftOf ms names entries source d
+drafted_at {C} {R} ms names entries source l d is e = let P : Loading C R → Type 0 = λ x. LoadsAs ms names entries source x in subst P e is
+
+-- its code stands where the loading says
+pub stands_at : {C R : Type 0} (has : ℕ × ℕ → Type 0) (l : Loading C R) (d : Numbered) → StandsIn has l → l ≡ Drafted d → has d.place
+stands_at {C} {R} has l d is e = let P : Loading C R → Type 0 = λ x. StandsIn has x in subst P e is
 
 -- a draft for which all that wants memory is done, and the names of which are published
-pub ready : (a : Account) (source : List ℕ) (l : Loading) (d : Numbered) (hooks : List Hook) (found changes : List Change) (used names : List Known) (code : Module) (texts : List (List ℕ)) (items row : List CellName) →
+pub ready : {C R : Type 0} (a : Account) (source : List ℕ) (l : Loading C R) (d : Numbered) (hooks : List Hook) (found changes : List Change) (used names : List Known) (code : Module) (texts : List (List ℕ)) (items row : List CellName) →
     LoadsAs a.modules a.names a.entries source l → l ≡ Drafted d → Settles a.modules d a.shoens hooks a.held a.goals found → changes ≡ found → used ≡ a.names → texts ≡ own_names code → code ≡ d.content →
     texts_of names ≡ with_texts (texts_of used) texts → AreNumbersOf names texts items → row ≡ items → AreSmall names → ((f : Reading) → Fits names f → Fits used f) → IsReady a source d hooks changes names row
 ready a source l d hooks found changes used names code texts items row loads is settles same_changes same_names are code_is put numbers same_row small fits =
@@ -345,8 +349,8 @@ put_steps a self put source d hooks changes names row code name r same e code_is
     ∙ (ap (λ (x : Account). R x d.content.name) e ∙ ap (R put) (sym (name_is ∙ ap (λ (m : Module). m.name) code_is))))
 
 -- an account refuses a load as was found by its modules, its names and its entries
-pub refused_load : (a b : Account) (source : List ℕ) (l : Loading) (r : Refusal) → l ≡ Refused r → LoadsAs a.modules a.names a.entries source l → a ≡ b → (f : Reading) → step (state_of f b) (load source) ≡ refuse (state_of f b) (refusal_of r)
-refused_load a b source l r e loads view f =
-    let L : Loading → Type 0 = λ z. LoadsAs a.modules a.names a.entries source z in
+pub refused_load : {C R : Type 0} (a b : Account) (source : List ℕ) (l : Loading C R) (r : Refusal) → l ≡ Refused r → LoadsAs a.modules a.names a.entries source l → a ≡ b → (f : Reading) → step (state_of f b) (load source) ≡ refuse (state_of f b) (refusal_of r)
+refused_load {C} {R} a b source l r e loads view f =
+    let L : Loading C R → Type 0 = λ z. LoadsAs a.modules a.names a.entries source z in
     let P : Account → Type 0 = λ z. step (state_of f z) (load source) ≡ refuse (state_of f z) (refusal_of r) in
     subst P view (subst L e loads (state_of f a) (record { modules_are = refl; names_are = refl; entries_are = refl }))

@@ -192,6 +192,7 @@ abbrev named_alone : List Known → Known → Numbered
 named_alone all k = record {
   content = record { name = k.text; source = []; clauses = [] };
   row = if is_built_in k.text || list_any (bytes_eq k.text) [] then [] else first_for all k.text ∷ [];
+  place = (0, 0);
 }
 
 -- names as modules

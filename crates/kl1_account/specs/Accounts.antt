@@ -4,7 +4,7 @@ use Rattle.kl1_effects.specs.Account.{Account}
 use Rattle.kl1_account.specs.Keeping as keeping
 
 -- what an account keeps
-abbrev pub kept_in : Inside → Account
+abbrev pub kept_in : {C R : Type 0} → Inside C R → Account
 kept_in u = record {
   own_name = u.name;
   held = u.store.held;
@@ -21,5 +21,5 @@ kept_in u = record {
 }
 
 -- what always holds of the fields
-abbrev pub IsKept : Inside → Type 0
+abbrev pub IsKept : {C R : Type 0} → Inside C R → Type 0
 IsKept u = keeping.IsKept (kept_in u) u.store.hooks u.goals.shoens

@@ -58,9 +58,14 @@ pub record IsDraftOf (ms : List Numbered) (names : List Known) (entries : ℕ) (
   pub loads : (s : State) → step s (load source) ≡ load_module s (good d.content)
 
 -- what comes of a source that is to be loaded
-abbrev pub LoadsAs : List Numbered → List Known → ℕ → List ℕ → Loading → Type 0
+abbrev pub LoadsAs : {C R : Type 0} → List Numbered → List Known → ℕ → List ℕ → Loading C R → Type 0
 LoadsAs ms names entries source (Refused r) = RefusesLoad ms names entries source r
 LoadsAs ms names entries source (Drafted d) = IsDraftOf ms names entries source d
+
+-- the code of a module that is drafted stands at one of these places
+abbrev pub StandsIn : {C R : Type 0} → (ℕ × ℕ → Type 0) → Loading C R → Type 0
+StandsIn has (Refused r) = Unit {0}
+StandsIn has (Drafted d) = has d.place
 
 -- all goals are settled with a drafted module beside the others, after these changes
 abbrev pub Settles : List Numbered → Numbered → List (Shoen CellName) → List Hook → Held CellName → List (Goal CellName) → List Change → Type 0

@@ -1,6 +1,6 @@
 // One account.
 
-ghost use Rattle.std.specs.Prelude.{◌≡◌, [], IfOk, OnErr, option_map};
+ghost use Rattle.std.specs.Prelude.{◌≡◌, ◌↔◌, ℕ, [], IfOk, OnErr, option_map};
 ghost use Rattle.kl1_model.specs.State.{fresh};
 ghost use Rattle.kl1_model.specs.Step.{step};
 ghost use Rattle.kl1_model.specs.Choice.{first, quiet};
@@ -10,6 +10,7 @@ ghost use Rattle.kl1_effects.specs.Account.{state_of};
 ghost use Rattle.kl1_effects.specs.Naming.{Keeps};
 ghost use Rattle.kl1_account.specs.Starting.{HasNames};
 ghost use Rattle.kl1_event.specs.Views.{reply_of, reduced_or, chosen_of};
+ghost use Rattle.kl1_modules.specs.Numbered.{ArePlaced};
 ghost use Rattle.kl1_event.specs.Whole.{whole_value};
 
 use crate::account_name::AccountName;
@@ -25,13 +26,14 @@ use crate::startable::{Starting, code_of};
 use crate::starting::{next_goals, next_number, place, prepare_start};
 use kl1_acts::spell_anew;
 use kl1_atoms::AtomSource;
+use kl1_codes::CodeSource;
 use kl1_effects::{AccountNames, Draft, Walk, publish};
 use kl1_event::{ClauseNo, GoalNo, Refusal, Reply, ShoenNo};
 use kl1_goals::GoalTable;
 use kl1_match::Scratch;
 use kl1_model::Message;
 use kl1_model::limits::MOST_PRINTED_BYTES;
-use kl1_modules::Modules;
+use kl1_modules::{CodedModule, CodedModules, Modules};
 use kl1_moves::Trial;
 use kl1_shoen::ShoenTree;
 use kl1_store::Store;
@@ -40,14 +42,15 @@ use kl1_text::CellName;
 use std::alloc::{AllocError, Global};
 use std::marker::Model;
 
-/// One account, whose names are numbers of a table of names: its cells, goals, shoens, modules and names.
+/// One account, whose names are numbers of a table of names and whose modules refer to codes in a source of codes: its cells,
+/// goals, shoens, modules and names.
 #[derive(Drop)]
-pub struct Account {
+pub struct Account<C: CodeSource> {
     name: AccountName,
     store: Store<CellName>,
     goals: GoalTable<CellName>,
     shoens: ShoenTree<CellName>,
-    modules: Modules,
+    modules: Modules<C>,
     names: AccountNames,
     last_goal: u64,
     variables: u64,
@@ -62,7 +65,7 @@ pub struct Account {
     alloc: Global,
 }
 
-impl Model for Account {
+impl<C: CodeSource> Model for Account<C> {
     ghost use Rattle.std.specs.Coded.{codes};
     ghost use Rattle.kl1_modules.specs.Numbered.{numbered_code};
     ghost use Rattle.kl1_effects.specs.Account.{Account as Kept};
@@ -78,11 +81,12 @@ impl Model for Account {
     ghost invariant = { IsKept };
 }
 
-impl Account {
+impl<C: CodeSource> Account<C> {
     /// An account of this name in which nothing has happened.
     pub fn fresh(alloc: Global, name: AccountName) -> Result<Self, AllocError>
         ensures fresh { IfOk result (λ account. (f : Reading) → state_of f account ≡ fresh name) }
         ensures names { IfOk result (λ account. account.names ≡ []) }
+        ensures modules { IfOk result (λ account. account.modules ≡ []) }
     {
         let mut store = Store::new(alloc);
         let _first = store.fresh()?;
@@ -142,15 +146,18 @@ impl Account {
         &mut self,
         names: &mut A,
         seat: &mut A::Seat,
+        codes: &C,
         number: u64,
         clause: u64,
     ) -> Result<Option<Refusal>, AllocError>
         requires of { A.is_of names.old seat.old }
         requires knows { A.knows seat.old ≡ self.old.names }
+        requires placed { ArePlaced (C.has codes.now) self.old.modules }
         ensures step { IfOk result (λ refused. (f : Reading) → Fits self.new.names f → step (state_of f self.old) (reduce number clause) ≡ record { state = state_of f self.new; reply = reduced_or refused }) }
         ensures err { OnErr result (self.new ≡ self.old) }
         ensures keeps { Keeps A.is_of A.place A.knows names.old names.new seat.old seat.new }
         ensures knows { A.knows seat.new ≡ self.new.names }
+        ensures modules { self.new.modules ≡ self.old.modules }
     {
         self.numbers.clear();
         self.numbers.reserve(1)?;
@@ -161,7 +168,7 @@ impl Account {
             &mut self.store,
             &mut self.goals,
             &mut self.shoens,
-            &self.modules,
+            &CodedModules::over(&self.modules, codes),
             &mut self.names,
             &mut self.trial,
             &mut self.draft,
@@ -204,9 +211,11 @@ impl Account {
     }
 
     /// Sends a message to the shoen of a number, which the console started.
-    pub fn send(&mut self, number: u64, message: Message) -> Result<Reply, AllocError>
+    pub fn send(&mut self, codes: &C, number: u64, message: Message) -> Result<Reply, AllocError>
+        requires { ArePlaced (C.has codes.now) self.old.modules }
         ensures step { IfOk result (λ reply. (f : Reading) → Fits self.old.names f → step (state_of f self.old) (control number message) ≡ record { state = state_of f self.new; reply = reply_of reply }) }
         ensures names { self.new.names ≡ self.old.names }
+        ensures modules { self.new.modules ≡ self.old.modules }
         ensures err { OnErr result (self.new ≡ self.old) }
     {
         let mark = self.store.mark();
@@ -216,7 +225,7 @@ impl Account {
             &mut self.store,
             &self.goals,
             &mut self.shoens,
-            &self.modules,
+            &CodedModules::over(&self.modules, codes),
             &mut self.trial,
             &mut self.draft,
             self.last_goal,
@@ -250,19 +259,24 @@ impl Account {
         &mut self,
         names: &mut A,
         seat: &mut A::Seat,
+        codes: &mut C,
         source: &[u8],
     ) -> Result<Reply, AllocError>
         requires of { A.is_of names.old seat.old }
         requires knows { A.knows seat.old ≡ self.old.names }
+        requires placed { ArePlaced (C.has codes.old) self.old.modules }
         ensures step { IfOk result (λ reply. (f : Reading) → Fits self.new.names f → step (state_of f self.old) (load_event source.now) ≡ record { state = state_of f self.new; reply = reply_of reply }) }
         ensures err { OnErr result (self.new ≡ self.old) }
         ensures keeps { Keeps A.is_of A.place A.knows names.old names.new seat.old seat.new }
         ensures knows { A.knows seat.new ≡ self.new.names }
+        ensures placed { ArePlaced (C.has codes.new) self.new.modules }
+        ensures same { (p : ℕ × ℕ) → C.has codes.old p ↔ C.has codes.new p }
     {
         let draft = match draft_module(
             self.alloc,
             &self.modules,
             &self.names,
+            codes,
             self.entries,
             source,
         )? {
@@ -275,16 +289,24 @@ impl Account {
             &self.goals,
             &self.shoens,
             &mut self.modules,
+            codes,
             &mut self.names,
             &mut self.trial,
-            &draft,
+            &CodedModule::over(&draft, codes),
             &mut self.draft.changes,
         )?;
-        publish(names, seat, &mut self.names, draft.code().names(), &mut row);
-        let name = draft.code().module_name();
+        publish(
+            names,
+            seat,
+            &mut self.names,
+            draft.code(codes).names(),
+            &mut row,
+        );
+        let name = draft.code(codes).module_name();
         install_module(
             &mut self.goals,
             &mut self.modules,
+            codes,
             draft,
             row.as_slice(),
             self.draft.changes.as_slice(),
@@ -298,6 +320,7 @@ impl Account {
         &mut self,
         names: &mut A,
         seat: &mut A::Seat,
+        codes: &C,
         allowance: u64,
         low: u64,
         high: u64,
@@ -305,10 +328,12 @@ impl Account {
     ) -> Result<Reply, AllocError>
         requires of { A.is_of names.old seat.old }
         requires knows { A.knows seat.old ≡ self.old.names }
+        requires placed { ArePlaced (C.has codes.now) self.old.modules }
         ensures step { IfOk result (λ reply. (f : Reading) → Fits self.new.names f → step (state_of f self.old) (start_event allowance low high goal.now) ≡ record { state = state_of f self.new; reply = reply_of reply }) }
         ensures err { OnErr result (self.new ≡ self.old) }
         ensures keeps { Keeps A.is_of A.place A.knows names.old names.new seat.old seat.new }
         ensures knows { A.knows seat.new ≡ self.new.names }
+        ensures modules { self.new.modules ≡ self.old.modules }
     {
         let last = next_goals(self.last_goal)?;
         let shoen = next_number(self.shoens.len())?;
@@ -325,7 +350,7 @@ impl Account {
             &mut self.store,
             &mut self.goals,
             &mut self.shoens,
-            &self.modules,
+            &CodedModules::over(&self.modules, codes),
             &mut self.names,
             texts,
             row,
@@ -393,10 +418,11 @@ impl Account {
     }
 
     /// The modules, in order of loading.
-    pub fn modules(&self) -> Result<Reply, AllocError>
+    pub fn modules(&self, codes: &C) -> Result<Reply, AllocError>
+        requires { ArePlaced (C.has codes.now) self.now.modules }
         ensures step { IfOk result (λ reply. (f : Reading) → Fits self.now.names f → step (state_of f self.now) (read modules_query) ≡ record { state = state_of f self.now; reply = reply_of reply }) }
     {
-        modules_of(self.alloc, &self.modules)
+        modules_of(self.alloc, &CodedModules::over(&self.modules, codes))
     }
 
     /// The goal of the shoen of a number, as started, with what is bound now.

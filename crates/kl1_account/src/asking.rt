@@ -22,11 +22,12 @@ use crate::limits::{are_numbers, is_number};
 use crate::printing::print_cell;
 use itoa::Buffer;
 use kl1_atoms::AtomSource;
+use kl1_codes::CodeSource;
 use kl1_event::{Listed, Refusal, Reply};
 use kl1_goals::GoalTable;
 use kl1_model::limits::{MOST_LISTED, MOST_PRINTED_BYTES};
 use kl1_model::{Condition, Life};
-use kl1_modules::{Loaded, Modules};
+use kl1_modules::{CodedModule, CodedModules};
 use kl1_shoen::{Shoen, ShoenTree};
 use kl1_store::{Cell, Store};
 use kl1_stream::{next_element, nth_cell};
@@ -145,7 +146,7 @@ pub(crate) fn reports_of<A: AtomSource>(
 }
 
 /// A module's name, how many bytes its source has, and how many clauses.
-fn line_of(alloc: Global, loaded: &Loaded) -> Result<Vec<u8>, AllocError>
+fn line_of<C: CodeSource>(alloc: Global, loaded: &CodedModule<'_, C>) -> Result<Vec<u8>, AllocError>
     ensures { IfOk result (λ line. line.items ≡ module_line loaded.now.content) }
 {
     let code = loaded.code();
@@ -166,7 +167,10 @@ fn put_count(line: &mut Vec<u8>, count: usize) -> Result<(), AllocError>
 }
 
 /// The modules, in order of loading.
-pub(crate) fn modules_of(alloc: Global, loaded: &Modules) -> Result<Reply, AllocError>
+pub(crate) fn modules_of<C: CodeSource>(
+    alloc: Global,
+    loaded: &CodedModules<'_, C>,
+) -> Result<Reply, AllocError>
     ensures { IfOk result (λ reply. (s : State) → s.modules ≡ contents loaded.now.loaded → step s (read modules) ≡ record { state = s; reply = reply_of reply }) }
 {
     let mut listed = Listed::new(alloc);
@@ -174,7 +178,7 @@ pub(crate) fn modules_of(alloc: Global, loaded: &Modules) -> Result<Reply, Alloc
         let Some(module) = loaded.get(place) else {
             return Ok(Reply::Listed(listed));
         };
-        listed.push(line_of(alloc, module)?)?;
+        listed.push(line_of(alloc, &module)?)?;
     }
     Ok(Reply::Listed(listed))
 }

@@ -11,9 +11,10 @@ ghost use Rattle.kl1_account.specs.Finishing.{LooksAgain, ShiftsFor, Finishes};
 
 use crate::looking::{wake_added, wake_told};
 use kl1_clause::Predicate;
+use kl1_codes::CodeSource;
 use kl1_effects::{Draft, Walk};
 use kl1_goals::GoalTable;
-use kl1_modules::Modules;
+use kl1_modules::CodedModules;
 use kl1_moves::{Kind, Trial};
 use kl1_shoen::ShoenTree;
 use kl1_store::{Point, Store};
@@ -21,11 +22,11 @@ use kl1_text::CellName;
 use std::alloc::AllocError;
 
 /// Looks at the goals that were told of bindings since a mark, and at those that come. The predicate of goals of one kind is known.
-fn look_again(
+fn look_again<C: CodeSource>(
     store: &mut Store<CellName>,
     goals: &GoalTable<CellName>,
     shoens: &ShoenTree<CellName>,
-    modules: &Modules,
+    modules: &CodedModules<'_, C>,
     known: Kind<CellName>,
     predicate: Predicate<'_, CellName>,
     trial: &mut Trial<CellName>,
@@ -85,11 +86,11 @@ fn set_flags(shoens: &ShoenTree<CellName>, draft: &mut Draft, walk: &Walk) -> Re
 /// Finishes a draft of what was done since a mark: looks at the goals that are to be looked at, finds which goals may step now where that
 /// may be other than before, and makes room for what comes. The predicate of goals of one kind is known. Where memory is refused, the
 /// store may have grown.
-pub(crate) fn finish(
+pub(crate) fn finish<C: CodeSource>(
     store: &mut Store<CellName>,
     goals: &mut GoalTable<CellName>,
     shoens: &ShoenTree<CellName>,
-    modules: &Modules,
+    modules: &CodedModules<'_, C>,
     known: Kind<CellName>,
     predicate: Predicate<'_, CellName>,
     trial: &mut Trial<CellName>,

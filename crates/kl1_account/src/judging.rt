@@ -13,9 +13,10 @@ ghost use Rattle.kl1_account.specs.Starting.{Judges, IsDrafted};
 use crate::looking::predicate_of;
 use crate::opening::{Opening, open_streams};
 use kl1_clause::Instruction;
+use kl1_codes::CodeSource;
 use kl1_effects::{AccountNames, draft_row};
 use kl1_match::{Scratch, put_goal, put_goal_variables, reserve_goal};
-use kl1_modules::Modules;
+use kl1_modules::CodedModules;
 use kl1_moves::{Trial, kind_of, standing_of};
 use kl1_store::Store;
 use kl1_text::{AtomText, CellName};
@@ -23,9 +24,9 @@ use std::alloc::AllocError;
 
 /// The clause by which the goal of a row can step, or none, where its names have these numbers and the scratch has its variables;
 /// the trial gets what it waits for. The store has grown by the goal then.
-fn judge(
+fn judge<C: CodeSource>(
     store: &mut Store<CellName>,
-    modules: &Modules,
+    modules: &CodedModules<'_, C>,
     numbers: &[CellName],
     row: &[Instruction],
     scratch: &mut Scratch<CellName>,
@@ -49,9 +50,9 @@ fn judge(
 /// Drafts a start of the goal of these names and this row, which has so many variables, for an account that made so many reports: in
 /// the store these and the streams of the shoen, in the trial what the goal waits for. There is room for the numbers of its names then. Where memory is refused, the store
 /// may have grown.
-pub(crate) fn draft_start(
+pub(crate) fn draft_start<C: CodeSource>(
     store: &mut Store<CellName>,
-    modules: &Modules,
+    modules: &CodedModules<'_, C>,
     names: &AccountNames,
     texts: &[AtomText],
     row: &[Instruction],

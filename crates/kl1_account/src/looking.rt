@@ -18,9 +18,10 @@ ghost use Rattle.kl1_effects.specs.Works.{Knows};
 ghost use Rattle.kl1_account.specs.Looking.{Serves, calls_same, StandsBy, HearsAt, StandsAt, FindsOut, Wakes, WakesTold, LooksAtOne, LooksAtAdded};
 
 use kl1_clause::Predicate;
+use kl1_codes::CodeSource;
 use kl1_effects::Change;
 use kl1_goals::{Goal, GoalTable, Task};
-use kl1_modules::Modules;
+use kl1_modules::CodedModules;
 use kl1_moves::{Call, Kind, Trial, hang_on, kind_of_qualified, or_none, standing_of};
 use kl1_shoen::ShoenTree;
 use kl1_store::{Cell, Qualified, Store};
@@ -29,7 +30,10 @@ use kl1_text::CellName;
 use std::alloc::AllocError;
 
 /// The clauses of the predicate of a goal of a kind; none where there is no such predicate, or it is no call.
-pub(crate) fn predicate_of(modules: &Modules, kind: Kind<CellName>) -> Predicate<'_, CellName>
+pub(crate) fn predicate_of<'a, C: CodeSource>(
+    modules: &'a CodedModules<'_, C>,
+    kind: Kind<CellName>,
+) -> Predicate<'a, CellName>
     ensures some { AreSome result.names.now result.clauses.now }
     ensures has { (f : Reading) → Knows modules.now.loaded f → (h : Held CellName) (t : Term) → IsKind f h t kind → HasPredicate f h (contents modules.now.loaded) kind result }
     ensures serves { Serves modules.now.loaded kind result }
@@ -69,8 +73,8 @@ fn calls_same(call: Call<CellName>, kind: Kind<CellName>) -> bool
 /// The clauses of the predicate of a goal of a kind, where those of goals of another kind are known: of the same predicate they
 /// aren't looked up again.
 #[inline(always)]
-fn predicate_near<'a>(
-    modules: &'a Modules,
+fn predicate_near<'a, C: CodeSource>(
+    modules: &'a CodedModules<'_, C>,
     known: Kind<CellName>,
     predicate: Predicate<'a, CellName>,
     kind: Kind<CellName>,
@@ -122,9 +126,9 @@ pub(crate) fn hung_standing(
 
 /// The same of the goal of a number, which is for a cell, where the predicate of goals of one kind is known.
 #[inline(always)]
-fn standing_at(
+fn standing_at<C: CodeSource>(
     store: &mut Store<CellName>,
-    modules: &Modules,
+    modules: &CodedModules<'_, C>,
     known: Kind<CellName>,
     predicate: Predicate<'_, CellName>,
     trial: &mut Trial<CellName>,
@@ -187,10 +191,10 @@ pub(crate) fn monitor_standing(
 
 /// The clause by which the goal of a number can step, which is of a shoen and has a task, or none. The predicate of goals of one
 /// kind is known here and below; the number is hung on each variable that the goal waits for.
-fn task_standing(
+fn task_standing<C: CodeSource>(
     store: &mut Store<CellName>,
     shoens: &ShoenTree<CellName>,
-    modules: &Modules,
+    modules: &CodedModules<'_, C>,
     known: Kind<CellName>,
     predicate: Predicate<'_, CellName>,
     trial: &mut Trial<CellName>,
@@ -213,10 +217,10 @@ fn task_standing(
 }
 
 /// Looks at the goal of a number: the clause by which it can step becomes one change more.
-fn look_at_task(
+fn look_at_task<C: CodeSource>(
     store: &mut Store<CellName>,
     shoens: &ShoenTree<CellName>,
-    modules: &Modules,
+    modules: &CodedModules<'_, C>,
     known: Kind<CellName>,
     predicate: Predicate<'_, CellName>,
     trial: &mut Trial<CellName>,
@@ -241,11 +245,11 @@ fn look_at_task(
 }
 
 /// Looks at the goal of a number, where it is there and is not the one that is removed.
-fn wake(
+fn wake<C: CodeSource>(
     store: &mut Store<CellName>,
     goals: &GoalTable<CellName>,
     shoens: &ShoenTree<CellName>,
-    modules: &Modules,
+    modules: &CodedModules<'_, C>,
     known: Kind<CellName>,
     predicate: Predicate<'_, CellName>,
     trial: &mut Trial<CellName>,
@@ -274,11 +278,11 @@ fn wake(
 
 /// Looks at the goals of these numbers that are there, monitors too, but the one that is removed. A goal that goes for another
 /// reason may be looked at as well: that makes nothing of the others. Where memory is refused, more may hang.
-pub(crate) fn wake_told(
+pub(crate) fn wake_told<C: CodeSource>(
     store: &mut Store<CellName>,
     goals: &GoalTable<CellName>,
     shoens: &ShoenTree<CellName>,
-    modules: &Modules,
+    modules: &CodedModules<'_, C>,
     known: Kind<CellName>,
     predicate: Predicate<'_, CellName>,
     trial: &mut Trial<CellName>,
@@ -303,10 +307,10 @@ pub(crate) fn wake_told(
 }
 
 /// A goal that comes, with the clause by which it can step, and whether its shoen lets it.
-fn looked_goal(
+fn looked_goal<C: CodeSource>(
     store: &mut Store<CellName>,
     shoens: &ShoenTree<CellName>,
-    modules: &Modules,
+    modules: &CodedModules<'_, C>,
     known: Kind<CellName>,
     predicate: Predicate<'_, CellName>,
     trial: &mut Trial<CellName>,
@@ -344,10 +348,10 @@ fn looked_goal(
 
 /// Looks at goals that come: each gets the clause by which it can step, and whether its shoen lets it. Where memory is refused, more
 /// may hang.
-pub(crate) fn wake_added(
+pub(crate) fn wake_added<C: CodeSource>(
     store: &mut Store<CellName>,
     shoens: &ShoenTree<CellName>,
-    modules: &Modules,
+    modules: &CodedModules<'_, C>,
     known: Kind<CellName>,
     predicate: Predicate<'_, CellName>,
     trial: &mut Trial<CellName>,

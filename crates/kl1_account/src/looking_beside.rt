@@ -19,9 +19,10 @@ ghost use Rattle.kl1_account.specs.Looking.{StandsAt, FindsOut, LooksBelow, Look
 
 use crate::looking::{hung_standing, monitor_standing};
 use kl1_clause::Predicate;
+use kl1_codes::CodeSource;
 use kl1_effects::Change;
 use kl1_goals::{Goal, GoalTable, Task};
-use kl1_modules::{Loaded, Modules};
+use kl1_modules::{CodedModule, CodedModules};
 use kl1_moves::{Kind, Trial, kind_of_qualified, or_none};
 use kl1_shoen::ShoenTree;
 use kl1_store::{Qualified, Store};
@@ -30,9 +31,9 @@ use std::alloc::AllocError;
 
 /// The clauses of the predicate of a goal of a kind, in modules or in one that is drafted; none where there is no such predicate,
 /// or it is no call.
-fn predicate_beside<'a>(
-    modules: &'a Modules,
-    draft: &'a Loaded,
+fn predicate_beside<'a, C: CodeSource>(
+    modules: &'a CodedModules<'_, C>,
+    draft: &'a CodedModule<'_, C>,
     kind: Kind<CellName>,
 ) -> Predicate<'a, CellName>
     requires { is_numbered modules.now.loaded (number_of draft.now) ≡ false }
@@ -58,10 +59,10 @@ fn predicate_beside<'a>(
 
 /// The clause by which the goal of a number can step, which is for a cell, or none. The number is hung on each variable that the goal
 /// waits for.
-fn standing_beside(
+fn standing_beside<C: CodeSource>(
     store: &mut Store<CellName>,
-    modules: &Modules,
-    draft: &Loaded,
+    modules: &CodedModules<'_, C>,
+    draft: &CodedModule<'_, C>,
     trial: &mut Trial<CellName>,
     number: u64,
     cell: Qualified<CellName>,
@@ -78,11 +79,11 @@ fn standing_beside(
 }
 
 /// The same of a goal of a shoen with a task.
-fn task_beside(
+fn task_beside<C: CodeSource>(
     store: &mut Store<CellName>,
     shoens: &ShoenTree<CellName>,
-    modules: &Modules,
-    draft: &Loaded,
+    modules: &CodedModules<'_, C>,
+    draft: &CodedModule<'_, C>,
     trial: &mut Trial<CellName>,
     number: u64,
     shoen: u64,
@@ -102,11 +103,11 @@ fn task_beside(
 }
 
 /// Looks at a goal: the clause by which it can step becomes one change more.
-fn look_at_goal(
+fn look_at_goal<C: CodeSource>(
     store: &mut Store<CellName>,
     shoens: &ShoenTree<CellName>,
-    modules: &Modules,
-    draft: &Loaded,
+    modules: &CodedModules<'_, C>,
+    draft: &CodedModule<'_, C>,
     trial: &mut Trial<CellName>,
     goal: Goal<CellName>,
     changes: &mut Vec<Change>,
@@ -127,12 +128,12 @@ fn look_at_goal(
 }
 
 /// Looks at the goal of number 0, where there is one.
-fn look_at_first(
+fn look_at_first<C: CodeSource>(
     store: &mut Store<CellName>,
     goals: &GoalTable<CellName>,
     shoens: &ShoenTree<CellName>,
-    modules: &Modules,
-    draft: &Loaded,
+    modules: &CodedModules<'_, C>,
+    draft: &CodedModule<'_, C>,
     trial: &mut Trial<CellName>,
     changes: &mut Vec<Change>,
 ) -> Result<(), AllocError>
@@ -150,12 +151,12 @@ fn look_at_first(
 }
 
 /// Looks at all goals, where a module that is drafted is there too. Where memory is refused, more may hang.
-pub(crate) fn look_at_all(
+pub(crate) fn look_at_all<C: CodeSource>(
     store: &mut Store<CellName>,
     goals: &GoalTable<CellName>,
     shoens: &ShoenTree<CellName>,
-    modules: &Modules,
-    draft: &Loaded,
+    modules: &CodedModules<'_, C>,
+    draft: &CodedModule<'_, C>,
     trial: &mut Trial<CellName>,
     changes: &mut Vec<Change>,
 ) -> Result<(), AllocError>

@@ -27,11 +27,12 @@ use crate::limits::are_numbers;
 use crate::looking::predicate_of;
 use kl1_acts::{do_or_spell, read};
 use kl1_clause::Predicate;
+use kl1_codes::CodeSource;
 use kl1_effects::{AccountNames, Draft, Walk};
 use kl1_event::Refusal;
 use kl1_goals::{Goal, GoalTable, Task};
 use kl1_model::limits::MOST_ENTRIES;
-use kl1_modules::Modules;
+use kl1_modules::CodedModules;
 use kl1_moves::{Kind, Move, Trial, kind_of_qualified, move_of};
 use kl1_shoen::ShoenTree;
 use kl1_store::{Qualified, Store};
@@ -108,9 +109,9 @@ fn control_to_read(
 
 /// What a goal for a cell, which may step and is of a kind, does by the clause of a number of its predicate, for an account with so many
 /// entries in its journal, or why that is refused.
-fn move_to_make(
+fn move_to_make<C: CodeSource>(
     store: &Store<CellName>,
-    modules: &Modules,
+    modules: &CodedModules<'_, C>,
     kind: Kind<CellName>,
     predicate: Predicate<'_, CellName>,
     trial: &mut Trial<CellName>,
@@ -137,11 +138,11 @@ fn move_to_make(
 
 /// Drafts what a monitor reads, which may step, by the clause of a number, for an account with this last number of a goal, so many
 /// variables, structures and reports, and so many entries in its journal, or says why it is refused.
-fn draft_reading(
+fn draft_reading<C: CodeSource>(
     store: &mut Store<CellName>,
     goals: &mut GoalTable<CellName>,
     shoens: &mut ShoenTree<CellName>,
-    modules: &Modules,
+    modules: &CodedModules<'_, C>,
     names: &AccountNames,
     trial: &mut Trial<CellName>,
     draft: &mut Draft,
@@ -193,11 +194,11 @@ fn draft_reading(
 
 /// Drafts the move that a goal for a cell does, which may step, by the clause of a number, for an account with this last number of a
 /// goal, so many variables, structures and reports, and so many entries in its journal, or says why it is refused.
-fn draft_move(
+fn draft_move<C: CodeSource>(
     store: &mut Store<CellName>,
     goals: &mut GoalTable<CellName>,
     shoens: &mut ShoenTree<CellName>,
-    modules: &Modules,
+    modules: &CodedModules<'_, C>,
     names: &mut AccountNames,
     trial: &mut Trial<CellName>,
     draft: &mut Draft,
@@ -248,11 +249,11 @@ fn draft_move(
 /// Drafts the reduction of the goal of a number by the clause of a number, for an account with this last number of a goal, so many
 /// variables, structures and reports, and so many entries in its journal, or says why it is refused. Where memory is refused, the store
 /// and the tree may have changed.
-pub(crate) fn draft_reduction(
+pub(crate) fn draft_reduction<C: CodeSource>(
     store: &mut Store<CellName>,
     goals: &mut GoalTable<CellName>,
     shoens: &mut ShoenTree<CellName>,
-    modules: &Modules,
+    modules: &CodedModules<'_, C>,
     names: &mut AccountNames,
     trial: &mut Trial<CellName>,
     draft: &mut Draft,

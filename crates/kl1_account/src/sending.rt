@@ -17,12 +17,13 @@ ghost use Rattle.kl1_account.specs.Sending.{AreAlike, Allows, Refuses, PutsOn, S
 use crate::installing::begin;
 use crate::limits::is_number;
 use crate::looking::{predicate_of, wake_told};
+use kl1_codes::CodeSource;
 use kl1_effects::Draft;
 use kl1_event::Refusal;
 use kl1_goals::GoalTable;
 use kl1_model::Message;
 use kl1_model::limits::{MOST_ENTRIES, MOST_NODES, MOST_VARIABLES};
-use kl1_modules::Modules;
+use kl1_modules::CodedModules;
 use kl1_moves::{Kind, Trial};
 use kl1_shoen::{Origin, ShoenTree};
 use kl1_store::{Cell, Point, Store};
@@ -125,11 +126,11 @@ fn put_message(
 }
 
 /// Looks at the goals and monitors that hang on what was bound since a mark. Where memory is refused, more may hang.
-fn wake_bound(
+fn wake_bound<C: CodeSource>(
     store: &mut Store<CellName>,
     goals: &GoalTable<CellName>,
     shoens: &ShoenTree<CellName>,
-    modules: &Modules,
+    modules: &CodedModules<'_, C>,
     trial: &mut Trial<CellName>,
     draft: &mut Draft,
     mark: Point,
@@ -160,11 +161,11 @@ fn wake_bound(
 
 /// Drafts a message to the shoen of a number, which the console started, or says why it is refused. Where memory is refused, the store
 /// and the tree may have changed.
-pub(crate) fn draft_message(
+pub(crate) fn draft_message<C: CodeSource>(
     store: &mut Store<CellName>,
     goals: &GoalTable<CellName>,
     shoens: &mut ShoenTree<CellName>,
-    modules: &Modules,
+    modules: &CodedModules<'_, C>,
     trial: &mut Trial<CellName>,
     draft: &mut Draft,
     last_goal: u64,

@@ -23,11 +23,12 @@ use crate::judging::draft_start;
 use crate::opening::Opening;
 use crate::placing::{hang_all, hang_one, put_two};
 use kl1_clause::Instruction;
+use kl1_codes::CodeSource;
 use kl1_effects::AccountNames;
 use kl1_goals::GoalTable;
 use kl1_match::{Scratch, put_goal, reserve_goal};
 use kl1_model::Life;
-use kl1_modules::Modules;
+use kl1_modules::CodedModules;
 use kl1_moves::Trial;
 use kl1_shoen::{Origin, Shoen, ShoenTree};
 use kl1_store::{Cell, Store};
@@ -85,11 +86,11 @@ fn reserve_start(
 /// Drafts a start of the goal of these names and this row, which has so many variables, in a shoen that may be charged so much, for
 /// an account that made so many reports, and makes the room that it takes: nothing of
 /// it can be refused then. Where memory is refused, the store holds what it held.
-pub(crate) fn prepare_start(
+pub(crate) fn prepare_start<C: CodeSource>(
     store: &mut Store<CellName>,
     goals: &mut GoalTable<CellName>,
     shoens: &mut ShoenTree<CellName>,
-    modules: &Modules,
+    modules: &CodedModules<'_, C>,
     names: &mut AccountNames,
     texts: &[AtomText],
     row: &[Instruction],

@@ -47,7 +47,9 @@ impl CodeSource for PlainCodes {
 
     type Ref = Arc<Code>;
 
-    ghost is_of = { λ codes r. Unit {0} };
+    ghost has = { λ codes p. Unit {0} };
+
+    ghost place = { λ r. (0, 0) };
 
     ghost meaning = { λ r. arc_value r };
 

@@ -1,6 +1,7 @@
 // The shared table as a source of codes.
 
-ghost use Rattle.boxcar.specs.Table.{Shows};
+ghost use Rattle.std.specs.Prelude.{◌≡◌};
+ghost use Rattle.boxcar.specs.Table.{id_at};
 
 use crate::code_source::CodeSource;
 use crate::code_table::CodeTable;
@@ -18,7 +19,9 @@ pub struct SharedCodes<'c, R: Wait> {
 impl<'c, R: Wait> CodeSource for SharedCodes<'c, R> {
     type Ref = Pushed<Code>;
 
-    ghost is_of = { λ codes r. Shows codes.table.now r };
+    ghost has = { λ codes p. p.0 ≡ id_at codes.table.now.buckets p.1 };
+
+    ghost place = { λ r. (r.row, r.bucket) };
 
     ghost meaning = { λ r. r.value };
 

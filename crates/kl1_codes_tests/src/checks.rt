@@ -1,6 +1,7 @@
 // The checks by their names.
 
 use crate::seeing::{see_faults, see_modules};
+use crate::serving::two_accounts_answer_over_each_word;
 use crate::sharing::{
     each_word_stays_in_place, plain_codes_find_again, table_with, two_threads_get_their_codes,
 };
@@ -82,6 +83,12 @@ pub fn put_checks<R: Threads + Wait + Sync>(rt: &R, out: &mut Text) {
     put_check(
         out,
         b"tables with hints of each word find a source again",
+        done,
+    );
+    let done = two_accounts_answer_over_each_word(rt, alloc);
+    put_check(
+        out,
+        b"two accounts over a table with hints of each word answer",
         done,
     );
     let done = two_threads_get_their_codes(rt, alloc);

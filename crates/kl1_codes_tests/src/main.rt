@@ -1,10 +1,11 @@
-//! Checks of the codes that accounts share, also with two threads, and whether each comes to what is wanted; and how long it takes
-//! to find a code that is there.
+//! Checks of the codes that accounts share, also with two threads and below two accounts, and whether each comes to what is
+//! wanted; and how long it takes to find a code that is there.
 #![tactic(auto)]
 
 mod checks;
 mod modules;
 mod seeing;
+mod serving;
 mod sharing;
 mod times;
 

@@ -1,6 +1,6 @@
 // What a source of codes tells of sources.
 
-ghost use Rattle.std.specs.Prelude.{◌↔◌, IfOk};
+ghost use Rattle.std.specs.Prelude.{◌↔◌, ℕ, IfOk};
 
 use crate::modules::{APP, BAD, K, O};
 use kl1_clause::{Code, CodeFault};
@@ -10,8 +10,8 @@ use kl1_text::put_atom;
 
 /// A reference to the code of a source, at the second try where memory is refused at the first.
 pub fn found<C: CodeSource>(codes: &mut C, source: &[u8]) -> Result<C::Ref, CodeFault>
-    ensures of { IfOk result (λ r. C.is_of codes.new r) }
-    ensures same { (r : C.Ref) → C.is_of codes.old r ↔ C.is_of codes.new r }
+    ensures of { IfOk result (λ r. C.has codes.new (C.place r)) }
+    ensures same { (p : ℕ × ℕ) → C.has codes.old p ↔ C.has codes.new p }
 {
     match codes.find_or_push(source) {
         Err(CodeFault::Memory) => codes.find_or_push(source),
@@ -37,7 +37,7 @@ fn put_code(seen: &mut Text, code: &Code) {
 
 /// Puts what a source of codes tells of a source: its code, which has to be of that source, or the line of a fault.
 fn see<C: CodeSource>(seen: &mut Text, codes: &mut C, source: &[u8])
-    ensures { (r : C.Ref) → C.is_of codes.old r ↔ C.is_of codes.new r }
+    ensures { (p : ℕ × ℕ) → C.has codes.old p ↔ C.has codes.new p }
 {
     match found(codes, source) {
         Err(CodeFault::Bad { line }) => {

@@ -5,3 +5,4 @@ pub mod Steps
 pub mod Parts
 pub mod Names
 pub mod Shelving
+pub mod Placing

@@ -13,7 +13,7 @@ use Rattle.kl1_text.specs.Reading.{Reads}
 use Rattle.kl1_text.specs.declared.cell_name.CellName.{CellName}
 use Rattle.kl1_clause.specs.declared.predicate.Predicate.{Predicate}
 use Rattle.kl1_clause.specs.Predicates.{FoundAs}
-use Rattle.kl1_modules.specs.Numbered.{Numbered, IsRead, AreRead, built, number_of}
+use Rattle.kl1_modules.specs.Numbered.{Numbered, IsRead, AreRead, ArePlaced, built, number_of}
 use Rattle.kl1_modules.specs.Finding.{FindsIn, contents, Asks, is_numbered, Finds, TellsModule}
 use Rattle.kl1_modules.specs.Shelves.{AreKeyed}
 use Rattle.kl1_modules.proofs.Answers.{same_texts, nat_same, number_is}
@@ -51,6 +51,15 @@ read_at f (e ∷ es) n l a h = by (nat_eq n e.0) h (λ g. read_at f es n l a.1 g
   where
     by : (b : Bool) → cond b (Some e.1) (lookup (nat_eq n) es) ≡ Some l → (lookup (nat_eq n) es ≡ Some l → IsRead f l) → IsRead f l
     by true g k = let same : e.1 ≡ l = cc in subst (IsRead f) same a.0
+    by false g k = k g
+
+-- the code of what stands under a number stands where those of all modules do
+pub placed_at : (has : ℕ × ℕ → Type 0) (es : List (ℕ × Numbered)) (n : ℕ) (l : Numbered) → ArePlaced has (values_of es) → lookup (nat_eq n) es ≡ Some l → has l.place
+placed_at has [] n l a h = absurd (cc)
+placed_at has (e ∷ es) n l a h = by (nat_eq n e.0) h (λ g. placed_at has es n l a.1 g)
+  where
+    by : (b : Bool) → cond b (Some e.1) (lookup (nat_eq n) es) ≡ Some l → (lookup (nat_eq n) es ≡ Some l → has l.place) → has l.place
+    by true g k = let same : e.1 ≡ l = cc in let P : Numbered → Type 0 = λ x. has x.place in subst P same a.0
     by false g k = k g
 
 -- whether something stands under a number

@@ -7,11 +7,12 @@ use Rattle.std.specs.List.Sorted.{IsStrictlySortedBy}
 use Rattle.std.specs.Map.{lookup, keys_of}
 use Rattle.kl1_model.specs.Module.{Clause, Module, is_of}
 use Rattle.kl1_text.specs.Reading.{Reads}
+use Rattle.kl1_text.specs.BuiltIns.{built_in_of}
 use Rattle.kl1_text.specs.declared.cell_name.CellName.{CellName}
 use Rattle.kl1_clause.specs.declared.compiled_clause.CompiledClause.{CompiledClause}
 use Rattle.kl1_clause.specs.Instructions.{text_in}
 use Rattle.kl1_modules.specs.declared.span.Span.{Span}
-use Rattle.kl1_modules.specs.Numbered.{built, own_names}
+use Rattle.kl1_modules.specs.Numbered.{built, own_names, number_by}
 use Rattle.kl1_modules.specs.Spans.{IsWithin, SpanIs}
 
 -- the key of a predicate: the number of its name and its number of arguments
@@ -75,3 +76,8 @@ pub record IsIndexed (content : Module) (row : List CellName) (rows : Rows) (cap
   pub order : IsInOrder rows
   pub spans : Spans row (own_names content) content.clauses 0 rows
   pub room : length content.clauses ≤ capacity
+
+-- the same, with the number of the module's own name
+pub record IsFiled (content : Module) (number : CellName) (row : List CellName) (rows : Rows) (capacity : ℕ) : Type 0 where
+  pub number_is : number ≡ number_by row (built_in_of content.name)
+  pub index : IsIndexed content row rows capacity

@@ -2,13 +2,14 @@
 
 ghost use Rattle.std.specs.Prelude.{◌≡◌, ℕ, ◌+◌, ◌<◌, ◌≤◌, false, [], ◌∷◌, ◌++◌, length, slice_get, option_copied, OnOk, IfSome, None, nat_eq};
 ghost use Rattle.indexmap.specs.IndexMap.{get, spare};
-ghost use Rattle.kl1_modules.specs.Numbered.{number_of};
+ghost use Rattle.kl1_modules.specs.Numbered.{number_of, ArePlaced};
 ghost use Rattle.kl1_clause.specs.Predicates.{AreSome};
 ghost use Rattle.kl1_modules.specs.Finding.{Finds, is_numbered, TellsModule};
 
 use crate::loaded::Loaded;
 use indexmap::IndexMap;
 use kl1_clause::Predicate;
+use kl1_codes::CodeSource;
 use kl1_text::CellName;
 use std::alloc::{AllocError, Global};
 use std::marker::Model;
@@ -17,13 +18,13 @@ use std::marker::Model;
 /// costs less than to look it up.
 const FEW: usize = 8;
 
-/// The modules of an account in order of loading, each found by the number of its name.
+/// The modules of an account in order of loading, each found by the number of its name. Their codes stand in a source of codes.
 #[derive(Drop)]
-pub struct Modules {
-    loaded: IndexMap<u64, Loaded>,
+pub struct Modules<C: CodeSource> {
+    loaded: IndexMap<u64, Loaded<C>>,
 }
 
-impl Model for Modules {
+impl<C: CodeSource> Model for Modules<C> {
     ghost use Rattle.kl1_modules.specs.Shelves.{Shelf, shelf_code};
 
     ghost Value = { Shelf };
@@ -38,7 +39,7 @@ impl Model for Modules {
     ghost invariant = { λ m. AreKeyed m.loaded.entries };
 }
 
-impl Modules {
+impl<C: CodeSource> Modules<C> {
     /// No modules.
     pub fn new(alloc: Global) -> Self
         ensures { result.loaded ≡ [] }
@@ -56,7 +57,7 @@ impl Modules {
     }
 
     /// The module at a place in order of loading, from 0.
-    pub fn get(&self, place: usize) -> Option<&Loaded>
+    pub fn get(&self, place: usize) -> Option<&Loaded<C>>
         ensures { option_copied result ≡ slice_get self.now.loaded place }
     {
         let (_, loaded) = self.loaded.get_index(place)?;
@@ -74,37 +75,21 @@ impl Modules {
 
     /// The clauses of the predicate of this name and so many arguments in a module, or nothing where there is none.
     #[inline(always)]
-    pub fn find(
-        &self,
+    pub fn find<'a>(
+        &'a self,
+        codes: &'a C,
         module_name: CellName,
         name: CellName,
         count: usize,
-    ) -> Option<Predicate<'_, CellName>>
+    ) -> Option<Predicate<'a, CellName>>
+        requires { ArePlaced (C.has codes.now) self.now.loaded }
         ensures finds { Finds self.now.loaded module_name name count result }
         ensures some { IfSome result (λ p. AreSome p.names.now p.clauses.now) }
     {
         match loaded_under(&self.loaded, module_name.number) {
             None => None,
-            Some(loaded) => loaded.find(name, count),
+            Some(loaded) => loaded.find(codes, name, count),
         }
-    }
-
-    /// The same with one module more, which is drafted and none of these.
-    pub fn find_beside<'a>(
-        &'a self,
-        draft: &'a Loaded,
-        module_name: CellName,
-        name: CellName,
-        count: usize,
-    ) -> Option<Predicate<'a, CellName>>
-        requires { is_numbered self.now.loaded (number_of draft.now) ≡ false }
-        ensures finds { Finds (self.now.loaded ++ draft.now ∷ []) module_name name count result }
-        ensures some { IfSome result (λ p. AreSome p.names.now p.clauses.now) }
-    {
-        if draft.number().number == module_name.number {
-            return draft.find(name, count);
-        }
-        self.find(module_name, name, count)
     }
 
     /// Makes room for so many modules more. Where memory is refused, the modules are as before.
@@ -117,7 +102,7 @@ impl Modules {
     }
 
     /// Puts a module after the others, where there is room.
-    pub fn push(&mut self, loaded: Loaded)
+    pub fn push(&mut self, loaded: Loaded<C>)
         requires room { 0 < self.old.room }
         requires new { is_numbered self.old.loaded (number_of loaded) ≡ false }
         ensures loaded { self.new.loaded ≡ self.old.loaded ++ loaded ∷ [] }
@@ -130,7 +115,10 @@ impl Modules {
 
 /// The module under a number, or nothing where there is none.
 #[inline(always)]
-fn loaded_under(modules: &IndexMap<u64, Loaded>, number: u64) -> Option<&Loaded>
+fn loaded_under<C: CodeSource>(
+    modules: &IndexMap<u64, Loaded<C>>,
+    number: u64,
+) -> Option<&Loaded<C>>
     ensures { option_copied result ≡ get nat_eq modules.now number }
 {
     for place in 0..FEW {
@@ -148,7 +136,7 @@ fn loaded_under(modules: &IndexMap<u64, Loaded>, number: u64) -> Option<&Loaded>
 
 /// Puts a module under a number that none has, where there is room.
 #[tactic(auto, using(crate::proofs::Shelving::entry_is_last))]
-fn put_last(modules: &mut IndexMap<u64, Loaded>, number: u64, loaded: Loaded)
+fn put_last<C: CodeSource>(modules: &mut IndexMap<u64, Loaded<C>>, number: u64, loaded: Loaded<C>)
     requires room { 0 < spare modules.old }
     requires new { get nat_eq modules.old number ≡ None }
     ensures entries { modules.new.entries ≡ modules.old.entries ++ (number, loaded) ∷ [] }

@@ -4,6 +4,7 @@ ghost use Rattle.kl1_shell.specs.Works.{texts_of};
 ghost use Rattle.kl1_run.specs.Alone.{RunsAlone};
 
 use kl1_atoms::{AtomTable, SharedAtoms};
+use kl1_codes::PlainCodes;
 use kl1_script::Served;
 use kl1_shell::{Ending, Sink, Stop, Wanted, Watch, Work, run};
 use kl1_user::AccountName;
@@ -25,7 +26,13 @@ pub fn run_alone<T: Watch, W: Sink, E: Sink>(
     match AtomTable::new(alloc, 1) {
         Ok((table, mut seats)) => {
             let seat = seats.swap_remove(0);
-            match Served::fresh(alloc, name, SharedAtoms { table: &table }, seat) {
+            match Served::fresh(
+                alloc,
+                name,
+                SharedAtoms { table: &table },
+                seat,
+                PlainCodes::new(alloc),
+            ) {
                 Ok(mut served) => {
                     let told = run(alloc, &mut served, work, wanted, watch, out, err);
                     // This is called for the fact that it proves: some reading fits the names.

@@ -12,6 +12,7 @@ ghost use Rattle.kl1_script.specs.Told.{state_by, told_by};
 
 use crate::served::Served;
 use kl1_atoms::AtomSource;
+use kl1_codes::CodeSource;
 use kl1_command::{Command, Parsed, Performed, command_in, perform, put_lines};
 use kl1_event::{Refusal, Reply};
 use kl1_lines::{Record, is_same};
@@ -30,10 +31,10 @@ fn is_served(accounts: &[AccountName], name: &[u8]) -> bool
 
 /// Does the command of a record, and puts what is written for it after the bytes. After an `Err` the bytes are as they
 /// were, and a run's first steps may be done.
-pub(crate) fn put_record<A: AtomSource + Drop>(
+pub(crate) fn put_record<A: AtomSource + Drop, C: CodeSource + Drop>(
     alloc: Global,
     accounts: &[AccountName],
-    served: &mut Served<A>,
+    served: &mut Served<A, C>,
     found: Record<'_>,
     out: &mut Vec<u8>,
 ) -> Result<(), AllocError>
@@ -54,8 +55,8 @@ pub(crate) fn put_record<A: AtomSource + Drop>(
 }
 
 /// Does a command, and puts its reply after the bytes.
-fn put_performed<A: AtomSource + Drop>(
-    served: &mut Served<A>,
+fn put_performed<A: AtomSource + Drop, C: CodeSource + Drop>(
+    served: &mut Served<A, C>,
     command: &Command,
     name: &[u8],
     out: &mut Vec<u8>,

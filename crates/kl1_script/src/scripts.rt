@@ -19,15 +19,19 @@ use crate::accounts::accounts_in;
 use crate::answers::put_record;
 use crate::served::Served;
 use kl1_atoms::{AtomSource, AtomTable, SharedAtoms};
+use kl1_codes::{CodeSource, CodeTable, SharedCodes};
 use kl1_lines::{
     NextRecord, Record, ScriptFault, Sink, Source, finish, next_record, pass_on, read_all,
     split_line,
 };
 use kl1_user::AccountName;
 use std::alloc::Global;
+use std::sync::Wait;
 
-/// Runs a script: reads all of it, and writes its output. Of several accounts the first alone is served.
-pub fn run_script<R: Source, W: Sink>(
+/// Runs a script: reads all of it, and writes its output. Of several accounts the first alone is served. It may wait, where a code
+/// is put in.
+pub fn run_script<H: Wait, R: Source, W: Sink>(
+    rt: &H,
     alloc: Global,
     source: &mut R,
     sink: &mut W,
@@ -45,25 +49,31 @@ pub fn run_script<R: Source, W: Sink>(
     ensures few { ReadsFew (R.remaining source.old) (R.remaining source.new) (most_script_bytes + 1) }
 {
     match read_all(alloc, source) {
-        Ok(script) => answer(alloc, script.as_slice(), sink),
+        Ok(script) => answer(rt, alloc, script.as_slice(), sink),
         Err(fault) => Err(fault),
     }
 }
 
 /// Writes the output of a script.
-fn answer<W: Sink>(alloc: Global, script: &[u8], sink: &mut W) -> Result<(), ScriptFault>
+fn answer<H: Wait, W: Sink>(
+    rt: &H,
+    alloc: Global,
+    script: &[u8],
+    sink: &mut W,
+) -> Result<(), ScriptFault>
     ensures { Ends (W.contents sink.old) (W.contents sink.new) (W.failures sink.old) (W.failures sink.new) (output script.now) (λ n. front_of n script.now) result }
 {
     let (line, rest) = split_line(script);
     match accounts_in(alloc, line) {
-        Ok(Some(accounts)) => answer_shared(alloc, accounts.as_slice(), rest, sink),
+        Ok(Some(accounts)) => answer_shared(rt, alloc, accounts.as_slice(), rest, sink),
         Ok(None) => finish_all(sink, b"! accounts\n"),
         Err(_) => Err(ScriptFault::Memory),
     }
 }
 
-/// Writes what is written for the records of a text, over a table of names that is made for the accounts.
-fn answer_shared<W: Sink>(
+/// Writes what is written for the records of a text, over a table of names and a table of codes that are made for the accounts.
+fn answer_shared<H: Wait, W: Sink>(
+    rt: &H,
     alloc: Global,
     accounts: &[AccountName],
     text: &[u8],
@@ -73,6 +83,9 @@ fn answer_shared<W: Sink>(
     requires few { length accounts.now ≤ most_accounts }
     ensures { Ends (W.contents sink.old) (W.contents sink.new) (W.failures sink.old) (W.failures sink.new) (written_records accounts.now (records_of text.now)) (λ n. first_written n (Some accounts.now) (records_of text.now).list) result }
 {
+    let Ok(codes) = CodeTable::new(alloc) else {
+        return Err(ScriptFault::Memory);
+    };
     match AtomTable::new(alloc, accounts.len()) {
         Ok((table, mut seats)) => {
             let seat = seats.swap_remove(0);
@@ -81,6 +94,7 @@ fn answer_shared<W: Sink>(
                 accounts,
                 SharedAtoms { table: &table },
                 seat,
+                SharedCodes { table: &codes, rt },
                 text,
                 sink,
             )
@@ -90,12 +104,13 @@ fn answer_shared<W: Sink>(
 }
 
 /// Writes what is written for the records of a text, over any table of names and the seat of the first account, which knows the
-/// built-in names alone.
-pub fn answer_over<A: AtomSource + Drop, W: Sink>(
+/// built-in names alone, and any source of codes.
+pub fn answer_over<A: AtomSource + Drop, C: CodeSource + Drop, W: Sink>(
     alloc: Global,
     accounts: &[AccountName],
     names: A,
     seat: A::Seat,
+    codes: C,
     text: &[u8],
     sink: &mut W,
 ) -> Result<(), ScriptFault>
@@ -105,7 +120,7 @@ pub fn answer_over<A: AtomSource + Drop, W: Sink>(
     ensures { Ends (W.contents sink.old) (W.contents sink.new) (W.failures sink.old) (W.failures sink.new) (written_records accounts.now (records_of text.now)) (λ n. first_written n (Some accounts.now) (records_of text.now).list) result }
 {
     let first = accounts[0];
-    match Served::fresh(alloc, first, names, seat) {
+    match Served::fresh(alloc, first, names, seat, codes) {
         Ok(mut served) => {
             let mut out = Vec::new(alloc);
             answer_each(alloc, accounts, first, &mut served, text, &mut out, sink)
@@ -115,11 +130,11 @@ pub fn answer_over<A: AtomSource + Drop, W: Sink>(
 }
 
 /// Writes what is written for the records of a text, where the account that is served is fresh.
-fn answer_each<A: AtomSource + Drop, W: Sink>(
+fn answer_each<A: AtomSource + Drop, C: CodeSource + Drop, W: Sink>(
     alloc: Global,
     accounts: &[AccountName],
     first: AccountName,
-    served: &mut Served<A>,
+    served: &mut Served<A, C>,
     text: &[u8],
     out: &mut Vec<u8>,
     sink: &mut W,
@@ -149,10 +164,10 @@ fn answer_each<A: AtomSource + Drop, W: Sink>(
 
 /// Does the command of a record, and puts what is written for it after the bytes that wait, which are written where they
 /// are many, or where memory is refused.
-fn answer_record<A: AtomSource + Drop, W: Sink>(
+fn answer_record<A: AtomSource + Drop, C: CodeSource + Drop, W: Sink>(
     alloc: Global,
     accounts: &[AccountName],
-    served: &mut Served<A>,
+    served: &mut Served<A, C>,
     found: Record<'_>,
     out: &mut Vec<u8>,
     sink: &mut W,

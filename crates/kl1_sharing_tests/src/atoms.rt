@@ -7,3 +7,4 @@ mod seats;
 mod sources;
 
 pub use checks::put_atom_checks;
+pub use seats::next_seat;

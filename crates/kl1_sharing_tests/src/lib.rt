@@ -5,4 +5,5 @@ mod atoms;
 mod checks;
 mod tally;
 
+pub use atoms::next_seat;
 pub use checks::put_checks;

@@ -12,29 +12,35 @@ use kl1_user_tests::{Accounts, OverAccounts, put_over, put_times};
 use std::io;
 use std::io::{Error, ErrorKind, Read, Write};
 use std::rt::Clock;
+use std::sync::Wait;
 use std::thread::Threads;
 
 /// The line with which rows end behind which checks follow.
 const CHECKS: &[u8] = b"== checks\n";
 
-/// Rows, of which some are tried on accounts.
+/// Rows, of which some are tried on accounts, with the handle by which a script may wait.
 #[derive(Drop)]
-struct Rows<'a> {
+struct Rows<'a, H: Wait> {
+    rt: &'a H,
     text: &'a [u8],
 }
 
-impl OverAccounts for Rows<'_> {
+impl<H: Wait> OverAccounts for Rows<'_, H> {
     fn put(&self, out: &mut Text, accounts: &mut Accounts) {
-        put_report(out, &mut Parts::new(out.alloc, accounts), self.text);
+        put_report(
+            out,
+            &mut Parts::new(self.rt, out.alloc, accounts),
+            self.text,
+        );
     }
 }
 
 /// Puts the report on rows, and the line on each check behind it where the rows end with the heading of checks.
-fn put_tried<R: Threads + Sync>(rt: &R, out: &mut Text, text: &[u8]) {
+fn put_tried<R: Threads + Wait + Sync>(rt: &R, out: &mut Text, text: &[u8]) {
     match text.strip_suffix(CHECKS) {
-        None => put_over(&Rows { text }, out),
+        None => put_over(&Rows { rt, text }, out),
         Some(text) => {
-            put_over(&Rows { text }, out);
+            put_over(&Rows { rt, text }, out);
             kl1_sharing_tests::put_checks(rt, out);
             kl1_goals_tests::put_checks(out);
         }
@@ -42,7 +48,7 @@ fn put_tried<R: Threads + Sync>(rt: &R, out: &mut Text, text: &[u8]) {
 }
 
 /// Puts the report on rows and checks, or what is measured, where the word `reductions` and a line feed stand for rows.
-fn put_all<R: Threads + Clock + Sync>(rt: &R, out: &mut Text, rows: &[u8]) {
+fn put_all<R: Threads + Wait + Clock + Sync>(rt: &R, out: &mut Text, rows: &[u8]) {
     if rows == b"reductions\n".as_slice() {
         put_times(rt, out);
     } else {

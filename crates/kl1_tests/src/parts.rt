@@ -6,20 +6,24 @@ use kl1_rows::Tried;
 use kl1_store_tests::Stores;
 use kl1_user_tests::Accounts;
 use std::alloc::Global;
+use std::sync::Wait;
 
-/// What the rows of a group are tried on, and the stores and accounts as those before them left them.
+/// What the rows of a group are tried on, and the stores and accounts as those before them left them, with the handle by which a
+/// script may wait.
 #[derive(Drop)]
-pub struct Parts<'a> {
+pub struct Parts<'a, H: Wait> {
+    rt: &'a H,
     alloc: Global,
     part: Part,
     stores: Stores,
     accounts: &'a mut Accounts,
 }
 
-impl<'a> Parts<'a> {
+impl<'a, H: Wait> Parts<'a, H> {
     /// Empty stores and accounts that are lent, before the first group.
-    pub fn new(alloc: Global, accounts: &'a mut Accounts) -> Self {
+    pub fn new(rt: &'a H, alloc: Global, accounts: &'a mut Accounts) -> Self {
         Parts {
+            rt,
             alloc,
             part: Part::Unknown,
             stores: Stores::new(alloc),
@@ -28,7 +32,7 @@ impl<'a> Parts<'a> {
     }
 }
 
-impl Tried for Parts<'_> {
+impl<H: Wait> Tried for Parts<'_, H> {
     fn begin(&mut self, heading: &[u8]) {
         self.part = part_of(heading);
         match self.part {
@@ -48,7 +52,7 @@ impl Tried for Parts<'_> {
             Part::Match(kind) => kl1_match_tests::is_right(self.alloc, kind, act, wanted),
             Part::One | Part::Both => self.accounts.is_right(self.alloc, act, wanted),
             Part::Again => self.accounts.is_right_again(self.alloc, act, wanted),
-            Part::Script(kind) => script::is_right(self.alloc, kind, act, wanted),
+            Part::Script(kind) => script::is_right(self.rt, self.alloc, kind, act, wanted),
         }
     }
 }

@@ -1,10 +1,11 @@
-// One account over a table of names.
+// One account over a table of names and a source of codes.
 
-ghost use Rattle.std.specs.Prelude.{◌≡◌, [], IfOk, OnErr, option_map};
+ghost use Rattle.std.specs.Prelude.{◌≡◌, ◌↔◌, ℕ, [], IfOk, OnErr, option_map};
 ghost use Rattle.kl1_model.specs.State.{fresh};
 ghost use Rattle.kl1_model.specs.Event.{reduce as reduce_event, read};
 ghost use Rattle.kl1_model.specs.Step.{step};
 ghost use Rattle.kl1_model.specs.Choice.{first, quiet};
+ghost use Rattle.kl1_modules.specs.Numbered.{ArePlaced};
 ghost use Rattle.kl1_effects.specs.Fitting.{Reading, Fits};
 ghost use Rattle.kl1_effects.specs.Account.{state_of};
 ghost use Rattle.kl1_effects.specs.Naming.{Keeps};
@@ -13,17 +14,20 @@ ghost use Rattle.kl1_event.specs.Whole.{whole_value};
 
 use kl1_account::{Account, AccountName, ClauseNo, Event, GoalNo, Query, Refusal, Reply};
 use kl1_atoms::AtomSource;
+use kl1_codes::CodeSource;
 use std::alloc::{AllocError, Global};
 use std::marker::{Model, PhantomData};
 
-/// One account, whose names are numbers of a table of names of this kind.
+/// One account, whose names are numbers of a table of names of this kind, and whose modules refer to codes in a source of codes of
+/// that kind.
 #[derive(Drop)]
-pub struct UserState<A: AtomSource> {
-    account: Account,
+pub struct UserState<A: AtomSource, C: CodeSource> {
+    account: Account<C>,
     source: PhantomData<A>,
+    code_source: PhantomData<C>,
 }
 
-impl<A: AtomSource> Model for UserState<A> {
+impl<A: AtomSource, C: CodeSource> Model for UserState<A, C> {
     ghost use Rattle.std.specs.Coded.{codes};
     ghost use Rattle.kl1_modules.specs.Numbered.{numbered_code};
     ghost use Rattle.kl1_effects.specs.Account.{Account as Kept};
@@ -35,41 +39,47 @@ impl<A: AtomSource> Model for UserState<A> {
     ghost view = { λ u. u.account };
 }
 
-impl<A: AtomSource> UserState<A> {
+impl<A: AtomSource, C: CodeSource> UserState<A, C> {
     /// An account of this name in which nothing has happened.
     pub fn fresh(alloc: Global, name: AccountName) -> Result<Self, AllocError>
         ensures fresh { IfOk result (λ user. (f : Reading) → state_of f user ≡ fresh name) }
         ensures names { IfOk result (λ user. user.names ≡ []) }
+        ensures modules { IfOk result (λ user. user.modules ≡ []) }
     {
         let account = Account::fresh(alloc, name)?;
         Ok(UserState {
             account,
             source: PhantomData,
+            code_source: PhantomData,
         })
     }
 
     /// What an event does to the account, and the reply. Where memory is refused, the account and what the seat knows are as
-    /// before.
+    /// before; a code may have been put in.
     pub fn apply(
         &mut self,
         names: &mut A,
         seat: &mut A::Seat,
+        codes: &mut C,
         event: &Event,
     ) -> Result<Reply, AllocError>
         requires of { A.is_of names.old seat.old }
         requires knows { A.knows seat.old ≡ self.old.names }
+        requires placed { ArePlaced (C.has codes.old) self.old.modules }
         ensures step { IfOk result (λ reply. (f : Reading) → Fits self.new.names f → step (state_of f self.old) (event_of event.now) ≡ record { state = state_of f self.new; reply = reply_of reply }) }
         ensures err { OnErr result (self.new ≡ self.old) }
         ensures seat { OnErr result (A.knows seat.new ≡ A.knows seat.old) }
         ensures keeps { Keeps A.is_of A.place A.knows names.old names.new seat.old seat.new }
         ensures knows { A.knows seat.new ≡ self.new.names }
+        ensures placed { ArePlaced (C.has codes.new) self.new.modules }
+        ensures same { (p : ℕ × ℕ) → C.has codes.old p ↔ C.has codes.new p }
     {
         match event {
             Event::Reduce { goal, clause } => Ok(reply_to(
-                self.account.reduce(names, seat, goal.0, clause.0)?,
+                self.account.reduce(names, seat, codes, goal.0, clause.0)?,
             )),
-            Event::Read(query) => self.answer(names, seat, *query),
-            Event::Load { source } => self.account.load(names, seat, source.as_slice()),
+            Event::Read(query) => self.answer(names, seat, codes, *query),
+            Event::Load { source } => self.account.load(names, seat, codes, source.as_slice()),
             Event::Start {
                 allowance,
                 low,
@@ -77,15 +87,22 @@ impl<A: AtomSource> UserState<A> {
                 goal,
             } => self
                 .account
-                .start(names, seat, *allowance, *low, *high, goal),
-            Event::Control { shoen, message } => self.account.send(shoen.0, *message),
+                .start(names, seat, codes, *allowance, *low, *high, goal),
+            Event::Control { shoen, message } => self.account.send(codes, shoen.0, *message),
         }
     }
 
     /// What is answered to a query, which changes nothing.
-    fn answer(&self, names: &mut A, seat: &mut A::Seat, query: Query) -> Result<Reply, AllocError>
+    fn answer(
+        &self,
+        names: &mut A,
+        seat: &mut A::Seat,
+        codes: &C,
+        query: Query,
+    ) -> Result<Reply, AllocError>
         requires of { A.is_of names.old seat.old }
         requires knows { A.knows seat.old ≡ self.now.names }
+        requires placed { ArePlaced (C.has codes.now) self.now.modules }
         ensures step { IfOk result (λ reply. (f : Reading) → Fits self.now.names f → step (state_of f self.now) (read (query_of query)) ≡ record { state = state_of f self.now; reply = reply_of reply }) }
         ensures keeps { Keeps A.is_of A.place A.knows names.old names.new seat.old seat.new }
         ensures knows { A.knows seat.new ≡ self.now.names }
@@ -94,7 +111,7 @@ impl<A: AtomSource> UserState<A> {
             Query::Value(number) => self.account.value(names, seat, number.0),
             Query::Status(number) => self.account.status(number.0),
             Query::Reports { shoen, from } => self.account.reports(names, seat, shoen.0, from),
-            Query::Modules => self.account.modules(),
+            Query::Modules => self.account.modules(codes),
             Query::Quiet => Ok(Reply::Quiet(self.account.quiet())),
         }
     }
@@ -121,18 +138,21 @@ impl<A: AtomSource> UserState<A> {
         &mut self,
         names: &mut A,
         seat: &mut A::Seat,
+        codes: &C,
         goal: GoalNo,
         clause: ClauseNo,
     ) -> Result<Option<Refusal>, AllocError>
         requires of { A.is_of names.old seat.old }
         requires knows { A.knows seat.old ≡ self.old.names }
+        requires placed { ArePlaced (C.has codes.now) self.old.modules }
         ensures step { IfOk result (λ refused. (f : Reading) → Fits self.new.names f → step (state_of f self.old) (reduce_event goal.0 clause.0) ≡ record { state = state_of f self.new; reply = reduced_or refused }) }
         ensures err { OnErr result (self.new ≡ self.old) }
         ensures seat { OnErr result (A.knows seat.new ≡ A.knows seat.old) }
         ensures keeps { Keeps A.is_of A.place A.knows names.old names.new seat.old seat.new }
         ensures knows { A.knows seat.new ≡ self.new.names }
+        ensures modules { self.new.modules ≡ self.old.modules }
     {
-        self.account.reduce(names, seat, goal.0, clause.0)
+        self.account.reduce(names, seat, codes, goal.0, clause.0)
     }
 
     /// The first goal that can step, with the clause by which it steps.

@@ -1,4 +1,4 @@
--- An account with its table of names.
+-- An account with its table of names and its codes.
 use Rattle.std.specs.Prelude.{◌≡◌}
 use Rattle.kl1_atoms.specs.Plain.{IsSeatOf}
 use Rattle.kl1_user_tests.specs.declared.player.Player.TheInside.{Inside}

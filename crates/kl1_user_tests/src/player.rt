@@ -1,21 +1,23 @@
-// An account over a table of names of its own.
+// An account over a table of names and codes of its own.
 
 ghost use Rattle.std.specs.Prelude.{◌≡◌, []};
 ghost use Rattle.kl1_atoms.specs.Plain.{IsSeatOf};
 
 use crate::seats::names_of_one;
 use kl1_atoms::{PlainSeat, PlainTable};
+use kl1_codes::PlainCodes;
 use kl1_event::{ClauseNo, Event, GoalNo, Reply};
 use kl1_user::{AccountName, UserState};
 use std::alloc::{AllocError, Global};
 use std::marker::Model;
 
-/// An account, the plain table of names that it uses alone, and what it knows of it.
+/// An account, the plain table of names that it uses alone, what it knows of it, and the plain codes that it uses alone.
 #[derive(Drop)]
 pub struct Player {
-    user: UserState<PlainTable>,
+    user: UserState<PlainTable, PlainCodes>,
     names: PlainTable,
     seat: PlainSeat,
+    codes: PlainCodes,
 }
 
 impl Model for Player {
@@ -52,13 +54,20 @@ impl Player {
         requires nothing { seat.known.items ≡ [] }
     {
         let user = UserState::fresh(alloc, name)?;
-        players.push(Player { user, names, seat })?;
+        let codes = PlainCodes::new(alloc);
+        players.push(Player {
+            user,
+            names,
+            seat,
+            codes,
+        })?;
         Ok(())
     }
 
     /// Does an event to the account.
     pub fn apply(&mut self, event: &Event) -> Result<Reply, AllocError> {
-        self.user.apply(&mut self.names, &mut self.seat, event)
+        self.user
+            .apply(&mut self.names, &mut self.seat, &mut self.codes, event)
     }
 
     /// The first goal that can step, with its clause.

@@ -1,10 +1,12 @@
 // Modules by the numbers of their names, and what is found in them.
 
 use kl1_clause::{Code, Predicate};
-use kl1_modules::{Loaded, Modules};
+use kl1_codes::{CodeSource, PlainCodes};
+use kl1_modules::{CodedModule, CodedModules, Loaded, Modules};
 use kl1_rows::Text;
 use kl1_text::CellName;
 use std::alloc::{AllocError, Global};
+use std::sync::Arc;
 
 /// The names of this are m, p, a, q and b.
 const FIRST: &[u8] = b":- module m.\np(a).\np(X).\np(X,Y).\nq(b).\n";
@@ -18,24 +20,37 @@ fn name(number: u64) -> CellName {
 }
 
 /// A code, with these numbers for its names, where there are so many.
-fn numbered(alloc: Global, code: Code, row: &[CellName]) -> Result<Loaded, AllocError> {
-    if code.names().len() != row.len() {
+fn numbered(
+    alloc: Global,
+    codes: &PlainCodes,
+    code: Arc<Code>,
+    row: &[CellName],
+) -> Result<Loaded<PlainCodes>, AllocError> {
+    if codes.code(&code).names().len() != row.len() {
         return Err(AllocError);
     }
     let row = Vec::from_slice(alloc, row)?;
-    Loaded::new(alloc, code, row)
+    Loaded::new(alloc, codes, code, row)
 }
 
-/// A source compiled, with these numbers for its names, where there are so many.
-fn loaded_of(alloc: Global, source: &[u8], row: &[CellName]) -> Result<Loaded, AllocError> {
-    match Code::compile(alloc, source) {
+/// The code of a source, with these numbers for its names, where there are so many.
+fn loaded_of(
+    alloc: Global,
+    codes: &mut PlainCodes,
+    source: &[u8],
+    row: &[CellName],
+) -> Result<Loaded<PlainCodes>, AllocError> {
+    match codes.find_or_push(source) {
         Err(_fault) => Err(AllocError),
-        Ok(code) => numbered(alloc, code, row),
+        Ok(code) => numbered(alloc, codes, code, row),
     }
 }
 
 /// Puts a module behind others, where it is none of these.
-fn put_module(modules: &mut Modules, loaded: Loaded) -> Result<(), AllocError> {
+fn put_module(
+    modules: &mut Modules<PlainCodes>,
+    loaded: Loaded<PlainCodes>,
+) -> Result<(), AllocError> {
     modules.reserve(1)?;
     if modules.has(loaded.number()) {
         return Err(AllocError);
@@ -45,8 +60,14 @@ fn put_module(modules: &mut Modules, loaded: Loaded) -> Result<(), AllocError> {
 }
 
 /// Loads a source with these numbers for its names behind other modules.
-fn load(seen: &mut Text, modules: &mut Modules, source: &[u8], row: &[CellName]) {
-    match loaded_of(seen.alloc, source, row) {
+fn load(
+    seen: &mut Text,
+    codes: &mut PlainCodes,
+    modules: &mut Modules<PlainCodes>,
+    source: &[u8],
+    row: &[CellName],
+) {
+    match loaded_of(seen.alloc, codes, source, row) {
         Ok(loaded) => {
             let done = put_module(modules, loaded);
             seen.note(done);
@@ -56,15 +77,15 @@ fn load(seen: &mut Text, modules: &mut Modules, source: &[u8], row: &[CellName])
 }
 
 /// Loads the first source, as module 70.
-fn load_first(seen: &mut Text, modules: &mut Modules) {
+fn load_first(seen: &mut Text, codes: &mut PlainCodes, modules: &mut Modules<PlainCodes>) {
     let row = [name(70), name(71), name(72), name(73), name(74)];
-    load(seen, modules, FIRST, &row);
+    load(seen, codes, modules, FIRST, &row);
 }
 
 /// Loads the first and the second source, as modules 70 and 75.
-fn load_both(seen: &mut Text, modules: &mut Modules) {
-    load_first(seen, modules);
-    load(seen, modules, SECOND, &[name(75), name(71)]);
+fn load_both(seen: &mut Text, codes: &mut PlainCodes, modules: &mut Modules<PlainCodes>) {
+    load_first(seen, codes, modules);
+    load(seen, codes, modules, SECOND, &[name(75), name(71)]);
 }
 
 /// Puts how many variables the head of each clause of a predicate has, and behind a colon the numbers of its code's names;
@@ -92,7 +113,13 @@ fn put_names(seen: &mut Text, names: &[CellName]) {
 }
 
 /// Puts the predicate of a module, a name and a number of arguments.
-fn put_find(seen: &mut Text, modules: &Modules, module_name: u64, predicate: u64, count: usize) {
+fn put_find(
+    seen: &mut Text,
+    modules: &CodedModules<'_, PlainCodes>,
+    module_name: u64,
+    predicate: u64,
+    count: usize,
+) {
     put_found(
         seen,
         modules.find(name(module_name), name(predicate), count),
@@ -101,8 +128,10 @@ fn put_find(seen: &mut Text, modules: &Modules, module_name: u64, predicate: u64
 
 /// Predicates by module, name and number of arguments; and where there is no such module, name or number.
 pub fn see_finds(seen: &mut Text) {
-    let mut modules = Modules::new(seen.alloc);
-    load_both(seen, &mut modules);
+    let mut codes = PlainCodes::new(seen.alloc);
+    let mut loaded = Modules::new(seen.alloc);
+    load_both(seen, &mut codes, &mut loaded);
+    let modules = CodedModules::over(&loaded, &codes);
     put_find(seen, &modules, 70, 71, 1);
     put_find(seen, &modules, 70, 71, 2);
     put_find(seen, &modules, 70, 73, 1);
@@ -114,7 +143,7 @@ pub fn see_finds(seen: &mut Text) {
 }
 
 /// Puts whether a module of a name is there.
-fn put_has(seen: &mut Text, modules: &Modules, name: CellName) {
+fn put_has(seen: &mut Text, modules: &Modules<PlainCodes>, name: CellName) {
     if modules.has(name) {
         seen.put(b" yes");
     } else {
@@ -123,7 +152,7 @@ fn put_has(seen: &mut Text, modules: &Modules, name: CellName) {
 }
 
 /// Puts the number of the module at a place, or `none`.
-fn put_at(seen: &mut Text, modules: &Modules, place: usize) {
+fn put_at(seen: &mut Text, modules: &Modules<PlainCodes>, place: usize) {
     match modules.get(place) {
         None => seen.put(b" none"),
         Some(loaded) => put_names(seen, &[loaded.number()]),
@@ -132,9 +161,10 @@ fn put_at(seen: &mut Text, modules: &Modules, place: usize) {
 
 /// Modules in order of loading, of which the third has a name of the language.
 pub fn see_order(seen: &mut Text) {
+    let mut codes = PlainCodes::new(seen.alloc);
     let mut modules = Modules::new(seen.alloc);
-    load_both(seen, &mut modules);
-    load(seen, &mut modules, b":- module mod.\n", &[]);
+    load_both(seen, &mut codes, &mut modules);
+    load(seen, &mut codes, &mut modules, b":- module mod.\n", &[]);
     seen.put_number(modules.len() as u64);
     for place in 0..4 {
         put_at(seen, &modules, place);
@@ -147,8 +177,9 @@ pub fn see_order(seen: &mut Text) {
 /// Puts a predicate of modules with a draft beside them, where that is none of these.
 fn put_beside(
     seen: &mut Text,
-    modules: &Modules,
-    draft: &Loaded,
+    codes: &PlainCodes,
+    modules: &Modules<PlainCodes>,
+    draft: &Loaded<PlainCodes>,
     module_name: CellName,
     count: usize,
 ) {
@@ -156,68 +187,88 @@ fn put_beside(
         seen.fail();
         return;
     }
+    let coded = CodedModules::over(modules, codes);
+    let draft = CodedModule::over(draft, codes);
     put_found(
         seen,
-        modules.find_beside(draft, module_name, name(71), count),
+        coded.find_beside(&draft, module_name, name(71), count),
     );
 }
 
 /// Puts what is found of modules and a draft of module `spare` beside them.
-fn put_draft(seen: &mut Text, modules: &Modules, draft: &Loaded, spare: CellName) {
-    put_beside(seen, modules, draft, spare, 2);
-    put_beside(seen, modules, draft, spare, 1);
-    put_beside(seen, modules, draft, name(70), 1);
-    put_beside(seen, modules, draft, name(75), 2);
+fn put_draft(
+    seen: &mut Text,
+    codes: &PlainCodes,
+    modules: &Modules<PlainCodes>,
+    draft: &Loaded<PlainCodes>,
+    spare: CellName,
+) {
+    put_beside(seen, codes, modules, draft, spare, 2);
+    put_beside(seen, codes, modules, draft, spare, 1);
+    put_beside(seen, codes, modules, draft, name(70), 1);
+    put_beside(seen, codes, modules, draft, name(75), 2);
     put_has(seen, modules, spare);
-    put_found(seen, modules.find(spare, name(71), 2));
+    put_found(seen, modules.find(codes, spare, name(71), 2));
 }
 
 /// Puts what is found of modules and a draft with a spare number beside them.
-fn see_beside(seen: &mut Text, modules: &Modules) {
+fn see_beside(seen: &mut Text, codes: &mut PlainCodes, modules: &Modules<PlainCodes>) {
     let spare = CellName::spare(0);
-    match loaded_of(seen.alloc, SECOND, &[spare, name(71)]) {
-        Ok(draft) => put_draft(seen, modules, &draft, spare),
+    match loaded_of(seen.alloc, codes, SECOND, &[spare, name(71)]) {
+        Ok(draft) => put_draft(seen, codes, modules, &draft, spare),
         Err(_refused) => seen.fail(),
     }
 }
 
 /// A draft with a spare number is found beside the first module, and isn't one of the modules.
 pub fn see_draft(seen: &mut Text) {
+    let mut codes = PlainCodes::new(seen.alloc);
     let mut modules = Modules::new(seen.alloc);
-    load_first(seen, &mut modules);
-    see_beside(seen, &modules);
+    load_first(seen, &mut codes, &mut modules);
+    see_beside(seen, &mut codes, &modules);
 }
 
 /// Puts other numbers in place of those of a module, where there are so many.
-fn renumber(seen: &mut Text, loaded: &mut Loaded, row: &[CellName]) {
-    if loaded.code().names().len() == row.len() {
-        loaded.renumber(row);
+fn renumber(
+    seen: &mut Text,
+    codes: &PlainCodes,
+    loaded: &mut Loaded<PlainCodes>,
+    row: &[CellName],
+) {
+    if loaded.code(codes).names().len() == row.len() {
+        loaded.renumber(codes, row);
     } else {
         seen.fail();
     }
 }
 
 /// Puts the predicates of a module by the name that was its second at first, and by another.
-fn put_by_names(seen: &mut Text, draft: &Loaded, spare: CellName) {
-    put_found(seen, draft.find(spare, 2));
-    put_found(seen, draft.find(name(71), 2));
+fn put_by_names(seen: &mut Text, codes: &PlainCodes, draft: &Loaded<PlainCodes>, spare: CellName) {
+    put_found(seen, draft.find(codes, spare, 2));
+    put_found(seen, draft.find(codes, name(71), 2));
 }
 
 /// Puts what is found of a module before and after its names have new numbers.
-fn put_renumbered(seen: &mut Text, draft: &mut Loaded, spare: CellName) {
+fn put_renumbered(
+    seen: &mut Text,
+    codes: &PlainCodes,
+    draft: &mut Loaded<PlainCodes>,
+    spare: CellName,
+) {
     put_names(seen, &[draft.number()]);
-    put_by_names(seen, draft, spare);
-    renumber(seen, draft, &[name(75), name(71)]);
+    put_by_names(seen, codes, draft, spare);
+    renumber(seen, codes, draft, &[name(75), name(71)]);
     put_names(seen, &[draft.number()]);
     put_names(seen, draft.row());
-    put_by_names(seen, draft, spare);
+    put_by_names(seen, codes, draft, spare);
 }
 
 /// A module is found by its new numbers alone.
 pub fn see_renumbered(seen: &mut Text) {
+    let mut codes = PlainCodes::new(seen.alloc);
     let spare = CellName::spare(1);
-    match loaded_of(seen.alloc, SECOND, &[CellName::spare(0), spare]) {
-        Ok(mut draft) => put_renumbered(seen, &mut draft, spare),
+    match loaded_of(seen.alloc, &mut codes, SECOND, &[CellName::spare(0), spare]) {
+        Ok(mut draft) => put_renumbered(seen, &codes, &mut draft, spare),
         Err(_refused) => seen.fail(),
     }
 }

@@ -1,13 +1,15 @@
-// Scripts over a plain table of names and over a shared one.
+// Scripts over plain tables of names and of codes, and over shared ones.
 
 use crate::script::scripts::is_script;
+use kl1_codes::PlainCodes;
 use kl1_lines::split_line;
 use kl1_script::{Counted, accounts_in, answer_over};
 use kl1_user::AccountName;
 use kl1_user_tests::names_of_one;
 use std::alloc::Global;
+use std::sync::Wait;
 
-/// Whether these bytes are written for the records of a text, over a plain table of names.
+/// Whether these bytes are written for the records of a text, over plain tables of names and of codes.
 fn is_answered(alloc: Global, accounts: &[AccountName], records: &[u8], output: &[u8]) -> bool {
     if accounts.is_empty() {
         return false;
@@ -16,11 +18,19 @@ fn is_answered(alloc: Global, accounts: &[AccountName], records: &[u8], output: 
         return false;
     };
     let mut sink = Counted::new(Vec::new(alloc));
-    let done = answer_over(alloc, accounts, names, seat, records, &mut sink);
+    let done = answer_over(
+        alloc,
+        accounts,
+        names,
+        seat,
+        PlainCodes::new(alloc),
+        records,
+        &mut sink,
+    );
     done.is_ok() && sink.inner.as_slice() == output
 }
 
-/// Whether these bytes are written for a script, over a plain table of names.
+/// Whether these bytes are written for a script, over plain tables of names and of codes.
 fn is_over_plain(alloc: Global, script: &[u8], output: &[u8]) -> bool {
     let (line, records) = split_line(script);
     match accounts_in(alloc, line) {
@@ -29,7 +39,7 @@ fn is_over_plain(alloc: Global, script: &[u8], output: &[u8]) -> bool {
     }
 }
 
-/// Whether these bytes are written for a script, over a shared table of names as over a plain one.
-pub fn is_over_both(alloc: Global, script: &[u8], output: &[u8]) -> bool {
-    is_script(alloc, script, output) && is_over_plain(alloc, script, output)
+/// Whether these bytes are written for a script, over shared tables of names and of codes as over plain ones.
+pub fn is_over_both<H: Wait>(rt: &H, alloc: Global, script: &[u8], output: &[u8]) -> bool {
+    is_script(rt, alloc, script, output) && is_over_plain(alloc, script, output)
 }

@@ -9,9 +9,10 @@ use crate::script::over_both::is_over_both;
 use crate::script::records::is_record;
 use crate::script::scripts::{is_run, is_script};
 use std::alloc::Global;
+use std::sync::Wait;
 
 /// Whether an act of a kind comes to the answer that is wanted.
-pub fn is_right(alloc: Global, kind: Kind, act: &[u8], wanted: &[u8]) -> bool {
+pub fn is_right<H: Wait>(rt: &H, alloc: Global, kind: Kind, act: &[u8], wanted: &[u8]) -> bool {
     match kind {
         Kind::Line => is_line(act, wanted),
         Kind::Name => is_name(act, wanted),
@@ -25,8 +26,8 @@ pub fn is_right(alloc: Global, kind: Kind, act: &[u8], wanted: &[u8]) -> bool {
         Kind::Fault => is_fault(alloc, act, wanted),
         Kind::Read => is_read(alloc, act, wanted),
         Kind::Write => is_written(alloc, act, wanted),
-        Kind::Script => is_script(alloc, act, wanted),
-        Kind::Both => is_over_both(alloc, act, wanted),
-        Kind::Run => is_run(alloc, act, wanted),
+        Kind::Script => is_script(rt, alloc, act, wanted),
+        Kind::Both => is_over_both(rt, alloc, act, wanted),
+        Kind::Run => is_run(rt, alloc, act, wanted),
     }
 }

@@ -5,10 +5,12 @@ use crate::script::told::{are_told, end_of};
 use kl1_rows::{cut, number_of};
 use kl1_script::{Counted, run_script};
 use std::alloc::Global;
+use std::sync::Wait;
 
 /// Whether this is told, and this written, where a script is run between streams that give and take at most so many bytes a
 /// call, and the reads and the writes of these numbers fail, counted from 1.
-fn is_between(
+fn is_between<H: Wait>(
+    rt: &H,
     alloc: Global,
     most: u64,
     read: u64,
@@ -29,7 +31,7 @@ fn is_between(
         calls: write,
         cause: cause_of(b"other"),
     });
-    let end = match run_script(alloc, &mut source, &mut sink) {
+    let end = match run_script(rt, alloc, &mut source, &mut sink) {
         Ok(()) => b"ok",
         Err(fault) => end_of(fault),
     };
@@ -39,18 +41,19 @@ fn is_between(
 }
 
 /// Whether a script is run to its end, and these bytes are written for it.
-pub fn is_script(alloc: Global, script: &[u8], output: &[u8]) -> bool {
-    is_between(alloc, u64::MAX, 0, 0, script, b"ok 0 0 0", output)
+pub fn is_script<H: Wait>(rt: &H, alloc: Global, script: &[u8], output: &[u8]) -> bool {
+    is_between(rt, alloc, u64::MAX, 0, 0, script, b"ok 0 0 0", output)
 }
 
 /// Whether this is told of running a script between streams: the most bytes of a call, the number of the read and that of the
 /// write that fails, and the script, parted by a space each.
-pub fn is_run(alloc: Global, act: &[u8], wanted: &[u8]) -> bool {
+pub fn is_run<H: Wait>(rt: &H, alloc: Global, act: &[u8], wanted: &[u8]) -> bool {
     let (most, rest) = cut(act, b' ');
     let (read, rest) = cut(rest, b' ');
     let (write, script) = cut(rest, b' ');
     let (told, output) = cut(wanted, b'|');
     is_between(
+        rt,
         alloc,
         number_of(most),
         number_of(read),

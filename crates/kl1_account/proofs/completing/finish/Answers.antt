@@ -4,7 +4,7 @@ use Rattle.kl1_account.proofs.Finished.{finished, both_ok}
 use Rattle.kl1_account.proofs.completing.finish.Goals as goal
 
 pub returns-clause-finishes : goal.returns-clause-finishes
-returns-clause-finishes c =
+returns-clause-finishes g c =
     let looked = c.in_ok-look_again.ensures in
     let flagged = c.in_ok-set_flags.ensures in
     let count = c.len.ensures in

@@ -7,7 +7,7 @@ use Rattle.kl1_account.proofs.LookedAt.{settled_placed}
 use Rattle.kl1_account.proofs.completing.look_again.Goals as goal
 
 pub returns-clause-looks : goal.returns-clause-looks
-returns-clause-looks c =
+returns-clause-looks g c =
     let ms = c.args.modules.now.loaded in
     let tree = c.args.shoens.now in
     let now = c.args.store.now in

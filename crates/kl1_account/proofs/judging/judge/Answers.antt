@@ -8,7 +8,7 @@ use Rattle.kl1_account.proofs.Drafting.{judges, unbound_before}
 use Rattle.kl1_account.proofs.judging.judge.Goals as goal
 
 pub returns-clause-judges : goal.returns-clause-judges
-returns-clause-judges c =
+returns-clause-judges g c =
     let h = c.args.store.now.held in
     let cells = goal_variables c.args.scratch.now in
     let awaited = c.standing_of.new.trial.awaited.items in
@@ -19,7 +19,7 @@ returns-clause-judges c =
     c.standing_of.ensures.standing
 
 pub returns-clause-unbound : goal.returns-clause-unbound
-returns-clause-unbound c =
+returns-clause-unbound g c =
     let b = c.put_goal-cell.ensures.goal in
     let same = c.reserve_goal.ensures.same in
     on_ok_weaker c.standing_of.result

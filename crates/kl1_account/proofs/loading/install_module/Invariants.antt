@@ -4,4 +4,4 @@ use Rattle.kl1_account.proofs.loading.install_module.Given as goal
 
 -- the changes so far are made
 abbrev pub invariant-loop-change : goal.invariant-loop-change
-invariant-loop-change l = l.goals ≡ record l.fn.goals { goals = restood (take l.change-index l.changes) l.fn.goals.goals }
+invariant-loop-change g l = l.goals ≡ record l.fn.goals { goals = restood (take l.change-index l.changes) l.fn.goals.goals }

@@ -3,7 +3,7 @@ use Rattle.kl1_account.proofs.Loads.{tells_name, is_free, crowds_is, draft_exist
 use Rattle.kl1_account.proofs.loading.refusal_of.Goals as goal
 
 pub returns-then-has : goal.returns-then-has
-returns-then-has c =
+returns-then-has g c =
     let ms = c.args.modules.now.loaded in
     let names = c.args.names.now.names in
     let d = c.args.draft.now in
@@ -11,7 +11,7 @@ returns-then-has c =
     draft_exists ms names c.args.entries d (there ∙ c.if-has.true)
 
 pub returns-then-are_too_many : goal.returns-then-are_too_many
-returns-then-are_too_many c =
+returns-then-are_too_many g c =
     let ms = c.args.modules.now.loaded in
     let names = c.args.names.now.names in
     let d = c.args.draft.now in
@@ -20,7 +20,7 @@ returns-then-are_too_many c =
     draft_crowds ms names c.args.entries d (there ∙ c.if-has.false) (many ∙ c.if-are_too_many.true)
 
 pub returns-then-len-ge-MOST_MODULES : goal.returns-then-len-ge-MOST_MODULES
-returns-then-len-ge-MOST_MODULES c =
+returns-then-len-ge-MOST_MODULES g c =
     let ms = c.args.modules.now.loaded in
     let names = c.args.names.now.names in
     let d = c.args.draft.now in
@@ -29,7 +29,7 @@ returns-then-len-ge-MOST_MODULES c =
     draft_limit ms names c.args.entries d (there ∙ c.if-has.false) (many ∙ c.if-are_too_many.false) (omega arith)
 
 pub returns-then-entries-ge-MOST_ENTRIES : goal.returns-then-entries-ge-MOST_ENTRIES
-returns-then-entries-ge-MOST_ENTRIES c =
+returns-then-entries-ge-MOST_ENTRIES g c =
     let ms = c.args.modules.now.loaded in
     let names = c.args.names.now.names in
     let d = c.args.draft.now in
@@ -38,7 +38,7 @@ returns-then-entries-ge-MOST_ENTRIES c =
     draft_full ms names c.args.entries d (there ∙ c.if-has.false) (many ∙ c.if-are_too_many.false) (omega arith) c.if-entries-ge-MOST_ENTRIES.true
 
 pub returns : goal.returns
-returns c =
+returns g c =
     let ms = c.args.modules.now.loaded in
     let names = c.args.names.now.names in
     let d = c.args.draft.now in

@@ -10,7 +10,7 @@ use Rattle.kl1_account.proofs.Looks.{serves_has, stands_at}
 use Rattle.kl1_account.proofs.looking.standing_at.Goals as goal
 
 pub returns-clause-stands : goal.returns-clause-stands
-returns-clause-stands c =
+returns-clause-stands g c =
     let ms = c.args.modules.now.loaded in
     let h = c.args.store.now.held in
     let hooks = c.hung_standing.new.store.hooks in

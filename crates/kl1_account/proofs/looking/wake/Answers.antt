@@ -5,16 +5,16 @@ use Rattle.kl1_account.proofs.Told.{removed_wakes, absent_wakes, goal_wakes, tas
 use Rattle.kl1_account.proofs.looking.wake.Goals as goal
 
 pub returns-then-number-removed-clause-wakes : goal.returns-then-number-removed-clause-wakes
-returns-then-number-removed-clause-wakes c = removed_wakes c.args.modules.now.loaded c.args.shoens.now.shoens c.args.store.now.held c.args.store.now.hooks c.args.goals.now.goals c.args.removed c.args.number c.args.changes.now.items c.if-number-removed.true
+returns-then-number-removed-clause-wakes g c = removed_wakes c.args.modules.now.loaded c.args.shoens.now.shoens c.args.store.now.held c.args.store.now.hooks c.args.goals.now.goals c.args.removed c.args.number c.args.changes.now.items c.if-number-removed.true
 
 pub look_at_task-requires-clause-task : goal.look_at_task-requires-clause-task
-look_at_task-requires-clause-task c = task_in c.args.store.now.held (has_number c.args.number) c.args.goals.now.goals c.in-Some.goal c.requires.goals c.in-Some.ensures.goal
+look_at_task-requires-clause-task g c = task_in c.args.store.now.held (has_number c.args.number) c.args.goals.now.goals c.in-Some.goal c.requires.goals c.in-Some.ensures.goal
 
 pub returns-in-None-clause-wakes : goal.returns-in-None-clause-wakes
-returns-in-None-clause-wakes c = absent_wakes c.args.modules.now.loaded c.args.shoens.now.shoens c.args.store.now.held c.args.store.now.hooks c.args.goals.now.goals c.args.removed c.args.number c.args.changes.now.items c.in-None.ensures.goal
+returns-in-None-clause-wakes g c = absent_wakes c.args.modules.now.loaded c.args.shoens.now.shoens c.args.store.now.held c.args.store.now.hooks c.args.goals.now.goals c.args.removed c.args.number c.args.changes.now.items c.in-None.ensures.goal
 
 pub returns-in-Some-clause-wakes : goal.returns-in-Some-clause-wakes
-returns-in-Some-clause-wakes c =
+returns-in-Some-clause-wakes g c =
     on_ok_weaker c.look_at_task.result
     (goal_wakes c.args.modules.now.loaded c.args.shoens.now.shoens c.args.store.now.held c.args.store.now.hooks c.look_at_task.new.store.hooks c.args.goals.now.goals c.args.removed c.args.number c.args.changes.now.items c.look_at_task.new.changes.items c.in-Some.goal
     c.in-Some.ensures.goal (grown_among c.args.store.now c.look_at_task.new.store c.look_at_task.ensures.grown))

@@ -6,10 +6,10 @@ use Rattle.kl1_account.proofs.Added.{StillLooks, none_looked, next_looked, all_l
 use Rattle.kl1_account.proofs.looking.wake_added.Goals as goal
 
 pub loop-place-init : goal.loop-place-init
-loop-place-init c = none_looked c.args.modules.now.loaded c.args.shoens.now.shoens c.args.shoens.now.work c.args.store.now c.args.added.now.items c.requires.added
+loop-place-init g c = none_looked c.args.modules.now.loaded c.args.shoens.now.shoens c.args.shoens.now.work c.args.store.now c.args.added.now.items c.requires.added
 
 pub loop-place-preserved : goal.loop-place-preserved
-loop-place-preserved c =
+loop-place-preserved g c =
     let ms = c.args.modules.now.loaded in
     let ss = c.args.shoens.now.shoens in
     let work = c.args.shoens.now.work in
@@ -24,6 +24,6 @@ loop-place-preserved c =
     c.in_ok-added.ensures.held c.in_ok-added.ensures.grown (subst L c.index-goal.ensures c.in_ok-added.ensures.looks))
 
 pub returns-clause-looks : goal.returns-clause-looks
-returns-clause-looks c =
+returns-clause-looks g c =
     all_looked c.args.modules.now.loaded c.args.shoens.now.shoens c.args.shoens.now.work c.args.store.now c.loop-place.store c.loop-place.place c.args.added.now.items c.loop-place.added.items
     (omega (arith, c.loop-place-test.false, c.loop-place.invariant.count, c.loop-place.auto.place-end)) c.loop-place.invariant

@@ -4,7 +4,7 @@ use Rattle.kl1_account.proofs.Reached.{StillLooks}
 use Rattle.kl1_account.proofs.looking_beside.look_at_all.Given as goal
 
 abbrev pub invariant-loop-goal : goal.invariant-loop-goal
-invariant-loop-goal l = StillLooks (l.modules.loaded ++ l.draft ∷ []) l.shoens.shoens l.fn.store l.store l.goals.goals l.number l.changes.items
+invariant-loop-goal g l = StillLooks (l.modules.loaded ++ l.draft ∷ []) l.shoens.shoens l.fn.store l.store l.goals.goals l.number l.changes.items
 
 abbrev pub decreases-loop-goal : goal.decreases-loop-goal
-decreases-loop-goal l = 18446744073709551616 - l.number
+decreases-loop-goal g l = 18446744073709551616 - l.number

@@ -13,40 +13,40 @@ use Rattle.kl1_account.proofs.Reductions.{shoen_lets, alive_left, does_reduces}
 use Rattle.kl1_account.proofs.reducing.draft_move.Goals as goal
 
 pub kind_of_qualified-kind-requires : goal.kind_of_qualified-kind-requires
-kind_of_qualified-kind-requires c =
+kind_of_qualified-kind-requires g c =
     let P : Task CellName → Type 0 = λ t. IsTaskIn c.args.store.now.held t in
     subst P c.requires.reduces (found_holds (λ g. IsTaskIn c.args.store.now.held g.task) c.args.goal.number c.args.goals.now.goals c.args.goal (c.requires.kept []).goals c.requires.steppable.found)
 
 pub move_to_make-requires-clause-is : goal.move_to_make-requires-clause-is
-move_to_make-requires-clause-is c f knows = kind_at f c.args.store.now.held c.args.cell c.kind_of_qualified-kind.result (c.kind_of_qualified-kind.ensures.kind f knows.reads)
+move_to_make-requires-clause-is g c f knows = kind_at f c.args.store.now.held c.args.cell c.kind_of_qualified-kind.result (c.kind_of_qualified-kind.ensures.kind f knows.reads)
 
 pub returns-in-Err-clause-ok : goal.returns-in-Err-clause-ok
-returns-in-Err-clause-ok c own =
+returns-in-Err-clause-ok g c own =
     let a : Account = account_at own c.args.store.now.held c.args.goals.now.goals c.args.shoens.now c.args.modules.now.loaded c.args.names.now.names c.args.last_goal c.args.variables c.args.nodes c.args.reports c.args.entries in
     let refused = rw c.in-Err.is at c.in_ok-refusal.ensures.refused in
     record { held = refl; hooks = refl; tree = refl; steps = refused a c.args.goal.number c.args.goal c.requires.steppable c.requires.reduces (c.requires.kept own).enabled }
 
 pub overflow_sub-alive : goal.overflow_sub-alive
-overflow_sub-alive c =
+overflow_sub-alive g c =
     let n = alive_left c.args.goal.number c.args.last_goal c.args.variables c.args.nodes c.args.reports c.alive-alive.result c.begin.new.draft c.args.goals.now.goals c.args.goal c.args.cell c.begin.ensures c.shoens-ordered.ensures.order c.requires.steppable.found c.requires.reduces c.alive-alive.ensures in
     omega (arith, n)
 
 pub do_or_spell-requires-clause-cell : goal.do_or_spell-requires-clause-cell
-do_or_spell-requires-clause-cell c =
+do_or_spell-requires-clause-cell g c =
     let P : Task CellName → Type 0 = λ t. IsTaskIn c.args.store.now.held t in
     subst P c.requires.reduces (found_holds (λ g. IsTaskIn c.args.store.now.held g.task) c.args.goal.number c.args.goals.now.goals c.args.goal (c.requires.kept []).goals c.requires.steppable.found)
 
 pub do_or_spell-requires-clause-some : goal.do_or_spell-requires-clause-some
-do_or_spell-requires-clause-some c = (c.requires.kept []).some
+do_or_spell-requires-clause-some g c = (c.requires.kept []).some
 
 pub do_or_spell-requires-clause-shoens : goal.do_or_spell-requires-clause-shoens
-do_or_spell-requires-clause-shoens c = (c.requires.kept []).shoens
+do_or_spell-requires-clause-shoens g c = (c.requires.kept []).shoens
 
 pub do_or_spell-requires-clause-owned : goal.do_or_spell-requires-clause-owned
-do_or_spell-requires-clause-owned c = found_holds (IsOwned (length c.args.shoens.now.shoens)) c.args.goal.number c.args.goals.now.goals c.args.goal (c.requires.kept []).owned c.requires.steppable.found
+do_or_spell-requires-clause-owned g c = found_holds (IsOwned (length c.args.shoens.now.shoens)) c.args.goal.number c.args.goals.now.goals c.args.goal (c.requires.kept []).owned c.requires.steppable.found
 
 pub do_or_spell-requires-clause-begun : goal.do_or_spell-requires-clause-begun
-do_or_spell-requires-clause-begun c =
+do_or_spell-requires-clause-begun g c =
     let b = c.begin.ensures in
     let le = found_holds (λ g. g.number ≤ c.args.last_goal) c.args.goal.number c.args.goals.now.goals c.args.goal (c.requires.kept []).last c.requires.steppable.found in
     let r = b.removed_is in
@@ -54,35 +54,35 @@ do_or_spell-requires-clause-begun c =
     record { aborted = b.aborted; ended = b.ended; removed = omega (arith, le, r, l) }
 
 pub do_or_spell-requires-clause-may : goal.do_or_spell-requires-clause-may
-do_or_spell-requires-clause-may c =
+do_or_spell-requires-clause-may g c =
     shoen_lets c.args.shoens.now.shoens c.args.shoens.now.work c.args.goal c.args.cell c.requires.reduces c.requires.steppable.enabled
     (found_holds (IsEnabled c.args.shoens.now.shoens c.args.shoens.now.work) c.args.goal.number c.args.goals.now.goals c.args.goal (c.requires.kept []).enabled c.requires.steppable.found)
 
 pub do_or_spell-requires-clause-alive : goal.do_or_spell-requires-clause-alive
-do_or_spell-requires-clause-alive c =
+do_or_spell-requires-clause-alive g c =
     let n = alive_left c.args.goal.number c.args.last_goal c.args.variables c.args.nodes c.args.reports c.alive-alive.result c.begin.new.draft c.args.goals.now.goals c.args.goal c.args.cell c.begin.ensures c.shoens-ordered.ensures.order c.requires.steppable.found c.requires.reduces c.alive-alive.ensures in
     omega (arith, n)
 
 pub do_or_spell-requires-clause-few : goal.do_or_spell-requires-clause-few
-do_or_spell-requires-clause-few c = let few = (c.requires.kept []).few in let most = (c.requires.kept []).most in omega (arith, few, most)
+do_or_spell-requires-clause-few g c = let few = (c.requires.kept []).few in let most = (c.requires.kept []).most in omega (arith, few, most)
 
 pub finish-requires-clause-goals : goal.finish-requires-clause-goals
-finish-requires-clause-goals c = goals_grown c.args.store.now.held c.do_or_spell.new.store.held c.in_ok-do_or_spell.ensures.grown c.args.goals.now.goals (c.requires.kept []).goals
+finish-requires-clause-goals g c = goals_grown c.args.store.now.held c.do_or_spell.new.store.held c.in_ok-do_or_spell.ensures.grown c.args.goals.now.goals (c.requires.kept []).goals
 
 pub finish-requires-clause-next : goal.finish-requires-clause-next
-finish-requires-clause-next c =
+finish-requires-clause-next g c =
     let k = c.requires.kept [] in
     let P : ℕ → Type 0 = λ last. AreUpTo last c.args.goals.now.goals in
     c.in_ok-do_or_spell.ensures.leaves.comes.next c.args.goals.now.goals (subst P (sym c.begin.ensures.last_is) k.last) k.owned
 
 pub finish-requires-clause-known_shoens : goal.finish-requires-clause-known_shoens
-finish-requires-clause-known_shoens c = let n = (c.requires.kept []).count in let m = c.in_ok-do_or_spell.ensures.leaves.more in omega (arith, n, m)
+finish-requires-clause-known_shoens g c = let n = (c.requires.kept []).count in let m = c.in_ok-do_or_spell.ensures.leaves.more in omega (arith, n, m)
 
 pub finish-requires-clause-one_opens : goal.finish-requires-clause-one_opens
-finish-requires-clause-one_opens c = let n = (c.requires.kept []).count in let m = c.in_ok-do_or_spell.ensures.leaves.one_opens in omega (arith, n, m)
+finish-requires-clause-one_opens g c = let n = (c.requires.kept []).count in let m = c.in_ok-do_or_spell.ensures.leaves.one_opens in omega (arith, n, m)
 
 pub returns-clause-ok : goal.returns-clause-ok
-returns-clause-ok c own =
+returns-clause-ok g c own =
     let a : Account = account_at own c.args.store.now.held c.args.goals.now.goals c.args.shoens.now c.args.modules.now.loaded c.args.names.now.names c.args.last_goal c.args.variables c.args.nodes c.args.reports c.args.entries in
     let d = c.in_ok-do_or_spell.ensures in
     does_reduces a c.args.clause c.args.goals.now.shoens c.args.goal c.args.cell c.predicate_of-predicate.result (taken_places c.move_to_make.new.trial) c.move_to_make.new.trial.text c.in-Ok.made c.mark-mark.result c.args.store.now c.do_or_spell.new.store c.finish.new.store c.args.shoens.now c.do_or_spell.new.shoens c.finish.new.goals c.do_or_spell.new.walk.reached.items c.begin.new.draft c.do_or_spell.new.draft c.finish.new.draft
@@ -92,4 +92,4 @@ returns-clause-ok c own =
     c.in_ok-finish.ensures.finishes c.in_ok-finish.ensures.held c.in_ok-finish.ensures.count
 
 pub do_or_spell-requires-clause-level : goal.do_or_spell-requires-clause-level
-do_or_spell-requires-clause-level c = c.requires.level
+do_or_spell-requires-clause-level g c = c.requires.level

@@ -6,27 +6,27 @@ use Rattle.kl1_account.proofs.Reductions.{heard_reduces}
 use Rattle.kl1_account.proofs.reducing.draft_reading.Goals as goal
 
 pub control_to_read-requires : goal.control_to_read-requires
-control_to_read-requires c = record { shoens = (c.requires.kept []).shoens }
+control_to_read-requires g c = record { shoens = (c.requires.kept []).shoens }
 
 pub returns-in-Err-clause-ok : goal.returns-in-Err-clause-ok
-returns-in-Err-clause-ok c own =
+returns-in-Err-clause-ok g c own =
     let a : Account = account_at own c.args.store.now.held c.args.goals.now.goals c.args.shoens.now c.args.modules.now.loaded c.args.names.now.names c.args.last_goal c.args.variables c.args.nodes c.args.reports c.args.entries in
     record { held = refl; hooks = refl; tree = refl; steps = c.in-Err.ensures.refused a c.args.goal.number c.requires.steppable c.requires.monitor (c.requires.kept own).enabled }
 
 pub read-requires-clause-shoens : goal.read-requires-clause-shoens
-read-requires-clause-shoens c = (c.requires.kept []).shoens
+read-requires-clause-shoens g c = (c.requires.kept []).shoens
 
 pub finish-requires-clause-goals : goal.finish-requires-clause-goals
-finish-requires-clause-goals c = goals_grown c.args.store.now.held c.read.new.store.held c.in_ok-read.ensures.grown c.args.goals.now.goals (c.requires.kept []).goals
+finish-requires-clause-goals g c = goals_grown c.args.store.now.held c.read.new.store.held c.in_ok-read.ensures.grown c.args.goals.now.goals (c.requires.kept []).goals
 
 pub finish-requires-clause-known_shoens : goal.finish-requires-clause-known_shoens
-finish-requires-clause-known_shoens c = let n = (c.requires.kept []).count in let m = c.in_ok-read.ensures.leaves.more in omega (arith, n, m)
+finish-requires-clause-known_shoens g c = let n = (c.requires.kept []).count in let m = c.in_ok-read.ensures.leaves.more in omega (arith, n, m)
 
 pub finish-requires-clause-one_opens : goal.finish-requires-clause-one_opens
-finish-requires-clause-one_opens c = let n = (c.requires.kept []).count in let m = c.in_ok-read.ensures.leaves.one_opens in omega (arith, n, m)
+finish-requires-clause-one_opens g c = let n = (c.requires.kept []).count in let m = c.in_ok-read.ensures.leaves.one_opens in omega (arith, n, m)
 
 pub returns-clause-ok : goal.returns-clause-ok
-returns-clause-ok c own =
+returns-clause-ok g c own =
     let a : Account = account_at own c.args.store.now.held c.args.goals.now.goals c.args.shoens.now c.args.modules.now.loaded c.args.names.now.names c.args.last_goal c.args.variables c.args.nodes c.args.reports c.args.entries in
     let r = c.in_ok-read.ensures in
     heard_reduces a c.args.goal.number c.args.clause c.args.goals.now.shoens c.args.goal c.in-Ok.control c.mark-mark.result c.args.store.now c.read.new.store c.finish.new.store c.args.shoens.now c.read.new.shoens c.finish.new.goals c.read.new.walk.reached.items c.begin.new.draft c.read.new.draft (record c.read.new.draft { told = c.push.new.self }) c.finish.new.draft

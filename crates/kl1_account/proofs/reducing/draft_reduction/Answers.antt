@@ -4,6 +4,6 @@ use Rattle.kl1_account.specs.Reducing.{account_at}
 use Rattle.kl1_account.proofs.reducing.draft_reduction.Goals as goal
 
 pub returns-in-Err-clause-ok : goal.returns-in-Err-clause-ok
-returns-in-Err-clause-ok c own =
+returns-in-Err-clause-ok g c own =
     let a : Account = account_at own c.args.store.now.held c.args.goals.now.goals c.args.shoens.now c.args.modules.now.loaded c.args.names.now.names c.args.last_goal c.args.variables c.args.nodes c.args.reports c.args.entries in
     record { held = refl; hooks = refl; tree = refl; steps = c.in-Err.ensures.refused a (c.requires.kept own).enabled }

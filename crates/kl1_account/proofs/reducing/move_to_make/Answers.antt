@@ -12,18 +12,18 @@ use Rattle.kl1_account.proofs.Drafted.{allowed_move}
 use Rattle.kl1_account.proofs.reducing.move_to_make.Goals as goal
 
 pub returns-in_default-clause-refused : goal.returns-in_default-clause-refused
-returns-in_default-clause-refused c a n g is task all f knows =
+returns-in_default-clause-refused g c a n w is task all f knows =
     let h = c.args.store.now.held in
     let ms = c.args.modules.now.loaded in
     let x = c.args.cell in
     let b : Account = with_modules a h ms c.args.entries in
     let kind = c.requires.is f knows in
     let P : Option (Move CellName) → Type 0 = λ m. MovesAs f h (contents ms) (aim f h x) c.args.clause c.args.predicate (taken_places c.move_of.new.trial) c.move_of.new.trial.text m in
-    steps_not f b n c.args.clause g is all
-    (goal_does f b c.args.clause g x None task (subst P c.in_default.is (c.in_ok-made.ensures.moves f knows.reads (contents ms) (aim f h x) kind (c.requires.has f knows h (aim f h x) kind))))
+    steps_not f b n c.args.clause w is all
+    (goal_does f b c.args.clause w x None task (subst P c.in_default.is (c.in_ok-made.ensures.moves f knows.reads (contents ms) (aim f h x) kind (c.requires.has f knows h (aim f h x) kind))))
 
 pub returns-then-entries-ge-MOST_ENTRIES-clause-refused : goal.returns-then-entries-ge-MOST_ENTRIES-clause-refused
-returns-then-entries-ge-MOST_ENTRIES-clause-refused c a n g is task all f knows =
+returns-then-entries-ge-MOST_ENTRIES-clause-refused g c a n w is task all f knows =
     let h = c.args.store.now.held in
     let ms = c.args.modules.now.loaded in
     let x = c.args.cell in
@@ -35,12 +35,12 @@ returns-then-entries-ge-MOST_ENTRIES-clause-refused c a n g is task all f knows 
     let P : Option (Move CellName) → Type 0 = λ m. MovesAs f h (contents ms) (aim f h x) c.args.clause p places text m in
     let I : Option (Move CellName) → Type 0 = λ m. MoveIn h p places text m in
     let found = subst P c.in-Some.is (c.in_ok-made.ensures.moves f knows.reads (contents ms) (aim f h x) kind (c.requires.has f knows h (aim f h x) kind)) in
-    steps_full f b n c.args.clause g (moves (aim f h x) (move_at ms h x c.args.clause f)) is all
-    (goal_does f b c.args.clause g x (Some (move_at ms h x c.args.clause f)) task (allowed_move f ms h p places text x c.in-Some.made c.args.clause (subst I c.in-Some.is c.in_ok-made.ensures.inside) found))
+    steps_full f b n c.args.clause w (moves (aim f h x) (move_at ms h x c.args.clause f)) is all
+    (goal_does f b c.args.clause w x (Some (move_at ms h x c.args.clause f)) task (allowed_move f ms h p places text x c.in-Some.made c.args.clause (subst I c.in-Some.is c.in_ok-made.ensures.inside) found))
     c.if-entries-ge-MOST_ENTRIES.true
 
 pub returns-clause-makes : goal.returns-clause-makes
-returns-clause-makes c =
+returns-clause-makes g c =
     let h = c.args.store.now.held in
     let ms = c.args.modules.now.loaded in
     let x = c.args.cell in

@@ -11,7 +11,7 @@ pub draft_reduction-drafted-requires : goal.draft_reduction-drafted-requires
 draft_reduction-drafted-requires g c =
     let u = c.self.inside in
     record {
-      kept = kept_at (kept_in u) c.begin.new.self u.store.hooks u.goals.shoens (ap (λ (x : Tree CellName). x.shoens) c.begin.ensures) (ap (λ (x : Tree CellName). x.work) c.begin.ensures) c.self.invariant;
+      kept = rw c.over.ensures (kept_at (kept_in u) c.begin.new.self u.store.hooks u.goals.shoens (ap (λ (x : Tree CellName). x.shoens) c.begin.ensures) (ap (λ (x : Tree CellName). x.work) c.begin.ensures) c.self.invariant);
     }
 
 pub invariant_of-self-in-Some : goal.invariant_of-self-in-Some
@@ -24,7 +24,7 @@ invariant_of-self-in-Some g c =
     let table = c.draft_reduction-drafted.new.goals in
     let d = c.draft_reduction-drafted.new.draft in
     let came =
-    comes_of a t c.args.number c.args.clause u.store k v table d c.in-Ok.refused (ap (λ (x : Tree CellName). x.shoens) c.begin.ensures) (ap (λ (x : Tree CellName). x.work) c.begin.ensures) c.in-Ok.ensures.ok in
+    comes_of a t c.args.number c.args.clause u.store k v table d c.in-Ok.refused (ap (λ (x : Tree CellName). x.shoens) c.begin.ensures) (ap (λ (x : Tree CellName). x.work) c.begin.ensures) (rw c.over.ensures at c.in-Ok.ensures.ok) in
     let r = refused_of a c.args.number c.args.clause u.store k t v table d c.in-Ok.refused c.in-Some.refusal c.in-Some.is came in
     let back = as_before a c.args.number c.args.clause u.store k t v c.in-Some.refusal table.goals c.draft_reduction-drafted.new.names.names r refl (ap (λ (x : Tree CellName). x.shoens) c.begin.ensures) (ap (λ (x : Tree CellName). x.work) c.begin.ensures) c.draft_reduction-drafted.ensures.goals c.draft_reduction-drafted.ensures.names in
     still_kept a _ u.store.hooks k.hooks u.goals.shoens table.shoens back r.hooks c.draft_reduction-drafted.ensures.shoens c.self.invariant
@@ -39,7 +39,7 @@ returns-in-Some-clause-step g c =
     let table = c.draft_reduction-drafted.new.goals in
     let d = c.draft_reduction-drafted.new.draft in
     let came =
-    comes_of a t c.args.number c.args.clause u.store k v table d c.in-Ok.refused (ap (λ (x : Tree CellName). x.shoens) c.begin.ensures) (ap (λ (x : Tree CellName). x.work) c.begin.ensures) c.in-Ok.ensures.ok in
+    comes_of a t c.args.number c.args.clause u.store k v table d c.in-Ok.refused (ap (λ (x : Tree CellName). x.shoens) c.begin.ensures) (ap (λ (x : Tree CellName). x.work) c.begin.ensures) (rw c.over.ensures at c.in-Ok.ensures.ok) in
     let r = refused_of a c.args.number c.args.clause u.store k t v table d c.in-Ok.refused c.in-Some.refusal c.in-Some.is came in
     let back = as_before a c.args.number c.args.clause u.store k t v c.in-Some.refusal table.goals c.draft_reduction-drafted.new.names.names r refl (ap (λ (x : Tree CellName). x.shoens) c.begin.ensures) (ap (λ (x : Tree CellName). x.work) c.begin.ensures) c.draft_reduction-drafted.ensures.goals c.draft_reduction-drafted.ensures.names in
     λ f fits. refused_step a c.args.self.now _ c.args.number c.args.clause u.store k t v c.in-Some.refusal u.store.hooks u.goals.shoens c.self.view_is back c.self.invariant r f fits
@@ -54,7 +54,7 @@ spell_anew-requires-clause-name g c =
     let table = c.draft_reduction-drafted.new.goals in
     let d = c.draft_reduction-drafted.new.draft in
     let came =
-    comes_of a t c.args.number c.args.clause u.store k v table d c.in-Ok.refused (ap (λ (x : Tree CellName). x.shoens) c.begin.ensures) (ap (λ (x : Tree CellName). x.work) c.begin.ensures) c.in-Ok.ensures.ok in
+    comes_of a t c.args.number c.args.clause u.store k v table d c.in-Ok.refused (ap (λ (x : Tree CellName). x.shoens) c.begin.ensures) (ap (λ (x : Tree CellName). x.work) c.begin.ensures) (rw c.over.ensures at c.in-Ok.ensures.ok) in
     let r = reduced_of a c.args.number c.args.clause u.store k t v table d c.in-Ok.refused c.in_default.is came in
     let N : List Known → Type 0 = λ ks. IsNewName ks d.name in
     subst N (sym c.draft_reduction-drafted.ensures.names) r.name
@@ -69,7 +69,7 @@ spell_anew-requires-clause-spelled g c =
     let table = c.draft_reduction-drafted.new.goals in
     let d = c.draft_reduction-drafted.new.draft in
     let came =
-    comes_of a t c.args.number c.args.clause u.store k v table d c.in-Ok.refused (ap (λ (x : Tree CellName). x.shoens) c.begin.ensures) (ap (λ (x : Tree CellName). x.work) c.begin.ensures) c.in-Ok.ensures.ok in
+    comes_of a t c.args.number c.args.clause u.store k v table d c.in-Ok.refused (ap (λ (x : Tree CellName). x.shoens) c.begin.ensures) (ap (λ (x : Tree CellName). x.work) c.begin.ensures) (rw c.over.ensures at c.in-Ok.ensures.ok) in
     let r = reduced_of a c.args.number c.args.clause u.store k t v table d c.in-Ok.refused c.in_default.is came in
     r.spelled
 
@@ -83,7 +83,7 @@ spell_anew-requires-clause-has g c =
     let table = c.draft_reduction-drafted.new.goals in
     let d = c.draft_reduction-drafted.new.draft in
     let came =
-    comes_of a t c.args.number c.args.clause u.store k v table d c.in-Ok.refused (ap (λ (x : Tree CellName). x.shoens) c.begin.ensures) (ap (λ (x : Tree CellName). x.work) c.begin.ensures) c.in-Ok.ensures.ok in
+    comes_of a t c.args.number c.args.clause u.store k v table d c.in-Ok.refused (ap (λ (x : Tree CellName). x.shoens) c.begin.ensures) (ap (λ (x : Tree CellName). x.work) c.begin.ensures) (rw c.over.ensures at c.in-Ok.ensures.ok) in
     let r = reduced_of a c.args.number c.args.clause u.store k t v table d c.in-Ok.refused c.in_default.is came in
     r.has
 
@@ -97,7 +97,7 @@ install-requires g c =
     let table = c.draft_reduction-drafted.new.goals in
     let d = c.draft_reduction-drafted.new.draft in
     let came =
-    comes_of a t c.args.number c.args.clause u.store k v table d c.in-Ok.refused (ap (λ (x : Tree CellName). x.shoens) c.begin.ensures) (ap (λ (x : Tree CellName). x.work) c.begin.ensures) c.in-Ok.ensures.ok in
+    comes_of a t c.args.number c.args.clause u.store k v table d c.in-Ok.refused (ap (λ (x : Tree CellName). x.shoens) c.begin.ensures) (ap (λ (x : Tree CellName). x.work) c.begin.ensures) (rw c.over.ensures at c.in-Ok.ensures.ok) in
     let r = reduced_of a c.args.number c.args.clause u.store k t v table d c.in-Ok.refused c.in_default.is came in
     let opens : Bool = nat_lt c.shoens.result c.len.result in
     let is : opens ≡ nat_lt table.shoens (length v.shoens) = ap₂ (λ (m n : ℕ). nat_lt m n) c.shoens.ensures.shoens c.len.ensures.value in
@@ -113,7 +113,7 @@ invariant_of-self-2 g c =
     let table = c.draft_reduction-drafted.new.goals in
     let d = c.draft_reduction-drafted.new.draft in
     let came =
-    comes_of a t c.args.number c.args.clause u.store k v table d c.in-Ok.refused (ap (λ (x : Tree CellName). x.shoens) c.begin.ensures) (ap (λ (x : Tree CellName). x.work) c.begin.ensures) c.in-Ok.ensures.ok in
+    comes_of a t c.args.number c.args.clause u.store k v table d c.in-Ok.refused (ap (λ (x : Tree CellName). x.shoens) c.begin.ensures) (ap (λ (x : Tree CellName). x.work) c.begin.ensures) (rw c.over.ensures at c.in-Ok.ensures.ok) in
     let r = reduced_of a c.args.number c.args.clause u.store k t v table d c.in-Ok.refused c.in_default.is came in
     let p = published_of a.names c.draft_reduction-drafted.new.names.names c.spell_anew.new.known.names d k.held c.spell_anew.new.store.held c.draft_reduction-drafted.ensures.names c.spell_anew.ensures.published in
     let one : u.entries + 1 ≡ suc u.entries = omega arith in
@@ -132,7 +132,7 @@ returns-clause-step g c =
     let table = c.draft_reduction-drafted.new.goals in
     let d = c.draft_reduction-drafted.new.draft in
     let came =
-    comes_of a t c.args.number c.args.clause u.store k v table d c.in-Ok.refused (ap (λ (x : Tree CellName). x.shoens) c.begin.ensures) (ap (λ (x : Tree CellName). x.work) c.begin.ensures) c.in-Ok.ensures.ok in
+    comes_of a t c.args.number c.args.clause u.store k v table d c.in-Ok.refused (ap (λ (x : Tree CellName). x.shoens) c.begin.ensures) (ap (λ (x : Tree CellName). x.work) c.begin.ensures) (rw c.over.ensures at c.in-Ok.ensures.ok) in
     let r = reduced_of a c.args.number c.args.clause u.store k t v table d c.in-Ok.refused c.in_default.is came in
     let p = published_of a.names c.draft_reduction-drafted.new.names.names c.spell_anew.new.known.names d k.held c.spell_anew.new.store.held c.draft_reduction-drafted.ensures.names c.spell_anew.ensures.published in
     let one : u.entries + 1 ≡ suc u.entries = omega arith in

@@ -94,7 +94,7 @@ invariant_of-self-2 g c =
     let cells = goal_variables c.prepare_start.new.scratch in
     let awaited = c.prepare_start.new.trial.awaited.items in
     let s = is_start a b c.prepare_start.new.store.held texts row c.publish.new.row.items c.as_slice.result.now c.highest-variables.result cells awaited c.in_ok-opening.opening c.args.allowance c.args.low c.args.high goal_term c.in-Coded.code c.prepare_start.new.goals.goals c.prepare_start.new.shoens.shoens c.prepare_start.new.shoens.work c.nodes.result
-    c.prepare_start.ensures.formed c.in_ok-opening.ensures.ok c.in_ok-opening.ensures.grown c.place.ensures.placed c.prepare_start.ensures.goals c.prepare_start.ensures.shoens c.as_slice.ensures.value c.place.ensures.grown
+    c.prepare_start.ensures.formed (rw c.over.ensures at c.in_ok-opening.ensures.ok) c.in_ok-opening.ensures.grown c.place.ensures.placed c.prepare_start.ensures.goals c.prepare_start.ensures.shoens c.as_slice.ensures.value c.place.ensures.grown
     may.code_is c.names-texts.ensures.value c.row-row.ensures (may_numbered c.args.allowance c.args.low c.args.high goal_term may.may) c.highest-variables.ensures
     (c.publish.ensures.texts ∙ ap (λ (ks : List Known). with_texts (texts_of ks) texts) c.prepare_start.ensures.names) c.publish.ensures.row (λ f fits. let F : List Known → Type 0 = λ ks. Fits ks f in subst F c.prepare_start.ensures.names (c.publish.ensures.fits f fits))
     refl refl c.place.ensures.work c.prepare_start.ensures.work c.in_ok-last.ensures.value refl c.nodes.ensures refl refl refl in
@@ -121,7 +121,7 @@ returns-clause-step g c =
     let cells = goal_variables c.prepare_start.new.scratch in
     let awaited = c.prepare_start.new.trial.awaited.items in
     let s = is_start a b c.prepare_start.new.store.held texts row c.publish.new.row.items c.as_slice.result.now c.highest-variables.result cells awaited c.in_ok-opening.opening c.args.allowance c.args.low c.args.high goal_term c.in-Coded.code c.prepare_start.new.goals.goals c.prepare_start.new.shoens.shoens c.prepare_start.new.shoens.work c.nodes.result
-    c.prepare_start.ensures.formed c.in_ok-opening.ensures.ok c.in_ok-opening.ensures.grown c.place.ensures.placed c.prepare_start.ensures.goals c.prepare_start.ensures.shoens c.as_slice.ensures.value c.place.ensures.grown
+    c.prepare_start.ensures.formed (rw c.over.ensures at c.in_ok-opening.ensures.ok) c.in_ok-opening.ensures.grown c.place.ensures.placed c.prepare_start.ensures.goals c.prepare_start.ensures.shoens c.as_slice.ensures.value c.place.ensures.grown
     may.code_is c.names-texts.ensures.value c.row-row.ensures (may_numbered c.args.allowance c.args.low c.args.high goal_term may.may) c.highest-variables.ensures
     (c.publish.ensures.texts ∙ ap (λ (ks : List Known). with_texts (texts_of ks) texts) c.prepare_start.ensures.names) c.publish.ensures.row (λ f fits. let F : List Known → Type 0 = λ ks. Fits ks f in subst F c.prepare_start.ensures.names (c.publish.ensures.fits f fits))
     refl refl c.place.ensures.work c.prepare_start.ensures.work c.in_ok-last.ensures.value refl c.nodes.ensures refl refl refl in
