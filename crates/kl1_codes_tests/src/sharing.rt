@@ -2,7 +2,7 @@
 
 use crate::modules::{APP, O, numbered};
 use crate::seeing::found;
-use kl1_codes::{CodeTable, PlainCodes, SharedCodes};
+use kl1_codes::{CodeSource, CodeTable, PlainCodes, SharedCodes};
 use std::alloc::{AllocError, Global};
 use std::sync::{Arc, Wait};
 use std::thread::{Threads, join};
@@ -69,7 +69,7 @@ fn gives<R: Wait>(rt: &R, alloc: Global, table: &CodeTable, number: u64) -> bool
     let mut codes = SharedCodes { table, rt };
     match found(&mut codes, source.bytes.as_slice()) {
         Err(_fault) => false,
-        Ok(shown) => table.code(&shown).source() == source.bytes.as_slice(),
+        Ok(shown) => codes.code(&shown).source() == source.bytes.as_slice(),
     }
 }
 
