@@ -1,7 +1,8 @@
 // What goals do in one step, where a name that is new may come of it.
 
-ghost use Rattle.std.specs.Prelude.{◌≡◌, ◌+◌, ◌<◌, ◌≤◌, ◌^◌, [], length, not, true, ◌++◌, Some, None, count_by, OnOk};
+ghost use Rattle.std.specs.Prelude.{◌≡◌, ◌+◌, ◌<◌, ◌≤◌, ◌^◌, [], ℕ, List, length, not, true, false, ◌++◌, Some, None, count_by, OnOk};
 ghost use Rattle.kl1_model.specs.Limits.{monitor_priority};
+ghost use Rattle.kl1_atoms.specs.declared.known.Known.{Known};
 ghost use Rattle.kl1_store.specs.Held.{IsIn};
 ghost use Rattle.kl1_store.specs.Sound.{Grown};
 ghost use Rattle.kl1_clause.specs.Predicates.{AreSome};
@@ -24,6 +25,20 @@ use kl1_shoen::ShoenTree;
 use kl1_store::{Qualified, Store};
 use kl1_text::{AtomText, CellName};
 use std::alloc::AllocError;
+
+/// Whether a move may use a text as a name.
+fn may_name(made: Move<CellName>) -> bool
+    ensures { result ≡ false → (known : List Known) (text : List ℕ) → name_for made known text ≡ None }
+{
+    match made {
+        Move::Names(_target) => true,
+        Move::Commits(_place) => false,
+        Move::Raises(_kind) => false,
+        Move::Unifies(_left, _right) => false,
+        Move::Opens(_structure) => false,
+        Move::Goes => false,
+    }
+}
 
 /// A goal that a draft removes, which is this cell, makes a move: its shoen is charged, the move is done, and after that shoens report
 /// that they are exhausted, and terminate. So many goals are there without it. Where a variable becomes a name that is new to the
@@ -73,7 +88,9 @@ pub fn do_or_spell(
 {
     let _formed = store.mark();
     let Some(variable) = name_to_spell(store, names, made, trial) else {
-        names.reserve(1)?;
+        if may_name(made) {
+            names.reserve(1)?;
+        }
         return act(
             store, goals, shoens, draft, walk, names, alive, predicate, made, trial, goal, cell,
         );

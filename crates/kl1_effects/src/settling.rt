@@ -71,10 +71,10 @@ fn has_goal(goals: &GoalTable<CellName>, draft: &Draft, number: u64) -> bool
     if is_aborted(draft, number) {
         return false;
     }
-    if goals.has_goal_beside(number, draft.removed) {
+    if is_any_added(draft, number) {
         return true;
     }
-    is_any_added(draft, number)
+    goals.has_goal_beside(number, draft.removed)
 }
 
 /// Whether a shoen terminates, with a draft in place.

@@ -5,7 +5,7 @@ mod charging;
 mod marking;
 mod walking;
 
-ghost use Rattle.std.specs.Prelude.{◌≡◌, ◌<◌, ◌≤◌, ◌+◌, ◌-◌, [], ◌∷◌, ◌++◌, suc, min, length, find, option_and_then, option_copied, option_map, unwrap_or, slice_get, IfSome, OnOk};
+ghost use Rattle.std.specs.Prelude.{◌≡◌, ◌<◌, ◌≤◌, ◌+◌, ◌-◌, [], ◌∷◌, ◌++◌, suc, min, length, None, find, option_and_then, option_copied, option_map, unwrap_or, slice_get, IfSome, OnOk};
 ghost use Rattle.std.specs.List.{AllByRecursion};
 ghost use Rattle.kl1_shoen.specs.Shoens.{has_number, shoen_in, path_in, lives_in, AreNumbered, AreLower};
 
@@ -109,6 +109,19 @@ impl<N: NameValue> ShoenTree<N> {
         ensures number { IfSome result (λ shoen. shoen.now.number ≡ number) }
     {
         let _numbered = self.len();
+        lent(self.shoens.items(), number)
+    }
+
+    /// The shoen of a number, lent to go on with its parent; where there is none, nothing more is on the path.
+    pub fn climb(&self, number: u64) -> Option<&Shoen<N>>
+        requires { 0 < number }
+        ensures value { option_copied result ≡ find (has_number number) self.now.shoens }
+        ensures number { IfSome result (λ shoen. shoen.now.number ≡ number) }
+        ensures below { IfSome result (λ shoen. shoen.now.parent < number) }
+        ensures path { IfSome result (λ shoen. path_in self.now.shoens number ≡ number ∷ path_in self.now.shoens shoen.now.parent) }
+        ensures end { result ≡ None → path_in self.now.shoens number ≡ number ∷ [] }
+    {
+        let _lower = self.len();
         lent(self.shoens.items(), number)
     }
 
