@@ -1,9 +1,10 @@
 -- What a term is as a part of an expression.
 use Rattle.std.specs.Prelude.{◌≡◌, ℕ, zero, suc}
+use Rattle.kl1_model.specs.declared.operator.Operator.{Operator}
 use Rattle.kl1_model.specs.Term.{Term}
-use Rattle.kl1_model.specs.Arithmetic.{Scan, found, waits_for, wrong_type, number, with_left, scan}
+use Rattle.kl1_model.specs.Arithmetic.{Scan, found, waits_for, wrong_type, number, operation, with_left, scan}
 use Rattle.kl1_guard.specs.declared.part.Part.{Part}
-use Rattle.kl1_guard.specs.declared.part.Part.TheVariants.{Variable, Integer, Operation, Other}
+use Rattle.kl1_guard.specs.declared.part.Part.TheVariants.{Variable, Integer, Operation, Flat, Other}
 
 -- what is found in a part, where there may be this many operators, variables have these numbers, and these terms stand there
 abbrev pub part_scan : {V A : Type 0} → (V → ℕ) → (A → Term) → ℕ → Part V A → Scan
@@ -11,15 +12,22 @@ part_scan number_of term n (Variable v) = waits_for (number_of v)
 part_scan number_of term n (Integer i) = found (number i) n
 part_scan number_of term zero (Operation o a b) = wrong_type
 part_scan number_of term (suc n) (Operation o a b) = with_left o (scan n (term a)) (λ left. scan left (term b))
+part_scan number_of term zero (Flat o i j) = wrong_type
+part_scan number_of term (suc n) (Flat o i j) = found (operation o (number i) (number j)) n
 part_scan number_of term n Other = wrong_type
 
 -- a term in which a scan finds what it finds in such a part
 abbrev pub ScansAs : {V A : Type 0} → (V → ℕ) → (A → Term) → Term → Part V A → Type 0
 ScansAs number_of term t part = (n : ℕ) → scan n t ≡ part_scan number_of term n part
 
+-- a part in which is found what is found in an operation on the terms at these places
+abbrev pub OperatesAs : {V A : Type 0} → (V → ℕ) → (A → Term) → Operator → A → A → Part V A → Type 0
+OperatesAs number_of term o a b part = (n : ℕ) → part_scan number_of term n part ≡ part_scan number_of term n (Operation o a b)
+
 -- a part whose variable is unbound, and at whose places terms stand
 abbrev pub IsPartIn : {V A : Type 0} → (V → Type 0) → (A → Type 0) → Part V A → Type 0
 IsPartIn IsFree IsAt (Variable v) = IsFree v
 IsPartIn IsFree IsAt (Integer i) = Unit {0}
 IsPartIn IsFree IsAt (Operation o a b) = IsAt a × IsAt b
+IsPartIn IsFree IsAt (Flat o i j) = Unit {0}
 IsPartIn IsFree IsAt Other = Unit {0}

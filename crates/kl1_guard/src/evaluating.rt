@@ -4,6 +4,7 @@ ghost use Rattle.std.specs.Prelude.{◌≡◌, ◌≤◌, [], IfOk, IsOk, OnOk, 
 ghost use Rattle.kl1_model.specs.Limits.{most_operators};
 ghost use Rattle.kl1_guard.specs.Evaluations.{EvaluatesAs, IsAwaited, HasRoom};
 
+use crate::arithmetic::apply;
 use crate::carrying::{Carried, carry};
 use crate::evaluated::Evaluated;
 use crate::part::{Part, part_of};
@@ -45,6 +46,17 @@ fn scan<N: NameValue, T: View<N>>(
                 left -= 1;
                 stack.push_reserved(Pending::Right(operator, second));
                 at = first;
+            }
+            Part::Flat(operator, first, second) => {
+                if left == 0 {
+                    return Evaluated::IsNoExpression;
+                }
+                left -= 1;
+                let number = apply(operator, Number::Value(first), Number::Value(second));
+                match carry(stack, number) {
+                    Carried::To(next) => at = next,
+                    Carried::Whole(number) => return Evaluated::ComesTo(number),
+                }
             }
             Part::Other => return Evaluated::IsNoExpression,
         }

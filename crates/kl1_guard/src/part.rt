@@ -2,7 +2,7 @@
 
 ghost use Rattle.std.specs.Prelude.{ℕ, List};
 ghost use Rattle.kl1_text.specs.Reading.{Reads};
-ghost use Rattle.kl1_guard.specs.Parts.{ScansAs, IsPartIn};
+ghost use Rattle.kl1_guard.specs.Parts.{ScansAs, OperatesAs, IsPartIn};
 
 use crate::form::Form;
 use crate::names::operator_of;
@@ -18,8 +18,31 @@ pub(crate) enum Part<V, A> {
     Integer(i64),
     /// An operator with its two operands.
     Operation(Operator, A, A),
+    /// An operator with two integers.
+    Flat(Operator, i64, i64),
     /// What belongs in no expression.
     Other,
+}
+
+/// What an operation on the terms at two places is as a part of an expression.
+#[inline(always)]
+fn operation_of<N: NameValue, T: View<N>>(
+    view: &T,
+    operator: Operator,
+    left: T::At,
+    right: T::At,
+) -> Part<T::Variable, T::At>
+    requires left { T.IsAt view.now left }
+    requires right { T.IsAt view.now right }
+    ensures inside { IsPartIn (T.IsFree view.now) (T.IsAt view.now) result }
+    ensures means { (f : N → List ℕ) → OperatesAs (T.number view.now) (T.term f view.now) operator left right result }
+{
+    if let Form::Integer(first) = view.form_of(left) {
+        if let Form::Integer(second) = view.form_of(right) {
+            return Part::Flat(operator, first, second);
+        }
+    }
+    Part::Operation(operator, left, right)
 }
 
 /// What a term is as a part of an expression.
@@ -38,7 +61,8 @@ pub(crate) fn part_of<N: NameValue, T: View<N>>(view: &T, at: T::At) -> Part<T::
                 return Part::Other;
             }
             match operator_of(name) {
-                Some(operator) => Part::Operation(
+                Some(operator) => operation_of(
+                    view,
                     operator,
                     view.argument(structure, 0),
                     view.argument(structure, 1),
