@@ -15,6 +15,19 @@ struct Letters<'a> {
     left: &'a [u8],
 }
 
+impl Letters<'_> {
+    /// Whether what is asked for is done, by the next letter, which is taken unless it is `m`.
+    fn is_next_done(&mut self) -> Result<bool, AllocError> {
+        let (is_done, left) = match self.left {
+            [b'd', left @ ..] => (true, left),
+            [b'r', left @ ..] => (false, left),
+            _ => return Err(AllocError),
+        };
+        self.left = left;
+        Ok(is_done)
+    }
+}
+
 impl Host for Letters<'_> {
     ghost Reading = { Unit {0} };
 
@@ -23,13 +36,15 @@ impl Host for Letters<'_> {
     ghost state = { λ f h. fresh [] };
 
     fn apply(&mut self, event: &Event) -> Result<Reply, AllocError> {
-        let (is_done, left) = match self.left {
-            [b'd', left @ ..] => (true, left),
-            [b'r', left @ ..] => (false, left),
-            _ => return Err(AllocError),
-        };
-        self.left = left;
+        let is_done = self.is_next_done()?;
         Ok(reply_by(is_done, event))
+    }
+
+    fn reduce(&mut self, _goal: GoalNo, _clause: ClauseNo) -> Result<Option<Refusal>, AllocError> {
+        if self.is_next_done()? {
+            return Ok(None);
+        }
+        Ok(Some(Refusal::Journal))
     }
 
     fn whole_value(&mut self, _shoen: ShoenNo) -> Result<Option<Vec<u8>>, AllocError> {
@@ -50,7 +65,6 @@ fn reply_by(is_done: bool, event: &Event) -> Reply {
         return Reply::Refused(Refusal::Journal);
     }
     match event {
-        Event::Reduce { .. } => Reply::Reduced,
         Event::Control { .. } => Reply::Sent,
         _ => Reply::Quiet(true),
     }
