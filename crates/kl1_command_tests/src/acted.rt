@@ -1,7 +1,7 @@
 // What commands do to an account.
 
 ghost use Rattle.kl1_model.specs.State.{fresh};
-ghost use Rattle.std.specs.Prelude.{[]};
+ghost use Rattle.std.specs.Prelude.{◌≡◌, [], OnErr};
 
 use kl1_command::{Host, Parsed, Performed, parse, perform, put_reply};
 use kl1_event::{ClauseNo, Event, GoalNo, Refusal, Reply, ShoenNo};
@@ -17,7 +17,9 @@ struct Letters<'a> {
 
 impl Letters<'_> {
     /// Whether what is asked for is done, by the next letter, which is taken unless it is `m`.
-    fn is_next_done(&mut self) -> Result<bool, AllocError> {
+    fn is_next_done(&mut self) -> Result<bool, AllocError>
+        ensures err { OnErr result (self.new ≡ self.old) }
+    {
         let (is_done, left) = match self.left {
             [b'd', left @ ..] => (true, left),
             [b'r', left @ ..] => (false, left),
