@@ -67,6 +67,7 @@ fn reply_by(is_done: bool, event: &Event) -> Reply {
         return Reply::Refused(Refusal::Journal);
     }
     match event {
+        Event::Reduce { .. } => Reply::Reduced,
         Event::Control { .. } => Reply::Sent,
         _ => Reply::Quiet(true),
     }
