@@ -41,7 +41,7 @@ impl<C: CodeSource> Model for Loaded<C> {
 }
 
 /// The number of a module's own name, where these are the numbers of its names.
-fn number_by(code: &Code, row: &[CellName]) -> CellName
+pub fn number_by(code: &Code, row: &[CellName]) -> CellName
     ensures { result ≡ number_by row.now (built_in_of code.now.name) }
 {
     match code.module_name().built_in() {
