@@ -3,9 +3,9 @@ use Rattle.kl1_model.specs.State.{fresh}
 use Rattle.kl1_effects.specs.Account.{state_of}
 use Rattle.kl1_script.proofs.Readings.{reading_of, reading_fits}
 use Rattle.kl1_shell.specs.Works.{texts_of}
-use Rattle.kl1_run.specs.Alone.{account_name}
-use Rattle.kl1_run.proofs.Runs.{runs_alone}
-use Rattle.kl1_run.proofs.alone.run_alone.Goals as goal
+use Rattle.kl1_tasks.specs.Alone.{account_name}
+use Rattle.kl1_tasks.proofs.Runs.{runs_alone}
+use Rattle.kl1_tasks.proofs.alone.run_alone.Goals as goal
 
 pub returns-in-Ok-fresh : goal.returns-in-Ok-fresh
 returns-in-Ok-fresh g c =

@@ -9,7 +9,7 @@ use Rattle.kl1_shell.specs.declared.stop.Stop.TheVariants as stop
 use Rattle.kl1_shell.specs.declared.wanted.Wanted.{Wanted}
 use Rattle.kl1_shell.specs.Works.{worked_of}
 use Rattle.kl1_shell.specs.Answers.{IsRun}
-use Rattle.kl1_run.specs.Alone.{account_name, RunsAlone}
+use Rattle.kl1_tasks.specs.Alone.{account_name, RunsAlone}
 
 -- a run from a state that is the fresh account's
 pub runs_alone : (s after : State) (texts : List (List ℕ)) (goal : Term) (allowance steps : ℕ) (q : Wanted) (out out' err err' : Option (List ℕ)) (r : Result Ending Stop) →

@@ -1,7 +1,7 @@
 // The account on which the work is done.
 
 ghost use Rattle.kl1_shell.specs.Works.{texts_of};
-ghost use Rattle.kl1_run.specs.Alone.{RunsAlone};
+ghost use Rattle.kl1_tasks.specs.Alone.{RunsAlone};
 
 use kl1_atoms::{AtomTable, SharedAtoms};
 use kl1_codes::PlainCodes;

@@ -1,39 +1,8 @@
-// What the words ask for.
+// The words that the program knows, and what they ask for.
 
-use crate::fault::Fault;
-use clap::{Arg, ArgAction, ArgMatches, Command, value_parser};
-use kl1_shell::{MOST_ALLOWANCE, MOST_STEPS, Wanted};
+use clap::{Arg, ArgAction, Command, Error, value_parser};
+use kl1_tasks::{Asked, BAD, MOST_ALLOWANCE, MOST_STEPS, Task, USAGE, Wanted};
 use std::alloc::{AllocError, Global};
-
-/// How the program is called.
-const USAGE: &str =
-    "kl1_run [--steps N] [--allowance N] [--reports] [--whole] FILE... GOAL\n       kl1_run --check FILE...\n       kl1_run --script [--steps N] [--allowance N] [--reports] FILE... GOAL";
-
-/// What is to be done with the files.
-#[derive(Clone, Copy)]
-pub enum Task<'a> {
-    /// They are checked.
-    Check,
-    /// The script for this goal is written.
-    Script(&'a str),
-    /// This goal is run.
-    Run(&'a str),
-}
-
-/// What the words ask for.
-#[derive(Drop)]
-pub struct Asked<'a> {
-    /// The names of the files.
-    pub files: Vec<&'a str>,
-    /// What is to be done with them.
-    pub task: Task<'a>,
-    /// The most first steps.
-    pub steps: u64,
-    /// The allowance of the goal's shoen, in reductions.
-    pub allowance: u64,
-    /// What is told of the goal.
-    pub wanted: Wanted,
-}
 
 /// The flag of a name, with what help says of it.
 fn flag<'a>(alloc: Global, name: &'a str, help: &'a str) -> Arg<'a> {
@@ -93,15 +62,17 @@ fn command<'a>(alloc: Global) -> Result<Command<'a>, AllocError> {
 }
 
 /// What the words ask for, of which the first is the program's name.
-pub fn asked_in<'a>(alloc: Global, words: &'a [String]) -> Result<Asked<'a>, Fault> {
+pub fn asked_in<'a>(alloc: Global, words: &'a [String]) -> Result<Asked<'a>, Error> {
     let matches = command(alloc)?.try_get_matches_from(words)?;
-    let mut files = Vec::new(alloc);
-    for word in matches.get_strs("words").unwrap_or(&[]) {
-        files.push(*word)?;
-    }
-    let task = task_of(alloc, &matches, &mut files)?;
+    let task = if matches.get_flag("check") {
+        Task::Check
+    } else if matches.get_flag("script") {
+        Task::Script
+    } else {
+        Task::Run
+    };
     Ok(Asked {
-        files,
+        words: Vec::from_slice(alloc, matches.get_strs("words").unwrap_or(&[]))?,
         task,
         steps: matches
             .get_one::<u64>("steps")
@@ -117,27 +88,12 @@ pub fn asked_in<'a>(alloc: Global, words: &'a [String]) -> Result<Asked<'a>, Fau
     })
 }
 
-/// The task, whose goal is taken from the last of the words.
-fn task_of<'a>(
-    alloc: Global,
-    matches: &ArgMatches<'a>,
-    words: &mut Vec<&'a str>,
-) -> Result<Task<'a>, Fault> {
-    if matches.get_flag("check") {
-        return Ok(Task::Check);
-    }
-    let goal = words.pop();
-    match goal {
-        Some(goal) if !words.is_empty() => {
-            if matches.get_flag("script") {
-                Ok(Task::Script(goal))
-            } else {
-                Ok(Task::Run(goal))
-            }
-        }
-        _ => {
-            let line = format!(in alloc; "kl1_run: files and a goal are wanted\nUsage: {USAGE}\n")?;
-            Err(Fault::Lines(line.into_bytes()))
-        }
+/// Tells help, or why the words are not understood, and answers the program's status.
+pub fn tell(rt: &HostRuntime, error: &Error) -> u8 {
+    let told = error.print(rt);
+    if error.use_stderr() || told.is_err() {
+        BAD
+    } else {
+        0
     }
 }

@@ -1,7 +1,7 @@
 // What is done for each task.
 
 use crate::alone::run_alone;
-use crate::asked::{Asked, Task};
+use crate::asked::{Asked, Task, USAGE};
 use crate::fault::{BAD, Fault};
 use crate::files::read_each;
 use crate::progress::Progress;
@@ -15,11 +15,25 @@ use std::io::Write;
 
 /// Does what the words ask for, and answers the program's status.
 pub fn do_task(rt: &HostRuntime, asked: &Asked<'_>) -> Result<u8, Fault> {
-    let files = read_each(rt, asked.files.as_slice())?;
-    match asked.task {
-        Task::Check => check(rt, files.as_slice()),
-        Task::Script(goal) => write_script(rt, asked, files.as_slice(), goal),
-        Task::Run(goal) => run_goal(rt, asked, files, goal),
+    match (asked.task, asked.words.as_slice()) {
+        (Task::Check, names) => {
+            let files = read_each(rt, names)?;
+            check(rt, files.as_slice())
+        }
+        (Task::Script, [names @ .., goal]) if !names.is_empty() => {
+            let files = read_each(rt, names)?;
+            write_script(rt, asked, files.as_slice(), goal)
+        }
+        (Task::Run, [names @ .., goal]) if !names.is_empty() => {
+            let files = read_each(rt, names)?;
+            run_goal(rt, asked, names, files, goal)
+        }
+        _ => {
+            let line = format!(in rt.alloc();
+                "kl1_run: files and a goal are wanted\nUsage: {USAGE}\n"
+            )?;
+            Err(Fault::Lines(line.into_bytes()))
+        }
     }
 }
 
@@ -75,6 +89,7 @@ fn write_script(
 fn run_goal(
     rt: &HostRuntime,
     asked: &Asked<'_>,
+    names: &[&str],
     files: Vec<SourceFile>,
     word: &str,
 ) -> Result<u8, Fault> {
@@ -94,7 +109,7 @@ fn run_goal(
     progress.clear();
     match ending {
         Ok(ending) => Ok(tell_ending(rt, ending)?),
-        Err(stop) => Err(fault_of(alloc, stop, asked.files.as_slice(), word)?),
+        Err(stop) => Err(fault_of(alloc, stop, names, word)?),
     }
 }
 
