@@ -1,6 +1,6 @@
 // Ranks of places in order, as leaves of a tree.
 
-ghost use Rattle.std.specs.Prelude.{◌≡◌, ◌+◌, ◌-◌, ◌<◌, ◌≤◌, List, [], ◌∷◌, ◌++◌, length, get_or, set, take, drop, MatchOption, IfOk, OnOk, OnErr};
+ghost use Rattle.std.specs.Prelude.{◌≡◌, ◌+◌, ◌-◌, ◌<◌, ◌≤◌, List, [], ◌∷◌, ◌++◌, true, length, get_or, set, take, drop, MatchOption, IfOk, OnOk, OnErr};
 ghost use Rattle.kl1_queue.specs.Ranks.{Queued, AreNone, IsFirst};
 
 use crate::tree::{first_leaf, set_leaf};
@@ -55,6 +55,13 @@ impl RankTree {
         ensures { result ≡ length self.now.ranks }
     {
         self.len
+    }
+
+    /// Whether there is room for so many more places.
+    pub(crate) fn has_room(&self, more: usize) -> bool
+        ensures { result ≡ true → more ≤ self.now.room }
+    {
+        more <= self.half - self.len
     }
 
     /// Makes room for so many more places: to extend by these can't be refused then.
@@ -120,6 +127,15 @@ impl RankTree {
         ensures room { self.new.room + 1 ≡ self.old.room }
     {
         set_leaf(&mut self.best, self.half, self.len, rank);
+        self.len += 1;
+    }
+
+    /// One more place, which isn't ready.
+    pub(crate) fn extend_unready(&mut self)
+        requires { 0 < self.old.room }
+        ensures ranks { self.new.ranks ≡ self.old.ranks ++ 0 ∷ [] }
+        ensures room { self.new.room + 1 ≡ self.old.room }
+    {
         self.len += 1;
     }
 

@@ -1,6 +1,6 @@
 // The queue of places that are ready.
 
-ghost use Rattle.std.specs.Prelude.{◌≡◌, ◌+◌, ◌-◌, ◌<◌, ◌≤◌, [], ◌∷◌, ◌++◌, length, set, take, MatchOption, IfSome, IfNone, OnOk, OnErr};
+ghost use Rattle.std.specs.Prelude.{◌≡◌, ◌+◌, ◌-◌, ◌<◌, ◌≤◌, [], ◌∷◌, ◌++◌, true, length, set, take, MatchOption, IfSome, IfNone, OnOk, OnErr};
 ghost use Rattle.kl1_model.specs.Limits.{monitor_priority};
 ghost use Rattle.kl1_queue.specs.Ranks.{rank_of, AreNone, IsFirst, IsPriority};
 
@@ -51,6 +51,13 @@ impl ReadyQueue {
         self.tree.len()
     }
 
+    /// Whether there is room for so many more places.
+    pub fn has_room(&self, more: usize) -> bool
+        ensures { result ≡ true → more ≤ self.now.room }
+    {
+        self.tree.has_room(more)
+    }
+
     /// Makes room for so many more places: to extend by these can't be refused then.
     ///
     /// There are at most 2,147,483,648 places; more are refused as for want of memory.
@@ -89,7 +96,7 @@ impl ReadyQueue {
         ensures room { self.new.room + 1 ≡ self.old.room }
     {
         let place = self.tree.len();
-        self.tree.extend_rank(0);
+        self.tree.extend_unready();
         match priority {
             None => {}
             Some(priority) => self.hold(place, priority + 1),
