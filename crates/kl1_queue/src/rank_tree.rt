@@ -1,6 +1,6 @@
 // Ranks of places in order, as leaves of a tree.
 
-ghost use Rattle.std.specs.Prelude.{◌≡◌, ◌+◌, ◌-◌, ◌<◌, ◌≤◌, List, [], ◌∷◌, ◌++◌, true, length, get_or, set, take, drop, MatchOption, IfOk, OnOk, OnErr};
+ghost use Rattle.std.specs.Prelude.{◌≡◌, ◌+◌, ◌-◌, ◌<◌, ◌≤◌, List, [], ◌∷◌, ◌++◌, length, get_or, set, take, drop, MatchOption, IfOk, OnOk, OnErr};
 ghost use Rattle.kl1_queue.specs.Ranks.{Queued, AreNone, IsFirst};
 
 use crate::tree::{first_leaf, set_leaf};
@@ -55,13 +55,6 @@ impl RankTree {
         ensures { result ≡ length self.now.ranks }
     {
         self.len
-    }
-
-    /// Whether there is room for so many more places.
-    pub(crate) fn has_room(&self, more: usize) -> bool
-        ensures { result ≡ true → more ≤ self.now.room }
-    {
-        more <= self.half - self.len
     }
 
     /// Makes room for so many more places: to extend by these can't be refused then.

@@ -1,6 +1,6 @@
 // The queue of places that are ready.
 
-ghost use Rattle.std.specs.Prelude.{◌≡◌, ◌+◌, ◌-◌, ◌<◌, ◌≤◌, [], ◌∷◌, ◌++◌, true, length, set, take, MatchOption, IfSome, IfNone, OnOk, OnErr};
+ghost use Rattle.std.specs.Prelude.{◌≡◌, ◌+◌, ◌-◌, ◌<◌, ◌≤◌, [], ◌∷◌, ◌++◌, length, set, take, MatchOption, IfSome, IfNone, OnOk, OnErr};
 ghost use Rattle.kl1_model.specs.Limits.{monitor_priority};
 ghost use Rattle.kl1_queue.specs.Ranks.{rank_of, AreNone, IsFirst, IsPriority};
 
@@ -49,13 +49,6 @@ impl ReadyQueue {
         ensures { result ≡ length self.now.ranks }
     {
         self.tree.len()
-    }
-
-    /// Whether there is room for so many more places.
-    pub fn has_room(&self, more: usize) -> bool
-        ensures { result ≡ true → more ≤ self.now.room }
-    {
-        self.tree.has_room(more)
     }
 
     /// Makes room for so many more places: to extend by these can't be refused then.
