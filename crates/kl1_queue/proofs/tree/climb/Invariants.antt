@@ -1,6 +1,6 @@
 use Rattle.std.proofs.Common.{◌≡◌, ◌*◌, ◌<◌, set, drop}
 use Rattle.kl1_queue.specs.Trees.{IsTreeBut}
-use Rattle.kl1_queue.proofs.tree.set_leaf.Given as goal
+use Rattle.kl1_queue.proofs.tree.climb.Given as goal
 
 -- only the parent of the node may hold too little or too much
 abbrev pub invariant-loop-node : goal.invariant-loop-node
