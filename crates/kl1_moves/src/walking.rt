@@ -16,9 +16,7 @@ pub(crate) fn walk<N: NameValue>(store: &Store<N>, cell: Cell<N>) -> Cell<N>
     ensures means { (f : N → List ℕ) → term_of f store.now.held result ≡ term_of f store.now.held cell }
 {
     match cell {
-        Cell::Structure(structure) => Cell::Structure(structure),
-        Cell::Variable(_) => store.walk(cell),
-        Cell::Integer(_) => store.walk(cell),
-        Cell::Atom(_) => store.walk(cell),
+        Cell::Structure(_) => cell,
+        _ => store.walk(cell),
     }
 }
