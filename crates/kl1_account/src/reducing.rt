@@ -182,12 +182,13 @@ fn draft_reading<C: CodeSource>(
         goals,
         shoens,
         modules,
-        Kind::Nothing,
-        predicate,
+        &Kind::Nothing,
+        &predicate,
         trial,
         draft,
         walk,
         mark,
+        0,
     )?;
     Ok(None)
 }
@@ -241,7 +242,7 @@ fn draft_move<C: CodeSource>(
         store, goals, shoens, draft, walk, names, alive, predicate, made, trial, goal, cell,
     )?;
     finish(
-        store, goals, shoens, modules, kind, predicate, trial, draft, walk, mark,
+        store, goals, shoens, modules, &kind, &predicate, trial, draft, walk, mark, goal.shoen,
     )?;
     Ok(None)
 }

@@ -1,4 +1,4 @@
-use Rattle.std.proofs.Common.{ℕ, ◌≤◌, [], length, refl, sym, arith, subst}
+use Rattle.std.proofs.Common.{ℕ, ◌≤◌, [], length, refl, sym, ◌∙◌, arith, subst}
 use Rattle.kl1_goals.specs.declared.task.Task.{Task}
 use Rattle.kl1_moves.specs.Moves.{taken_places}
 use Rattle.kl1_text.specs.declared.cell_name.CellName.{CellName}
@@ -80,6 +80,17 @@ finish-requires-clause-known_shoens g c = let n = (c.requires.kept []).count in 
 
 pub finish-requires-clause-one_opens : goal.finish-requires-clause-one_opens
 finish-requires-clause-one_opens g c = let n = (c.requires.kept []).count in let m = c.in_ok-do_or_spell.ensures.leaves.one_opens in omega (arith, n, m)
+
+pub finish-requires-clause-lets : goal.finish-requires-clause-lets
+finish-requires-clause-lets g c shifts ended reached =
+    let kept = c.requires.kept [] in
+    let ss = c.args.shoens.now.shoens in
+    let goals = c.args.goals.now.goals in
+    let owned = found_holds (IsOwned (length ss)) c.args.goal.number goals c.args.goal kept.owned c.requires.steppable.found in
+    let high = owned.high in
+    c.in_ok-do_or_spell.ensures.leaves.flags shifts ended reached c.args.goal.shoen (omega (arith, high))
+    ∙ shoen_lets ss c.args.shoens.now.work c.args.goal c.args.cell c.requires.reduces c.requires.steppable.enabled
+    (found_holds (IsEnabled ss c.args.shoens.now.work) c.args.goal.number goals c.args.goal kept.enabled c.requires.steppable.found)
 
 pub returns-clause-ok : goal.returns-clause-ok
 returns-clause-ok g c own =

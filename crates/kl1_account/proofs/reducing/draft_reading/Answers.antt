@@ -2,6 +2,7 @@ use Rattle.std.proofs.Common.{refl, arith, []}
 use Rattle.kl1_effects.specs.Account.{Account, texts_of}
 use Rattle.kl1_account.specs.Reducing.{account_at}
 use Rattle.kl1_effects.proofs.States.{goals_grown}
+use Rattle.kl1_account.proofs.Looks.{nobody_lets}
 use Rattle.kl1_account.proofs.Reductions.{heard_reduces}
 use Rattle.kl1_account.proofs.reducing.draft_reading.Goals as goal
 
@@ -24,6 +25,9 @@ finish-requires-clause-known_shoens g c = let n = (c.requires.kept []).count in 
 
 pub finish-requires-clause-one_opens : goal.finish-requires-clause-one_opens
 finish-requires-clause-one_opens g c = let n = (c.requires.kept []).count in let m = c.in_ok-read.ensures.leaves.one_opens in omega (arith, n, m)
+
+pub finish-requires-clause-lets : goal.finish-requires-clause-lets
+finish-requires-clause-lets g c shifts ended reached = nobody_lets c.read.new.shoens.shoens c.read.new.shoens.work
 
 pub returns-clause-ok : goal.returns-clause-ok
 returns-clause-ok g c own =
