@@ -16,7 +16,7 @@ ghost use Rattle.kl1_event.specs.Whole.{whole_value};
 use crate::account_name::AccountName;
 use crate::asking::{modules_of, reports_of, status_of};
 use crate::counted::Counted;
-use crate::installing::install;
+use crate::installing::{begin_draft, install};
 use crate::limits::is_number;
 use crate::loading::{Loading, draft_module, install_module, prepare};
 use crate::printing::print_cell;
@@ -164,6 +164,14 @@ impl<C: CodeSource> Account<C> {
         let mark = self.store.mark();
         let _ordered = self.goals.shoens();
         self.shoens.begin();
+        begin_draft(
+            &mut self.draft,
+            0,
+            self.last_goal,
+            self.variables,
+            self.nodes,
+            self.reports,
+        );
         let drafted = draft_reduction(
             &mut self.store,
             &mut self.goals,
@@ -173,10 +181,6 @@ impl<C: CodeSource> Account<C> {
             &mut self.trial,
             &mut self.draft,
             &mut self.walk,
-            self.last_goal,
-            self.variables,
-            self.nodes,
-            self.reports,
             self.entries,
             number,
             clause,

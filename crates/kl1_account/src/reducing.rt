@@ -19,10 +19,10 @@ ghost use Rattle.kl1_effects.specs.Works.{Knows};
 ghost use Rattle.kl1_account.specs.Reducing.{RefusesAmong, IsSteppable, is_read, NotHeard, HeardAs, NotMade, IsMade, account_at, ReducesAs};
 ghost use Rattle.kl1_account.specs.Keeping.{IsKept};
 ghost use Rattle.kl1_effects.specs.Drafts.{CanGoBack};
+ghost use Rattle.kl1_effects.specs.Installing.{IsBegun};
 ghost use Rattle.kl1_acts.specs.Spelling.{HasRoomFor};
 
 use crate::completing::finish;
-use crate::installing::begin;
 use crate::limits::are_numbers;
 use crate::looking::predicate_of;
 use kl1_acts::{do_or_spell, read};
@@ -136,8 +136,8 @@ fn move_to_make<C: CodeSource>(
     Ok(Ok(made))
 }
 
-/// Drafts what a monitor reads, which may step, by the clause of a number, for an account with this last number of a goal, so many
-/// variables, structures and reports, and so many entries in its journal, or says why it is refused.
+/// Drafts what a monitor reads, which may step, by the clause of a number, for an account with so many entries in its journal, or says
+/// why it is refused. The draft has begun with what the account has.
 fn draft_reading<C: CodeSource>(
     store: &mut Store<CellName>,
     goals: &mut GoalTable<CellName>,
@@ -147,18 +147,15 @@ fn draft_reading<C: CodeSource>(
     trial: &mut Trial<CellName>,
     draft: &mut Draft,
     walk: &mut Walk,
-    last_goal: u64,
-    variables: u64,
-    nodes: u64,
-    reports: u64,
     entries: u64,
     goal: Goal<CellName>,
     clause: u64,
 ) -> Result<Option<Refusal>, AllocError>
     requires steppable { IsSteppable goals.old.goals goal.number clause goal }
     requires monitor { goal.task ≡ Monitor }
-    requires kept { (own : List ℕ) → IsKept (account_at own store.old.held goals.old.goals shoens.old modules.now.loaded names.now.names last_goal variables nodes reports entries) store.old.hooks goals.old.shoens }
-    ensures ok { IfOk result (λ refused. (own : List ℕ) → ReducesAs (account_at own store.old.held goals.old.goals shoens.old modules.now.loaded names.now.names last_goal variables nodes reports entries) goal.number clause store.old store.new shoens.old shoens.new goals.new draft.new refused) }
+    requires begun { IsBegun 0 draft.old.last_goal draft.old.variables draft.old.nodes draft.old.reports draft.old }
+    requires kept { (own : List ℕ) → IsKept (account_at own store.old.held goals.old.goals shoens.old modules.now.loaded names.now.names draft.old.last_goal draft.old.variables draft.old.nodes draft.old.reports entries) store.old.hooks goals.old.shoens }
+    ensures ok { IfOk result (λ refused. (own : List ℕ) → ReducesAs (account_at own store.old.held goals.old.goals shoens.old modules.now.loaded names.now.names draft.old.last_goal draft.old.variables draft.old.nodes draft.old.reports entries) goal.number clause store.old store.new shoens.old shoens.new goals.new draft.new refused) }
     ensures back { CanGoBack shoens.old shoens.new }
     ensures grown { HasGrown store.old store.new }
     ensures goals { goals.new.goals ≡ goals.old.goals }
@@ -172,7 +169,6 @@ fn draft_reading<C: CodeSource>(
     let _single = goals.shoens();
     let _worked = shoens.len();
     let mark = store.mark();
-    begin(draft, 0, last_goal, variables, nodes, reports);
     walk.reached.clear();
     read(store, goals, shoens, draft, walk, goal.shoen, control)?;
     draft.told.push(goal.number)?;
@@ -193,8 +189,8 @@ fn draft_reading<C: CodeSource>(
     Ok(None)
 }
 
-/// Drafts the move that a goal for a cell does, which may step, by the clause of a number, for an account with this last number of a
-/// goal, so many variables, structures and reports, and so many entries in its journal, or says why it is refused.
+/// Drafts the move that a goal for a cell does, which may step, by the clause of a number, for an account with so many entries in its
+/// journal, or says why it is refused. The draft has begun with what the account has.
 fn draft_move<C: CodeSource>(
     store: &mut Store<CellName>,
     goals: &mut GoalTable<CellName>,
@@ -204,10 +200,6 @@ fn draft_move<C: CodeSource>(
     trial: &mut Trial<CellName>,
     draft: &mut Draft,
     walk: &mut Walk,
-    last_goal: u64,
-    variables: u64,
-    nodes: u64,
-    reports: u64,
     entries: u64,
     goal: Goal<CellName>,
     cell: Qualified<CellName>,
@@ -216,8 +208,9 @@ fn draft_move<C: CodeSource>(
     requires steppable { IsSteppable goals.old.goals goal.number clause goal }
     requires reduces { goal.task ≡ Reduces cell }
     requires level { goal.priority ≤ monitor_priority }
-    requires kept { (own : List ℕ) → IsKept (account_at own store.old.held goals.old.goals shoens.old modules.now.loaded names.old.names last_goal variables nodes reports entries) store.old.hooks goals.old.shoens }
-    ensures ok { IfOk result (λ refused. (own : List ℕ) → ReducesAs (account_at own store.old.held goals.old.goals shoens.old modules.now.loaded names.old.names last_goal variables nodes reports entries) goal.number clause store.old store.new shoens.old shoens.new goals.new draft.new refused) }
+    requires begun { IsBegun 0 draft.old.last_goal draft.old.variables draft.old.nodes draft.old.reports draft.old }
+    requires kept { (own : List ℕ) → IsKept (account_at own store.old.held goals.old.goals shoens.old modules.now.loaded names.old.names draft.old.last_goal draft.old.variables draft.old.nodes draft.old.reports entries) store.old.hooks goals.old.shoens }
+    ensures ok { IfOk result (λ refused. (own : List ℕ) → ReducesAs (account_at own store.old.held goals.old.goals shoens.old modules.now.loaded names.old.names draft.old.last_goal draft.old.variables draft.old.nodes draft.old.reports entries) goal.number clause store.old store.new shoens.old shoens.new goals.new draft.new refused) }
     ensures back { CanGoBack shoens.old shoens.new }
     ensures grown { HasGrown store.old store.new }
     ensures goals { goals.new.goals ≡ goals.old.goals }
@@ -236,7 +229,7 @@ fn draft_move<C: CodeSource>(
     let _ordered = goals.shoens();
     let _worked = shoens.len();
     let mark = store.mark();
-    begin(draft, goal.number, last_goal, variables, nodes, reports);
+    draft.removed = goal.number;
     let alive = goals.alive() - 1;
     do_or_spell(
         store, goals, shoens, draft, walk, names, alive, predicate, made, trial, goal, cell,
@@ -247,9 +240,8 @@ fn draft_move<C: CodeSource>(
     Ok(None)
 }
 
-/// Drafts the reduction of the goal of a number by the clause of a number, for an account with this last number of a goal, so many
-/// variables, structures and reports, and so many entries in its journal, or says why it is refused. Where memory is refused, the store
-/// and the tree may have changed.
+/// Drafts the reduction of the goal of a number by the clause of a number, for an account with so many entries in its journal, or says
+/// why it is refused. The draft has begun with what the account has. Where memory is refused, the store and the tree may have changed.
 pub(crate) fn draft_reduction<C: CodeSource>(
     store: &mut Store<CellName>,
     goals: &mut GoalTable<CellName>,
@@ -259,16 +251,13 @@ pub(crate) fn draft_reduction<C: CodeSource>(
     trial: &mut Trial<CellName>,
     draft: &mut Draft,
     walk: &mut Walk,
-    last_goal: u64,
-    variables: u64,
-    nodes: u64,
-    reports: u64,
     entries: u64,
     number: u64,
     clause: u64,
 ) -> Result<Option<Refusal>, AllocError>
-    requires kept { (own : List ℕ) → IsKept (account_at own store.old.held goals.old.goals shoens.old modules.now.loaded names.old.names last_goal variables nodes reports entries) store.old.hooks goals.old.shoens }
-    ensures ok { IfOk result (λ refused. (own : List ℕ) → ReducesAs (account_at own store.old.held goals.old.goals shoens.old modules.now.loaded names.old.names last_goal variables nodes reports entries) number clause store.old store.new shoens.old shoens.new goals.new draft.new refused) }
+    requires begun { IsBegun 0 draft.old.last_goal draft.old.variables draft.old.nodes draft.old.reports draft.old }
+    requires kept { (own : List ℕ) → IsKept (account_at own store.old.held goals.old.goals shoens.old modules.now.loaded names.old.names draft.old.last_goal draft.old.variables draft.old.nodes draft.old.reports entries) store.old.hooks goals.old.shoens }
+    ensures ok { IfOk result (λ refused. (own : List ℕ) → ReducesAs (account_at own store.old.held goals.old.goals shoens.old modules.now.loaded names.old.names draft.old.last_goal draft.old.variables draft.old.nodes draft.old.reports entries) number clause store.old store.new shoens.old shoens.new goals.new draft.new refused) }
     ensures back { CanGoBack shoens.old shoens.new }
     ensures grown { HasGrown store.old store.new }
     ensures goals { goals.new.goals ≡ goals.old.goals }
@@ -282,12 +271,10 @@ pub(crate) fn draft_reduction<C: CodeSource>(
     };
     match goal.task {
         Task::Monitor => draft_reading(
-            store, goals, shoens, modules, names, trial, draft, walk, last_goal, variables, nodes,
-            reports, entries, goal, clause,
+            store, goals, shoens, modules, names, trial, draft, walk, entries, goal, clause,
         ),
         Task::Reduces(cell) => draft_move(
-            store, goals, shoens, modules, names, trial, draft, walk, last_goal, variables, nodes,
-            reports, entries, goal, cell, clause,
+            store, goals, shoens, modules, names, trial, draft, walk, entries, goal, cell, clause,
         ),
     }
 }
