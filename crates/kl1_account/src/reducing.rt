@@ -1,6 +1,6 @@
 // Reductions that are drafted.
 
-ghost use Rattle.std.specs.Prelude.{◌≡◌, ◌<◌, ◌≤◌, ℕ, List, Some, None, IfOk, IfErr};
+ghost use Rattle.std.specs.Prelude.{◌≡◌, ◌<◌, ◌≤◌, ℕ, List, Some, None, IfOk, IfErr, OnOk, vec_capacity};
 ghost use Rattle.kl1_model.specs.Limits.{most_entries, monitor_priority};
 ghost use Rattle.kl1_clause.specs.Predicates.{AreSome};
 ghost use Rattle.kl1_moves.specs.Kinds.{IsKind, KindIn};
@@ -16,7 +16,7 @@ ghost use Rattle.kl1_effects.specs.Fitting.{Reading};
 ghost use Rattle.kl1_effects.specs.Account.{aim};
 ghost use Rattle.kl1_effects.specs.Kept.{AreShoensIn};
 ghost use Rattle.kl1_effects.specs.Works.{Knows};
-ghost use Rattle.kl1_account.specs.Reducing.{RefusesAmong, IsSteppable, is_read, NotHeard, HeardAs, NotMade, IsMade, account_at, ReducesAs};
+ghost use Rattle.kl1_account.specs.Reducing.{HasRow, RefusesAmong, IsSteppable, is_read, NotHeard, HeardAs, NotMade, IsMade, account_at, ReducesAs};
 ghost use Rattle.kl1_account.specs.Keeping.{IsKept};
 ghost use Rattle.kl1_effects.specs.Drafts.{CanGoBack};
 ghost use Rattle.kl1_effects.specs.Installing.{IsBegun};
@@ -242,7 +242,7 @@ fn draft_move<C: CodeSource>(
 
 /// Drafts the reduction of the goal of a number by the clause of a number, for an account with so many entries in its journal, or says
 /// why it is refused. The draft has begun with what the account has. Where memory is refused, the store and the tree may have changed.
-pub(crate) fn draft_reduction<C: CodeSource>(
+fn draft_reduction<C: CodeSource>(
     store: &mut Store<CellName>,
     goals: &mut GoalTable<CellName>,
     shoens: &mut ShoenTree<CellName>,
@@ -277,4 +277,48 @@ pub(crate) fn draft_reduction<C: CodeSource>(
             store, goals, shoens, modules, names, trial, draft, walk, entries, goal, cell, clause,
         ),
     }
+}
+
+/// Makes a row ready for the number of a name that a draft has.
+fn ready_row(row: &mut Vec<CellName>, draft: &Draft) -> Result<(), AllocError>
+    ensures { OnOk result (HasRow draft.now.name row.new.items (vec_capacity row.new)) }
+{
+    if draft.name.is_none() {
+        return Ok(());
+    }
+    row.clear();
+    row.reserve(1)
+}
+
+/// The same, and a row is ready for the number of a name that is drafted.
+pub(crate) fn draft_named<C: CodeSource>(
+    store: &mut Store<CellName>,
+    goals: &mut GoalTable<CellName>,
+    shoens: &mut ShoenTree<CellName>,
+    modules: &CodedModules<'_, C>,
+    names: &mut AccountNames,
+    trial: &mut Trial<CellName>,
+    draft: &mut Draft,
+    walk: &mut Walk,
+    row: &mut Vec<CellName>,
+    entries: u64,
+    number: u64,
+    clause: u64,
+) -> Result<Option<Refusal>, AllocError>
+    requires begun { IsBegun 0 draft.old.last_goal draft.old.variables draft.old.nodes draft.old.reports draft.old }
+    requires kept { (own : List ℕ) → IsKept (account_at own store.old.held goals.old.goals shoens.old modules.now.loaded names.old.names draft.old.last_goal draft.old.variables draft.old.nodes draft.old.reports entries) store.old.hooks goals.old.shoens }
+    ensures ok { IfOk result (λ refused. (own : List ℕ) → ReducesAs (account_at own store.old.held goals.old.goals shoens.old modules.now.loaded names.old.names draft.old.last_goal draft.old.variables draft.old.nodes draft.old.reports entries) number clause store.old store.new shoens.old shoens.new goals.new draft.new refused) }
+    ensures back { CanGoBack shoens.old shoens.new }
+    ensures grown { HasGrown store.old store.new }
+    ensures goals { goals.new.goals ≡ goals.old.goals }
+    ensures shoens { goals.new.shoens ≡ goals.old.shoens }
+    ensures names { names.new.names ≡ names.old.names }
+    ensures room { IfOk result (λ refused. refused ≡ None → HasRoomFor names.new.room draft.new.name) }
+    ensures row { IfOk result (λ refused. refused ≡ None → HasRow draft.new.name row.new.items (vec_capacity row.new)) }
+{
+    let refused = draft_reduction(
+        store, goals, shoens, modules, names, trial, draft, walk, entries, number, clause,
+    )?;
+    ready_row(row, draft)?;
+    Ok(refused)
 }
