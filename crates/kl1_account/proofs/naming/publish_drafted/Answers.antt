@@ -1,4 +1,4 @@
-use Rattle.std.proofs.Common.{◌≡◌, ◌≤◌, ℕ, List, [], subst}
+use Rattle.std.proofs.Common.{ℕ, List, subst}
 use Rattle.std.specs.Prelude.{Option, vec_capacity}
 use Rattle.kl1_acts.proofs.Published.{published_without}
 use Rattle.kl1_account.specs.Reducing.{HasRow}
