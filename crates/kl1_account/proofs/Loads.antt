@@ -124,6 +124,16 @@ draft_loads ms names entries d reads new absent few less room =
 pub load_good : (text : List ℕ) (m : Module) → length text ≤ most_source_bytes → read_module text ≡ good m → (s : State) → step s (load text) ≡ load_module s (good m)
 load_good text m h r = λ s. rw (le-leb (length text) most_source_bytes h) (ap (load_module s) r)
 
+-- a module of these parts is one of parts that are the same
+pub same_parts : (x : Numbered) (m n : Module) (row own : List CellName) (place : ℕ × ℕ) → x ≡ record { content = m; row = row; place = place } → n ≡ m → own ≡ row → x ≡ record { content = n; row = own; place = place }
+same_parts x m n row own place is content rows = rw (content, rows) is
+
+-- a module is drafted for a source that is read as it, where it is one that may be loaded
+pub drafted_is : (ms : List Numbered) (names : List Known) (entries : ℕ) (text : List ℕ) (x d : Numbered) → length text ≤ most_source_bytes → read_module text ≡ good d.content → x ≡ d → IsDraft ms names entries d → IsDraftOf ms names entries text x
+drafted_is ms names entries text x d few read is draft =
+    let P : Numbered → Type 0 = λ y. IsDraftOf ms names entries text y in
+    subst P (sym is) (record { draft = draft; loads = load_good text d.content few read })
+
 -- ---- goals that stand otherwise
 
 -- a goal that is stood by a change in a table of goals

@@ -1,5 +1,5 @@
 -- What is found where a goal is looked at.
-use Rattle.std.proofs.Common.{◌≡◌, ℕ, ◌==◌, ◌&&◌, true, List, [], ◌∷◌, ◌++◌, map, refl, sym, ap, subst, ◌∙◌}
+use Rattle.std.proofs.Common.{◌≡◌, ℕ, ◌==◌, ◌&&◌, ◌||◌, Bool, true, false, List, [], ◌∷◌, ◌++◌, map, refl, sym, ap, subst, ◌∙◌}
 use Rattle.std.specs.Prelude.{Option, Some, None, option_map}
 use Rattle.std.proofs.lemmas.Bool.{and_parts, eqb-true}
 use Rattle.kl1_model.specs.Module.{Clause, Module}
@@ -27,7 +27,8 @@ use Rattle.kl1_goals.specs.declared.task.Task.{Task}
 use Rattle.kl1_goals.specs.declared.task.Task.TheVariants.{Monitor, Reduces}
 use Rattle.kl1_goals.specs.declared.goal.Goal.{Goal}
 use Rattle.kl1_shoen.specs.declared.shoen.Shoen.{Shoen}
-use Rattle.kl1_shoen.specs.Shoens.{shoen_in}
+use Rattle.kl1_model.specs.Tree.{path_within}
+use Rattle.kl1_shoen.specs.Shoens.{shoen_in, is_enabled_at}
 use Rattle.kl1_modules.specs.Numbered.{Numbered}
 use Rattle.kl1_modules.specs.Finding.{contents, Finds}
 use Rattle.kl1_moves.specs.Hanging.{HangsOnEach}
@@ -158,3 +159,13 @@ looks_at_one ms shoens work h hooks g k s number_is task_is shoen_is priority_is
   where
     unlooked_same : (k g : Goal CellName) → k.number ≡ g.number → k.task ≡ g.task → k.shoen ≡ g.shoen → k.priority ≡ g.priority → unlooked k ≡ unlooked g
     unlooked_same k g a b c d = cc
+
+-- the shoen of a goal lets it step
+pub lets_too : (b c : Bool) → c ≡ true → true ≡ (b || c)
+lets_too true c e = refl
+lets_too false c e = sym e
+
+-- the shoen of number 0, which isn't there, holds no goal back
+pub nobody_lets : (shoens : List (Shoen CellName)) (work : List ℕ) → is_enabled_at shoens work 0 ≡ true
+unfolding path_within
+nobody_lets shoens work = refl

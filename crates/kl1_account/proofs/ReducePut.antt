@@ -16,7 +16,7 @@ use Rattle.kl1_effects.specs.declared.draft.Draft.{Draft}
 use Rattle.kl1_effects.specs.Fitting.{Reading, Fits}
 use Rattle.kl1_effects.specs.Account.{Account, state_of}
 use Rattle.kl1_effects.specs.Works.{Knows}
-use Rattle.kl1_effects.specs.Installing.{IsFitting, goals_after}
+use Rattle.kl1_effects.specs.Installing.{IsBegun, IsFitting, goals_after}
 use Rattle.kl1_account.specs.Keeping.{IsKept}
 use Rattle.kl1_acts.specs.Spelling.{IsPublished}
 use Rattle.kl1_account.specs.Reducing.{account_at, named_in, IsReduced, IsRefused, ReducesAs}
@@ -122,3 +122,21 @@ refused_step a b z n c old new t u r hooks known view back k i f fits =
     sym (ap (λ (w : Account). step (state_of f w) (reduce n c)) view)
     ∙ i.steps f (knows_of a hooks known k f fit)
     ∙ ap (λ (w : Account). refuse (state_of f w) (refusal_of r)) (sym back)
+
+-- a draft has begun with what it has
+pub begun_same : (n last variables nodes reports : ℕ) (d : Draft) → IsBegun n last variables nodes reports d → IsBegun n d.last_goal d.variables d.nodes d.reports d
+begun_same n last variables nodes reports d b = record {
+  removed_is = b.removed_is;
+  aborted = b.aborted;
+  ended = b.ended;
+  added = b.added;
+  last_is = refl;
+  variables_are = refl;
+  nodes_are = refl;
+  reports_are = refl;
+  name = b.name;
+  spelled = b.spelled;
+  told = b.told;
+  shifts = b.shifts;
+  changes = b.changes;
+}

@@ -250,3 +250,21 @@ does_reduces a c known g x p places text made mark old mid new t u table reached
       room = makes.room;
       finishes = subst F at finishes;
     })
+
+-- a draft that has begun with what an account has, once it removes the goal of a number
+pub begun_for : (n : ℕ) (d : Draft) → IsBegun 0 d.last_goal d.variables d.nodes d.reports d → IsBegun n d.last_goal d.variables d.nodes d.reports (record d { removed = n })
+begun_for n d b = record {
+  removed_is = refl;
+  aborted = b.aborted;
+  ended = b.ended;
+  added = b.added;
+  last_is = refl;
+  variables_are = refl;
+  nodes_are = refl;
+  reports_are = refl;
+  name = b.name;
+  spelled = b.spelled;
+  told = b.told;
+  shifts = b.shifts;
+  changes = b.changes;
+}

@@ -108,3 +108,9 @@ pub all_woken : (ms : List Numbered) (shoens : List (Shoen CellName)) (old new :
 all_woken ms shoens old new goals removed told i before after le s f knows gs others settled =
     let L : List ℕ → Type 0 = λ ns. AreSettledOr ns f new.hooks old.held ms shoens (restood after gs) in
     all_settled f new.hooks old.held ms shoens (restood after gs) (subst L (drop_all i told (omega arith)) (s.wakes f knows gs others settled))
+
+-- where no numbers are told, nothing is pending
+pub none_woken : (ms : List Numbered) (shoens : List (Shoen CellName)) (h : Held CellName) (hooks : List Hook) (goals : List (Goal CellName)) (removed : ℕ) (told : List ℕ) (changes : List Change) → told ≡ [] → WakesTold ms shoens h hooks hooks goals removed told changes changes
+none_woken ms shoens h hooks goals removed told changes none f knows gs others settled =
+    let L : List ℕ → Type 0 = λ ns. AreSettledOr ns f hooks h ms shoens (restood changes gs) in
+    all_settled f hooks h ms shoens (restood changes gs) (subst L none settled)

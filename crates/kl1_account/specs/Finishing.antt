@@ -57,6 +57,10 @@ pub record ShiftsFor (tree : Tree CellName) (reached : List ℕ) (before after :
   pub reached_none : after.shifts ≡ false → reached ≡ []
   pub ended_none : after.shifts ≡ false → before.ended.items ≡ []
 
+-- the shoen of a number lets its goals step where a draft lets and holds back none other than before
+abbrev pub LetsStill : Tree CellName → List ℕ → ℕ → Draft → Type 0
+LetsStill tree reached running d = d.shifts ≡ false → d.ended.items ≡ [] → reached ≡ [] → is_enabled_at tree.shoens tree.work running ≡ true
+
 -- where goals might step as other shoens had it, they may with a draft in place as these have it, where the draft shifts them or
 -- those shoens let their goals step as before
 abbrev pub EnablesTo : Tree CellName → List (Goal CellName) → Draft → Type 0

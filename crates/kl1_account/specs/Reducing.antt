@@ -1,5 +1,5 @@
 -- Reductions: which are refused, and what an account is after a draft is put in place.
-use Rattle.std.specs.Prelude.{◌≡◌, ℕ, suc, ◌+◌, ◌<◌, ◌&&◌, nat_lt, if◌then◌else◌, Bool, true, false, List, length, find, Option, Some, None}
+use Rattle.std.specs.Prelude.{◌≡◌, ℕ, suc, ◌+◌, ◌<◌, ◌≤◌, [], ◌&&◌, nat_lt, if◌then◌else◌, Bool, true, false, List, length, find, Option, Some, None}
 use Rattle.kl1_model.specs.Limits.{most_entries}
 use Rattle.kl1_model.specs.Ending.{settle}
 use Rattle.kl1_model.specs.Reduction as model
@@ -163,3 +163,8 @@ pub record IsRefused (a : Account) (n c : ℕ) (old new : Kept CellName) (t u : 
 abbrev pub ReducesAs : Account → ℕ → ℕ → Kept CellName → Kept CellName → Tree CellName → Tree CellName → Tabled CellName → Draft → Option Refusal → Type 0
 ReducesAs a n c old new t u table d None = IsReduced a n c new u table d
 ReducesAs a n c old new t u table d (Some r) = IsRefused a n c old new t u r
+
+-- a row with these numbers and this capacity is ready for the number of a name, where there is one
+abbrev pub HasRow : Option (List ℕ) → List CellName → ℕ → Type 0
+HasRow None row capacity = Unit {0}
+HasRow (Some text) row capacity = (row ≡ []) × (1 ≤ capacity)

@@ -16,15 +16,15 @@ ghost use Rattle.kl1_event.specs.Whole.{whole_value};
 use crate::account_name::AccountName;
 use crate::asking::{modules_of, reports_of, status_of};
 use crate::counted::Counted;
-use crate::installing::install;
+use crate::installing::{begin_draft, install};
 use crate::limits::is_number;
 use crate::loading::{Loading, draft_module, install_module, prepare};
+use crate::naming::publish_drafted;
 use crate::printing::print_cell;
-use crate::reducing::draft_reduction;
+use crate::reducing::draft_named;
 use crate::sending::draft_message;
 use crate::startable::{Starting, code_of};
 use crate::starting::{next_goals, next_number, place, prepare_start};
-use kl1_acts::spell_anew;
 use kl1_atoms::AtomSource;
 use kl1_codes::CodeSource;
 use kl1_effects::{AccountNames, Draft, Walk, publish};
@@ -159,12 +159,18 @@ impl<C: CodeSource> Account<C> {
         ensures knows { A.knows seat.new ≡ self.new.names }
         ensures modules { self.new.modules ≡ self.old.modules }
     {
-        self.numbers.clear();
-        self.numbers.reserve(1)?;
         let mark = self.store.mark();
         let _ordered = self.goals.shoens();
         self.shoens.begin();
-        let drafted = draft_reduction(
+        begin_draft(
+            &mut self.draft,
+            0,
+            self.last_goal,
+            self.variables,
+            self.nodes,
+            self.reports,
+        );
+        let drafted = draft_named(
             &mut self.store,
             &mut self.goals,
             &mut self.shoens,
@@ -173,10 +179,7 @@ impl<C: CodeSource> Account<C> {
             &mut self.trial,
             &mut self.draft,
             &mut self.walk,
-            self.last_goal,
-            self.variables,
-            self.nodes,
-            self.reports,
+            &mut self.numbers,
             self.entries,
             number,
             clause,
@@ -192,7 +195,7 @@ impl<C: CodeSource> Account<C> {
         if let Some(refusal) = refused {
             return Ok(Some(refusal));
         }
-        spell_anew(
+        publish_drafted(
             names,
             seat,
             &mut self.names,

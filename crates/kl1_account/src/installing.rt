@@ -11,7 +11,7 @@ use kl1_text::CellName;
 
 /// Begins a draft that removes the goal of a number, or none where that is 0, for an account with this last number of a goal, and so many
 /// variables, structures and reports.
-pub(crate) fn begin(
+pub(crate) fn begin_draft(
     draft: &mut Draft,
     removed: u64,
     last_goal: u64,

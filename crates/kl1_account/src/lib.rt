@@ -12,6 +12,7 @@ mod limits;
 mod loading;
 mod looking;
 mod looking_beside;
+mod naming;
 mod opening;
 mod placing;
 mod printing;

@@ -1,6 +1,8 @@
 // Modules that are loaded.
 
 ghost use Rattle.std.specs.Prelude.{◌≡◌, ◌↔◌, ℕ, ◌≤◌, ◌<◌, false, [], ◌∷◌, ◌++◌, length, IfOk, OnOk, OnErr, vec_capacity};
+ghost use Rattle.kl1_model.specs.Limits.{most_source_bytes};
+ghost use Rattle.kl1_model.specs.Module.{read_module, good};
 ghost use Rattle.kl1_atoms.specs.Names.{AreNames};
 ghost use Rattle.kl1_store.specs.Hooks.{HasGrown};
 ghost use Rattle.kl1_modules.specs.Numbered.{AreRead, ArePlaced, own_names, number_of};
@@ -18,7 +20,7 @@ use kl1_effects::{AccountNames, Change, draft_row};
 use kl1_event::Refusal;
 use kl1_goals::GoalTable;
 use kl1_model::limits::{MOST_ENTRIES, MOST_MODULES, MOST_SOURCE_BYTES};
-use kl1_modules::{CodedModule, CodedModules, Loaded, Modules};
+use kl1_modules::{CodedModule, CodedModules, Loaded, Modules, number_by};
 use kl1_moves::Trial;
 use kl1_shoen::ShoenTree;
 use kl1_store::Store;
@@ -33,24 +35,6 @@ pub(crate) enum Loading<C: CodeSource> {
     Drafted(Loaded<C>),
 }
 
-/// The module of a reference with the numbers of its names, spare ones for those that are new.
-fn number_module<C: CodeSource>(
-    alloc: Global,
-    names: &AccountNames,
-    codes: &C,
-    code: C::Ref,
-) -> Result<Loaded<C>, AllocError>
-    requires names { AreNames names.now.names }
-    requires small { AreSmall names.now.names }
-    requires of { C.has codes.now (C.place code) }
-    ensures content { IfOk result (λ loaded. loaded.content ≡ C.meaning code) }
-    ensures place { IfOk result (λ loaded. loaded.place ≡ C.place code) }
-    ensures reads { IfOk result (λ loaded. ReadsDraft names.now.names (own_names (C.meaning code)) loaded.row) }
-{
-    let row = row_of(alloc, names, codes.code(&code))?;
-    Loaded::new(alloc, codes, code, row)
-}
-
 /// The numbers of the names of a code, spare ones for those that are new.
 fn row_of(alloc: Global, names: &AccountNames, code: &Code) -> Result<Vec<CellName>, AllocError>
     requires names { AreNames names.now.names }
@@ -62,24 +46,23 @@ fn row_of(alloc: Global, names: &AccountNames, code: &Code) -> Result<Vec<CellNa
     Ok(row)
 }
 
-/// Why an account with these modules and names, whose journal has so many entries, refuses a drafted module; nothing where it
-/// may be loaded.
+/// Why an account with these modules and names, whose journal has so many entries, refuses the module of a code whose names have
+/// these numbers; nothing where it may be loaded.
 fn refusal_of<C: CodeSource>(
     modules: &Modules<C>,
     names: &AccountNames,
-    codes: &C,
     entries: u64,
-    draft: &Loaded<C>,
+    code: &Code,
+    row: &[CellName],
 ) -> Option<Refusal>
-    requires of { C.has codes.now draft.now.place }
-    requires reads { ReadsDraft names.now.names (own_names draft.now.content) draft.now.row }
+    requires reads { ReadsDraft names.now.names (own_names code.now) row.now }
     requires rows { (f : Reading) → Fits names.now.names f → AreRead f modules.now.loaded }
-    ensures { DraftsAs modules.now.loaded names.now.names entries draft.now result }
+    ensures { (place : ℕ × ℕ) → DraftsAs modules.now.loaded names.now.names entries (record { content = code.now; row = row.now; place = place }) result }
 {
-    if modules.has(draft.number()) {
+    if modules.has(number_by(code, row)) {
         return Some(Refusal::Exists);
     }
-    if names.are_too_many(draft.code(codes).names()) {
+    if names.are_too_many(code.names()) {
         return Some(Refusal::Names);
     }
     if modules.len() >= MOST_MODULES {
@@ -91,8 +74,69 @@ fn refusal_of<C: CodeSource>(
     None
 }
 
+/// Drafts the module of a reference that was found for a source, as `draft_module`.
+fn draft_found<C: CodeSource>(
+    alloc: Global,
+    modules: &Modules<C>,
+    names: &AccountNames,
+    codes: &C,
+    entries: u64,
+    source: &[u8],
+    found: C::Ref,
+) -> Result<Loading<C>, AllocError>
+    requires names { AreNames names.now.names }
+    requires small { AreSmall names.now.names }
+    requires rows { (f : Reading) → Fits names.now.names f → AreRead f modules.now.loaded }
+    requires few { length source.now ≤ most_source_bytes }
+    requires of { C.has codes.now (C.place found) }
+    requires module { read_module source.now ≡ good (C.meaning found) }
+    ensures loads { IfOk result (LoadsAs modules.now.loaded names.now.names entries source.now) }
+    ensures stands { IfOk result (StandsIn (C.has codes.now)) }
+{
+    let code = codes.code(&found);
+    let row = row_of(alloc, names, code)?;
+    match refusal_of(modules, names, entries, code, &row) {
+        Some(refusal) => Ok(Loading::Refused(refusal)),
+        None => Ok(Loading::Drafted(Loaded::new(alloc, codes, found, row)?)),
+    }
+}
+
+/// Drafts the module of a source that wasn't found, as `draft_module`. Its code is put in only where the module isn't refused.
+fn draft_new<C: CodeSource>(
+    alloc: Global,
+    modules: &Modules<C>,
+    names: &AccountNames,
+    codes: &mut C,
+    entries: u64,
+    source: &[u8],
+) -> Result<Loading<C>, AllocError>
+    requires names { AreNames names.now.names }
+    requires small { AreSmall names.now.names }
+    requires rows { (f : Reading) → Fits names.now.names f → AreRead f modules.now.loaded }
+    requires few { length source.now ≤ most_source_bytes }
+    ensures loads { IfOk result (LoadsAs modules.now.loaded names.now.names entries source.now) }
+    ensures stands { IfOk result (StandsIn (C.has codes.new)) }
+    ensures same { (p : ℕ × ℕ) → C.has codes.old p ↔ C.has codes.new p }
+{
+    let code = match Code::compile(alloc, source) {
+        Ok(code) => code,
+        Err(CodeFault::Bad { line }) => {
+            return Ok(Loading::Refused(Refusal::Source { line }));
+        }
+        Err(CodeFault::Memory) => return Err(AllocError),
+    };
+    let row = row_of(alloc, names, &code)?;
+    match refusal_of(modules, names, entries, &code, &row) {
+        Some(refusal) => Ok(Loading::Refused(refusal)),
+        None => {
+            let pushed = codes.push(code)?;
+            Ok(Loading::Drafted(Loaded::new(alloc, codes, pushed, row)?))
+        }
+    }
+}
+
 /// Drafts the module of a source for an account with these modules and names, whose journal has so many entries. Its code is put
-/// in where it isn't found, also where the module is refused then.
+/// in where it isn't found and the module isn't refused.
 pub(crate) fn draft_module<C: CodeSource>(
     alloc: Global,
     modules: &Modules<C>,
@@ -111,17 +155,9 @@ pub(crate) fn draft_module<C: CodeSource>(
     if source.len() > MOST_SOURCE_BYTES {
         return Ok(Loading::Refused(Refusal::Syntax));
     }
-    let code = match codes.find_or_push(source) {
-        Ok(code) => code,
-        Err(CodeFault::Bad { line }) => {
-            return Ok(Loading::Refused(Refusal::Source { line }));
-        }
-        Err(CodeFault::Memory) => return Err(AllocError),
-    };
-    let draft = number_module(alloc, names, codes, code)?;
-    match refusal_of(modules, names, codes, entries, &draft) {
-        None => Ok(Loading::Drafted(draft)),
-        Some(refusal) => Ok(Loading::Refused(refusal)),
+    match codes.find(source) {
+        Some(found) => draft_found(alloc, modules, names, codes, entries, source, found),
+        None => draft_new(alloc, modules, names, codes, entries, source),
     }
 }
 

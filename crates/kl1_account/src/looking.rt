@@ -1,6 +1,6 @@
 // Goals that are looked at again.
 
-ghost use Rattle.std.specs.Prelude.{◌≡◌, ℕ, List, IfOk, OnOk};
+ghost use Rattle.std.specs.Prelude.{◌≡◌, ◌||◌, ℕ, true, List, IfOk, OnOk};
 ghost use Rattle.kl1_model.specs.Term.{Term};
 ghost use Rattle.kl1_text.specs.declared.cell_name.CellName.{CellName};
 ghost use Rattle.kl1_store.specs.Held.{Held, IsIn};
@@ -9,6 +9,8 @@ ghost use Rattle.kl1_clause.specs.Predicates.{AreSome};
 ghost use Rattle.kl1_moves.specs.Kinds.{IsKind, KindIn};
 ghost use Rattle.kl1_moves.specs.Moves.{HasPredicate};
 ghost use Rattle.kl1_goals.specs.declared.task.Task.TheVariants.{Monitor, Reduces};
+ghost use Rattle.kl1_goals.specs.Lists.{is_monitor};
+ghost use Rattle.kl1_shoen.specs.Shoens.{is_enabled_at};
 ghost use Rattle.kl1_shoen.specs.declared.shoen.Shoen.{Shoen};
 ghost use Rattle.kl1_modules.specs.Numbered.{Numbered};
 ghost use Rattle.kl1_modules.specs.Finding.{contents};
@@ -51,10 +53,10 @@ pub(crate) fn predicate_of<'a, C: CodeSource>(
 }
 
 /// Whether goals of a kind call the predicate that a call does.
-fn calls_same(call: Call<CellName>, kind: Kind<CellName>) -> bool
-    ensures { result ≡ calls_same call kind }
+fn calls_same(call: Call<CellName>, kind: &Kind<CellName>) -> bool
+    ensures { result ≡ calls_same call kind.now }
 {
-    match kind {
+    match *kind {
         Kind::Calls(other) => {
             other.module_name.number == call.module_name.number
                 && other.name.number == call.name.number
@@ -75,30 +77,22 @@ fn calls_same(call: Call<CellName>, kind: Kind<CellName>) -> bool
 #[inline(always)]
 fn predicate_near<'a, C: CodeSource>(
     modules: &'a CodedModules<'_, C>,
-    known: Kind<CellName>,
-    predicate: Predicate<'a, CellName>,
+    known: &Kind<CellName>,
+    predicate: &Predicate<'a, CellName>,
     kind: Kind<CellName>,
 ) -> Predicate<'a, CellName>
-    requires some { AreSome predicate.names.now predicate.clauses.now }
-    requires serves { Serves modules.now.loaded known predicate }
+    requires some { AreSome predicate.now.names.now predicate.now.clauses.now }
+    requires serves { Serves modules.now.loaded known.now predicate.now }
     ensures some { AreSome result.names.now result.clauses.now }
     ensures serves { Serves modules.now.loaded kind result }
 {
-    match known {
-        Kind::Calls(call) => {
-            if calls_same(call, kind) {
-                return predicate;
-            }
-            predicate_of(modules, kind)
-        }
-        Kind::Unifies(_, _) => predicate_of(modules, kind),
-        Kind::Assigns(_, _) => predicate_of(modules, kind),
-        Kind::Spells(_, _) => predicate_of(modules, kind),
-        Kind::Executes(_) => predicate_of(modules, kind),
-        Kind::Goes => predicate_of(modules, kind),
-        Kind::Waits(_) => predicate_of(modules, kind),
-        Kind::Nothing => predicate_of(modules, kind),
+    let Kind::Calls(call) = *known else {
+        return predicate_of(modules, kind);
+    };
+    if calls_same(call, &kind) {
+        return *predicate;
     }
+    predicate_of(modules, kind)
 }
 
 /// The clause by which the goal of a number, which is of a kind, can step by the clauses of its predicate, or none. The number is
@@ -129,15 +123,15 @@ pub(crate) fn hung_standing(
 fn standing_at<C: CodeSource>(
     store: &mut Store<CellName>,
     modules: &CodedModules<'_, C>,
-    known: Kind<CellName>,
-    predicate: Predicate<'_, CellName>,
+    known: &Kind<CellName>,
+    predicate: &Predicate<'_, CellName>,
     trial: &mut Trial<CellName>,
     number: u64,
     cell: Qualified<CellName>,
 ) -> Result<Option<u64>, AllocError>
     requires cell { IsIn store.old.held cell.cell }
-    requires some { AreSome predicate.names.now predicate.clauses.now }
-    requires serves { Serves modules.now.loaded known predicate }
+    requires some { AreSome predicate.now.names.now predicate.now.clauses.now }
+    requires serves { Serves modules.now.loaded known.now predicate.now }
     ensures stands { IfOk result (λ standing. (shoens : List (Shoen CellName)) (shoen : ℕ) → StandsAt modules.now.loaded shoens store.old.held store.new.hooks shoen (Reduces cell) (record { number = number; standing = standing })) }
     ensures held { store.new.held ≡ store.old.held }
     ensures grown { HasGrown store.old store.new }
@@ -189,58 +183,57 @@ pub(crate) fn monitor_standing(
     }
 }
 
-/// The clause by which the goal of a number can step, which is of a shoen and has a task, or none. The predicate of goals of one
-/// kind is known here and below; the number is hung on each variable that the goal waits for.
+/// The clause by which a goal can step, or none. The predicate of goals of one kind is known here and below; the goal's number is hung
+/// on each variable that it waits for.
 fn task_standing<C: CodeSource>(
     store: &mut Store<CellName>,
     shoens: &ShoenTree<CellName>,
     modules: &CodedModules<'_, C>,
-    known: Kind<CellName>,
-    predicate: Predicate<'_, CellName>,
+    known: &Kind<CellName>,
+    predicate: &Predicate<'_, CellName>,
     trial: &mut Trial<CellName>,
-    number: u64,
-    shoen: u64,
-    task: Task<CellName>,
+    goal: &Goal<CellName>,
 ) -> Result<Option<u64>, AllocError>
-    requires task { IsTaskIn store.old.held task }
+    requires task { IsTaskIn store.old.held goal.now.task }
     requires shoens { AreShoensIn store.old.held shoens.now.shoens }
-    requires some { AreSome predicate.names.now predicate.clauses.now }
-    requires serves { Serves modules.now.loaded known predicate }
-    ensures stands { IfOk result (λ standing. StandsAt modules.now.loaded shoens.now.shoens store.old.held store.new.hooks shoen task (record { number = number; standing = standing })) }
+    requires some { AreSome predicate.now.names.now predicate.now.clauses.now }
+    requires serves { Serves modules.now.loaded known.now predicate.now }
+    ensures stands { IfOk result (λ standing. StandsAt modules.now.loaded shoens.now.shoens store.old.held store.new.hooks goal.now.shoen goal.now.task (record { number = goal.now.number; standing = standing })) }
     ensures held { store.new.held ≡ store.old.held }
     ensures grown { HasGrown store.old store.new }
 {
-    match task {
-        Task::Monitor => monitor_standing(store, shoens, number, shoen),
-        Task::Reduces(cell) => standing_at(store, modules, known, predicate, trial, number, cell),
+    match goal.task {
+        Task::Monitor => monitor_standing(store, shoens, goal.number, goal.shoen),
+        Task::Reduces(cell) => {
+            standing_at(store, modules, known, predicate, trial, goal.number, cell)
+        }
     }
 }
 
-/// Looks at the goal of a number: the clause by which it can step becomes one change more.
+/// Looks at a goal: the clause by which it can step becomes one change more.
 fn look_at_task<C: CodeSource>(
     store: &mut Store<CellName>,
     shoens: &ShoenTree<CellName>,
     modules: &CodedModules<'_, C>,
-    known: Kind<CellName>,
-    predicate: Predicate<'_, CellName>,
+    known: &Kind<CellName>,
+    predicate: &Predicate<'_, CellName>,
     trial: &mut Trial<CellName>,
-    number: u64,
-    shoen: u64,
-    task: Task<CellName>,
+    goal: &Goal<CellName>,
     changes: &mut Vec<Change>,
 ) -> Result<(), AllocError>
-    requires task { IsTaskIn store.old.held task }
+    requires task { IsTaskIn store.old.held goal.now.task }
     requires shoens { AreShoensIn store.old.held shoens.now.shoens }
-    requires some { AreSome predicate.names.now predicate.clauses.now }
-    requires serves { Serves modules.now.loaded known predicate }
-    ensures finds { OnOk result (FindsOut modules.now.loaded shoens.now.shoens store.old.held store.new.hooks shoen task number changes.old.items changes.new.items) }
+    requires some { AreSome predicate.now.names.now predicate.now.clauses.now }
+    requires serves { Serves modules.now.loaded known.now predicate.now }
+    ensures finds { OnOk result (FindsOut modules.now.loaded shoens.now.shoens store.old.held store.new.hooks goal.now.shoen goal.now.task goal.now.number changes.old.items changes.new.items) }
     ensures held { store.new.held ≡ store.old.held }
     ensures grown { HasGrown store.old store.new }
 {
-    let standing = task_standing(
-        store, shoens, modules, known, predicate, trial, number, shoen, task,
-    )?;
-    changes.push(Change { number, standing })?;
+    let standing = task_standing(store, shoens, modules, known, predicate, trial, goal)?;
+    changes.push(Change {
+        number: goal.number,
+        standing,
+    })?;
     Ok(())
 }
 
@@ -250,8 +243,8 @@ fn wake<C: CodeSource>(
     goals: &GoalTable<CellName>,
     shoens: &ShoenTree<CellName>,
     modules: &CodedModules<'_, C>,
-    known: Kind<CellName>,
-    predicate: Predicate<'_, CellName>,
+    known: &Kind<CellName>,
+    predicate: &Predicate<'_, CellName>,
     trial: &mut Trial<CellName>,
     removed: u64,
     number: u64,
@@ -259,8 +252,8 @@ fn wake<C: CodeSource>(
 ) -> Result<(), AllocError>
     requires goals { AreGoalsIn store.old.held goals.now.goals }
     requires shoens { AreShoensIn store.old.held shoens.now.shoens }
-    requires some { AreSome predicate.names.now predicate.clauses.now }
-    requires serves { Serves modules.now.loaded known predicate }
+    requires some { AreSome predicate.now.names.now predicate.now.clauses.now }
+    requires serves { Serves modules.now.loaded known.now predicate.now }
     ensures wakes { OnOk result (Wakes modules.now.loaded shoens.now.shoens store.old.held store.old.hooks store.new.hooks goals.now.goals removed number changes.old.items changes.new.items) }
     ensures held { store.new.held ≡ store.old.held }
     ensures grown { HasGrown store.old store.new }
@@ -270,9 +263,11 @@ fn wake<C: CodeSource>(
     }
     match goals.get(number) {
         None => Ok(()),
-        Some(goal) => look_at_task(
-            store, shoens, modules, known, predicate, trial, number, goal.shoen, goal.task, changes,
-        ),
+        Some(goal) => {
+            look_at_task(
+                store, shoens, modules, known, predicate, trial, &goal, changes,
+            )
+        }
     }
 }
 
@@ -283,8 +278,8 @@ pub(crate) fn wake_told<C: CodeSource>(
     goals: &GoalTable<CellName>,
     shoens: &ShoenTree<CellName>,
     modules: &CodedModules<'_, C>,
-    known: Kind<CellName>,
-    predicate: Predicate<'_, CellName>,
+    known: &Kind<CellName>,
+    predicate: &Predicate<'_, CellName>,
     trial: &mut Trial<CellName>,
     removed: u64,
     told: &[u64],
@@ -292,8 +287,8 @@ pub(crate) fn wake_told<C: CodeSource>(
 ) -> Result<(), AllocError>
     requires goals { AreGoalsIn store.old.held goals.now.goals }
     requires shoens { AreShoensIn store.old.held shoens.now.shoens }
-    requires some { AreSome predicate.names.now predicate.clauses.now }
-    requires serves { Serves modules.now.loaded known predicate }
+    requires some { AreSome predicate.now.names.now predicate.now.clauses.now }
+    requires serves { Serves modules.now.loaded known.now predicate.now }
     ensures wakes { OnOk result (WakesTold modules.now.loaded shoens.now.shoens store.old.held store.old.hooks store.new.hooks goals.now.goals removed told.now changes.old.items changes.new.items) }
     ensures held { store.new.held ≡ store.old.held }
     ensures grown { HasGrown store.old store.new }
@@ -306,44 +301,43 @@ pub(crate) fn wake_told<C: CodeSource>(
     Ok(())
 }
 
-/// A goal that comes, with the clause by which it can step, and whether its shoen lets it.
-fn looked_goal<C: CodeSource>(
+/// Whether the shoen of a goal lets it step; a monitor is always let. The shoen of a number is known to let its goals step.
+fn may_step(shoens: &ShoenTree<CellName>, letting: u64, goal: &Goal<CellName>) -> bool
+    requires { is_enabled_at shoens.now.shoens shoens.now.work letting ≡ true }
+    ensures { result ≡ (is_monitor goal.now || is_enabled_at shoens.now.shoens shoens.now.work goal.now.shoen) }
+{
+    if goal.shoen == letting {
+        return true;
+    }
+    goal.is_monitor() || shoens.is_enabled(goal.shoen)
+}
+
+/// Looks at a goal that comes: it gets the clause by which it can step, and whether its shoen lets it. The shoen of a number is known
+/// to let its goals step, here and below.
+fn look_at_added<C: CodeSource>(
     store: &mut Store<CellName>,
     shoens: &ShoenTree<CellName>,
     modules: &CodedModules<'_, C>,
-    known: Kind<CellName>,
-    predicate: Predicate<'_, CellName>,
+    known: &Kind<CellName>,
+    predicate: &Predicate<'_, CellName>,
     trial: &mut Trial<CellName>,
-    goal: Goal<CellName>,
-) -> Result<Goal<CellName>, AllocError>
-    requires task { IsTaskIn store.old.held goal.task }
+    letting: u64,
+    goal: &mut Goal<CellName>,
+) -> Result<(), AllocError>
+    requires task { IsTaskIn store.old.held goal.old.task }
     requires shoens { AreShoensIn store.old.held shoens.now.shoens }
-    requires some { AreSome predicate.names.now predicate.clauses.now }
-    requires serves { Serves modules.now.loaded known predicate }
-    ensures looks { IfOk result (LooksAtOne modules.now.loaded shoens.now.shoens shoens.now.work store.old.held store.new.hooks goal) }
+    requires some { AreSome predicate.now.names.now predicate.now.clauses.now }
+    requires serves { Serves modules.now.loaded known.now predicate.now }
+    requires lets { is_enabled_at shoens.now.shoens shoens.now.work letting ≡ true }
+    ensures looks { OnOk result (LooksAtOne modules.now.loaded shoens.now.shoens shoens.now.work store.old.held store.new.hooks goal.old goal.new) }
     ensures held { store.new.held ≡ store.old.held }
     ensures grown { HasGrown store.old store.new }
 {
-    let standing = task_standing(
-        store,
-        shoens,
-        modules,
-        known,
-        predicate,
-        trial,
-        goal.number,
-        goal.shoen,
-        goal.task,
-    )?;
-    let is_enabled = goal.is_monitor() || shoens.is_enabled(goal.shoen);
-    Ok(Goal {
-        number: goal.number,
-        task: goal.task,
-        shoen: goal.shoen,
-        priority: goal.priority,
-        standing,
-        is_enabled,
-    })
+    let standing = task_standing(store, shoens, modules, known, predicate, trial, goal)?;
+    let is_enabled = may_step(shoens, letting, goal);
+    goal.standing = standing;
+    goal.is_enabled = is_enabled;
+    Ok(())
 }
 
 /// Looks at goals that come: each gets the clause by which it can step, and whether its shoen lets it. Where memory is refused, more
@@ -352,22 +346,26 @@ pub(crate) fn wake_added<C: CodeSource>(
     store: &mut Store<CellName>,
     shoens: &ShoenTree<CellName>,
     modules: &CodedModules<'_, C>,
-    known: Kind<CellName>,
-    predicate: Predicate<'_, CellName>,
+    known: &Kind<CellName>,
+    predicate: &Predicate<'_, CellName>,
     trial: &mut Trial<CellName>,
+    letting: u64,
     added: &mut Vec<Goal<CellName>>,
 ) -> Result<(), AllocError>
     requires added { AreGoalsIn store.old.held added.old.items }
     requires shoens { AreShoensIn store.old.held shoens.now.shoens }
-    requires some { AreSome predicate.names.now predicate.clauses.now }
-    requires serves { Serves modules.now.loaded known predicate }
+    requires some { AreSome predicate.now.names.now predicate.now.clauses.now }
+    requires serves { Serves modules.now.loaded known.now predicate.now }
+    requires lets { is_enabled_at shoens.now.shoens shoens.now.work letting ≡ true }
     ensures looks { OnOk result (LooksAtAdded modules.now.loaded shoens.now.shoens shoens.now.work store.old.held store.new.hooks added.old.items added.new.items) }
     ensures held { store.new.held ≡ store.old.held }
     ensures grown { HasGrown store.old store.new }
 {
     for place in 0..added.len() {
-        let goal = added[place];
-        added[place] = looked_goal(store, shoens, modules, known, predicate, trial, goal)?;
+        let goal = &mut added[place];
+        look_at_added(
+            store, shoens, modules, known, predicate, trial, letting, goal,
+        )?;
     }
     Ok(())
 }

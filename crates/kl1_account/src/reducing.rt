@@ -1,6 +1,6 @@
 // Reductions that are drafted.
 
-ghost use Rattle.std.specs.Prelude.{◌≡◌, ◌<◌, ◌≤◌, ℕ, List, Some, None, IfOk, IfErr};
+ghost use Rattle.std.specs.Prelude.{◌≡◌, ◌<◌, ◌≤◌, ℕ, List, Some, None, IfOk, IfErr, OnOk, vec_capacity};
 ghost use Rattle.kl1_model.specs.Limits.{most_entries, monitor_priority};
 ghost use Rattle.kl1_clause.specs.Predicates.{AreSome};
 ghost use Rattle.kl1_moves.specs.Kinds.{IsKind, KindIn};
@@ -16,13 +16,13 @@ ghost use Rattle.kl1_effects.specs.Fitting.{Reading};
 ghost use Rattle.kl1_effects.specs.Account.{aim};
 ghost use Rattle.kl1_effects.specs.Kept.{AreShoensIn};
 ghost use Rattle.kl1_effects.specs.Works.{Knows};
-ghost use Rattle.kl1_account.specs.Reducing.{RefusesAmong, IsSteppable, is_read, NotHeard, HeardAs, NotMade, IsMade, account_at, ReducesAs};
+ghost use Rattle.kl1_account.specs.Reducing.{HasRow, RefusesAmong, IsSteppable, is_read, NotHeard, HeardAs, NotMade, IsMade, account_at, ReducesAs};
 ghost use Rattle.kl1_account.specs.Keeping.{IsKept};
 ghost use Rattle.kl1_effects.specs.Drafts.{CanGoBack};
+ghost use Rattle.kl1_effects.specs.Installing.{IsBegun};
 ghost use Rattle.kl1_acts.specs.Spelling.{HasRoomFor};
 
 use crate::completing::finish;
-use crate::installing::begin;
 use crate::limits::are_numbers;
 use crate::looking::predicate_of;
 use kl1_acts::{do_or_spell, read};
@@ -136,8 +136,8 @@ fn move_to_make<C: CodeSource>(
     Ok(Ok(made))
 }
 
-/// Drafts what a monitor reads, which may step, by the clause of a number, for an account with this last number of a goal, so many
-/// variables, structures and reports, and so many entries in its journal, or says why it is refused.
+/// Drafts what a monitor reads, which may step, by the clause of a number, for an account with so many entries in its journal, or says
+/// why it is refused. The draft has begun with what the account has.
 fn draft_reading<C: CodeSource>(
     store: &mut Store<CellName>,
     goals: &mut GoalTable<CellName>,
@@ -147,18 +147,15 @@ fn draft_reading<C: CodeSource>(
     trial: &mut Trial<CellName>,
     draft: &mut Draft,
     walk: &mut Walk,
-    last_goal: u64,
-    variables: u64,
-    nodes: u64,
-    reports: u64,
     entries: u64,
     goal: Goal<CellName>,
     clause: u64,
 ) -> Result<Option<Refusal>, AllocError>
     requires steppable { IsSteppable goals.old.goals goal.number clause goal }
     requires monitor { goal.task ≡ Monitor }
-    requires kept { (own : List ℕ) → IsKept (account_at own store.old.held goals.old.goals shoens.old modules.now.loaded names.now.names last_goal variables nodes reports entries) store.old.hooks goals.old.shoens }
-    ensures ok { IfOk result (λ refused. (own : List ℕ) → ReducesAs (account_at own store.old.held goals.old.goals shoens.old modules.now.loaded names.now.names last_goal variables nodes reports entries) goal.number clause store.old store.new shoens.old shoens.new goals.new draft.new refused) }
+    requires begun { IsBegun 0 draft.old.last_goal draft.old.variables draft.old.nodes draft.old.reports draft.old }
+    requires kept { (own : List ℕ) → IsKept (account_at own store.old.held goals.old.goals shoens.old modules.now.loaded names.now.names draft.old.last_goal draft.old.variables draft.old.nodes draft.old.reports entries) store.old.hooks goals.old.shoens }
+    ensures ok { IfOk result (λ refused. (own : List ℕ) → ReducesAs (account_at own store.old.held goals.old.goals shoens.old modules.now.loaded names.now.names draft.old.last_goal draft.old.variables draft.old.nodes draft.old.reports entries) goal.number clause store.old store.new shoens.old shoens.new goals.new draft.new refused) }
     ensures back { CanGoBack shoens.old shoens.new }
     ensures grown { HasGrown store.old store.new }
     ensures goals { goals.new.goals ≡ goals.old.goals }
@@ -172,7 +169,6 @@ fn draft_reading<C: CodeSource>(
     let _single = goals.shoens();
     let _worked = shoens.len();
     let mark = store.mark();
-    begin(draft, 0, last_goal, variables, nodes, reports);
     walk.reached.clear();
     read(store, goals, shoens, draft, walk, goal.shoen, control)?;
     draft.told.push(goal.number)?;
@@ -182,18 +178,19 @@ fn draft_reading<C: CodeSource>(
         goals,
         shoens,
         modules,
-        Kind::Nothing,
-        predicate,
+        &Kind::Nothing,
+        &predicate,
         trial,
         draft,
         walk,
         mark,
+        0,
     )?;
     Ok(None)
 }
 
-/// Drafts the move that a goal for a cell does, which may step, by the clause of a number, for an account with this last number of a
-/// goal, so many variables, structures and reports, and so many entries in its journal, or says why it is refused.
+/// Drafts the move that a goal for a cell does, which may step, by the clause of a number, for an account with so many entries in its
+/// journal, or says why it is refused. The draft has begun with what the account has.
 fn draft_move<C: CodeSource>(
     store: &mut Store<CellName>,
     goals: &mut GoalTable<CellName>,
@@ -203,10 +200,6 @@ fn draft_move<C: CodeSource>(
     trial: &mut Trial<CellName>,
     draft: &mut Draft,
     walk: &mut Walk,
-    last_goal: u64,
-    variables: u64,
-    nodes: u64,
-    reports: u64,
     entries: u64,
     goal: Goal<CellName>,
     cell: Qualified<CellName>,
@@ -215,8 +208,9 @@ fn draft_move<C: CodeSource>(
     requires steppable { IsSteppable goals.old.goals goal.number clause goal }
     requires reduces { goal.task ≡ Reduces cell }
     requires level { goal.priority ≤ monitor_priority }
-    requires kept { (own : List ℕ) → IsKept (account_at own store.old.held goals.old.goals shoens.old modules.now.loaded names.old.names last_goal variables nodes reports entries) store.old.hooks goals.old.shoens }
-    ensures ok { IfOk result (λ refused. (own : List ℕ) → ReducesAs (account_at own store.old.held goals.old.goals shoens.old modules.now.loaded names.old.names last_goal variables nodes reports entries) goal.number clause store.old store.new shoens.old shoens.new goals.new draft.new refused) }
+    requires begun { IsBegun 0 draft.old.last_goal draft.old.variables draft.old.nodes draft.old.reports draft.old }
+    requires kept { (own : List ℕ) → IsKept (account_at own store.old.held goals.old.goals shoens.old modules.now.loaded names.old.names draft.old.last_goal draft.old.variables draft.old.nodes draft.old.reports entries) store.old.hooks goals.old.shoens }
+    ensures ok { IfOk result (λ refused. (own : List ℕ) → ReducesAs (account_at own store.old.held goals.old.goals shoens.old modules.now.loaded names.old.names draft.old.last_goal draft.old.variables draft.old.nodes draft.old.reports entries) goal.number clause store.old store.new shoens.old shoens.new goals.new draft.new refused) }
     ensures back { CanGoBack shoens.old shoens.new }
     ensures grown { HasGrown store.old store.new }
     ensures goals { goals.new.goals ≡ goals.old.goals }
@@ -235,21 +229,20 @@ fn draft_move<C: CodeSource>(
     let _ordered = goals.shoens();
     let _worked = shoens.len();
     let mark = store.mark();
-    begin(draft, goal.number, last_goal, variables, nodes, reports);
+    draft.removed = goal.number;
     let alive = goals.alive() - 1;
     do_or_spell(
         store, goals, shoens, draft, walk, names, alive, predicate, made, trial, goal, cell,
     )?;
     finish(
-        store, goals, shoens, modules, kind, predicate, trial, draft, walk, mark,
+        store, goals, shoens, modules, &kind, &predicate, trial, draft, walk, mark, goal.shoen,
     )?;
     Ok(None)
 }
 
-/// Drafts the reduction of the goal of a number by the clause of a number, for an account with this last number of a goal, so many
-/// variables, structures and reports, and so many entries in its journal, or says why it is refused. Where memory is refused, the store
-/// and the tree may have changed.
-pub(crate) fn draft_reduction<C: CodeSource>(
+/// Drafts the reduction of the goal of a number by the clause of a number, for an account with so many entries in its journal, or says
+/// why it is refused. The draft has begun with what the account has. Where memory is refused, the store and the tree may have changed.
+fn draft_reduction<C: CodeSource>(
     store: &mut Store<CellName>,
     goals: &mut GoalTable<CellName>,
     shoens: &mut ShoenTree<CellName>,
@@ -258,16 +251,13 @@ pub(crate) fn draft_reduction<C: CodeSource>(
     trial: &mut Trial<CellName>,
     draft: &mut Draft,
     walk: &mut Walk,
-    last_goal: u64,
-    variables: u64,
-    nodes: u64,
-    reports: u64,
     entries: u64,
     number: u64,
     clause: u64,
 ) -> Result<Option<Refusal>, AllocError>
-    requires kept { (own : List ℕ) → IsKept (account_at own store.old.held goals.old.goals shoens.old modules.now.loaded names.old.names last_goal variables nodes reports entries) store.old.hooks goals.old.shoens }
-    ensures ok { IfOk result (λ refused. (own : List ℕ) → ReducesAs (account_at own store.old.held goals.old.goals shoens.old modules.now.loaded names.old.names last_goal variables nodes reports entries) number clause store.old store.new shoens.old shoens.new goals.new draft.new refused) }
+    requires begun { IsBegun 0 draft.old.last_goal draft.old.variables draft.old.nodes draft.old.reports draft.old }
+    requires kept { (own : List ℕ) → IsKept (account_at own store.old.held goals.old.goals shoens.old modules.now.loaded names.old.names draft.old.last_goal draft.old.variables draft.old.nodes draft.old.reports entries) store.old.hooks goals.old.shoens }
+    ensures ok { IfOk result (λ refused. (own : List ℕ) → ReducesAs (account_at own store.old.held goals.old.goals shoens.old modules.now.loaded names.old.names draft.old.last_goal draft.old.variables draft.old.nodes draft.old.reports entries) number clause store.old store.new shoens.old shoens.new goals.new draft.new refused) }
     ensures back { CanGoBack shoens.old shoens.new }
     ensures grown { HasGrown store.old store.new }
     ensures goals { goals.new.goals ≡ goals.old.goals }
@@ -281,12 +271,54 @@ pub(crate) fn draft_reduction<C: CodeSource>(
     };
     match goal.task {
         Task::Monitor => draft_reading(
-            store, goals, shoens, modules, names, trial, draft, walk, last_goal, variables, nodes,
-            reports, entries, goal, clause,
+            store, goals, shoens, modules, names, trial, draft, walk, entries, goal, clause,
         ),
         Task::Reduces(cell) => draft_move(
-            store, goals, shoens, modules, names, trial, draft, walk, last_goal, variables, nodes,
-            reports, entries, goal, cell, clause,
+            store, goals, shoens, modules, names, trial, draft, walk, entries, goal, cell, clause,
         ),
     }
+}
+
+/// Makes a row ready for the number of a name that a draft has.
+fn ready_row(row: &mut Vec<CellName>, draft: &Draft) -> Result<(), AllocError>
+    ensures { OnOk result (HasRow draft.now.name row.new.items (vec_capacity row.new)) }
+{
+    if draft.name.is_none() {
+        return Ok(());
+    }
+    row.clear();
+    row.reserve(1)
+}
+
+/// The same, and a row is ready for the number of a name that is drafted.
+pub(crate) fn draft_named<C: CodeSource>(
+    store: &mut Store<CellName>,
+    goals: &mut GoalTable<CellName>,
+    shoens: &mut ShoenTree<CellName>,
+    modules: &CodedModules<'_, C>,
+    names: &mut AccountNames,
+    trial: &mut Trial<CellName>,
+    draft: &mut Draft,
+    walk: &mut Walk,
+    row: &mut Vec<CellName>,
+    entries: u64,
+    number: u64,
+    clause: u64,
+) -> Result<Option<Refusal>, AllocError>
+    requires begun { IsBegun 0 draft.old.last_goal draft.old.variables draft.old.nodes draft.old.reports draft.old }
+    requires kept { (own : List ℕ) → IsKept (account_at own store.old.held goals.old.goals shoens.old modules.now.loaded names.old.names draft.old.last_goal draft.old.variables draft.old.nodes draft.old.reports entries) store.old.hooks goals.old.shoens }
+    ensures ok { IfOk result (λ refused. (own : List ℕ) → ReducesAs (account_at own store.old.held goals.old.goals shoens.old modules.now.loaded names.old.names draft.old.last_goal draft.old.variables draft.old.nodes draft.old.reports entries) number clause store.old store.new shoens.old shoens.new goals.new draft.new refused) }
+    ensures back { CanGoBack shoens.old shoens.new }
+    ensures grown { HasGrown store.old store.new }
+    ensures goals { goals.new.goals ≡ goals.old.goals }
+    ensures shoens { goals.new.shoens ≡ goals.old.shoens }
+    ensures names { names.new.names ≡ names.old.names }
+    ensures room { IfOk result (λ refused. refused ≡ None → HasRoomFor names.new.room draft.new.name) }
+    ensures row { IfOk result (λ refused. refused ≡ None → HasRow draft.new.name row.new.items (vec_capacity row.new)) }
+{
+    let refused = draft_reduction(
+        store, goals, shoens, modules, names, trial, draft, walk, entries, number, clause,
+    )?;
+    ready_row(row, draft)?;
+    Ok(refused)
 }

@@ -14,7 +14,7 @@ ghost use Rattle.kl1_effects.specs.Drafts.{CanGoBack};
 ghost use Rattle.kl1_account.specs.Looking.{WakesTold};
 ghost use Rattle.kl1_account.specs.Sending.{AreAlike, Allows, Refuses, PutsOn, SendsAs};
 
-use crate::installing::begin;
+use crate::installing::begin_draft;
 use crate::limits::is_number;
 use crate::looking::{predicate_of, wake_told};
 use kl1_codes::CodeSource;
@@ -150,8 +150,8 @@ fn wake_bound<C: CodeSource>(
         goals,
         shoens,
         modules,
-        Kind::Nothing,
-        predicate,
+        &Kind::Nothing,
+        &predicate,
         trial,
         0,
         draft.told.as_slice(),
@@ -190,7 +190,7 @@ pub(crate) fn draft_message<C: CodeSource>(
         Ok(origin) => origin,
         Err(refusal) => return Ok(Some(refusal)),
     };
-    begin(draft, 0, last_goal, variables, nodes, reports);
+    begin_draft(draft, 0, last_goal, variables, nodes, reports);
     put_message(store, shoens, draft, number, origin.control, message)?;
     wake_bound(store, goals, shoens, modules, trial, draft, mark)?;
     Ok(None)

@@ -41,7 +41,7 @@ use Rattle.kl1_effects.specs.Calling.{keeps_names, ReadsKnown, spare}
 use Rattle.kl1_effects.specs.Moving.{ReadsMove}
 use Rattle.kl1_acts.specs.Acting.{Acts}
 use Rattle.kl1_effects.specs.Late.{settle_charged_late}
-use Rattle.kl1_acts.specs.Spelling.{IsSpelling, IsNoSpelling, SpellsBy, SpellsNone, Spells, Respells, ReadsText, ReadsAll, Does, with_text}
+use Rattle.kl1_acts.specs.Spelling.{IsSpelling, IsNoSpelling, SpellsBy, SpellsNone, Spells, Respells, ReadsText, ReadsAll, Does, with_text, HasRoomFor}
 use Rattle.kl1_effects.proofs.States.{replaced_state}
 use Rattle.kl1_effects.proofs.Works.{base, rereads, grown_made}
 use Rattle.kl1_effects.proofs.LateName.{settles_late}
@@ -207,3 +207,26 @@ spelled_new (move.Unifies a b) h known text v by = absurd by
 spelled_new (move.Names a) h known text v by = by.new
 spelled_new (move.Opens s) h known text v by = absurd by
 spelled_new move.Goes h known text v by = absurd by
+
+-- a move by which a variable becomes a name has a text
+pub spelled_text : (made : Move CellName) (h : Held CellName) (known : List Known) (text : List ℕ) (v : ℕ) → SpellsBy made h known text v → IsTrue (is_text text)
+spelled_text (move.Commits place) h known text v by = absurd by
+spelled_text (move.Raises b) h known text v by = absurd by
+spelled_text (move.Unifies a b) h known text v by = absurd by
+spelled_text (move.Names a) h known text v by = by.is_text
+spelled_text (move.Opens s) h known text v by = absurd by
+spelled_text move.Goes h known text v by = absurd by
+
+-- the account may use it
+pub spelled_keeps : (made : Move CellName) (h : Held CellName) (known : List Known) (text : List ℕ) (v : ℕ) → SpellsBy made h known text v → keeps_names known text ≡ true
+spelled_keeps (move.Commits place) h known text v by = absurd by
+spelled_keeps (move.Raises b) h known text v by = absurd by
+spelled_keeps (move.Unifies a b) h known text v by = absurd by
+spelled_keeps (move.Names a) h known text v by = by.keeps
+spelled_keeps (move.Opens s) h known text v by = absurd by
+spelled_keeps move.Goes h known text v by = absurd by
+
+-- where there is room for one name there is room for what is drafted
+pub room_for : (room : ℕ) (name : Option (List ℕ)) → 0 < room → HasRoomFor room name
+room_for room None lt = tt
+room_for room (Some text) lt = lt

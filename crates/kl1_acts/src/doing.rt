@@ -1,6 +1,6 @@
 // What goals do in one step, where a name that is new may come of it.
 
-ghost use Rattle.std.specs.Prelude.{◌≡◌, ◌+◌, ◌<◌, ◌≤◌, ◌^◌, [], length, not, true, ◌++◌, Some, None, count_by, OnOk};
+ghost use Rattle.std.specs.Prelude.{◌≡◌, ◌+◌, ◌<◌, ◌≤◌, ◌^◌, [], ℕ, List, length, not, true, ◌++◌, Some, None, count_by, OnOk};
 ghost use Rattle.kl1_model.specs.Limits.{monitor_priority};
 ghost use Rattle.kl1_store.specs.Held.{IsIn};
 ghost use Rattle.kl1_store.specs.Sound.{Grown};
@@ -15,15 +15,30 @@ ghost use Rattle.kl1_effects.specs.Leaving.{Leaves, IsActed};
 ghost use Rattle.kl1_acts.specs.Spelling.{IsSpelledIn, IsSparedIn, HasName, HasRoomFor, Does};
 
 use crate::acting::act;
-use crate::spelling::{name_to_spell, spell};
+use crate::spelling::{name_to_spell, spell_text};
 use kl1_clause::Predicate;
 use kl1_effects::{AccountNames, Draft, Walk};
 use kl1_goals::{Goal, GoalTable};
 use kl1_moves::{Move, Trial};
 use kl1_shoen::ShoenTree;
 use kl1_store::{Qualified, Store};
-use kl1_text::{AtomText, CellName};
+use kl1_text::CellName;
 use std::alloc::AllocError;
+
+/// Makes room for a name where a move may use a text as one.
+fn make_room(names: &mut AccountNames, made: Move<CellName>) -> Result<(), AllocError>
+    ensures names { names.new.names ≡ names.old.names }
+    ensures room { OnOk result ((text : List ℕ) → HasRoomFor names.new.room (name_for made names.new.names text)) }
+{
+    match made {
+        Move::Names(_target) => names.reserve(1),
+        Move::Commits(_place) => Ok(()),
+        Move::Raises(_kind) => Ok(()),
+        Move::Unifies(_left, _right) => Ok(()),
+        Move::Opens(_structure) => Ok(()),
+        Move::Goes => Ok(()),
+    }
+}
 
 /// A goal that a draft removes, which is this cell, makes a move: its shoen is charged, the move is done, and after that shoens report
 /// that they are exhausted, and terminate. So many goals are there without it. Where a variable becomes a name that is new to the
@@ -73,13 +88,20 @@ pub fn do_or_spell(
 {
     let _formed = store.mark();
     let Some(variable) = name_to_spell(store, names, made, trial) else {
-        names.reserve(1)?;
+        make_room(names, made)?;
         return act(
             store, goals, shoens, draft, walk, names, alive, predicate, made, trial, goal, cell,
         );
     };
-    let text = AtomText::of(trial.text.as_slice());
-    spell(
-        store, goals, shoens, draft, walk, names, goal.shoen, text, variable,
+    spell_text(
+        store,
+        goals,
+        shoens,
+        draft,
+        walk,
+        names,
+        goal.shoen,
+        trial.text.as_slice(),
+        variable,
     )
 }

@@ -1,7 +1,8 @@
 // Names that are new to an account, put into its cells when their numbers are known.
 
 ghost use Rattle.std.specs.Prelude.{◌≡◌, ◌≤◌, ◌<◌, ◌+◌, ◌^◌, false, true, [], length, None, Some, IfSome, IsTrue, OnOk, vec_capacity};
-ghost use Rattle.kl1_store.specs.Held.{is_bound};
+ghost use Rattle.kl1_model.specs.Text.{is_text};
+ghost use Rattle.kl1_store.specs.Held.{is_bound, IsIn};
 ghost use Rattle.kl1_store.specs.Sound.{Grown};
 ghost use Rattle.kl1_shoen.specs.Shoens.{is_enabled_at};
 ghost use Rattle.kl1_atoms.specs.Names.{number_by};
@@ -10,7 +11,7 @@ ghost use Rattle.kl1_effects.specs.Drafts.{HasBegun, CanGoBack};
 ghost use Rattle.kl1_effects.specs.Naming.{Keeps, AreSmall};
 ghost use Rattle.kl1_effects.specs.Calling.{keeps_names, IsNewName};
 ghost use Rattle.kl1_effects.specs.Leaving.{Leaves, IsActed};
-ghost use Rattle.kl1_acts.specs.Spelling.{IsSpelledIn, NamesIn, SpellsBy, SpellsNone, Spells, HasName, HasRoomFor, IsPublished};
+ghost use Rattle.kl1_acts.specs.Spelling.{IsSpelledIn, IsSpelling, IsNoSpelling, NamesIn, SpellsBy, SpellsNone, Spells, HasName, HasRoomFor, IsPublished};
 
 use kl1_atoms::AtomSource;
 use kl1_effects::{AccountNames, Draft, Spelled, Walk, has_room, publish, settle_late};
@@ -20,6 +21,31 @@ use kl1_shoen::ShoenTree;
 use kl1_store::{Cell, Store};
 use kl1_text::{AtomText, CellName};
 use std::alloc::AllocError;
+
+/// The variable that a term is, where it can become a name that is new to the account, and the account may use it.
+fn variable_to_spell(
+    store: &Store<CellName>,
+    names: &AccountNames,
+    target: Cell<CellName>,
+    bytes: &[u8],
+) -> Option<u32>
+    requires text { IsTrue (is_text bytes.now) }
+    requires inside { IsIn store.now.held target }
+    ensures spells { IfSome result (IsSpelling store.now.held names.now.names bytes.now target) }
+    ensures none { result ≡ None → IsNoSpelling store.now.held names.now.names bytes.now target }
+{
+    let text = AtomText::of(bytes);
+    if names.number_of(&text).is_some() || !has_room(names, &text) {
+        return None;
+    }
+    let _formed = store.mark();
+    match store.walk(target) {
+        Cell::Variable(variable) => Some(variable),
+        Cell::Integer(_number) => None,
+        Cell::Atom(_name) => None,
+        Cell::Structure(_structure) => None,
+    }
+}
 
 /// The variable that a move makes a name which is new to the account, where it does that.
 pub fn name_to_spell(
@@ -35,17 +61,7 @@ pub fn name_to_spell(
     let Move::Names(target) = made else {
         return None;
     };
-    let text = AtomText::of(trial.text.as_slice());
-    if names.number_of(&text).is_some() || !has_room(names, &text) {
-        return None;
-    }
-    let _formed = store.mark();
-    match store.walk(target) {
-        Cell::Variable(variable) => Some(variable),
-        Cell::Integer(_number) => None,
-        Cell::Atom(_name) => None,
-        Cell::Structure(_structure) => None,
-    }
+    variable_to_spell(store, names, target, trial.text.as_slice())
 }
 
 /// A goal of the shoen of a number makes a text, which is new to the account, a name, and a variable becomes it: the shoen is charged,
@@ -95,6 +111,47 @@ pub fn spell(
     draft.spelled = Some(Spelled { variable, before });
     store.bind_constant(variable, Cell::Atom(CellName::spare(0)));
     Ok(())
+}
+
+/// The same of a text in bytes.
+pub(crate) fn spell_text(
+    store: &mut Store<CellName>,
+    goals: &GoalTable<CellName>,
+    shoens: &mut ShoenTree<CellName>,
+    draft: &mut Draft,
+    walk: &mut Walk,
+    names: &mut AccountNames,
+    number: u64,
+    bytes: &[u8],
+    variable: u32,
+) -> Result<(), AllocError>
+    requires text { IsTrue (is_text bytes.now) }
+    requires within { variable < store.old.held.variables }
+    requires unbound { is_bound variable store.old.held.bindings ≡ false }
+    requires shoens { AreShoensIn store.old.held shoens.old.shoens }
+    requires low { 0 < number }
+    requires high { number ≤ length shoens.old.shoens }
+    requires new { number_by names.old.names bytes.now ≡ None }
+    requires keeps { keeps_names names.old.names bytes.now ≡ true }
+    requires begun { HasBegun draft.old }
+    requires none { draft.old.name ≡ None }
+    requires empty { draft.old.added.items ≡ [] }
+    requires may { is_enabled_at shoens.old.shoens shoens.old.work number ≡ true }
+    requires few { length shoens.old.work + 1 < 2 ^ 63 }
+    ensures spells { OnOk result (Spells number bytes.now variable goals.now.goals names.old.names store.old.held store.new.held shoens.old shoens.new draft.old draft.new) }
+    ensures shoens { OnOk result (AreShoensIn store.new.held shoens.new.shoens) }
+    ensures back { CanGoBack shoens.old shoens.new }
+    ensures leaves { OnOk result (Leaves 0 store.new.held shoens.old shoens.new walk.new.reached.items draft.old draft.new) }
+    ensures rest { OnOk result (IsActed draft.old draft.new) }
+    ensures names { names.new.names ≡ names.old.names }
+    ensures room { OnOk result (0 < names.new.room) }
+    ensures grown { Grown store.old.held store.new.held }
+    ensures hooks { store.new.hooks ≡ store.old.hooks }
+{
+    let text = AtomText::of(bytes);
+    spell(
+        store, goals, shoens, draft, walk, names, number, text, variable,
+    )
 }
 
 /// Publishes the name that a draft has, where it has one, and puts its number where a spare one stands for it. The row has room for one

@@ -58,8 +58,8 @@ impl CodeTable {
         Some(shown)
     }
 
-    /// The code of a source, where one of its hints says the place.
-    fn find(&self, hints: &[AtomicU64], source: &[u8]) -> Option<Pushed<Code>>
+    /// The code of a source, where one of these hints says the place.
+    fn find_by(&self, hints: &[AtomicU64], source: &[u8]) -> Option<Pushed<Code>>
         ensures of { IfSome result (Shows self.now) }
         ensures module { IfSome result (λ r. read_module source.now ≡ good r.value) }
     {
@@ -73,6 +73,28 @@ impl CodeTable {
         None
     }
 
+    /// What shows the code of a source, where one of its hints says the place.
+    pub fn find(&self, source: &[u8]) -> Option<Pushed<Code>>
+        ensures of { IfSome result (Shows self.now) }
+        ensures source { IfSome result (λ r. r.value.source ≡ source.now) }
+        ensures module { IfSome result (λ r. read_module source.now ≡ good r.value) }
+    {
+        self.find_by(self.hints.of(source), source)
+    }
+
+    /// Puts a code in, whether or not it is there, and gives what shows it.
+    pub fn push<R: Wait>(&self, rt: &R, code: Code) -> Result<Pushed<Code>, AllocError>
+        ensures of { IfOk result (Shows self.now) }
+        ensures is { IfOk result (λ r. r.value ≡ code) }
+    {
+        let hints = self.hints.of(code.source());
+        let Ok(shown) = self.codes.push_shown(rt, code) else {
+            return Err(AllocError);
+        };
+        note(hints, shown.index());
+        Ok(shown)
+    }
+
     /// What shows the code of a source, which is compiled and put in where no hint finds it. Two threads that put in one source at
     /// once may both put it in.
     pub fn find_or_push<R: Wait>(&self, rt: &R, source: &[u8]) -> Result<Pushed<Code>, CodeFault>
@@ -81,15 +103,13 @@ impl CodeTable {
         ensures module { IfOk result (λ r. read_module source.now ≡ good r.value) }
         ensures fault { IfErr result (IsFaultOf (read_module source.now)) }
     {
-        let hints = self.hints.of(source);
-        if let Some(shown) = self.find(hints, source) {
+        if let Some(shown) = self.find(source) {
             return Ok(shown);
         }
         let code = Code::compile(self.alloc, source)?;
-        let Ok(shown) = self.codes.push_shown(rt, code) else {
+        let Ok(shown) = self.push(rt, code) else {
             return Err(CodeFault::Memory);
         };
-        note(hints, shown.index());
         Ok(shown)
     }
 

@@ -26,14 +26,14 @@ impl PlainCodes {
     }
 
     /// The code of a source that was put in, or nothing where there is none.
-    fn find(&self, source: &[u8]) -> Option<&Arc<Code>>
+    fn kept(&self, source: &[u8]) -> Option<&Arc<Code>>
         ensures { IfSome result (λ r. read_module source.now ≡ good (arc_value r.now)) }
     {
         self.codes.iter().find(|code| code.source() == source)
     }
 
     /// Puts a code in.
-    fn push(&mut self, code: Code) -> Result<Arc<Code>, AllocError>
+    fn keep(&mut self, code: Code) -> Result<Arc<Code>, AllocError>
         ensures { IfOk result (λ r. arc_value r ≡ code) }
     {
         let code = Arc::new(self.alloc, code)?;
@@ -53,15 +53,26 @@ impl CodeSource for PlainCodes {
 
     ghost meaning = { λ r. arc_value r };
 
+    fn find(&self, source: &[u8]) -> Option<Arc<Code>> {
+        let Some(kept) = self.kept(source) else {
+            return None;
+        };
+        match Arc::try_clone(kept) {
+            Ok(again) => Some(again),
+            Err(_) => None,
+        }
+    }
+
+    fn push(&mut self, code: Code) -> Result<Arc<Code>, AllocError> {
+        self.keep(code)
+    }
+
     fn find_or_push(&mut self, source: &[u8]) -> Result<Arc<Code>, CodeFault> {
-        if let Some(known) = self.find(source) {
-            let Ok(again) = Arc::try_clone(known) else {
-                return Err(CodeFault::Memory);
-            };
-            return Ok(again);
+        if let Some(found) = self.find(source) {
+            return Ok(found);
         }
         let code = Code::compile(self.alloc, source)?;
-        let Ok(kept) = self.push(code) else {
+        let Ok(kept) = self.keep(code) else {
             return Err(CodeFault::Memory);
         };
         Ok(kept)

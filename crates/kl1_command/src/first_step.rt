@@ -1,10 +1,10 @@
 // What becomes of the first goal that can step.
 
-ghost use Rattle.kl1_event.specs.Views.{reply_of};
+ghost use Rattle.kl1_event.specs.Views.{reduced_or};
 ghost use Rattle.kl1_command.specs.Performing.{IsFirstStep, IsStepUntouched, IsTold};
 
 use crate::host::Host;
-use kl1_event::{Event, Refusal, Reply};
+use kl1_event::Refusal;
 
 /// What became of the first goal that can step.
 pub(crate) enum FirstStep {
@@ -27,26 +27,18 @@ pub(crate) fn reduce_first<H: Host>(host: &mut H) -> FirstStep
     let Some((goal, clause)) = host.pick() else {
         return FirstStep::Quiet;
     };
-    match host.apply(&Event::Reduce { goal, clause }) {
-        Ok(reply) => step_by(&reply),
+    match host.reduce(goal, clause) {
+        Ok(refused) => step_by(refused),
         Err(_) => FirstStep::Memory,
     }
 }
 
-/// What became of a goal whose reduction has this reply.
-fn step_by(reply: &Reply) -> FirstStep
-    ensures { IsTold (reply_of reply.now) result }
+/// What became of a goal whose reduction is refused for this reason, or done where there is none.
+fn step_by(refused: Option<Refusal>) -> FirstStep
+    ensures { IsTold (reduced_or refused) result }
 {
-    match reply {
-        Reply::Refused(refusal) => FirstStep::Refused(*refusal),
-        Reply::Loaded(_name) => FirstStep::Done,
-        Reply::Opened(_shoen) => FirstStep::Done,
-        Reply::Sent => FirstStep::Done,
-        Reply::Reduced => FirstStep::Done,
-        Reply::Ran(_steps) => FirstStep::Done,
-        Reply::Shown(_text) => FirstStep::Done,
-        Reply::Status { .. } => FirstStep::Done,
-        Reply::Listed(_texts) => FirstStep::Done,
-        Reply::Quiet(_is_quiet) => FirstStep::Done,
+    match refused {
+        None => FirstStep::Done,
+        Some(refusal) => FirstStep::Refused(refusal),
     }
 }

@@ -10,7 +10,8 @@ use Rattle.kl1_store.specs.Held.{Held}
 use Rattle.kl1_goals.specs.declared.goal.Goal.{Goal}
 use Rattle.kl1_goals.specs.Lists.{is_monitor, is_monitor_of, is_goal_of, is_other, is_flagged}
 use Rattle.kl1_shoen.specs.declared.shoen.Shoen.{Shoen}
-use Rattle.kl1_shoen.specs.Shoens.{Tree, changed, path_in, has_reached_in}
+use Rattle.kl1_shoen.specs.Shoens.{Tree, changed, path_in, lives_in, is_living_child_of, has_reached_in}
+use Rattle.kl1_shoen.proofs.Paths.{path_zero}
 use Rattle.kl1_effects.specs.declared.draft.Draft.{Draft}
 use Rattle.kl1_effects.specs.Drafts.{without_monitors, goals_left, CanGoBack}
 use Rattle.kl1_effects.specs.Walks.{terminated, ends_in, ending_in, ended_in, reached_in, EndsOne, EndsLives}
@@ -76,6 +77,16 @@ others_have d n goals added e =
     ∙ ap (list_any (is_goal_of n)) (filter_append (is_other d.removed) goals added)
     ∙ any_append (is_goal_of n) (filter (is_other d.removed) goals) (filter (is_other d.removed) added)
 
+-- of two the second decides where it holds
+pub or_true : (b : Bool) → (b || true) ≡ true
+or_true true = refl
+or_true false = refl
+
+-- and the first where it doesn't
+pub or_false : (b : Bool) → (b || false) ≡ b
+or_false true = refl
+or_false false = refl
+
 -- ---- lives that end along a path
 
 ended_more : (ns : List ℕ) (n : ℕ) (ss : List (Shoen CellName)) → ended_in (ns ++ n ∷ []) ss ≡ changed n terminated (ended_in ns ss)
@@ -134,6 +145,32 @@ last_end goals old now n at ending path i = record {
   tree_is = i.tree;
 }
 
+-- where none ends the tree stays
+pub none_end : (goals : List (Goal CellName)) (t : Tree CellName) (n : ℕ) (ending : List ℕ) → ending ≡ [] → ending_in goals (path_in t.shoens n) t.shoens ≡ [] → EndsLives goals t t n ending
+none_end goals t n ending e is =
+    let P : List ℕ → Type 0 = λ ns. EndsLives goals t t n ns in
+    subst P (sym e) (record { ending_is = sym is; tree_is = refl })
+
+-- a shoen with a goal doesn't end
+kept_one : (goals : List (Goal CellName)) (n : ℕ) (ss : List (Shoen CellName)) → list_any (is_goal_of n) goals ≡ true → ending_in goals (n ∷ []) ss ≡ []
+kept_one goals n ss has = ap (λ b. if lives_in ss n && not b && not (list_any (is_living_child_of n) ss) then n ∷ [] else []) has ∙ by_case (lives_in ss n) (list_any (is_living_child_of n) ss)
+  where
+    by_case : (b c : Bool) → (if b && not true && not c then n ∷ [] else []) ≡ []
+    by_case true c = refl
+    by_case false c = refl
+
+alone_in : (n up : ℕ) (ss : List (Shoen CellName)) → path_in ss n ≡ n ∷ path_in ss up → up ≡ 0 → path_in ss n ≡ n ∷ []
+alone_in n up ss path e = path ∙ ap (λ (ps : List ℕ). n ∷ ps) (path_zero up ss e)
+
+-- of a path of one shoen, which has a goal among those that come, none ends
+pub kept_alone : (d : Draft) (n up : ℕ) (goals : List (Goal CellName)) (ss : List (Shoen CellName)) → path_in ss n ≡ n ∷ path_in ss up → up ≡ 0 → get_or d.aborted.items (n - 1) false ≡ false → list_any (is_goal_of n) (filter (is_other d.removed) d.added.items) ≡ true →
+    ending_in (goals_left (goals ++ d.added.items) d) (path_in ss n) ss ≡ []
+kept_alone d n up goals ss path e on has =
+    let left = goals_left (goals ++ d.added.items) d in
+    ap (λ (ps : List ℕ). ending_in left ps ss) (alone_in n up ss path e)
+    ∙ kept_one left n ss
+    (others_have d n goals d.added.items on ∙ ap (λ b. list_any (is_goal_of n) (filter (is_other d.removed) goals) || b) has ∙ or_true (list_any (is_goal_of n) (filter (is_other d.removed) goals)))
+
 -- such a tree can go back
 pub ends_back : (old now : Tree CellName) (ss : List (Shoen CellName)) → now ≡ record old { shoens = ss } → CanGoBack old now
 ends_back old now ss e = record { shoens = ap (λ (x : Tree CellName). x.kept) e; work = ap (λ (x : Tree CellName). x.kept_work) e }
@@ -160,3 +197,13 @@ next_reached ss work ending n at up before after path is i =
     by_case : (b : Bool) (ns : List ℕ) → (if b then at ∷ [] else []) ++ ns ≡ (if b then at ∷ ns else ns)
     by_case true ns = refl
     by_case false ns = refl
+
+not_false : (b : Bool) → not b ≡ true → b ≡ false
+not_false true e = absurd (cc)
+not_false false e = refl
+
+-- of a path of one shoen, which hasn't reached its allowance, none has
+pub unreached_alone : (ss : List (Shoen CellName)) (work ending : List ℕ) (n up : ℕ) (b : Bool) → path_in ss n ≡ n ∷ path_in ss up → up ≡ 0 → b ≡ has_reached_in ss work n → not b ≡ true → reached_in ss work ending (path_in ss n) ≡ []
+unreached_alone ss work ending n up b path e is far =
+    ap (λ (ps : List ℕ). reached_in ss work ending ps) (alone_in n up ss path e)
+    ∙ ap (λ c. if c && not (is_among n ending) then n ∷ [] else []) (sym is ∙ not_false b far)

@@ -1,17 +1,19 @@
 // Shoens that terminate, and those that have reached their allowance.
 
-ghost use Rattle.std.specs.Prelude.{◌≡◌, ◌≤◌, ◌+◌, length, ◌-◌, [], ◌∷◌, ◌++◌, not, ◌&&◌, false, if◌then◌else◌, List, ℕ, filter, get_or, OnOk};
+ghost use Rattle.std.specs.Prelude.{◌≡◌, ◌≤◌, ◌+◌, length, ◌-◌, [], ◌∷◌, ◌++◌, not, ◌&&◌, true, false, if◌then◌else◌, List, ℕ, filter, get_or, OnOk};
 ghost use Rattle.std.specs.List.{list_any};
 ghost use Rattle.kl1_model.specs.Ending.{settle, settle_charged};
 ghost use Rattle.kl1_model.specs.Module.{is_among};
+ghost use Rattle.kl1_text.specs.declared.cell_name.CellName.{CellName};
+ghost use Rattle.kl1_goals.specs.declared.goal.Goal.{Goal};
 ghost use Rattle.kl1_goals.specs.Lists.{is_goal_of, is_other};
 ghost use Rattle.kl1_store.specs.Sound.{Grown};
-ghost use Rattle.kl1_shoen.specs.Shoens.{path_in, has_reached_in};
+ghost use Rattle.kl1_shoen.specs.Shoens.{path_in, lives_in, has_reached_in};
 ghost use Rattle.kl1_modules.specs.Numbered.{Numbered};
 ghost use Rattle.kl1_effects.specs.Kept.{AreShoensIn};
 ghost use Rattle.kl1_effects.specs.Drafts.{goals_left, Drafts, DraftsAll, CanGoBack};
 ghost use Rattle.kl1_effects.specs.Endings.{finished, finished_each};
-ghost use Rattle.kl1_effects.specs.Walks.{ends_in, EndsOne, EndsLives, reached_in, HaveNoGoals};
+ghost use Rattle.kl1_effects.specs.Walks.{ends_in, ending_in, EndsOne, EndsLives, reached_in, HaveNoGoals};
 ghost use Rattle.kl1_effects.specs.Frames.{KeepsFrames, Stays, NoneReached};
 
 use crate::draft::Draft;
@@ -71,22 +73,24 @@ fn has_goal(goals: &GoalTable<CellName>, draft: &Draft, number: u64) -> bool
     if is_aborted(draft, number) {
         return false;
     }
-    if goals.has_goal_beside(number, draft.removed) {
+    if is_any_added(draft, number) {
         return true;
     }
-    is_any_added(draft, number)
+    goals.has_goal_beside(number, draft.removed)
 }
 
-/// Whether a shoen terminates, with a draft in place.
+/// Whether a shoen, which lives or doesn't, terminates, with a draft in place.
 fn ends_now(
     goals: &GoalTable<CellName>,
     shoens: &ShoenTree<CellName>,
     draft: &Draft,
     number: u64,
+    lives: bool,
 ) -> bool
+    requires { lives ≡ lives_in shoens.now.shoens number }
     ensures { result ≡ ends_in (goals_left (goals.now.goals ++ draft.now.added.items) draft.now) shoens.now.shoens number }
 {
-    if !shoens.lives(number) {
+    if !lives {
         return false;
     }
     if has_goal(goals, draft, number) {
@@ -95,23 +99,42 @@ fn ends_now(
     !shoens.has_living_child(number)
 }
 
-/// Ends the life of a shoen that terminates, with a draft in place, and puts its number down.
+/// Ends the life of a shoen, which lives or doesn't, where it terminates, with a draft in place, and puts its number down then.
 fn end_one(
     goals: &GoalTable<CellName>,
     shoens: &mut ShoenTree<CellName>,
     draft: &Draft,
     number: u64,
+    lives: bool,
     ending: &mut Vec<u64>,
 ) -> Result<(), AllocError>
+    requires { lives ≡ lives_in shoens.old.shoens number }
     ensures ok { OnOk result (EndsOne (goals_left (goals.now.goals ++ draft.now.added.items) draft.now) shoens.old shoens.new number ending.old.items ending.new.items) }
     ensures back { CanGoBack shoens.old shoens.new }
 {
-    if !ends_now(goals, shoens, draft, number) {
+    if !ends_now(goals, shoens, draft, number, lives) {
         return Ok(());
     }
     shoens.end(number, Life::Terminated)?;
     ending.push(number)?;
     Ok(())
+}
+
+/// Whether the path of a shoen is that shoen alone, and it has a goal among those that come: then none ends.
+fn goes_on(shoens: &ShoenTree<CellName>, draft: &Draft, number: u64) -> bool
+    ensures { (goals : List (Goal CellName)) → result ≡ true → ending_in (goals_left (goals ++ draft.now.added.items) draft.now) (path_in shoens.now.shoens number) shoens.now.shoens ≡ [] }
+{
+    if number == 0 {
+        return false;
+    }
+    let step = shoens.living_step(number);
+    if step.up != 0 {
+        return false;
+    }
+    if is_aborted(draft, number) {
+        return false;
+    }
+    is_any_added(draft, number)
 }
 
 /// Ends the lives of the shoens on the path of one that terminate, with a draft in place, and puts their numbers down, innermost
@@ -128,14 +151,30 @@ pub fn end_lives(
 {
     ending.clear();
     let mut at = number;
-    'path: loop {
-        let up = shoens.parent(at);
-        if at == 0 {
-            return Ok(());
-        }
-        end_one(goals, shoens, draft, at, ending)?;
-        at = up;
+    while at > 0 {
+        let step = shoens.living_step(at);
+        end_one(goals, shoens, draft, at, step.holds, ending)?;
+        at = step.up;
     }
+    Ok(())
+}
+
+/// Ends lives as `end_lives` does, with a first look whether any can end.
+fn end_charged(
+    goals: &GoalTable<CellName>,
+    shoens: &mut ShoenTree<CellName>,
+    draft: &Draft,
+    number: u64,
+    ending: &mut Vec<u64>,
+) -> Result<(), AllocError>
+    ensures ok { OnOk result (EndsLives (goals_left (goals.now.goals ++ draft.now.added.items) draft.now) shoens.old shoens.new number ending.new.items) }
+    ensures back { CanGoBack shoens.old shoens.new }
+{
+    if goes_on(shoens, draft, number) {
+        ending.clear();
+        return Ok(());
+    }
+    end_lives(goals, shoens, draft, number, ending)
 }
 
 /// Whether a number is among others.
@@ -150,16 +189,16 @@ fn is_among(numbers: &[u64], number: u64) -> bool
     false
 }
 
-/// Puts the number of a shoen down that was charged just what it may be and doesn't end.
+/// Puts the number of a shoen down, where it was charged just what it may be and doesn't end.
 fn put_reached(
-    shoens: &ShoenTree<CellName>,
     number: u64,
+    has_reached: bool,
     ending: &[u64],
     reached: &mut Vec<u64>,
 ) -> Result<(), AllocError>
-    ensures { OnOk result (reached.new.items ≡ reached.old.items ++ (if has_reached_in shoens.now.shoens shoens.now.work number && not (is_among number ending.now) then number ∷ [] else [])) }
+    ensures { OnOk result (reached.new.items ≡ reached.old.items ++ (if has_reached && not (is_among number ending.now) then number ∷ [] else [])) }
 {
-    if !shoens.has_reached(number) {
+    if !has_reached {
         return Ok(());
     }
     if is_among(ending, number) {
@@ -167,6 +206,20 @@ fn put_reached(
     }
     reached.push(number)?;
     Ok(())
+}
+
+/// Whether the path of a shoen is that shoen alone, and it was not charged just what it may be.
+fn is_unreached(shoens: &ShoenTree<CellName>, number: u64) -> bool
+    ensures { (ending : List ℕ) → result ≡ true → reached_in shoens.now.shoens shoens.now.work ending (path_in shoens.now.shoens number) ≡ [] }
+{
+    if number == 0 {
+        return false;
+    }
+    let step = shoens.reached_step(number);
+    if step.up != 0 {
+        return false;
+    }
+    !step.holds
 }
 
 /// Puts down the shoens on the path of one that were charged just what they may be, but for those that end, innermost first.
@@ -180,14 +233,28 @@ pub fn find_reached(
 {
     reached.clear();
     let mut at = number;
-    'path: loop {
-        let up = shoens.parent(at);
-        if at == 0 {
-            return Ok(());
-        }
-        put_reached(shoens, at, ending, reached)?;
-        at = up;
+    while at > 0 {
+        let step = shoens.reached_step(at);
+        put_reached(at, step.holds, ending, reached)?;
+        at = step.up;
     }
+    Ok(())
+}
+
+/// Puts shoens down as `find_reached` does, with a first look whether there are any.
+fn find_charged(
+    shoens: &ShoenTree<CellName>,
+    number: u64,
+    ending: &[u64],
+    reached: &mut Vec<u64>,
+) -> Result<(), AllocError>
+    ensures { OnOk result (reached.new.items ≡ reached_in shoens.now.shoens shoens.now.work ending.now (path_in shoens.now.shoens number)) }
+{
+    if is_unreached(shoens, number) {
+        reached.clear();
+        return Ok(());
+    }
+    find_reached(shoens, number, ending, reached)
 }
 
 /// Does what is left of a termination where the shoen's life has ended: its monitor goes, it reports that, and its stream is closed.
@@ -239,6 +306,32 @@ fn finish_each(
         finish(store, shoens, draft, *number)?;
     }
     Ok(())
+}
+
+/// The same as `finish_each`, with a first look whether there are any.
+fn finish_found(
+    store: &mut Store<CellName>,
+    shoens: &mut ShoenTree<CellName>,
+    draft: &mut Draft,
+    numbers: &[u64],
+) -> Result<(), AllocError>
+    requires shoens { AreShoensIn store.old.held shoens.old.shoens }
+    ensures ok { OnOk result (DraftsAll (λ f. finished_each numbers.now) store.old.held store.new.held shoens.old shoens.new draft.old draft.new) }
+    ensures shoens { OnOk result (AreShoensIn store.new.held shoens.new.shoens) }
+    ensures back { CanGoBack shoens.old shoens.new }
+    ensures stays { OnOk result (Stays shoens.old shoens.new) }
+    ensures count { OnOk result (length shoens.new.shoens ≡ length shoens.old.shoens) }
+    ensures ended { OnOk result (length draft.old.ended.items + length numbers.now ≤ length draft.new.ended.items) }
+    ensures told { OnOk result (draft.new.ended.items ≡ draft.old.ended.items ++ numbers.now) }
+    ensures rest { draft.new ≡ record draft.old { reports = draft.new.reports; ended = draft.new.ended } }
+    ensures grown { Grown store.old.held store.new.held }
+    ensures hooks { store.new.hooks ≡ store.old.hooks }
+{
+    let _formed = store.mark();
+    if numbers.is_empty() {
+        return Ok(());
+    }
+    finish_each(store, shoens, draft, numbers)
 }
 
 /// Terminations on the path of a shoen, innermost first. Where memory is refused, the store may have grown.
@@ -294,10 +387,10 @@ pub fn settle_charged(
     ensures hooks { store.new.hooks ≡ store.old.hooks }
 {
     let _formed = store.mark();
-    end_lives(goals, shoens, draft, number, &mut walk.ending)?;
+    end_charged(goals, shoens, draft, number, &mut walk.ending)?;
     let ending = walk.ending.as_slice();
-    find_reached(shoens, number, ending, &mut walk.reached)?;
+    find_charged(shoens, number, ending, &mut walk.reached)?;
     let reached = walk.reached.as_slice();
     report_each(store, shoens, draft, reached, BuiltIn::Exhausted)?;
-    finish_each(store, shoens, draft, ending)
+    finish_found(store, shoens, draft, ending)
 }

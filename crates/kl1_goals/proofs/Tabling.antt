@@ -1,16 +1,16 @@
 -- A whole table.
-use Rattle.std.proofs.Common.{◌≡◌, ℕ, zero, suc, ◌<◌, ◌≤◌, ◌==◌, Bool, true, false, cond, List, [], ◌∷◌, ◌++◌, Option, Some, None, IfSome, length, map, refl, sym, ◌∙◌, ap, arith}
-use Rattle.std.specs.List.{filter, find}
-use Rattle.std.proofs.lemmas.Bool.{ltb-true}
+use Rattle.std.proofs.Common.{◌≡◌, ℕ, zero, suc, ◌<◌, ◌≤◌, ◌==◌, Bool, not, true, false, cond, nat_lt, List, [], ◌∷◌, ◌++◌, Option, Some, None, IfSome, length, map, refl, sym, ◌∙◌, ap, arith, inl, inr}
+use Rattle.std.specs.List.{filter, find, list_any}
+use Rattle.std.proofs.lemmas.Bool.{ltb-true, lt-ltb, le-ltb, cases_lt}
 use Rattle.kl1_model.specs.Limits.{monitor_priority}
 use Rattle.kl1_goals.specs.declared.goal.Goal.{Goal}
 use Rattle.kl1_goals.specs.declared.slot.Slot.{Slot}
 use Rattle.kl1_goals.specs.declared.tally.Tally.{Tally}
-use Rattle.kl1_goals.specs.Lists.{has_number, is_other, is_after, is_goal_of, stood_by}
-use Rattle.kl1_goals.specs.Tables.{IsKnown}
+use Rattle.kl1_goals.specs.Lists.{has_number, is_other, is_after, is_goal_of, number_of, stood_by}
+use Rattle.kl1_goals.specs.Tables.{Ascend, IsKnown}
 use Rattle.kl1_goals.specs.Slots.{goals_in, level_in, AreLow}
 use Rattle.kl1_goals.specs.Tallies.{nothing, tally_at, IsTally, IsTable}
-use Rattle.kl1_goals.proofs.Shoens.{opened_tally, shoen_known}
+use Rattle.kl1_goals.proofs.Shoens.{opened_tally, shoen_known, any_counted, any_beside}
 
 nothing_at : (n : ℕ) → tally_at [] n ≡ nothing
 nothing_at zero = refl
@@ -88,3 +88,28 @@ missing_stood n clause (g ∷ gs) e = let m = missing_head (g.number == n) g (fi
 -- how many goals a shoen has, by what is kept of it
 pub goals_counted : {N : Type 0} (n : ℕ) (ss : List (Slot N)) (empty : ℕ) (ranks : List ℕ) (ts : List Tally) (alive : ℕ) (t : Tally) (gs : List (Goal N)) → IsTable ss empty ranks ts alive → t ≡ tally_at ts n → goals_in ss ≡ gs → t.goals ≡ length (filter (is_goal_of n) gs)
 goals_counted n ss empty ranks ts alive t gs h e s = ap (λ (u : Tally). u.goals) e ∙ (h.tallied n).goals ∙ ap (λ l. length (filter (is_goal_of n) l)) s
+
+-- where not just one goal passes, it doesn't matter whether one that is left out does
+most_left : (b : Bool) (count : ℕ) → (count ≡ 1 → ⊥) → nat_lt 1 count ≡ nat_lt (cond b 1 0) count
+most_left true count w = refl
+most_left false count w = elim (cases_lt 1 count) [ inl a ↦ lt-ltb 1 count a ∙ sym (lt-ltb 0 count (omega (arith, a))) | inr a ↦ le-ltb 1 count a ∙ sym (le-ltb 0 count (omega (arith, a, w))) ]
+
+most_beside : {N : Type 0} (p : Goal N → Bool) (n count : ℕ) (gs : List (Goal N)) (o : Option (Goal N)) → Ascend 0 (map number_of gs) → find (has_number n) gs ≡ o → count ≡ length (filter p gs) → (count ≡ 1 → ⊥) →
+    nat_lt 1 count ≡ list_any p (filter (is_other n) gs)
+most_beside p n count gs None a f e w = most_left false count w ∙ ap (nat_lt 0) e ∙ sym (any_counted p gs) ∙ ap (list_any p) (sym (missing_others n gs f))
+most_beside p n count gs (Some g) a f e w = most_left (p g) count w ∙ any_beside p (p g) n count gs g a f e refl
+
+pub any_many : {N : Type 0} (p : Goal N → Bool) (n count : ℕ) (gs : List (Goal N)) → Ascend 0 (map number_of gs) → count ≡ length (filter p gs) → (count ≡ 1 → ⊥) → nat_lt 1 count ≡ list_any p (filter (is_other n) gs)
+any_many p n count gs a e w = most_beside p n count gs (find (has_number n) gs) a refl e w
+
+-- where just one goal passes, another is left unless it is that one
+one_fallen : (b : Bool) → not b ≡ nat_lt (cond b 1 0) 1
+one_fallen true = refl
+one_fallen false = refl
+
+pub any_missing : {N : Type 0} (p : Goal N → Bool) (n count : ℕ) (gs : List (Goal N)) → find (has_number n) gs ≡ None → count ≡ length (filter p gs) → count ≡ 1 → true ≡ list_any p (filter (is_other n) gs)
+any_missing p n count gs f e one = ap (nat_lt 0) (sym one ∙ e) ∙ sym (any_counted p gs) ∙ ap (list_any p) (sym (missing_others n gs f))
+
+pub any_one : {N : Type 0} (p : Goal N → Bool) (n count : ℕ) (gs : List (Goal N)) (g : Goal N) → Ascend 0 (map number_of gs) → find (has_number n) gs ≡ Some g → count ≡ length (filter p gs) → count ≡ 1 →
+    not (p g) ≡ list_any p (filter (is_other n) gs)
+any_one p n count gs g a f e one = one_fallen (p g) ∙ any_beside p (p g) n 1 gs g a f (sym one ∙ e) refl

@@ -279,15 +279,12 @@ impl<N: NameValue> GoalTable<N> {
         ensures { result ≡ list_any (is_goal_of shoen) (filter (is_other number) self.now.goals) }
     {
         let count = tally_of(&self.tallies, shoen).goals;
-        match self.get(number) {
-            None => count > 0,
-            Some(goal) => {
-                if goal.is_goal_of(shoen) {
-                    count > 1
-                } else {
-                    count > 0
-                }
-            }
+        if count != 1 {
+            return count > 1;
+        }
+        match held_place(&self.slots, number) {
+            None => true,
+            Some(place) => !self.slots[place].goal.is_goal_of(shoen),
         }
     }
 }

@@ -17,6 +17,7 @@ pub mod Whole
 pub mod Trying
 pub mod Beside
 pub mod Coming
+pub mod Rising
 pub mod Among
 pub mod TestRows
 pub mod TermPairs

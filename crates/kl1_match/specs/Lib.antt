@@ -8,6 +8,7 @@ pub mod Waiting
 pub mod Spans
 pub mod Matching
 pub mod Outcomes
+pub mod Rising
 pub mod Verdicts
 pub mod Choices
 pub mod Stays

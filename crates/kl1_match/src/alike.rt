@@ -1,8 +1,9 @@
 // The terms at the places of each variable of a head, two at a time.
 
-ghost use Rattle.std.specs.Prelude.{IfOk};
+ghost use Rattle.std.specs.Prelude.{IfOk, IsTrue};
 ghost use Rattle.kl1_store.specs.Held.{IsIn};
 ghost use Rattle.kl1_match.specs.Instances.{AreThere};
+ghost use Rattle.kl1_match.specs.Rising.{AreRising};
 ghost use Rattle.kl1_match.specs.Outcomes.{TwoCome, OneComes, EachComes};
 
 use crate::place::Place;
@@ -53,6 +54,23 @@ fn compare_one<N: NameValue>(
     Ok(true)
 }
 
+/// Whether the variables of places stand in order of their numbers, so that each stands once.
+#[inline]
+fn are_rising<N: NameValue>(places: &[Place<N>]) -> bool
+    ensures { IsTrue result → AreRising 0 places.now }
+{
+    let mut last: u64 = 0;
+    let mut rest = places;
+    while let [first, more @ ..] = rest {
+        if first.variable <= last {
+            return false;
+        }
+        last = first.variable;
+        rest = more;
+    }
+    true
+}
+
 /// The same of each two places.
 pub(crate) fn compare_each<N: NameValue>(
     store: &Store<N>,
@@ -63,6 +81,9 @@ pub(crate) fn compare_each<N: NameValue>(
     requires { AreThere store.now.held places.now }
     ensures { IfOk result (EachComes N.built store.now.held places.now awaited.old.items awaited.new.items) }
 {
+    if are_rising(places) {
+        return Ok(true);
+    }
     let mut rest = places;
     while let [first, more @ ..] = rest {
         let first = *first;

@@ -2,7 +2,10 @@
 
 ghost use Rattle.std.specs.Prelude.{◌≡◌, ◌<◌, ◌≤◌, ◌+◌, ℕ, List, length, IsTrue, vec_len, vec_capacity};
 ghost use Rattle.kl1_store.specs.Held.{IsIn, IsWalked};
+ghost use Rattle.kl1_clause.specs.declared.instruction.Instruction.TheVariants.{Variable};
 ghost use Rattle.kl1_clause.specs.Instructions.{IsNamed};
+ghost use Rattle.kl1_match.specs.declared.met.Met.TheVariants.{Agrees};
+ghost use Rattle.kl1_match.specs.declared.span.Span.{Span};
 ghost use Rattle.kl1_match.specs.Spans.{cells_left, IsSpan, AreSpans};
 ghost use Rattle.kl1_match.specs.Matching.{WaitsAt, MetUnbound, IntegerMeets, AtomMeets, StructureMeets, MeetsFirst};
 
@@ -98,6 +101,29 @@ fn meet_structure<N: NameValue>(
     }
 }
 
+/// Takes the next cell of a span as the place of a variable, and keeps it where places are kept; there is room for it then.
+#[inline(always)]
+pub(crate) fn take_place<N: NameValue, const KEEP: bool>(
+    store: &Store<N>,
+    variable: u64,
+    span: &mut Span,
+    places: &mut Vec<Place<N>>,
+)
+    requires span { IsSpan store.now.held span.old }
+    requires some { span.old.next < span.old.end }
+    requires room { IsTrue KEEP → vec_len places.old < vec_capacity places.old }
+    ensures takes { (names : List N) (behind : List Span) → MeetsFirst N.built store.now.held names (Variable variable) KEEP (cells_left store.now.held span.old behind) (cells_left store.now.held span.new behind) places.old.items places.new.items Agrees }
+    ensures span { IsSpan store.now.held span.new }
+    ensures capacity { vec_capacity places.new ≡ vec_capacity places.old }
+    ensures len { vec_len places.new ≤ vec_len places.old + 1 }
+{
+    let cell = take_cell(store, span);
+    if KEEP {
+        places.push_reserved(Place { variable, cell });
+        return;
+    }
+}
+
 /// What comes of a pattern that begins with an instruction beside the next cell of `span`, which is taken. Where they may agree,
 /// a structure's arguments are to be matched next, before what was left, and a variable of the pattern takes the cell as its
 /// place. There is room behind, and where places are kept in these.
@@ -127,11 +153,7 @@ pub(crate) fn meet<N: NameValue, const KEEP: bool>(
 {
     match instruction {
         Instruction::Variable(variable) => {
-            let cell = take_cell(store, span);
-            if KEEP {
-                places.push_reserved(Place { variable, cell });
-                return Met::Agrees;
-            }
+            take_place::<_, KEEP>(store, variable, span, places);
             Met::Agrees
         }
         Instruction::Integer(integer) => {

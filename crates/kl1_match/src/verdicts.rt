@@ -11,7 +11,7 @@ ghost use Rattle.kl1_match.specs.Verdicts.{IsVerdict, IsTried};
 
 use crate::alike::compare_each;
 use crate::arguments::{is_left, span_of};
-use crate::meets::meet;
+use crate::meets::{meet, take_place};
 use crate::met::Met;
 use crate::place::Place;
 use crate::scratch::Scratch;
@@ -208,6 +208,11 @@ fn find_match<N: NameValue, const KEEP: bool>(
     while at < row.len() {
         if !is_left(store, &mut span, behind) {
             return Ok(Verdict::Rejects);
+        }
+        if let Instruction::Variable(variable) = row[at] {
+            take_place::<_, KEEP>(store, variable, &mut span, places);
+            at += 1;
+            continue;
         }
         match meet::<_, KEEP>(store, names, row[at], &mut span, behind, places) {
             Met::Agrees => at += 1,

@@ -1,6 +1,6 @@
 // The spans of a module's predicates, by name and number of arguments.
 
-ghost use Rattle.std.specs.Prelude.{◌≡◌, ℕ, List, ◌+◌, ◌^◌, ◌<◌, ◌≤◌, [], length, map, IfOk, IfErr, slice_index_or, vec_len, vec_capacity};
+ghost use Rattle.std.specs.Prelude.{◌≡◌, ℕ, List, ◌+◌, ◌^◌, ◌<◌, ◌≤◌, [], length, map, IfOk, IfErr, IsTrue, slice_index_or, vec_len, vec_capacity};
 ghost use Rattle.kl1_text.specs.Reading.{Reads};
 ghost use Rattle.kl1_text.specs.declared.cell_name.CellName.{CellName};
 ghost use Rattle.kl1_clause.specs.Instructions.{IsPlaced, text_in};
@@ -10,6 +10,10 @@ ghost use Rattle.kl1_modules.specs.Indexes.{key_by, span_at, end_by, IsKeyOf, Is
 use crate::span::Span;
 use kl1_clause::{Code, CompiledClause, Name};
 use kl1_text::{CellName, NameValue};
+
+/// How many keys are compared one by one, before the others are searched by halves: to compare a key with each of so many costs
+/// less than to search among them.
+const FEW: usize = 8;
 
 /// What a predicate is found by: the number of its name and its number of arguments.
 pub(crate) type Key = (u64, usize);
@@ -53,7 +57,7 @@ fn search(index: &[(Key, Span)], key: Key) -> Result<usize, usize>
 }
 
 /// The span of a key, or nothing where it has none.
-pub(crate) fn span_of(index: &[(Key, Span)], key: Key) -> Option<Span>
+fn span_of(index: &[(Key, Span)], key: Key) -> Option<Span>
     requires { IsInOrder index.now }
     ensures { result ≡ span_at index.now key }
 {
@@ -61,6 +65,28 @@ pub(crate) fn span_of(index: &[(Key, Span)], key: Key) -> Option<Span>
         Err(_) => None,
         Ok(place) => Some(index[place].1),
     }
+}
+
+/// Whether a key stands at a place.
+fn is_at(index: &[(Key, Span)], key: Key, place: usize) -> bool
+    requires { place < length index.now }
+    ensures { IsTrue result → IsAt index.now key place }
+{
+    let other = index[place].0;
+    other.0 == key.0 && other.1 == key.1
+}
+
+/// The same as `span_of`. The first few keys are compared one by one.
+pub(crate) fn span_near(index: &[(Key, Span)], key: Key) -> Option<Span>
+    requires { IsInOrder index.now }
+    ensures { result ≡ span_at index.now key }
+{
+    for place in 0..FEW.min(index.len()) {
+        if is_at(index, key, place) {
+            return Some(index[place].1);
+        }
+    }
+    span_of(index, key)
 }
 
 /// Puts a span under a key. A span that stands there already gives way to it.

@@ -10,5 +10,5 @@ mod span;
 
 pub use coded_module::CodedModule;
 pub use coded_modules::CodedModules;
-pub use loaded::Loaded;
+pub use loaded::{Loaded, number_by};
 pub use modules::Modules;

@@ -6,7 +6,7 @@ ghost use Rattle.kl1_modules.specs.Numbered.{own_names, number_by, number_of};
 ghost use Rattle.kl1_clause.specs.Predicates.{AreSome};
 ghost use Rattle.kl1_modules.specs.Finding.{FindsIn};
 
-use crate::indexing::{Index, key_by, put_spans, span_of};
+use crate::indexing::{Index, key_by, put_spans, span_near};
 use crate::span::part;
 use kl1_clause::{Code, Predicate};
 use kl1_codes::CodeSource;
@@ -41,7 +41,7 @@ impl<C: CodeSource> Model for Loaded<C> {
 }
 
 /// The number of a module's own name, where these are the numbers of its names.
-fn number_by(code: &Code, row: &[CellName]) -> CellName
+pub fn number_by(code: &Code, row: &[CellName]) -> CellName
     ensures { result ≡ number_by row.now (built_in_of code.now.name) }
 {
     match code.module_name().built_in() {
@@ -127,7 +127,7 @@ impl<C: CodeSource> Loaded<C> {
     {
         // The clauses of a predicate stand together in a module that is the meaning of its source.
         let _ = code.source();
-        match span_of(&self.index, key_by(name, count)) {
+        match span_near(&self.index, key_by(name, count)) {
             None => None,
             Some(span) => Some(Predicate {
                 names: &self.row,

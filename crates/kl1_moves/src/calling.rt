@@ -6,6 +6,7 @@ ghost use Rattle.kl1_store.specs.Meaning.{term_of};
 ghost use Rattle.kl1_moves.specs.Calls.{CalledIn, CalledAs, CalledInside};
 
 use crate::call::Call;
+use crate::walking::walk;
 use kl1_store::{Cell, Store};
 use kl1_text::NameValue;
 
@@ -25,7 +26,7 @@ pub(crate) fn called_in<N: NameValue>(store: &Store<N>, module_name: N, goal: Ce
     ensures called { (f : N → List ℕ) → CalledIn f store.now.held module_name goal result }
 {
     let _ = store.mark();
-    match store.walk(goal) {
+    match walk(store, goal) {
         Cell::Variable(variable) => Callee::Waits(variable),
         Cell::Integer(_) => Callee::Nothing,
         Cell::Atom(name) => Callee::Calls(Call {

@@ -35,8 +35,39 @@ pub enum Kind<N> {
 }
 
 /// What kind of goal a cell is. The variable of one that waits is unbound.
-#[inline(always)]
 pub fn kind_of<N: NameValue>(store: &Store<N>, goal: Cell<N>) -> Kind<N>
+    requires { IsIn store.now.held goal }
+    ensures inside { KindIn store.now.held result }
+    ensures kind { (f : N → List ℕ) → Reads N.built f → IsKind f store.now.held (term_of f store.now.held goal) result }
+{
+    kind_of_qualified(
+        store,
+        Qualified {
+            module_name: None,
+            cell: goal,
+        },
+    )
+}
+
+/// What kind of goal is to be reduced. Of one in the module of a name nothing but that goal is looked at.
+#[inline(always)]
+pub fn kind_of_qualified<N: NameValue>(store: &Store<N>, goal: Qualified<N>) -> Kind<N>
+    requires { IsIn store.now.held goal.cell }
+    ensures inside { KindIn store.now.held result }
+    ensures kind { (f : N → List ℕ) → Reads N.built f → IsKind f store.now.held (qualified_term f store.now.held goal) result }
+{
+    match goal.module_name {
+        None => return kind_of_whole(store, goal.cell),
+        Some(name) => {
+            let _ = store.mark();
+            return kind_of_callee(called_in(store, name, goal.cell));
+        }
+    }
+}
+
+/// What kind of goal a cell is that is in no module of a name.
+#[inline(always)]
+fn kind_of_whole<N: NameValue>(store: &Store<N>, goal: Cell<N>) -> Kind<N>
     requires { IsIn store.now.held goal }
     ensures inside { KindIn store.now.held result }
     ensures kind { (f : N → List ℕ) → Reads N.built f → IsKind f store.now.held (term_of f store.now.held goal) result }
@@ -51,22 +82,6 @@ pub fn kind_of<N: NameValue>(store: &Store<N>, goal: Cell<N>) -> Kind<N>
             Kind::Nothing
         }
         Shape::Two(name, left, right) => kind_of_two(store, name, left, right),
-    }
-}
-
-/// What kind of goal is to be reduced. Of one in the module of a name nothing but that goal is looked at.
-#[inline(always)]
-pub fn kind_of_qualified<N: NameValue>(store: &Store<N>, goal: Qualified<N>) -> Kind<N>
-    requires { IsIn store.now.held goal.cell }
-    ensures inside { KindIn store.now.held result }
-    ensures kind { (f : N → List ℕ) → Reads N.built f → IsKind f store.now.held (qualified_term f store.now.held goal) result }
-{
-    match goal.module_name {
-        None => kind_of(store, goal.cell),
-        Some(name) => {
-            let _ = store.mark();
-            kind_of_callee(called_in(store, name, goal.cell))
-        }
     }
 }
 

@@ -20,6 +20,7 @@ mod spelling;
 mod standing;
 mod top;
 mod trial;
+mod walking;
 
 pub use call::Call;
 pub use committing::commit;

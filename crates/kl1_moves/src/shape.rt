@@ -5,6 +5,7 @@ ghost use Rattle.kl1_store.specs.Held.{IsIn};
 ghost use Rattle.kl1_store.specs.Meaning.{term_of};
 ghost use Rattle.kl1_moves.specs.Shapes.{HasShape, ShapeIn};
 
+use crate::walking::walk;
 use kl1_store::{Cell, Store};
 use kl1_text::NameValue;
 
@@ -25,7 +26,7 @@ pub(crate) fn shape_of<N: NameValue>(store: &Store<N>, goal: Cell<N>) -> Shape<N
     ensures shape { (f : N → List ℕ) → HasShape f store.now.held (term_of f store.now.held goal) result }
 {
     let _ = store.mark();
-    match store.walk(goal) {
+    match walk(store, goal) {
         Cell::Variable(variable) => Shape::Variable(variable),
         Cell::Integer(_) => Shape::Other,
         Cell::Atom(name) => Shape::Atom(name),

@@ -5,6 +5,7 @@ use Rattle.std.proofs.Math.Seq.{take-set-lt}
 use Rattle.std.proofs.lemmas.Bool.{cases_lt, cases_eq}
 use Rattle.kl1_queue.specs.Ranks.{AreNone, IsFirst}
 use Rattle.kl1_queue.specs.Trees.{IsTree, Leads, IsKept}
+use Rattle.kl1_queue.proofs.Climbing.{leaf_same}
 use Rattle.kl1_queue.proofs.Descending.{below_top}
 
 pub length_ranks : (half depth len : ℕ) (bs : List ℕ) → IsKept half depth len bs → length (take len (drop half bs)) ≡ len
@@ -60,6 +61,13 @@ kept_extended half depth len rank bs cs q w t e = record {
 
 pub ranks_extended : (half depth len rank : ℕ) (bs cs : List ℕ) → IsKept half depth len bs → len < half → drop half cs ≡ set (drop half bs) len rank → take (len + 1) (drop half cs) ≡ take len (drop half bs) ++ rank ∷ []
 ranks_extended half depth len rank bs cs q w e = ap (take (len + 1)) e ∙ take_more_set (drop half bs) len rank (omega (arith, length-drop half bs, q.tree.size))
+
+-- one place more that isn't ready
+pub kept_unready : (half depth len : ℕ) (bs : List ℕ) → IsKept half depth len bs → len < half → IsKept half depth (len + 1) bs
+kept_unready half depth len bs q w = kept_extended half depth len 0 bs bs q w q.tree (leaf_same half len 0 bs (q.rest len (omega arith)))
+
+pub ranks_unready : (half depth len : ℕ) (bs : List ℕ) → IsKept half depth len bs → len < half → take (len + 1) (drop half bs) ≡ take len (drop half bs) ++ 0 ∷ []
+ranks_unready half depth len bs q w = ranks_extended half depth len 0 bs bs q w (leaf_same half len 0 bs (q.rest len (omega arith)))
 
 -- a place's rank changed
 pub kept_set : (half depth len place rank : ℕ) (bs cs : List ℕ) → IsKept half depth len bs → place < len → IsTree half cs → drop half cs ≡ set (drop half bs) place rank → IsKept half depth len cs

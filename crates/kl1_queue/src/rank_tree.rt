@@ -123,6 +123,15 @@ impl RankTree {
         self.len += 1;
     }
 
+    /// One more place, which isn't ready.
+    pub(crate) fn extend_unready(&mut self)
+        requires { 0 < self.old.room }
+        ensures ranks { self.new.ranks ≡ self.old.ranks ++ 0 ∷ [] }
+        ensures room { self.new.room + 1 ≡ self.old.room }
+    {
+        self.len += 1;
+    }
+
     /// Gives a place this rank.
     pub(crate) fn set_rank(&mut self, place: usize, rank: u16)
         requires { place < length self.old.ranks }

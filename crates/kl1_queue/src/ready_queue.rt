@@ -89,7 +89,7 @@ impl ReadyQueue {
         ensures room { self.new.room + 1 ≡ self.old.room }
     {
         let place = self.tree.len();
-        self.tree.extend_rank(0);
+        self.tree.extend_unready();
         match priority {
             None => {}
             Some(priority) => self.hold(place, priority + 1),

@@ -10,10 +10,20 @@ pub(crate) fn set_leaf(best: &mut Vec<u16>, half: usize, place: usize, rank: u16
     ensures tree { IsTree half best.new.items }
     ensures leaves { drop half best.new.items ≡ set (drop half best.old.items) place rank }
 {
-    let mut node = half + place;
-    if best[node] == rank {
+    if best[half + place] == rank {
         return;
     }
+    climb(best, half, place, rank);
+}
+
+/// Writes a rank at a leaf and walks up from it as far as something changes.
+fn climb(best: &mut Vec<u16>, half: usize, place: usize, rank: u16)
+    requires tree { IsTree half best.old.items }
+    requires place { place < half }
+    ensures tree { IsTree half best.new.items }
+    ensures leaves { drop half best.new.items ≡ set (drop half best.old.items) place rank }
+{
+    let mut node = half + place;
     best[node] = rank;
     while node > 1 {
         let parent = node / 2;

@@ -1,9 +1,10 @@
-//! Rows on names, terms, texts and compiled clauses.
+//! Rows on names, terms, texts and compiled clauses, and on what clauses make of goals.
 #![tactic(auto)]
 
 mod answer;
 mod codes;
 mod kind;
+mod matching;
 mod names;
 mod nodes;
 mod numbers;
@@ -13,4 +14,5 @@ mod texts;
 mod tops;
 
 pub use kind::Kind;
+pub use matching::{Kind as MatchKind, is_right as is_match_right};
 pub use rows::is_right;

@@ -1,18 +1,10 @@
 //! The program that tries modules from files: it loads them, runs a goal, and tells what came of it.
 #![tactic(auto)]
 
-mod alone;
-mod asked;
-mod fault;
-mod files;
-mod progress;
-mod tasks;
-mod told;
+mod words;
 
-use crate::asked::asked_in;
-use crate::fault::Fault;
-use crate::tasks::do_task;
-use std::env;
+use crate::words::{asked_in, tell};
+use kl1_tasks::{Fault, do_task, words_in};
 use std::process::ExitCode;
 
 fn main(rt: HostRuntime) -> ExitCode {
@@ -24,8 +16,9 @@ fn main(rt: HostRuntime) -> ExitCode {
 
 /// Does what the words ask for, and answers the program's status.
 fn status_of(rt: &HostRuntime) -> Result<u8, Fault> {
-    let alloc = rt.alloc();
-    let words: Vec<String> = env::args(rt)?.collect(alloc)?;
-    let asked = asked_in(alloc, words.as_slice())?;
-    do_task(rt, &asked)
+    let words = words_in(rt)?;
+    match asked_in(rt.alloc(), words.as_slice()) {
+        Ok(asked) => do_task(rt, &asked),
+        Err(error) => Ok(tell(rt, &error)),
+    }
 }

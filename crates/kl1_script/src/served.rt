@@ -10,7 +10,7 @@ ghost use Rattle.kl1_effects.specs.Account.{state_of};
 use kl1_atoms::AtomSource;
 use kl1_codes::CodeSource;
 use kl1_command::Host;
-use kl1_event::{ClauseNo, Event, GoalNo, Reply, ShoenNo};
+use kl1_event::{ClauseNo, Event, GoalNo, Refusal, Reply, ShoenNo};
 use kl1_user::{AccountName, UserState};
 use std::alloc::{AllocError, Global};
 use std::marker::Model;
@@ -90,6 +90,16 @@ impl<A: AtomSource + Drop, C: CodeSource + Drop> Host for Served<A, C> {
             &mut self.seat,
             &mut self.code_source,
             event,
+        )
+    }
+
+    fn reduce(&mut self, goal: GoalNo, clause: ClauseNo) -> Result<Option<Refusal>, AllocError> {
+        self.user.reduce(
+            &mut self.names,
+            &mut self.seat,
+            &self.code_source,
+            goal,
+            clause,
         )
     }
 

@@ -1,10 +1,14 @@
-// Checks of the table of names, also with two threads.
+// Checks of the table of names, also with several threads, and how fast names that are known are found in it.
 
 mod agreement;
 mod checks;
+mod look_ups;
 mod names;
 mod seats;
 mod sources;
+mod tells;
+mod times;
 
 pub use checks::put_atom_checks;
 pub use seats::next_seat;
+pub use tells::put_times as put_atom_times;

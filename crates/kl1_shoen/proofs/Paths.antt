@@ -1,6 +1,7 @@
 -- Paths of shoens in order of number.
 use Rattle.std.proofs.Common.{◌≡◌, ℕ, zero, suc, ◌-◌, ◌<◌, ◌≤◌, false, ◌||◌, List, [], ◌∷◌, ◌++◌, length, refl, sym, ap, ap₂, ◌∙◌, arith}
-use Rattle.std.specs.Prelude.{Option, find, get_or, slice_get, option_map, unwrap_or}
+use Rattle.std.specs.Prelude.{Option, Some, None, IfSome, find, get_or, slice_get, option_copied, option_map, unwrap_or}
+use Rattle.std.specs.Borrow.{Bor}
 use Rattle.std.proofs.lemmas.Bool.{ne_eqb}
 use Rattle.std.proofs.lemmas.List.{get_or_append_left}
 use Rattle.kl1_model.specs.Module.{is_among}
@@ -57,6 +58,26 @@ pub path_parent : {N : Type 0} (n p : ℕ) (ss : List (Shoen N)) → AreNumbered
 path_parent n p ss a lower e lt =
     let is : n ≡ suc (n - 1) = omega (arith, lt) in
     ap (path_in ss) is ∙ go_on (parents_in ss) lower (n - 1) ∙ ap₂ (λ (m q : ℕ). m ∷ path_in ss q) (sym is) (sym (parent_at n p ss a e lt))
+
+-- the parent that is found, 0 where there is no shoen
+abbrev parent_found : {N : Type 0} → Option (Shoen N) → ℕ
+parent_found {N = N} o = unwrap_or (option_map (λ (h : Shoen N). h.parent) o) 0
+
+-- of a shoen that is lent the parent has a lesser number
+pub lent_below : {N : Type 0} (n : ℕ) (ss : List (Shoen N)) (o : Option (Bor (Shoen N))) → AreNumbered 0 ss → AreLower ss → option_copied o ≡ find (has_number n) ss → 0 < n → IfSome o (λ s. s.now.parent < n)
+lent_below n ss None a lower e lt = tt
+lent_below n ss (Some s) a lower e lt = parent_below n s.now.parent ss a lower (ap (λ o. parent_found o) e) lt
+
+-- and the path goes on with the parent's
+pub lent_path : {N : Type 0} (n : ℕ) (ss : List (Shoen N)) (o : Option (Bor (Shoen N))) → AreNumbered 0 ss → AreLower ss → option_copied o ≡ find (has_number n) ss → 0 < n → IfSome o (λ s. path_in ss n ≡ n ∷ path_in ss s.now.parent)
+lent_path n ss None a lower e lt = tt
+lent_path n ss (Some s) a lower e lt = path_parent n s.now.parent ss a lower (ap (λ o. parent_found o) e) lt
+
+-- where no shoen is lent the path ends
+pub lent_end : {N : Type 0} (n : ℕ) (ss : List (Shoen N)) (o : Option (Bor (Shoen N))) → AreNumbered 0 ss → AreLower ss → option_copied o ≡ find (has_number n) ss → 0 < n → o ≡ None → path_in ss n ≡ n ∷ []
+lent_end {N = N} n ss o a lower e lt z =
+    path_parent n 0 ss a lower (ap (λ (b : Option (Bor (Shoen N))). parent_found (option_copied b)) (sym z) ∙ ap (λ o. parent_found o) e) lt
+    ∙ ap (λ (ns : List ℕ). n ∷ ns) (path_zero 0 ss refl)
 
 -- what is beyond the first number of a path is not on it
 pub beyond_path : (parents : List ℕ) → ParentsAreLower parents → (m n a : ℕ) → n < a → is_among a (path_within m parents n) ≡ false

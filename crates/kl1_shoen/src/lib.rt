@@ -9,4 +9,4 @@ mod tree;
 mod work;
 
 pub use shoen::{Origin, Shoen};
-pub use tree::ShoenTree;
+pub use tree::{ShoenTree, Step};

@@ -124,9 +124,8 @@ impl<T: Copy> TrackedList<T> {
         ensures room { self.new.room ≡ self.old.room }
         ensures changes { self.new.changes + 1 ≡ self.old.changes }
     {
-        let value = item_at(&self.items, place);
+        let value = std::mem::replace(&mut self.items[place], item);
         self.was.push_reserved(Was { place, value });
-        self.items[place] = item;
     }
 }
 

@@ -5,7 +5,7 @@ mod charging;
 mod marking;
 mod walking;
 
-ghost use Rattle.std.specs.Prelude.{◌≡◌, ◌<◌, ◌≤◌, ◌+◌, ◌-◌, [], ◌∷◌, ◌++◌, suc, min, length, find, option_and_then, option_copied, option_map, unwrap_or, slice_get, IfSome, OnOk};
+ghost use Rattle.std.specs.Prelude.{◌≡◌, ◌<◌, ◌≤◌, ◌+◌, ◌-◌, [], ◌∷◌, ◌++◌, suc, min, length, find, option_and_then, option_copied, option_map, unwrap_or, slice_get, None, IfSome, OnOk};
 ghost use Rattle.std.specs.List.{AllByRecursion};
 ghost use Rattle.kl1_shoen.specs.Shoens.{has_number, shoen_in, path_in, lives_in, AreNumbered, AreLower};
 
@@ -22,6 +22,13 @@ fn at<N: NameValue>(shoens: &[Shoen<N>], place: usize) -> Option<&Shoen<N>>
     ensures { option_copied result ≡ slice_get shoens.now place }
 {
     shoens.get(place)
+}
+
+/// A step of a path: the number of the shoen's parent, and whether that which is asked of the shoen holds.
+#[derive(Clone, Copy)]
+pub struct Step {
+    pub up: u64,
+    pub holds: bool,
 }
 
 /// The shoens of an account, each at the place of its number, with what each was charged, and both as they were when the event
@@ -112,6 +119,38 @@ impl<N: NameValue> ShoenTree<N> {
         lent(self.shoens.items(), number)
     }
 
+    /// The shoen of a number, lent as a step of a path, which goes on with its parent; the path ends where no shoen has the number.
+    pub fn climb(&self, number: u64) -> Option<&Shoen<N>>
+        requires { 0 < number }
+        ensures value { option_copied result ≡ find (has_number number) self.now.shoens }
+        ensures number { IfSome result (λ shoen. shoen.now.number ≡ number) }
+        ensures below { IfSome result (λ shoen. shoen.now.parent < number) }
+        ensures path { IfSome result (λ shoen. path_in self.now.shoens number ≡ number ∷ path_in self.now.shoens shoen.now.parent) }
+        ensures end { result ≡ None → path_in self.now.shoens number ≡ number ∷ [] }
+    {
+        let _lower = self.len();
+        climbed(self.shoens.items(), number)
+    }
+
+    /// The step of a path at the shoen of a number, with whether the shoen lives.
+    pub fn living_step(&self, number: u64) -> Step
+        requires { 0 < number }
+        ensures below { result.up < number }
+        ensures path { path_in self.now.shoens number ≡ number ∷ path_in self.now.shoens result.up }
+        ensures lives { result.holds ≡ lives_in self.now.shoens number }
+    {
+        let Some(shoen) = self.climb(number) else {
+            return Step {
+                up: 0,
+                holds: false,
+            };
+        };
+        Step {
+            up: shoen.parent,
+            holds: is_living(shoen.life),
+        }
+    }
+
     /// What the console keeps of the shoen of a number.
     pub fn origin_at(&self, number: u64) -> Option<Origin<N>>
         ensures { result ≡ option_and_then (λ shoen. shoen.origin) (find (has_number number) self.now.shoens) }
@@ -151,6 +190,20 @@ fn lent<N: NameValue>(shoens: &[Shoen<N>], number: u64) -> Option<&Shoen<N>>
         return None;
     }
     at(shoens, (number - 1) as usize)
+}
+
+/// The shoen of a number, lent as a step of a path, as `climb`.
+fn climbed<N: NameValue>(shoens: &[Shoen<N>], number: u64) -> Option<&Shoen<N>>
+    requires numbered { AreNumbered 0 shoens.now }
+    requires lower { AreLower shoens.now }
+    requires some { 0 < number }
+    ensures value { option_copied result ≡ find (has_number number) shoens.now }
+    ensures number { IfSome result (λ shoen. shoen.now.number ≡ number) }
+    ensures below { IfSome result (λ shoen. shoen.now.parent < number) }
+    ensures path { IfSome result (λ shoen. path_in shoens.now number ≡ number ∷ path_in shoens.now shoen.now.parent) }
+    ensures end { result ≡ None → path_in shoens.now number ≡ number ∷ [] }
+{
+    lent(shoens, number)
 }
 
 /// The number of the parent of the shoen of a number, as `parent`.

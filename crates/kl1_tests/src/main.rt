@@ -1,14 +1,19 @@
-//! Rows of acts on the public calls of all crates below the program, and checks, also with two threads, and whether each comes to
-//! what is wanted; and what a reduction costs.
+//! Rows of acts on the public calls of all crates below the program, and checks, also with several threads, and whether each comes
+//! to what is wanted; and how long reductions, the store, look-ups and counting take.
 #![tactic(auto)]
 
+mod checks;
+mod command;
+mod measures;
 mod part;
 mod parts;
 mod script;
 
+use crate::checks::put_checks;
+use crate::measures::{measure_of, put_measured};
 use crate::parts::Parts;
 use kl1_rows::{Text, put_report};
-use kl1_user_tests::{Accounts, OverAccounts, put_over, put_times};
+use kl1_user_tests::{Accounts, OverAccounts, put_over};
 use std::io;
 use std::io::{Error, ErrorKind, Read, Write};
 use std::rt::Clock;
@@ -36,27 +41,25 @@ impl<H: Wait> OverAccounts for Rows<'_, H> {
 }
 
 /// Puts the report on rows, and the line on each check behind it where the rows end with the heading of checks.
-fn put_tried<R: Threads + Wait + Sync>(rt: &R, out: &mut Text, text: &[u8]) {
+fn put_tried<R: Threads + Wait + Clock + Sync>(rt: &R, out: &mut Text, text: &[u8]) {
     match text.strip_suffix(CHECKS) {
         None => put_over(&Rows { rt, text }, out),
         Some(text) => {
             put_over(&Rows { rt, text }, out);
-            kl1_sharing_tests::put_checks(rt, out);
-            kl1_goals_tests::put_checks(out);
+            put_checks(rt, out);
         }
     }
 }
 
-/// Puts the report on rows and checks, or what is measured, where the word `reductions` and a line feed stand for rows.
+/// Puts the report on rows and checks, or what is measured, where the word for that and a line feed stand for rows.
 fn put_all<R: Threads + Wait + Clock + Sync>(rt: &R, out: &mut Text, rows: &[u8]) {
-    if rows == b"reductions\n".as_slice() {
-        put_times(rt, out);
-    } else {
-        put_tried(rt, out, rows);
+    match measure_of(rows) {
+        None => put_tried(rt, out, rows),
+        Some(measure) => put_measured(rt, out, measure),
     }
 }
 
-/// Tries the rows of its input; where that is the word `reductions` and a line feed, the program measures.
+/// Tries the rows of its input; where that is the word for a measure and a line feed, the program measures.
 fn main(rt: HostRuntime) -> io::Result<()> {
     let mut rows = Vec::new(rt.alloc());
     rt.stdin().read_to_end(&mut rows)?;

@@ -1,6 +1,6 @@
 // What the rows of a group are tried on, and what is asked there.
 
-use crate::script;
+use crate::{command, script};
 
 /// What the rows of a group are tried on.
 #[derive(Clone, Copy)]
@@ -14,19 +14,23 @@ pub enum Part {
     /// Names, terms, texts and code, by what is asked of them.
     Read(kl1_read_tests::Kind),
     /// Clauses on goals, by what is asked of them.
-    Match(kl1_match_tests::Kind),
+    Match(kl1_read_tests::MatchKind),
+    /// A tree of shoens.
+    Tree,
     /// An account.
     One,
     /// An account, to which an event is done again where memory was refused.
     Again,
     /// An account, and a slow one beside it.
     Both,
+    /// Commands and replies, by what is asked of them.
+    Command(command::Kind),
     /// Scripts and what they are made of, by what is asked of them.
     Script(script::Kind),
 }
 
 /// The parts by the two words that name them at the front of a heading.
-const PARTS: [(&[u8], Part); 45] = [
+const PARTS: [(&[u8], Part); 50] = [
     (b"store numbers ", Part::Numbers),
     (b"store texts ", Part::Texts),
     (b"read name ", Part::Read(kl1_read_tests::Kind::Name)),
@@ -60,15 +64,32 @@ const PARTS: [(&[u8], Part); 45] = [
     (b"read sizes ", Part::Read(kl1_read_tests::Kind::Sizes)),
     (
         b"read verdict ",
-        Part::Match(kl1_match_tests::Kind::Verdict),
+        Part::Match(kl1_read_tests::MatchKind::Verdict),
     ),
-    (b"read bound ", Part::Match(kl1_match_tests::Kind::Bound)),
-    (b"read places ", Part::Match(kl1_match_tests::Kind::Places)),
-    (b"read moves ", Part::Match(kl1_match_tests::Kind::Moves)),
-    (b"read built ", Part::Match(kl1_match_tests::Kind::Built)),
+    (
+        b"read bound ",
+        Part::Match(kl1_read_tests::MatchKind::Bound),
+    ),
+    (
+        b"read places ",
+        Part::Match(kl1_read_tests::MatchKind::Places),
+    ),
+    (
+        b"read moves ",
+        Part::Match(kl1_read_tests::MatchKind::Moves),
+    ),
+    (
+        b"read built ",
+        Part::Match(kl1_read_tests::MatchKind::Built),
+    ),
+    (b"shoen tree ", Part::Tree),
     (b"user one ", Part::One),
     (b"user again ", Part::Again),
     (b"user both ", Part::Both),
+    (b"command line ", Part::Command(command::Kind::Line)),
+    (b"command record ", Part::Command(command::Kind::Record)),
+    (b"command reply ", Part::Command(command::Kind::Reply)),
+    (b"command perform ", Part::Command(command::Kind::Perform)),
     (b"script line ", Part::Script(script::Kind::Line)),
     (b"script name ", Part::Script(script::Kind::Name)),
     (b"script word ", Part::Script(script::Kind::Word)),

@@ -1,7 +1,7 @@
 // What rows are tried on.
 
 use crate::part::{Part, part_of};
-use crate::script;
+use crate::{command, script};
 use kl1_rows::Tried;
 use kl1_store_tests::Stores;
 use kl1_user_tests::Accounts;
@@ -49,9 +49,11 @@ impl<H: Wait> Tried for Parts<'_, H> {
             Part::Unknown => false,
             Part::Numbers | Part::Texts => self.stores.is_right(act, wanted),
             Part::Read(kind) => kl1_read_tests::is_right(self.alloc, kind, act, wanted),
-            Part::Match(kind) => kl1_match_tests::is_right(self.alloc, kind, act, wanted),
+            Part::Match(kind) => kl1_read_tests::is_match_right(self.alloc, kind, act, wanted),
+            Part::Tree => kl1_goals_tests::is_tree_right(self.alloc, act, wanted),
             Part::One | Part::Both => self.accounts.is_right(self.alloc, act, wanted),
             Part::Again => self.accounts.is_right_again(self.alloc, act, wanted),
+            Part::Command(kind) => command::is_right(self.alloc, kind, act, wanted),
             Part::Script(kind) => script::is_right(self.rt, self.alloc, kind, act, wanted),
         }
     }

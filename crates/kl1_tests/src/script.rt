@@ -1,4 +1,4 @@
-// Rows on scripts, from their lines to what is written for them.
+// Rows on scripts, from their lines to what is written for them, and a check of two accounts.
 
 mod accounts;
 mod devices;
@@ -9,8 +9,10 @@ mod over_both;
 mod records;
 mod rows;
 mod scripts;
+mod serving;
 mod streams;
 mod told;
 
 pub use kind::Kind;
 pub use rows::is_right;
+pub use serving::two_accounts_answer_over_each_word;

@@ -7,12 +7,14 @@ use crate::atoms::names::names;
 use crate::atoms::sources::{
     a_full_plain_seat_finds, a_full_seat_finds, plain_seats_share, seats_share,
 };
+use crate::atoms::tells::threads_find_the_same;
 use kl1_rows::{Text, put_check};
 use kl1_text::AtomText;
+use std::rt::Clock;
 use std::thread::Threads;
 
 /// Puts a line on each check behind a report.
-pub fn put_atom_checks<R: Threads + Sync>(rt: &R, out: &mut Text) {
+pub fn put_atom_checks<R: Threads + Clock + Sync>(rt: &R, out: &mut Text) {
     match names(out.alloc, 1024) {
         Ok(names) => put_each(rt, out, names.as_slice()),
         Err(_refused) => out.fail(),
@@ -20,7 +22,7 @@ pub fn put_atom_checks<R: Threads + Sync>(rt: &R, out: &mut Text) {
 }
 
 /// Puts a line on each check; full seats look these names up.
-fn put_each<R: Threads + Sync>(rt: &R, out: &mut Text, names: &[AtomText])
+fn put_each<R: Threads + Clock + Sync>(rt: &R, out: &mut Text, names: &[AtomText])
     requires { length names.now ≤ 1024 }
 {
     let alloc = out.alloc;
@@ -62,6 +64,12 @@ fn put_each<R: Threads + Sync>(rt: &R, out: &mut Text, names: &[AtomText])
     put_check(
         out,
         b"atoms the_full_seat_of_one_account_still_finds_its_names",
+        done,
+    );
+    let done = threads_find_the_same(rt, alloc);
+    put_check(
+        out,
+        b"atoms 1_2_and_4_threads_find_each_of_500_names_by_one_number",
         done,
     );
 }

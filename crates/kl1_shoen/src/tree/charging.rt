@@ -1,12 +1,12 @@
 // Charges, and what comes of them.
 
 ghost use Rattle.std.specs.Prelude.{ℕ, suc, get_or, if◌then◌else◌, ◌≡◌, ◌<◌, ◌≤◌, ◌+◌, ◌-◌, ◌^◌, ◌∷◌, length, set, map, unwrap_or, option_map, not, ◌&&◌, OnOk, OnErr};
-ghost use Rattle.kl1_shoen.specs.Shoens.{AreNumbered, AreLower, path_in, is_on_path_in, charged_in, has_reached_in, is_blocking_at, is_enabled_at};
+ghost use Rattle.kl1_shoen.specs.Shoens.{AreNumbered, AreLower, path_in, is_on_path_in, charged_in, has_reached_in, is_blocking_in, is_blocking_at, is_enabled_at};
 
 use crate::shoen::{Shoen, is_living};
 use crate::tracked::TrackedList;
 use crate::tree::walking::flag_of;
-use crate::tree::{ShoenTree, parent_of};
+use crate::tree::{ShoenTree, Step, parent_of};
 use kl1_text::NameValue;
 use std::alloc::AllocError;
 
@@ -50,6 +50,25 @@ impl<N: NameValue> ShoenTree<N> {
         shoen.allowance == self.charged(number)
     }
 
+    /// The step of a path at the shoen of a number, with whether the shoen was charged just what it may be.
+    pub fn reached_step(&self, number: u64) -> Step
+        requires { 0 < number }
+        ensures below { result.up < number }
+        ensures path { path_in self.now.shoens number ≡ number ∷ path_in self.now.shoens result.up }
+        ensures reached { result.holds ≡ has_reached_in self.now.shoens self.now.work number }
+    {
+        let Some(shoen) = self.climb(number) else {
+            return Step {
+                up: 0,
+                holds: false,
+            };
+        };
+        Step {
+            up: shoen.parent,
+            holds: shoen.allowance == self.charged(number),
+        }
+    }
+
     /// Whether the shoen of a number holds back the goals in it and below it.
     fn is_blocking(&self, number: u64) -> bool
         ensures { result ≡ is_blocking_at self.now.shoens self.now.work number }
@@ -57,13 +76,20 @@ impl<N: NameValue> ShoenTree<N> {
         let Some(shoen) = self.lend(number) else {
             return false;
         };
+        self.holds_back(shoen)
+    }
+
+    /// Whether a shoen holds back the goals in it and below it.
+    fn holds_back(&self, shoen: &Shoen<N>) -> bool
+        ensures { result ≡ is_blocking_in self.now.shoens self.now.work shoen.now }
+    {
         if shoen.is_stopped {
             return true;
         }
         if !is_living(shoen.life) {
             return true;
         }
-        shoen.allowance <= self.charged(number)
+        shoen.allowance <= self.charged(shoen.number)
     }
 
     /// Whether the goals of a shoen are enabled: no shoen on its path is stopped, has ended, or was charged what it may be.
@@ -71,16 +97,16 @@ impl<N: NameValue> ShoenTree<N> {
         ensures { result ≡ is_enabled_at self.now.shoens self.now.work number }
     {
         let mut at = number;
-        'path: loop {
-            let up = self.parent(at);
-            if at == 0 {
+        while at > 0 {
+            let Some(shoen) = self.climb(at) else {
                 return true;
-            }
-            if self.is_blocking(at) {
+            };
+            if self.holds_back(shoen) {
                 return false;
             }
-            at = up;
+            at = shoen.parent;
         }
+        true
     }
 
     /// Whether the goals of each shoen are enabled, in order of number.

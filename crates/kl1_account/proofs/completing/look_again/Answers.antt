@@ -11,17 +11,17 @@ returns-clause-looks g c =
     let ms = c.args.modules.now.loaded in
     let tree = c.args.shoens.now in
     let now = c.args.store.now in
-    let mid = c.wake_told.new.store in
+    let mid = c.wake_any.new.store in
     let new = c.wake_added.new.store in
     let goals = c.args.goals.now.goals in
     let before = c.args.draft.now in
-    let after : Draft = record before { added = c.wake_added.new.added; changes = c.wake_told.new.changes; told = c.tell.new.told } in
-    let N : List ℕ → Type 0 = λ ns. WakesTold ms tree.shoens now.held now.hooks mid.hooks goals before.removed ns before.changes.items c.wake_told.new.changes.items in
-    let C : List Change → Type 0 = λ cs. WakesTold ms tree.shoens now.held now.hooks mid.hooks goals before.removed c.tell.new.told.items cs c.wake_told.new.changes.items in
-    let wakes : C [] = subst C c.requires.changes (subst N c.deref.ensures.value c.in_ok-wake_told.ensures.wakes) in
+    let after : Draft = record before { added = c.wake_added.new.added; changes = c.wake_any.new.changes; told = c.tell.new.told } in
+    let N : List ℕ → Type 0 = λ ns. WakesTold ms tree.shoens now.held now.hooks mid.hooks goals before.removed ns before.changes.items c.wake_any.new.changes.items in
+    let C : List Change → Type 0 = λ cs. WakesTold ms tree.shoens now.held now.hooks mid.hooks goals before.removed c.tell.new.told.items cs c.wake_any.new.changes.items in
+    let wakes : C [] = subst C c.requires.changes (subst N c.deref.ensures.value c.in_ok-wake_any.ensures.wakes) in
     on_ok_weaker c.wake_added.result
     (λ looks. record {
-      settles = settled_placed ms tree.shoens tree.work c.args.mark now mid new goals before.added.items after before.told.items c.shoens-order.ensures.order c.in_ok-tell.ensures wakes c.in_ok-wake_told.ensures.held
+      settles = settled_placed ms tree.shoens tree.work c.args.mark now mid new goals before.added.items after before.told.items c.shoens-order.ensures.order c.in_ok-tell.ensures wakes c.in_ok-wake_any.ensures.held
           looks c.wake_added.ensures.held c.wake_added.ensures.grown;
       same = looks.same;
       enabled = looks.enabled;

@@ -1,4 +1,4 @@
-use Rattle.std.proofs.Common.{◌+◌, ◌≡◌, suc, arith, subst, ℕ, slice_set}
+use Rattle.std.proofs.Common.{◌+◌, ◌≡◌, suc, arith, subst, ℕ, set}
 use Rattle.kl1_text.specs.declared.cell_name.CellName.{CellName}
 use Rattle.kl1_goals.specs.declared.goal.Goal.{Goal}
 use Rattle.kl1_account.specs.Looking.{LooksAtOne}
@@ -15,13 +15,14 @@ loop-place-preserved g c =
     let work = c.args.shoens.now.work in
     let now = c.loop-place.added.items in
     let k = c.loop-place.place in
-    let x = c.in_ok-added.field-0 in
-    let N : ℕ → Type 0 = λ n. StillLooks ms ss work c.args.store.now c.looked_goal.new.store n c.args.added.now.items (slice_set now k x) in
-    let L : Goal CellName → Type 0 = λ g. LooksAtOne ms ss work c.loop-place.store.held c.looked_goal.new.store.hooks g x in
+    let g = c.index_mut-goal.result.now in
+    let x = c.look_at_added.new.goal in
+    let N : ℕ → Type 0 = λ n. StillLooks ms ss work c.args.store.now c.look_at_added.new.store n c.args.added.now.items (set now k x) in
+    let L : Goal CellName → Type 0 = λ y. LooksAtOne ms ss work c.loop-place.store.held c.look_at_added.new.store.hooks y x in
     let next : suc k ≡ k + 1 = omega arith in
     subst N next
-    (next_looked ms ss work c.args.store.now c.loop-place.store c.looked_goal.new.store k c.args.added.now.items now c.index-goal.result.now x (omega (arith, c.loop-place-test.true, c.loop-place.invariant.count)) c.loop-place.invariant
-    c.in_ok-added.ensures.held c.in_ok-added.ensures.grown (subst L c.index-goal.ensures c.in_ok-added.ensures.looks))
+    (next_looked ms ss work c.args.store.now c.loop-place.store c.look_at_added.new.store k c.args.added.now.items now g x (omega (arith, c.loop-place-test.true, c.loop-place.invariant.count)) c.loop-place.invariant
+    c.in_ok-look_at_added.ensures.held c.in_ok-look_at_added.ensures.grown (subst L c.index_mut-goal.ensures.value c.in_ok-look_at_added.ensures.looks))
 
 pub returns-clause-looks : goal.returns-clause-looks
 returns-clause-looks g c =

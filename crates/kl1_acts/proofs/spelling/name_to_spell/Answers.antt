@@ -1,36 +1,34 @@
-use Rattle.std.proofs.Common.{◌≡◌, sym, ap, ◌∙◌, subst}
+use Rattle.std.proofs.Common.{ℕ, List, sym, subst}
+use Rattle.std.specs.Prelude.{IsTrue, IfSome}
+use Rattle.kl1_model.specs.Text.{is_text}
 use Rattle.kl1_text.specs.declared.cell_name.CellName.{CellName}
-use Rattle.kl1_atoms.specs.Names.{number_by}
 use Rattle.kl1_moves.specs.declared.moves.Move.{Move}
-use Rattle.kl1_effects.specs.Calling.{keeps_names}
-use Rattle.kl1_acts.specs.Spelling.{NamesIn, SpellsBy, SpellsNone}
-use Rattle.kl1_acts.proofs.NewNames.{integer_none, atom_none, structure_none, variable_spells, unnumbered}
+use Rattle.kl1_acts.specs.Spelling.{NamesIn, IsSpelling, IsNoSpelling, SpellsBy, SpellsNone}
 use Rattle.kl1_acts.proofs.spelling.name_to_spell.Goals as goal
 
-pub returns-in-Variable-clause-spells : goal.returns-in-Variable-clause-spells
-returns-in-Variable-clause-spells c =
+pub variable_to_spell-requires-clause-text : goal.variable_to_spell-requires-clause-text
+variable_to_spell-requires-clause-text c =
+    let I : Move CellName → Type 0 = λ m. NamesIn m c.args.store.now.held c.args.trial.now.text in
+    let T : List ℕ → Type 0 = λ l. IsTrue (is_text l) in
+    subst T (sym c.as_slice.ensures) (subst I c.in-Names.is c.requires).0
+
+pub variable_to_spell-requires-clause-inside : goal.variable_to_spell-requires-clause-inside
+variable_to_spell-requires-clause-inside c =
+    let I : Move CellName → Type 0 = λ m. NamesIn m c.args.store.now.held c.args.trial.now.text in
+    (subst I c.in-Names.is c.requires).1
+
+pub returns-clause-spells : goal.returns-clause-spells
+returns-clause-spells c =
     let h = c.args.store.now.held in
     let known = c.args.names.now.names in
-    let text = c.args.trial.now.text in
-    let same : c.of-text.result ≡ text = c.of-text.ensures ∙ c.as_slice.ensures in
-    let I : Move CellName → Type 0 = λ m. NamesIn m h text in
-    let P : Move CellName → Type 0 = λ m. SpellsBy m h known text c.in-Variable.variable in
-    let given = subst I c.in-Names.is c.requires in
-    subst P (sym c.in-Names.is)
-    (variable_spells h known text c.in-Names.target c.walk.result c.in-Variable.variable c.in-Variable.is c.walk.ensures.inside c.walk.ensures.walked c.walk.ensures.means given.0
-    (sym (ap (number_by known) same) ∙ unnumbered c.number_of.result (number_by known c.of-text.result) c.number_of.ensures (sym c.is_some.ensures ∙ c.if-is_some.false)) (sym (ap (keeps_names known) same) ∙ sym c.if-not-has_room.ensures))
+    let P : Move CellName → Type 0 = λ m. IfSome c.variable_to_spell.result (SpellsBy m h known c.args.trial.now.text) in
+    let S : List ℕ → Type 0 = λ l. IfSome c.variable_to_spell.result (IsSpelling h known l c.in-Names.target) in
+    subst P (sym c.in-Names.is) (subst S c.as_slice.ensures c.variable_to_spell.ensures.spells)
 
-pub returns-in-Integer-clause-none : goal.returns-in-Integer-clause-none
-returns-in-Integer-clause-none c none =
-    let P : Move CellName → Type 0 = λ m. SpellsNone m c.args.store.now.held c.args.names.now.names c.args.trial.now.text in
-    subst P (sym c.in-Names.is) (integer_none c.args.store.now.held c.args.names.now.names c.args.trial.now.text c.in-Names.target c.walk.result c.in-Integer._number c.in-Integer.is c.walk.ensures.means)
-
-pub returns-in-Atom-clause-none : goal.returns-in-Atom-clause-none
-returns-in-Atom-clause-none c none =
-    let P : Move CellName → Type 0 = λ m. SpellsNone m c.args.store.now.held c.args.names.now.names c.args.trial.now.text in
-    subst P (sym c.in-Names.is) (atom_none c.args.store.now.held c.args.names.now.names c.args.trial.now.text c.in-Names.target c.walk.result c.in-Atom._name c.in-Atom.is c.walk.ensures.means)
-
-pub returns-in-Structure-clause-none : goal.returns-in-Structure-clause-none
-returns-in-Structure-clause-none c none =
-    let P : Move CellName → Type 0 = λ m. SpellsNone m c.args.store.now.held c.args.names.now.names c.args.trial.now.text in
-    subst P (sym c.in-Names.is) (structure_none c.args.store.now.held c.args.names.now.names c.args.trial.now.text c.in-Names.target c.walk.result c.in-Structure._structure c.mark-formed.ensures.formed c.in-Structure.is c.walk.ensures.inside c.walk.ensures.means)
+pub returns-clause-none : goal.returns-clause-none
+returns-clause-none c none =
+    let h = c.args.store.now.held in
+    let known = c.args.names.now.names in
+    let P : Move CellName → Type 0 = λ m. SpellsNone m h known c.args.trial.now.text in
+    let S : List ℕ → Type 0 = λ l. IsNoSpelling h known l c.in-Names.target in
+    subst P (sym c.in-Names.is) (subst S c.as_slice.ensures (c.variable_to_spell.ensures.none none))

@@ -4,8 +4,8 @@ use Rattle.kl1_effects.proofs.Ends.{StillEnds}
 use Rattle.kl1_effects.proofs.settling.end_lives.Given as goal
 
 -- the shoens on the path so far have been looked at
-abbrev pub invariant-path : goal.invariant-path
-invariant-path l = StillEnds (goals_left (l.goals.goals ++ l.draft.added.items) l.draft) l.initial.shoens l.shoens l.number l.at l.ending.items
+abbrev pub invariant-loop-at : goal.invariant-loop-at
+invariant-loop-at l = StillEnds (goals_left (l.goals.goals ++ l.draft.added.items) l.draft) l.initial.shoens l.shoens l.number l.at l.ending.items
 
-abbrev pub decreases-path : goal.decreases-path
-decreases-path l = l.at
+abbrev pub decreases-loop-at : goal.decreases-loop-at
+decreases-loop-at l = l.at

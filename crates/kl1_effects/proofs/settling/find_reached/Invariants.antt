@@ -4,8 +4,8 @@ use Rattle.kl1_effects.specs.Walks.{reached_in}
 use Rattle.kl1_effects.proofs.settling.find_reached.Given as goal
 
 -- with those of the shoens that are left there are all
-abbrev pub invariant-path : goal.invariant-path
-invariant-path l = l.reached.items ++ reached_in l.shoens.shoens l.shoens.work l.ending (path_in l.shoens.shoens l.at) ≡ reached_in l.shoens.shoens l.shoens.work l.ending (path_in l.shoens.shoens l.number)
+abbrev pub invariant-loop-at : goal.invariant-loop-at
+invariant-loop-at l = l.reached.items ++ reached_in l.shoens.shoens l.shoens.work l.ending (path_in l.shoens.shoens l.at) ≡ reached_in l.shoens.shoens l.shoens.work l.ending (path_in l.shoens.shoens l.number)
 
-abbrev pub decreases-path : goal.decreases-path
-decreases-path l = l.at
+abbrev pub decreases-loop-at : goal.decreases-loop-at
+decreases-loop-at l = l.at

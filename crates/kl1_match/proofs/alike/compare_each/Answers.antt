@@ -1,6 +1,7 @@
 use Rattle.std.proofs.Common.{◌-◌, Bool, length, take, drop, subst}
 use Rattle.kl1_match.specs.Outcomes.{OneComes}
 use Rattle.kl1_match.proofs.Coming.{each_begins, each_steps, each_clashes, each_ends, one_inside}
+use Rattle.kl1_match.proofs.Rising.{rising_come}
 use Rattle.kl1_match.proofs.alike.compare_each.Goals as goal
 
 pub loop-rest-init : goal.loop-rest-init
@@ -26,3 +27,6 @@ returns-then-not-branch g c =
 
 pub returns : goal.returns
 returns g c = each_ends g.N.NameValue.built c.args.store.now.held c.args.places.now c.loop-rest.rest.now c.args.awaited.now.items c.loop-rest.awaited.items c.in_default.len_below c.loop-rest.invariant
+
+pub returns-then-are_rising : goal.returns-then-are_rising
+returns-then-are_rising g c = rising_come g.N.NameValue.built c.args.store.now.held c.args.places.now c.args.awaited.now.items (c.are_rising.ensures c.if-are_rising.true)

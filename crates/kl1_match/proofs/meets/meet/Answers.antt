@@ -1,5 +1,4 @@
 use Rattle.std.proofs.Common.{◌≡◌, List, [], ◌∷◌, ◌++◌, refl, ap, ◌∙◌, sym, subst, rules, ℤ}
-use Rattle.std.proofs.lemmas.Bool.{false≢true}
 use Rattle.kl1_store.specs.declared.cell.Cell.{Cell}
 use Rattle.kl1_store.specs.Held.{Held}
 use Rattle.kl1_match.specs.declared.span.Span.{Span}
@@ -10,7 +9,7 @@ use mir.Syntax.{w64}
 use Rattle.kl1_clause.specs.declared.instruction.Instruction.{Instruction}
 use Rattle.kl1_match.specs.Matching.{IntegerMeets, MeetsFirst}
 use Rattle.kl1_match.specs.declared.met.Met.TheVariants.{Agrees}
-use Rattle.kl1_match.proofs.Beside.{met_unbound, variable_meets, integer_meets, atom_meets, structure_meets}
+use Rattle.kl1_match.proofs.Beside.{met_unbound, integer_meets, atom_meets, structure_meets}
 use Rattle.kl1_match.proofs.Trying.{keeps_of}
 use Rattle.kl1_match.proofs.meets.meet.Goals as goal
 
@@ -18,45 +17,19 @@ use Rattle.kl1_match.proofs.meets.meet.Goals as goal
 first_left : {N : Type 0} (h : Held N) (span after : Span) (behind : List Span) (x : Cell N) → span_cells h span ≡ x ∷ span_cells h after → cells_left h span behind ≡ x ∷ cells_left h after behind
 first_left h span after behind x e = ap (λ l. l ++ cells_behind h behind) e
 
-pub returns-then-this-ne0-clause-meets : goal.returns-then-this-ne0-clause-meets
-returns-then-this-ne0-clause-meets g c =
+pub returns-in-Variable-clause-meets : goal.returns-in-Variable-clause-meets
+returns-in-Variable-clause-meets g c =
     let h = c.args.store.now.held in
     let behind = c.args.behind.now.items in
-    let cells = cells_left h c.args.span.now behind in
-    let rest = cells_left h c.take_cell-cell.new.span behind in
-    let x = c.take_cell-cell.result in
-    let P : Instruction → Type 0 = λ i. MeetsFirst g.N.NameValue.built h c.args.names.now i (keeps_of g.row.KEEP) cells rest c.args.places.now.items c.push_reserved.new.self.items Agrees in
-    subst P (sym c.in-Variable.is) (record {
-      first = x;
-      rest = rest;
-      cells_are = first_left h c.args.span.now c.take_cell-cell.new.span behind x c.take_cell-cell.ensures.cells;
-      kept = λ k. c.push_reserved.ensures.items;
-      meets = λ ps there. variable_meets g.N.NameValue.built h c.args.names.now c.in-Variable.variable x rest ps (ps ++ record { variable = c.in-Variable.variable; cell = x } ∷ []) c.take_cell-cell.ensures.inside there refl;
-    })
-
-pub returns-else-this-ne0-clause-meets : goal.returns-else-this-ne0-clause-meets
-returns-else-this-ne0-clause-meets g c =
-    let h = c.args.store.now.held in
-    let behind = c.args.behind.now.items in
-    let cells = cells_left h c.args.span.now behind in
-    let rest = cells_left h c.take_cell-cell.new.span behind in
-    let x = c.take_cell-cell.result in
-    let places = c.args.places.now.items in
-    let P : Instruction → Type 0 = λ i. MeetsFirst g.N.NameValue.built h c.args.names.now i (keeps_of g.row.KEEP) cells rest places places Agrees in
-    subst P (sym c.in-Variable.is) (record {
-      first = x;
-      rest = rest;
-      cells_are = first_left h c.args.span.now c.take_cell-cell.new.span behind x c.take_cell-cell.ensures.cells;
-      kept = λ k. absurd (false≢true (sym (ap keeps_of c.if-this-ne0.false) ∙ k));
-      meets = λ ps there. variable_meets g.N.NameValue.built h c.args.names.now c.in-Variable.variable x rest ps (ps ++ record { variable = c.in-Variable.variable; cell = x } ∷ []) c.take_cell-cell.ensures.inside there refl;
-    })
+    let P : Instruction → Type 0 = λ i. MeetsFirst g.N.NameValue.built h c.args.names.now i (keeps_of g.row.KEEP) (cells_left h c.args.span.now behind) (cells_left h c.take_place.new.span behind) c.args.places.now.items c.take_place.new.places.items Agrees in
+    subst P (sym c.in-Variable.is) (c.take_place.ensures.takes c.args.names.now behind)
 
 pub returns-in-Integer-clause-meets : goal.returns-in-Integer-clause-meets
 returns-in-Integer-clause-meets g c =
     let h = c.args.store.now.held in
     let behind = c.args.behind.now.items in
-    let x = c.take_cell-cell-in-Integer.result in
-    let after = c.take_cell-cell-in-Integer.new.span in
+    let x = c.take_cell-cell.result in
+    let after = c.take_cell-cell.new.span in
     let rest = cells_left h after behind in
     let places = c.args.places.now.items in
     let P : Instruction → Type 0 = λ i. MeetsFirst g.N.NameValue.built h c.args.names.now i (keeps_of g.row.KEEP) (cells_left h c.args.span.now behind) rest places places c.meet_integer.result in
@@ -65,7 +38,7 @@ returns-in-Integer-clause-meets g c =
     subst P (sym c.in-Integer.is) (record {
       first = x;
       rest = rest;
-      cells_are = first_left h c.args.span.now after behind x c.take_cell-cell-in-Integer.ensures.cells;
+      cells_are = first_left h c.args.span.now after behind x c.take_cell-cell.ensures.cells;
       kept = λ k. refl;
       meets = λ ps there. integer_meets g.N.NameValue.built h c.args.names.now c.in-Integer.integer x c.walk.result rest ps c.meet_integer.result there c.walk.ensures.means
           (subst Q (to_z-of_z w64 c.in-Integer.integer fits) c.meet_integer.ensures.meets);

@@ -39,6 +39,28 @@ meet-requires-clause-named g c =
     let P : List Instruction → Type 0 = λ l. IsNamed (length c.args.names.now) (get_or l c.loop-at.at (Variable 0)) in
     subst P (sym c.as_slice-row.ensures.value) (named_at c.args.names.now c.args.clause.now c.loop-at.at (Variable 0) c.requires.clause lt)
 
+pub loop-at-preserved-in-Variable : goal.loop-at-preserved-in-Variable
+loop-at-preserved-in-Variable g c =
+    let h = c.args.store.now.held in
+    let i = c.loop-at.invariant in
+    let behind = c.is_left.new.behind.items in
+    let before = cells_left h c.loop-at.span c.loop-at.behind.items in
+    let same = cells_left h c.is_left.new.span behind in
+    let now = cells_left h c.take_place.new.span behind in
+    let lt : c.loop-at.at < length c.args.clause.now.patterns.items = omega (arith, c.loop-at-test.true, ap length c.as_slice-row.ensures.value) in
+    let P : List Instruction → Type 0 = λ l. MeetsFirst g.N.NameValue.built h c.args.names.now (get_or l c.loop-at.at (Variable 0)) (keeps_of g.row.KEEP) same now c.loop-at.places.items c.take_place.new.places.items Agrees in
+    let Q : Instruction → Type 0 = λ k. MeetsFirst g.N.NameValue.built h c.args.names.now k (keeps_of g.row.KEEP) same now c.loop-at.places.items c.take_place.new.places.items Agrees in
+    record {
+      span = c.take_place.ensures.span;
+      behind = c.is_left.ensures.behind;
+      gives = agrees_kept g.N.NameValue.built c.args.names.now c.args.clause.now h c.args.goal c.loop-at.at (Variable 0) (keeps_of g.row.KEEP) before same now c.loop-at.places.items c.take_place.new.places.items c.args.awaited.now.items c.loop-at.awaited.items
+          lt c.is_left.ensures.same i.gives (subst P c.as_slice-row.ensures.value (subst Q (sym c.in-Variable.is) (c.take_place.ensures.takes c.args.names.now behind)));
+      behind_room = omega (arith, i.behind_room, c.is_left.ensures.capacity);
+      behind_len = omega (arith, i.behind_len, c.is_left.ensures.len);
+      room = λ k. omega (arith, i.room k, c.take_place.ensures.capacity);
+      len = omega (arith, i.len, c.take_place.ensures.len);
+    }
+
 pub loop-at-preserved-in-Agrees : goal.loop-at-preserved-in-Agrees
 loop-at-preserved-in-Agrees g c =
     let h = c.args.store.now.held in

@@ -1,28 +1,27 @@
-use Rattle.std.proofs.Common.{nat_lt, true, false, sym, ap, ◌∙◌}
-use Rattle.std.specs.List.{list_any}
+use Rattle.std.proofs.Common.{not, ap, ◌∙◌}
+use Rattle.kl1_goals.specs.declared.tally.Tally.{Tally}
 use Rattle.kl1_goals.specs.Lists.{is_goal_of}
-use Rattle.kl1_goals.specs.Tables.{Tabled}
-use Rattle.kl1_goals.proofs.Shoens.{any_counted, any_beside}
-use Rattle.kl1_goals.proofs.Tabling.{missing_others, goals_counted}
+use Rattle.kl1_goals.specs.Slots.{goals_in}
+use Rattle.kl1_goals.proofs.Changing.{goals_ascend, find_held}
+use Rattle.kl1_goals.proofs.Tabling.{any_many, any_missing, any_one}
 use Rattle.kl1_goals.proofs.goal_table.GoalTable.has_goal_beside.Goals as goal
+
+pub returns-then-count-ne1 : goal.returns-then-count-ne1
+returns-then-count-ne1 g c =
+    let s = c.self.inside in
+    let count = ap (λ (t : Tally). t.goals) c.tally_of-count.ensures ∙ (c.self.invariant.tallied c.args.shoen).goals in
+    rw (← c.self.view_is) (any_many (is_goal_of c.args.shoen) c.args.number c.tally_of-count.result.goals (goals_in s.slots.items) (goals_ascend 0 s.slots.items c.self.invariant.slots.ascend) count c.if-count-ne1.true)
 
 pub returns-in-None : goal.returns-in-None
 returns-in-None g c =
     let s = c.self.inside in
-    let gs = c.args.self.now.goals in
-    let count = goals_counted c.args.shoen s.slots.items s.empty s.queue.ranks s.tallies.items s.alive c.tally_of-count.result gs c.self.invariant c.tally_of-count.ensures (ap (λ (q : Tabled g.row.N.Denot). q.goals) c.self.view_is) in
-    ap (nat_lt 0) count ∙ sym (any_counted (is_goal_of c.args.shoen) gs) ∙ ap (list_any (is_goal_of c.args.shoen)) (sym (missing_others c.args.number gs (sym c.get.ensures.goal ∙ c.in-None.is)))
+    let count = ap (λ (t : Tally). t.goals) c.tally_of-count.ensures ∙ (c.self.invariant.tallied c.args.shoen).goals in
+    rw (← c.self.view_is) (any_missing (is_goal_of c.args.shoen) c.args.number c.tally_of-count.result.goals (goals_in s.slots.items) c.in-None.ensures count c.if-count-ne1.false)
 
-pub returns-then-is_goal_of : goal.returns-then-is_goal_of
-returns-then-is_goal_of g c =
+pub returns-in-Some : goal.returns-in-Some
+returns-in-Some g c =
     let s = c.self.inside in
-    let gs = c.args.self.now.goals in
-    let count = goals_counted c.args.shoen s.slots.items s.empty s.queue.ranks s.tallies.items s.alive c.tally_of-count.result gs c.self.invariant c.tally_of-count.ensures (ap (λ (q : Tabled g.row.N.Denot). q.goals) c.self.view_is) in
-    any_beside (is_goal_of c.args.shoen) true c.args.number c.tally_of-count.result.goals gs c.in-Some.goal c.get.ensures.order (sym c.get.ensures.goal ∙ c.in-Some.is) count (sym c.is_goal_of.ensures ∙ c.if-is_goal_of.true)
-
-pub returns-else-is_goal_of : goal.returns-else-is_goal_of
-returns-else-is_goal_of g c =
-    let s = c.self.inside in
-    let gs = c.args.self.now.goals in
-    let count = goals_counted c.args.shoen s.slots.items s.empty s.queue.ranks s.tallies.items s.alive c.tally_of-count.result gs c.self.invariant c.tally_of-count.ensures (ap (λ (q : Tabled g.row.N.Denot). q.goals) c.self.view_is) in
-    any_beside (is_goal_of c.args.shoen) false c.args.number c.tally_of-count.result.goals gs c.in-Some.goal c.get.ensures.order (sym c.get.ensures.goal ∙ c.in-Some.is) count (sym c.is_goal_of.ensures ∙ c.if-is_goal_of.false)
+    let ss = s.slots.items in
+    let count = ap (λ (t : Tally). t.goals) c.tally_of-count.ensures ∙ (c.self.invariant.tallied c.args.shoen).goals in
+    let found = find_held ss c.args.number c.in-Some.place c.index.result.now c.in-Some.ensures.0 c.self.invariant.slots.ascend c.in-Some.ensures.1 c.index.ensures in
+    rw (← c.self.view_is) (ap not c.is_goal_of.ensures ∙ any_one (is_goal_of c.args.shoen) c.args.number c.tally_of-count.result.goals (goals_in ss) c.index.result.now.goal (goals_ascend 0 ss c.self.invariant.slots.ascend) found count c.if-count-ne1.false)

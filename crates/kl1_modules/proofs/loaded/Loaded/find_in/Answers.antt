@@ -22,7 +22,7 @@ part-requires g c =
     let A : Module → Type 0 = λ x. AreCompiled (own_names x) c.clauses.result.now x.clauses in
     let P : Option Span → Type 0 = λ o. IfSome o (IsWithin (length m.clauses)) in
     let Q : ℕ → Type 0 = λ n. IsWithin n c.in-Some.span in
-    let known = ap (λ (rows : Rows). span_at rows (key_by c.args.name c.args.count)) (sym c.deref.ensures.value) ∙ ap (span_at c.deref.result.now) (sym c.key_by.ensures) ∙ sym c.span_of.ensures ∙ c.in-Some.is in
+    let known = ap (λ (rows : Rows). span_at rows (key_by c.args.name c.args.count)) (sym c.deref.ensures.value) ∙ ap (span_at c.deref.result.now) (sym c.key_by.ensures) ∙ sym c.span_near.ensures ∙ c.in-Some.is in
     subst Q (sym (compiled_count (own_names m) c.clauses.result.now m.clauses (subst A same c.clauses.ensures))) (subst P known (c.self.invariant.index.spans.within (key_by c.args.name c.args.count)))
 
 pub returns-in-None-clause-finds : goal.returns-in-None-clause-finds
@@ -32,7 +32,7 @@ returns-in-None-clause-finds g c =
     let l : Numbered = record { content = m; row = c.self.inside.row.items; place = g.C.CodeSource.place c.self.inside.code } in
     let P : Numbered → Type 0 = λ x. FindsIn x c.args.name c.args.count None in
     subst P c.self.view_is
-    (λ f r n. missed c.source.result.now l c.self.inside.index.items (vec_capacity c.self.inside.index) c.args.name c.args.count f (subst (IsMeant c.source.result.now) same c.source.ensures.meant) c.self.invariant.index (ap (λ (rows : Rows). span_at rows (key_by c.args.name c.args.count)) (sym c.deref.ensures.value) ∙ ap (span_at c.deref.result.now) (sym c.key_by.ensures) ∙ sym c.span_of.ensures ∙ c.in-None.is) r n)
+    (λ f r n. missed c.source.result.now l c.self.inside.index.items (vec_capacity c.self.inside.index) c.args.name c.args.count f (subst (IsMeant c.source.result.now) same c.source.ensures.meant) c.self.invariant.index (ap (λ (rows : Rows). span_at rows (key_by c.args.name c.args.count)) (sym c.deref.ensures.value) ∙ ap (span_at c.deref.result.now) (sym c.key_by.ensures) ∙ sym c.span_near.ensures ∙ c.in-None.is) r n)
 
 pub returns-in-Some-clause-finds : goal.returns-in-Some-clause-finds
 returns-in-Some-clause-finds g c =
@@ -47,7 +47,7 @@ returns-in-Some-clause-finds g c =
     let Q : List CellName → Type 0 = λ row. AreCompiled (map f row) c.part.result.now (filter (is_of (f c.args.name) c.args.count) l.content.clauses) in
     let R : List CompiledClause → Type 0 = λ cs. AreCompiled (map f l.row) cs (filter (is_of (f c.args.name) c.args.count) l.content.clauses) in
     subst Q (sym c.deref-in-Some.ensures.value) (subst R (sym c.part.ensures)
-    (found c.source.result.now l c.self.inside.index.items (vec_capacity c.self.inside.index) c.clauses.result.now c.args.name c.args.count s f (subst (IsMeant c.source.result.now) same c.source.ensures.meant) c.self.invariant.index (ap (λ (rows : Rows). span_at rows (key_by c.args.name c.args.count)) (sym c.deref.ensures.value) ∙ ap (span_at c.deref.result.now) (sym c.key_by.ensures) ∙ sym c.span_of.ensures ∙ c.in-Some.is) (subst A same c.clauses.ensures) r n)))
+    (found c.source.result.now l c.self.inside.index.items (vec_capacity c.self.inside.index) c.clauses.result.now c.args.name c.args.count s f (subst (IsMeant c.source.result.now) same c.source.ensures.meant) c.self.invariant.index (ap (λ (rows : Rows). span_at rows (key_by c.args.name c.args.count)) (sym c.deref.ensures.value) ∙ ap (span_at c.deref.result.now) (sym c.key_by.ensures) ∙ sym c.span_near.ensures ∙ c.in-Some.is) (subst A same c.clauses.ensures) r n)))
 
 pub returns-in-Some-clause-some : goal.returns-in-Some-clause-some
 returns-in-Some-clause-some g c =

@@ -1,0 +1,108 @@
+// What commands do to an account.
+
+ghost use Rattle.kl1_model.specs.State.{fresh};
+ghost use Rattle.std.specs.Prelude.{◌≡◌, [], OnErr};
+
+use kl1_command::{Host, Parsed, Performed, parse, perform, put_reply};
+use kl1_event::{ClauseNo, Event, GoalNo, Refusal, Reply, ShoenNo};
+use kl1_rows::{Text, cut};
+use std::alloc::{AllocError, Global};
+
+/// What stands in the place of an account: it does as each letter says. By `d` it does what it is asked for, by `r` it refuses
+/// that, by `m` it is refused memory, each time again; by another letter, and after the last, no goal can step.
+#[derive(Clone, Copy)]
+struct Letters<'a> {
+    left: &'a [u8],
+}
+
+impl Letters<'_> {
+    /// Whether what is asked for is done, by the next letter, which is taken unless it is `m`.
+    fn is_next_done(&mut self) -> Result<bool, AllocError>
+        ensures err { OnErr result (self.new ≡ self.old) }
+    {
+        let (is_done, left) = match self.left {
+            [b'd', left @ ..] => (true, left),
+            [b'r', left @ ..] => (false, left),
+            _ => return Err(AllocError),
+        };
+        self.left = left;
+        Ok(is_done)
+    }
+}
+
+impl Host for Letters<'_> {
+    ghost Reading = { Unit {0} };
+
+    ghost fits = { λ h f. ⊥ };
+
+    ghost state = { λ f h. fresh [] };
+
+    fn apply(&mut self, event: &Event) -> Result<Reply, AllocError> {
+        let is_done = self.is_next_done()?;
+        Ok(reply_by(is_done, event))
+    }
+
+    fn reduce(&mut self, _goal: GoalNo, _clause: ClauseNo) -> Result<Option<Refusal>, AllocError> {
+        if self.is_next_done()? {
+            return Ok(None);
+        }
+        Ok(Some(Refusal::Journal))
+    }
+
+    fn whole_value(&mut self, _shoen: ShoenNo) -> Result<Option<Vec<u8>>, AllocError> {
+        Ok(None)
+    }
+
+    fn pick(&self) -> Option<(GoalNo, ClauseNo)> {
+        match self.left {
+            [b'd' | b'r' | b'm', _left @ ..] => Some((GoalNo(1), ClauseNo(0))),
+            _ => None,
+        }
+    }
+}
+
+/// The reply to an event that is done or refused.
+fn reply_by(is_done: bool, event: &Event) -> Reply {
+    if !is_done {
+        return Reply::Refused(Refusal::Journal);
+    }
+    match event {
+        Event::Reduce { .. } => Reply::Reduced,
+        Event::Control { .. } => Reply::Sent,
+        _ => Reply::Quiet(true),
+    }
+}
+
+/// Puts what became of a command.
+fn put_performed(told: &mut Text, performed: &Performed) {
+    match performed {
+        Performed::Whole(reply) => {
+            let done = put_reply(&mut told.bytes, reply);
+            told.note(done);
+        }
+        Performed::Short { steps } => {
+            told.put(b"short ");
+            told.put_number(*steps);
+        }
+        Performed::Memory => told.put(b"memory"),
+    }
+}
+
+/// Puts what the command of a line does to letters, and behind a bar those that are left.
+fn put_acted(told: &mut Text, line: &[u8], letters: &[u8]) {
+    let mut host = Letters { left: letters };
+    match parse(told.alloc, line) {
+        Ok(Parsed::Command(command)) => put_performed(told, &perform(&mut host, &command)),
+        _ => told.fail(),
+    }
+    told.put(b"|");
+    told.put(host.left);
+}
+
+/// Whether the command of a line, which stands before a bar, does this to the letters after it.
+pub fn is_acted(alloc: Global, act: &[u8], wanted: &[u8]) -> bool {
+    let (line, letters) = cut(act, b'|');
+    let mut told = Text::new(alloc);
+    put_acted(&mut told, line, letters);
+    !told.has_failed && told.bytes.as_slice() == wanted
+}
