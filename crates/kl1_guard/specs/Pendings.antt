@@ -1,5 +1,6 @@
 -- What operations that wait for an operand make of it.
-use Rattle.std.specs.Prelude.{◌≡◌, ℕ, List, [], ◌∷◌, ◌++◌}
+use Rattle.std.specs.Prelude.{◌≡◌, ℕ, ◌<◌, List, [], ◌∷◌, ◌++◌, length}
+use Rattle.std.specs.List.{All}
 use Rattle.kl1_model.specs.declared.built_in.BuiltIn.{BuiltIn}
 use Rattle.kl1_model.specs.declared.number.Number.{Number}
 use Rattle.kl1_model.specs.Term.{Term}
@@ -41,10 +42,10 @@ abbrev pub CarriesAs : {A : Type 0} → (A → Term) → ℕ → Evaluated → C
 CarriesAs term left e (To b) ps = e ≡ going_on (scan left (term b)) (after term ps)
 CarriesAs term left e (Whole x) ps = e ≡ comes_to x
 
--- an operand to which a number leads is the last of those that weren't looked at yet
-abbrev pub TakesRight : {A : Type 0} → List A → List A → Carried A → Type 0
-TakesRight before now (To b) = before ≡ now ++ b ∷ []
-TakesRight before now (Whole x) = Unit {0}
+-- an operand to which a number leads stands somewhere, as those that weren't looked at yet, which are fewer than before
+abbrev pub LeavesRights : {A : Type 0} → (A → Type 0) → List A → List A → Carried A → Type 0
+LeavesRights IsAt before now (To b) = IsAt b × All IsAt now × (length now < length before)
+LeavesRights IsAt before now (Whole x) = Unit {0}
 
 -- a number after some operations comes to what another one comes to after others
 abbrev pub ComesToSame : {A : Type 0} → List (Pending A) → Number → List (Pending A) → Number → Type 0

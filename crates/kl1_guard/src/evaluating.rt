@@ -34,7 +34,7 @@ fn scan<N: NameValue, T: View<N>>(
     'parts: loop {
         match part_of(view, at) {
             Part::Variable(variable) => return Evaluated::Awaits(variable),
-            Part::Integer(integer) => match carry(stack, Number::Value(integer)) {
+            Part::Integer(integer) => match carry(view, stack, Number::Value(integer)) {
                 Carried::To(next) => at = next,
                 Carried::Whole(number) => return Evaluated::ComesTo(number),
             },
