@@ -12,7 +12,7 @@ ghost use Rattle.kl1_moves.specs.Kinds.{IsKind, KindIn, call_kind, callee_kind};
 use crate::call::Call;
 use crate::calling::{Callee, called, called_in};
 use crate::naming::is_built_in;
-use crate::shape::{Shape, shape_of};
+use crate::walking::walk;
 use kl1_model::BuiltIn;
 use kl1_store::{Cell, Qualified, Store};
 use kl1_text::NameValue;
@@ -72,16 +72,23 @@ fn kind_of_whole<N: NameValue>(store: &Store<N>, goal: Cell<N>) -> Kind<N>
     ensures inside { KindIn store.now.held result }
     ensures kind { (f : N → List ℕ) → Reads N.built f → IsKind f store.now.held (term_of f store.now.held goal) result }
 {
-    match shape_of(store, goal) {
-        Shape::Variable(variable) => Kind::Waits(variable),
-        Shape::Other => Kind::Nothing,
-        Shape::Atom(name) => {
+    let _ = store.mark();
+    match walk(store, goal) {
+        Cell::Variable(variable) => Kind::Waits(variable),
+        Cell::Integer(_) => Kind::Nothing,
+        Cell::Atom(name) => {
             if is_built_in(name, BuiltIn::True) {
                 return Kind::Goes;
             }
             Kind::Nothing
         }
-        Shape::Two(name, left, right) => kind_of_two(store, name, left, right),
+        Cell::Structure(structure) => {
+            let head = store.look(structure);
+            if head.count != 2 {
+                return Kind::Nothing;
+            }
+            kind_of_two(store, head.name, structure)
+        }
     }
 }
 
@@ -129,24 +136,20 @@ fn kind_of_callee<N: NameValue>(callee: Callee<N>) -> Kind<N>
 
 /// What kind of goal a structure of two arguments is.
 #[inline(always)]
-fn kind_of_two<N: NameValue>(store: &Store<N>, name: N, left: Cell<N>, right: Cell<N>) -> Kind<N>
-    requires left_in { IsIn store.now.held left }
-    requires right_in { IsIn store.now.held right }
-    ensures inside { KindIn store.now.held result }
-    ensures kind { (f : N → List ℕ) → Reads N.built f → IsKind f store.now.held (two_terms f store.now.held name left right) result }
+fn kind_of_two<N: NameValue>(store: &Store<N>, name: N, structure: u32) -> Kind<N>
 {
-    if is_built_in(name, BuiltIn::Colon) {
-        let _ = store.mark();
-        return kind_of_callee(called(store, left, right));
-    }
     if is_built_in(name, BuiltIn::Equal) {
-        return Kind::Unifies(left, right);
+        return Kind::Unifies(store.argument(structure, 0), store.argument(structure, 1));
     }
     if is_built_in(name, BuiltIn::Assign) {
-        return Kind::Assigns(left, right);
+        return Kind::Assigns(store.argument(structure, 0), store.argument(structure, 1));
+    }
+    if is_built_in(name, BuiltIn::Colon) {
+        let _ = store.mark();
+        return kind_of_callee(called(store, store.argument(structure, 0), store.argument(structure, 1)));
     }
     if is_built_in(name, BuiltIn::AtomFrom) {
-        return Kind::Spells(left, right);
+        return Kind::Spells(store.argument(structure, 0), store.argument(structure, 1));
     }
     Kind::Nothing
 }
