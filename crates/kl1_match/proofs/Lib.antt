@@ -16,6 +16,7 @@ pub mod Outcomes
 pub mod Whole
 pub mod Trying
 pub mod Beside
+pub mod Kinds
 pub mod Coming
 pub mod Rising
 pub mod Among

@@ -10,6 +10,7 @@ pub mod Matching
 pub mod Outcomes
 pub mod Rising
 pub mod Verdicts
+pub mod Kinds
 pub mod Choices
 pub mod Stays
 pub mod Rooms

@@ -1,9 +1,8 @@
 // The cells that are still to be matched, in order: what is left of the arguments of structures within one another.
 
-ghost use Rattle.std.specs.Prelude.{◌≡◌, ◌<◌, ℕ, List, [], ◌∷◌, ◌≤◌, IsTrue, false, length, vec_len, vec_capacity};
+ghost use Rattle.std.specs.Prelude.{◌≡◌, ◌<◌, [], ◌∷◌, ◌≤◌, IsTrue, false, length, vec_len, vec_capacity};
 ghost use Rattle.kl1_store.specs.Held.{IsIn, arguments_of};
-ghost use Rattle.kl1_store.specs.Meaning.{term_of, terms_of};
-ghost use Rattle.kl1_match.specs.Verdicts.{arguments_of_goal};
+ghost use Rattle.kl1_match.specs.Kinds.{AreArguments};
 ghost use Rattle.kl1_match.specs.Spans.{span_cells, cells_left, IsSpan, AreSpans};
 
 use crate::span::Span;
@@ -29,7 +28,7 @@ pub(crate) fn span_in<N: NameValue>(store: &Store<N>, structure: u32) -> Span
 pub(crate) fn span_of<N: NameValue>(store: &Store<N>, goal: Cell<N>) -> Span
     requires { IsIn store.now.held goal }
     ensures within { IsSpan store.now.held result }
-    ensures means { (f : N → List ℕ) → terms_of f store.now.held (span_cells store.now.held result) ≡ arguments_of_goal (term_of f store.now.held goal) }
+    ensures means { AreArguments store.now.held goal result }
 {
     let _ = store.mark();
     match store.walk(goal) {

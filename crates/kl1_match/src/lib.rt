@@ -8,6 +8,7 @@ mod building;
 mod choice;
 mod goal_cells;
 mod instances;
+mod kind;
 mod meets;
 mod met;
 mod name_in;

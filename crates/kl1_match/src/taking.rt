@@ -7,6 +7,7 @@ ghost use Rattle.kl1_match.specs.Choices.{AreClauses};
 ghost use Rattle.kl1_match.specs.Candidates.{section_at, IsRun, RejectAs, Takes};
 
 use crate::accepting::accepts_in_order;
+use crate::arguments::span_of;
 use crate::choice::nth;
 use crate::place::Place;
 use crate::scratch::Scratch;
@@ -63,11 +64,12 @@ fn reject<N: NameValue>(
     let same = &mut scratch.same;
     let tests = &mut scratch.tests;
     let places = &mut scratch.places;
+    let arguments = span_of(store, goal);
     let mut tried: usize = 0;
     while tried < count {
         let clause = nth(clauses, tried);
         let verdict = judge::<_, false>(
-            store, names, clause, goal, behind, same, tests, places, awaited,
+            store, names, clause, goal, arguments, behind, same, tests, places, awaited,
         )?;
         if !is_rejection(verdict) {
             return Ok(false);
@@ -100,11 +102,13 @@ pub fn is_candidate<N: NameValue>(
         return Ok(false);
     }
     let clause = nth(clauses, place);
+    let arguments = span_of(store, goal);
     let verdict = judge::<_, true>(
         store,
         names,
         clause,
         goal,
+        arguments,
         &mut scratch.spans,
         &mut scratch.same,
         &mut scratch.tests,

@@ -7,6 +7,8 @@ ghost use Rattle.kl1_match.specs.Instances.{IsClause};
 ghost use Rattle.kl1_match.specs.Matching.{Keeps};
 ghost use Rattle.kl1_match.specs.TestTerms.{AreSound, tests_with};
 ghost use Rattle.kl1_match.specs.Testing.{RestComes};
+ghost use Rattle.kl1_match.specs.Spans.{IsSpan};
+ghost use Rattle.kl1_match.specs.Kinds.{AreArguments};
 ghost use Rattle.kl1_match.specs.Verdicts.{IsVerdict, IsTried};
 
 use crate::alike::compare_each;
@@ -42,11 +44,13 @@ pub fn verdict_on<N: NameValue>(
     requires goal { IsIn store.now.held goal }
     ensures { IfOk result (IsVerdict N.built names.now clause.now store.now.held goal places.new.items awaited.old.items awaited.new.items) }
 {
+    let arguments = span_of(store, goal);
     judge::<_, true>(
         store,
         names,
         clause,
         goal,
+        arguments,
         &mut scratch.spans,
         &mut scratch.same,
         &mut scratch.tests,
@@ -62,6 +66,7 @@ pub(crate) fn judge<N: NameValue, const KEEP: bool>(
     names: &[N],
     clause: &CompiledClause,
     goal: Cell<N>,
+    arguments: Span,
     behind: &mut Vec<Span>,
     same: &mut SameScratch,
     tests: &mut TestScratch<N>,
@@ -70,13 +75,17 @@ pub(crate) fn judge<N: NameValue, const KEEP: bool>(
 ) -> Result<Verdict, AllocError>
     requires clause { IsClause names.now clause.now }
     requires goal { IsIn store.now.held goal }
+    requires within { IsSpan store.now.held arguments }
+    requires means { AreArguments store.now.held goal arguments }
     ensures { IfOk result (λ v. Keeps KEEP places.new.items (λ ps. IsVerdict N.built names.now clause.now store.now.held goal ps awaited.old.items awaited.new.items v)) }
 {
     if clause.is_plain {
-        return judge_plain::<_, KEEP>(store, names, clause, goal, behind, places, awaited);
+        return judge_plain::<_, KEEP>(
+            store, names, clause, goal, arguments, behind, places, awaited,
+        );
     }
     judge_whole(
-        store, names, clause, goal, behind, same, tests, places, awaited,
+        store, names, clause, goal, arguments, behind, same, tests, places, awaited,
     )
 }
 
@@ -86,6 +95,7 @@ fn judge_plain<N: NameValue, const KEEP: bool>(
     names: &[N],
     clause: &CompiledClause,
     goal: Cell<N>,
+    arguments: Span,
     behind: &mut Vec<Span>,
     places: &mut Vec<Place<N>>,
     awaited: &mut Vec<u32>,
@@ -93,10 +103,14 @@ fn judge_plain<N: NameValue, const KEEP: bool>(
     requires clause { IsClause names.now clause.now }
     requires plain { IsPlain clause.now.patterns.items clause.now.tests.items }
     requires goal { IsIn store.now.held goal }
+    requires within { IsSpan store.now.held arguments }
+    requires means { AreArguments store.now.held goal arguments }
     ensures { IfOk result (λ v. Keeps KEEP places.new.items (λ ps. IsVerdict N.built names.now clause.now store.now.held goal ps awaited.old.items awaited.new.items v)) }
 {
     let before = awaited.len();
-    match find_match::<_, KEEP>(store, names, clause, goal, behind, places, awaited)? {
+    match find_match::<_, KEEP>(
+        store, names, clause, goal, arguments, behind, places, awaited,
+    )? {
         Verdict::Accepts => Ok(Verdict::Accepts),
         Verdict::Suspends => Ok(Verdict::Suspends),
         Verdict::Rejects => {
@@ -139,6 +153,7 @@ fn judge_whole<N: NameValue>(
     names: &[N],
     clause: &CompiledClause,
     goal: Cell<N>,
+    arguments: Span,
     behind: &mut Vec<Span>,
     same: &mut SameScratch,
     tests: &mut TestScratch<N>,
@@ -147,10 +162,14 @@ fn judge_whole<N: NameValue>(
 ) -> Result<Verdict, AllocError>
     requires clause { IsClause names.now clause.now }
     requires goal { IsIn store.now.held goal }
+    requires within { IsSpan store.now.held arguments }
+    requires means { AreArguments store.now.held goal arguments }
     ensures { IfOk result (IsVerdict N.built names.now clause.now store.now.held goal places.new.items awaited.old.items awaited.new.items) }
 {
     let before = awaited.len();
-    let tried = find_match::<_, true>(store, names, clause, goal, behind, places, awaited)?;
+    let tried = find_match::<_, true>(
+        store, names, clause, goal, arguments, behind, places, awaited,
+    )?;
     if is_rejection(tried) {
         awaited.truncate(before);
         return Ok(Verdict::Rejects);
@@ -190,12 +209,15 @@ fn find_match<N: NameValue, const KEEP: bool>(
     names: &[N],
     clause: &CompiledClause,
     goal: Cell<N>,
+    arguments: Span,
     behind: &mut Vec<Span>,
     places: &mut Vec<Place<N>>,
     awaited: &mut Vec<u32>,
 ) -> Result<Verdict, AllocError>
     requires clause { IsClause names.now clause.now }
     requires goal { IsIn store.now.held goal }
+    requires within { IsSpan store.now.held arguments }
+    requires means { AreArguments store.now.held goal arguments }
     ensures { IfOk result (λ v. Keeps KEEP places.new.items (λ ps. IsTried N.built names.now clause.now store.now.held goal ps awaited.old.items awaited.new.items v)) }
 {
     let before = awaited.len();
@@ -203,7 +225,7 @@ fn find_match<N: NameValue, const KEEP: bool>(
     clear_places::<_, KEEP>(places, row.len())?;
     behind.clear();
     behind.reserve(row.len())?;
-    let mut span = span_of(store, goal);
+    let mut span = arguments;
     let mut at: usize = 0;
     while at < row.len() {
         if !is_left(store, &mut span, behind) {

@@ -16,10 +16,10 @@ pub loop-at-init : goal.loop-at-init
 loop-at-init g c =
     let h = c.args.store.now.held in
     record {
-      span = c.span_of-span.ensures.within;
+      span = c.requires.within;
       behind = none_behind h c.reserve.new.self.items (c.reserve.ensures.items ∙ c.clear.ensures.items);
-      gives = starts_kept g.N.NameValue.built c.args.names.now c.args.clause.now h c.args.goal (keeps_of g.row.KEEP) c.span_of-span.result c.reserve.new.self.items c.clear_places.new.places.items c.args.awaited.now.items
-          c.span_of-span.ensures.means (c.reserve.ensures.items ∙ c.clear.ensures.items) c.clear_places.ensures.empty;
+      gives = starts_kept g.N.NameValue.built c.args.names.now c.args.clause.now h c.args.goal (keeps_of g.row.KEEP) c.args.arguments c.reserve.new.self.items c.clear_places.new.places.items c.args.awaited.now.items
+          c.requires.means (c.reserve.ensures.items ∙ c.clear.ensures.items) c.clear_places.ensures.empty;
       behind_room = omega (arith, c.in_ok-reserve.ensures.ok, c.as_slice-row.ensures.len, c.reserve.ensures.len, c.clear.ensures.len);
       behind_len = omega (arith, c.reserve.ensures.len, c.clear.ensures.len);
       room = λ k. omega (arith, c.in_ok-clear_places.ensures.room k, c.as_slice-row.ensures.len);
