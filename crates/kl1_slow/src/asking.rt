@@ -1,8 +1,8 @@
 // Messages from the console, and what is asked of an account.
 
 use crate::matching::arguments_of;
-use crate::nodes::{Row, split_term};
-use crate::plain::{Answer, Plain, variable_row};
+use crate::nodes::{put_copy, split_term};
+use crate::plain::{Answer, Plain};
 use crate::reporting::{cell_row, variable_of};
 use crate::tree::{PlainLife, is_marked, marks_below, place_of, shoen_at};
 use kl1_term::{Node, Printer};
@@ -34,14 +34,18 @@ fn printed(alloc: Global, row: &[Node]) -> Result<Vec<u8>, AllocError> {
 impl Plain {
     /// Sends a message of one word to a shoen.
     pub fn tell(&mut self, shoen: u64, word: &[u8]) -> Option<Answer> {
-        let name = AtomText::read(word)?;
+        let Some(name) = AtomText::read(word) else {
+            return None;
+        };
         self.send(shoen, &[Node::Atom(name)], 1)
     }
 
     /// Sends a message that allows a shoen so many reductions more.
     pub fn allow(&mut self, shoen: u64, more: u64) -> Option<Answer> {
         let number = more.min(i64::MAX as u64) as i64;
-        let name = AtomText::read(b"allow")?;
+        let Some(name) = AtomText::read(b"allow") else {
+            return None;
+        };
         self.send(shoen, &[Node::Structure(name, 1), Node::Integer(number)], 2)
     }
 
@@ -60,32 +64,42 @@ impl Plain {
             return Some(Answer::Refused(8));
         }
         self.count_written(1, nodes);
-        self.put_message(shoen, message)?;
+        let Some(_done) = self.put_message(shoen, message) else {
+            return None;
+        };
         Some(Answer::Done)
     }
 
     /// Puts a message at the end of the control stream of a shoen.
     fn put_message(&mut self, shoen: u64, message: &[Node]) -> Option<()> {
-        let place = place_of(self.shoens.as_slice(), shoen)?;
+        let Some(place) = place_of(self.shoens.as_slice(), shoen) else {
+            return None;
+        };
         let end = variable_of(self.shoens[place].end.as_slice());
         self.take_variables(1);
         let next = self.last_variable;
-        let cell = cell_row(self.alloc, message, next).ok()?;
-        self.replace(end, cell.as_slice()).ok()?;
-        self.set_end(shoen, variable_row(self.alloc, next).ok()?);
-        Some(())
+        let Ok(cell) = cell_row(self.alloc, message, next) else {
+            return None;
+        };
+        let Ok(_done) = self.replace(end, cell.as_slice()) else {
+            return None;
+        };
+        self.set_end(shoen, next)
     }
 
-    /// Puts the end of the control stream of a shoen at the console.
-    fn set_end(&mut self, shoen: u64, end: Row) {
-        if let Some(place) = place_of(self.shoens.as_slice(), shoen) {
-            self.shoens[place].end = end;
+    /// Makes a variable the end of the control stream of a shoen at the console.
+    fn set_end(&mut self, shoen: u64, next: u64) -> Option<()> {
+        match place_of(self.shoens.as_slice(), shoen) {
+            Some(place) => put_copy(&mut self.shoens[place].end, &[Node::Variable(next)]).ok(),
+            None => None,
         }
     }
 
     /// The goal of a shoen that the console started, as it is shown.
     pub fn value(&self, shoen: u64) -> Option<Vec<u8>> {
-        let shoen = shoen_at(self.shoens.as_slice(), shoen)?;
+        let Some(shoen) = shoen_at(self.shoens.as_slice(), shoen) else {
+            return None;
+        };
         if shoen.parent != 0 {
             return None;
         }
@@ -94,7 +108,9 @@ impl Plain {
 
     /// How many goals there are in a shoen and below it, other than monitors.
     fn alive_below(&self, shoen: u64) -> Option<u64> {
-        let marks = marks_below(self.alloc, self.shoens.as_slice(), shoen)?;
+        let Some(marks) = marks_below(self.alloc, self.shoens.as_slice(), shoen) else {
+            return None;
+        };
         let mut count: u64 = 0;
         for goal in &self.goals {
             if !goal.is_monitor && is_marked(marks.as_slice(), goal.shoen) {
@@ -106,8 +122,12 @@ impl Plain {
 
     /// What is shown of a shoen.
     pub fn status(&self, number: u64) -> Option<PlainStatus> {
-        let alive = self.alive_below(number)?;
-        let shoen = shoen_at(self.shoens.as_slice(), number)?;
+        let Some(alive) = self.alive_below(number) else {
+            return None;
+        };
+        let Some(shoen) = shoen_at(self.shoens.as_slice(), number) else {
+            return None;
+        };
         let word: &'static [u8] = match shoen.life {
             PlainLife::Terminated => b"terminated",
             PlainLife::Aborted => b"aborted",
@@ -131,7 +151,9 @@ impl Plain {
 
     /// The reports of a shoen that the console started from one on, the first being 1, as they are shown: at most 64.
     pub fn reports(&self, shoen: u64, from: u64) -> Option<Vec<Vec<u8>>> {
-        let shoen = shoen_at(self.shoens.as_slice(), shoen)?;
+        let Some(shoen) = shoen_at(self.shoens.as_slice(), shoen) else {
+            return None;
+        };
         if shoen.parent != 0 {
             return None;
         }
@@ -145,7 +167,12 @@ impl Plain {
             let (report, rest) = split_term(cell);
             number = number.saturating_add(1);
             if number >= from && number - from < MOST_LISTED {
-                texts.push(printed(self.alloc, report).ok()?).ok()?;
+                let Ok(text) = printed(self.alloc, report) else {
+                    return None;
+                };
+                let Ok(_done) = texts.push(text) else {
+                    return None;
+                };
             }
             left = rest;
         }
@@ -159,8 +186,12 @@ impl Plain {
 
     /// The name of the module at a place, from 0 in order of loading, with the bytes of its source and the number of its clauses.
     pub fn module_at(&self, place: usize) -> Option<(AtomText, u64, u64)> {
-        let module = self.modules.get(place)?;
-        let bytes = self.sizes.get(place)?;
+        let Some(module) = self.modules.get(place) else {
+            return None;
+        };
+        let Some(bytes) = self.sizes.get(place) else {
+            return None;
+        };
         Some((module.name, *bytes, module.clauses.len() as u64))
     }
 }

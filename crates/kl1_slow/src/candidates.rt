@@ -35,22 +35,36 @@ pub fn clause_for(alloc: Global, modules: &[Source], term: &[Node]) -> Option<u6
         return Some(clause_for_expression(split_term(pair).1));
     }
     if let Some(pair) = arguments_of(term, b"atom_from") {
-        let mut text = Vec::new(alloc);
-        return Some(clause_by(spelled(split_term(pair).0, &mut text)?));
+        return clause_for_spelling(alloc, split_term(pair).0);
     }
     if let Some(order) = order_of(term) {
         return Some(clause_by(order.look()));
     }
+    clause_for_call(alloc, modules, term)
+}
+
+/// The number for what a goal does that waits for codes of a name.
+fn clause_for_spelling(alloc: Global, codes: &[Node]) -> Option<u64> {
+    let mut text = Vec::new(alloc);
+    match spelled(codes, &mut text) {
+        Some(found) => Some(clause_by(found)),
+        None => None,
+    }
+}
+
+/// The least number of a clause by which a call can step, as `clause_for` says it.
+fn clause_for_call(alloc: Global, modules: &[Source], term: &[Node]) -> Option<u64> {
     let mut places = Vec::new(alloc);
     let mut last_section = u64::MAX;
     for number in 1..MANY {
         let Some(parts) = clause_of(modules, term, number) else {
             return Some(if last_section == u64::MAX { 0 } else { MANY });
         };
-        match judged(alloc, parts, term, &mut places)? {
-            Verdict::Rejects => (),
-            Verdict::Suspends => last_section = last_section.min(parts.section),
-            Verdict::Accepts => {
+        match judged(alloc, parts, term, &mut places) {
+            None => return None,
+            Some(Verdict::Rejects) => (),
+            Some(Verdict::Suspends) => last_section = last_section.min(parts.section),
+            Some(Verdict::Accepts) => {
                 if parts.section <= last_section {
                     return Some(number);
                 }
@@ -71,8 +85,10 @@ fn are_rejected_above(
     for number in 1..MANY {
         match clause_of(modules, term, number) {
             Some(parts) if parts.section < section => {
-                if !matches!(judged(alloc, parts, term, &mut places)?, Verdict::Rejects) {
-                    return Some(false);
+                match judged(alloc, parts, term, &mut places) {
+                    None => return None,
+                    Some(Verdict::Rejects) => (),
+                    Some(_other) => return Some(false),
                 }
             }
             _ => return Some(true),
@@ -96,8 +112,9 @@ pub fn can_step(
     let Some(parts) = clause_of(modules, term, clause) else {
         return Some(false);
     };
-    match judged(alloc, parts, term, places)? {
-        Verdict::Accepts => are_rejected_above(alloc, modules, term, parts.section),
-        _ => Some(false),
+    match judged(alloc, parts, term, places) {
+        Some(Verdict::Accepts) => are_rejected_above(alloc, modules, term, parts.section),
+        Some(_other) => Some(false),
+        None => None,
     }
 }

@@ -106,7 +106,9 @@ pub fn computed(alloc: Global, nodes: &[Node]) -> Option<Outcome> {
             Node::Structure(name, _count) => applied(name, behind.pop()?, behind.pop()?),
             _ => return None,
         };
-        behind.push(outcome).ok()?;
+        let Ok(_done) = behind.push(outcome) else {
+            return None;
+        };
     }
     behind.pop()
 }

@@ -82,8 +82,12 @@ fn matched(patterns: &[Node], terms: &[Node], places: &mut Row) -> Option<Verdic
         };
         let (whole, behind) = split_term(terms);
         if number_in(pattern) != 0 {
-            places.push(*pattern).ok()?;
-            places.extend_from_slice(whole).ok()?;
+            let Ok(_done) = places.push(*pattern) else {
+                return None;
+            };
+            let Ok(_done) = places.extend_from_slice(whole) else {
+                return None;
+            };
             patterns = inside;
             terms = behind;
         } else if are_alike(pattern, term) {
@@ -150,7 +154,9 @@ fn of_tests(alloc: Global, tests: &[Term], heads: u64, places: &[Node]) -> Optio
     let mut verdict = Verdict::Accepts;
     for test in tests {
         let mut row = Vec::new(alloc);
-        put_instance(&mut row, test.nodes(), heads, places, 0).ok()?;
+        let Ok(_done) = put_instance(&mut row, test.nodes(), heads, places, 0) else {
+            return None;
+        };
         verdict = both(verdict, tested(alloc, row.as_slice())?);
     }
     Some(verdict)
@@ -175,10 +181,16 @@ pub fn judged(
 ) -> Option<Verdict> {
     places.clear();
     let mut patterns = Vec::new(alloc);
-    put_patterns(&mut patterns, parts).ok()?;
-    let verdict = matched(patterns.as_slice(), called_with(goal), places)?;
+    let Ok(_done) = put_patterns(&mut patterns, parts) else {
+        return None;
+    };
+    let Some(verdict) = matched(patterns.as_slice(), called_with(goal), places) else {
+        return None;
+    };
     let places = places.as_slice();
-    let tests = of_tests(alloc, parts.tests.as_slice(), heads_of(parts), places)?;
+    let Some(tests) = of_tests(alloc, parts.tests.as_slice(), heads_of(parts), places) else {
+        return None;
+    };
     Some(both(verdict, both(are_repeated(places), tests)))
 }
 

@@ -1,7 +1,7 @@
 // Whole terms as nodes in the order of reading.
 
 use kl1_term::Node;
-use std::alloc::AllocError;
+use std::alloc::{AllocError, Global};
 
 /// A whole term: its nodes in the order of reading.
 pub type Row = Vec<Node>;
@@ -62,6 +62,26 @@ pub fn replace_in(row: &mut Row, number: u64, by: &[Node]) -> Result<(), AllocEr
     put_replaced(&mut next, row.as_slice(), number, by)?;
     *row = next;
     Ok(())
+}
+
+/// Makes a row a copy of nodes.
+pub fn put_copy(row: &mut Row, nodes: &[Node]) -> Result<(), AllocError> {
+    row.clear();
+    row.extend_from_slice(nodes)?;
+    Ok(())
+}
+
+/// The nodes of three rows, one behind another.
+pub fn joined(
+    alloc: Global,
+    first: &[Node],
+    second: &[Node],
+    third: &[Node],
+) -> Result<Row, AllocError> {
+    let mut row = Vec::from_slice(alloc, first)?;
+    row.extend_from_slice(second)?;
+    row.extend_from_slice(third)?;
+    Ok(row)
 }
 
 /// Whether two nodes are one variable, one constant, or structures of one name and number of arguments.

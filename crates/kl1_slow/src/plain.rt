@@ -6,7 +6,7 @@ use crate::controls::{Heard, heard_of};
 use crate::counting::{put_module_names, put_names, structures_in};
 use crate::matching::put_instance;
 use crate::nodes::{Row, highest_in, replace_in};
-use crate::tree::{PlainLife, PlainShoen, is_enabled, shoen_at};
+use crate::tree::{PlainShoen, is_enabled, shoen_at};
 use kl1_read::{Source, read_module};
 use kl1_term::Node;
 use kl1_text::AtomText;
@@ -89,11 +89,6 @@ fn has_module(modules: &[Source], name: &AtomText) -> bool {
     false
 }
 
-/// The row of a variable.
-pub fn variable_row(alloc: Global, number: u64) -> Result<Row, AllocError> {
-    Vec::from_slice(alloc, &[Node::Variable(number)])
-}
-
 impl Plain {
     /// An account in which nothing has happened.
     pub fn fresh(alloc: Global) -> Self {
@@ -161,40 +156,45 @@ impl Plain {
         Ok(())
     }
 
-    /// Puts a module behind the others, with the size of its source and the names that are known then.
-    fn put_module(
-        &mut self,
-        module: Source,
-        bytes: u64,
-        names: Vec<AtomText>,
-    ) -> Result<(), AllocError> {
+    /// Puts a module behind the others, with the size of its source.
+    fn put_module(&mut self, module: Source, bytes: u64) -> Result<(), AllocError> {
         self.modules.push(module)?;
         self.sizes.push(bytes)?;
-        self.names = names;
         Ok(())
     }
 
-    /// The names that are known.
-    pub(crate) fn known_names(&self) -> Result<Vec<AtomText>, AllocError> {
-        Vec::from_slice(self.alloc, self.names.as_slice())
+    /// Whether there are more names than there may be; then only the first of them are kept, of which there are so many.
+    pub(crate) fn drops_names(&mut self, kept: usize) -> bool {
+        let is_past = self.names.len() > MOST_NAMES;
+        if is_past {
+            self.names.truncate(kept);
+        }
+        is_past
     }
 
     /// Loads a module whose source is good.
     pub fn load(&mut self, source: &[u8]) -> Option<Answer> {
-        let module = read_module(self.alloc, source).ok()?;
+        let Ok(module) = read_module(self.alloc, source) else {
+            return None;
+        };
         if has_module(self.modules.as_slice(), &module.name) {
             return Some(Answer::Refused(3));
         }
-        let mut names = self.known_names().ok()?;
-        put_module_names(&mut names, &module).ok()?;
-        if names.len() > MOST_NAMES {
+        let kept = self.names.len();
+        let Ok(_put) = put_module_names(&mut self.names, &module) else {
+            return None;
+        };
+        if self.drops_names(kept) {
             return Some(Answer::Refused(7));
         }
         if self.modules.len() >= MOST_MODULES {
+            self.names.truncate(kept);
             return Some(Answer::Refused(8));
         }
-        self.put_module(module, source.len() as u64, names).ok()?;
-        Some(Answer::Done)
+        match self.put_module(module, source.len() as u64) {
+            Ok(_put) => Some(Answer::Done),
+            Err(_refused) => None,
+        }
     }
 
     /// A term, with the first terms at the places of its first variables, of which there are so many, and with the next variables
@@ -220,39 +220,53 @@ impl Plain {
     /// Starts a goal that may be started, with an allowance and priorities from `low` to `high`. Its variables take the next
     /// numbers, then the ends of the control stream and of the report stream.
     pub fn start(&mut self, allowance: u64, low: u64, high: u64, goal: &[Node]) -> Option<Answer> {
-        let mut names = self.known_names().ok()?;
-        put_names(&mut names, goal).ok()?;
-        if names.len() > MOST_NAMES {
+        let kept = self.names.len();
+        let Ok(_put) = put_names(&mut self.names, goal) else {
+            return None;
+        };
+        if self.drops_names(kept) {
             return Some(Answer::Refused(7));
         }
         if !self.has_room_to_start(goal) {
+            self.names.truncate(kept);
             return Some(Answer::Refused(8));
         }
-        self.names = names;
-        let term = self.instance(goal, 0, &[]).ok()?;
-        let kept = self.instance(goal, 0, &[]).ok()?;
-        let count = highest_in(goal);
-        let control = self.last_variable.saturating_add(count).saturating_add(1);
-        let tail = control.saturating_add(1);
-        self.take_variables(count.saturating_add(2));
-        self.count_written(count.saturating_add(2), structures_in(goal));
-        let shoen = PlainShoen {
-            parent: 0,
-            allowance,
-            charged: 0,
-            low,
-            high,
-            life: PlainLife::Lives,
-            is_stopped: false,
-            is_broken: false,
-            control: variable_row(self.alloc, control).ok()?,
-            tail: variable_row(self.alloc, tail).ok()?,
-            goal: kept,
-            reports: variable_row(self.alloc, tail).ok()?,
-            end: variable_row(self.alloc, control).ok()?,
+        let Some(_opened) = self.open_started(allowance, low, high, goal) else {
+            return None;
         };
-        self.open(shoen, term)?;
         Some(Answer::Opened(self.count()))
+    }
+
+    /// A shoen of the console for a goal whose variables take the next numbers.
+    fn console_shoen(
+        &self,
+        allowance: u64,
+        low: u64,
+        high: u64,
+        goal: &[Node],
+    ) -> Result<PlainShoen, AllocError> {
+        let last = self.last_variable.saturating_add(highest_in(goal));
+        let control = [Node::Variable(last.saturating_add(1))];
+        let tail = [Node::Variable(last.saturating_add(2))];
+        let mut shoen = PlainShoen::fresh(self.alloc, 0, allowance, low, high);
+        put_instance(&mut shoen.goal, goal, 0, &[], self.last_variable)?;
+        shoen.put_streams(&control, &tail)?;
+        shoen.put_ends(&tail, &control)?;
+        Ok(shoen)
+    }
+
+    /// Opens a shoen of the console for a goal whose variables take the next numbers, as do the ends of its streams.
+    fn open_started(&mut self, allowance: u64, low: u64, high: u64, goal: &[Node]) -> Option<()> {
+        let Ok(term) = self.instance(goal, 0, &[]) else {
+            return None;
+        };
+        let Ok(shoen) = self.console_shoen(allowance, low, high, goal) else {
+            return None;
+        };
+        let variables = highest_in(goal).saturating_add(2);
+        self.take_variables(variables);
+        self.count_written(variables, structures_in(goal));
+        self.open(shoen, term)
     }
 
     /// Opens a shoen for a goal: its monitor takes the next number and the goal the one after, and it reports that it has started,
@@ -260,16 +274,25 @@ impl Plain {
     pub(crate) fn open(&mut self, shoen: PlainShoen, term: Row) -> Option<()> {
         let priority = shoen.high;
         let is_exhausted = shoen.allowance == 0;
-        self.shoens.push(shoen).ok()?;
+        let Ok(_put) = self.put_shoen(shoen, term, priority) else {
+            return None;
+        };
         let number = self.count();
-        let nothing = Vec::new(self.alloc);
-        self.put_goal(nothing, number, MONITOR_PRIORITY, true).ok()?;
-        self.put_goal(term, number, priority, false).ok()?;
-        self.report_word(number, b"started")?;
+        let Some(_reported) = self.report_word(number, b"started") else {
+            return None;
+        };
         if is_exhausted {
-            self.report_word(number, b"exhausted")?;
+            return self.report_word(number, b"exhausted");
         }
         Some(())
+    }
+
+    /// Puts a shoen behind the others, its monitor, and its goal with a priority.
+    fn put_shoen(&mut self, shoen: PlainShoen, term: Row, priority: u64) -> Result<(), AllocError> {
+        self.shoens.push(shoen)?;
+        let number = self.count();
+        self.put_goal(Vec::new(self.alloc), number, MONITOR_PRIORITY, true)?;
+        self.put_goal(term, number, priority, false)
     }
 
     /// The number of the clause by which the monitor of a shoen can step: 0, or `MANY` where it waits.
@@ -296,7 +319,9 @@ impl Plain {
         let mut best = None;
         let mut found = (0, 0);
         for goal in &self.goals {
-            let clause = self.clause_of_goal(goal)?;
+            let Some(clause) = self.clause_of_goal(goal) else {
+                return None;
+            };
             let is_first = match best {
                 None => true,
                 Some(other) => goes_before(goal, other),
@@ -315,11 +340,7 @@ impl Plain {
             replace_in(&mut goal.term, number, by)?;
         }
         for shoen in &mut self.shoens {
-            replace_in(&mut shoen.control, number, by)?;
-            replace_in(&mut shoen.tail, number, by)?;
-            replace_in(&mut shoen.goal, number, by)?;
-            replace_in(&mut shoen.reports, number, by)?;
-            replace_in(&mut shoen.end, number, by)?;
+            shoen.replace(number, by)?;
         }
         Ok(())
     }
@@ -370,7 +391,9 @@ impl Plain {
         if !self.can_step_at(place, clause, &mut places)? {
             return Some(Answer::Refused(6));
         }
-        self.step_at(place, clause, places.as_slice())?;
+        let Some(_done) = self.step_at(place, clause, places.as_slice()) else {
+            return None;
+        };
         Some(Answer::Done)
     }
 

@@ -1,7 +1,7 @@
 // Reports, and how shoens end.
 
-use crate::nodes::{Row, number_in};
-use crate::plain::{Plain, variable_row};
+use crate::nodes::{Row, joined, number_in, put_copy};
+use crate::plain::Plain;
 use crate::tree::{PlainLife, has_living_child, is_marked, marks_below, path_of, place_of};
 use kl1_term::Node;
 use kl1_text::AtomText;
@@ -12,21 +12,20 @@ const MOST_REPORTS: u64 = 65_536;
 
 /// A list cell of an element and the variable of a number.
 pub fn cell_row(alloc: Global, element: &[Node], next: u64) -> Result<Row, AllocError> {
-    let mut row = Vec::new(alloc);
-    row.push(Node::Structure(AtomText::of(b"."), 2))?;
-    row.extend_from_slice(element)?;
-    row.push(Node::Variable(next))?;
-    Ok(row)
+    let head = [Node::Structure(AtomText::of(b"."), 2)];
+    joined(alloc, &head, element, &[Node::Variable(next)])
 }
 
 /// The report of an exception with a kind and a goal or another term.
 fn exception_row(alloc: Global, kind: &[u8], term: &[Node]) -> Option<Row> {
-    let mut row = Vec::new(alloc);
-    row.push(Node::Structure(AtomText::of(b"exception"), 2))
-        .ok()?;
-    row.push(Node::Atom(AtomText::read(kind)?)).ok()?;
-    row.extend_from_slice(term).ok()?;
-    Some(row)
+    let Some(name) = AtomText::read(kind) else {
+        return None;
+    };
+    let head = [
+        Node::Structure(AtomText::of(b"exception"), 2),
+        Node::Atom(name),
+    ];
+    joined(alloc, &head, term, &[]).ok()
 }
 
 /// The number of the variable that a row is, 0 where it is none.
@@ -51,7 +50,9 @@ impl Plain {
     /// A report of a shoen. It is dropped where the stream is broken, and breaks the stream where its end is no variable or stands in
     /// the message, or the account has made its last report.
     pub(crate) fn report(&mut self, shoen: u64, message: &[Node]) -> Option<()> {
-        let place = place_of(self.shoens.as_slice(), shoen)?;
+        let Some(place) = place_of(self.shoens.as_slice(), shoen) else {
+            return None;
+        };
         if self.shoens[place].is_broken {
             return Some(());
         }
@@ -63,38 +64,49 @@ impl Plain {
         self.take_variables(1);
         self.reports = self.reports.saturating_add(1);
         let next = self.last_variable;
-        let cell = cell_row(self.alloc, message, next).ok()?;
-        self.replace(number, cell.as_slice()).ok()?;
-        self.set_tail(shoen, variable_row(self.alloc, next).ok()?);
-        Some(())
+        let Ok(cell) = cell_row(self.alloc, message, next) else {
+            return None;
+        };
+        let Ok(_done) = self.replace(number, cell.as_slice()) else {
+            return None;
+        };
+        self.set_tail(shoen, next)
     }
 
-    /// Puts the end of a shoen's reports.
-    fn set_tail(&mut self, shoen: u64, tail: Row) {
-        if let Some(place) = place_of(self.shoens.as_slice(), shoen) {
-            self.shoens[place].tail = tail;
+    /// Makes a variable the end of a shoen's reports.
+    fn set_tail(&mut self, shoen: u64, next: u64) -> Option<()> {
+        match place_of(self.shoens.as_slice(), shoen) {
+            Some(place) => put_copy(&mut self.shoens[place].tail, &[Node::Variable(next)]).ok(),
+            None => None,
         }
     }
 
     /// A report of one word.
     pub(crate) fn report_word(&mut self, shoen: u64, word: &[u8]) -> Option<()> {
-        let name = AtomText::read(word)?;
+        let Some(name) = AtomText::read(word) else {
+            return None;
+        };
         self.report(shoen, &[Node::Atom(name)])
     }
 
     /// A report of an exception.
     pub(crate) fn raise(&mut self, shoen: u64, kind: &[u8], term: &[Node]) -> Option<()> {
-        let row = exception_row(self.alloc, kind, term)?;
+        let Some(row) = exception_row(self.alloc, kind, term) else {
+            return None;
+        };
         self.report(shoen, row.as_slice())
     }
 
     /// Closes the report stream of a shoen, where it isn't broken and its end is a variable.
     fn close(&mut self, shoen: u64) -> Option<()> {
-        let place = place_of(self.shoens.as_slice(), shoen)?;
+        let Some(place) = place_of(self.shoens.as_slice(), shoen) else {
+            return None;
+        };
         let number = variable_of(self.shoens[place].tail.as_slice());
         if number != 0 && !self.shoens[place].is_broken {
-            self.replace(number, &[Node::Atom(AtomText::of(b"[]"))])
-                .ok()?;
+            return self
+                .replace(number, &[Node::Atom(AtomText::of(b"[]"))])
+                .ok();
         }
         Some(())
     }
@@ -140,7 +152,9 @@ impl Plain {
         for number in path {
             if self.ends_now(*number) {
                 self.end(*number);
-                ending.push(*number).ok()?;
+                let Ok(_done) = ending.push(*number) else {
+                    return None;
+                };
             }
         }
         Some(ending)
@@ -150,16 +164,24 @@ impl Plain {
     fn report_ends(&mut self, ending: &[u64]) -> Option<()> {
         for number in ending {
             self.remove_monitor(*number);
-            self.report_word(*number, b"terminated")?;
-            self.close(*number)?;
+            let Some(_done) = self.report_word(*number, b"terminated") else {
+                return None;
+            };
+            let Some(_done) = self.close(*number) else {
+                return None;
+            };
         }
         Some(())
     }
 
     /// Looks for terminations on the path of a shoen.
     pub(crate) fn settle(&mut self, shoen: u64) -> Option<()> {
-        let path = path_of(self.alloc, self.shoens.as_slice(), shoen)?;
-        let ending = self.end_on(path.as_slice())?;
+        let Some(path) = path_of(self.alloc, self.shoens.as_slice(), shoen) else {
+            return None;
+        };
+        let Some(ending) = self.end_on(path.as_slice()) else {
+            return None;
+        };
         self.report_ends(ending.as_slice())
     }
 
@@ -174,11 +196,17 @@ impl Plain {
     /// What comes after the effects of a reduction in a shoen: those on its path that have just reached their allowance and don't end
     /// now report that they are exhausted, and then come terminations.
     pub(crate) fn settle_charged(&mut self, shoen: u64) -> Option<()> {
-        let path = path_of(self.alloc, self.shoens.as_slice(), shoen)?;
-        let ending = self.end_on(path.as_slice())?;
+        let Some(path) = path_of(self.alloc, self.shoens.as_slice(), shoen) else {
+            return None;
+        };
+        let Some(ending) = self.end_on(path.as_slice()) else {
+            return None;
+        };
         for number in &path {
             if self.has_reached(*number) && !ending.as_slice().contains(number) {
-                self.report_word(*number, b"exhausted")?;
+                let Some(_done) = self.report_word(*number, b"exhausted") else {
+                    return None;
+                };
             }
         }
         self.report_ends(ending.as_slice())
@@ -186,7 +214,9 @@ impl Plain {
 
     /// Charges a shoen and all those in which it is.
     pub(crate) fn charge(&mut self, shoen: u64) -> Option<()> {
-        let path = path_of(self.alloc, self.shoens.as_slice(), shoen)?;
+        let Some(path) = path_of(self.alloc, self.shoens.as_slice(), shoen) else {
+            return None;
+        };
         for number in &path {
             if let Some(place) = place_of(self.shoens.as_slice(), *number) {
                 self.shoens[place].charged = self.shoens[place].charged.saturating_add(1);
@@ -198,7 +228,9 @@ impl Plain {
     /// Aborts a shoen: it and all below it that live are ended, without their goals and monitors, and it alone reports that and
     /// closes its stream.
     pub(crate) fn abort(&mut self, shoen: u64) -> Option<()> {
-        let marks = marks_below(self.alloc, self.shoens.as_slice(), shoen)?;
+        let Some(marks) = marks_below(self.alloc, self.shoens.as_slice(), shoen) else {
+            return None;
+        };
         let marks = marks.as_slice();
         let mut number: u64 = 0;
         for below in &mut self.shoens {
@@ -208,7 +240,9 @@ impl Plain {
             }
         }
         self.goals.retain(|goal| !is_marked(marks, goal.shoen));
-        self.report_word(shoen, b"aborted")?;
+        let Some(_done) = self.report_word(shoen, b"aborted") else {
+            return None;
+        };
         self.close(shoen)
     }
 }

@@ -2,7 +2,7 @@
 
 use crate::nodes::{Row, are_alike, number_in, put_replaced, split_term};
 use kl1_term::Node;
-use std::alloc::Global;
+use std::alloc::{AllocError, Global};
 
 /// Where two terms first differ.
 enum Difference<'a> {
@@ -63,19 +63,35 @@ fn first_difference(pair: &[Node]) -> Difference<'_> {
     Difference::Nowhere
 }
 
+/// Nodes with a term in place of a variable, which is put down with the term.
+fn replaced(
+    alloc: Global,
+    nodes: &[Node],
+    number: u64,
+    by: &[Node],
+    found: &mut Row,
+) -> Result<Row, AllocError> {
+    found.push(Node::Variable(number))?;
+    found.extend_from_slice(by)?;
+    let mut next = Vec::new(alloc);
+    put_replaced(&mut next, nodes, number, by)?;
+    Ok(next)
+}
+
 /// Puts down each replacement, a variable and the term that takes its place, that makes two terms one, which stand one behind
 /// the other; whether they can be one.
 pub fn solve(alloc: Global, pair: &[Node], found: &mut Row) -> Option<bool> {
-    let mut row = Vec::from_slice(alloc, pair).ok()?;
+    let Ok(mut row) = Vec::from_slice(alloc, pair) else {
+        return None;
+    };
     for _ in 0..=pair.len() {
         match first_difference(row.as_slice()) {
             Difference::Nowhere => return Some(true),
             Difference::Clash => return Some(false),
             Difference::Variable(number, by) => {
-                found.push(Node::Variable(number)).ok()?;
-                found.extend_from_slice(by).ok()?;
-                let mut next = Vec::new(alloc);
-                put_replaced(&mut next, row.as_slice(), number, by).ok()?;
+                let Ok(next) = replaced(alloc, row.as_slice(), number, by, found) else {
+                    return None;
+                };
                 row = next;
             }
         }

@@ -3,14 +3,15 @@
 use crate::controls::{Heard, heard_of};
 use crate::counting::{put_name, structures_in};
 use crate::expressions::{Outcome, outcome_of};
-use crate::matching::{arguments_of, clause_of, heads_of};
-use crate::nodes::{Row, highest_in, split_term};
+use crate::matching::{arguments_of, clause_of, heads_of, put_instance};
+use crate::nodes::{Row, highest_in, joined, put_copy, split_term};
 use crate::orders::{Found, PlainOrder, number_at, order_of, spelled};
-use crate::plain::{MOST_GOALS, MOST_NAMES, MOST_SHOENS, Plain, PlainGoal};
+use crate::plain::{MOST_GOALS, MOST_SHOENS, Plain, PlainGoal};
 use crate::solving::solve;
-use crate::tree::{PlainLife, PlainShoen, path_of, place_of, shoen_at};
+use crate::tree::{PlainShoen, path_of, place_of, shoen_at};
 use kl1_term::Node;
 use kl1_text::AtomText;
+use std::alloc::{AllocError, Global};
 
 /// The most shoens on a path.
 const MOST_DEPTH: usize = 32;
@@ -18,14 +19,46 @@ const MOST_DEPTH: usize = 32;
 /// The greatest allowance.
 const MOST_ALLOWANCE: u64 = 9_223_372_036_854_775_807;
 
-/// Goals of a body with their priorities, how many of their variables are new, and how many structures stand in their arguments as
-/// they are written.
+/// Goals of a body with their priorities, how many variables stand in the head of their clause, how many of their own are new, and
+/// how many structures stand in their arguments as they are written.
 #[derive(Drop)]
 struct PlainBody {
     goals: Vec<Row>,
     priorities: Vec<u64>,
+    heads: u64,
     fresh: u64,
     nodes: u64,
+}
+
+impl PlainBody {
+    /// No goals yet, of a clause with so many variables in its head.
+    fn empty(alloc: Global, heads: u64) -> Self {
+        PlainBody {
+            goals: Vec::new(alloc),
+            priorities: Vec::new(alloc),
+            heads,
+            fresh: 0,
+            nodes: 0,
+        }
+    }
+
+    /// Puts the instance of a goal behind the others, with its priority; new variables take the numbers behind the last one.
+    fn put(
+        &mut self,
+        written: &[Node],
+        priority: u64,
+        places: &[Node],
+        last: u64,
+    ) -> Result<(), AllocError> {
+        let mut row = Vec::new(*self.goals.allocator());
+        put_instance(&mut row, written, self.heads, places, last)?;
+        self.goals.push(row)?;
+        self.priorities.push(priority)?;
+        let fresh = highest_in(written).saturating_sub(self.heads);
+        self.fresh = self.fresh.max(fresh);
+        self.nodes = self.nodes.saturating_add(structures_in(written));
+        Ok(())
+    }
 }
 
 /// A number clipped to a range.
@@ -50,7 +83,9 @@ impl Plain {
                 break;
             };
             let (by, rest) = split_term(behind);
-            self.replace(*number, by).ok()?;
+            let Ok(_done) = self.replace(*number, by) else {
+                return None;
+            };
             left = rest;
         }
         Some(())
@@ -67,8 +102,9 @@ impl Plain {
 
     /// Makes a term one with a node.
     fn unify_with(&mut self, goal: &PlainGoal, term: &[Node], node: Node) -> Option<()> {
-        let mut both = Vec::from_slice(self.alloc, term).ok()?;
-        both.push(node).ok()?;
+        let Ok(both) = joined(self.alloc, term, &[node], &[]) else {
+            return None;
+        };
         self.unify(goal, both.as_slice())
     }
 
@@ -84,13 +120,16 @@ impl Plain {
 
     /// Uses a text as a name, and makes a term one with it; it stays used where that fails.
     fn use_name(&mut self, goal: &PlainGoal, target: &[Node], text: &[u8]) -> Option<()> {
-        let name = AtomText::read(text)?;
-        let mut names = self.known_names().ok()?;
-        put_name(&mut names, &name).ok()?;
-        if names.len() > MOST_NAMES {
+        let Some(name) = AtomText::read(text) else {
+            return None;
+        };
+        let kept = self.names.len();
+        let Ok(_done) = put_name(&mut self.names, &name) else {
+            return None;
+        };
+        if self.drops_names(kept) {
             return self.raise(goal.shoen, b"exhaustion", goal.term.as_slice());
         }
-        self.names = names;
         self.unify_with(goal, target, Node::Atom(name))
     }
 
@@ -106,29 +145,25 @@ impl Plain {
 
     /// Whether a shoen may open a child, within the limits on shoens and depth.
     fn has_room_for_child(&self, parent: u64) -> Option<bool> {
-        let path = path_of(self.alloc, self.shoens.as_slice(), parent)?;
+        let Some(path) = path_of(self.alloc, self.shoens.as_slice(), parent) else {
+            return None;
+        };
         Some(self.shoens.len() < MOST_SHOENS && path.len() < MOST_DEPTH)
     }
 
     /// Opens the shoen that is ordered, as a child of another.
     fn open_child(&mut self, parent: u64, order: PlainOrder<'_>) -> Option<()> {
-        let term = Vec::from_slice(self.alloc, order.goal).ok()?;
-        let shoen = PlainShoen {
-            parent,
-            allowance: number_at(order.allowance),
-            charged: 0,
-            low: self.clipped_to(parent, number_at(order.low)),
-            high: self.clipped_to(parent, number_at(order.high)),
-            life: PlainLife::Lives,
-            is_stopped: false,
-            is_broken: false,
-            control: Vec::from_slice(self.alloc, order.control).ok()?,
-            tail: Vec::from_slice(self.alloc, order.reports).ok()?,
-            goal: Vec::new(self.alloc),
-            reports: Vec::new(self.alloc),
-            end: Vec::new(self.alloc),
+        let Ok(term) = Vec::from_slice(self.alloc, order.goal) else {
+            return None;
         };
-        self.open(shoen, term)
+        let low = self.clipped_to(parent, number_at(order.low));
+        let high = self.clipped_to(parent, number_at(order.high));
+        let allowance = number_at(order.allowance);
+        let mut shoen = PlainShoen::fresh(self.alloc, parent, allowance, low, high);
+        match shoen.put_streams(order.control, order.reports) {
+            Ok(_put) => self.open(shoen, term),
+            Err(_refused) => None,
+        }
     }
 
     /// Does what an order says, or reports why it can't be.
@@ -165,31 +200,20 @@ impl Plain {
 
     /// The instances of the goals in the body of the clause of a number.
     fn body_of(&self, goal: &PlainGoal, clause: u64, places: &[Node]) -> Option<PlainBody> {
-        let parts = clause_of(self.modules.as_slice(), goal.term.as_slice(), clause)?;
-        let heads = heads_of(parts);
-        let mut most = heads;
-        let mut nodes: u64 = 0;
-        let mut goals = Vec::new(self.alloc);
-        let mut priorities = Vec::new(self.alloc);
+        let Some(parts) = clause_of(self.modules.as_slice(), goal.term.as_slice(), clause) else {
+            return None;
+        };
+        let mut body = PlainBody::empty(self.alloc, heads_of(parts));
         for part in &parts.body {
-            let written = part.goal.nodes();
-            most = highest_in(written).max(most);
-            nodes = nodes.saturating_add(structures_in(written));
-            goals
-                .push(self.instance(written, heads, places).ok()?)
-                .ok()?;
             let priority = match part.priority {
                 None => goal.priority,
                 Some(number) => self.clipped_to(goal.shoen, number),
             };
-            priorities.push(priority).ok()?;
+            let Ok(_put) = body.put(part.goal.nodes(), priority, places, self.last_variable) else {
+                return None;
+            };
         }
-        Some(PlainBody {
-            goals,
-            priorities,
-            fresh: most.saturating_sub(heads),
-            nodes,
-        })
+        Some(body)
     }
 
     /// Puts terms behind the goals, as goals of a shoen, each with its priority.
@@ -199,7 +223,9 @@ impl Plain {
             let [priority, behind @ ..] = left else {
                 break;
             };
-            self.put_goal(term, shoen, *priority, false).ok()?;
+            let Ok(_put) = self.put_goal(term, shoen, *priority, false) else {
+                return None;
+            };
             left = behind;
         }
         Some(())
@@ -208,12 +234,18 @@ impl Plain {
     /// Puts the goals of a clause's body behind the others, in place of a goal that was removed, or reports that a limit would be
     /// passed.
     fn commit(&mut self, goal: &PlainGoal, clause: u64, places: &[Node]) -> Option<()> {
-        let PlainBody {
-            goals,
-            priorities,
-            fresh,
-            nodes,
-        } = self.body_of(goal, clause, places)?;
+        let Some(
+            PlainBody {
+                goals,
+                priorities,
+                heads: _,
+                fresh,
+                nodes,
+            },
+        ) = self.body_of(goal, clause, places)
+        else {
+            return None;
+        };
         let alive = self.alive().saturating_add(goals.len() as u64);
         if alive > MOST_GOALS || !self.has_room(fresh, nodes) {
             return self.raise(goal.shoen, b"exhaustion", goal.term.as_slice());
@@ -225,18 +257,26 @@ impl Plain {
 
     /// Does what a goal does by the clause of a number, by which it can step, and which was removed.
     pub(crate) fn step(&mut self, goal: &PlainGoal, clause: u64, places: &[Node]) -> Option<()> {
-        self.charge(goal.shoen)?;
+        let Some(_done) = self.charge(goal.shoen) else {
+            return None;
+        };
         if clause == 0 {
-            self.end_goal(goal)?;
+            let Some(_done) = self.end_goal(goal) else {
+                return None;
+            };
         } else {
-            self.commit(goal, clause, places)?;
+            let Some(_done) = self.commit(goal, clause, places) else {
+                return None;
+            };
         }
         self.settle_charged(goal.shoen)
     }
 
     /// Stops a shoen, or lets it go on, and reports that where it is something new.
     fn set_stopped(&mut self, shoen: u64, is_stopped: bool) -> Option<()> {
-        let place = place_of(self.shoens.as_slice(), shoen)?;
+        let Some(place) = place_of(self.shoens.as_slice(), shoen) else {
+            return None;
+        };
         if self.shoens[place].is_stopped == is_stopped {
             return Some(());
         }
@@ -247,7 +287,9 @@ impl Plain {
 
     /// Raises the allowance of a shoen, up to the greatest there is.
     fn raise_allowance(&mut self, shoen: u64, more: u64) -> Option<()> {
-        let place = place_of(self.shoens.as_slice(), shoen)?;
+        let Some(place) = place_of(self.shoens.as_slice(), shoen) else {
+            return None;
+        };
         let sum = self.shoens[place].allowance.saturating_add(more);
         self.shoens[place].allowance = sum.min(MOST_ALLOWANCE);
         Some(())
@@ -275,11 +317,19 @@ impl Plain {
 
     /// The step of the monitor of a shoen: it reads what stands at the front of its control stream.
     pub(crate) fn read_control(&mut self, shoen: u64) -> Option<()> {
-        let place = place_of(self.shoens.as_slice(), shoen)?;
-        let control = Vec::from_slice(self.alloc, self.shoens[place].control.as_slice()).ok()?;
+        let Some(place) = place_of(self.shoens.as_slice(), shoen) else {
+            return None;
+        };
+        let Ok(control) = Vec::from_slice(self.alloc, self.shoens[place].control.as_slice()) else {
+            return None;
+        };
         let (heard, message, rest) = heard_of(control.as_slice());
-        self.shoens[place].control = Vec::from_slice(self.alloc, rest).ok()?;
-        self.obey(shoen, heard, message)?;
+        let Ok(_put) = put_copy(&mut self.shoens[place].control, rest) else {
+            return None;
+        };
+        let Some(_obeyed) = self.obey(shoen, heard, message) else {
+            return None;
+        };
         self.settle(shoen)
     }
 }

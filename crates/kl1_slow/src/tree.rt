@@ -2,8 +2,9 @@
 
 ghost use Rattle.std.specs.Prelude.{◌<◌, length, IfSome};
 
-use crate::nodes::Row;
-use std::alloc::Global;
+use crate::nodes::{Row, replace_in};
+use kl1_term::Node;
+use std::alloc::{AllocError, Global};
 
 /// Whether a shoen lives, or how it has ended.
 #[derive(Clone, Copy)]
@@ -34,6 +35,48 @@ pub struct PlainShoen {
 }
 
 impl PlainShoen {
+    /// A shoen that lives, with no streams yet.
+    pub fn fresh(alloc: Global, parent: u64, allowance: u64, low: u64, high: u64) -> Self {
+        PlainShoen {
+            parent,
+            allowance,
+            charged: 0,
+            low,
+            high,
+            life: PlainLife::Lives,
+            is_stopped: false,
+            is_broken: false,
+            control: Vec::new(alloc),
+            tail: Vec::new(alloc),
+            goal: Vec::new(alloc),
+            reports: Vec::new(alloc),
+            end: Vec::new(alloc),
+        }
+    }
+
+    /// Puts its control stream, and the end of its reports.
+    pub fn put_streams(&mut self, control: &[Node], tail: &[Node]) -> Result<(), AllocError> {
+        self.control.extend_from_slice(control)?;
+        self.tail.extend_from_slice(tail)?;
+        Ok(())
+    }
+
+    /// Puts what the console keeps: its reports, and the end of its control stream.
+    pub fn put_ends(&mut self, reports: &[Node], end: &[Node]) -> Result<(), AllocError> {
+        self.reports.extend_from_slice(reports)?;
+        self.end.extend_from_slice(end)?;
+        Ok(())
+    }
+
+    /// Replaces a variable in its rows.
+    pub fn replace(&mut self, number: u64, by: &[Node]) -> Result<(), AllocError> {
+        replace_in(&mut self.control, number, by)?;
+        replace_in(&mut self.tail, number, by)?;
+        replace_in(&mut self.goal, number, by)?;
+        replace_in(&mut self.reports, number, by)?;
+        replace_in(&mut self.end, number, by)
+    }
+
     /// Whether it lives.
     pub fn lives(&self) -> bool {
         matches!(self.life, PlainLife::Lives)
@@ -57,7 +100,10 @@ pub fn place_of(shoens: &[PlainShoen], number: u64) -> Option<usize>
 
 /// The shoen of a number.
 pub fn shoen_at(shoens: &[PlainShoen], number: u64) -> Option<&PlainShoen> {
-    shoens.get(place_of(shoens, number)?)
+    match place_of(shoens, number) {
+        Some(place) => shoens.get(place),
+        None => None,
+    }
 }
 
 /// The numbers of a shoen and of all those in which it is, innermost first.
@@ -68,7 +114,9 @@ pub fn path_of(alloc: Global, shoens: &[PlainShoen], number: u64) -> Option<Vec<
         let Some(shoen) = shoen_at(shoens, left) else {
             break;
         };
-        path.push(left).ok()?;
+        let Ok(_put) = path.push(left) else {
+            return None;
+        };
         left = shoen.parent;
     }
     Some(path)
@@ -107,7 +155,9 @@ pub fn marks_below(alloc: Global, shoens: &[PlainShoen], number: u64) -> Option<
     for shoen in shoens {
         own = own.saturating_add(1);
         let is_below = own == number || is_marked(marks.as_slice(), shoen.parent);
-        marks.push(is_below).ok()?;
+        let Ok(_put) = marks.push(is_below) else {
+            return None;
+        };
     }
     Some(marks)
 }
