@@ -35,7 +35,7 @@ fn is_of(parts: &ClauseParts, called: &Node) -> bool {
 
 /// The clause of a number, from 1, in the predicate that a goal calls.
 pub fn clause_of<'a>(modules: &'a [Source], goal: &[Node], number: u64) -> Option<&'a ClauseParts> {
-    let [Node::Atom(module), called, ..] = arguments_of(goal, b":")? else {
+    let Some([Node::Atom(module), called, ..]) = arguments_of(goal, b":") else {
         return None;
     };
     let mut left = number;

@@ -40,7 +40,9 @@ pub fn spelled(codes: &[Node], text: &mut Vec<u8>) -> Option<Found> {
         let (code, rest) = split_term(cell);
         match code {
             [Node::Integer(number)] if *number >= 32 && *number <= 126 => {
-                text.push(*number as u8).ok()?
+                let Ok(_put) = text.push(*number as u8) else {
+                    return None;
+                };
             }
             [Node::Variable(_number)] => return Some(Found::Waits),
             _ => return Some(Found::Wrong),
@@ -67,7 +69,7 @@ pub struct PlainOrder<'a> {
 
 /// The order that a goal is: `shoen:execute` with six arguments.
 pub fn order_of(term: &[Node]) -> Option<PlainOrder<'_>> {
-    let [Node::Atom(module), Node::Structure(name, 6), inside @ ..] = arguments_of(term, b":")?
+    let Some([Node::Atom(module), Node::Structure(name, 6), inside @ ..]) = arguments_of(term, b":")
     else {
         return None;
     };

@@ -111,10 +111,11 @@ impl Plain {
     /// Makes a term what the expression behind it comes to, or reports that it comes to nothing.
     fn assign(&mut self, goal: &PlainGoal, pair: &[Node]) -> Option<()> {
         let (left, expression) = split_term(pair);
-        match outcome_of(self.alloc, expression)? {
-            Outcome::Is(number) => self.unify_with(goal, left, Node::Integer(number)),
-            Outcome::Overflows => self.raise(goal.shoen, b"overflow", goal.term.as_slice()),
-            _ => self.raise(goal.shoen, b"illegal_input", goal.term.as_slice()),
+        match outcome_of(self.alloc, expression) {
+            None => None,
+            Some(Outcome::Is(number)) => self.unify_with(goal, left, Node::Integer(number)),
+            Some(Outcome::Overflows) => self.raise(goal.shoen, b"overflow", goal.term.as_slice()),
+            Some(_illegal) => self.raise(goal.shoen, b"illegal_input", goal.term.as_slice()),
         }
     }
 
@@ -137,9 +138,10 @@ impl Plain {
     fn spell(&mut self, goal: &PlainGoal, pair: &[Node]) -> Option<()> {
         let (codes, target) = split_term(pair);
         let mut text = Vec::new(self.alloc);
-        match spelled(codes, &mut text)? {
-            Found::Right => self.use_name(goal, target, text.as_slice()),
-            _ => self.raise(goal.shoen, b"illegal_input", goal.term.as_slice()),
+        match spelled(codes, &mut text) {
+            None => None,
+            Some(Found::Right) => self.use_name(goal, target, text.as_slice()),
+            Some(_other) => self.raise(goal.shoen, b"illegal_input", goal.term.as_slice()),
         }
     }
 
