@@ -186,6 +186,7 @@ fn clear_places<N: NameValue, const KEEP: bool>(
 
 /// The verdict of the match of a clause with a goal alone, whatever its tests and the places of its variables say: that it
 /// agrees, clashes, or waits. `awaited` gets the variables that its patterns wait for, also where a later one clashes.
+#[inline(always)]
 fn find_match<N: NameValue, const KEEP: bool>(
     store: &Store<N>,
     names: &[N],
