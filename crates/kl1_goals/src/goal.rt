@@ -1,7 +1,9 @@
 // Goals.
 
-ghost use Rattle.std.specs.Prelude.{◌≡◌};
+ghost use Rattle.std.specs.Prelude.{◌≡◌, ◌≤◌, cond, Some, None};
+ghost use Rattle.kl1_model.specs.Limits.{monitor_priority};
 ghost use Rattle.kl1_goals.specs.Lists.{is_monitor, is_goal_of};
+ghost use Rattle.kl1_goals.specs.Readies.{stands};
 
 use crate::task::Task;
 
@@ -34,5 +36,19 @@ impl<N> Goal<N> {
         ensures { result ≡ is_goal_of shoen self.now }
     {
         self.shoen == shoen && !self.is_monitor()
+    }
+
+    /// The priority, where it can step.
+    pub(crate) fn ready_priority(&self) -> Option<u16>
+        requires { self.now.priority ≤ monitor_priority }
+        ensures { result ≡ cond (stands self.now) (Some self.now.priority) None }
+    {
+        if !self.is_enabled {
+            return None;
+        }
+        match self.standing {
+            None => None,
+            Some(_) => Some(self.priority as u16),
+        }
     }
 }

@@ -145,7 +145,7 @@ impl<N: NameValue> GoalTable<N> {
             &mut self.queue,
             goal.number,
         );
-        append(&mut self.slots, self.empty, &mut self.queue, goal);
+        append(&mut self.slots, self.empty, &mut self.queue, &goal);
         raise(&mut self.tallies, &goal);
         self.alive = raise_alive(self.alive, &goal);
     }

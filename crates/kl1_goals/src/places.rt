@@ -131,25 +131,24 @@ pub(crate) fn append<N: NameValue>(
     slots: &mut Vec<Slot<N>>,
     empty: usize,
     queue: &mut ReadyQueue,
-    goal: Goal<N>,
+    goal: &Goal<N>,
 )
     requires slots { AreSlots slots.old.items empty queue.old.ranks }
-    requires number { AreBelow goal.number (numbers_of slots.old.items) }
-    requires priority { goal.priority ≤ monitor_priority }
+    requires number { AreBelow goal.now.number (numbers_of slots.old.items) }
+    requires priority { goal.now.priority ≤ monitor_priority }
     requires room { vec_len slots.old < vec_capacity slots.old }
     requires queue_room { 0 < queue.old.room }
     ensures slots { AreSlots slots.new.items empty queue.new.ranks }
-    ensures goals { goals_in slots.new.items ≡ goals_in slots.old.items ++ goal ∷ [] }
+    ensures goals { goals_in slots.new.items ≡ goals_in slots.old.items ++ goal.now ∷ [] }
     ensures len { vec_len slots.new ≡ vec_len slots.old + 1 }
     ensures capacity { vec_capacity slots.new ≡ vec_capacity slots.old }
     ensures rest { queue.new.room + 1 ≡ queue.old.room }
 {
-    let slot = Slot {
-        goal,
+    slots.push_reserved(Slot {
+        goal: *goal,
         is_held: true,
-    };
-    slots.push_reserved(slot);
-    queue.extend(slot.priority());
+    });
+    queue.extend(goal.ready_priority());
 }
 
 /// Empties the place of a goal.

@@ -23,12 +23,6 @@ impl<N: NameValue> Slot<N> {
         if !self.is_held {
             return None;
         }
-        if !self.goal.is_enabled {
-            return None;
-        }
-        match self.goal.standing {
-            None => None,
-            Some(_) => Some(self.goal.priority as u16),
-        }
+        self.goal.ready_priority()
     }
 }

@@ -1,5 +1,5 @@
 -- Tests one after another.
-use Rattle.std.proofs.Common.{◌≡◌, ℕ, suc, ◌<◌, ◌≤◌, Bool, true, false, if◌then◌else◌, List, [], ◌∷◌, ◌++◌, length, take, drop, refl, sym, ap, ◌∙◌, subst, append-nil}
+use Rattle.std.proofs.Common.{◌≡◌, ℕ, ℤ, suc, ◌<◌, ◌≤◌, Bool, true, false, if◌then◌else◌, List, [], ◌∷◌, ◌++◌, length, take, drop, refl, sym, ap, ◌∙◌, subst, append-nil}
 use Rattle.std.specs.Prelude.{bytes_eq, codes, Option, Some, None, option_map}
 use Rattle.std.proofs.Math.Seq.{take-append_seam}
 use Rattle.std.proofs.lemmas.List.{drop_all}
@@ -21,7 +21,7 @@ use Rattle.kl1_guard.specs.declared.outcome.Outcome as found
 use Rattle.kl1_guard.specs.declared.outcome.Outcome.TheVariants.{Agrees, Clashes, Waits}
 use Rattle.kl1_guard.specs.declared.test.Test.{Test}
 use Rattle.kl1_guard.specs.declared.test.Test.TheVariants.{Holds, Looks, IsSame, IsOther, Compares}
-use Rattle.kl1_guard.specs.Outcomes.{outcome_of, LooksAs, ComparesAs}
+use Rattle.kl1_guard.specs.Outcomes.{outcome_of, LooksAs}
 use Rattle.kl1_guard.specs.Tests.{test_in, IsTestAt}
 use Rattle.kl1_match.specs.declared.passing.Passed.TheVariants.{Same, Differs, Unknown}
 use Rattle.kl1_match.specs.declared.test_view.TestAt.{TestAt}
@@ -33,7 +33,7 @@ use Rattle.kl1_match.specs.Waiting.{AreUnbound, AreSame}
 use Rattle.kl1_match.specs.Outcomes.{WaitsFor, ComesTo, Comes}
 use Rattle.kl1_match.specs.Passing.{Passes}
 use Rattle.kl1_match.specs.TestTerms.{Tests, last_of, named_in, value_in, terms_from, instruction_in, test_term, test_number, IsFreeIn, IsTermAt}
-use Rattle.kl1_match.specs.Testing.{is_variable, tests_from, SettledAs, SameAs, OtherAs, FoundAs, TestComes, TestsCome}
+use Rattle.kl1_match.specs.Testing.{is_variable, tests_from, SettledAs, SameAs, OtherAs, ComparedAs, FoundAs, TestComes, TestsCome}
 use Rattle.kl1_match.proofs.Naming.{same_as_itself}
 use Rattle.kl1_match.proofs.Among.{own_dropped, own_taken}
 use Rattle.kl1_match.proofs.Reading.{top_of, first_at, some_first}
@@ -143,6 +143,20 @@ module _ {N : Type 0} (built : BuiltIn → N) (t : Tests N) where
         subst W (sym (ap (λ a. own_outcome (last_of t) (other_outcome a (awaited (test_term built f t x) (test_term built f t y)))) k.0)) k.1;
   }
 
+  -- ---- a comparison
+
+  sides : (q : Comparison) (x y : TestAt N) (i j : ℤ) (b : Bool) (f : N → List ℕ) → b ≡ guard.compared q i j → test_term built f t x ≡ integer i → test_term built f t y ≡ integer j →
+      own_outcome (last_of t) (guard.comparison q (test_term built f t x) (test_term built f t y)) ≡ own_outcome (last_of t) (guard.decided b)
+  sides q x y i j b f e one two =
+      ap (λ k. own_outcome (last_of t) (guard.comparison q k (test_term built f t y))) one
+      ∙ ap (λ k. own_outcome (last_of t) (guard.comparison q (integer i) k)) two
+      ∙ ap (λ d. own_outcome (last_of t) (guard.decided d)) (sym e)
+
+  pub compared_integers : (q : Comparison) (x y : TestAt N) (i j : ℤ) (before : List ℕ) (b : Bool) → b ≡ guard.compared q i j →
+      ((f : N → List ℕ) → test_term built f t x ≡ integer i) → ((f : N → List ℕ) → test_term built f t y ≡ integer j) → ComparedAs built t q x y before before b
+  compared_integers q x y i j before true e one two = it_agrees built t.held _ before before refl (λ f reads. sides q x y i j true f e (one f) (two f))
+  compared_integers q x y i j before false e one two = it_clashes built t.held _ before before [] tt (sym (append-nil before)) (λ f reads. sides q x y i j false f e (one f) (two f))
+
   -- ---- a test
 
   found_at : (f : N → List ℕ) → Test (TestAt N) → Outcome
@@ -161,10 +175,8 @@ module _ {N : Type 0} (built : BuiltIn → N) (t : Tests N) where
   pub found_other : (test : Test (TestAt N)) (x y : TestAt N) (before after : List ℕ) (b : Bool) → test ≡ IsOther x y → OtherAs built t x y before after b → FoundAs built t test before after b
   found_other test x y before after b e c = comes_as built t.held _ _ before after b (λ f reads. sym (ap (λ k. own_outcome (last_of t) (guard.outcome_of (test_in (test_term built f t) k))) e)) c
 
-  pub found_compares : (test : Test (TestAt N)) (q : Comparison) (x y : TestAt N) (o : found.Outcome TestVariable) (before after : List ℕ) (b : Bool) → test ≡ Compares q x y →
-      ComparesAs built (test_number t) q (λ f. test_term built f t x) (λ f. test_term built f t y) o → SettledAs built t o before after b → FoundAs built t test before after b
-  found_compares test q x y o before after b e compared c =
-      comes_as built t.held _ _ before after b (λ f reads. ap (own_outcome (last_of t)) (compared f reads) ∙ sym (ap (λ k. own_outcome (last_of t) (guard.outcome_of (test_in (test_term built f t) k))) e)) c
+  pub found_compares : (test : Test (TestAt N)) (q : Comparison) (x y : TestAt N) (before after : List ℕ) (b : Bool) → test ≡ Compares q x y → ComparedAs built t q x y before after b → FoundAs built t test before after b
+  found_compares test q x y before after b e c = comes_as built t.held _ _ before after b (λ f reads. sym (ap (λ k. own_outcome (last_of t) (guard.outcome_of (test_in (test_term built f t) k))) e)) c
 
   pub test_there : (test other : Test (TestAt N)) → test ≡ other → IsTestAt (IsTermAt t) test → IsTestAt (IsTermAt t) other
   test_there test other e i = let P : Test (TestAt N) → Type 0 = λ k. IsTestAt (IsTermAt t) k in subst P e i

@@ -1,6 +1,7 @@
 -- What comes of a clause's tests.
 use Rattle.std.specs.Prelude.{ℕ, Bool, true, false, List, drop}
 use Rattle.kl1_model.specs.declared.built_in.BuiltIn.{BuiltIn}
+use Rattle.kl1_model.specs.declared.comparison.Comparison.{Comparison}
 use Rattle.kl1_model.specs.Term.{Term}
 use Rattle.kl1_model.specs.TermCode.{first_term}
 use Rattle.kl1_model.specs.Same.{passive, awaited}
@@ -41,6 +42,10 @@ SameAs built t x y before after answer = Comes built t.held (λ f. own_outcome (
 -- what comes of `\=`
 abbrev pub OtherAs : {N : Type 0} → (BuiltIn → N) → Tests N → TestAt N → TestAt N → List ℕ → List ℕ → Bool → Type 0
 OtherAs built t x y before after answer = Comes built t.held (λ f. own_outcome (last_of t) (other_outcome (passive (test_term built f t x) (test_term built f t y)) (awaited (test_term built f t x) (test_term built f t y)))) before after answer
+
+-- what comes of a comparison
+abbrev pub ComparedAs : {N : Type 0} → (BuiltIn → N) → Tests N → Comparison → TestAt N → TestAt N → List ℕ → List ℕ → Bool → Type 0
+ComparedAs built t c x y before after answer = Comes built t.held (λ f. own_outcome (last_of t) (guard.comparison c (test_term built f t x) (test_term built f t y))) before after answer
 
 -- what comes of a test
 abbrev pub FoundAs : {N : Type 0} → (BuiltIn → N) → Tests N → Test (TestAt N) → List ℕ → List ℕ → Bool → Type 0

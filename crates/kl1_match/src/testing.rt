@@ -1,17 +1,19 @@
 // The tests of a clause.
 
 ghost use Rattle.std.specs.Prelude.{◌≡◌, IfOk};
+ghost use Rattle.kl1_model.specs.Guard.{compared};
 ghost use Rattle.kl1_guard.specs.Outcomes.{IsWaiting};
 ghost use Rattle.kl1_guard.specs.Tests.{IsTestAt};
 ghost use Rattle.kl1_match.specs.TestTerms.{tests_of, instruction_in, AreSound, IsFreeIn, IsTermAt};
-ghost use Rattle.kl1_match.specs.Testing.{is_variable, SettledAs, SameAs, OtherAs, FoundAs, TestComes, TestsCome};
+ghost use Rattle.kl1_match.specs.Testing.{is_variable, SettledAs, SameAs, OtherAs, ComparedAs, FoundAs, TestComes, TestsCome};
 
 use crate::passing::{Passed, compare_terms};
 use crate::skips::behind_term;
 use crate::test_scratch::TestScratch;
 use crate::test_view::{TestAt, TestVariable, TestView, instruction_at};
 use kl1_clause::Instruction;
-use kl1_guard::{Outcome, Test, compare, look_at, test_at};
+use kl1_guard::{Form, Outcome, Test, View, compare, look_at, test_at};
+use kl1_model::Comparison;
 use kl1_store::SameScratch;
 use kl1_text::NameValue;
 use std::alloc::AllocError;
@@ -82,6 +84,64 @@ fn may_differ<N: NameValue>(
     }
 }
 
+/// Whether a comparison holds of two integers.
+#[inline(always)]
+fn holds(comparison: Comparison, left: i64, right: i64) -> bool
+    ensures { result ≡ compared comparison left right }
+{
+    match comparison {
+        Comparison::Less => left < right,
+        Comparison::Greater => left > right,
+        Comparison::AtMost => left <= right,
+        Comparison::AtLeast => left >= right,
+        Comparison::SameNumber => left == right,
+        Comparison::OtherNumber => left != right,
+    }
+}
+
+/// Whether a comparison may hold of what two expressions come to.
+fn compare_expressions<N: NameValue>(
+    view: &TestView<N>,
+    comparison: Comparison,
+    left: TestAt<N>,
+    right: TestAt<N>,
+    scratch: &mut TestScratch<N>,
+    awaited: &mut Vec<u32>,
+) -> Result<bool, AllocError>
+    requires left { IsTermAt (tests_of view.now) left }
+    requires right { IsTermAt (tests_of view.now) right }
+    ensures { IfOk result (ComparedAs N.built (tests_of view.now) comparison left right awaited.old.items awaited.new.items) }
+{
+    let outcome = compare(view, comparison, left, right, &mut scratch.guard)?;
+    settle(view, outcome, awaited)
+}
+
+/// Whether a comparison may hold of two terms; two integers, and an unbound variable on the left, need no scan.
+#[inline]
+fn compare_two<N: NameValue>(
+    view: &TestView<N>,
+    comparison: Comparison,
+    left: TestAt<N>,
+    right: TestAt<N>,
+    scratch: &mut TestScratch<N>,
+    awaited: &mut Vec<u32>,
+) -> Result<bool, AllocError>
+    requires left { IsTermAt (tests_of view.now) left }
+    requires right { IsTermAt (tests_of view.now) right }
+    ensures { IfOk result (ComparedAs N.built (tests_of view.now) comparison left right awaited.old.items awaited.new.items) }
+{
+    match view.form_of(left) {
+        Form::Integer(first) => {
+            if let Form::Integer(second) = view.form_of(right) {
+                return Ok(holds(comparison, first, second));
+            }
+        }
+        Form::Variable(variable) => return settle(view, Outcome::Waits(variable), awaited),
+        _ => {}
+    }
+    compare_expressions(view, comparison, left, right, scratch, awaited)
+}
+
 /// Whether a test may hold.
 fn may_hold<N: NameValue>(
     view: &TestView<N>,
@@ -99,8 +159,7 @@ fn may_hold<N: NameValue>(
         Test::IsSame(left, right) => may_be_same(view, left, right, scratch, same, awaited),
         Test::IsOther(left, right) => may_differ(view, left, right, scratch, same, awaited),
         Test::Compares(comparison, left, right) => {
-            let outcome = compare(view, comparison, left, right, &mut scratch.guard)?;
-            settle(view, outcome, awaited)
+            compare_two(view, comparison, left, right, scratch, awaited)
         }
     }
 }

@@ -56,7 +56,7 @@ pub fn verdict_on<N: NameValue>(
 }
 
 /// The same, over parts of scratch; where nothing is to be kept, nothing is said of `places`.
-#[inline]
+#[inline(always)]
 pub(crate) fn judge<N: NameValue, const KEEP: bool>(
     store: &Store<N>,
     names: &[N],
@@ -81,6 +81,7 @@ pub(crate) fn judge<N: NameValue, const KEEP: bool>(
 }
 
 /// The verdict of a plain clause.
+#[inline(always)]
 fn judge_plain<N: NameValue, const KEEP: bool>(
     store: &Store<N>,
     names: &[N],
@@ -185,6 +186,7 @@ fn clear_places<N: NameValue, const KEEP: bool>(
 
 /// The verdict of the match of a clause with a goal alone, whatever its tests and the places of its variables say: that it
 /// agrees, clashes, or waits. `awaited` gets the variables that its patterns wait for, also where a later one clashes.
+#[inline(always)]
 fn find_match<N: NameValue, const KEEP: bool>(
     store: &Store<N>,
     names: &[N],

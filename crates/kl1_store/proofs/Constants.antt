@@ -1,6 +1,6 @@
 -- A variable that becomes a constant.
-use Rattle.std.proofs.Common.{◌≡◌, ℕ, ◌+◌, ◌<◌, ◌≤◌, false, List, [], ◌∷◌, ◌++◌, length, take, refl, sym, ap, ◌∙◌, arith, ℤ, length-append}
-use Rattle.std.specs.Prelude.{Some}
+use Rattle.std.proofs.Common.{◌≡◌, ℕ, ◌+◌, ◌<◌, ◌≤◌, false, List, [], ◌∷◌, ◌++◌, length, take, refl, sym, ap, ◌∙◌, arith, subst, ℤ, length-append}
+use Rattle.std.specs.Prelude.{Some, Result, Ok, Err, OnOk, OnErr}
 use Rattle.std.proofs.lemmas.List.{take_all, take_at}
 use Rattle.kl1_model.specs.declared.built_in.BuiltIn.{BuiltIn}
 use Rattle.kl1_model.specs.Term.{Term, variable, integer, atom, occurs, Replacement}
@@ -88,6 +88,21 @@ levels_constant h v (Variable w) ls u a c = absurd c
 levels_constant h v (Integer i) ls u a c = levels-binding h v (Integer i) ls u a tt
 levels_constant h v (Atom n) ls u a c = levels-binding h v (Atom n) ls u a tt
 levels_constant h v (Structure s) ls u a c = absurd c
+
+-- after a constant that a variable took, or after an error, levels are in order, and the variables are as many as before
+pub kept_constant : {N X E : Type 0} (h new : Held N) (v : ℕ) (x : Cell N) (ls : Levels) (r : Result X E) → is_bound v h.bindings ≡ false → AreLevels h ls → IsConstant x →
+    OnOk r (new ≡ with_binding h v x) → OnErr r (new ≡ h) → AreLevels new ls × (new.variables ≡ h.variables)
+kept_constant {N = N} h new v x ls (Ok y) u a c ok err =
+    let P : Held N → Type 0 = λ k. AreLevels k ls in (subst P (sym ok) (levels_constant h v x ls u a c), ap (λ (k : Held N). k.variables) ok)
+kept_constant {N = N} h new v x ls (Err y) u a c ok err =
+    let P : Held N → Type 0 = λ k. AreLevels k ls in (subst P (sym err) a, ap (λ (k : Held N). k.variables) err)
+
+-- where a variable took a constant, that is what unification does
+pub took_constant : {N X E : Type 0} (built : BuiltIn → N) (h old new : Held N) (v : ℕ) (x : Cell N) (r : Result X E) → h ≡ old → is_bound v old.bindings ≡ false → IsConstant x →
+    OnOk r (new ≡ with_binding h v x) → OnOk r (UnifiesAs built old new (Variable v) x Bound)
+took_constant {N = N} built h old new v x (Ok y) e u c ok =
+    let P : Held N → Type 0 = λ k. UnifiesAs built old k (Variable v) x Bound in subst P (sym (ok ∙ ap (λ (k : Held N). with_binding k v x) e)) (unifies_constant built old v x u c)
+took_constant built h old new v x (Err y) e u c ok = tt
 
 -- a binding that is taken back leaves room for one
 pub room_again : {N : Type 0} (h : Held N) (v : ℕ) (x : Cell N) (old : Held N) (before : Room) (new : Held N) (after : Room) → Grown (with_binding h v x) old → new ≡ h → FreesRoom old before new after → 0 < after.bindings

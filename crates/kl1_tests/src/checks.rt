@@ -1,6 +1,6 @@
 // The checks in the order of the report.
 
-use crate::script::two_accounts_answer_over_each_word;
+use crate::script::{refused_load_puts_no_code_in, two_accounts_answer_over_each_word};
 use kl1_rows::{Text, put_check};
 use std::rt::Clock;
 use std::sync::Wait;
@@ -16,4 +16,6 @@ pub fn put_checks<R: Threads + Wait + Clock + Sync>(rt: &R, out: &mut Text) {
         b"script two_accounts_over_a_table_with_hints_of_each_word_answer",
         done,
     );
+    let done = refused_load_puts_no_code_in(rt, out.alloc);
+    put_check(out, b"script refused_load_puts_no_code_in", done);
 }

@@ -15,4 +15,4 @@ mod told;
 
 pub use kind::Kind;
 pub use rows::is_right;
-pub use serving::two_accounts_answer_over_each_word;
+pub use serving::{refused_load_puts_no_code_in, two_accounts_answer_over_each_word};

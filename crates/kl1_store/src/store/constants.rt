@@ -1,6 +1,6 @@
 // Variables that become constants, in room that is there.
 
-ghost use Rattle.std.specs.Prelude.{◌≡◌, ◌<◌, false};
+ghost use Rattle.std.specs.Prelude.{◌≡◌, ◌<◌, false, OnOk, OnErr, IsOk};
 ghost use Rattle.kl1_store.specs.declared.unified.Unified.TheVariants.{Bound};
 ghost use Rattle.kl1_store.specs.Held.{with_binding, is_bound};
 ghost use Rattle.kl1_store.specs.Constants.{IsConstant, HasJustBound, Rebinds};
@@ -16,6 +16,7 @@ use crate::point::Point;
 use crate::store::Store;
 use crate::take_back::take_back;
 use kl1_text::NameValue;
+use std::alloc::AllocError;
 
 /// Binds the variable that alone was bound since a mark, to a constant, to another one instead.
 fn rebind<N: NameValue>(
@@ -55,6 +56,22 @@ impl<N: NameValue> Store<N> {
             variable,
             constant,
         );
+    }
+
+    /// Binds an unbound variable to an atom or an integer: what unification of the two does.
+    pub fn unify_constant(&mut self, variable: u32, constant: Cell<N>) -> Result<(), AllocError>
+        requires within { variable < self.old.held.variables }
+        requires unbound { is_bound variable self.old.held.bindings ≡ false }
+        requires constant { IsConstant constant }
+        ensures held { OnOk result (self.new.held ≡ with_binding self.old.held variable constant) }
+        ensures unifies { OnOk result (UnifiesAs N.built self.old.held self.new.held (Cell.Variable variable) constant Bound) }
+        ensures err { OnErr result (self.new.held ≡ self.old.held) }
+        ensures room { 0 < self.old.room.bindings → IsOk result }
+        ensures spends { SpendsOnBindings self.old.held self.old.room self.new.held self.new.room }
+        ensures hooks { self.new.hooks ≡ self.old.hooks }
+        ensures hook_room { self.new.hook_room ≡ self.old.hook_room }
+    {
+        self.cells.bind(variable, constant)
     }
 
     /// Binds an unbound variable to an atom or an integer, in room that is there: what unification of the two does.

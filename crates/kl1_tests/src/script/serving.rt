@@ -30,6 +30,19 @@ const BOB: &[u8] =
 /// What bob answers.
 const BY_BOB: &[u8] = b"bob + loaded o\nbob + shoen 1\nbob + 2\nbob + o:p(b,2)\n";
 
+/// What is asked of alice, who loads two modules of one name.
+const TWICE: &[u8] =
+    b"alice load 36\n:- module app.\nfirst :- true | true.\nalice load 36\n:- module app.\nother :- true | true.\n";
+
+/// What alice answers.
+const BY_TWICE: &[u8] = b"alice + loaded app\nalice - 3 exists\n";
+
+/// The source of the module that is loaded.
+const LOADED: &[u8] = b":- module app.\nfirst :- true | true.";
+
+/// The source of the module that is refused.
+const REFUSED: &[u8] = b":- module app.\nother :- true | true.";
+
 /// Whether an account of this name and seat, over shared tables, answers these bytes to the records of a text.
 fn is_answered<R: Wait>(
     rt: &R,
@@ -95,4 +108,24 @@ pub fn two_accounts_answer_over_each_word<R: Wait>(
         }
     }
     Ok(true)
+}
+
+/// Whether of two modules of one name the code of the first is put into a table, and that of the second isn't.
+fn is_put_in_if_loaded<R: Wait>(rt: &R, alloc: Global) -> Result<bool, AllocError> {
+    let table = CodeTable::new(alloc)?;
+    let (names, mut seats) = AtomTable::new(alloc, 1)?;
+    let seat = next_seat(&names, &mut seats);
+    Ok(
+        is_answered(rt, alloc, b"alice", &names, seat, &table, TWICE, BY_TWICE)
+            && table.find(LOADED).is_some()
+            && table.find(REFUSED).is_none(),
+    )
+}
+
+/// The same, at the second try where memory is refused at the first.
+pub fn refused_load_puts_no_code_in<R: Wait>(rt: &R, alloc: Global) -> Result<bool, AllocError> {
+    match is_put_in_if_loaded(rt, alloc) {
+        Ok(true) => Ok(true),
+        _ => is_put_in_if_loaded(rt, alloc),
+    }
 }

@@ -1,8 +1,8 @@
 use Rattle.std.proofs.lemmas.Result.{IfOk-weaker}
 use Rattle.kl1_guard.specs.declared.test.Test.TheVariants.{Looks, IsSame, IsOther, Compares}
 use Rattle.kl1_match.specs.TestTerms.{tests_of}
-use Rattle.kl1_match.specs.Testing.{SettledAs, SameAs, OtherAs, FoundAs}
-use Rattle.kl1_match.proofs.TestSteps.{found_holds, found_looks, found_same, found_other, test_there}
+use Rattle.kl1_match.specs.Testing.{SettledAs, SameAs, OtherAs, ComparedAs, FoundAs}
+use Rattle.kl1_match.proofs.TestSteps.{found_holds, found_looks, found_same, found_other, found_compares, test_there}
 use Rattle.kl1_match.proofs.testing.may_hold.Goals as goal
 
 pub returns-in-Holds : goal.returns-in-Holds
@@ -50,8 +50,17 @@ returns-in-IsOther g c =
     IfOk-weaker c.may_differ.result (OtherAs built t c.in-IsOther.left c.in-IsOther.right before after) (FoundAs built t c.args.test before after)
     (λ b k. found_other built t c.args.test c.in-IsOther.left c.in-IsOther.right before after b c.in-IsOther.is k) c.may_differ.ensures
 
-pub compare-requires-clause-left : goal.compare-requires-clause-left
-compare-requires-clause-left g c = (test_there g.N.NameValue.built (tests_of c.args.view.now) c.args.test (Compares c.in-Compares.comparison c.in-Compares.left c.in-Compares.right) c.in-Compares.is c.requires).0
+pub compare_two-requires-clause-left : goal.compare_two-requires-clause-left
+compare_two-requires-clause-left g c = (test_there g.N.NameValue.built (tests_of c.args.view.now) c.args.test (Compares c.in-Compares.comparison c.in-Compares.left c.in-Compares.right) c.in-Compares.is c.requires).0
 
-pub compare-requires-clause-right : goal.compare-requires-clause-right
-compare-requires-clause-right g c = (test_there g.N.NameValue.built (tests_of c.args.view.now) c.args.test (Compares c.in-Compares.comparison c.in-Compares.left c.in-Compares.right) c.in-Compares.is c.requires).1
+pub compare_two-requires-clause-right : goal.compare_two-requires-clause-right
+compare_two-requires-clause-right g c = (test_there g.N.NameValue.built (tests_of c.args.view.now) c.args.test (Compares c.in-Compares.comparison c.in-Compares.left c.in-Compares.right) c.in-Compares.is c.requires).1
+
+pub returns-in-Compares : goal.returns-in-Compares
+returns-in-Compares g c =
+    let t = tests_of c.args.view.now in
+    let built = g.N.NameValue.built in
+    let before = c.args.awaited.now.items in
+    let after = c.compare_two.new.awaited.items in
+    IfOk-weaker c.compare_two.result (ComparedAs built t c.in-Compares.comparison c.in-Compares.left c.in-Compares.right before after) (FoundAs built t c.args.test before after)
+    (λ b k. found_compares built t c.args.test c.in-Compares.comparison c.in-Compares.left c.in-Compares.right before after b c.in-Compares.is k) c.compare_two.ensures
