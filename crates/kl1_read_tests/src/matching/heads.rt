@@ -8,7 +8,9 @@ ghost use Rattle.kl1_match.specs.Instances.{IsClause, AreThere};
 use crate::matching::kind::Kind;
 use crate::matching::printed_cells::{put_cells, put_goals, walked};
 use kl1_clause::{Code, CompiledClause, GoalCode};
-use kl1_match::{Place, Scratch, Verdict, put_goal, put_goal_variables, put_instance, reserve_goal};
+use kl1_match::{
+    Place, Scratch, Verdict, put_goal, put_goal_variables, put_instance, reserve_goal,
+};
 use kl1_moves::Trial;
 use kl1_read::read_goal;
 use kl1_rows::Text;
