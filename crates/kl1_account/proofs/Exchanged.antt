@@ -17,7 +17,7 @@ use Rattle.kl1_atoms.specs.Knowing.{option_cases, adds_one, still_known}
 use Rattle.kl1_store.specs.Hooks.{Hook}
 use Rattle.kl1_store.specs.Held.{Held}
 use Rattle.kl1_goals.specs.declared.goal.Goal.{Goal}
-use Rattle.kl1_shoen.specs.declared.shoen.Shoen.{Shoen}
+use Rattle.kl1_ancestors.specs.declared.shoen.Shoen.{Shoen}
 use Rattle.kl1_shoen.specs.Shoens.{shoen_in}
 use Rattle.kl1_modules.specs.Numbered.{Numbered}
 use Rattle.kl1_modules.specs.Finding.{contents}

@@ -23,7 +23,7 @@ use Rattle.kl1_clause.specs.NameList.{with_texts}
 use Rattle.kl1_goals.specs.declared.goal.Goal.{Goal}
 use Rattle.kl1_goals.specs.Lists.{stood_by}
 use Rattle.kl1_goals.specs.Tables.{Tabled}
-use Rattle.kl1_shoen.specs.declared.shoen.Shoen.{Shoen}
+use Rattle.kl1_ancestors.specs.declared.shoen.Shoen.{Shoen}
 use Rattle.kl1_shoen.specs.Shoens.{shoen_in}
 use Rattle.kl1_modules.specs.Numbered.{Numbered, own_names, number_of, IsRead, AreRead}
 use Rattle.kl1_modules.specs.Finding.{contents, is_numbered, TellsModule}

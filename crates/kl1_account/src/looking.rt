@@ -11,7 +11,7 @@ ghost use Rattle.kl1_moves.specs.Moves.{HasPredicate};
 ghost use Rattle.kl1_goals.specs.declared.task.Task.TheVariants.{Monitor, Reduces};
 ghost use Rattle.kl1_goals.specs.Lists.{is_monitor};
 ghost use Rattle.kl1_shoen.specs.Shoens.{is_enabled_at};
-ghost use Rattle.kl1_shoen.specs.declared.shoen.Shoen.{Shoen};
+ghost use Rattle.kl1_ancestors.specs.declared.shoen.Shoen.{Shoen};
 ghost use Rattle.kl1_modules.specs.Numbered.{Numbered};
 ghost use Rattle.kl1_modules.specs.Finding.{contents};
 ghost use Rattle.kl1_effects.specs.Fitting.{Reading};
