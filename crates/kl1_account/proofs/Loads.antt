@@ -29,7 +29,7 @@ use Rattle.kl1_modules.specs.Numbered.{Numbered, own_names, number_of, IsRead, A
 use Rattle.kl1_modules.specs.Finding.{contents, is_numbered, TellsModule}
 use Rattle.kl1_modules.proofs.Names.{number_reads}
 use Rattle.kl1_modules.proofs.Shelving.{tells}
-use Rattle.kl1_moves.specs.Hanging.{HangsOnEach}
+use Rattle.kl1_hooks.specs.Hanging.{HangsOnEach}
 use Rattle.kl1_effects.specs.declared.draft.Change.{Change}
 use Rattle.kl1_account.specs.declared.loading.Loading.{Loading}
 use Rattle.kl1_account.specs.declared.loading.Loading.TheVariants.{Refused, Drafted}

@@ -20,7 +20,7 @@ use Rattle.kl1_effects.specs.Settled.{IsSettled, AreSettled}
 use Rattle.kl1_account.specs.Waking.{is_among, IsSettledOr, AreSettledOr, KeepControls}
 use Rattle.kl1_account.specs.Looking.{AreOthersOf, WakesTold, LooksAtAdded}
 use Rattle.kl1_account.specs.Finishing.{SettlesTo, goals_placed}
-use Rattle.kl1_moves.proofs.Hooked.{grown_among}
+use Rattle.kl1_hooks.proofs.Hooked.{grown_among}
 use Rattle.kl1_account.proofs.Added.{all_more}
 use Rattle.kl1_account.proofs.Restood.{each_append}
 use Rattle.kl1_account.proofs.Waking.{AreTold, told_are_pending, filter_settled_or}

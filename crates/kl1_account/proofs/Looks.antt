@@ -31,7 +31,7 @@ use Rattle.kl1_model.specs.Tree.{path_within}
 use Rattle.kl1_shoen.specs.Shoens.{shoen_in, is_enabled_at}
 use Rattle.kl1_modules.specs.Numbered.{Numbered}
 use Rattle.kl1_modules.specs.Finding.{contents, Finds}
-use Rattle.kl1_moves.specs.Hanging.{HangsOnEach}
+use Rattle.kl1_hooks.specs.Hanging.{HangsOnEach}
 use Rattle.kl1_moves.proofs.Hooked.{hangs_on_same}
 use Rattle.kl1_effects.specs.declared.draft.Change.{Change}
 use Rattle.kl1_effects.specs.Fitting.{Reading, built}

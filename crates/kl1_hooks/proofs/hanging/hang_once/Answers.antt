@@ -1,7 +1,7 @@
 use Rattle.std.proofs.Common.{sym, ◌∙◌}
 use Rattle.std.proofs.lemmas.Result.{on_ok_weaker}
-use Rattle.kl1_moves.proofs.Hooked.{newest_hangs, just_hung}
-use Rattle.kl1_moves.proofs.hanging.hang_once.Goals as goal
+use Rattle.kl1_hooks.proofs.Hooked.{newest_hangs, just_hung}
+use Rattle.kl1_hooks.proofs.hanging.hang_once.Goals as goal
 
 pub returns-then-eq-clause-hangs : goal.returns-then-eq-clause-hangs
 returns-then-eq-clause-hangs g c = newest_hangs c.args.variable c.args.number c.args.store.now.hooks c.newest.result c.newest.ensures (sym c.if-eq.true ∙ c.eq.ensures)

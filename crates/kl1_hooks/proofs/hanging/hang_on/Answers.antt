@@ -1,5 +1,5 @@
-use Rattle.kl1_moves.proofs.Hooked.{next_within, next_hangs}
-use Rattle.kl1_moves.proofs.hanging.hang_on.Goals as goal
+use Rattle.kl1_hooks.proofs.Hooked.{next_within, next_hangs}
+use Rattle.kl1_hooks.proofs.hanging.hang_on.Goals as goal
 
 pub hang_once-requires : goal.hang_once-requires
 hang_once-requires g c = next_within c.args.store.now c.loop-variable.store c.args.number c.loop-variable.variable-index 0 c.args.awaited.now c.requires c.loop-variable-test.true c.loop-variable.invariant

@@ -1,9 +1,9 @@
-// Goals that hang on the variables that they wait for.
+// Numbers that hang on the variables that they wait for.
 
 ghost use Rattle.std.specs.Prelude.{◌≡◌, ◌<◌, Contains, OnOk};
 ghost use Rattle.kl1_store.specs.Hooks.{HasGrown};
-ghost use Rattle.kl1_match.specs.Waiting.{AreUnbound};
-ghost use Rattle.kl1_moves.specs.Hanging.{HangsOnEach};
+ghost use Rattle.kl1_store.specs.Unbound.{AreUnbound};
+ghost use Rattle.kl1_hooks.specs.Hanging.{HangsOnEach};
 
 use kl1_store::Store;
 use kl1_text::NameValue;
