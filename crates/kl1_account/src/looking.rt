@@ -33,6 +33,7 @@ use kl1_text::CellName;
 use std::alloc::AllocError;
 
 /// The clauses of the predicate of a goal of a kind; none where there is no such predicate, or it is no call.
+#[inline(always)]
 pub(crate) fn predicate_of<'a, C: CodeSource>(
     modules: &'a CodedModules<'_, C>,
     kind: Kind<CellName>,
@@ -167,6 +168,7 @@ fn control_standing(
 }
 
 /// The same of the monitor of a shoen; none where there is no such shoen.
+#[inline(never)]
 pub(crate) fn monitor_standing(
     store: &mut Store<CellName>,
     shoens: &ShoenTree<CellName>,
@@ -186,6 +188,7 @@ pub(crate) fn monitor_standing(
 
 /// The clause by which a goal can step, or none. The predicate of goals of one kind is known here and below; the goal's number is hung
 /// on each variable that it waits for.
+#[inline(always)]
 fn task_standing<C: CodeSource>(
     store: &mut Store<CellName>,
     shoens: &ShoenTree<CellName>,
