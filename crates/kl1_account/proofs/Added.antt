@@ -5,10 +5,10 @@ use Rattle.kl1_text.specs.declared.cell_name.CellName.{CellName}
 use Rattle.kl1_store.specs.Hooks.{Hook, Kept, HasGrown}
 use Rattle.kl1_store.specs.Held.{Held}
 use Rattle.kl1_goals.specs.declared.goal.Goal.{Goal}
-use Rattle.kl1_shoen.specs.declared.shoen.Shoen.{Shoen}
+use Rattle.kl1_ancestors.specs.declared.shoen.Shoen.{Shoen}
 use Rattle.kl1_modules.specs.Numbered.{Numbered}
-use Rattle.kl1_moves.specs.Hanging.{AreAmong}
-use Rattle.kl1_moves.proofs.Hooked.{HasGrown-same, HasGrown-trans, grown_among}
+use Rattle.kl1_hooks.specs.Hanging.{AreAmong}
+use Rattle.kl1_hooks.proofs.Hooked.{HasGrown-same, HasGrown-trans, grown_among}
 use Rattle.kl1_effects.specs.Fitting.{Reading}
 use Rattle.kl1_effects.specs.Kept.{IsTaskIn, AreGoalsIn}
 use Rattle.kl1_effects.specs.Works.{Knows}

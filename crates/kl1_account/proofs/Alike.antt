@@ -6,7 +6,7 @@ use Rattle.kl1_model.specs.Module.{is_among}
 use Rattle.kl1_model.specs.State.{is_living}
 use Rattle.kl1_model.specs.Tree.{path_within}
 use Rattle.kl1_text.specs.declared.cell_name.CellName.{CellName}
-use Rattle.kl1_shoen.specs.declared.shoen.Shoen.{Shoen}
+use Rattle.kl1_ancestors.specs.declared.shoen.Shoen.{Shoen}
 use Rattle.kl1_shoen.specs.Shoens.{has_number, parents_in, path_in, charged_in, is_blocking_in, is_blocking_at, is_enabled_at}
 
 -- two shoens hold back their goals alike

@@ -19,7 +19,7 @@ use Rattle.kl1_goals.specs.declared.task.Task.{Task}
 use Rattle.kl1_goals.specs.declared.task.Task.TheVariants.{Monitor, Reduces}
 use Rattle.kl1_goals.specs.declared.goal.Goal.{Goal}
 use Rattle.kl1_goals.specs.Lists.{is_monitor_task, is_monitor}
-use Rattle.kl1_shoen.specs.declared.shoen.Shoen.{Shoen}
+use Rattle.kl1_ancestors.specs.declared.shoen.Shoen.{Shoen}
 use Rattle.kl1_shoen.specs.Shoens.{shoen_in}
 use Rattle.kl1_shoen.proofs.Meaning.{Has, enabled_is}
 use Rattle.kl1_goals.specs.Readies.{Ready, goes_first, stands, ready_by, ready_of, better, first_from, chosen as chosen_pair}

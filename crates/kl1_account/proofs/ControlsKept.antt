@@ -2,7 +2,7 @@
 use Rattle.std.proofs.Common.{ℕ, List, [], ◌∷◌, length, arith}
 use Rattle.kl1_text.specs.declared.cell_name.CellName.{CellName}
 use Rattle.kl1_goals.specs.declared.goal.Goal.{Goal}
-use Rattle.kl1_shoen.specs.declared.shoen.Shoen.{Shoen}
+use Rattle.kl1_ancestors.specs.declared.shoen.Shoen.{Shoen}
 use Rattle.kl1_shoen.specs.Shoens.{AreNumbered}
 use Rattle.kl1_effects.specs.Kept.{AreOwned}
 use Rattle.kl1_account.specs.Waking.{KeepControls}

@@ -17,11 +17,11 @@ use Rattle.kl1_atoms.specs.Knowing.{option_cases, adds_one, still_known}
 use Rattle.kl1_store.specs.Hooks.{Hook}
 use Rattle.kl1_store.specs.Held.{Held}
 use Rattle.kl1_goals.specs.declared.goal.Goal.{Goal}
-use Rattle.kl1_shoen.specs.declared.shoen.Shoen.{Shoen}
+use Rattle.kl1_ancestors.specs.declared.shoen.Shoen.{Shoen}
 use Rattle.kl1_shoen.specs.Shoens.{shoen_in}
 use Rattle.kl1_modules.specs.Numbered.{Numbered}
 use Rattle.kl1_modules.specs.Finding.{contents}
-use Rattle.kl1_moves.specs.Hanging.{HangsOnEach}
+use Rattle.kl1_hooks.specs.Hanging.{HangsOnEach}
 use Rattle.kl1_effects.specs.Fitting.{Reading, Fits, built}
 use Rattle.kl1_effects.specs.Account.{Means, meaning, task_with, goal_with, shoen_with, texts_of}
 use Rattle.kl1_effects.specs.Naming.{AreSmall}

@@ -11,7 +11,7 @@ use Rattle.kl1_store.specs.Hooks.{Kept}
 use Rattle.kl1_goals.specs.declared.goal.Goal.{Goal}
 use Rattle.kl1_goals.specs.Lists.{is_other, is_monitor, is_monitor_of, is_flagged, enabled_by}
 use Rattle.kl1_goals.specs.Tables.{Tabled, AreBefore, IsNext}
-use Rattle.kl1_shoen.specs.declared.shoen.Shoen.{Shoen}
+use Rattle.kl1_ancestors.specs.declared.shoen.Shoen.{Shoen}
 use Rattle.kl1_shoen.specs.Shoens.{Tree, AreNumbered, is_enabled_at}
 use Rattle.kl1_modules.specs.Numbered.{Numbered}
 use Rattle.kl1_effects.specs.declared.draft.Draft.{Draft}

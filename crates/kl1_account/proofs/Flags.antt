@@ -10,9 +10,10 @@ use Rattle.kl1_model.specs.declared.life.Life.TheVariants.{Living}
 use Rattle.kl1_model.specs.State.{is_living}
 use Rattle.kl1_model.specs.Tree.{path_within}
 use Rattle.kl1_text.specs.declared.cell_name.CellName.{CellName}
-use Rattle.kl1_shoen.specs.declared.shoen.Shoen.{Shoen}
+use Rattle.kl1_ancestors.specs.declared.shoen.Shoen.{Shoen}
 use Rattle.kl1_shoen.specs.Shoens.{has_number, AreNumbered, AreLower, parents_in, path_in, is_on_path_in, charged_in, is_blocking_in, is_blocking_at, is_enabled_at}
-use Rattle.kl1_shoen.proofs.Paths.{path_among, beyond_path}
+use Rattle.kl1_ancestors.proofs.Paths.{beyond_path}
+use Rattle.kl1_shoen.proofs.Paths.{path_among}
 use Rattle.kl1_model.specs.TreeLaws.{ParentsAreLower}
 
 as_many : (ss : List (Shoen CellName)) → length (parents_in ss) ≡ length ss

@@ -16,8 +16,8 @@ use Rattle.kl1_store.specs.declared.cell.Cell.{Cell}
 use Rattle.kl1_store.specs.Held.{Held, IsIn}
 use Rattle.kl1_stream.specs.Elements.{HasNoElement, HasElement}
 use Rattle.kl1_goals.specs.declared.goal.Goal.{Goal}
-use Rattle.kl1_shoen.specs.declared.shoen.Origin.{Origin}
-use Rattle.kl1_shoen.specs.declared.shoen.Shoen.{Shoen}
+use Rattle.kl1_ancestors.specs.declared.shoen.Origin.{Origin}
+use Rattle.kl1_ancestors.specs.declared.shoen.Shoen.{Shoen}
 use Rattle.kl1_effects.specs.Fitting.{Reading, Fits, built}
 use Rattle.kl1_effects.specs.Account.{meaning, origin_with, shoen_with, with_kept}
 use Rattle.kl1_account.specs.Asked.{cells_of}

@@ -12,7 +12,7 @@ use Rattle.kl1_store.proofs.Telling.{is_told}
 use Rattle.kl1_goals.specs.declared.goal.Goal.{Goal}
 use Rattle.kl1_goals.specs.Lists.{is_other, has_number, is_monitor_of, is_flagged, number_of}
 use Rattle.kl1_goals.specs.Tables.{Ascend, AreInOrder}
-use Rattle.kl1_shoen.specs.declared.shoen.Shoen.{Shoen}
+use Rattle.kl1_ancestors.specs.declared.shoen.Shoen.{Shoen}
 use Rattle.kl1_modules.specs.Numbered.{Numbered}
 use Rattle.kl1_effects.specs.declared.draft.Draft.{Draft}
 use Rattle.kl1_effects.specs.Drafts.{restood, without_monitors, goals_left}
@@ -20,7 +20,7 @@ use Rattle.kl1_effects.specs.Settled.{IsSettled, AreSettled}
 use Rattle.kl1_account.specs.Waking.{is_among, IsSettledOr, AreSettledOr, KeepControls}
 use Rattle.kl1_account.specs.Looking.{AreOthersOf, WakesTold, LooksAtAdded}
 use Rattle.kl1_account.specs.Finishing.{SettlesTo, goals_placed}
-use Rattle.kl1_moves.proofs.Hooked.{grown_among}
+use Rattle.kl1_hooks.proofs.Hooked.{grown_among}
 use Rattle.kl1_account.proofs.Added.{all_more}
 use Rattle.kl1_account.proofs.Restood.{each_append}
 use Rattle.kl1_account.proofs.Waking.{AreTold, told_are_pending, filter_settled_or}

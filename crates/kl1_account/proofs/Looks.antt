@@ -26,12 +26,12 @@ use Rattle.kl1_moves.specs.Standing.{StandsAs}
 use Rattle.kl1_goals.specs.declared.task.Task.{Task}
 use Rattle.kl1_goals.specs.declared.task.Task.TheVariants.{Monitor, Reduces}
 use Rattle.kl1_goals.specs.declared.goal.Goal.{Goal}
-use Rattle.kl1_shoen.specs.declared.shoen.Shoen.{Shoen}
+use Rattle.kl1_ancestors.specs.declared.shoen.Shoen.{Shoen}
 use Rattle.kl1_model.specs.Tree.{path_within}
 use Rattle.kl1_shoen.specs.Shoens.{shoen_in, is_enabled_at}
 use Rattle.kl1_modules.specs.Numbered.{Numbered}
 use Rattle.kl1_modules.specs.Finding.{contents, Finds}
-use Rattle.kl1_moves.specs.Hanging.{HangsOnEach}
+use Rattle.kl1_hooks.specs.Hanging.{HangsOnEach}
 use Rattle.kl1_moves.proofs.Hooked.{hangs_on_same}
 use Rattle.kl1_effects.specs.declared.draft.Change.{Change}
 use Rattle.kl1_effects.specs.Fitting.{Reading, built}

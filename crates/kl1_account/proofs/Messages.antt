@@ -20,8 +20,8 @@ use Rattle.kl1_store.specs.Held.{Held}
 use Rattle.kl1_store.specs.Sound.{Grown}
 use Rattle.kl1_stream.specs.Messages.{IsNoVariable, HasPut, PutAs}
 use Rattle.kl1_goals.specs.declared.goal.Goal.{Goal}
-use Rattle.kl1_shoen.specs.declared.shoen.Origin.{Origin}
-use Rattle.kl1_shoen.specs.declared.shoen.Shoen.{Shoen}
+use Rattle.kl1_ancestors.specs.declared.shoen.Origin.{Origin}
+use Rattle.kl1_ancestors.specs.declared.shoen.Shoen.{Shoen}
 use Rattle.kl1_shoen.specs.Shoens.{shoen_in, changed, lives_in}
 use Rattle.kl1_shoen.specs.Changes.{with_control}
 use Rattle.kl1_event.specs.declared.refusal.Refusal.TheVariants.{Syntax, NoShoen, Ended, Limit, Journal}

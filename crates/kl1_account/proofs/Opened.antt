@@ -18,7 +18,7 @@ use Rattle.kl1_store.specs.declared.cell.Cell.TheVariants.{Variable}
 use Rattle.kl1_store.specs.Held.{Held, IsIn}
 use Rattle.kl1_store.proofs.Replacing.{replace_free}
 use Rattle.kl1_goals.specs.declared.goal.Goal.{Goal}
-use Rattle.kl1_shoen.specs.declared.shoen.Shoen.{Shoen}
+use Rattle.kl1_ancestors.specs.declared.shoen.Shoen.{Shoen}
 use Rattle.kl1_shoen.specs.Shoens.{AreNumbered}
 use Rattle.kl1_account.specs.declared.opening.Streams.{Streams}
 use Rattle.kl1_effects.specs.Account.{Means, goal_with, shoen_with, state_with}

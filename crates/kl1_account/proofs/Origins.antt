@@ -10,8 +10,8 @@ use Rattle.kl1_model.specs.Step.{step, origin_at}
 use Rattle.kl1_event.specs.Whole.{whole_of, whole_value}
 use Rattle.kl1_text.specs.declared.cell_name.CellName.{CellName}
 use Rattle.kl1_store.specs.Held.{Held}
-use Rattle.kl1_shoen.specs.declared.shoen.Origin.{Origin}
-use Rattle.kl1_shoen.specs.declared.shoen.Shoen.{Shoen}
+use Rattle.kl1_ancestors.specs.declared.shoen.Origin.{Origin}
+use Rattle.kl1_ancestors.specs.declared.shoen.Shoen.{Shoen}
 use Rattle.kl1_shoen.specs.Shoens.{has_number}
 use Rattle.kl1_effects.specs.Fitting.{Reading}
 use Rattle.kl1_effects.specs.Account.{Account, Means, meaning, origin_with, shoen_with, state_of}

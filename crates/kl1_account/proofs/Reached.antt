@@ -9,9 +9,9 @@ use Rattle.kl1_store.specs.Hooks.{Hook, Kept, HasGrown}
 use Rattle.kl1_goals.specs.declared.goal.Goal.{Goal}
 use Rattle.kl1_goals.specs.Lists.{has_number, is_after}
 use Rattle.kl1_goals.specs.Tables.{AreInOrder}
-use Rattle.kl1_shoen.specs.declared.shoen.Shoen.{Shoen}
+use Rattle.kl1_ancestors.specs.declared.shoen.Shoen.{Shoen}
 use Rattle.kl1_modules.specs.Numbered.{Numbered}
-use Rattle.kl1_moves.specs.Hanging.{AreAmong}
+use Rattle.kl1_hooks.specs.Hanging.{AreAmong}
 use Rattle.kl1_effects.specs.declared.draft.Change.{Change}
 use Rattle.kl1_effects.specs.Fitting.{Reading}
 use Rattle.kl1_effects.specs.Drafts.{restood, restood_by}
@@ -20,7 +20,7 @@ use Rattle.kl1_account.specs.Waking.{IsFoundOut}
 use Rattle.kl1_account.specs.Looking.{FindsOut, IsReached, LooksBelow, LooksAtAll}
 use Rattle.kl1_account.proofs.SettledStays.{settled_more}
 use Rattle.kl1_account.proofs.Waking.{found_out, other_stands, same_stands}
-use Rattle.kl1_moves.proofs.Hooked.{HasGrown-trans, grown_among}
+use Rattle.kl1_hooks.proofs.Hooked.{HasGrown-trans, grown_among}
 use Rattle.kl1_account.proofs.Restood.{each_is, restood_holds, restood_push}
 use Rattle.kl1_account.proofs.GoalOrder.{IsNext, IsNextOf, next_after, next_zero, none_after, none_zero}
 

@@ -9,8 +9,8 @@ use Rattle.kl1_store.specs.Held.{Held, with_binding}
 use Rattle.kl1_goals.specs.declared.task.Task.{Task}
 use Rattle.kl1_goals.specs.declared.task.Task.TheVariants.{Monitor, Reduces}
 use Rattle.kl1_goals.specs.declared.goal.Goal.{Goal}
-use Rattle.kl1_shoen.specs.declared.shoen.Origin.{Origin}
-use Rattle.kl1_shoen.specs.declared.shoen.Shoen.{Shoen}
+use Rattle.kl1_ancestors.specs.declared.shoen.Origin.{Origin}
+use Rattle.kl1_ancestors.specs.declared.shoen.Shoen.{Shoen}
 use Rattle.kl1_effects.specs.declared.draft.Spelled.{Spelled}
 use Rattle.kl1_effects.specs.Kept.{IsTaskIn, AreGoalsIn, IsOriginIn, AreShoensIn}
 use Rattle.kl1_effects.specs.Calling.{spare}

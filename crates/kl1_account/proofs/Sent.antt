@@ -22,10 +22,10 @@ use Rattle.kl1_store.proofs.Telling.{is_told}
 use Rattle.kl1_goals.specs.declared.goal.Goal.{Goal}
 use Rattle.kl1_goals.specs.Lists.{is_other, has_number, is_monitor, enabled_by, number_of}
 use Rattle.kl1_goals.specs.Tables.{Ascend, AreInOrder}
-use Rattle.kl1_shoen.specs.declared.shoen.Origin.{Origin}
-use Rattle.kl1_shoen.specs.declared.shoen.Shoen.{Shoen}
+use Rattle.kl1_ancestors.specs.declared.shoen.Origin.{Origin}
+use Rattle.kl1_ancestors.specs.declared.shoen.Shoen.{Shoen}
 use Rattle.kl1_shoen.specs.Shoens.{Tree, parents_in, path_in, is_blocking_at, is_enabled_at}
-use Rattle.kl1_shoen.specs.Shoens as shoens
+use Rattle.kl1_ancestors.specs.Paths as shoens
 use Rattle.kl1_modules.specs.Numbered.{Numbered}
 use Rattle.kl1_event.specs.declared.refusal.Refusal.{Refusal}
 use Rattle.kl1_event.specs.Views.{refusal_of}

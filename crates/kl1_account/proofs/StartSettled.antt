@@ -31,11 +31,11 @@ use Rattle.kl1_goals.specs.declared.task.Task.{Task}
 use Rattle.kl1_goals.specs.declared.task.Task.TheVariants.{Monitor, Reduces}
 use Rattle.kl1_goals.specs.declared.goal.Goal.{Goal}
 use Rattle.kl1_goals.specs.Lists.{is_monitor}
-use Rattle.kl1_shoen.specs.declared.shoen.Shoen.{Shoen}
+use Rattle.kl1_ancestors.specs.declared.shoen.Shoen.{Shoen}
 use Rattle.kl1_shoen.specs.Shoens.{shoen_in, AreNumbered, AreLower, is_enabled_at}
 use Rattle.kl1_modules.specs.Numbered.{Numbered, AreRead}
 use Rattle.kl1_modules.specs.Finding.{contents}
-use Rattle.kl1_moves.specs.Hanging.{HangsOnEach}
+use Rattle.kl1_hooks.specs.Hanging.{HangsOnEach}
 use Rattle.kl1_moves.proofs.Hooked.{hangs_on_same}
 use Rattle.kl1_event.specs.declared.refusal.Refusal.{Refusal}
 use Rattle.kl1_event.specs.Views.{refusal_of}

@@ -23,7 +23,7 @@ use Rattle.kl1_match.specs.Variables.{with_variables}
 use Rattle.kl1_match.specs.GoalCells.{AreGoalVariables}
 use Rattle.kl1_match.proofs.Places.{kept_with}
 use Rattle.kl1_modules.specs.Finding.{contents}
-use Rattle.kl1_shoen.specs.declared.shoen.Shoen.{Shoen}
+use Rattle.kl1_ancestors.specs.declared.shoen.Shoen.{Shoen}
 use Rattle.kl1_shoen.specs.Shoens.{AreNumbered, is_enabled_at}
 use Rattle.kl1_account.specs.declared.counted.Counted.{Counted}
 use Rattle.kl1_account.specs.declared.opening.Opening.{Opening}

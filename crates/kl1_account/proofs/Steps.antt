@@ -21,7 +21,7 @@ use Rattle.kl1_stream.specs.Controls.{control_as}
 use Rattle.kl1_goals.specs.declared.task.Task.TheVariants.{Monitor, Reduces}
 use Rattle.kl1_goals.specs.declared.goal.Goal.{Goal}
 use Rattle.kl1_goals.specs.Lists.{has_number}
-use Rattle.kl1_shoen.specs.declared.shoen.Shoen.{Shoen}
+use Rattle.kl1_ancestors.specs.declared.shoen.Shoen.{Shoen}
 use Rattle.kl1_shoen.specs.Shoens.{shoen_in}
 use Rattle.kl1_modules.specs.Finding.{contents}
 use Rattle.kl1_effects.specs.Fitting.{Reading}

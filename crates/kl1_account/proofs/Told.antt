@@ -9,9 +9,9 @@ use Rattle.kl1_store.specs.Hooks.{Hook, Kept, HasGrown}
 use Rattle.kl1_goals.specs.declared.task.Task.{Task}
 use Rattle.kl1_goals.specs.declared.goal.Goal.{Goal}
 use Rattle.kl1_goals.specs.Lists.{has_number}
-use Rattle.kl1_shoen.specs.declared.shoen.Shoen.{Shoen}
+use Rattle.kl1_ancestors.specs.declared.shoen.Shoen.{Shoen}
 use Rattle.kl1_modules.specs.Numbered.{Numbered}
-use Rattle.kl1_moves.specs.Hanging.{AreAmong}
+use Rattle.kl1_hooks.specs.Hanging.{AreAmong}
 use Rattle.kl1_effects.specs.declared.draft.Change.{Change}
 use Rattle.kl1_effects.specs.Fitting.{Reading}
 use Rattle.kl1_effects.specs.Kept.{IsTaskIn, AreGoalsIn}
@@ -21,7 +21,7 @@ use Rattle.kl1_account.specs.Waking.{AreSettledOr, IsFor, AreFor}
 use Rattle.kl1_account.specs.Looking.{FindsOut, AreOthersOf, Wakes, WakesTold}
 use Rattle.kl1_account.proofs.GoalOrder.{same_goal}
 use Rattle.kl1_account.proofs.Waking.{one_settled, none_settled, all_settled}
-use Rattle.kl1_moves.proofs.Hooked.{HasGrown-trans}
+use Rattle.kl1_hooks.proofs.Hooked.{HasGrown-trans}
 use Rattle.kl1_account.proofs.Restood.{each_is, restood_holds, restood_push}
 
 -- ---- one number

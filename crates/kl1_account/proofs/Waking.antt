@@ -10,10 +10,10 @@ use Rattle.kl1_store.specs.Later.{bound_since}
 use Rattle.kl1_store.specs.Sound.{IsFormed, Grown}
 use Rattle.kl1_goals.specs.declared.task.Task.{Task}
 use Rattle.kl1_goals.specs.declared.goal.Goal.{Goal}
-use Rattle.kl1_shoen.specs.declared.shoen.Shoen.{Shoen}
+use Rattle.kl1_ancestors.specs.declared.shoen.Shoen.{Shoen}
 use Rattle.kl1_modules.specs.Numbered.{Numbered}
 use Rattle.kl1_modules.specs.Finding.{contents}
-use Rattle.kl1_moves.specs.Hanging.{HangsOnEach, AreAmong}
+use Rattle.kl1_hooks.specs.Hanging.{HangsOnEach, AreAmong}
 use Rattle.kl1_effects.specs.declared.draft.Change.{Change}
 use Rattle.kl1_effects.specs.Fitting.{Reading}
 use Rattle.kl1_effects.specs.Account.{meaning, task_with}

@@ -12,7 +12,7 @@ use Rattle.kl1_store.specs.Hooks.{Hook}
 use Rattle.kl1_store.specs.Held.{Held}
 use Rattle.kl1_clause.specs.NameList.{with_texts}
 use Rattle.kl1_goals.specs.declared.goal.Goal.{Goal}
-use Rattle.kl1_shoen.specs.declared.shoen.Shoen.{Shoen}
+use Rattle.kl1_ancestors.specs.declared.shoen.Shoen.{Shoen}
 use Rattle.kl1_modules.specs.Numbered.{Numbered, own_names, number_of}
 use Rattle.kl1_modules.specs.Finding.{contents, is_numbered}
 use Rattle.kl1_effects.specs.declared.draft.Change.{Change}

@@ -22,10 +22,10 @@ use Rattle.kl1_goals.specs.declared.task.Task.{Task}
 use Rattle.kl1_goals.specs.declared.task.Task.TheVariants.{Reduces}
 use Rattle.kl1_goals.specs.declared.goal.Goal.{Goal}
 use Rattle.kl1_goals.specs.Lists.{has_number}
-use Rattle.kl1_shoen.specs.declared.shoen.Shoen.{Shoen}
+use Rattle.kl1_ancestors.specs.declared.shoen.Shoen.{Shoen}
 use Rattle.kl1_modules.specs.Numbered.{Numbered}
 use Rattle.kl1_modules.specs.Finding.{contents, Asks}
-use Rattle.kl1_moves.specs.Hanging.{HangsOnEach}
+use Rattle.kl1_hooks.specs.Hanging.{HangsOnEach}
 use Rattle.kl1_effects.specs.declared.draft.Change.{Change}
 use Rattle.kl1_effects.specs.Fitting.{Reading, built}
 use Rattle.kl1_effects.specs.Account.{aim}

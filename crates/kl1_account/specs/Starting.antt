@@ -31,7 +31,7 @@ use Rattle.kl1_match.specs.Waiting.{IsUnbound, AreUnbound}
 use Rattle.kl1_moves.specs.Standing.{StandsAs}
 use Rattle.kl1_goals.specs.declared.task.Task.TheVariants.{Monitor, Reduces}
 use Rattle.kl1_goals.specs.declared.goal.Goal.{Goal}
-use Rattle.kl1_shoen.specs.declared.shoen.Shoen.{Shoen}
+use Rattle.kl1_ancestors.specs.declared.shoen.Shoen.{Shoen}
 use Rattle.kl1_shoen.specs.Shoens.{is_enabled_at}
 use Rattle.kl1_modules.specs.Numbered.{Numbered, AreRead}
 use Rattle.kl1_modules.specs.Finding.{contents}

@@ -1,7 +1,7 @@
 // Drafts that are finished.
 
-ghost use Rattle.std.specs.Prelude.{◌≡◌, ◌+◌, ◌≤◌, true, [], length, OnOk};
-ghost use Rattle.kl1_store.specs.Hooks.{HasGrown};
+ghost use Rattle.std.specs.Prelude.{◌≡◌, ◌+◌, ◌≤◌, ◌++◌, true, [], length, drop, OnOk};
+ghost use Rattle.kl1_store.specs.Hooks.{HasGrown, told_by};
 ghost use Rattle.kl1_clause.specs.Predicates.{AreSome};
 ghost use Rattle.kl1_effects.specs.Kept.{AreGoalsIn, AreShoensIn};
 ghost use Rattle.kl1_effects.specs.Drafts.{goals_left};
@@ -21,6 +21,33 @@ use kl1_shoen::ShoenTree;
 use kl1_store::{Point, Store};
 use kl1_text::CellName;
 use std::alloc::AllocError;
+
+/// Looks at the goals that a draft has told. What is known is passed as it is, so that callers need no place in memory for it.
+#[inline(never)]
+fn wake_found<C: CodeSource>(
+    store: &mut Store<CellName>,
+    goals: &GoalTable<CellName>,
+    shoens: &ShoenTree<CellName>,
+    modules: &CodedModules<'_, C>,
+    known: Kind<CellName>,
+    predicate: Predicate<'_, CellName>,
+    trial: &mut Trial<CellName>,
+    removed: u64,
+    told: &[u64],
+    changes: &mut Vec<Change>,
+) -> Result<(), AllocError>
+    requires goals { AreGoalsIn store.old.held goals.now.goals }
+    requires shoens { AreShoensIn store.old.held shoens.now.shoens }
+    requires some { AreSome predicate.names.now predicate.clauses.now }
+    requires serves { Serves modules.now.loaded known predicate }
+    ensures wakes { OnOk result (WakesTold modules.now.loaded shoens.now.shoens store.old.held store.old.hooks store.new.hooks goals.now.goals removed told.now changes.old.items changes.new.items) }
+    ensures held { store.new.held ≡ store.old.held }
+    ensures grown { HasGrown store.old store.new }
+{
+    wake_told(
+        store, goals, shoens, modules, &known, &predicate, trial, removed, told, changes,
+    )
+}
 
 /// Looks at the goals that a draft has told, where there are any.
 fn wake_any<C: CodeSource>(
@@ -46,9 +73,21 @@ fn wake_any<C: CodeSource>(
     if told.is_empty() {
         return Ok(());
     }
-    wake_told(
-        store, goals, shoens, modules, known, predicate, trial, removed, told, changes,
+    wake_found(
+        store, goals, shoens, modules, *known, *predicate, trial, removed, told, changes,
     )
+}
+
+/// Adds the numbers that hang on the variables that were bound since a point, with a first look whether any was.
+#[inline(always)]
+fn tell_bound(store: &Store<CellName>, since: Point, told: &mut Vec<u64>) -> Result<(), AllocError>
+    ensures { OnOk result (told.new.items ≡ told.old.items ++ told_by (drop since.sizes.bindings store.now.held.bindings) store.now.hooks) }
+{
+    let now = store.mark();
+    if now.sizes.bindings <= since.sizes.bindings {
+        return Ok(());
+    }
+    store.tell(since, told)
 }
 
 /// Looks at the goals that were told of bindings since a mark, and at those that come. The predicate of goals of one kind is
@@ -78,7 +117,7 @@ fn look_again<C: CodeSource>(
     ensures grown { HasGrown store.old store.new }
 {
     let _order = goals.shoens();
-    store.tell(mark, &mut draft.told)?;
+    tell_bound(store, mark, &mut draft.told)?;
     wake_any(
         store,
         goals,
@@ -104,6 +143,7 @@ fn look_again<C: CodeSource>(
 }
 
 /// Finds which goals may step now, where that may be other than before.
+#[inline(always)]
 fn set_flags(shoens: &ShoenTree<CellName>, draft: &mut Draft, walk: &Walk) -> Result<(), AllocError>
     ensures flags { OnOk result (ShiftsFor shoens.now walk.now.reached.items draft.old draft.new) }
     ensures rest { OnOk result (draft.new ≡ record draft.old { enabled = draft.new.enabled; shifts = draft.new.shifts }) }
@@ -139,6 +179,7 @@ fn still_lets(shoens: &ShoenTree<CellName>, draft: &Draft, walk: &Walk, running:
 /// Finishes a draft of what was done since a mark: looks at the goals that are to be looked at, finds which goals may step now where that
 /// may be other than before, and makes room for what comes. The predicate of goals of one kind is known, and the shoen of a number let
 /// its goals step before. Where memory is refused, the store may have grown.
+#[inline(always)]
 pub(crate) fn finish<C: CodeSource>(
     store: &mut Store<CellName>,
     goals: &mut GoalTable<CellName>,

@@ -11,7 +11,7 @@ ghost use Rattle.kl1_moves.specs.Moves.{HasPredicate};
 ghost use Rattle.kl1_goals.specs.declared.task.Task.TheVariants.{Monitor, Reduces};
 ghost use Rattle.kl1_goals.specs.Lists.{is_monitor};
 ghost use Rattle.kl1_shoen.specs.Shoens.{is_enabled_at};
-ghost use Rattle.kl1_shoen.specs.declared.shoen.Shoen.{Shoen};
+ghost use Rattle.kl1_ancestors.specs.declared.shoen.Shoen.{Shoen};
 ghost use Rattle.kl1_modules.specs.Numbered.{Numbered};
 ghost use Rattle.kl1_modules.specs.Finding.{contents};
 ghost use Rattle.kl1_effects.specs.Fitting.{Reading};
@@ -23,8 +23,9 @@ use kl1_clause::Predicate;
 use kl1_codes::CodeSource;
 use kl1_effects::Change;
 use kl1_goals::{Goal, GoalTable, Task};
+use kl1_hooks::hang_on;
 use kl1_modules::CodedModules;
-use kl1_moves::{Call, Kind, Trial, hang_on, kind_of_qualified, or_none, standing_of};
+use kl1_moves::{Call, Kind, Trial, kind_of_qualified, or_none, standing_of};
 use kl1_shoen::ShoenTree;
 use kl1_store::{Cell, Qualified, Store};
 use kl1_stream::{Control, read_control};
@@ -32,6 +33,7 @@ use kl1_text::CellName;
 use std::alloc::AllocError;
 
 /// The clauses of the predicate of a goal of a kind; none where there is no such predicate, or it is no call.
+#[inline(always)]
 pub(crate) fn predicate_of<'a, C: CodeSource>(
     modules: &'a CodedModules<'_, C>,
     kind: Kind<CellName>,
@@ -166,6 +168,7 @@ fn control_standing(
 }
 
 /// The same of the monitor of a shoen; none where there is no such shoen.
+#[inline(never)]
 pub(crate) fn monitor_standing(
     store: &mut Store<CellName>,
     shoens: &ShoenTree<CellName>,
@@ -185,6 +188,7 @@ pub(crate) fn monitor_standing(
 
 /// The clause by which a goal can step, or none. The predicate of goals of one kind is known here and below; the goal's number is hung
 /// on each variable that it waits for.
+#[inline(always)]
 fn task_standing<C: CodeSource>(
     store: &mut Store<CellName>,
     shoens: &ShoenTree<CellName>,

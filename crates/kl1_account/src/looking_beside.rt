@@ -9,7 +9,7 @@ ghost use Rattle.kl1_clause.specs.Predicates.{AreSome};
 ghost use Rattle.kl1_moves.specs.Kinds.{IsKind};
 ghost use Rattle.kl1_moves.specs.Moves.{HasPredicate};
 ghost use Rattle.kl1_goals.specs.declared.task.Task.TheVariants.{Reduces};
-ghost use Rattle.kl1_shoen.specs.declared.shoen.Shoen.{Shoen};
+ghost use Rattle.kl1_ancestors.specs.declared.shoen.Shoen.{Shoen};
 ghost use Rattle.kl1_modules.specs.Numbered.{number_of};
 ghost use Rattle.kl1_modules.specs.Finding.{contents, is_numbered};
 ghost use Rattle.kl1_effects.specs.Fitting.{Reading};

@@ -138,6 +138,7 @@ fn move_to_make<C: CodeSource>(
 
 /// Drafts what a monitor reads, which may step, by the clause of a number, for an account with so many entries in its journal, or says
 /// why it is refused. The draft has begun with what the account has.
+#[inline(never)]
 fn draft_reading<C: CodeSource>(
     store: &mut Store<CellName>,
     goals: &mut GoalTable<CellName>,

@@ -9,7 +9,7 @@ use Rattle.kl1_model.specs.State.{is_living}
 use Rattle.kl1_model.specs.Tree.{path_within}
 use Rattle.kl1_model.specs.TreeLaws.{ParentsAreLower}
 use Rattle.kl1_text.specs.declared.cell_name.CellName.{CellName}
-use Rattle.kl1_shoen.specs.declared.shoen.Shoen.{Shoen}
+use Rattle.kl1_ancestors.specs.declared.shoen.Shoen.{Shoen}
 use Rattle.kl1_shoen.specs.Shoens.{Tree, has_number, AreNumbered, AreLower, parents_in, path_in, is_on_path_in, charged_in, is_blocking_in, is_blocking_at, is_enabled_at, has_reached_in}
 use Rattle.kl1_shoen.proofs.Paths.{path_among}
 use Rattle.kl1_effects.specs.Frames.{plain, KeepsBy, IsCalm, Stays, SameFlags, NoneReached}

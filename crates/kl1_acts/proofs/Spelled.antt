@@ -12,7 +12,7 @@ use Rattle.kl1_store.specs.declared.cell.Cell.{Cell}
 use Rattle.kl1_store.specs.Held.{Held, with_binding}
 use Rattle.kl1_store.specs.Sound.{Grown}
 use Rattle.kl1_goals.specs.declared.goal.Goal.{Goal}
-use Rattle.kl1_shoen.specs.declared.shoen.Shoen.{Shoen}
+use Rattle.kl1_ancestors.specs.declared.shoen.Shoen.{Shoen}
 use Rattle.kl1_shoen.specs.Shoens.{Tree, AreNumbered, AreLower, is_enabled_at}
 use Rattle.kl1_modules.specs.Numbered.{Numbered}
 use Rattle.kl1_effects.specs.declared.draft.Draft.{Draft}

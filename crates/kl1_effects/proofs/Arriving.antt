@@ -15,7 +15,7 @@ use Rattle.kl1_store.specs.InModules.{AreQualifiedIn}
 use Rattle.kl1_store.specs.Sound.{Grown}
 use Rattle.kl1_goals.specs.declared.goal.Goal.{Goal}
 use Rattle.kl1_goals.specs.Lists.{is_other, is_monitor, is_monitor_of, is_goal_of, is_flagged}
-use Rattle.kl1_shoen.specs.declared.shoen.Shoen.{Shoen}
+use Rattle.kl1_ancestors.specs.declared.shoen.Shoen.{Shoen}
 use Rattle.kl1_effects.specs.declared.draft.Draft.{Draft}
 use Rattle.kl1_effects.specs.Kept.{AreGoalsIn, AreOwned, AreUpTo}
 use Rattle.kl1_effects.specs.Drafts.{goals_left, without_monitors, goals_for, two_for, HasBegun}

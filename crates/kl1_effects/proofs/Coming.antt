@@ -10,7 +10,7 @@ use Rattle.kl1_store.specs.declared.qualified.Qualified.{Qualified}
 use Rattle.kl1_goals.specs.declared.goal.Goal.{Goal}
 use Rattle.kl1_goals.specs.Lists.{is_other, is_monitor, is_monitor_of, is_goal_of, is_flagged}
 use Rattle.kl1_goals.specs.Tables.{AreBefore}
-use Rattle.kl1_shoen.specs.declared.shoen.Shoen.{Shoen}
+use Rattle.kl1_ancestors.specs.declared.shoen.Shoen.{Shoen}
 use Rattle.kl1_effects.specs.declared.draft.Draft.{Draft}
 use Rattle.kl1_effects.specs.Kept.{AreOwned, AreUpTo}
 use Rattle.kl1_effects.specs.Drafts.{without_monitors, goals_left, goals_for, two_for}

@@ -24,7 +24,7 @@ use Rattle.kl1_goals.specs.declared.task.Task.{Task}
 use Rattle.kl1_goals.specs.declared.task.Task.TheVariants.{Monitor, Reduces}
 use Rattle.kl1_goals.specs.declared.goal.Goal.{Goal}
 use Rattle.kl1_goals.specs.Lists.{is_other, is_monitor, is_monitor_task}
-use Rattle.kl1_shoen.specs.declared.shoen.Shoen.{Shoen}
+use Rattle.kl1_ancestors.specs.declared.shoen.Shoen.{Shoen}
 use Rattle.kl1_shoen.specs.Shoens.{Tree, has_number}
 use Rattle.kl1_clause.specs.declared.predicate.Predicate.{Predicate}
 use Rattle.kl1_match.specs.declared.place.Place.{Place}

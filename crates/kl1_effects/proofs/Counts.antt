@@ -2,7 +2,7 @@
 use Rattle.std.proofs.Common.{◌≡◌, ℕ, ◌+◌, ◌<◌, ◌≤◌, if◌then◌else◌, List, [], ◌∷◌, ◌++◌, length, map, get_or, take, sym, ap, ◌∙◌, arith, subst, append_assoc, refl}
 use Rattle.std.proofs.lemmas.List.{take_more, take_all, length-map}
 use Rattle.kl1_text.specs.declared.cell_name.CellName.{CellName}
-use Rattle.kl1_shoen.specs.declared.shoen.Shoen.{Shoen}
+use Rattle.kl1_ancestors.specs.declared.shoen.Shoen.{Shoen}
 use Rattle.kl1_shoen.specs.Shoens.{Tree, has_number, changed, aborted_below_in}
 use Rattle.kl1_effects.specs.Walks.{terminated, ended_in}
 use Rattle.kl1_effects.specs.Frames.{KeepsBy}

@@ -9,9 +9,9 @@ use Rattle.kl1_text.specs.declared.cell_name.CellName.{CellName}
 use Rattle.kl1_store.specs.Held.{Held}
 use Rattle.kl1_goals.specs.declared.goal.Goal.{Goal}
 use Rattle.kl1_goals.specs.Lists.{is_monitor, is_monitor_of, is_goal_of, is_other, is_flagged}
-use Rattle.kl1_shoen.specs.declared.shoen.Shoen.{Shoen}
+use Rattle.kl1_ancestors.specs.declared.shoen.Shoen.{Shoen}
 use Rattle.kl1_shoen.specs.Shoens.{Tree, changed, path_in, lives_in, is_living_child_of, has_reached_in}
-use Rattle.kl1_shoen.proofs.Paths.{path_zero}
+use Rattle.kl1_ancestors.proofs.Paths.{path_zero}
 use Rattle.kl1_effects.specs.declared.draft.Draft.{Draft}
 use Rattle.kl1_effects.specs.Drafts.{without_monitors, goals_left, CanGoBack}
 use Rattle.kl1_effects.specs.Walks.{terminated, ends_in, ending_in, ended_in, reached_in, EndsOne, EndsLives}

@@ -14,7 +14,7 @@ use Rattle.kl1_atoms.specs.Knowing.{no_names}
 use Rattle.kl1_store.proofs.Terms.{term_of-unbound}
 use Rattle.kl1_stream.specs.Reports.{HasSent, ClosedAs, EndsAt}
 use Rattle.kl1_stream.proofs.Tails.{BreaksOff, off_is}
-use Rattle.kl1_shoen.specs.declared.shoen.Shoen.{Shoen}
+use Rattle.kl1_ancestors.specs.declared.shoen.Shoen.{Shoen}
 use Rattle.kl1_shoen.specs.Shoens.{has_number, changed}
 use Rattle.kl1_effects.specs.Fitting.{Reading, built}
 use Rattle.kl1_effects.specs.Account.{meaning, shoen_with}

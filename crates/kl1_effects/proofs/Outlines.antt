@@ -7,7 +7,7 @@ use Rattle.kl1_model.specs.declared.life.Life.TheVariants.{Living, Aborted}
 use Rattle.kl1_text.specs.declared.cell_name.CellName.{CellName}
 use Rattle.kl1_store.specs.declared.cell.Cell.{Cell}
 use Rattle.kl1_store.specs.declared.cell.Cell.TheVariants.{Variable}
-use Rattle.kl1_shoen.specs.declared.shoen.Shoen.{Shoen}
+use Rattle.kl1_ancestors.specs.declared.shoen.Shoen.{Shoen}
 use Rattle.kl1_shoen.specs.Shoens.{Tree, has_number, changed, AreNumbered, is_on_path_in, aborted_below_in}
 use Rattle.kl1_effects.specs.Frames.{KeepsFrames, KeepsLives, Stays}
 use Rattle.kl1_effects.specs.Outlines.{outline, KeepsOutlines, KeepsOthers}

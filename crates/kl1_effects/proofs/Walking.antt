@@ -13,7 +13,7 @@ use Rattle.kl1_model.specs.Ending.{has_living_child, lives, ends_now, ended_at, 
 use Rattle.kl1_text.specs.declared.cell_name.CellName.{CellName}
 use Rattle.kl1_store.specs.Held.{Held}
 use Rattle.kl1_goals.specs.Lists.{is_goal_of}
-use Rattle.kl1_shoen.specs.declared.shoen.Shoen.{Shoen}
+use Rattle.kl1_ancestors.specs.declared.shoen.Shoen.{Shoen}
 use Rattle.kl1_shoen.specs.Shoens.{has_number, changed, parents_in, path_in, charged_in, is_living_child_of, lives_in, has_reached_in}
 use Rattle.kl1_modules.specs.Numbered.{Numbered}
 use Rattle.kl1_effects.specs.Fitting.{Reading}

@@ -16,7 +16,7 @@ use Rattle.kl1_store.specs.Sound.{Grown}
 use Rattle.kl1_stream.specs.declared.told.Told.{Told}
 use Rattle.kl1_stream.specs.declared.told.Told.TheVariants.{Dropped, Broken, Sent}
 use Rattle.kl1_stream.specs.Reports.{Breaks, ToldAs}
-use Rattle.kl1_shoen.specs.declared.shoen.Shoen.{Shoen}
+use Rattle.kl1_ancestors.specs.declared.shoen.Shoen.{Shoen}
 use Rattle.kl1_shoen.specs.Shoens.{has_number, changed}
 use Rattle.kl1_modules.specs.Numbered.{Numbered}
 use Rattle.kl1_effects.specs.Fitting.{Reading, built}

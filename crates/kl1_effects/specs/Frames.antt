@@ -4,7 +4,7 @@ use Rattle.kl1_model.specs.declared.life.Life.TheVariants.{Living}
 use Rattle.kl1_model.specs.Module.{is_among}
 use Rattle.kl1_text.specs.declared.cell_name.CellName.{CellName}
 use Rattle.kl1_store.specs.declared.cell.Cell.TheVariants.{Variable}
-use Rattle.kl1_shoen.specs.declared.shoen.Shoen.{Shoen}
+use Rattle.kl1_ancestors.specs.declared.shoen.Shoen.{Shoen}
 use Rattle.kl1_shoen.specs.Shoens.{Tree, path_in, is_enabled_at, has_reached_in}
 
 -- a shoen without what reports change and without what the console keeps

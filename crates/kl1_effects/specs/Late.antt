@@ -9,7 +9,7 @@ use Rattle.kl1_text.specs.Reading.{Reads}
 use Rattle.kl1_text.specs.declared.cell_name.CellName.{CellName}
 use Rattle.kl1_store.specs.declared.cell.Cell.TheVariants as cell
 use Rattle.kl1_store.specs.Held.{Held}
-use Rattle.kl1_shoen.specs.declared.shoen.Shoen as kept
+use Rattle.kl1_ancestors.specs.declared.shoen.Shoen as kept
 use Rattle.kl1_shoen.specs.Shoens.{has_number}
 use Rattle.kl1_effects.specs.Fitting.{Reading, built}
 use Rattle.kl1_effects.specs.Account.{meaning, shoen_with}

@@ -17,7 +17,7 @@ use Rattle.kl1_moves.specs.declared.order.Order.{Order}
 use Rattle.kl1_moves.specs.Orders.{order_at, IsOrder}
 use Rattle.kl1_moves.specs.Moves.{IsCandidate, MovesAs}
 use Rattle.kl1_goals.specs.declared.goal.Goal.{Goal}
-use Rattle.kl1_shoen.specs.declared.shoen.Shoen.{Shoen}
+use Rattle.kl1_ancestors.specs.declared.shoen.Shoen.{Shoen}
 use Rattle.kl1_shoen.specs.Shoens.{Tree}
 use Rattle.kl1_modules.specs.Numbered.{Numbered}
 use Rattle.kl1_effects.specs.declared.draft.Draft.{Draft}

@@ -120,15 +120,20 @@ fn end_one(
     Ok(())
 }
 
-/// Whether the path of a shoen is that shoen alone, and it has a goal among those that come: then none ends.
-fn goes_on(shoens: &ShoenTree<CellName>, draft: &Draft, number: u64) -> bool
-    ensures { (goals : List (Goal CellName)) → result ≡ true → ending_in (goals_left (goals ++ draft.now.added.items) draft.now) (path_in shoens.now.shoens number) shoens.now.shoens ≡ [] }
+/// Whether the path of a shoen is that shoen alone, which was not charged just what it may be, and it has a goal among those that come:
+/// then none ends, and none has reached its allowance.
+fn is_calm(shoens: &ShoenTree<CellName>, draft: &Draft, number: u64) -> bool
+    ensures lives { (goals : List (Goal CellName)) → result ≡ true → ending_in (goals_left (goals ++ draft.now.added.items) draft.now) (path_in shoens.now.shoens number) shoens.now.shoens ≡ [] }
+    ensures unreached { (ending : List ℕ) → result ≡ true → reached_in shoens.now.shoens shoens.now.work ending (path_in shoens.now.shoens number) ≡ [] }
 {
     if number == 0 {
         return false;
     }
-    let step = shoens.living_step(number);
+    let step = shoens.reached_step(number);
     if step.up != 0 {
+        return false;
+    }
+    if step.holds {
         return false;
     }
     if is_aborted(draft, number) {
@@ -157,24 +162,6 @@ pub fn end_lives(
         at = step.up;
     }
     Ok(())
-}
-
-/// Ends lives as `end_lives` does, with a first look whether any can end.
-fn end_charged(
-    goals: &GoalTable<CellName>,
-    shoens: &mut ShoenTree<CellName>,
-    draft: &Draft,
-    number: u64,
-    ending: &mut Vec<u64>,
-) -> Result<(), AllocError>
-    ensures ok { OnOk result (EndsLives (goals_left (goals.now.goals ++ draft.now.added.items) draft.now) shoens.old shoens.new number ending.new.items) }
-    ensures back { CanGoBack shoens.old shoens.new }
-{
-    if goes_on(shoens, draft, number) {
-        ending.clear();
-        return Ok(());
-    }
-    end_lives(goals, shoens, draft, number, ending)
 }
 
 /// Whether a number is among others.
@@ -362,6 +349,38 @@ pub fn settle(
     finish_each(store, shoens, draft, ending)
 }
 
+/// What comes after the effects of a reduction in a shoen, as `settle_charged` says, by a walk along its path.
+fn settle_path(
+    store: &mut Store<CellName>,
+    goals: &GoalTable<CellName>,
+    shoens: &mut ShoenTree<CellName>,
+    draft: &mut Draft,
+    walk: &mut Walk,
+    number: u64,
+) -> Result<(), AllocError>
+    requires shoens { AreShoensIn store.old.held shoens.old.shoens }
+    ensures ok { OnOk result ((ms : List Numbered) (names : List (List ℕ)) → Drafts ms (λ f. settle_charged number) store.old.held store.new.held goals.now.goals names shoens.old shoens.new draft.old draft.new) }
+    ensures shoens { OnOk result (AreShoensIn store.new.held shoens.new.shoens) }
+    ensures back { CanGoBack shoens.old shoens.new }
+    ensures frames { OnOk result (KeepsFrames shoens.old.shoens shoens.new.shoens) }
+    ensures lives { OnOk result (draft.new.ended.items ≡ draft.old.ended.items → Stays shoens.old shoens.new) }
+    ensures none { OnOk result (draft.new.ended.items ≡ draft.old.ended.items → walk.new.reached.items ≡ [] → NoneReached shoens.old number) }
+    ensures alone { OnOk result (draft.old.ended.items ≡ [] → HaveNoGoals draft.new.ended.items (goals_left (goals.now.goals ++ draft.old.added.items) draft.old)) }
+    ensures count { OnOk result (length shoens.new.shoens ≡ length shoens.old.shoens) }
+    ensures work { OnOk result (shoens.new.work ≡ shoens.old.work) }
+    ensures rest { draft.new ≡ record draft.old { reports = draft.new.reports; ended = draft.new.ended } }
+    ensures grown { Grown store.old.held store.new.held }
+    ensures hooks { store.new.hooks ≡ store.old.hooks }
+{
+    let _formed = store.mark();
+    end_lives(goals, shoens, draft, number, &mut walk.ending)?;
+    let ending = walk.ending.as_slice();
+    find_charged(shoens, number, ending, &mut walk.reached)?;
+    let reached = walk.reached.as_slice();
+    report_each(store, shoens, draft, reached, BuiltIn::Exhausted)?;
+    finish_found(store, shoens, draft, ending)
+}
+
 /// What comes after the effects of a reduction in a shoen: the shoens on its path that have just been charged what they may be, and go
 /// on, report that they are exhausted, innermost first, and then come terminations. Where memory is refused, the store may have grown.
 pub fn settle_charged(
@@ -387,10 +406,10 @@ pub fn settle_charged(
     ensures hooks { store.new.hooks ≡ store.old.hooks }
 {
     let _formed = store.mark();
-    end_charged(goals, shoens, draft, number, &mut walk.ending)?;
-    let ending = walk.ending.as_slice();
-    find_charged(shoens, number, ending, &mut walk.reached)?;
-    let reached = walk.reached.as_slice();
-    report_each(store, shoens, draft, reached, BuiltIn::Exhausted)?;
-    finish_found(store, shoens, draft, ending)
+    if is_calm(shoens, draft, number) {
+        walk.ending.clear();
+        walk.reached.clear();
+        return Ok(());
+    }
+    settle_path(store, goals, shoens, draft, walk, number)
 }

@@ -2,11 +2,13 @@
 use Rattle.std.specs.Prelude.{◌≡◌, ℕ, List, [], ◌∷◌, ◌++◌}
 use Rattle.kl1_model.specs.declared.built_in.BuiltIn.{BuiltIn}
 use Rattle.kl1_model.specs.declared.number.Number.{Number}
+use Rattle.kl1_model.specs.declared.number.Number.TheVariants.{Value}
+use Rattle.kl1_model.specs.declared.operator.Operator.{Operator}
 use Rattle.kl1_model.specs.Term.{Term}
 use Rattle.kl1_model.specs.Arithmetic.{Scan, found, waits_for, wrong_type, scan, applied, compute, Evaluated, comes_to, awaits, is_no_expression, evaluated}
 use Rattle.kl1_text.specs.Reading.{Reads}
 use Rattle.kl1_guard.specs.declared.pending.Pending.{Pending}
-use Rattle.kl1_guard.specs.declared.pending.Pending.TheVariants.{Right, Apply}
+use Rattle.kl1_guard.specs.declared.pending.Pending.TheVariants.{Right, With, Apply}
 use Rattle.kl1_guard.specs.declared.carrying.Carried.{Carried}
 use Rattle.kl1_guard.specs.declared.carrying.Carried.TheVariants.{To, Whole}
 
@@ -19,6 +21,7 @@ going_on wrong_type next = is_no_expression
 -- what a number comes to after an operation that waits for it
 abbrev pub after_one : {A : Type 0} → (A → Term) → Pending A → (Number → ℕ → Evaluated) → Number → ℕ → Evaluated
 after_one term (Right o b) next = λ x left. going_on (scan left (term b)) (λ y more. next (applied o x y) more)
+after_one term (With o i) next = λ x left. next (applied o x (Value i)) left
 after_one term (Apply o x) next = λ y left. next (applied o x y) left
 
 -- what a number comes to after operations, the last of them first
@@ -34,7 +37,12 @@ after term ps = after_from term (λ x left. comes_to x) ps
 abbrev pub rights_of : {A : Type 0} → List (Pending A) → List A
 rights_of [] = []
 rights_of (Right o b ∷ ps) = b ∷ rights_of ps
+rights_of (With o i ∷ ps) = rights_of ps
 rights_of (Apply o x ∷ ps) = rights_of ps
+
+-- this waits for the left operand of an operation whose right operand stands there
+abbrev pub IsPending : {A : Type 0} → (A → Term) → Operator → A → Pending A → Type 0
+IsPending term o b p = (next : Number → ℕ → Evaluated) → after_one term p next ≡ after_one term (Right o b) next
 
 -- what the whole comes to is what comes of the operand to which a number leads, or the number
 abbrev pub CarriesAs : {A : Type 0} → (A → Term) → ℕ → Evaluated → Carried A → List (Pending A) → Type 0

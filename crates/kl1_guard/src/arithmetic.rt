@@ -38,7 +38,8 @@ fn remainder(left: i64, right: i64) -> Number
 }
 
 /// What an operator makes of two integers.
-fn operate(operator: Operator, left: i64, right: i64) -> Number
+#[inline(always)]
+pub(crate) fn operate(operator: Operator, left: i64, right: i64) -> Number
     ensures { result ≡ operated operator left right }
 {
     match operator {

@@ -32,6 +32,7 @@ pub(crate) fn carry<A: Copy>(stack: &mut Vec<Pending<A>>, number: Number) -> Car
                 stack.push_reserved(Pending::Apply(operator, value));
                 return Carried::To(right);
             }
+            Pending::With(operator, right) => value = apply(operator, value, Number::Value(right)),
             Pending::Apply(operator, left) => value = apply(operator, left, value),
         }
     }

@@ -17,6 +17,7 @@ use std::alloc::AllocError;
 
 /// What the term of a cell comes to as an expression. Want of memory is the only error; where the scratch has served a call
 /// before, there is none.
+#[inline(always)]
 pub fn evaluate_cell<N: NameValue>(
     store: &Store<N>,
     cell: Cell<N>,

@@ -17,13 +17,9 @@ pub mod Whole
 pub mod Trying
 pub mod Beside
 pub mod Coming
-pub mod Rising
 pub mod Among
 pub mod TestRows
 pub mod TermPairs
 pub mod TestSteps
-pub mod Judging
-pub mod Choosing
-pub mod Candidates
 pub mod Stays
 pub mod GoalCells

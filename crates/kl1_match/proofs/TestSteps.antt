@@ -10,7 +10,7 @@ use Rattle.kl1_model.specs.Term.{Term, variable, integer, atom, structure, none,
 use Rattle.kl1_model.specs.TermCode.{first_term, behind_first}
 use Rattle.kl1_model.specs.Same.{awaited}
 use Rattle.kl1_model.specs.Guard as guard
-use Rattle.kl1_model.specs.Guard.{Outcome, agrees, clashes, waits, both, inspection_named, comparison_named, holds, looks, is_same, is_other, compares, test_of, test_substituted, same_outcome, other_outcome, outcome_by}
+use Rattle.kl1_model.specs.Guard.{Outcome, agrees, clashes, both, inspection_named, comparison_named, holds, looks, is_same, is_other, compares, test_of, test_substituted, same_outcome, other_outcome, outcome_by}
 use Rattle.kl1_model.specs.Match.{own_outcome, test_outcome, tests_outcome}
 use Rattle.kl1_text.specs.Reading.{Reads}
 use Rattle.kl1_store.specs.Held.{Held}

@@ -8,15 +8,12 @@ pub mod Waiting
 pub mod Spans
 pub mod Matching
 pub mod Outcomes
-pub mod Rising
 pub mod Verdicts
-pub mod Choices
 pub mod Stays
 pub mod Rooms
 pub mod GoalCells
 pub mod TestTerms
 pub mod Passing
 pub mod Testing
-pub mod Candidates
 pub mod Qualifying
 pub mod Bodies

@@ -7,7 +7,7 @@ use Rattle.kl1_model.specs.TermCode.{first_term}
 use Rattle.kl1_model.specs.Same.{passive, awaited}
 use Rattle.kl1_model.specs.Guard as guard
 use Rattle.kl1_model.specs.Guard.{other_outcome}
-use Rattle.kl1_model.specs.Match.{both, own_outcome, each_alike, test_outcome, tests_outcome}
+use Rattle.kl1_model.specs.Match.{own_outcome, test_outcome, tests_outcome}
 use Rattle.kl1_clause.specs.declared.instruction.Instruction.{Instruction}
 use Rattle.kl1_clause.specs.declared.instruction.Instruction.TheVariants.{Variable, Integer, Atom, Structure}
 use Rattle.kl1_guard.specs.declared.outcome.Outcome.{Outcome}
@@ -58,7 +58,3 @@ TestComes built t q before after answer = Comes built t.held (λ f. test_outcome
 -- what comes of all from a place on
 abbrev pub TestsCome : {N : Type 0} → (BuiltIn → N) → Tests N → ℕ → List ℕ → List ℕ → Bool → Type 0
 TestsCome built t q before after answer = Comes built t.held (λ f. tests_outcome (last_of t) (replacements_of f t.held t.places) (tests_from built f t q)) before after answer
-
--- what comes of each two places of a variable, and of all tests
-abbrev pub RestComes : {N : Type 0} → (BuiltIn → N) → Tests N → List ℕ → List ℕ → Bool → Type 0
-RestComes built t before after answer = Comes built t.held (λ f. both (each_alike (replacements_of f t.held t.places)) (tests_outcome (last_of t) (replacements_of f t.held t.places) (tests_from built f t 0))) before after answer

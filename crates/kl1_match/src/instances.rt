@@ -50,6 +50,7 @@ fn step_in<N: NameValue>(names: &[N], instruction: Instruction) -> Step<N>
 
 /// Puts on an empty stack the cells of the terms of a row, the last of them first. `variables` has a cell for each variable,
 /// by its number from 0. Where memory is refused, the stack is of no use.
+#[inline(always)]
 pub(crate) fn put_row<N: NameValue>(
     store: &mut Store<N>,
     names: &[N],

@@ -1,12 +1,11 @@
-//! What clauses make of goals: verdicts of heads, and instances of bodies, over cells.
+//! What verdicts are made of, the match of a clause's head and its tests, and instances of bodies, over cells.
 #![tactic(auto)]
 
 mod accepting;
-mod alike;
 mod arguments;
 mod building;
-mod choice;
 mod goal_cells;
+mod heads;
 mod instances;
 mod meets;
 mod met;
@@ -18,21 +17,21 @@ mod scratch;
 mod skips;
 mod span;
 mod step;
-mod taking;
 mod test_scratch;
 mod test_view;
 mod testing;
 mod variables;
 mod verdict;
-mod verdicts;
 
 pub use accepting::accepts_in_order;
-pub use choice::choose;
 pub use goal_cells::{put_goal, put_goal_variables, reserve_goal, reserve_goal_beside};
+pub use heads::{find_match, judge_plain};
 pub use instances::{put_instance, put_kept_instance};
 pub use name_in::name_at;
 pub use place::Place;
 pub use scratch::Scratch;
-pub use taking::{is_candidate, takes_in_order};
-pub use verdict::Verdict;
-pub use verdicts::verdict_on;
+pub use span::Span;
+pub use test_scratch::TestScratch;
+pub use test_view::{TestAt, TestStructure, TestVariable, TestView};
+pub use testing::run_tests;
+pub use verdict::{Verdict, is_rejection};

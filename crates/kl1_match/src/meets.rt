@@ -1,6 +1,6 @@
 // A pattern beside a term, one kind of instruction after another.
 
-ghost use Rattle.std.specs.Prelude.{◌≡◌, ◌<◌, ◌≤◌, ◌+◌, ℕ, List, length, IsTrue, vec_len, vec_capacity};
+ghost use Rattle.std.specs.Prelude.{◌≡◌, ◌<◌, ◌≤◌, ◌+◌, List, length, IsTrue, vec_len, vec_capacity};
 ghost use Rattle.kl1_store.specs.Held.{IsIn, IsWalked};
 ghost use Rattle.kl1_clause.specs.declared.instruction.Instruction.TheVariants.{Variable};
 ghost use Rattle.kl1_clause.specs.Instructions.{IsNamed};

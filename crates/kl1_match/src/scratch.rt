@@ -8,15 +8,16 @@ use kl1_text::NameValue;
 use std::alloc::Global;
 
 /// Lists that calls work with: each empties those that it uses, and what it leaves in them is of no use. It takes no memory
-/// until a call needs some, and keeps what it has for the next.
+/// until a call needs some, and keeps what it has for the next. Those that are public are lent one by one to calls that want
+/// parts of it alone.
 #[derive(Drop)]
 pub struct Scratch<N: NameValue> {
     pub(crate) stack: Vec<Cell<N>>,
-    pub(crate) spans: Vec<Span>,
-    pub(crate) places: Vec<Place<N>>,
+    pub spans: Vec<Span>,
+    pub places: Vec<Place<N>>,
     pub(crate) variables: Vec<Cell<N>>,
-    pub(crate) same: SameScratch,
-    pub(crate) tests: TestScratch<N>,
+    pub same: SameScratch,
+    pub tests: TestScratch<N>,
 }
 
 impl<N: NameValue> Scratch<N> {

@@ -2,7 +2,7 @@
 
 /// Arguments by their places among those of all structures of a store, from 0: those from `next` on and before `end`.
 #[derive(Clone, Copy)]
-pub(crate) struct Span {
+pub struct Span {
     pub next: u32,
     pub end: u32,
 }

@@ -7,7 +7,7 @@ use std::alloc::Global;
 
 /// Lists that tests empty before they use them.
 #[derive(Drop)]
-pub(crate) struct TestScratch<N: NameValue> {
+pub struct TestScratch<N: NameValue> {
     pub(crate) guard: kl1_guard::Scratch<TestAt<N>, TestStructure>,
     pub(crate) waits: Vec<TestVariable>,
     pub(crate) rest: Vec<Pair<TestAt<N>>>,

@@ -13,32 +13,32 @@ use kl1_text::NameValue;
 
 /// Where a term stands: a cell of the goal, or the term that begins at this place of the row.
 #[derive(Clone, Copy)]
-pub(crate) enum TestAt<N> {
+pub enum TestAt<N> {
     Cell(Cell<N>),
     Row(usize),
 }
 
 /// A variable of the clause without a place, or one of the goal.
 #[derive(Clone, Copy)]
-pub(crate) enum TestVariable {
+pub enum TestVariable {
     Own(u64),
     Goal(u32),
 }
 
 /// A structure of the store, or the one at this place of the row.
 #[derive(Clone, Copy)]
-pub(crate) enum TestStructure {
+pub enum TestStructure {
     Cell(u32),
     Row(usize),
 }
 
 /// The tests of a clause in a row, beside the names of its code, and the cells at the places of its head's variables.
 #[derive_where(Clone, Copy)]
-pub(crate) struct TestView<'a, N: NameValue> {
-    pub(crate) store: &'a Store<N>,
-    pub(crate) names: &'a [N],
-    pub(crate) row: &'a [Instruction],
-    pub(crate) places: &'a [Place<N>],
+pub struct TestView<'a, N: NameValue> {
+    pub store: &'a Store<N>,
+    pub names: &'a [N],
+    pub row: &'a [Instruction],
+    pub places: &'a [Place<N>],
 }
 
 /// The instruction at a place, or a variable where there is none.

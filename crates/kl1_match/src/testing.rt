@@ -4,7 +4,7 @@ ghost use Rattle.std.specs.Prelude.{◌≡◌, IfOk};
 ghost use Rattle.kl1_model.specs.Guard.{compared};
 ghost use Rattle.kl1_guard.specs.Outcomes.{IsWaiting};
 ghost use Rattle.kl1_guard.specs.Tests.{IsTestAt};
-ghost use Rattle.kl1_match.specs.TestTerms.{tests_of, instruction_in, AreSound, IsFreeIn, IsTermAt};
+ghost use Rattle.kl1_match.specs.TestTerms.{tests_of, AreSound, IsFreeIn, IsTermAt};
 ghost use Rattle.kl1_match.specs.Testing.{is_variable, SettledAs, SameAs, OtherAs, ComparedAs, FoundAs, TestComes, TestsCome};
 
 use crate::passing::{Passed, compare_terms};
@@ -199,8 +199,9 @@ fn run_test<N: NameValue>(
     }
 }
 
-/// The same of all tests of the row.
-pub(crate) fn run_tests<N: NameValue>(
+/// Whether all tests of the row may hold: false where one clashes. Else `awaited` gets the variables of the goal that they wait
+/// for behind its own. Where memory is refused, nothing is said of what it got.
+pub fn run_tests<N: NameValue>(
     view: &TestView<N>,
     scratch: &mut TestScratch<N>,
     same: &mut SameScratch,

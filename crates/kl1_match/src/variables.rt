@@ -1,6 +1,6 @@
 // The cells that stand for a clause's variables.
 
-ghost use Rattle.std.specs.Prelude.{◌≡◌, ℕ, ◌+◌, ◌<◌, ◌≤◌, List, ◌++◌, length, OnOk, IsTrue, slice_index_or, vec_capacity};
+ghost use Rattle.std.specs.Prelude.{◌≡◌, ℕ, ◌+◌, ◌<◌, ◌≤◌, ◌++◌, length, OnOk, IsTrue, slice_index_or, vec_capacity};
 ghost use Rattle.kl1_store.specs.declared.cell.Cell.{Cell};
 ghost use Rattle.kl1_store.specs.Sound.{Grown};
 ghost use Rattle.kl1_match.specs.Variables.{cell_at, cells_at, AreFrom, with_variables, fresh_cells};

@@ -16,7 +16,7 @@ pub enum Verdict {
 
 /// Whether a verdict rejects.
 #[inline]
-pub(crate) fn is_rejection(verdict: Verdict) -> bool
+pub fn is_rejection(verdict: Verdict) -> bool
     ensures { result ≡ is_rejection verdict }
 {
     match verdict {

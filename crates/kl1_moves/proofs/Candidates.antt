@@ -10,7 +10,7 @@ use Rattle.kl1_model.specs.Reduction as model_moves
 use Rattle.kl1_model.specs.Reduction.{commits, raises, failure, term_move, call_move, built_in_move}
 use Rattle.kl1_model.specs.Waits.{move_by, least_clause}
 use Rattle.kl1_model.proofs.LeastClause.{AreFrom, are_from, first_number, least-chosen}
-use Rattle.kl1_match.specs.Candidates.{numbered}
+use Rattle.kl1_verdict.specs.Candidates.{numbered}
 use Rattle.kl1_moves.specs.Shapes.{IsNoGoal}
 
 behind_front : (j n : ℕ) (c : Clause) (ks : List Candidate) (v : model.Verdict) → n < j → numbered j (candidate_by n c v ++ ks) ≡ numbered j ks

@@ -30,8 +30,8 @@ use Rattle.kl1_clause.specs.Predicates.{AreSome}
 use Rattle.kl1_match.specs.declared.place.Place.{Place}
 use Rattle.kl1_match.specs.Instances.{IsClause, replacements_of, IsInstance}
 use Rattle.kl1_match.specs.Verdicts.{arguments_of_goal}
-use Rattle.kl1_match.specs.Choices.{AreClauses, Chooses, IsChoice}
-use Rattle.kl1_match.specs.Candidates.{TakenAs, Takes}
+use Rattle.kl1_verdict.specs.Choices.{AreClauses, Chooses, IsChoice}
+use Rattle.kl1_verdict.specs.Candidates.{TakenAs, Takes}
 use Rattle.kl1_match.specs.Waiting.{AreSame}
 use Rattle.kl1_match.proofs.Cells.{at_integer}
 use Rattle.kl1_match.proofs.Naming.{same_as_itself}

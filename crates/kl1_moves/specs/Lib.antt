@@ -10,4 +10,3 @@ pub mod Assigning
 pub mod Opening
 pub mod Standing
 pub mod Bodies
-pub mod Hanging

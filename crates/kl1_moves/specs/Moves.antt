@@ -14,7 +14,7 @@ use Rattle.kl1_clause.specs.declared.predicate.Predicate.{Predicate}
 use Rattle.kl1_clause.specs.Clauses.{IsCompiled, AreCompiled}
 use Rattle.kl1_match.specs.declared.place.Place.{Place}
 use Rattle.kl1_match.specs.Instances.{AreThere, replacements_of}
-use Rattle.kl1_match.specs.Candidates.{numbered}
+use Rattle.kl1_verdict.specs.Candidates.{numbered}
 use Rattle.kl1_moves.specs.declared.call.Call.{Call}
 use Rattle.kl1_moves.specs.declared.kind.Kind.{Kind}
 use Rattle.kl1_moves.specs.declared.kind.Kind.TheVariants as kind

@@ -6,7 +6,6 @@ mod call;
 mod calling;
 mod codes;
 mod committing;
-mod hanging;
 mod kind;
 mod look;
 mod moves;
@@ -24,7 +23,6 @@ mod walking;
 
 pub use call::Call;
 pub use committing::commit;
-pub use hanging::hang_on;
 pub use kind::{Kind, kind_of, kind_of_qualified};
 pub use look::Look;
 pub use moves::{Move, move_of};

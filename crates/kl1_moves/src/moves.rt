@@ -20,10 +20,10 @@ use crate::spelling::spell;
 use crate::trial::Trial;
 use kl1_clause::Predicate;
 use kl1_guard::evaluate_cell;
-use kl1_match::{choose, is_candidate, takes_in_order};
 use kl1_model::BuiltIn;
 use kl1_store::{Cell, Store};
 use kl1_text::NameValue;
+use kl1_verdict::{choose, is_candidate, takes_in_order};
 use std::alloc::AllocError;
 
 /// What a goal can do: commit to the clause at a place among those of its predicate, from 0; raise an exception of the kind of a

@@ -17,9 +17,9 @@ use crate::spelling::{Spelling, spell};
 use crate::trial::Trial;
 use kl1_clause::Predicate;
 use kl1_guard::{Evaluated, evaluate_cell};
-use kl1_match::choose;
 use kl1_store::Store;
 use kl1_text::NameValue;
+use kl1_verdict::choose;
 use std::alloc::AllocError;
 
 /// The least clause by which a goal of a kind can step, or nothing where it has to wait or is no goal. The trial gets the

@@ -6,9 +6,11 @@ use Rattle.std.proofs.lemmas.List.{set-get_or}
 use Rattle.std.proofs.lemmas.List.Sums.{sum_by-cons, sum_by-set, count_by-le-length}
 use Rattle.kl1_model.specs.declared.life.Life.TheVariants.{Aborted}
 use Rattle.kl1_model.specs.TreeLaws.{ParentsAreLower}
-use Rattle.kl1_shoen.specs.declared.shoen.Shoen.{Shoen}
-use Rattle.kl1_shoen.specs.Shoens.{AreLower, AreCounted, counted_under, is_living_child_of, parents_in}
-use Rattle.kl1_shoen.proofs.Charges.{length_more, zero_more, length_set, lower_open, get_beyond}
+use Rattle.kl1_ancestors.specs.declared.shoen.Shoen.{Shoen}
+use Rattle.kl1_shoen.specs.Shoens.{AreCounted, counted_under, is_living_child_of}
+use Rattle.kl1_ancestors.proofs.Paths.{parent_few}
+use Rattle.kl1_ancestors.proofs.Charges.{length_set}
+use Rattle.kl1_shoen.proofs.Charges.{length_more, zero_more, lower_open, get_beyond}
 use Rattle.kl1_shoen.proofs.Changing.{parents_put}
 
 -- nobody is counted where there are no shoens
@@ -120,20 +122,7 @@ got_any xs i x y lt is = get_any xs i y x lt ∙ sym is
 pub put_itself : {A : Type 0} (xs : List A) (i : ℕ) (x : A) → x ≡ get_or xs i x → xs ≡ set xs i x
 put_itself xs i x is = sym (ap (set xs i) is ∙ set-get_or xs i x)
 
--- the parent of a shoen at a place stands at that place
-pub parents_get : {N : Type 0} (ss : List (Shoen N)) (i : ℕ) (x : Shoen N) → i < length ss → x ≡ get_or ss i x → x.parent ≡ get_or (parents_in ss) i 0
-parents_get [] i x lt is = absurd (omega (arith, lt))
-parents_get (s ∷ ss) zero x lt is = ap (λ (y : Shoen _). y.parent) is
-parents_get (s ∷ ss) (suc i) x lt is = parents_get ss i x (omega (arith, lt)) is
-
--- the parent of a shoen at a place is at most that place
-pub parent_few : {N : Type 0} (ss : List (Shoen N)) (i : ℕ) (x : Shoen N) → AreLower ss → i < length ss → x ≡ get_or ss i x → x.parent ≤ i
-parent_few ss i x lower lt is =
-    let e = parents_get ss i x lt is in
-    let l = lower i in
-    omega (arith, e, l)
-
--- so it has a count
+-- the parent of a shoen at a place has a count
 pub parent_counted : {N : Type 0} (ss : List (Shoen N)) (cs : List ℕ) (i : ℕ) (x : Shoen N) → AreCounted ss cs → i < length ss → x ≡ get_or ss i x → x.parent < length cs
 parent_counted ss cs i x a lt is =
     let l = parent_few ss i x a.lower lt is in

@@ -1,4 +1,3 @@
-pub mod Putting
 pub mod Numbered
 pub mod Paths
 pub mod Charges

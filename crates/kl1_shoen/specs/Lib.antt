@@ -1,4 +1,3 @@
-pub mod Tracked
 pub mod Shoens
 pub mod Changes
 pub mod Meaning

@@ -1,14 +1,12 @@
--- Shoens in order of number, as a tree: paths, charges, and which are enabled.
-use Rattle.std.specs.Prelude.{◌≡◌, ◌≤◌, ℕ, suc, ◌==◌, nat_le, not, ◌&&◌, ◌||◌, Bool, false, if◌then◌else◌, Option, List, [], ◌∷◌, map, length, find, get_or, count_by, option_map, unwrap_or}
+-- Shoens in order of number, as a tree: charges, and which are enabled.
+use Rattle.std.specs.Prelude.{◌≡◌, ◌≤◌, ℕ, suc, ◌==◌, nat_le, not, ◌&&◌, ◌||◌, Bool, false, if◌then◌else◌, Option, List, map, length, find, get_or, count_by, option_map, unwrap_or}
 use Rattle.std.specs.List.{AllByRecursion, list_any}
 use Rattle.kl1_model.specs.declared.life.Life.{Life}
 use Rattle.kl1_model.specs.declared.life.Life.TheVariants.{Aborted}
-use Rattle.kl1_model.specs.Module.{is_among}
 use Rattle.kl1_model.specs.State.{is_living}
-use Rattle.kl1_model.specs.Tree.{path_within}
-use Rattle.kl1_model.specs.TreeLaws.{ParentsAreLower}
-use Rattle.kl1_shoen.specs.declared.shoen.Shoen.{Shoen}
-use Rattle.kl1_shoen.specs.Tracked.{Tracked}
+use Rattle.kl1_ancestors.specs.declared.shoen.Shoen.{Shoen}
+use Rattle.kl1_ancestors.specs.Tracked.{Tracked}
+pub use Rattle.kl1_ancestors.specs.Paths.{has_number, AreNumbered, parents_in, AreLower, path_in, is_on_path_in}
 
 -- the shoens of an account in order of number, from 1; for each charged reduction the number of its shoen, the newest first; both as
 -- they were when the event began; and how many more shoens can be opened without asking for memory
@@ -19,34 +17,9 @@ pub record Tree (N : Type 0) : Type 0 where
   pub kept_work : List ℕ
   pub room : ℕ
 
--- whether a shoen has this number
-abbrev pub has_number : {N : Type 0} → ℕ → Shoen N → Bool
-has_number n s = s.number == n
-
 -- the shoen of a number
 abbrev pub shoen_in : {N : Type 0} → ℕ → List (Shoen N) → Option (Shoen N)
 shoen_in n shoens = find (has_number n) shoens
-
--- shoens have the numbers after this one, in order
-abbrev pub AreNumbered : {N : Type 0} → ℕ → List (Shoen N) → Type 0
-AreNumbered last [] = Unit {0}
-AreNumbered last (s ∷ ss) = (s.number ≡ suc last) × AreNumbered (suc last) ss
-
--- the number of each shoen's parent
-abbrev pub parents_in : {N : Type 0} → List (Shoen N) → List ℕ
-parents_in shoens = map (λ h. h.parent) shoens
-
--- each shoen's parent has a lesser number
-abbrev pub AreLower : {N : Type 0} → List (Shoen N) → Type 0
-AreLower shoens = ParentsAreLower (parents_in shoens)
-
--- the path of a shoen: it and all its ancestors, innermost first
-abbrev pub path_in : {N : Type 0} → List (Shoen N) → ℕ → List ℕ
-path_in shoens n = path_within n (parents_in shoens) n
-
--- whether a shoen is on the path of another
-abbrev pub is_on_path_in : {N : Type 0} → List (Shoen N) → ℕ → ℕ → Bool
-is_on_path_in shoens a n = is_among a (path_in shoens n)
 
 -- what a shoen is charged: one for each reduction that was done in it or below it
 abbrev pub charged_in : {N : Type 0} → List (Shoen N) → List ℕ → ℕ → ℕ

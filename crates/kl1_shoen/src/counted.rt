@@ -5,8 +5,7 @@ ghost use Rattle.std.specs.List.{list_any};
 ghost use Rattle.kl1_model.specs.State.{is_living as living};
 ghost use Rattle.kl1_shoen.specs.Shoens.{counted_under, is_living_child_of, AreLower};
 
-use crate::shoen::{Shoen, is_living};
-use crate::tracked::{TrackedList, item_at};
+use kl1_ancestors::{Shoen, TrackedList, item_at};
 use kl1_model::Life;
 use kl1_text::NameValue;
 use std::alloc::{AllocError, Global};
@@ -23,8 +22,8 @@ pub struct CountedShoens<N: NameValue> {
 
 impl<N: NameValue> Model for CountedShoens<N> {
     ghost use Rattle.std.specs.Prelude.{◌-◌, min};
-    ghost use Rattle.kl1_shoen.specs.declared.shoen.Shoen.{Shoen};
-    ghost use Rattle.kl1_shoen.specs.Tracked.{Tracked};
+    ghost use Rattle.kl1_ancestors.specs.declared.shoen.Shoen.{Shoen};
+    ghost use Rattle.kl1_ancestors.specs.Tracked.{Tracked};
     ghost use Rattle.kl1_shoen.specs.Shoens.{IsCounted};
 
     ghost Value = { Tracked (Shoen N) };
@@ -150,6 +149,17 @@ impl<N: NameValue> CountedShoens<N> {
             return false;
         }
         true
+    }
+}
+
+/// Whether a shoen of this life lives.
+pub(crate) fn is_living(life: Life) -> bool
+    ensures { result ≡ living life }
+{
+    match life {
+        Life::Living => true,
+        Life::Terminated => false,
+        Life::Aborted => false,
     }
 }
 

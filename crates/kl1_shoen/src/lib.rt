@@ -3,10 +3,8 @@
 
 mod change;
 mod counted;
-mod shoen;
-mod tracked;
 mod tree;
 mod work;
 
-pub use shoen::{Origin, Shoen};
+pub use kl1_ancestors::{Origin, Shoen};
 pub use tree::{ShoenTree, Step};

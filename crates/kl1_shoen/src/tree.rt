@@ -5,24 +5,16 @@ mod charging;
 mod marking;
 mod walking;
 
-ghost use Rattle.std.specs.Prelude.{◌≡◌, ◌<◌, ◌≤◌, ◌+◌, ◌-◌, [], ◌∷◌, ◌++◌, suc, min, length, find, option_and_then, option_copied, option_map, unwrap_or, slice_get, None, IfSome, OnOk};
+ghost use Rattle.std.specs.Prelude.{◌≡◌, ◌<◌, ◌≤◌, ◌+◌, ◌-◌, [], ◌∷◌, ◌++◌, suc, min, length, find, option_and_then, option_copied, option_map, unwrap_or, None, IfSome, OnOk};
 ghost use Rattle.std.specs.List.{AllByRecursion};
 ghost use Rattle.kl1_shoen.specs.Shoens.{has_number, shoen_in, path_in, lives_in, AreNumbered, AreLower};
 
-use crate::counted::CountedShoens;
-use crate::shoen::{Origin, Shoen, is_living};
-use crate::tracked::TrackedList;
+use crate::counted::{CountedShoens, is_living};
 use crate::work::Work;
+use kl1_ancestors::{Origin, Shoen, TrackedList, lent, parent_of};
 use kl1_text::NameValue;
 use std::alloc::{AllocError, Global};
 use std::marker::Model;
-
-/// The shoen at a place of a list, from 0.
-fn at<N: NameValue>(shoens: &[Shoen<N>], place: usize) -> Option<&Shoen<N>>
-    ensures { option_copied result ≡ slice_get shoens.now place }
-{
-    shoens.get(place)
-}
 
 /// A step of a path: the number of the shoen's parent, and whether that which is asked of the shoen holds.
 #[derive(Clone, Copy)]
@@ -180,18 +172,6 @@ impl<N: NameValue> ShoenTree<N> {
     }
 }
 
-/// The shoen of a number, lent.
-fn lent<N: NameValue>(shoens: &[Shoen<N>], number: u64) -> Option<&Shoen<N>>
-    requires { AreNumbered 0 shoens.now }
-    ensures value { option_copied result ≡ find (has_number number) shoens.now }
-    ensures number { IfSome result (λ shoen. shoen.now.number ≡ number) }
-{
-    if number == 0 {
-        return None;
-    }
-    at(shoens, (number - 1) as usize)
-}
-
 /// The shoen of a number, lent as a step of a path, as `climb`.
 fn climbed<N: NameValue>(shoens: &[Shoen<N>], number: u64) -> Option<&Shoen<N>>
     requires numbered { AreNumbered 0 shoens.now }
@@ -204,27 +184,4 @@ fn climbed<N: NameValue>(shoens: &[Shoen<N>], number: u64) -> Option<&Shoen<N>>
     ensures end { result ≡ None → path_in shoens.now number ≡ number ∷ [] }
 {
     lent(shoens, number)
-}
-
-/// The number of the parent of the shoen of a number, as `parent`.
-fn parent_of<N: NameValue>(shoens: &[Shoen<N>], number: u64) -> u64
-    requires numbered { AreNumbered 0 shoens.now }
-    requires lower { AreLower shoens.now }
-    ensures value { result ≡ unwrap_or (option_map (λ h. h.parent) (find (has_number number) shoens.now)) 0 }
-    ensures below { 0 < number → result < number }
-    ensures path { 0 < number → path_in shoens.now number ≡ number ∷ path_in shoens.now result }
-    ensures end { number ≡ 0 → path_in shoens.now number ≡ [] }
-{
-    parent_named(shoens, number)
-}
-
-/// The number of the parent that a shoen names.
-fn parent_named<N: NameValue>(shoens: &[Shoen<N>], number: u64) -> u64
-    requires { AreNumbered 0 shoens.now }
-    ensures { result ≡ unwrap_or (option_map (λ h. h.parent) (find (has_number number) shoens.now)) 0 }
-{
-    let Some(shoen) = lent(shoens, number) else {
-        return 0;
-    };
-    shoen.parent
 }

@@ -9,7 +9,7 @@ use crate::matching::kind::Kind;
 use crate::matching::printed_cells::{put_cells, put_goals, walked};
 use kl1_clause::{Code, CompiledClause, GoalCode};
 use kl1_match::{
-    Place, Scratch, Verdict, put_goal, put_goal_variables, put_instance, reserve_goal, verdict_on,
+    Place, Scratch, Verdict, put_goal, put_goal_variables, put_instance, reserve_goal,
 };
 use kl1_moves::Trial;
 use kl1_read::read_goal;
@@ -17,6 +17,7 @@ use kl1_rows::Text;
 use kl1_store::{Cell, Store};
 use kl1_term::Term;
 use kl1_text::{AtomText, NameValue};
+use kl1_verdict::verdict_on;
 use std::alloc::{AllocError, Global};
 
 /// Puts the second of two goals in a new store that is given both.

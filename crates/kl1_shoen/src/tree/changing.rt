@@ -8,10 +8,9 @@ ghost use Rattle.kl1_shoen.specs.Shoens.{has_number, changed, aborted_below_in, 
 ghost use Rattle.kl1_shoen.specs.Changes.{changed_by, with_control};
 
 use crate::change::{Change, changed};
-use crate::counted::CountedShoens;
-use crate::shoen::{Shoen, is_living};
-use crate::tree::walking::tell_below;
-use crate::tree::{ShoenTree, lent};
+use crate::counted::{CountedShoens, is_living};
+use crate::tree::ShoenTree;
+use kl1_ancestors::{Shoen, lent, tell_below};
 use kl1_model::Life;
 use kl1_store::Cell;
 use kl1_text::NameValue;

@@ -1,12 +1,11 @@
 // Charges, and what comes of them.
 
-ghost use Rattle.std.specs.Prelude.{ℕ, suc, get_or, if◌then◌else◌, ◌≡◌, ◌<◌, ◌≤◌, ◌+◌, ◌-◌, ◌^◌, ◌∷◌, length, set, map, unwrap_or, option_map, not, ◌&&◌, OnOk, OnErr};
-ghost use Rattle.kl1_shoen.specs.Shoens.{AreNumbered, AreLower, path_in, is_on_path_in, charged_in, has_reached_in, is_blocking_in, is_blocking_at, is_enabled_at};
+ghost use Rattle.std.specs.Prelude.{◌≡◌, ◌<◌, ◌≤◌, ◌+◌, ◌^◌, ◌∷◌, length, map, not, ◌&&◌, OnOk, OnErr};
+ghost use Rattle.kl1_shoen.specs.Shoens.{path_in, charged_in, has_reached_in, is_blocking_in, is_enabled_at};
 
-use crate::shoen::{Shoen, is_living};
-use crate::tracked::TrackedList;
-use crate::tree::walking::flag_of;
-use crate::tree::{ShoenTree, Step, parent_of};
+use crate::counted::is_living;
+use crate::tree::{ShoenTree, Step};
+use kl1_ancestors::{Shoen, flag_of, raise};
 use kl1_text::NameValue;
 use std::alloc::AllocError;
 
@@ -69,16 +68,6 @@ impl<N: NameValue> ShoenTree<N> {
         }
     }
 
-    /// Whether the shoen of a number holds back the goals in it and below it.
-    fn is_blocking(&self, number: u64) -> bool
-        ensures { result ≡ is_blocking_at self.now.shoens self.now.work number }
-    {
-        let Some(shoen) = self.lend(number) else {
-            return false;
-        };
-        self.holds_back(shoen)
-    }
-
     /// Whether a shoen holds back the goals in it and below it.
     fn holds_back(&self, shoen: &Shoen<N>) -> bool
         ensures { result ≡ is_blocking_in self.now.shoens self.now.work shoen.now }
@@ -116,7 +105,7 @@ impl<N: NameValue> ShoenTree<N> {
         let _lower = self.len();
         out.clear();
         for shoen in self.shoens.items() {
-            let is_blocking = self.is_blocking(shoen.number);
+            let is_blocking = self.holds_back(shoen);
             let is_parent_enabled = flag_of(out, shoen.parent, true);
             out.push(is_enabled_with(is_blocking, is_parent_enabled))?;
         }
@@ -129,44 +118,4 @@ fn is_enabled_with(is_blocking: bool, is_parent_enabled: bool) -> bool
     ensures { result ≡ (not is_blocking && is_parent_enabled) }
 {
     !is_blocking && is_parent_enabled
-}
-
-/// Charges one reduction more to each shoen on the path of one.
-fn raise<N: NameValue>(shoens: &[Shoen<N>], charges: &mut TrackedList<u64>, number: u64)
-    requires numbered { AreNumbered 0 shoens.now }
-    requires lower { AreLower shoens.now }
-    requires count { length charges.old.now ≡ length shoens.now }
-    requires within { number ≤ length shoens.now }
-    requires few { (k : ℕ) → get_or charges.old.now k 0 < 2 ^ 63 }
-    requires changes { number ≤ charges.old.changes }
-    ensures charged { (k : ℕ) → get_or charges.new.now k 0 ≡ (if is_on_path_in shoens.now (suc k) number then 1 else 0) + get_or charges.old.now k 0 }
-    ensures count { length charges.new.now ≡ length charges.old.now }
-    ensures kept { charges.new.kept ≡ charges.old.kept }
-    ensures room { charges.new.room ≡ charges.old.room }
-{
-    let mut at = number;
-    while at > 0 {
-        at = raise_at(shoens, charges, at);
-    }
-}
-
-/// Charges one reduction more to the shoen of a number alone, and gives the number of its parent.
-fn raise_at<N: NameValue>(shoens: &[Shoen<N>], charges: &mut TrackedList<u64>, number: u64) -> u64
-    requires numbered { AreNumbered 0 shoens.now }
-    requires lower { AreLower shoens.now }
-    requires some { 0 < number }
-    requires within { number ≤ length charges.old.now }
-    requires few { get_or charges.old.now (number - 1) 0 ≤ 2 ^ 63 }
-    requires changes { 0 < charges.old.changes }
-    ensures charged { charges.new.now ≡ set charges.old.now (number - 1) (get_or charges.old.now (number - 1) 0 + 1) }
-    ensures below { result < number }
-    ensures path { path_in shoens.now number ≡ number ∷ path_in shoens.now result }
-    ensures kept { charges.new.kept ≡ charges.old.kept }
-    ensures room { charges.new.room ≡ charges.old.room }
-    ensures changes { charges.new.changes + 1 ≡ charges.old.changes }
-{
-    let place = (number - 1) as usize;
-    let charged = charges.items()[place];
-    charges.put(place, charged + 1);
-    parent_of(shoens, number)
 }

@@ -1,12 +1,11 @@
 // Paths.
 
-ghost use Rattle.std.specs.Prelude.{◌≡◌, ◌<◌, ◌≤◌, ◌-◌, ◌==◌, ◌||◌, length, map, get_or, OnOk};
+ghost use Rattle.std.specs.Prelude.{◌≡◌, length, map, OnOk};
 ghost use Rattle.std.specs.List.{list_any};
 ghost use Rattle.kl1_shoen.specs.Shoens.{path_in, is_on_path_in, is_living_child_of, AreNumbered, AreLower};
 
-use crate::shoen::Shoen;
-use crate::tracked::item_at;
-use crate::tree::{ShoenTree, parent_of};
+use crate::tree::ShoenTree;
+use kl1_ancestors::{Shoen, parent_of, tell_below};
 use kl1_text::NameValue;
 use std::alloc::AllocError;
 
@@ -49,43 +48,6 @@ impl<N: NameValue> ShoenTree<N> {
         let _lower = self.len();
         tell_below(self.shoens.items(), number, out)
     }
-}
-
-/// Whether each shoen is that of a number, or below it, in order of number.
-pub(super) fn tell_below<N: NameValue>(
-    shoens: &[Shoen<N>],
-    number: u64,
-    out: &mut Vec<bool>,
-) -> Result<(), AllocError>
-    requires numbered { AreNumbered 0 shoens.now }
-    requires lower { AreLower shoens.now }
-    ensures { OnOk result (out.new.items ≡ map (λ h. is_on_path_in shoens.now number h.number) shoens.now) }
-{
-    out.clear();
-    for shoen in shoens {
-        let is_parent_below = flag_of(out, shoen.parent, false);
-        out.push(is_below(shoen, number, is_parent_below))?;
-    }
-    Ok(())
-}
-
-/// Whether a shoen is that of a number or below it, where its parent is or isn't.
-fn is_below<N: NameValue>(shoen: &Shoen<N>, number: u64, is_parent_below: bool) -> bool
-    ensures { result ≡ (number == shoen.now.number || is_parent_below) }
-{
-    number == shoen.number || is_parent_below
-}
-
-/// The flag of the shoen of a number, where they stand in order of number; that which is given for the number 0.
-pub(super) fn flag_of(flags: &[bool], number: u64, of_none: bool) -> bool
-    requires { number ≤ length flags.now }
-    ensures none { number ≡ 0 → result ≡ of_none }
-    ensures some { 0 < number → result ≡ get_or flags.now (number - 1) result }
-{
-    if number == 0 {
-        return of_none;
-    }
-    item_at(flags, (number - 1) as usize)
 }
 
 /// Whether a shoen is on the path of another, as `is_on_path`.

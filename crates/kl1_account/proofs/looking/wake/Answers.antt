@@ -3,7 +3,7 @@ use Rattle.std.specs.Prelude.{OnOk}
 use Rattle.kl1_account.specs.Looking.{FindsOut}
 use Rattle.std.proofs.lemmas.Result.{on_ok_weaker}
 use Rattle.kl1_goals.specs.Lists.{has_number}
-use Rattle.kl1_moves.proofs.Hooked.{grown_among}
+use Rattle.kl1_hooks.proofs.Hooked.{grown_among}
 use Rattle.kl1_account.proofs.Told.{removed_wakes, absent_wakes, goal_wakes, task_in}
 use Rattle.kl1_account.proofs.looking.wake.Goals as goal
 

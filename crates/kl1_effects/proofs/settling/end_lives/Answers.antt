@@ -1,6 +1,6 @@
 use Rattle.std.proofs.Common.{◌++◌, arith}
 use Rattle.kl1_effects.specs.Drafts.{goals_left}
-use Rattle.kl1_shoen.proofs.Paths.{path_zero}
+use Rattle.kl1_ancestors.proofs.Paths.{path_zero}
 use Rattle.kl1_effects.proofs.Ends.{next_end, last_end}
 use Rattle.kl1_effects.proofs.settling.end_lives.Goals as goal
 

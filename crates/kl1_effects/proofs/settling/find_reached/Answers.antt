@@ -1,5 +1,5 @@
 use Rattle.std.proofs.Common.{◌++◌, ℕ, List, sym, ap, ◌∙◌, arith, append-nil}
-use Rattle.kl1_shoen.proofs.Paths.{path_zero}
+use Rattle.kl1_ancestors.proofs.Paths.{path_zero}
 use Rattle.kl1_effects.specs.Walks.{reached_in}
 use Rattle.kl1_effects.proofs.settling.find_reached.Goals as goal
 

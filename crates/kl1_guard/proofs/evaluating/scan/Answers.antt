@@ -1,12 +1,12 @@
-use Rattle.std.proofs.Common.{◌≡◌, ◌-◌, suc, ◌∷◌, [], arith, rules, ap, length, length-append}
+use Rattle.std.proofs.Common.{◌≡◌, ◌-◌, suc, arith, rules}
 use mir.Val.{SFits}
 use mir.Syntax.{w64}
 use Rattle.std.proofs.lemmas.Int.{to_z-of_z}
-use Rattle.std.proofs.lemmas.List.Elements.{All-pop, All-push, All-same}
+use Rattle.std.proofs.lemmas.List.Elements.{All-pop}
 use Rattle.std.specs.Prelude.{Some}
 use Rattle.kl1_model.specs.Arithmetic.{scan}
 use Rattle.kl1_guard.specs.Pendings.{rights_of}
-use Rattle.kl1_guard.proofs.Pendings.{number_on, operation_on, pushed_right}
+use Rattle.kl1_guard.proofs.Pendings.{number_on, operation_on, at_most_one_more, all_pushed}
 use Rattle.kl1_guard.proofs.evaluating.scan.Goals as goal
 
 pub parts-preserved-in-To : goal.parts-preserved-in-To
@@ -33,23 +33,19 @@ returns-in-Whole-clause-value g c = λ f reads.
     (to_z-of_z w64 c.in-Integer.integer fits) (c.in-Integer.ensures.means f reads c.parts.left) (c.in-Whole.ensures.means (g.T.View.term f view) c.parts.left) (c.parts.invariant.value f reads)
 
 pub parts-smaller : goal.parts-smaller
-parts-smaller g c =
-    let more = ap length (pushed_right c.parts.stack.items c.push_reserved.new.self.items c.in-Operation.operator c.in-Operation.second c.push_reserved.ensures.items) in
-    omega (arith, c.if-left-eq0.false, more, length-append (rights_of c.parts.stack.items) (c.in-Operation.second ∷ []))
+parts-smaller g c = omega (arith, c.if-left-eq0.false, at_most_one_more c.parts.stack.items c.push_reserved.new.self.items c.pending_of.result c.push_reserved.ensures.items)
 
 pub parts-preserved : goal.parts-preserved
 parts-preserved g c =
     let view = c.args.view.now in
     let i = c.parts.invariant in
-    let IsAt = g.T.View.IsAt view in
     let less : c.parts.left ≡ suc (c.parts.left - 1) = omega (arith, c.if-left-eq0.false) in
-    let pushed = pushed_right c.parts.stack.items c.push_reserved.new.self.items c.in-Operation.operator c.in-Operation.second c.push_reserved.ensures.items in
     record {
       at_in = c.in-Operation.ensures.inside.0;
-      rights = All-same IsAt _ _ pushed (All-push IsAt (rights_of c.parts.stack.items) c.in-Operation.second i.rights c.in-Operation.ensures.inside.1);
+      rights = all_pushed (g.T.View.IsAt view) c.parts.stack.items c.push_reserved.new.self.items c.pending_of.result c.push_reserved.ensures.items i.rights c.pending_of.ensures.inside;
       value = λ f reads.
-          operation_on (g.T.View.number view) (g.T.View.term f view) (g.T.View.term f view c.parts.at) c.parts.left (c.parts.left - 1) c.in-Operation.operator c.in-Operation.first c.in-Operation.second c.parts.stack.items c.push_reserved.new.self.items _
-          less (c.in-Operation.ensures.means f reads) c.push_reserved.ensures.items (i.value f reads);
+          operation_on (g.T.View.number view) (g.T.View.term f view) (g.T.View.term f view c.parts.at) c.parts.left (c.parts.left - 1) c.in-Operation.operator c.in-Operation.first c.in-Operation.second c.pending_of.result c.parts.stack.items c.push_reserved.new.self.items _
+          less (c.in-Operation.ensures.means f reads) (c.pending_of.ensures.is f) c.push_reserved.ensures.items (i.value f reads);
       room = omega (arith, i.room, c.push_reserved.ensures.len, c.if-left-eq0.false);
       capacity = omega (arith, i.capacity, c.push_reserved.ensures.capacity);
     }

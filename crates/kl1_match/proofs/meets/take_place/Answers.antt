@@ -1,4 +1,4 @@
-use Rattle.std.proofs.Common.{◌≡◌, List, ◌∷◌, [], ◌++◌, refl, ap, ◌∙◌, sym}
+use Rattle.std.proofs.Common.{◌∷◌, [], ◌++◌, refl, ap, ◌∙◌, sym}
 use Rattle.std.proofs.lemmas.Bool.{false≢true}
 use Rattle.kl1_match.specs.Spans.{cells_left, cells_behind}
 use Rattle.kl1_match.proofs.Beside.{variable_meets}

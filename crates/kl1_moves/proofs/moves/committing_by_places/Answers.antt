@@ -1,5 +1,5 @@
 use Rattle.std.proofs.Common.{◌-◌, Bool, true, false, subst}
-use Rattle.kl1_match.specs.Candidates.{Takes}
+use Rattle.kl1_verdict.specs.Candidates.{Takes}
 use Rattle.kl1_moves.proofs.Taking.{are_clauses, judged}
 use Rattle.kl1_moves.proofs.moves.committing_by_places.Goals as goal
 

@@ -1,8 +1,9 @@
 use Rattle.std.proofs.Common.{◌≡◌, Bool, List, map, get_or, ap, ◌∙◌, ◌-◌, arith}
 use Rattle.std.proofs.lemmas.List.{take_all}
-use Rattle.kl1_shoen.specs.declared.shoen.Shoen.{Shoen}
+use Rattle.kl1_ancestors.specs.declared.shoen.Shoen.{Shoen}
 use Rattle.kl1_shoen.specs.Shoens.{Tree, is_enabled_at}
-use Rattle.kl1_shoen.proofs.Flags.{flags_few, flags_step}
+use Rattle.kl1_ancestors.proofs.Flags.{flags_few}
+use Rattle.kl1_shoen.proofs.Flags.{flags_step}
 use Rattle.kl1_shoen.proofs.tree.ShoenTree.flags.Goals as goal
 
 pub flag_of-is_parent_enabled-requires : goal.flag_of-is_parent_enabled-requires
@@ -17,10 +18,10 @@ loop-shoen-preserved g c =
     let x = c.shoen-item.result in
     let b = c.flag_of-is_parent_enabled.result in
     let same : c.items-shoen-items.result.now ≡ t.shoens = c.items-shoen-items.ensures ∙ ap (λ (t : Tree g.row.N.Denot). t.shoens) c.self.view_is in
-    flags_step t.shoens c.items-shoen-items.result.now t.work c.loop-shoen.shoen-index x c.loop-shoen.out.items c.push.new.self.items b c.is_blocking-is_blocking.result c.is_enabled_with.result c.len-lower.ensures.numbered c.len-lower.ensures.lower same c.loop-shoen.invariant
+    flags_step t.shoens c.items-shoen-items.result.now t.work c.loop-shoen.shoen-index x c.loop-shoen.out.items c.push.new.self.items b c.holds_back-is_blocking.result c.is_enabled_with.result c.len-lower.ensures.numbered c.len-lower.ensures.lower same c.loop-shoen.invariant
     (omega (arith, c.loop-shoen-test.true)) c.shoen-item.is
     c.flag_of-is_parent_enabled.ensures.none (λ lt. c.flag_of-is_parent_enabled.ensures.some lt ∙ ap (λ (l : List Bool). get_or l (x.parent - 1) b) c.deref.ensures.value)
-    c.is_blocking-is_blocking.ensures c.is_enabled_with.ensures c.in_ok-push.ensures.items
+    c.holds_back-is_blocking.ensures c.is_enabled_with.ensures c.in_ok-push.ensures.items
 
 pub returns : goal.returns
 returns g c =

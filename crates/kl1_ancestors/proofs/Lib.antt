@@ -1,0 +1,5 @@
+pub mod Putting
+pub mod Numbered
+pub mod Paths
+pub mod Charges
+pub mod Flags

@@ -1,0 +1,2 @@
+pub mod Tracked
+pub mod Paths

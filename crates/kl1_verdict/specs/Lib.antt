@@ -1,0 +1,4 @@
+pub mod Rising
+pub mod Outcomes
+pub mod Choices
+pub mod Candidates
