@@ -9,7 +9,7 @@ use Rattle.kl1_store.specs.Spending.{Spends}
 use Rattle.kl1_clause.specs.declared.instruction.Instruction.{Instruction}
 use Rattle.kl1_clause.specs.declared.instruction.Instruction.TheVariants as instruction
 use Rattle.kl1_match.specs.Matching.{arguments_after}
-use Rattle.kl1_match.specs.Rooms.{structures_at, structures_in, arguments_in, HasRoomFor, UsesRoom, HasRoomForRow}
+use Rattle.kl1_match.specs.Rooms.{structures_at, structures_in, arguments_in, HasRoomFor, HasRoomForRow}
 use Rattle.kl1_match.proofs.Built.{element_is}
 
 -- nothing is spent
@@ -34,58 +34,40 @@ one_before row left i d some within at =
     let again : left - 1 + 1 ≡ left = omega (arith, some) in
     drop_more row (left - 1) i inside ∙ (ap (λ j. j ∷ drop (left - 1 + 1) row) (sym (at ∙ element_is row (left - 1) d i inside)) ∙ ap (λ n. i ∷ drop n row) again)
 
--- a cell more on a stack
-pub puts_one : {N : Type 0} (structures arguments : ℕ) (room : Room) (stack after : Vec (Cell N) Global) (x : Cell N) →
-    after.items ≡ stack.items ++ x ∷ [] → vec_capacity after ≡ vec_capacity stack → UsesRoom structures arguments room room stack after
-puts_one structures arguments room stack after x e same = record {
-  spends = record { variables = omega arith; structures = omega arith; arguments = omega arith; bindings = omega arith };
-  height = omega (arith, ap length e, length-append stack.items (x ∷ []));
-  capacity = same;
-}
+-- room that was spent for nothing
+pub none_needed : (structures arguments : ℕ) (room : Room) → Spends room room 0 structures arguments 0
+none_needed structures arguments room = record { variables = omega arith; structures = omega arith; arguments = omega arith; bindings = omega arith }
 
--- what is left of room where the end of a row is built
-pub record RoomLeft {N : Type 0} (row : List Instruction) (left : ℕ) (old now : Room) (stack : Vec (Cell N) Global) : Type 0 where
-  pub spends : Spends old now 0 (structures_in (drop left row)) (arguments_in (drop left row)) 0
-  pub fits : length stack.items + left ≤ vec_capacity stack
-
--- all is left where nothing is built
-pub all_left : {N : Type 0} (row : List Instruction) (room : Room) (stack : Vec (Cell N) Global) → stack.items ≡ [] → length row ≤ vec_capacity stack → RoomLeft row (length row) room room stack
-all_left row room stack e fits =
-    let rest : drop (length row) row ≡ [] = drop_all (length row) row (omega arith) in
-    record {
-      spends = subst (λ is. Spends room room 0 (structures_in is) (arguments_in is) 0) (sym rest) (no_spending room);
-      fits = omega (arith, ap length e, fits);
-    }
+-- what is spent where the end of a row is built
+abbrev pub SpendsFrom : List Instruction → ℕ → Room → Room → Type 0
+SpendsFrom row left old now = Spends old now 0 (structures_in (drop left row)) (arguments_in (drop left row)) 0
 
 -- the next step has room
-pub step_fits : {N : Type 0} (row : List Instruction) (left : ℕ) (i d : Instruction) (s a most : ℕ) (old mid : Room) (before : Vec (Cell N) Global) →
+pub step_fits : (row : List Instruction) (left : ℕ) (i d : Instruction) (s a most : ℕ) (old mid : Room) →
     0 < left → left ≤ length row → i ≡ slice_index_or row (left - 1) d → s ≡ structures_at i → a ≡ arguments_after i →
-    RoomLeft row left old mid before → HasRoomForRow old most row → HasRoomFor s a mid
-step_fits row left i d s a most old mid before some within at s_is a_is r h =
+    SpendsFrom row left old mid → HasRoomForRow old most row → HasRoomFor s a mid
+step_fits row left i d s a most old mid some within at s_is a_is r h =
     let rest : drop (left - 1) row ≡ i ∷ drop left row = one_before row left i d some within at in
     let structures : structures_at i + structures_in (drop left row) ≤ structures_in row = subst (λ is. structures_in is ≤ structures_in row) rest (structures_drop row (left - 1)) in
     let arguments : arguments_after i + arguments_in (drop left row) ≤ arguments_in row = subst (λ is. arguments_in is ≤ arguments_in row) rest (arguments_drop row (left - 1)) in
     record {
-      structures_fit = omega (arith, structures, s_is, r.spends.structures, h.structures_fit);
-      arguments_fit = omega (arith, arguments, a_is, r.spends.arguments, h.arguments_fit);
+      structures_fit = omega (arith, structures, s_is, r.structures, h.structures_fit);
+      arguments_fit = omega (arith, arguments, a_is, r.arguments, h.arguments_fit);
     }
 
 -- and leaves what those before it need
-pub step_used : {N : Type 0} (row : List Instruction) (left : ℕ) (i d : Instruction) (s a : ℕ) (old mid new : Room) (before after : Vec (Cell N) Global) →
+pub step_used : (row : List Instruction) (left : ℕ) (i d : Instruction) (s a : ℕ) (old mid new : Room) →
     0 < left → left ≤ length row → i ≡ slice_index_or row (left - 1) d → s ≡ structures_at i → a ≡ arguments_after i →
-    RoomLeft row left old mid before → UsesRoom s a mid new before after → RoomLeft row (left - 1) old new after
-step_used row left i d s a old mid new before after some within at s_is a_is r u =
+    SpendsFrom row left old mid → Spends mid new 0 s a 0 → SpendsFrom row (left - 1) old new
+step_used row left i d s a old mid new some within at s_is a_is r u =
     let rest : drop (left - 1) row ≡ i ∷ drop left row = one_before row left i d some within at in
     let spends : Spends old new 0 (structures_in (i ∷ drop left row)) (arguments_in (i ∷ drop left row)) 0 = record {
-      variables = omega (arith, r.spends.variables, u.spends.variables);
-      structures = omega (arith, s_is, r.spends.structures, u.spends.structures);
-      arguments = omega (arith, a_is, r.spends.arguments, u.spends.arguments);
-      bindings = omega (arith, r.spends.bindings, u.spends.bindings);
+      variables = omega (arith, r.variables, u.variables);
+      structures = omega (arith, s_is, r.structures, u.structures);
+      arguments = omega (arith, a_is, r.arguments, u.arguments);
+      bindings = omega (arith, r.bindings, u.bindings);
     } in
-    record {
-      spends = subst (λ is. Spends old new 0 (structures_in is) (arguments_in is) 0) (sym rest) spends;
-      fits = omega (arith, some, r.fits, u.height, u.capacity);
-    }
+    subst (λ is. Spends old new 0 (structures_in is) (arguments_in is) 0) (sym rest) spends
 
 -- the arguments of one instruction more
 pub arguments_push : (row : List Instruction) (i : Instruction) → arguments_in (row ++ i ∷ []) ≡ arguments_in row + arguments_after i

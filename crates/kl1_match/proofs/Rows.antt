@@ -1,7 +1,7 @@
 -- Cells that stand one behind another, and structures of them.
-use Rattle.std.proofs.Common.{◌≡◌, ℕ, zero, suc, ◌+◌, List, [], ◌∷◌, ◌++◌, length, length-append, reverse, refl, ap, sym, ◌∙◌, subst, arith}
+use Rattle.std.proofs.Common.{◌≡◌, ℕ, zero, suc, ◌+◌, ◌-◌, ◌<◌, ◌≤◌, ◌⊎◌, inl, inr, List, [], ◌∷◌, ◌++◌, length, length-append, length-drop, drop, take, set, reverse, refl, ap, sym, ◌∙◌, subst, arith}
 use Rattle.std.specs.Prelude.{Some, slice_get}
-use Rattle.std.proofs.lemmas.List.{reverse-append}
+use Rattle.std.proofs.lemmas.List.{reverse-append, reverse-reverse, drop_all, drop-drop, take_all}
 use Rattle.kl1_model.specs.Term.{more, structure}
 use Rattle.kl1_model.specs.TermCode.{behind_first, behind}
 use Rattle.kl1_store.specs.declared.cell.Cell.{Cell}
@@ -14,8 +14,50 @@ use Rattle.kl1_store.proofs.Growing.{AreWithin-more, IsFormed-structure}
 use Rattle.kl1_store.proofs.Terms.{term_of-structure, term_of-Structure}
 use Rattle.kl1_match.specs.Instances.{AreKept}
 use Rattle.kl1_store.specs.Tops.{first_or, but_first, firsts, others}
-use Rattle.kl1_store.proofs.Tops.{AreWithin-reverse, AreWithin-back, firsts_within, others_within}
-use Rattle.kl1_match.specs.Rows.{front_with, Joined, Joins}
+use Rattle.kl1_store.proofs.Tops.{AreWithin-reverse, AreWithin-back, firsts_within, others_within, others_drop}
+use Rattle.kl1_match.specs.Rows.{stack_from, front_with, Joined, Joins}
+
+-- all of a list from a place on
+pub all_from : {A : Type 0} (k : ℕ) (xs ys : List A) → xs ≡ ys → take (length xs - k) (drop k xs) ≡ drop k ys
+all_from k xs ys e = take_all (length xs - k) (drop k xs) (omega (arith, length-drop k xs)) ∙ ap (drop k) e
+
+-- and its stack from the top
+pub top_from : {A : Type 0} (k : ℕ) (xs ys : List A) → xs ≡ ys → take (length xs - k) (drop k xs) ≡ reverse (stack_from k ys)
+top_from k xs ys e = all_from k xs ys e ∙ sym (reverse-reverse (drop k ys))
+
+drop_set : {A : Type 0} (k : ℕ) (xs : List A) (x : A) → k < length xs → drop k (set xs k x) ≡ x ∷ drop (suc k) xs
+drop_set k [] x h = absurd (omega (arith, h))
+drop_set zero (y ∷ ys) x h = refl
+drop_set (suc k) (y ∷ ys) x h = drop_set k ys x (omega (arith, h))
+
+-- one more on a stack
+pub put_before : {A : Type 0} (xs : List A) (at : ℕ) (x : A) → 0 < at → at ≤ length xs → stack_from (at - 1) (set xs (at - 1) x) ≡ stack_from at xs ++ x ∷ []
+put_before xs zero x some within = absurd (omega (arith, some))
+put_before xs (suc k) x some within =
+    let less : suc k - 1 ≡ k = omega arith in
+    ap (λ n. stack_from n (set xs n x)) less ∙ (ap reverse (drop_set k xs x (omega (arith, within))) ∙ reverse-append (x ∷ []) (drop (suc k) xs))
+
+nothing_from : {A : Type 0} (k : ℕ) (xs : List A) → length xs ≤ k → drop k xs ≡ []
+nothing_from k xs h = drop_all k xs h
+
+-- an empty stack
+pub empty_from : {A : Type 0} (k : ℕ) (xs : List A) → length xs ≤ k → stack_from k xs ≡ []
+empty_from k xs h = ap reverse (nothing_from k xs h)
+
+which : (m n : ℕ) → (m ≤ n) ⊎ (n < m)
+which zero n = inl (omega arith)
+which (suc m) zero = inr (omega arith)
+which (suc m) (suc n) = elim (which m n) [ inl h ↦ inl (omega (arith, h)) | inr h ↦ inr (omega (arith, h)) ]
+
+-- what is left of a stack without its first so many
+pub left_after : {A : Type 0} (xs : List A) (at count taken : ℕ) → at ≤ length xs → (count ≤ length xs - at → taken ≡ count) → (length xs - at ≤ count → taken ≡ length xs - at) → reverse (stack_from (at + taken) xs) ≡ others count (reverse (stack_from at xs))
+left_after xs at count taken within few many =
+    let all : drop (at + taken) xs ≡ drop (at + count) xs = elim (which count (length xs - at)) [
+      | inl h ↦ ap (λ n. drop (at + n) xs) (few h)
+      | inr h ↦ nothing_from (at + taken) xs (omega (arith, many (omega (arith, h)), within)) ∙ sym (nothing_from (at + count) xs (omega (arith, h, within)))
+    ] in
+    reverse-reverse (drop (at + taken) xs)
+    ∙ (all ∙ (sym (drop-drop count at xs) ∙ (sym (others_drop count (drop at xs)) ∙ ap (others count) (sym (reverse-reverse (drop at xs))))))
 
 -- the terms of the first so many cells
 pub first_term_is : {N : Type 0} (f : N → List ℕ) (h : Held N) (m : Cell N) (xs : List (Cell N)) → term_of f h (first_or m xs) ≡ first_or (term_of f h m) (term_list f h xs)

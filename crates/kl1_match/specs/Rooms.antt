@@ -1,9 +1,6 @@
 -- The room that building takes, and what it leaves.
-use Rattle.std.specs.Prelude.{ℕ, ◌≡◌, ◌+◌, ◌≤◌, List, [], ◌∷◌, length, Vec, vec_capacity}
-use Rattle.std.specs.declared.alloc.Global.{Global}
-use Rattle.kl1_store.specs.declared.cell.Cell.{Cell}
+use Rattle.std.specs.Prelude.{ℕ, ◌+◌, ◌≤◌, List, [], ◌∷◌, length}
 use Rattle.kl1_store.specs.Held.{Room}
-use Rattle.kl1_store.specs.Spending.{Spends}
 use Rattle.kl1_clause.specs.declared.instruction.Instruction.{Instruction}
 use Rattle.kl1_clause.specs.declared.instruction.Instruction.TheVariants as instruction
 use Rattle.kl1_match.specs.declared.step.Step.{Step}
@@ -46,13 +43,7 @@ pub record HasRoomFor (structures arguments : ℕ) (room : Room) : Type 0 where
   pub structures_fit : structures ≤ room.structures
   pub arguments_fit : arguments ≤ room.arguments
 
--- at most so much of the room was used, and one cell more put on the stack
-pub record UsesRoom {N : Type 0} (structures arguments : ℕ) (old new : Room) (stack after : Vec (Cell N) Global) : Type 0 where
-  pub spends : Spends old new 0 structures arguments 0
-  pub height : length after.items ≤ length stack.items + 1
-  pub capacity : vec_capacity after ≡ vec_capacity stack
-
--- room to build a row in: in the store, and on an empty stack, which can hold so many
+-- room to build a row in: in the store, and in a list that can hold so many
 pub record HasRoomForRow (room : Room) (stack : ℕ) (row : List Instruction) : Type 0 where
   pub structures_fit : structures_in row ≤ room.structures
   pub arguments_fit : arguments_in row ≤ room.arguments

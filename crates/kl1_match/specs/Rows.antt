@@ -1,5 +1,5 @@
 -- Cells that stand one behind another, and structures that are built of them.
-use Rattle.std.specs.Prelude.{◌≡◌, ℕ, zero, suc, List, ◌∷◌}
+use Rattle.std.specs.Prelude.{◌≡◌, ℕ, zero, suc, List, ◌∷◌, drop, reverse}
 use Rattle.kl1_model.specs.Term.{Term, Terms, none, more, structure}
 use Rattle.kl1_model.specs.TermCode.{behind_first, behind}
 use Rattle.kl1_store.specs.declared.cell.Cell.{Cell}
@@ -8,6 +8,10 @@ use Rattle.kl1_store.specs.Meaning.{term_of}
 use Rattle.kl1_store.specs.ComparesEach.{term_list}
 use Rattle.kl1_store.specs.Tops.{first_or}
 use Rattle.kl1_match.specs.Instances.{AreKept}
+
+-- the cells of a list from a place on, as a stack with the first of them on top
+abbrev pub stack_from : {A : Type 0} → ℕ → List A → List A
+stack_from at xs = reverse (drop at xs)
 
 -- the first so many terms as arguments, with another for each that is missing
 abbrev pub front_with : Term → ℕ → List Term → Terms

@@ -1,90 +1,108 @@
 // Cells built of nodes, from the last node to the first.
 
-ghost use Rattle.std.specs.Prelude.{◌≡◌, ◌<◌, ◌≤◌, [], ◌∷◌, ◌++◌, length, reverse, OnOk, IsOk, vec_capacity};
+ghost use Rattle.std.specs.Prelude.{◌≡◌, ◌+◌, ◌<◌, ◌≤◌, ◌++◌, [], ◌∷◌, length, reverse, IfOk, OnOk, IsOk};
 ghost use Rattle.kl1_store.specs.Held.{IsIn, AreIn};
 ghost use Rattle.kl1_store.specs.Sound.{Grown};
-ghost use Rattle.kl1_match.specs.Rows.{Joins};
+ghost use Rattle.kl1_store.specs.Spending.{Spends};
+ghost use Rattle.kl1_match.specs.Rows.{stack_from, Joins};
 ghost use Rattle.kl1_match.specs.Steps.{IsBelow, PutsStep};
-ghost use Rattle.kl1_match.specs.Rooms.{step_structures, step_arguments, HasRoomFor, UsesRoom};
+ghost use Rattle.kl1_match.specs.Rooms.{step_structures, step_arguments, HasRoomFor};
 
 use crate::step::Step;
 use kl1_store::{Cell, Store};
 use kl1_text::NameValue;
 use std::alloc::AllocError;
 
-/// Puts a cell on a stack.
-pub(crate) fn put_cell<N: Copy>(stack: &mut Vec<Cell<N>>, cell: Cell<N>) -> Result<(), AllocError>
-    ensures items { OnOk result (stack.new.items ≡ stack.old.items ++ cell ∷ []) }
-    ensures room { length stack.old.items < vec_capacity stack.old → IsOk result }
-    ensures capacity { vec_capacity stack.old ≤ vec_capacity stack.new }
+/// The lesser of two counts.
+#[inline(always)]
+fn least(count: usize, left: usize) -> usize
+    ensures below { result ≤ left }
+    ensures few { count ≤ left → result ≡ count }
+    ensures many { left ≤ count → result ≡ left }
 {
-    match stack.push(cell) {
-        Ok(()) => Ok(()),
-        Err(_) => Err(AllocError),
+    if count < left {
+        return count;
     }
+    left
 }
 
-/// Puts the structure of a name and so many cells from the top of a stack on it; where none is left, `missing` stands for
-/// it. Where memory is refused, the stack is of no use.
-#[inline]
-pub(crate) fn join_top<N: NameValue>(
+/// Puts a cell in place of the one before a place: its place.
+#[inline(always)]
+fn put_cell<N: NameValue>(cells: &mut Vec<Cell<N>>, at: usize, cell: Cell<N>) -> usize
+    requires some { 0 < at }
+    requires within { at ≤ length cells.old.items }
+    ensures items { stack_from result cells.new.items ≡ stack_from at cells.old.items ++ cell ∷ [] }
+    ensures place { result + 1 ≡ at }
+    ensures length { length cells.new.items ≡ length cells.old.items }
+{
+    let place = at - 1;
+    cells[place] = cell;
+    place
+}
+
+/// Puts the structure of a name and so many of the cells from a place on in their stead: its place. Where too few are left,
+/// `missing` stands for each of the others. Where memory is refused, the cells are of no use.
+#[inline(always)]
+pub(crate) fn join<N: NameValue>(
     store: &mut Store<N>,
-    stack: &mut Vec<Cell<N>>,
+    cells: &mut Vec<Cell<N>>,
+    at: usize,
     missing: Cell<N>,
     name: N,
     count: usize,
-) -> Result<(), AllocError>
-    requires stack { AreIn store.old.held stack.old.items }
+) -> Result<usize, AllocError>
+    requires cells { AreIn store.old.held (stack_from at cells.old.items) }
     requires missing { IsIn store.old.held missing }
-    requires fits { length stack.old.items < vec_capacity stack.old }
+    requires some { 0 < at }
+    requires within { at ≤ length cells.old.items }
     ensures grown { Grown store.old.held store.new.held }
     ensures hooks { store.new.hooks ≡ store.old.hooks }
     ensures bindings { store.new.held.bindings ≡ store.old.held.bindings }
-    ensures joins { OnOk result (Joins store.old.held store.new.held missing name count (reverse stack.old.items) (reverse stack.new.items) × AreIn store.new.held stack.new.items) }
+    ensures joins { IfOk result (λ to. Joins store.old.held store.new.held missing name count (reverse (stack_from at cells.old.items)) (reverse (stack_from to cells.new.items)) × AreIn store.new.held (stack_from to cells.new.items)) }
     ensures room { HasRoomFor 1 count store.old.room → IsOk result }
-    ensures uses { OnOk result (UsesRoom 1 count store.old.room store.new.room stack.old stack.new) }
+    ensures spends { OnOk result (Spends store.old.room store.new.room 0 1 count 0) }
+    ensures place { IfOk result (λ to. at ≤ to + 1) }
+    ensures inside { IfOk result (λ to. to < length cells.new.items) }
+    ensures length { OnOk result (length cells.new.items ≡ length cells.old.items) }
     ensures hook_room { store.new.hook_room ≡ store.old.hook_room }
 {
     let _ = store.mark();
-    let structure = store.build_top(name, stack, missing, count)?;
-    stack.push_reserved(Cell::Structure(structure));
-    Ok(())
+    let structure = store.build_first(name, &cells[at..], missing, count)?;
+    let taken = least(count, cells.len() - at);
+    Ok(put_cell(cells, at + taken, Cell::Structure(structure)))
 }
 
-/// Puts on a stack, which has room for it, the cell of a term that begins with a step, whose arguments are taken from its top.
-/// `variables` has a cell for each variable, by its number from 0. Where memory is refused, the stack is of no use.
-#[inline]
+/// Puts before the cells from a place on the cell of a term that begins with a step, whose arguments are taken from the first of
+/// them: its place. `variables` has a cell for each variable, by its number from 0. Where memory is refused, the cells are of no
+/// use.
+#[inline(always)]
 pub(crate) fn put_step<N: NameValue>(
     store: &mut Store<N>,
     variables: &[Cell<N>],
     step: Step<N>,
-    stack: &mut Vec<Cell<N>>,
-) -> Result<(), AllocError>
+    cells: &mut Vec<Cell<N>>,
+    at: usize,
+) -> Result<usize, AllocError>
     requires below { IsBelow (length variables.now) step }
     requires variables { AreIn store.old.held variables.now }
-    requires stack { AreIn store.old.held stack.old.items }
-    requires fits { length stack.old.items < vec_capacity stack.old }
+    requires cells { AreIn store.old.held (stack_from at cells.old.items) }
+    requires some { 0 < at }
+    requires within { at ≤ length cells.old.items }
     ensures grown { Grown store.old.held store.new.held }
     ensures hooks { store.new.hooks ≡ store.old.hooks }
     ensures bindings { store.new.held.bindings ≡ store.old.held.bindings }
-    ensures puts { OnOk result (PutsStep store.old.held store.new.held variables.now step stack.old.items stack.new.items) }
+    ensures puts { IfOk result (λ to. PutsStep store.old.held store.new.held variables.now step (stack_from at cells.old.items) (stack_from to cells.new.items)) }
     ensures room { HasRoomFor (step_structures step) (step_arguments step) store.old.room → IsOk result }
-    ensures uses { OnOk result (UsesRoom (step_structures step) (step_arguments step) store.old.room store.new.room stack.old stack.new) }
+    ensures spends { OnOk result (Spends store.old.room store.new.room 0 (step_structures step) (step_arguments step) 0) }
+    ensures place { IfOk result (λ to. at ≤ to + 1) }
+    ensures inside { IfOk result (λ to. to < length cells.new.items) }
+    ensures length { OnOk result (length cells.new.items ≡ length cells.old.items) }
     ensures hook_room { store.new.hook_room ≡ store.old.hook_room }
 {
     match step {
-        Step::Variable(number) => {
-            stack.push_reserved(variables[number as usize]);
-            Ok(())
-        }
-        Step::Integer(number) => {
-            stack.push_reserved(Cell::Integer(number));
-            Ok(())
-        }
-        Step::Atom(name) => {
-            stack.push_reserved(Cell::Atom(name));
-            Ok(())
-        }
-        Step::Structure(name, count) => join_top(store, stack, variables[0], name, count),
+        Step::Variable(number) => Ok(put_cell(cells, at, variables[number as usize])),
+        Step::Integer(number) => Ok(put_cell(cells, at, Cell::Integer(number))),
+        Step::Atom(name) => Ok(put_cell(cells, at, Cell::Atom(name))),
+        Step::Structure(name, count) => join(store, cells, at, variables[0], name, count),
     }
 }

@@ -4,6 +4,7 @@ ghost use Rattle.std.specs.Prelude.{◌≡◌, ◌+◌, ◌-◌, ◌<◌, length
 ghost use Rattle.kl1_store.specs.Held.{AreIn, HasRoom};
 ghost use Rattle.kl1_store.specs.Sound.{Grown};
 ghost use Rattle.kl1_store.specs.Spending.{Spends};
+ghost use Rattle.kl1_store.specs.Tops.{first_or};
 ghost use Rattle.kl1_clause.specs.Instructions.{AreNamed};
 ghost use Rattle.kl1_match.specs.Built.{AreBelow};
 ghost use Rattle.kl1_match.specs.Variables.{with_variables};
@@ -98,6 +99,16 @@ pub fn reserve_goal_beside<N: NameValue>(
     store.reserve(variables, structures, arguments, bindings)
 }
 
+/// The first of some cells, or another where there is none.
+fn first_of<N: NameValue>(cells: &[Cell<N>], missing: Cell<N>) -> Cell<N>
+    ensures { first_or missing cells.now ≡ result }
+{
+    match cells {
+        [first, ..] => *first,
+        [] => missing,
+    }
+}
+
 /// The cell of the goal of a row, in room that was made for it, so that no memory is asked for. The scratch has a cell for each
 /// of its variables, by its number from 0; these stay. No variable is bound.
 pub fn put_goal<N: NameValue>(
@@ -120,10 +131,9 @@ pub fn put_goal<N: NameValue>(
 {
     let stack = &mut scratch.stack;
     let variables = scratch.variables.as_slice();
-    stack.clear();
-    match put_row(store, names, variables, row, stack) {
-        Ok(()) => {}
+    let first = match put_row(store, names, variables, row, stack) {
+        Ok(first) => first,
         Err(_) => unreachable!(),
-    }
-    stack.pop().unwrap_or(Cell::Integer(0))
+    };
+    first_of(&stack[first..], Cell::Integer(0))
 }

@@ -1,6 +1,6 @@
 // The instance of a clause's body.
 
-ghost use Rattle.std.specs.Prelude.{◌≡◌, ℕ, ◌+◌, ◌<◌, ◌≤◌, List, [], length, map, OnOk, IsOk, slice_index_or, vec_capacity};
+ghost use Rattle.std.specs.Prelude.{◌≡◌, ℕ, ◌+◌, ◌<◌, ◌≤◌, List, [], length, map, IfOk, OnOk, IsOk, slice_index_or, vec_capacity};
 ghost use Rattle.kl1_text.specs.Reading.{Reads};
 ghost use Rattle.kl1_store.specs.declared.cell.Cell.{Cell};
 ghost use Rattle.kl1_store.specs.Held.{AreIn};
@@ -13,6 +13,7 @@ ghost use Rattle.kl1_match.specs.Rooms.{structures_at, structures_in, arguments_
 ghost use Rattle.kl1_match.specs.Steps.{step_code, IsBelow};
 ghost use Rattle.kl1_match.specs.Variables.{cell_at, AreVariables};
 ghost use Rattle.kl1_match.specs.Kept.{places_behind, kept_places};
+ghost use Rattle.kl1_match.specs.Rows.{stack_from};
 ghost use Rattle.kl1_match.specs.Bodies.{BuildsBody};
 ghost use Rattle.kl1_match.specs.Built.{IsWithinRow, AreBelow, BuildsRow};
 
@@ -48,36 +49,50 @@ fn step_in<N: NameValue>(names: &[N], instruction: Instruction) -> Step<N>
     }
 }
 
-/// Puts on an empty stack the cells of the terms of a row, the last of them first. `variables` has a cell for each variable,
-/// by its number from 0. Where memory is refused, the stack is of no use.
+/// Makes a list so long at least; what its cells are is of no use.
+#[inline(always)]
+fn lengthen<N: NameValue>(cells: &mut Vec<Cell<N>>, count: usize) -> Result<(), AllocError>
+    ensures long { OnOk result (count ≤ length cells.new.items) }
+    ensures room { count ≤ vec_capacity cells.old → IsOk result }
+{
+    if cells.len() < count {
+        return cells.resize(count, Cell::Integer(0));
+    }
+    Ok(())
+}
+
+/// Puts at the end of a list, whose cells are of no use, those of the terms of a row: from which place on they stand there.
+/// `variables` has a cell for each variable, by its number from 0.
 #[inline(always)]
 pub(crate) fn put_row<N: NameValue>(
     store: &mut Store<N>,
     names: &[N],
     variables: &[Cell<N>],
     row: &[Instruction],
-    stack: &mut Vec<Cell<N>>,
-) -> Result<(), AllocError>
+    cells: &mut Vec<Cell<N>>,
+) -> Result<usize, AllocError>
     requires named { AreNamed (length names.now) row.now }
     requires below { AreBelow (length variables.now) row.now }
     requires variables { AreIn store.old.held variables.now }
-    requires empty { stack.old.items ≡ [] }
     ensures grown { Grown store.old.held store.new.held }
     ensures hooks { store.new.hooks ≡ store.old.hooks }
     ensures bindings { store.new.held.bindings ≡ store.old.held.bindings }
-    ensures rows { OnOk result (BuildsRow N.built names.now store.old.held store.new.held variables.now row.now stack.new.items) }
-    ensures room { HasRoomForRow store.old.room (vec_capacity stack.old) row.now → IsOk result }
+    ensures rows { IfOk result (λ at. BuildsRow N.built names.now store.old.held store.new.held variables.now row.now (stack_from at cells.new.items)) }
+    ensures within { IfOk result (λ at. at ≤ length cells.new.items) }
+    ensures room { HasRoomForRow store.old.room (vec_capacity cells.old) row.now → IsOk result }
     ensures spends { OnOk result (Spends store.old.room store.new.room 0 (structures_in row.now) (arguments_in row.now) 0) }
     ensures hook_room { store.new.hook_room ≡ store.old.hook_room }
 {
-    stack.reserve(row.len())?;
+    lengthen(cells, row.len())?;
+    let mut at = cells.len();
     let mut left = row.len();
     while 0 < left {
         left -= 1;
         let step = step_in(names, row[left]);
-        put_step(store, variables, step, stack)?;
+        let place = put_step(store, variables, step, cells, at)?;
+        at = place;
     }
-    Ok(())
+    Ok(at)
 }
 
 /// Puts so many cells in a list without any, which has room for them: those of the variables of a head, by their number from 0,
@@ -153,9 +168,8 @@ fn put_body<N: NameValue>(
     ensures bindings { store.new.held.bindings ≡ store.old.held.bindings }
     ensures body { OnOk result (BuildsBody N.built names.now clause.now store.old.held store.new.held variables.now goals.new.items) }
 {
-    stack.clear();
-    put_row(store, names, variables, clause.goals.as_slice(), stack)?;
-    qualify(names, clause.modules.as_slice(), stack, goals)
+    let first = put_row(store, names, variables, clause.goals.as_slice(), stack)?;
+    qualify(names, clause.modules.as_slice(), &stack[first..], goals)
 }
 
 /// Puts in place of `goals` those of a clause's body, with the terms at the places of its head's variables in them. Its other

@@ -1,6 +1,6 @@
 // Cells in the modules of a clause's goals.
 
-ghost use Rattle.std.specs.Prelude.{◌≡◌, length, map, reverse, OnOk};
+ghost use Rattle.std.specs.Prelude.{◌≡◌, length, map, OnOk};
 ghost use Rattle.kl1_clause.specs.BareGoals.{IsModulePlaced, ArePlaced};
 ghost use Rattle.kl1_match.specs.Qualifying.{module_at, qualified_each};
 
@@ -21,28 +21,30 @@ fn module_at<N: NameValue>(names: &[N], name: Option<Name>) -> Option<N>
     }
 }
 
-/// Puts in place of `goals` the cells of a stack, the one on its top first, each in the module beside it.
+/// Puts in place of `goals` some cells, each in the module beside it.
 pub(crate) fn qualify<N: NameValue>(
     names: &[N],
     modules: &[Option<Name>],
-    stack: &mut Vec<Cell<N>>,
+    cells: &[Cell<N>],
     goals: &mut Vec<Qualified<N>>,
 ) -> Result<(), AllocError>
     requires { ArePlaced (length names.now) modules.now }
-    ensures { OnOk result (goals.new.items ≡ qualified_each (map (module_at N.built names.now) modules.now) (reverse stack.old.items)) }
+    ensures { OnOk result (goals.new.items ≡ qualified_each (map (module_at N.built names.now) modules.now) cells.now) }
 {
     goals.clear();
     goals.reserve(modules.len())?;
     let mut left = modules;
-    while let [first, rest @ ..] = left {
-        let Some(cell) = stack.pop() else {
+    let mut rest = cells;
+    while let [first, behind @ ..] = left {
+        let [cell, others @ ..] = rest else {
             return Ok(());
         };
         goals.push(Qualified {
             module_name: module_at(names, *first),
-            cell,
+            cell: *cell,
         })?;
-        left = rest;
+        left = behind;
+        rest = others;
     }
     Ok(())
 }

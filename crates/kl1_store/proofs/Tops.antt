@@ -1,5 +1,5 @@
 -- What is moved from the top of a stack.
-use Rattle.std.proofs.Common.{◌≡◌, ℕ, zero, suc, ◌+◌, ◌-◌, ◌<◌, List, [], ◌∷◌, ◌++◌, length, length-drop, take, drop, get_or, reverse, refl, ap, sym, ◌∙◌, subst, arith, append-nil, append_assoc}
+use Rattle.std.proofs.Common.{◌≡◌, ℕ, zero, suc, ◌+◌, ◌-◌, ◌<◌, ◌≤◌, List, [], ◌∷◌, ◌++◌, length, length-drop, take, drop, get_or, reverse, refl, ap, sym, ◌∙◌, subst, arith, append-nil, append_assoc}
 use Rattle.std.specs.Prelude.{Option, Some, None, IsSome, option_to_list, unwrap_or}
 use Rattle.std.proofs.lemmas.Bool.{false≢true}
 use Rattle.std.proofs.Math.Seq.{take-suc}
@@ -89,6 +89,26 @@ others_all zero [] ys e = refl
 others_all zero (x ∷ xs) ys e = absurd (omega (arith, e))
 others_all (suc n) [] ys e = absurd (omega (arith, e))
 others_all (suc n) (x ∷ xs) ys e = others_all n xs ys (omega (arith, e))
+
+-- the first so many of a list that has so many
+pub firsts_take : {A : Type 0} (m : A) (n : ℕ) (xs : List A) → n ≤ length xs → firsts m n xs ≡ take n xs
+firsts_take m zero xs h = refl
+firsts_take m (suc n) [] h = absurd (omega (arith, h))
+firsts_take m (suc n) (x ∷ xs) h = ap (λ l. x ∷ l) (firsts_take m n xs (omega (arith, h)))
+
+others_none : {A : Type 0} (n : ℕ) → others {A = A} n [] ≡ []
+others_none zero = refl
+others_none (suc n) = others_none n
+
+-- what is behind the first so many is what is left without them
+pub others_drop : {A : Type 0} (n : ℕ) (xs : List A) → others n xs ≡ drop n xs
+others_drop zero xs = refl
+others_drop (suc n) [] = others_none n
+others_drop (suc n) (x ∷ xs) = others_drop n xs
+
+-- the first so many cells of a store's are of the store
+pub first_in : {N : Type 0} (h : Held N) (m : Cell N) (n : ℕ) (xs : List (Cell N)) → AreIn h xs → IsIn h m → AreIn h (firsts m n xs)
+first_in h m n xs inside there = firsts_within h.variables (length h.structures) m n xs there inside
 
 -- the top of a stack from its end, where it has so many
 pub top_reversed : {A : Type 0} (m : A) (n from : ℕ) (stack : List A) → from + n ≡ length stack → (reverse (drop from stack) ≡ firsts m n (reverse stack)) × (reverse (take from stack) ≡ others n (reverse stack))

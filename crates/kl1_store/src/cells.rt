@@ -8,7 +8,7 @@ ghost use Rattle.kl1_store.specs.Spending.{Spends, SpendsOnBindings, FreesRoom};
 ghost use Rattle.kl1_store.specs.Sound.{IsFormed, Grown, IsBoundTo};
 ghost use Rattle.kl1_store.specs.Places.{all_arguments, StandFrom};
 ghost use Rattle.kl1_store.specs.Slots.{AreSlotted, AreOnce};
-ghost use Rattle.kl1_store.specs.Tops.{firsts, others};
+ghost use Rattle.kl1_store.specs.Tops.{first_or, but_first, firsts, others};
 
 use crate::binding::Binding;
 use crate::cell::Cell;
@@ -92,6 +92,7 @@ impl<N: NameValue> Cells<N> {
     }
 
     /// A new structure.
+    #[inline(always)]
     pub fn build(&mut self, name: N, arguments: &[Cell<N>]) -> Result<u32, AllocError>
         requires { AreIn self.old.held arguments.now }
         ensures ok { IfOk result (λ s. (s ≡ length self.old.held.structures) × (self.new.held ≡ with_structure self.old.held name arguments.now)) }
@@ -105,8 +106,9 @@ impl<N: NameValue> Cells<N> {
         if number >= MOST || count > MOST || start > MOST - count {
             return Err(AllocError);
         }
-        self.nodes.reserve(1)?;
-        self.arguments.extend_from_slice(arguments)?;
+        make_room(&mut self.nodes, 1)?;
+        make_room(&mut self.arguments, count)?;
+        put_all(&mut self.arguments, arguments);
         self.nodes.push_reserved(Node {
             name,
             start: start as u32,
@@ -173,6 +175,80 @@ impl<N: NameValue> Cells<N> {
         make_room(&mut self.nodes, 1)?;
         make_room(&mut self.arguments, count)?;
         move_top(stack, &mut self.arguments, missing, count);
+        self.nodes.push_reserved(Node {
+            name,
+            start: start as u32,
+            count: count as u32,
+        });
+        Ok(number as u32)
+    }
+
+    /// A new structure of so many arguments, the first of some cells; where none is left, `missing` stands for it.
+    #[inline(always)]
+    pub fn build_first(
+        &mut self,
+        name: N,
+        cells: &[Cell<N>],
+        missing: Cell<N>,
+        count: usize,
+    ) -> Result<u32, AllocError>
+        requires cells { AreIn self.old.held cells.now }
+        requires missing { IsIn self.old.held missing }
+        ensures ok { IfOk result (λ s. (s ≡ length self.old.held.structures) × (self.new.held ≡ with_structure self.old.held name (firsts missing count cells.now))) }
+        ensures err { OnErr result (self.new.held ≡ self.old.held) }
+        ensures room { 0 < self.old.room.structures → count ≤ self.old.room.arguments → IsOk result }
+        ensures spends { Spends self.old.room self.new.room 0 1 count 0 }
+    {
+        if count <= cells.len() {
+            return self.build_taken(name, cells, missing, count);
+        }
+        self.build_filled(name, cells, missing, count)
+    }
+
+    /// The same, where so many are there.
+    #[inline(always)]
+    fn build_taken(
+        &mut self,
+        name: N,
+        cells: &[Cell<N>],
+        missing: Cell<N>,
+        count: usize,
+    ) -> Result<u32, AllocError>
+        requires cells { AreIn self.old.held cells.now }
+        requires missing { IsIn self.old.held missing }
+        requires enough { count ≤ length cells.now }
+        ensures ok { IfOk result (λ s. (s ≡ length self.old.held.structures) × (self.new.held ≡ with_structure self.old.held name (firsts missing count cells.now))) }
+        ensures err { OnErr result (self.new.held ≡ self.old.held) }
+        ensures room { 0 < self.old.room.structures → count ≤ self.old.room.arguments → IsOk result }
+        ensures spends { Spends self.old.room self.new.room 0 1 count 0 }
+    {
+        self.build(name, &cells[..count])
+    }
+
+    /// The same, one argument after another.
+    #[inline(never)]
+    fn build_filled(
+        &mut self,
+        name: N,
+        cells: &[Cell<N>],
+        missing: Cell<N>,
+        count: usize,
+    ) -> Result<u32, AllocError>
+        requires cells { AreIn self.old.held cells.now }
+        requires missing { IsIn self.old.held missing }
+        ensures ok { IfOk result (λ s. (s ≡ length self.old.held.structures) × (self.new.held ≡ with_structure self.old.held name (firsts missing count cells.now))) }
+        ensures err { OnErr result (self.new.held ≡ self.old.held) }
+        ensures room { 0 < self.old.room.structures → count ≤ self.old.room.arguments → IsOk result }
+        ensures spends { Spends self.old.room self.new.room 0 1 count 0 }
+    {
+        let number = self.nodes.len();
+        let start = self.arguments.len();
+        if number >= MOST || count > MOST || start > MOST - count {
+            return Err(AllocError);
+        }
+        make_room(&mut self.nodes, 1)?;
+        make_room(&mut self.arguments, count)?;
+        put_first(&mut self.arguments, cells, missing, count);
         self.nodes.push_reserved(Node {
             name,
             start: start as u32,
@@ -409,6 +485,63 @@ fn move_or_fill<N: NameValue>(
     while 0 < left {
         let cell = stack.pop().unwrap_or(missing);
         list.push_reserved(cell);
+        left -= 1;
+    }
+}
+
+/// Puts cells behind those of a list with room for them.
+#[inline(always)]
+fn put_all<N: NameValue>(list: &mut Vec<Cell<N>>, cells: &[Cell<N>])
+    requires room { length list.old.items + length cells.now ≤ vec_capacity list.old }
+    ensures items { list.new.items ≡ list.old.items ++ cells.now }
+    ensures capacity { vec_capacity list.new ≡ vec_capacity list.old }
+{
+    let mut rest = cells;
+    while let [first, more @ ..] = rest {
+        list.push_reserved(*first);
+        rest = more;
+    }
+}
+
+/// The first of some cells, or another where there is none.
+fn first_or<N: NameValue>(cells: &[Cell<N>], missing: Cell<N>) -> Cell<N>
+    ensures { first_or missing cells.now ≡ result }
+{
+    match cells {
+        [first, ..] => *first,
+        [] => missing,
+    }
+}
+
+/// The cells behind the first.
+fn but_first<N: NameValue>(cells: &[Cell<N>]) -> &[Cell<N>]
+    ensures { but_first cells.now ≡ result.now }
+{
+    match cells {
+        [_first, rest @ ..] => rest,
+        [] => cells,
+    }
+}
+
+/// Puts so many cells, the first of some, behind those of a list with room for them; where none is left, `missing` stands for it.
+fn put_first<N: NameValue>(
+    list: &mut Vec<Cell<N>>,
+    cells: &[Cell<N>],
+    missing: Cell<N>,
+    count: usize,
+)
+    requires room { length list.old.items + count ≤ vec_capacity list.old }
+    ensures put { list.new.items ≡ list.old.items ++ firsts missing count cells.now }
+    ensures more { length list.new.items ≡ length list.old.items + count }
+    ensures capacity { vec_capacity list.new ≡ vec_capacity list.old }
+{
+    let mut rest = cells;
+    let mut left = count;
+    while 0 < left {
+        let cell = first_or(rest, missing);
+        let behind = but_first(rest);
+        list.push_reserved(cell);
+        rest = behind;
         left -= 1;
     }
 }

@@ -152,6 +152,27 @@ impl<N: NameValue> Store<N> {
         self.cells.build_top(name, stack, missing, count)
     }
 
+    /// A new structure of so many arguments, the first of some cells; where none is left, `missing` stands for it: its number.
+    #[inline(always)]
+    pub fn build_first(
+        &mut self,
+        name: N,
+        cells: &[Cell<N>],
+        missing: Cell<N>,
+        count: usize,
+    ) -> Result<u32, AllocError>
+        requires cells { AreIn self.old.held cells.now }
+        requires missing { IsIn self.old.held missing }
+        ensures ok { IfOk result (λ s. (s ≡ length self.old.held.structures) × (self.new.held ≡ with_structure self.old.held name (firsts missing count cells.now))) }
+        ensures err { OnErr result (self.new.held ≡ self.old.held) }
+        ensures room { 0 < self.old.room.structures → count ≤ self.old.room.arguments → IsOk result }
+        ensures spends { Spends self.old.room self.new.room 0 1 count 0 }
+        ensures hooks { self.new.hooks ≡ self.old.hooks }
+        ensures hook_room { self.new.hook_room ≡ self.old.hook_room }
+    {
+        self.cells.build_first(name, cells, missing, count)
+    }
+
     /// The cell that a cell stands for: what its variable was bound to, and so on.
     #[inline(always)]
     pub fn walk(&self, cell: Cell<N>) -> Cell<N>

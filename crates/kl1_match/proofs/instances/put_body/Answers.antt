@@ -6,6 +6,8 @@ use Rattle.kl1_clause.specs.declared.instruction.Instruction.{Instruction}
 use Rattle.kl1_clause.specs.BareGoals.{ArePlaced}
 use Rattle.kl1_match.specs.Built.{AreBelow, BuildsRow}
 use Rattle.kl1_match.specs.Qualifying.{module_at, qualified_each}
+use Rattle.kl1_match.specs.Rows.{stack_from}
+use Rattle.kl1_match.proofs.Rows.{top_from}
 use Rattle.kl1_match.proofs.Bodies.{all_below, all_placed, body_built}
 use Rattle.kl1_match.proofs.instances.put_body.Goals as goal
 
@@ -21,7 +23,10 @@ qualify-requires g c =
 pub returns-clause-body : goal.returns-clause-body
 returns-clause-body g c =
     let built = g.N.NameValue.built in
-    let rows = subst (λ (row : List Instruction). BuildsRow built c.args.names.now c.args.store.now.held c.put_row.new.store.held c.args.variables.now row c.put_row.new.stack.items) c.as_slice.ensures.value c.in_ok-put_row.ensures.rows in
+    let xs = c.put_row.new.cells.items in
+    let at = c.in_ok-first.first in
+    let rows = subst (λ (row : List Instruction). BuildsRow built c.args.names.now c.args.store.now.held c.put_row.new.store.held c.args.variables.now row (stack_from at xs)) c.as_slice.ensures.value c.in_ok-first.ensures.rows in
     on_ok_weaker c.qualify.result (λ e.
-    body_built built c.args.names.now c.args.clause.now c.args.store.now.held c.put_row.new.store.held c.args.variables.now c.put_row.new.stack.items c.qualify.new.goals.items rows
-    (e ∙ ap (λ (ms : List (Option Name)). qualified_each (map (module_at built c.args.names.now) ms) (reverse c.put_row.new.stack.items)) c.as_slice-2.ensures.value)) c.qualify.ensures
+    body_built built c.args.names.now c.args.clause.now c.args.store.now.held c.put_row.new.store.held c.args.variables.now (stack_from at xs) c.qualify.new.goals.items rows
+    (e ∙ (ap (λ ys. qualified_each (map (module_at built c.args.names.now) c.as_slice-2.result.now) ys) (top_from at c.deref.result.now xs c.deref.ensures.value)
+    ∙ ap (λ (ms : List (Option Name)). qualified_each (map (module_at built c.args.names.now) ms) (reverse (stack_from at xs))) c.as_slice-2.ensures.value))) c.qualify.ensures

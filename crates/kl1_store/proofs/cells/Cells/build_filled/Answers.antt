@@ -1,0 +1,34 @@
+use Rattle.std.proofs.Common.{◌≡◌, length, [], ◌∷◌, ◌++◌, ap, ◌∙◌, arith}
+use Rattle.kl1_store.specs.Held.{Stored, with_structure}
+use Rattle.kl1_store.specs.Inside.{held_in, IsInside}
+use Rattle.kl1_store.specs.Tops.{firsts}
+use Rattle.kl1_store.proofs.Laid.{length-shapes_in}
+use Rattle.kl1_store.proofs.Lists.{built_at}
+use Rattle.kl1_store.proofs.Tops.{length-firsts, first_in}
+use Rattle.kl1_store.proofs.cells.Cells.build_filled.Goals as goal
+
+-- the lists after the growth
+grown : (g : _) (c : goal.After-push_reserved g) →
+    IsInside c.self.inside.slots.items c.push_reserved.new.self.items c.put_first.new.list.items c.self.inside.bindings.items
+    × (held_in c.self.inside.slots.items c.push_reserved.new.self.items c.put_first.new.list.items c.self.inside.bindings.items
+    ≡ with_structure c.args.self.now.held c.args.name (firsts c.args.missing c.args.count c.args.cells.now))
+grown g c =
+    let s = c.self.inside in
+    let e = ap (λ (v : Stored g.row.N.Denot). v.held) c.self.view_is in
+    let top = firsts c.args.missing c.args.count c.args.cells.now in
+    let count = length-firsts c.args.missing c.args.count c.args.cells.now in
+    built_at s.slots.items s.nodes.items c.push_reserved.new.self.items s.arguments.items c.put_first.new.list.items s.bindings.items
+    (record { name = c.args.name; start = c.len-start.result; count = c.args.count }) top c.args.self.now.held
+    c.self.invariant e (c.push_reserved.ensures.items ∙ ap (λ l. l ++ record { name = c.args.name; start = c.len-start.result; count = c.args.count } ∷ []) c.in_ok-make_room.ensures.items)
+    (c.put_first.ensures.put ∙ ap (λ l. l ++ top) c.in_ok-make_room-2.ensures.items)
+    (first_in c.args.self.now.held c.args.missing c.args.count c.args.cells.now c.requires.cells c.requires.missing)
+    (c.len-start.ensures ∙ s.arguments.ok.0) count (omega arith) (omega (arith, count))
+
+pub invariant_of-self-2 : goal.invariant_of-self-2
+invariant_of-self-2 g c = (grown g c).0
+
+pub returns-clause-ok : goal.returns-clause-ok
+returns-clause-ok g c =
+    let s = c.self.inside in
+    let e = ap (λ (v : Stored g.row.N.Denot). length v.held.structures) c.self.view_is in
+    (omega (arith, e, length-shapes_in s.arguments.items s.nodes.items, s.nodes.ok.0), (grown g c).1)

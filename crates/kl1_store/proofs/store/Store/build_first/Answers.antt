@@ -1,0 +1,16 @@
+use Rattle.std.proofs.Common.{◌≡◌, ℕ, length, arith}
+use Rattle.kl1_store.specs.Tops.{firsts}
+use Rattle.kl1_store.proofs.Levelling.{levels_build, same_variables}
+use Rattle.kl1_store.proofs.store.Store.build_first.Goals as goal
+
+pub invariant_of-self : goal.invariant_of-self
+invariant_of-self g c =
+    let old = c.self.inside.cells.held in
+    let new = c.build_first.new.self.held in
+    let P : ℕ → Type 0 = λ s. s ≡ length old.structures in
+    let top = firsts c.args.missing c.args.count c.args.cells.now in
+    let e = same_variables old new c.args.name top P c.build_first.result c.build_first.ensures.ok c.build_first.ensures.err in
+    record {
+      levels = levels_build old new c.args.name top P c.build_first.result c.self.inside.levels c.build_first.ensures.ok c.build_first.ensures.err c.self.invariant.levels;
+      covered = omega (arith, e, c.self.invariant.covered);
+    }
