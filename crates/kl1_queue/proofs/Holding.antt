@@ -107,6 +107,9 @@ held_first rs p r h s all less =
 pub held_alone : (rs : List ℕ) (p r : ℕ) → IsBeside rs p r → AreNone rs → (r ≡ 0 → ⊥) → IsFirst (set rs p r) p
 held_alone rs p r h a n = held_first rs p r h (omega (arith, n)) (λ j. omega (arith, a j)) (λ j b. omega (arith, a j, n))
 
+pub held_above : (rs : List ℕ) (p r top : ℕ) → IsBeside rs p r → ((j : ℕ) → get_or rs j 0 ≤ top) → top < r → IsFirst (set rs p r) p
+held_above rs p r top h all w = held_first rs p r h (omega arith) (λ j. omega (arith, all j)) (λ j a. omega (arith, all j))
+
 pub held_before : (rs : List ℕ) (p r k : ℕ) → IsBeside rs p r → IsFirst rs k → get_or rs k 0 ≤ r → (get_or rs k 0 ≡ r → p ≤ k) → IsFirst (set rs p r) p
 held_before rs p r k h f w n =
     held_first rs p r h (omega (arith, f.ready, w)) (λ j. omega (arith, f.greatest j, w)) (λ j a. elim (cases_lt (get_or rs k 0) r) [

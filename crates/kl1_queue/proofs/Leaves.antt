@@ -30,6 +30,10 @@ none_without half depth len bs q e j = rank_at half depth len bs j q ∙ q.rest 
 pub none_ready : (half depth len : ℕ) (bs : List ℕ) → IsKept half depth len bs → get_or bs 1 0 ≡ 0 → AreNone (take len (drop half bs))
 none_ready half depth len bs q e j = let p = leaf_le half depth len bs j q in omega (arith, p, rank_at half depth len bs j q)
 
+-- no rank is greater than the top's
+pub top_most : (half depth len : ℕ) (bs : List ℕ) (k : ℕ) → IsKept half depth len bs → get_or (take len (drop half bs)) k 0 ≤ get_or bs 1 0
+top_most half depth len bs k q = omega (arith, rank_at half depth len bs k q, leaf_le half depth len bs k q)
+
 pub first_ready : (half depth len leaf : ℕ) (bs : List ℕ) → IsKept half depth len bs → 0 < half → 0 < get_or bs 1 0 → Leads bs half leaf → IsFirst (take len (drop half bs)) (leaf - half)
 first_ready half depth len leaf bs q h s l =
     let e : half + (leaf - half) ≡ leaf = omega (arith, l.from) in

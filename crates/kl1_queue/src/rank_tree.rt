@@ -1,6 +1,6 @@
 // Ranks of places in order, as leaves of a tree.
 
-ghost use Rattle.std.specs.Prelude.{◌≡◌, ◌+◌, ◌-◌, ◌<◌, ◌≤◌, List, [], ◌∷◌, ◌++◌, length, get_or, set, take, drop, MatchOption, IfOk, OnOk, OnErr};
+ghost use Rattle.std.specs.Prelude.{◌≡◌, ◌+◌, ◌-◌, ◌<◌, ◌≤◌, ℕ, List, [], ◌∷◌, ◌++◌, length, get_or, set, take, drop, MatchOption, IfOk, OnOk, OnErr};
 ghost use Rattle.kl1_queue.specs.Ranks.{Queued, AreNone, IsFirst};
 
 use crate::tree::{first_leaf, set_leaf};
@@ -51,6 +51,7 @@ impl RankTree {
     }
 
     /// How many places there are.
+    #[inline]
     pub(crate) fn len(&self) -> usize
         ensures { result ≡ length self.now.ranks }
     {
@@ -60,6 +61,7 @@ impl RankTree {
     /// Makes room for so many more places: to extend by these can't be refused then.
     ///
     /// There are at most 2,147,483,648 places; more are refused as for want of memory.
+    #[inline]
     pub(crate) fn reserve(&mut self, more: usize) -> Result<(), AllocError>
         ensures ok { OnOk result (more ≤ self.new.room) }
         ensures ranks { self.new.ranks ≡ self.old.ranks }
@@ -69,6 +71,18 @@ impl RankTree {
         if more <= self.half - self.len {
             return Ok(());
         }
+        self.grow(more)
+    }
+
+    /// Makes room for so many more places, where there is too little.
+    #[inline(never)]
+    fn grow(&mut self, more: usize) -> Result<(), AllocError>
+        requires little { self.old.room < more }
+        ensures ok { OnOk result (more ≤ self.new.room) }
+        ensures ranks { self.new.ranks ≡ self.old.ranks }
+        ensures room { self.old.room ≤ self.new.room }
+        ensures err { OnErr result (self.new ≡ self.old) }
+    {
         if more > MOST || self.len > MOST {
             return Err(AllocError);
         }
@@ -124,6 +138,7 @@ impl RankTree {
     }
 
     /// One more place, which isn't ready.
+    #[inline]
     pub(crate) fn extend_unready(&mut self)
         requires { 0 < self.old.room }
         ensures ranks { self.new.ranks ≡ self.old.ranks ++ 0 ∷ [] }
@@ -133,6 +148,7 @@ impl RankTree {
     }
 
     /// Gives a place this rank.
+    #[inline]
     pub(crate) fn set_rank(&mut self, place: usize, rank: u16)
         requires { place < length self.old.ranks }
         ensures { self.new ≡ record self.old { ranks = set self.old.ranks place rank } }
@@ -141,6 +157,7 @@ impl RankTree {
     }
 
     /// The rank of a place.
+    #[inline]
     pub(crate) fn rank_at(&self, place: usize) -> u16
         requires { place < length self.now.ranks }
         ensures { result ≡ get_or self.now.ranks place 0 }
@@ -149,6 +166,7 @@ impl RankTree {
     }
 
     /// The last place is gone, and what it took is room.
+    #[inline]
     pub(crate) fn drop_last(&mut self)
         requires { 0 < length self.old.ranks }
         ensures ranks { self.new.ranks ≡ take (length self.old.ranks - 1) self.old.ranks }
@@ -156,6 +174,17 @@ impl RankTree {
     {
         self.len -= 1;
         set_leaf(&mut self.best, self.half, self.len, 0);
+    }
+
+    /// The rank at the top of the tree, 0 without one: no place has a greater rank.
+    #[inline]
+    pub(crate) fn greatest(&self) -> u16
+        ensures { (j : ℕ) → get_or self.now.ranks j 0 ≤ result }
+    {
+        if self.half == 0 {
+            return 0;
+        }
+        self.best[1]
     }
 
     /// The first of the places that are ready.

@@ -45,6 +45,7 @@ impl ReadyQueue {
     }
 
     /// How many places there are.
+    #[inline]
     pub fn len(&self) -> usize
         ensures { result ≡ length self.now.ranks }
     {
@@ -54,6 +55,7 @@ impl ReadyQueue {
     /// Makes room for so many more places: to extend by these can't be refused then.
     ///
     /// There are at most 2,147,483,648 places; more are refused as for want of memory.
+    #[inline]
     pub fn reserve(&mut self, more: usize) -> Result<(), AllocError>
         ensures ok { OnOk result (more ≤ self.new.room) }
         ensures ranks { self.new.ranks ≡ self.old.ranks }
@@ -64,6 +66,7 @@ impl ReadyQueue {
     }
 
     /// Gives a place this rank, and holds it beside the tree where no other is held.
+    #[inline]
     fn hold(&mut self, next: usize, rank: u16)
         requires { next < length self.old.ranks }
         ensures { self.new ≡ record self.old { ranks = set self.old.ranks next rank } }
@@ -82,6 +85,7 @@ impl ReadyQueue {
     }
 
     /// One more place at the end, ready with a priority or not ready.
+    #[inline]
     pub fn extend(&mut self, priority: Option<u16>)
         requires room { 0 < self.old.room }
         requires priority { IsPriority priority }
@@ -97,6 +101,7 @@ impl ReadyQueue {
     }
 
     /// A place is ready with a priority from now on.
+    #[inline]
     pub fn put(&mut self, place: usize, priority: u16)
         requires place { place < length self.old.ranks }
         requires priority { priority ≤ monitor_priority }
@@ -106,6 +111,7 @@ impl ReadyQueue {
     }
 
     /// A place isn't ready from now on.
+    #[inline]
     pub fn remove(&mut self, place: usize)
         requires { place < length self.old.ranks }
         ensures { self.new ≡ record self.old { ranks = set self.old.ranks place 0 } }
@@ -118,6 +124,7 @@ impl ReadyQueue {
     }
 
     /// The last place is gone, and what it took is room.
+    #[inline]
     pub fn drop_last(&mut self)
         requires { 0 < length self.old.ranks }
         ensures ranks { self.new.ranks ≡ take (length self.old.ranks - 1) self.old.ranks }
@@ -131,7 +138,18 @@ impl ReadyQueue {
     }
 
     /// The first of the places that are ready.
+    #[inline]
     pub fn first(&self) -> Option<usize>
+        ensures { MatchOption result (AreNone self.now.ranks) (λ k. IsFirst self.now.ranks k) }
+    {
+        if self.tree.greatest() < self.held_rank {
+            return Some(self.held);
+        }
+        self.first_of_both()
+    }
+
+    /// The first of the places that are ready, of those in the tree and the one that is held.
+    fn first_of_both(&self) -> Option<usize>
         ensures { MatchOption result (AreNone self.now.ranks) (λ k. IsFirst self.now.ranks k) }
     {
         match self.tree.first() {
@@ -155,6 +173,7 @@ impl ReadyQueue {
     }
 
     /// The first of the places that are ready, which isn't ready from now on.
+    #[inline]
     pub fn take_first(&mut self) -> Option<usize>
         ensures first { MatchOption result (AreNone self.old.ranks) (λ k. IsFirst self.old.ranks k) }
         ensures none { IfNone result (self.new ≡ self.old) }

@@ -4,16 +4,42 @@ ghost use Rattle.std.specs.Prelude.{◌≡◌, ◌+◌, ◌*◌, ◌^◌, ◌<�
 ghost use Rattle.kl1_queue.specs.Trees.{IsTree, Leads};
 
 /// Writes a rank at a leaf and sets right what is above it.
+#[inline]
 pub(crate) fn set_leaf(best: &mut Vec<u16>, half: usize, place: usize, rank: u16)
     requires tree { IsTree half best.old.items }
     requires place { place < half }
     ensures tree { IsTree half best.new.items }
     ensures leaves { drop half best.new.items ≡ set (drop half best.old.items) place rank }
 {
-    if best[half + place] == rank {
+    let was = best[half + place];
+    if was < rank {
+        lift(best, half, place, rank);
         return;
     }
-    climb(best, half, place, rank);
+    if rank < was {
+        climb(best, half, place, rank);
+    }
+}
+
+/// Writes a rank at a leaf in which a lesser one stood, and walks up from it as far as lesser ones stand: none of what is beside
+/// the way is looked at.
+fn lift(best: &mut Vec<u16>, half: usize, place: usize, rank: u16)
+    requires tree { IsTree half best.old.items }
+    requires place { place < half }
+    requires greater { get_or best.old.items (half + place) 0 < rank }
+    ensures tree { IsTree half best.new.items }
+    ensures leaves { drop half best.new.items ≡ set (drop half best.old.items) place rank }
+{
+    let mut node = half + place;
+    best[node] = rank;
+    while node > 1 {
+        let parent = node / 2;
+        if best[parent] >= rank {
+            return;
+        }
+        best[parent] = rank;
+        node = parent;
+    }
 }
 
 /// Writes a rank at a leaf and walks up from it as far as something changes.
