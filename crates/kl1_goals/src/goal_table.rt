@@ -12,6 +12,7 @@ use crate::places::{append, bury, count_upto, first_held, held_place, make_end, 
 use crate::slot::Slot;
 use crate::tally::{Tally, clear, lower, lower_alive, raise, raise_alive, tally_of};
 use kl1_queue::ReadyQueue;
+use kl1_room::make_room;
 use kl1_text::NameValue;
 use std::alloc::{AllocError, Global};
 use std::marker::Model;
@@ -20,7 +21,7 @@ use std::marker::Model;
 /// counted from 1.
 ///
 /// A goal that is removed leaves its place empty; empty places are dropped where no goal is after them, and where they come to
-/// more than three quarters.
+/// more than three quarters. `seen` is the place in which a goal was found last to change it: a hint of where it may be.
 #[derive(Drop)]
 pub struct GoalTable<N: NameValue> {
     slots: Vec<Slot<N>>,
@@ -28,6 +29,7 @@ pub struct GoalTable<N: NameValue> {
     queue: ReadyQueue,
     tallies: Vec<Tally>,
     alive: u64,
+    seen: usize,
 }
 
 impl<N: NameValue> Model for GoalTable<N> {
@@ -61,6 +63,7 @@ impl<N: NameValue> GoalTable<N> {
             queue: ReadyQueue::new(alloc),
             tallies: Vec::new(alloc),
             alive: 0,
+            seen: 0,
         }
     }
 
@@ -74,12 +77,9 @@ impl<N: NameValue> GoalTable<N> {
         ensures more { self.old.room ≤ self.new.room }
         ensures more_shoens { self.old.shoen_room ≤ self.new.shoen_room }
     {
-        self.slots.reserve(goals)?;
+        make_room(&mut self.slots, goals)?;
         self.queue.reserve(goals)?;
-        if shoens == 0 {
-            return Ok(());
-        }
-        self.tallies.reserve(shoens)
+        make_room(&mut self.tallies, shoens)
     }
 
     /// One shoen more is known, without goals: its number is the next.
@@ -112,7 +112,7 @@ impl<N: NameValue> GoalTable<N> {
         ensures known { IfSome result (λ g. IsKnown g self.now.shoens) }
         ensures order { AreInOrder self.now.goals }
     {
-        match held_place(&self.slots, number) {
+        match held_place(&self.slots, self.seen, number) {
             None => None,
             Some(place) => Some(self.slots[place].goal),
         }
@@ -139,15 +139,28 @@ impl<N: NameValue> GoalTable<N> {
         ensures room { self.old.room ≤ self.new.room + 1 }
         ensures shoen_room { self.new.shoen_room ≡ self.old.shoen_room }
     {
+        self.put_copy(&goal);
+    }
+
+    /// Puts a copy of a goal after all others.
+    #[inline(always)]
+    pub fn put_copy(&mut self, goal: &Goal<N>)
+        requires room { 0 < self.old.room }
+        requires next { IsNext goal.now self.old.goals self.old.shoens }
+        ensures goals { self.new.goals ≡ self.old.goals ++ goal.now ∷ [] }
+        ensures shoens { self.new.shoens ≡ self.old.shoens }
+        ensures room { self.old.room ≤ self.new.room + 1 }
+        ensures shoen_room { self.new.shoen_room ≡ self.old.shoen_room }
+    {
         make_end(
             &mut self.slots,
             &mut self.empty,
             &mut self.queue,
             goal.number,
         );
-        append(&mut self.slots, self.empty, &mut self.queue, &goal);
-        raise(&mut self.tallies, &goal);
-        self.alive = raise_alive(self.alive, &goal);
+        append(&mut self.slots, self.empty, &mut self.queue, goal);
+        raise(&mut self.tallies, goal);
+        self.alive = raise_alive(self.alive, goal);
     }
 
     /// Removes the goal of a number, where there is one.
@@ -158,9 +171,10 @@ impl<N: NameValue> GoalTable<N> {
         ensures room { self.old.room ≤ self.new.room }
         ensures shoen_room { self.new.shoen_room ≡ self.old.shoen_room }
     {
-        match held_place(&self.slots, number) {
+        match held_place(&self.slots, self.seen, number) {
             None => {}
             Some(place) => {
+                self.seen = place;
                 let goal = self.slots[place].goal;
                 bury(&mut self.slots, &mut self.empty, &mut self.queue, place);
                 lower(&mut self.tallies, &goal);
@@ -208,15 +222,18 @@ impl<N: NameValue> GoalTable<N> {
     pub fn set_standing(&mut self, number: u64, standing: Option<u64>)
         ensures { self.new ≡ record self.old { goals = map (stood_by number standing) self.old.goals } }
     {
-        match held_place(&self.slots, number) {
+        match held_place(&self.slots, self.seen, number) {
             None => {}
-            Some(place) => stand(
-                &mut self.slots,
-                self.empty,
-                &mut self.queue,
-                place,
-                standing,
-            ),
+            Some(place) => {
+                self.seen = place;
+                stand(
+                    &mut self.slots,
+                    self.empty,
+                    &mut self.queue,
+                    place,
+                    standing,
+                );
+            }
         }
     }
 
@@ -282,7 +299,7 @@ impl<N: NameValue> GoalTable<N> {
         if count != 1 {
             return count > 1;
         }
-        match held_place(&self.slots, number) {
+        match held_place(&self.slots, self.seen, number) {
             None => true,
             Some(place) => !self.slots[place].goal.is_goal_of(shoen),
         }

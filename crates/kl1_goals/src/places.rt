@@ -1,6 +1,6 @@
 // The places of a table, in order of number, with the queue over them.
 
-ghost use Rattle.std.specs.Prelude.{◌≡◌, ◌+◌, ◌-◌, ◌<◌, ◌≤◌, ℕ, true, None, List, [], ◌∷◌, ◌++◌, length, map, drop, get_or, nat_lt, IfSome, MatchOption, vec_len, vec_capacity};
+ghost use Rattle.std.specs.Prelude.{◌≡◌, ◌+◌, ◌-◌, ◌<◌, ◌≤◌, ℕ, true, None, List, [], ◌∷◌, ◌++◌, length, map, drop, get_or, nat_lt, MatchOption, vec_len, vec_capacity};
 ghost use Rattle.std.specs.List.{filter, find};
 ghost use Rattle.kl1_model.specs.Limits.{monitor_priority};
 ghost use Rattle.kl1_goals.specs.Lists.{has_number, is_other, stood_by, number_of};
@@ -34,6 +34,7 @@ pub(crate) fn count_upto<N: NameValue>(slots: &Vec<Slot<N>>, number: u64) -> usi
 }
 
 /// Whether all places have a lesser number.
+#[inline]
 fn ends_before<N: NameValue>(slots: &Vec<Slot<N>>, number: u64) -> bool
     requires { Ascend 0 (numbers_of slots.now.items) }
     ensures { result ≡ true → AreBelow number (numbers_of slots.now.items) }
@@ -43,24 +44,6 @@ fn ends_before<N: NameValue>(slots: &Vec<Slot<N>>, number: u64) -> bool
         return true;
     }
     slots[count - 1].goal.number < number
-}
-
-/// The place of a number, where none is left out between it and the last.
-fn near_place<N: NameValue>(slots: &Vec<Slot<N>>, number: u64) -> Option<usize>
-    ensures { IfSome result (λ k. IsPlace (numbers_of slots.now.items) number k) }
-{
-    let count = slots.len();
-    if count == 0 {
-        return None;
-    }
-    let last = slots[count - 1].goal.number;
-    let back = last.saturating_sub(number);
-    let guess = (count - 1).saturating_sub(back as usize);
-    if slots[guess].goal.number == number {
-        Some(guess)
-    } else {
-        None
-    }
 }
 
 /// The place of a number, by a search.
@@ -80,26 +63,53 @@ fn searched_place<N: NameValue>(slots: &Vec<Slot<N>>, number: u64) -> Option<usi
     }
 }
 
-/// The place of a number.
-fn place_of<N: NameValue>(slots: &Vec<Slot<N>>, number: u64) -> Option<usize>
+/// The place of a number, which may be where one was found last.
+#[inline(never)]
+fn far_place<N: NameValue>(slots: &Vec<Slot<N>>, seen: usize, number: u64) -> Option<usize>
     requires { Ascend 0 (numbers_of slots.now.items) }
     ensures { MatchOption result (IsAbsent (numbers_of slots.now.items) number) (λ k. IsPlace (numbers_of slots.now.items) number k) }
 {
-    if ends_before(slots, number) {
-        return None;
+    if seen < slots.len() && slots[seen].goal.number == number {
+        return Some(seen);
     }
-    match near_place(slots, number) {
-        None => searched_place(slots, number),
-        Some(place) => Some(place),
-    }
+    searched_place(slots, number)
 }
 
-/// The place of a goal that is there.
-pub(crate) fn held_place<N: NameValue>(slots: &Vec<Slot<N>>, number: u64) -> Option<usize>
+/// The place of a number: found by one look where none is left out between it and the last.
+#[inline]
+fn place_of<N: NameValue>(slots: &Vec<Slot<N>>, seen: usize, number: u64) -> Option<usize>
+    requires { Ascend 0 (numbers_of slots.now.items) }
+    ensures { MatchOption result (IsAbsent (numbers_of slots.now.items) number) (λ k. IsPlace (numbers_of slots.now.items) number k) }
+{
+    let count = slots.len();
+    if count == 0 {
+        return None;
+    }
+    let last = slots[count - 1].goal.number;
+    if last < number {
+        return None;
+    }
+    let back = last - number;
+    if back < count as u64 {
+        let guess = count - 1 - back as usize;
+        if slots[guess].goal.number == number {
+            return Some(guess);
+        }
+    }
+    far_place(slots, seen, number)
+}
+
+/// The place of a goal that is there, which may be where one was found last.
+#[inline]
+pub(crate) fn held_place<N: NameValue>(
+    slots: &Vec<Slot<N>>,
+    seen: usize,
+    number: u64,
+) -> Option<usize>
     requires { Ascend 0 (numbers_of slots.now.items) }
     ensures { MatchOption result (find (has_number number) (goals_in slots.now.items) ≡ None) (λ k. (s : Slot N) × IsHeldAt slots.now.items number k s) }
 {
-    match place_of(slots, number) {
+    match place_of(slots, seen, number) {
         None => None,
         Some(place) => {
             if slots[place].is_held {
@@ -127,6 +137,7 @@ pub(crate) fn first_held<N: NameValue>(slots: &Vec<Slot<N>>, from: usize) -> Opt
 }
 
 /// Puts a goal after all others.
+#[inline]
 pub(crate) fn append<N: NameValue>(
     slots: &mut Vec<Slot<N>>,
     empty: usize,
@@ -152,6 +163,7 @@ pub(crate) fn append<N: NameValue>(
 }
 
 /// Empties the place of a goal.
+#[inline]
 pub(crate) fn bury<N: NameValue>(
     slots: &mut Vec<Slot<N>>,
     empty: &mut usize,
@@ -209,6 +221,7 @@ pub(crate) fn rank_all<N: NameValue>(slots: &Vec<Slot<N>>, queue: &mut ReadyQueu
 }
 
 /// Drops the empty places.
+#[inline(never)]
 pub(crate) fn compact<N: NameValue>(
     slots: &mut Vec<Slot<N>>,
     empty: &mut usize,
@@ -228,6 +241,7 @@ pub(crate) fn compact<N: NameValue>(
 }
 
 /// Whether there is a last place and it is empty.
+#[inline]
 fn ends_empty<N: NameValue>(slots: &Vec<Slot<N>>) -> bool
     ensures { result ≡ true → IsEmptyEnd slots.now.items }
 {
@@ -281,6 +295,7 @@ pub(crate) fn tidy<N: NameValue>(
 }
 
 /// Drops the empty places where one of them may have this number or a greater one.
+#[inline]
 pub(crate) fn make_end<N: NameValue>(
     slots: &mut Vec<Slot<N>>,
     empty: &mut usize,
