@@ -22,33 +22,6 @@ use kl1_store::{Point, Store};
 use kl1_text::CellName;
 use std::alloc::AllocError;
 
-/// Looks at the goals that a draft has told. What is known is passed as it is, so that callers need no place in memory for it.
-#[inline(never)]
-fn wake_found<C: CodeSource>(
-    store: &mut Store<CellName>,
-    goals: &GoalTable<CellName>,
-    shoens: &ShoenTree<CellName>,
-    modules: &CodedModules<'_, C>,
-    known: Kind<CellName>,
-    predicate: Predicate<'_, CellName>,
-    trial: &mut Trial<CellName>,
-    removed: u64,
-    told: &[u64],
-    changes: &mut Vec<Change>,
-) -> Result<(), AllocError>
-    requires goals { AreGoalsIn store.old.held goals.now.goals }
-    requires shoens { AreShoensIn store.old.held shoens.now.shoens }
-    requires some { AreSome predicate.names.now predicate.clauses.now }
-    requires serves { Serves modules.now.loaded known predicate }
-    ensures wakes { OnOk result (WakesTold modules.now.loaded shoens.now.shoens store.old.held store.old.hooks store.new.hooks goals.now.goals removed told.now changes.old.items changes.new.items) }
-    ensures held { store.new.held ≡ store.old.held }
-    ensures grown { HasGrown store.old store.new }
-{
-    wake_told(
-        store, goals, shoens, modules, &known, &predicate, trial, removed, told, changes,
-    )
-}
-
 /// Looks at the goals that a draft has told, where there are any.
 fn wake_any<C: CodeSource>(
     store: &mut Store<CellName>,
@@ -73,8 +46,8 @@ fn wake_any<C: CodeSource>(
     if told.is_empty() {
         return Ok(());
     }
-    wake_found(
-        store, goals, shoens, modules, *known, *predicate, trial, removed, told, changes,
+    wake_told(
+        store, goals, shoens, modules, known, predicate, trial, removed, told, changes,
     )
 }
 

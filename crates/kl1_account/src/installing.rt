@@ -95,7 +95,7 @@ fn put_goals(goals: &mut GoalTable<CellName>, added: &[Goal<CellName>])
     ensures count { goals.new.shoens ≡ goals.old.shoens }
 {
     for goal in added {
-        goals.put(*goal);
+        goals.put_copy(goal);
     }
 }
 

@@ -192,6 +192,7 @@ fn draft_reading<C: CodeSource>(
 
 /// Drafts the move that a goal for a cell does, which may step, by the clause of a number, for an account with so many entries in its
 /// journal, or says why it is refused. The draft has begun with what the account has.
+#[inline(always)]
 fn draft_move<C: CodeSource>(
     store: &mut Store<CellName>,
     goals: &mut GoalTable<CellName>,
@@ -243,6 +244,7 @@ fn draft_move<C: CodeSource>(
 
 /// Drafts the reduction of the goal of a number by the clause of a number, for an account with so many entries in its journal, or says
 /// why it is refused. The draft has begun with what the account has. Where memory is refused, the store and the tree may have changed.
+#[inline(always)]
 fn draft_reduction<C: CodeSource>(
     store: &mut Store<CellName>,
     goals: &mut GoalTable<CellName>,
@@ -292,6 +294,7 @@ fn ready_row(row: &mut Vec<CellName>, draft: &Draft) -> Result<(), AllocError>
 }
 
 /// The same, and a row is ready for the number of a name that is drafted.
+#[inline(always)]
 pub(crate) fn draft_named<C: CodeSource>(
     store: &mut Store<CellName>,
     goals: &mut GoalTable<CellName>,

@@ -163,13 +163,12 @@ alone_in : (n up : ℕ) (ss : List (Shoen CellName)) → path_in ss n ≡ n ∷ 
 alone_in n up ss path e = path ∙ ap (λ (ps : List ℕ). n ∷ ps) (path_zero up ss e)
 
 -- of a path of one shoen, which has a goal among those that come, none ends
-pub kept_alone : (d : Draft) (n up : ℕ) (goals : List (Goal CellName)) (ss : List (Shoen CellName)) → path_in ss n ≡ n ∷ path_in ss up → up ≡ 0 → get_or d.aborted.items (n - 1) false ≡ false → list_any (is_goal_of n) (filter (is_other d.removed) d.added.items) ≡ true →
+pub kept_alone : (d : Draft) (n up : ℕ) (goals : List (Goal CellName)) (ss : List (Shoen CellName)) → path_in ss n ≡ n ∷ path_in ss up → up ≡ 0 → list_any (is_goal_of n) (goals_left (goals ++ d.added.items) d) ≡ true →
     ending_in (goals_left (goals ++ d.added.items) d) (path_in ss n) ss ≡ []
-kept_alone d n up goals ss path e on has =
+kept_alone d n up goals ss path e has =
     let left = goals_left (goals ++ d.added.items) d in
     ap (λ (ps : List ℕ). ending_in left ps ss) (alone_in n up ss path e)
-    ∙ kept_one left n ss
-    (others_have d n goals d.added.items on ∙ ap (λ b. list_any (is_goal_of n) (filter (is_other d.removed) goals) || b) has ∙ or_true (list_any (is_goal_of n) (filter (is_other d.removed) goals)))
+    ∙ kept_one left n ss has
 
 -- such a tree can go back
 pub ends_back : (old now : Tree CellName) (ss : List (Shoen CellName)) → now ≡ record old { shoens = ss } → CanGoBack old now

@@ -22,6 +22,7 @@ use kl1_goals::{Goal, GoalTable, Task};
 use kl1_model::BuiltIn;
 use kl1_model::limits::{MOST_GOALS, MOST_NODES, MOST_VARIABLES};
 use kl1_moves::{Needs, Trial, commit as put_body, needs_of, priorities_of};
+use kl1_room::make_room;
 use kl1_shoen::{Shoen, ShoenTree};
 use kl1_store::{Qualified, Store};
 use kl1_text::CellName;
@@ -65,6 +66,7 @@ pub fn last_of(last: u64, more: usize) -> Result<u64, AllocError>
 
 /// Puts goals for cells after others, of a shoen, with the numbers after the last; none can step as yet. Each has its own of these
 /// priorities, or where that is none, the one that is given.
+#[inline]
 fn add_goals(
     added: &mut Vec<Goal<CellName>>,
     last_goal: u64,
@@ -76,19 +78,25 @@ fn add_goals(
     requires fits { last_goal + length cells.now < 2 ^ 64 }
     ensures { OnOk result (added.new.items ≡ added.old.items ++ goals_for last_goal shoen.now.number (priorities_by (Some shoen.now) own priorities.now) cells.now) }
 {
+    make_room(added, cells.len())?;
     let mut number = last_goal;
-    let mut place = 0;
-    while place < cells.len() && place < priorities.len() {
+    let mut left = cells;
+    let mut named = priorities;
+    while let [cell, others @ ..] = left {
+        let [priority, more @ ..] = named else {
+            return Ok(());
+        };
         number += 1;
-        added.push(Goal {
+        added.push_reserved(Goal {
             number,
-            task: Task::Reduces(cells[place]),
+            task: Task::Reduces(*cell),
             shoen: shoen.number,
-            priority: priority_in(shoen, own, priorities[place]),
+            priority: priority_in(shoen, own, *priority),
             standing: None,
             is_enabled: false,
-        })?;
-        place += 1;
+        });
+        left = others;
+        named = more;
     }
     Ok(())
 }

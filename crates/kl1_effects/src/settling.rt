@@ -5,7 +5,6 @@ ghost use Rattle.std.specs.List.{list_any};
 ghost use Rattle.kl1_model.specs.Ending.{settle, settle_charged};
 ghost use Rattle.kl1_model.specs.Module.{is_among};
 ghost use Rattle.kl1_text.specs.declared.cell_name.CellName.{CellName};
-ghost use Rattle.kl1_goals.specs.declared.goal.Goal.{Goal};
 ghost use Rattle.kl1_goals.specs.Lists.{is_goal_of, is_other};
 ghost use Rattle.kl1_store.specs.Sound.{Grown};
 ghost use Rattle.kl1_shoen.specs.Shoens.{path_in, lives_in, has_reached_in};
@@ -120,10 +119,15 @@ fn end_one(
     Ok(())
 }
 
-/// Whether the path of a shoen is that shoen alone, which was not charged just what it may be, and it has a goal among those that come:
-/// then none ends, and none has reached its allowance.
-fn is_calm(shoens: &ShoenTree<CellName>, draft: &Draft, number: u64) -> bool
-    ensures lives { (goals : List (Goal CellName)) → result ≡ true → ending_in (goals_left (goals ++ draft.now.added.items) draft.now) (path_in shoens.now.shoens number) shoens.now.shoens ≡ [] }
+/// Whether the path of a shoen is that shoen alone, which was not charged just what it may be, and it has a goal with a draft in
+/// place: then none ends, and none has reached its allowance.
+fn is_calm(
+    goals: &GoalTable<CellName>,
+    shoens: &ShoenTree<CellName>,
+    draft: &Draft,
+    number: u64,
+) -> bool
+    ensures lives { result ≡ true → ending_in (goals_left (goals.now.goals ++ draft.now.added.items) draft.now) (path_in shoens.now.shoens number) shoens.now.shoens ≡ [] }
     ensures unreached { (ending : List ℕ) → result ≡ true → reached_in shoens.now.shoens shoens.now.work ending (path_in shoens.now.shoens number) ≡ [] }
 {
     if number == 0 {
@@ -136,10 +140,7 @@ fn is_calm(shoens: &ShoenTree<CellName>, draft: &Draft, number: u64) -> bool
     if step.holds {
         return false;
     }
-    if is_aborted(draft, number) {
-        return false;
-    }
-    is_any_added(draft, number)
+    has_goal(goals, draft, number)
 }
 
 /// Ends the lives of the shoens on the path of one that terminate, with a draft in place, and puts their numbers down, innermost
@@ -406,7 +407,7 @@ pub fn settle_charged(
     ensures hooks { store.new.hooks ≡ store.old.hooks }
 {
     let _formed = store.mark();
-    if is_calm(shoens, draft, number) {
+    if is_calm(goals, shoens, draft, number) {
         walk.ending.clear();
         walk.reached.clear();
         return Ok(());

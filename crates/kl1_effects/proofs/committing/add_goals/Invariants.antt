@@ -1,16 +1,18 @@
-use Rattle.std.proofs.Common.{◌≡◌, ◌+◌, ◌-◌, ◌++◌, length, drop}
+use Rattle.std.proofs.Common.{◌≡◌, ◌+◌, ◌≤◌, ◌++◌, length}
 use Rattle.std.specs.Prelude.{Some}
+use Rattle.std.specs.Vec.{vec_len, vec_capacity}
 use Rattle.kl1_effects.specs.Drafts.{goals_for}
 use Rattle.kl1_effects.specs.Moving.{priorities_by}
 use Rattle.kl1_effects.proofs.committing.add_goals.Given as goal
 
--- with goals for the cells that are left there are all
-abbrev pub invariant-loop-place : goal.invariant-loop-place
-invariant-loop-place l = record {
-  number : l.number ≡ l.last_goal + l.place;
-  added : l.added.items ++ goals_for l.number l.shoen.number (priorities_by (Some l.shoen) l.own (drop l.place l.priorities)) (drop l.place l.cells)
+-- with goals for the cells that are left there are all, and there is room for them
+abbrev pub invariant-loop-left : goal.invariant-loop-left
+invariant-loop-left l = record {
+  number : l.number + length l.left ≡ l.last_goal + length l.cells;
+  room : vec_len l.added + length l.left ≤ vec_capacity l.added;
+  added : l.added.items ++ goals_for l.number l.shoen.number (priorities_by (Some l.shoen) l.own l.named) l.left
       ≡ l.initial.added.items ++ goals_for l.last_goal l.shoen.number (priorities_by (Some l.shoen) l.own l.priorities) l.cells;
 }
 
-abbrev pub decreases-loop-place : goal.decreases-loop-place
-decreases-loop-place l = length l.cells - l.place
+abbrev pub decreases-loop-left : goal.decreases-loop-left
+decreases-loop-left l = length l.left

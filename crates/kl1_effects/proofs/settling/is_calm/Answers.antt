@@ -3,9 +3,9 @@ use Rattle.kl1_effects.proofs.Ends.{kept_alone, unreached_alone}
 use Rattle.kl1_effects.proofs.settling.is_calm.Goals as goal
 
 pub returns-clause-lives : goal.returns-clause-lives
-returns-clause-lives c = λ goals has.
-    kept_alone c.args.draft.now c.args.number c.reached_step-step.result.up goals c.args.shoens.now.shoens c.reached_step-step.ensures.path (omega (arith, c.if-step-ne0.false))
-    (sym c.is_aborted.ensures ∙ c.if-is_aborted.false) (sym c.is_any_added.ensures ∙ has)
+returns-clause-lives c = λ has.
+    kept_alone c.args.draft.now c.args.number c.reached_step-step.result.up c.args.goals.now.goals c.args.shoens.now.shoens c.reached_step-step.ensures.path (omega (arith, c.if-step-ne0.false))
+    (sym c.has_goal.ensures ∙ has)
 
 pub returns-clause-unreached : goal.returns-clause-unreached
 returns-clause-unreached c = λ ending has.

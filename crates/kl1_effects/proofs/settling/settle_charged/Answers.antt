@@ -13,7 +13,7 @@ returns-then-is_calm-clause-ok c = λ ms names.
     let t = c.args.shoens.now in
     let d = c.args.draft.now in
     let goals = c.args.goals.now.goals in
-    drafts_settle_charged ms goals names h h h t t t t d d d c.args.number [] [] (record { ending_is = sym (c.is_calm.ensures.lives goals c.if-is_calm.true); tree_is = refl }) (sym (c.is_calm.ensures.unreached [] c.if-is_calm.true)) (drafts_none h t d) (drafts_none h t d)
+    drafts_settle_charged ms goals names h h h t t t t d d d c.args.number [] [] (record { ending_is = sym (c.is_calm.ensures.lives c.if-is_calm.true); tree_is = refl }) (sym (c.is_calm.ensures.unreached [] c.if-is_calm.true)) (drafts_none h t d) (drafts_none h t d)
 
 pub returns-then-is_calm-clause-back : goal.returns-then-is_calm-clause-back
 returns-then-is_calm-clause-back c = record { shoens = refl; work = refl }
