@@ -21,5 +21,6 @@ pub mod Among
 pub mod TestRows
 pub mod TermPairs
 pub mod TestSteps
+pub mod AtOnce
 pub mod Stays
 pub mod GoalCells

@@ -134,7 +134,7 @@ cell_form {N = N} built f t x y form result e r i =
     subst P (sym r) (subst Q (sym e) (form_moved built f t form (term_of f t.held y) i))
 
 -- the term that begins with an instruction of the row
-row_term : {N : Type 0} (built : BuiltIn → N) (f : N → List ℕ) (t : Tests N) (x : TestAt N) (q : ℕ) (i : Instruction) → x ≡ at.Row q → instruction_in t.row q ≡ i →
+pub row_term : {N : Type 0} (built : BuiltIn → N) (f : N → List ℕ) (t : Tests N) (x : TestAt N) (q : ℕ) (i : Instruction) → x ≡ at.Row q → instruction_in t.row q ≡ i →
     test_term built f t x ≡ substituted (value_in f t) (top_of (named_in built f t) i (terms_from (named_in built f t) (drop (suc q) t.row)))
 row_term built f t x q i e k =
     ap (test_term built f t) e

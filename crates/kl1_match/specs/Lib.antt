@@ -15,5 +15,6 @@ pub mod GoalCells
 pub mod TestTerms
 pub mod Passing
 pub mod Testing
+pub mod AtOnce
 pub mod Qualifying
 pub mod Bodies

@@ -3,6 +3,7 @@
 
 mod accepting;
 mod arguments;
+mod at_once;
 mod building;
 mod goal_cells;
 mod heads;
@@ -24,6 +25,7 @@ mod variables;
 mod verdict;
 
 pub use accepting::accepts_in_order;
+pub use at_once::known_at_once;
 pub use goal_cells::{put_goal, put_goal_variables, reserve_goal, reserve_goal_beside};
 pub use heads::{find_match, judge_plain};
 pub use instances::{put_instance, put_kept_instance};

@@ -54,7 +54,7 @@ pub(crate) fn instruction_at(row: &[Instruction], place: usize) -> Instruction
 
 /// The cell at the first place of a variable.
 #[inline(always)]
-fn cell_of<N: NameValue>(places: &[Place<N>], variable: u64) -> Option<Cell<N>>
+pub(crate) fn cell_of<N: NameValue>(places: &[Place<N>], variable: u64) -> Option<Cell<N>>
     ensures { result ≡ first_cell places.now variable }
 {
     let mut rest = places;

@@ -86,7 +86,7 @@ fn may_differ<N: NameValue>(
 
 /// Whether a comparison holds of two integers.
 #[inline(always)]
-fn holds(comparison: Comparison, left: i64, right: i64) -> bool
+pub(crate) fn holds(comparison: Comparison, left: i64, right: i64) -> bool
     ensures { result ≡ compared comparison left right }
 {
     match comparison {

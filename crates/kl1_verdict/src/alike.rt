@@ -56,7 +56,7 @@ fn compare_one<N: NameValue>(
 
 /// Whether the variables of places stand in order of their numbers, so that each stands once.
 #[inline]
-fn are_rising<N: NameValue>(places: &[Place<N>]) -> bool
+pub(crate) fn are_rising<N: NameValue>(places: &[Place<N>]) -> bool
     ensures { IsTrue result → AreRising 0 places.now }
 {
     let mut last: u64 = 0;

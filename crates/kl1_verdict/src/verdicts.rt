@@ -5,14 +5,15 @@ ghost use Rattle.kl1_store.specs.Held.{IsIn};
 ghost use Rattle.kl1_match.specs.Instances.{IsClause};
 ghost use Rattle.kl1_match.specs.Matching.{Keeps};
 ghost use Rattle.kl1_match.specs.TestTerms.{AreSound, tests_with};
+ghost use Rattle.kl1_match.specs.Testing.{TestsCome};
 ghost use Rattle.kl1_match.specs.Verdicts.{IsVerdict};
 ghost use Rattle.kl1_verdict.specs.Outcomes.{RestComes};
 
-use crate::alike::compare_each;
+use crate::alike::{are_rising, compare_each};
 use kl1_clause::{CompiledClause, Instruction};
 use kl1_match::{
     Place, Scratch, Span, TestScratch, TestView, Verdict, find_match, is_rejection, judge_plain,
-    run_tests,
+    known_at_once, run_tests,
 };
 use kl1_store::{Cell, SameScratch, Store};
 use kl1_text::NameValue;
@@ -72,9 +73,33 @@ pub(crate) fn judge<N: NameValue, const KEEP: bool>(
     )
 }
 
-/// What comes of a clause beside its match: passive equality of each two places of a variable that were reached, and its tests.
-/// False where something clashes; else `awaited` gets the variables that it waits for behind its own.
-fn may_go_on<N: NameValue>(
+/// What comes of a clause's tests, one after another.
+#[inline(never)]
+fn run_row<N: NameValue>(
+    store: &Store<N>,
+    names: &[N],
+    row: &[Instruction],
+    places: &[Place<N>],
+    tests: &mut TestScratch<N>,
+    same: &mut SameScratch,
+    awaited: &mut Vec<u32>,
+) -> Result<bool, AllocError>
+    requires { AreSound (tests_with store.now.held names.now row.now places.now) }
+    ensures { IfOk result (TestsCome N.built (tests_with store.now.held names.now row.now places.now) 0 awaited.old.items awaited.new.items) }
+{
+    let view = TestView {
+        store,
+        names,
+        row,
+        places,
+    };
+    run_tests(&view, tests, same, awaited)
+}
+
+/// What comes of a clause beside its match: passive equality of each two places of a variable that were reached, and its tests, one
+/// after another. False where something clashes; else `awaited` gets the variables that it waits for behind its own.
+#[inline(never)]
+fn compare_and_run<N: NameValue>(
     store: &Store<N>,
     names: &[N],
     row: &[Instruction],
@@ -89,13 +114,30 @@ fn may_go_on<N: NameValue>(
     if !compare_each(store, places, same, awaited)? {
         return Ok(false);
     }
-    let view = TestView {
-        store,
-        names,
-        row,
-        places,
-    };
-    run_tests(&view, tests, same, awaited)
+    run_row(store, names, row, places, tests, same, awaited)
+}
+
+/// The same; where each variable stands once, in order, nothing is compared, and one comparison of two integers needs no list.
+#[inline]
+fn may_go_on<N: NameValue>(
+    store: &Store<N>,
+    names: &[N],
+    row: &[Instruction],
+    places: &[Place<N>],
+    tests: &mut TestScratch<N>,
+    same: &mut SameScratch,
+    awaited: &mut Vec<u32>,
+) -> Result<bool, AllocError>
+    requires { AreSound (tests_with store.now.held names.now row.now places.now) }
+    ensures { IfOk result (RestComes N.built (tests_with store.now.held names.now row.now places.now) awaited.old.items awaited.new.items) }
+{
+    if !are_rising(places) {
+        return compare_and_run(store, names, row, places, tests, same, awaited);
+    }
+    if let Some(holds) = known_at_once(store, row, places) {
+        return Ok(holds);
+    }
+    run_row(store, names, row, places, tests, same, awaited)
 }
 
 /// The verdict of any clause: what its match says, and then its places and tests. A clash outweighs what is waited for, but the
