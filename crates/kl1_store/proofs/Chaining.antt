@@ -212,10 +212,14 @@ tells_end v ls start told at t e = sym (append-nil told) ∙ ap (λ n. told ++ h
 
 -- ---- the number hung last
 
-pub newest_none : (hs : List ℕ) (ls : List Link) (v head : ℕ) → AreChained hs ls → head ≡ get_or hs v 0 → head ≡ 0 → slice_get (hanging_on v (hooks_in ls)) 0 ≡ None
-newest_none hs ls v head c p e =
+-- where the head is 0 nothing hangs
+pub none_hangs : (hs : List ℕ) (ls : List Link) (v head : ℕ) → AreChained hs ls → head ≡ get_or hs v 0 → head ≡ 0 → hanging_on v (hooks_in ls) ≡ []
+none_hangs hs ls v head c p e =
     let at : newest_place v ls (length ls) ≡ 0 = sym (c.heads v) ∙ sym p ∙ e in
-    ap (λ (l : List ℕ). slice_get l 0) (sym (from_newest v ls) ∙ ap (hanging_to v ls) at)
+    sym (from_newest v ls) ∙ ap (hanging_to v ls) at
+
+pub newest_none : (hs : List ℕ) (ls : List Link) (v head : ℕ) → AreChained hs ls → head ≡ get_or hs v 0 → head ≡ 0 → slice_get (hanging_on v (hooks_in ls)) 0 ≡ None
+newest_none hs ls v head c p e = ap (λ (l : List ℕ). slice_get l 0) (none_hangs hs ls v head c p e)
 
 pub newest_some : (hs : List ℕ) (ls : List Link) (v head m : ℕ) (l : Link) → AreChained hs ls → head ≡ get_or hs v 0 → head ≡ suc m → l ≡ get_or ls m no_link → slice_get (hanging_on v (hooks_in ls)) 0 ≡ Some l.number
 newest_some hs ls v head m l c p e q =

@@ -15,7 +15,7 @@ use crate::cell::Cell;
 use crate::head::Head;
 use crate::mark::Mark;
 use crate::node::Node;
-use crate::room::make_room;
+use kl1_room::make_room;
 use kl1_text::NameValue;
 use std::alloc::{AllocError, Global};
 use std::marker::Model;
@@ -92,6 +92,7 @@ impl<N: NameValue> Cells<N> {
     }
 
     /// A new structure.
+    #[inline]
     pub fn build(&mut self, name: N, arguments: &[Cell<N>]) -> Result<u32, AllocError>
         requires { AreIn self.old.held arguments.now }
         ensures ok { IfOk result (λ s. (s ≡ length self.old.held.structures) × (self.new.held ≡ with_structure self.old.held name arguments.now)) }
@@ -105,8 +106,9 @@ impl<N: NameValue> Cells<N> {
         if number >= MOST || count > MOST || start > MOST - count {
             return Err(AllocError);
         }
-        self.nodes.reserve(1)?;
-        self.arguments.extend_from_slice(arguments)?;
+        make_room(&mut self.nodes, 1)?;
+        make_room(&mut self.arguments, count)?;
+        put_all(&mut self.arguments, arguments);
         self.nodes.push_reserved(Node {
             name,
             start: start as u32,
@@ -182,6 +184,7 @@ impl<N: NameValue> Cells<N> {
     }
 
     /// Makes room for so many more variables, structures, arguments and bindings.
+    #[inline]
     pub fn reserve(
         &mut self,
         variables: usize,
@@ -199,10 +202,10 @@ impl<N: NameValue> Cells<N> {
         {
             return Err(AllocError);
         }
-        self.slots.reserve(variables)?;
-        self.nodes.reserve(structures)?;
-        self.arguments.reserve(arguments)?;
-        self.bindings.reserve(bindings)
+        make_room(&mut self.slots, variables)?;
+        make_room(&mut self.nodes, structures)?;
+        make_room(&mut self.arguments, arguments)?;
+        make_room(&mut self.bindings, bindings)
     }
 
     /// The variable `variable` is replaced by `value` everywhere.
@@ -300,6 +303,7 @@ impl<N: NameValue> Cells<N> {
     }
 
     /// The bindings after the first `from`.
+    #[inline]
     #[tactic(auto, using(std::proofs::lemmas::List::drop_min))]
     pub fn bindings_from(&self, from: usize) -> &[Binding<N>]
         ensures { result.now ≡ drop from self.now.held.bindings }
@@ -350,6 +354,20 @@ impl<N: NameValue> Cells<N> {
             self.arguments.truncate(start as usize);
             self.nodes.truncate(structures);
         }
+    }
+}
+
+/// Puts cells behind those of a list with room for them.
+#[inline]
+fn put_all<N: NameValue>(list: &mut Vec<Cell<N>>, cells: &[Cell<N>])
+    requires room { length list.old.items + length cells.now ≤ vec_capacity list.old }
+    ensures items { list.new.items ≡ list.old.items ++ cells.now }
+    ensures capacity { vec_capacity list.new ≡ vec_capacity list.old }
+{
+    let mut left = cells;
+    while let [first, rest @ ..] = left {
+        list.push_reserved(*first);
+        left = rest;
     }
 }
 

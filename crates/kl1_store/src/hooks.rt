@@ -5,7 +5,7 @@ ghost use Rattle.kl1_store.specs.Hooks.{Hook, hanging_on};
 ghost use Rattle.kl1_store.specs.Chains.{Hung, AreChained, hook_in, hooks_in, no_link, newest_place};
 
 use crate::link::Link;
-use crate::room::make_room;
+use kl1_room::make_room;
 use std::alloc::{AllocError, Global};
 use std::marker::Model;
 
@@ -63,6 +63,7 @@ impl Hooks {
     }
 
     /// Makes memory serve for so many more heads.
+    #[inline]
     pub fn reserve_heads(&mut self, more: usize) -> Result<(), AllocError>
         ensures serves { OnOk result (self.new.covered + more ≤ self.new.memory) }
         ensures memory { self.old.memory ≤ self.new.memory }
@@ -70,10 +71,11 @@ impl Hooks {
         ensures hooks { self.new.hooks ≡ self.old.hooks }
         ensures room { self.new.room ≡ self.old.room }
     {
-        self.heads.reserve(more)
+        make_room(&mut self.heads, more)
     }
 
     /// Makes room for so many more hooks.
+    #[inline]
     pub fn reserve(&mut self, hooks: usize) -> Result<(), AllocError>
         ensures room { OnOk result (hooks ≤ self.new.room) }
         ensures hooks { self.new.hooks ≡ self.old.hooks }
@@ -83,7 +85,7 @@ impl Hooks {
         if hooks > MOST - self.links.len() {
             return Err(AllocError);
         }
-        self.links.reserve(hooks)
+        make_room(&mut self.links, hooks)
     }
 
     /// How many hooks there are.
@@ -95,6 +97,7 @@ impl Hooks {
     }
 
     /// Hangs a number on a variable.
+    #[inline]
     pub fn hang(&mut self, variable: u32, number: u64) -> Result<(), AllocError>
         requires { variable < self.old.covered }
         ensures ok { OnOk result (self.new.hooks ≡ self.old.hooks ++ record { variable = variable; number = number } ∷ []) }
@@ -109,11 +112,12 @@ impl Hooks {
             return Err(AllocError);
         }
         let before = head_of(&self.heads, variable);
-        self.links.push(Link {
+        make_room(&mut self.links, 1)?;
+        self.links.push_reserved(Link {
             number,
             variable,
             before,
-        })?;
+        });
         self.heads[variable as usize] = count as u32 + 1;
         Ok(())
     }
@@ -129,11 +133,16 @@ impl Hooks {
         Some(link_at(&self.links, head as usize - 1).number)
     }
 
-    /// Adds the numbers that hang on a variable, the newest first.
+    /// Adds the numbers that hang on a variable, the newest first. Where nothing hangs, nothing is called.
+    #[inline]
     pub fn tell(&self, variable: u32, told: &mut Vec<u64>) -> Result<(), AllocError>
         ensures { OnOk result (told.new.items ≡ told.old.items ++ hanging_on variable self.now.hooks) }
     {
-        tell_chain(&self.links, head_of(&self.heads, variable), told, variable)
+        let head = head_of(&self.heads, variable);
+        if head > 0 {
+            return tell_chain(&self.links, head, told, variable);
+        }
+        Ok(())
     }
 
     /// Keeps so many hooks, the oldest, and takes the others off.
@@ -183,7 +192,8 @@ fn tell_chain(
     let mut at = head;
     while at > 0 {
         let link = link_at(links, at as usize - 1);
-        told.push(link.number)?;
+        make_room(told, 1)?;
+        told.push_reserved(link.number);
         at = link.before;
     }
     Ok(())

@@ -24,7 +24,6 @@ mod node;
 mod occurs;
 mod point;
 mod qualified;
-mod room;
 mod same;
 mod same_scratch;
 mod scratch;

@@ -97,6 +97,7 @@ impl<N: NameValue> Store<N> {
     }
 
     /// A new structure: its number.
+    #[inline]
     pub fn build(&mut self, name: N, arguments: &[Cell<N>]) -> Result<u32, AllocError>
         requires { AreIn self.old.held arguments.now }
         ensures ok { IfOk result (λ s. (s ≡ length self.old.held.structures) × (self.new.held ≡ with_structure self.old.held name arguments.now)) }
@@ -283,6 +284,7 @@ impl<N: NameValue> Store<N> {
     }
 
     /// Makes room for so many more variables, structures, arguments and bindings: these can't be refused then.
+    #[inline]
     pub fn reserve(
         &mut self,
         variables: usize,
@@ -302,6 +304,7 @@ impl<N: NameValue> Store<N> {
     }
 
     /// Makes room for so many more hooks: to hang these can't be refused then.
+    #[inline]
     pub fn reserve_hooks(&mut self, hooks: usize) -> Result<(), AllocError>
         ensures hook_room { OnOk result (hooks ≤ self.new.hook_room) }
         ensures same { self.new.held ≡ self.old.held }
@@ -334,6 +337,7 @@ impl<N: NameValue> Store<N> {
     }
 
     /// Hangs a number on a variable.
+    #[inline]
     pub fn hang(&mut self, variable: u32, number: u64) -> Result<(), AllocError>
         requires { variable < self.old.held.variables }
         ensures ok { OnOk result (self.new.hooks ≡ self.old.hooks ++ record { variable = variable; number = number } ∷ []) }
@@ -356,6 +360,7 @@ impl<N: NameValue> Store<N> {
 
     /// Adds the numbers that hang on the variables that were bound since a point: in the order of the bindings, and on one
     /// variable the newest first.
+    #[inline]
     pub fn tell(&self, since: Point, told: &mut Vec<u64>) -> Result<(), AllocError>
         ensures { OnOk result (told.new.items ≡ told.old.items ++ told_by (drop since.sizes.bindings self.now.held.bindings) self.now.hooks) }
     {

@@ -8,6 +8,7 @@ use crate::hooks::Hooks;
 use std::alloc::AllocError;
 
 /// Adds the numbers that hang on the variables of these bindings.
+#[inline]
 pub fn tell_all<N: Copy>(
     bindings: &[Binding<N>],
     hooks: &Hooks,

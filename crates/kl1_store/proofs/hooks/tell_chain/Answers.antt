@@ -1,4 +1,4 @@
-use Rattle.std.proofs.Common.{◌-◌, arith}
+use Rattle.std.proofs.Common.{◌-◌, [], ◌∷◌, ◌++◌, ap, ◌∙◌, arith}
 use Rattle.kl1_store.proofs.Chaining.{tells_start, tells_on, tells_end, before_less}
 use Rattle.kl1_store.proofs.hooks.tell_chain.Goals as goal
 
@@ -13,7 +13,7 @@ loop-at-smaller c =
 pub loop-at-preserved : goal.loop-at-preserved
 loop-at-preserved c =
     let l = c.loop-at in
-    tells_on c.args.variable c.args.links.now.items c.args.told.now.items l.told.items c.push.new.self.items l.at (l.at - 1) c.link_at-link.result c.requires.before l.invariant (omega arith) c.link_at-link.ensures c.in_ok-push.ensures.items
+    tells_on c.args.variable c.args.links.now.items c.args.told.now.items l.told.items c.push_reserved.new.self.items l.at (l.at - 1) c.link_at-link.result c.requires.before l.invariant (omega arith) c.link_at-link.ensures (c.push_reserved.ensures.items ∙ ap (λ ls. ls ++ c.link_at-link.result.number ∷ []) c.in_ok-make_room.ensures.items)
 
 pub returns : goal.returns
 returns c =
