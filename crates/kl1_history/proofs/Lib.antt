@@ -14,3 +14,5 @@ pub mod Words
 pub mod TextEntries
 pub mod TextNames
 pub mod TextLines
+pub mod TextUnbroken
+pub mod TextJournals

@@ -1,6 +1,6 @@
 -- The lines of entries read back.
 use Rattle.std.specs.Prelude.{◌≡◌, ℕ, ◌+◌, ◌*◌, ◌-◌, ◌/◌, ◌%◌, ◌≤◌, ◌<◌, nat_le, nat_lt, ◌&&◌, Bool, true, false, if◌then◌else◌, List, [], ◌∷◌, ◌++◌, length, codes, bytes_eq, decimal, Option, Some, None, option_map, option_and_then}
-use Rattle.std.specs.List.{AllByRecursion}
+use Rattle.std.specs.List.{list_all, AllByRecursion}
 use Rattle.std.proofs.Common.{refl, sym, ap, ap₂, ◌∙◌, arith, inl, inr}
 use Rattle.std.proofs.lemmas.Bool.{and_parts, and_from, leb-true, le-leb, lt-leb, lt-ltb, le-ltb, ltb-true, cases_lt}
 use Rattle.std.proofs.lemmas.List.{append_assoc, length-append}
@@ -10,7 +10,8 @@ use Rattle.kl1_model.specs.Limits.{number_limit, most_source_bytes, most_line_by
 use Rattle.kl1_model.specs.declared.message.Message.{Message}
 use Rattle.kl1_model.specs.declared.message.Message.TheVariants.{Stop, Start, Abort, Allow}
 use Rattle.kl1_model.specs.Term.{Term}
-use Rattle.kl1_model.specs.Meaning.{is_writable, is_numbered, highest}
+use Rattle.kl1_model.specs.Text.{is_name_byte}
+use Rattle.kl1_model.specs.Meaning.{most_depth, depth, is_narrow, is_writable, is_numbered, highest}
 use Rattle.kl1_model.specs.Goal.{is_goal}
 use Rattle.kl1_model.specs.Print.{print}
 use Rattle.kl1_model.specs.Line.{before_space, behind_space, number_in}
@@ -23,6 +24,7 @@ use Rattle.kl1_history.specs.Journal.{Entry, loads, starts, sends, steps}
 use Rattle.kl1_history.specs.JournalText.{hex_digit, hex_text, hex_value, hex_bytes, entry_line, of_two, start_of, start_in, entry_by, if_line, entry_in}
 use Rattle.kl1_history.specs.TextLaws.{AreBytes, HasLine, EntriesReadBack, StrictLinesAreEntries}
 use Rattle.kl1_history.proofs.ReadBack.{printed_goals_read_back}
+use Rattle.kl1_history.proofs.ReadPlain.{prints_are_plain}
 use Rattle.kl1_history.proofs.Words.{few_digits, number_back, before_front, behind_front, decimal_no_space, highest_fits}
 
 two_back : (make : ℕ → ℕ → Entry) (a b : ℕ) → a < number_limit → b < number_limit → of_two make (decimal a ++ 32 ∷ decimal b) ≡ Some (make a b)
@@ -43,26 +45,37 @@ hex_back [] a = refl
 hex_back (b ∷ bs) a = ap₂ (λ (x : ℕ) (xs : List ℕ). x ∷ xs) (byte_back b a.0) (hex_back bs a.1)
 
 -- the facts of a start
-record Starts (allowance low high : ℕ) (t : Term) : Type 0 where
+pub record Starts (allowance low high : ℕ) (t : Term) : Type 0 where
   pub first : allowance < number_limit
   pub second : low < number_limit
   pub third : high < number_limit
   pub goal : is_goal t ≡ true
   pub printable : is_printable t ≡ true
+  pub plain : list_all is_name_byte (print t) ≡ true
 
-printable_here : (allowance low high : ℕ) (t : Term) → is_writable t ≡ true → is_numbered t ≡ true → length (start_line allowance low high t) ≤ most_line_bytes → is_printable t ≡ true
+-- the goal of a start
+record Printable (t : Term) : Type 0 where
+  back : is_printable t ≡ true
+  plain : list_all is_name_byte (print t) ≡ true
+
+printable_here : (allowance low high : ℕ) (t : Term) → is_writable t ≡ true → is_numbered t ≡ true → length (start_line allowance low high t) ≤ most_line_bytes → Printable t
 printable_here allowance low high t writable numbered short =
     let front = codes "start " ++ decimal allowance ++ codes " " ++ decimal low ++ codes " " ++ decimal high ++ codes " " in
     let few : highest t < number_limit = omega (arith, highest_fits t numbered, length-append front (print t)) in
-    and_from (is_writable t && is_numbered t) (nat_lt (highest t) number_limit) (and_from (is_writable t) (is_numbered t) writable numbered) (lt-ltb (highest t) number_limit few)
+    record {
+      back = and_from (is_writable t && is_numbered t) (nat_lt (highest t) number_limit) (and_from (is_writable t) (is_numbered t) writable numbered) (lt-ltb (highest t) number_limit few);
+      plain = prints_are_plain t (and_parts (is_narrow t) (nat_le (depth t) most_depth) writable).0 few;
+    }
 
-starts_here : (allowance low high : ℕ) (t : Term) → HasLine (starts allowance low high t) → Starts allowance low high t
+-- a start that has a line
+pub starts_here : (allowance low high : ℕ) (t : Term) → HasLine (starts allowance low high t) → Starts allowance low high t
 starts_here allowance low high t h = record {
   first = h.0;
   second = h.1;
   third = h.2;
   goal = h.3;
-  printable = printable_here allowance low high t h.4 h.5 h.6;
+  printable = (printable_here allowance low high t h.4 h.5 h.6).back;
+  plain = (printable_here allowance low high t h.4 h.5 h.6).plain;
 }
 
 by_parts : (x y z : Option ℕ) (r : Reading Term) (a l h : ℕ) (t : Term) → x ≡ Some a → y ≡ Some l → z ≡ Some h → r ≡ good t →

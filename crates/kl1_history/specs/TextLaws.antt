@@ -66,11 +66,15 @@ abbrev pub are_new_names : List (List ℕ) → List (List ℕ) → Bool
 are_new_names before [] = true
 are_new_names before (t ∷ ts) = is_text t && is_new_name before t && are_new_names (before ++ t ∷ []) ts
 
--- a journal that has a text: neither sessions nor names are too many, its names are new, and each entry has a line
+-- names that an account may have used: there aren't too many, each is the text of a name, none is built in, and no two are the same
+pub record AreNames (names : List (List ℕ)) : Type 0 where
+  pub few : length names ≤ most_names
+  pub new : IsTrue (are_new_names [] names)
+
+-- a journal that has a text: not too many sessions are open, its names may have been used, and each entry has a line
 pub record IsWritten (j : Journal) : Type 0 where
   pub sessions : j.sessions ≤ most_sessions
-  pub names : length j.names ≤ most_names
-  pub new : IsTrue (are_new_names [] j.names)
+  pub names : AreNames j.names
   pub entries : AllByRecursion HasLine j.entries
 
 -- the text of a journal

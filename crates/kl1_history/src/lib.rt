@@ -2,7 +2,7 @@
 #![tactic(auto)]
 
 ghost use Rattle.kl1_history.specs.HistoryLaws.{StaysBeside, FreshIsReplay, ReplaysStay, NamesStay};
-ghost use Rattle.kl1_history.specs.TextLaws.{EntriesReadBack, StrictLinesAreEntries, NamesReadBack, StrictLinesAreNames, HeadingsReadBack, StrictLinesAreHeadings, LinesOfLines, TextsAreLines};
+ghost use Rattle.kl1_history.specs.TextLaws.{EntriesReadBack, StrictLinesAreEntries, NamesReadBack, StrictLinesAreNames, HeadingsReadBack, StrictLinesAreHeadings, LinesOfLines, TextsAreLines, JournalsReadBack, StrictTextsAreJournals};
 
 /// An account is the replay of its journal: so is a fresh one, and it stays so through each event. What an entry does is the same
 /// beside any own name and any number of sessions, and no event changes the own name.
@@ -24,4 +24,6 @@ pub fn journal_texts_read_back()
     ensures strict_headings { StrictLinesAreHeadings }
     ensures lines { LinesOfLines }
     ensures texts { TextsAreLines }
+    ensures journals { JournalsReadBack }
+    ensures strict_journals { StrictTextsAreJournals }
 {}

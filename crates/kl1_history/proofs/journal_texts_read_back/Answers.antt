@@ -1,6 +1,7 @@
 use Rattle.kl1_history.proofs.TextEntries.{entries_read_back, strict_lines_are_entries}
 use Rattle.kl1_history.proofs.TextNames.{names_read_back, strict_lines_are_names, headings_read_back, strict_lines_are_headings}
 use Rattle.kl1_history.proofs.TextLines.{lines_of_lines, texts_are_lines}
+use Rattle.kl1_history.proofs.TextJournals.{journals_read_back, strict_texts_are_journals}
 use Rattle.kl1_history.proofs.journal_texts_read_back.Goals as goal
 
 pub returns-clause-entries : goal.returns-clause-entries
@@ -26,3 +27,9 @@ returns-clause-lines c = lines_of_lines
 
 pub returns-clause-texts : goal.returns-clause-texts
 returns-clause-texts c = texts_are_lines
+
+pub returns-clause-journals : goal.returns-clause-journals
+returns-clause-journals c = journals_read_back
+
+pub returns-clause-strict_journals : goal.returns-clause-strict_journals
+returns-clause-strict_journals c = strict_texts_are_journals
