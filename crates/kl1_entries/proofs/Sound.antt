@@ -81,7 +81,8 @@ parts_of allowance low high t lined =
 pub start_back : (allowance low high : ℕ) (t : Term) (text : List ℕ) → text ≡ print t → is_lined (starts allowance low high t) ≡ true → goal_in text ≡ t
 start_back allowance low high t text is lined = let p = parts_of allowance low high t lined in ap goal_in is ∙ goal_back t p.printable p.goal
 
-if_true : (b : Bool) (e : Entry) → b ≡ true → (if b then Some e else None) ≡ Some e
+-- a test that holds
+pub if_true : (b : Bool) (e : Entry) → b ≡ true → (if b then Some e else None) ≡ Some e
 if_true true e is = refl
 if_true false e is = cc
 
