@@ -2,7 +2,7 @@
 #![tactic(auto)]
 
 ghost use Rattle.kl1_history.specs.HistoryLaws.{StaysBeside, FreshIsReplay, ReplaysStay, NamesStay};
-ghost use Rattle.kl1_history.specs.TextLaws.{EntriesReadBack, StrictLinesAreEntries, NamesReadBack, StrictLinesAreNames, HeadingsReadBack, StrictLinesAreHeadings, LinesOfLines, TextsAreLines, JournalsReadBack, StrictTextsAreJournals};
+ghost use Rattle.kl1_history.specs.TextLaws.{EntriesReadBack, StrictLinesAreEntries, NamesReadBack, StrictLinesAreNames, HeadingsReadBack, StrictLinesAreHeadings, LinesOfLines, TextsAreLines, JournalsReadBack, StrictTextsAreJournals, FreshIsWritten, WrittenStays};
 
 /// An account is the replay of its journal: so is a fresh one, and it stays so through each event. What an entry does is the same
 /// beside any own name and any number of sessions, and no event changes the own name.
@@ -26,4 +26,11 @@ pub fn journal_texts_read_back()
     ensures texts { TextsAreLines }
     ensures journals { JournalsReadBack }
     ensures strict_journals { StrictTextsAreJournals }
+{}
+
+/// The journal of an account has a text: so has that of a fresh one, and each event, whatever becomes of it, leaves a journal that has
+/// one, if the source of a load is bytes.
+pub fn journals_stay_written()
+    ensures fresh { FreshIsWritten }
+    ensures stay { WrittenStays }
 {}
