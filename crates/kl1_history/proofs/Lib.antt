@@ -22,3 +22,4 @@ pub mod NamesKept
 pub mod ReadNames
 pub mod ModuleNames
 pub mod WrittenStays
+pub mod ReplayReplies

@@ -2,6 +2,7 @@
 #![tactic(auto)]
 
 ghost use Rattle.kl1_history.specs.HistoryLaws.{StaysBeside, FreshIsReplay, ReplaysStay, NamesStay};
+ghost use Rattle.kl1_history.specs.ReplayLaws.{RepliesOfReplays, FreshIsReplayable, ReplayableStays};
 ghost use Rattle.kl1_history.specs.TextLaws.{EntriesReadBack, StrictLinesAreEntries, NamesReadBack, StrictLinesAreNames, HeadingsReadBack, StrictLinesAreHeadings, LinesOfLines, TextsAreLines, JournalsReadBack, StrictTextsAreJournals, FreshIsWritten, WrittenStays};
 
 /// An account is the replay of its journal: so is a fresh one, and it stays so through each event. What an entry does is the same
@@ -33,4 +34,12 @@ pub fn journal_texts_read_back()
 pub fn journals_stay_written()
     ensures fresh { FreshIsWritten }
     ensures stay { WrittenStays }
+{}
+
+/// For the text of an account's journal there are written the replies to its entries, and then how many they are: the entries of such a
+/// journal are all accepted where it is replayed, and stay so through each event.
+pub fn replays_tell_replies()
+    ensures replies { RepliesOfReplays }
+    ensures fresh { FreshIsReplayable }
+    ensures stay { ReplayableStays }
 {}
