@@ -7,9 +7,9 @@ use Rattle.std.proofs.lemmas.List.Folds.{list_all-append}
 use Rattle.std.proofs.lemmas.Option.{none-some, same_Some, cond_some, option_and_then_some}
 use Rattle.kl1_model.specs.Limits.{most_arguments, most_depth}
 use Rattle.kl1_model.specs.Text.{is_text}
-use Rattle.kl1_model.specs.Term.{Term, atom, structure, Terms, none, more, count_of, list_of, terms_of}
+use Rattle.kl1_model.specs.Term.{Term, atom, count_of, list_of, terms_of}
 use Rattle.kl1_model.specs.Token.{Token, tokens_of_text}
-use Rattle.kl1_model.specs.Grammar.{Head, bare_head, head_with, GoalTree, plain_goal, urgent_goal, Body, ClauseTree, fact, rule, guarded}
+use Rattle.kl1_model.specs.Grammar.{Head, bare_head, head_with, GoalTree, plain_goal, urgent_goal, ClauseTree, fact, rule, guarded}
 use Rattle.kl1_model.specs.Reader.{clause_tree}
 use Rattle.kl1_model.specs.Numbering.{numbered_tokens}
 use Rattle.kl1_model.specs.Meaning.{pair, expression_term, series_terms, head_term, depth, is_narrow, are_narrow, is_writable, variables_in}

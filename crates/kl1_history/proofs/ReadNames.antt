@@ -1,16 +1,15 @@
 -- The names of a module that was read are the texts of names.
-use Rattle.std.specs.Prelude.{◌≡◌, ℕ, zero, suc, ◌≤◌, ◌<◌, ◌==◌, nat_le, not, ◌&&◌, ◌||◌, Bool, true, false, cond, if◌then◌else◌, List, [], ◌∷◌, ◌++◌, length, codes, bytes_eq, Option, Some, None, is_some, option_map, option_and_then, unwrap_or}
+use Rattle.std.specs.Prelude.{◌≡◌, ℕ, zero, suc, ◌≤◌, ◌==◌, nat_le, not, ◌&&◌, ◌||◌, Bool, true, false, if◌then◌else◌, List, [], ◌∷◌, ◌++◌, length, codes, bytes_eq, Option, Some, None, option_and_then, unwrap_or}
 use Rattle.std.specs.List.{list_all, AllByRecursion}
-use Rattle.std.proofs.Common.{refl, sym, ap, ◌∙◌, subst, arith, inl, inr}
+use Rattle.std.proofs.Common.{refl, sym, ap, ◌∙◌, arith, inl, inr}
 use Rattle.std.proofs.lemmas.Bool.{and_parts, and_from, le-leb, leb-true, eqb-true, or_cases}
 use Rattle.std.proofs.lemmas.List.Folds.{list_all-append}
-use Rattle.std.proofs.lemmas.Option.{none-some, same_Some, cond_some, option_and_then_some}
 use Rattle.kl1_model.specs.Limits.{most_name_bytes, number_limit}
 use Rattle.kl1_model.specs.declared.sign.Sign.{Sign}
 use Rattle.kl1_model.specs.declared.sign.Sign.TheVariants.{Neck}
 use Rattle.kl1_model.specs.Text.{is_name_byte, is_text}
 use Rattle.kl1_model.specs.Name.{is_small_letter, is_word_byte}
-use Rattle.kl1_model.specs.Token.{Token, name_token, variable_token, digits_token, minus_token, sign_token, end_token, is_variable_start, is_digit, is_blank, word_of, behind_word, digits_of, behind_digits, number_of, quoted_from, behind_comment, spelling_of, sign_at, Front, finished, broken, line_end, blank, token, first_is, bounded, name_front, quoted_front, digits_front, comment_front, dot_front, sign_front, Start, ends_line, blanks, comments, names, variables, numbers, quotes, dots, subtracts, signs_or_nothing, start_of, front_by, front_of, Placed, Tokens, token_first, tokens_by, tokens_within, tokens_of_text}
+use Rattle.kl1_model.specs.Token.{Token, name_token, variable_token, digits_token, minus_token, sign_token, end_token, is_variable_start, is_digit, is_blank, word_of, behind_word, digits_of, behind_digits, number_of, quoted_from, behind_comment, sign_at, Front, finished, broken, line_end, blank, token, first_is, name_front, quoted_front, comment_front, dot_front, sign_front, Start, ends_line, blanks, comments, names, variables, numbers, quotes, dots, subtracts, signs_or_nothing, start_of, front_by, front_of, Placed, Tokens, tokens_by, tokens_within, tokens_of_text}
 use Rattle.kl1_model.specs.Module.{Item, is_end, last_item, items_from, items_of, named_module}
 
 between : (l h b : ℕ) → nat_le l b && nat_le b h ≡ true → 32 ≤ l → h ≤ 126 → is_name_byte b ≡ true

@@ -1,7 +1,7 @@
 -- What is written for the text of a journal that is replayed.
-use Rattle.std.specs.Prelude.{◌≡◌, ℕ, zero, suc, ◌+◌, not, ◌&&◌, Bool, true, false, if◌then◌else◌, List, [], ◌∷◌, ◌++◌, length, map, Option, Some, None}
+use Rattle.std.specs.Prelude.{◌≡◌, ℕ, suc, ◌+◌, not, ◌&&◌, Bool, true, false, if◌then◌else◌, List, [], ◌∷◌, ◌++◌, length, map}
 use Rattle.std.specs.List.{AllByRecursion}
-use Rattle.std.proofs.Common.{refl, sym, ap, ap₂, ◌∙◌, arith}
+use Rattle.std.proofs.Common.{refl, sym, ap, ◌∙◌, arith}
 use Rattle.std.proofs.lemmas.Bool.{and_parts, and_from, not_from_false}
 use Rattle.std.proofs.lemmas.List.{append_assoc, append-nil}
 use Rattle.kl1_model.specs.Text.{is_text}
@@ -10,12 +10,12 @@ use Rattle.kl1_model.specs.Event.{Event, load, start, control, reduce, read, log
 use Rattle.kl1_model.specs.Step.{step}
 use Rattle.kl1_model.specs.TreeLaws.{is_refused}
 use Rattle.kl1_history.specs.Command.{reply_lines, written_lines}
-use Rattle.kl1_history.specs.Journal.{Entry, loads, starts, sends, steps, event_in, Journal, with_entry, with_event, noted, after_entries, replay, Kept, done}
-use Rattle.kl1_history.specs.JournalText.{Heading, entry_line, name_line, first_line, journal_lines, entry_in, name_in, is_new_name, heading_in, Lines, lines_of}
-use Rattle.kl1_history.specs.HistoryLaws.{beside, stepped_beside, IsReplay}
-use Rattle.kl1_history.specs.TextLaws.{HasLine, are_new_names, IsWritten, journal_text}
-use Rattle.kl1_history.specs.Replay.{written_fault, written_end, written_step, written_entry, written_entries, replay_name, written_name, written_names, written_after, written_replay, replay_output}
-use Rattle.kl1_history.specs.ReplayLaws.{are_accepted, written_replies, replayed_from, RepliesOfReplays, IsReplayable, FreshIsReplayable, ReplayableStays}
+use Rattle.kl1_history.specs.Journal.{Entry, loads, starts, sends, steps, event_in, Journal, with_entry, with_event, after_entries, Kept}
+use Rattle.kl1_history.specs.JournalText.{entry_line, name_line, is_new_name, Lines}
+use Rattle.kl1_history.specs.HistoryLaws.{beside, IsReplay}
+use Rattle.kl1_history.specs.TextLaws.{HasLine, are_new_names}
+use Rattle.kl1_history.specs.Replay.{written_fault, written_end, written_step, written_entry, written_entries, replay_name, written_name, written_names, written_after, written_replay}
+use Rattle.kl1_history.specs.ReplayLaws.{are_accepted, written_replies, replayed_from, RepliesOfReplays, FreshIsReplayable, ReplayableStays}
 use Rattle.kl1_history.proofs.Besides.{stays_beside}
 use Rattle.kl1_history.proofs.Replays.{fresh_is_replay, replays_stay}
 use Rattle.kl1_history.proofs.TextEntries.{entries_read_back}

@@ -1,11 +1,11 @@
 -- What a goal names is the text of a name.
-use Rattle.std.specs.Prelude.{◌≡◌, ℕ, zero, suc, ◌≤◌, ◌==◌, nat_le, not, ◌&&◌, Bool, true, false, if◌then◌else◌, pos, negsuc, List, [], ◌∷◌, length, codes, bytes_eq, Option, Some, None, find, option_map}
+use Rattle.std.specs.Prelude.{◌≡◌, ℕ, zero, suc, ◌≤◌, ◌==◌, nat_le, Bool, true, false, if◌then◌else◌, pos, negsuc, List, [], length, codes, bytes_eq, Option, Some, None, find, option_map}
 use Rattle.std.specs.List.{list_all}
 use Rattle.std.proofs.Common.{refl, arith}
-use Rattle.std.proofs.lemmas.Bool.{and_parts, and_from, le-leb}
+use Rattle.std.proofs.lemmas.Bool.{and_from, le-leb}
 use Rattle.kl1_model.specs.Limits.{most_name_bytes}
 use Rattle.kl1_model.specs.Text.{is_name_byte, is_text}
-use Rattle.kl1_model.specs.Term.{Term, variable, integer, atom, structure, Terms, none, more}
+use Rattle.kl1_model.specs.Term.{Term, variable, integer, atom, structure, none, more}
 use Rattle.kl1_model.specs.Arithmetic.{Evaluated, comes_to, awaits, is_no_expression, evaluated}
 use Rattle.kl1_model.specs.declared.number.Number.{Number}
 use Rattle.kl1_model.specs.declared.number.Number.TheVariants.{Value, Overflow, ZeroDivisor}
@@ -16,7 +16,7 @@ use Rattle.kl1_model.specs.Look.{Spelling, spelled, awaits_code, misspelled, spe
 use Rattle.kl1_model.specs.Control.{Control, awaits_message, tells, tells_other, ends, breaks_off, control_of}
 use Rattle.kl1_model.specs.State.{Task, monitor, reduces, Goal, Shoen, State, shoen_at}
 use Rattle.kl1_model.specs.Tree.{is_enabled}
-use Rattle.kl1_model.specs.Report.{failure, illegal_input}
+use Rattle.kl1_model.specs.Report.{failure}
 use Rattle.kl1_model.specs.Reduction.{Move, commits, raises, unifies, names, opens, goes, call_move, becomes, assigned, spells, ordered, order_of, order_move, execute_move, pair_move, built_in_move, term_move, Action, moves, reads, read_action, monitor_action, task_action, action_of}
 
 -- a text that is spelled is bytes of names, and no more of them than cells

@@ -1,7 +1,7 @@
 -- Each event leaves an account with a journal that has a text.
-use Rattle.std.specs.Prelude.{◌≡◌, ℕ, suc, ◌+◌, ◌-◌, ◌≤◌, ◌<◌, nat_le, nat_lt, ◌&&◌, Bool, true, false, if◌then◌else◌, List, [], ◌∷◌, ◌++◌, length, Option, Some, None, is_some}
+use Rattle.std.specs.Prelude.{◌≡◌, ℕ, suc, ◌+◌, ◌-◌, ◌≤◌, nat_le, nat_lt, ◌&&◌, Bool, true, false, if◌then◌else◌, List, [], ◌∷◌, ◌++◌, length, Option, Some, None, is_some}
 use Rattle.std.specs.List.{list_all, AllByRecursion}
-use Rattle.std.proofs.Common.{refl, sym, ap, ◌∙◌, subst, arith}
+use Rattle.std.proofs.Common.{refl, sym, ap, subst, arith}
 use Rattle.std.proofs.lemmas.Bool.{and_parts, leb-true, ltb-true}
 use Rattle.kl1_model.specs.Limits.{number_limit, most_source_bytes, most_line_bytes, most_priority, most_entries, most_modules, most_names, most_sessions}
 use Rattle.kl1_model.specs.Text.{is_text}
@@ -13,19 +13,18 @@ use Rattle.kl1_model.specs.Nodes.{goal_nodes}
 use Rattle.kl1_model.specs.Module.{Module, Reading, good, bad, read_module}
 use Rattle.kl1_model.specs.Match.{module_of}
 use Rattle.kl1_model.specs.State.{State, Goal, Shoen, Origin, goal_at, shoen_at, names_of, names_of_module, with_names, is_living}
-use Rattle.kl1_model.specs.Event.{Refusal, syntax, source, exists, no_shoen, shoen_ended, step_refused, too_many_names, limit_passed, journal_full, sessions_refused, Event, load, start, control, reduce, read, login, logout, reset, Reply, loaded, opened, sent, reduced, welcome, bye, Stepped, refuse, is_number, is_range, with_entry, recorded, named, limited}
+use Rattle.kl1_model.specs.Event.{Refusal, syntax, exists, shoen_ended, too_many_names, limit_passed, journal_full, sessions_refused, Event, load, start, control, reduce, read, login, logout, reset, loaded, opened, sent, reduced, welcome, bye, Stepped, refuse, is_number, is_range, with_entry, recorded, named, limited}
 use Rattle.kl1_model.specs.Opening.{start_line, may_start, has_room_to_start, with_next_variables, started_shoen, start_goal}
 use Rattle.kl1_model.specs.Sending.{may_send, has_room_to_send, sent_on, send_by, send_to}
 use Rattle.kl1_model.specs.Reduction.{Action, action_of, acted, reduced_by, reduce_goal}
 use Rattle.kl1_model.specs.Step.{with_module, load_module, step}
 use Rattle.kl1_model.specs.TreeLaws.{is_refused}
-use Rattle.kl1_history.specs.HistoryLaws.{beside, stepped_beside}
-use Rattle.kl1_history.specs.Journal.{Entry, loads, starts, sends, steps, event_in, Journal, with_entry as with_entry_more, new_journal, with_event, noted, Kept, fresh_kept, kept_after, done}
-use Rattle.kl1_history.specs.TextLaws.{AreBytes, HasLine, AreNames, IsWritten, IsWrittenDown, HasBytes, FreshIsWritten, WrittenStays}
+use Rattle.kl1_history.specs.Journal.{Entry, loads, starts, sends, steps, event_in, Journal, with_entry as with_entry_more, with_event}
+use Rattle.kl1_history.specs.TextLaws.{HasLine, AreNames, IsWritten, HasBytes, FreshIsWritten, WrittenStays}
 use Rattle.kl1_history.proofs.Besides.{stays_beside}
 use Rattle.kl1_history.proofs.Replays.{reading_stays}
 use Rattle.kl1_history.proofs.NewNames.{with_names_new, no_names, names_are_texts}
-use Rattle.kl1_history.proofs.SpelledTexts.{ActionText, MayAct, actions_name_texts}
+use Rattle.kl1_history.proofs.SpelledTexts.{MayAct, actions_name_texts}
 use Rattle.kl1_history.proofs.NamesKept.{IsNamed, same_names, open_has, acted_named, sent_has}
 use Rattle.kl1_history.proofs.ModuleNames.{module_names_are_texts}
 

@@ -7,7 +7,7 @@ use Rattle.kl1_model.specs.TreeLaws.{is_refused}
 use Rattle.kl1_history.specs.Command.{reply_lines, written_lines}
 use Rattle.kl1_history.specs.Journal.{Entry, event_in, Journal, Kept, fresh_kept, done}
 use Rattle.kl1_history.specs.HistoryLaws.{IsReplay}
-use Rattle.kl1_history.specs.TextLaws.{IsWritten, IsWrittenDown, journal_text}
+use Rattle.kl1_history.specs.TextLaws.{IsWritten, journal_text}
 use Rattle.kl1_history.specs.Replay.{replay_name, written_end, replay_output}
 
 -- whether entries are all accepted, where they are done in order

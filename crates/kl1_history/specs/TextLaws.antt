@@ -1,9 +1,8 @@
 -- What holds of the text of a journal.
-use Rattle.std.specs.Prelude.{⊤, ◌≡◌, ℕ, ◌≤◌, ◌<◌, ◌==◌, not, ◌&&◌, Bool, true, List, [], ◌∷◌, ◌++◌, length, Some, IsTrue}
+use Rattle.std.specs.Prelude.{◌≡◌, ℕ, ◌≤◌, ◌<◌, ◌==◌, not, ◌&&◌, Bool, true, List, [], ◌∷◌, ◌++◌, length, Some, IsTrue}
 use Rattle.std.specs.List.{list_all, AllByRecursion}
 use Rattle.kl1_model.specs.Limits.{number_limit, most_source_bytes, most_line_bytes, most_names, most_sessions}
 use Rattle.kl1_model.specs.Text.{is_text}
-use Rattle.kl1_model.specs.Term.{Term}
 use Rattle.kl1_model.specs.Meaning.{is_writable, is_numbered}
 use Rattle.kl1_model.specs.Goal.{is_goal}
 use Rattle.kl1_model.specs.Event.{Event, load}
@@ -11,7 +10,7 @@ use Rattle.kl1_model.specs.Sending.{may_send}
 use Rattle.kl1_model.specs.Opening.{start_line}
 use Rattle.kl1_history.specs.Command.{written_lines}
 use Rattle.kl1_history.specs.Journal.{Entry, loads, starts, sends, steps, Journal, Kept, fresh_kept, done}
-use Rattle.kl1_history.specs.JournalText.{entry_line, name_line, first_line, journal_lines, entry_in, name_in, is_new_name, Heading, heading_in, Lines, lines_of, journal_in}
+use Rattle.kl1_history.specs.JournalText.{entry_line, name_line, first_line, journal_lines, entry_in, name_in, is_new_name, Heading, heading_in, lines_of, journal_in}
 
 -- each is a byte
 abbrev pub AreBytes : List ℕ → Type 0
