@@ -1,8 +1,8 @@
 -- The lines of entries read back.
-use Rattle.std.specs.Prelude.{◌≡◌, ℕ, ◌+◌, ◌*◌, ◌-◌, ◌/◌, ◌%◌, ◌≤◌, ◌<◌, nat_le, nat_lt, ◌&&◌, Bool, true, false, if◌then◌else◌, List, [], ◌∷◌, ◌++◌, length, codes, bytes_eq, decimal, Option, Some, None, option_map, option_and_then}
-use Rattle.std.specs.List.{list_all}
+use Rattle.std.specs.Prelude.{◌≡◌, ℕ, ◌+◌, ◌*◌, ◌-◌, ◌/◌, ◌%◌, ◌≤◌, ◌<◌, nat_le, nat_lt, ◌&&◌, ◌||◌, Bool, true, false, if◌then◌else◌, List, [], ◌∷◌, ◌++◌, length, codes, bytes_eq, decimal, Option, Some, None, option_map, option_and_then}
+use Rattle.std.specs.List.{list_all, AllByRecursion}
 use Rattle.std.proofs.Common.{refl, sym, ap, ap₂, ◌∙◌, arith, inl, inr}
-use Rattle.std.proofs.lemmas.Bool.{and_parts, and_from, le-leb, lt-leb, lt-ltb, le-ltb, ltb-true, cases_lt}
+use Rattle.std.proofs.lemmas.Bool.{and_parts, and_from, or_left, or_right, leb-true, le-leb, lt-leb, lt-ltb, le-ltb, ltb-true, cases_lt}
 use Rattle.std.proofs.lemmas.List.{append_assoc, length-append}
 use Rattle.std.proofs.lemmas.Option.{none-some, same_Some}
 use Rattle.std.proofs.lemmas.Slice.Eq.{bytes_eq-Decides}
@@ -14,6 +14,7 @@ use Rattle.kl1_model.specs.Text.{is_name_byte}
 use Rattle.kl1_model.specs.Meaning.{most_depth, depth, is_narrow, is_writable, is_numbered, highest}
 use Rattle.kl1_model.specs.Goal.{is_goal}
 use Rattle.kl1_model.specs.Print.{print}
+use Rattle.kl1_model.specs.Token.{is_digit}
 use Rattle.kl1_model.specs.Line.{before_space, behind_space, number_in}
 use Rattle.kl1_model.specs.Module.{Reading, good, read_goal}
 use Rattle.kl1_model.specs.Event.{is_number}
@@ -21,7 +22,7 @@ use Rattle.kl1_model.specs.Sending.{is_message, may_send}
 use Rattle.kl1_model.specs.Opening.{start_line}
 use Rattle.kl1_model.specs.ReadLaws.{is_printable}
 use Rattle.kl1_history.specs.Journal.{Entry, loads, starts, sends, steps}
-use Rattle.kl1_history.specs.JournalText.{hex_digit, hex_text, hex_value, hex_bytes, entry_line, of_two, start_of, start_in, entry_by, if_line}
+use Rattle.kl1_history.specs.JournalText.{hex_digit, is_hex_digit, load_in, hex_text, hex_value, hex_bytes, entry_line, of_two, start_of, start_in, entry_by, if_line, entry_in}
 use Rattle.kl1_history.specs.TextLaws.{AreBytes, HasLine, EntriesReadBack, StrictLinesAreEntries}
 use Rattle.kl1_history.proofs.ReadBack.{printed_goals_read_back}
 use Rattle.kl1_history.proofs.ReadPlain.{prints_are_plain}
@@ -39,6 +40,20 @@ digit_back d small = elim (cases_lt d 10) [
 
 byte_back : (b : ℕ) → b < 256 → 16 * hex_value (hex_digit (b / 16)) + hex_value (hex_digit (b % 16)) ≡ b
 byte_back b small = rw (digit_back (b / 16) (omega arith), digit_back (b % 16) (omega arith)) (let e : 16 * (b / 16) + b % 16 ≡ b = omega arith in e)
+
+-- a digit of a byte is a hexadecimal digit
+is_hex : (d : ℕ) → d < 16 → is_hex_digit (hex_digit d) ≡ true
+is_hex d small = elim (cases_lt d 10) [
+  | inl less ↦ rw (lt-ltb d 10 less) (or_left (is_digit (48 + d)) (nat_le 97 (48 + d) && nat_le (48 + d) 102) (and_from (nat_le 48 (48 + d)) (nat_le (48 + d) 57) (le-leb 48 (48 + d) (omega arith)) (le-leb (48 + d) 57 (omega (arith, less)))))
+  | inr more ↦ rw (le-ltb d 10 more) (or_right (is_digit (87 + d)) (nat_le 97 (87 + d) && nat_le (87 + d) 102) (and_from (nat_le 97 (87 + d)) (nat_le (87 + d) 102) (le-leb 97 (87 + d) (omega (arith, more))) (le-leb (87 + d) 102 (omega (arith, small)))))
+]
+
+hex_digits : (bs : List ℕ) → AreBytes bs → list_all is_hex_digit (hex_text bs) ≡ true
+hex_digits [] a = refl
+hex_digits (b ∷ bs) a =
+    let low = hex_digit (b % 16) in
+    and_from (is_hex_digit (hex_digit (b / 16))) (list_all is_hex_digit (low ∷ hex_text bs)) (is_hex (b / 16) (let h = a.0 in omega (arith, h)))
+    (and_from (is_hex_digit low) (list_all is_hex_digit (hex_text bs)) (is_hex (b % 16) (omega arith)) (hex_digits bs a.1))
 
 hex_back : (bs : List ℕ) → AreBytes bs → hex_bytes (hex_text bs) ≡ bs
 hex_back [] a = refl
@@ -114,7 +129,7 @@ sent_more n k h = ltb-true k number_limit (and_parts (is_number n) (is_number k)
 
 -- the entry by the words of its line
 by_back : (e : Entry) → HasLine e → entry_by (before_space (entry_line e)) (behind_space (entry_line e)) ≡ Some e
-by_back (loads text) h = ap (λ bs. Some (loads bs)) (hex_back text h.0)
+by_back (loads text) h = rw (hex_digits text h.0) (ap (λ bs. Some (loads bs)) (hex_back text h.0))
 by_back (starts allowance low high t) h = ap start_in (four_parts (decimal allowance) (decimal low) (decimal high) (print t)) ∙ start_back allowance low high t (starts_here allowance low high t h)
 by_back (sends n Stop) h = ap (option_map (λ k. sends k Stop)) (number_back n (sent_number n Stop h))
 by_back (sends n Start) h = ap (option_map (λ k. sends k Start)) (number_back n (sent_number n Start h))
