@@ -3,7 +3,7 @@ use Rattle.std.specs.Prelude.{◌≡◌, refl, codes, [], ◌∷◌, ◌++◌, S
 use Rattle.kl1_model.specs.declared.message.Message.TheVariants.{Allow}
 use Rattle.kl1_model.specs.Term.{variable, integer}
 use Rattle.kl1_model.specs.State.{fresh, fresh_with}
-use Rattle.kl1_model.specs.Event.{load, start, reduce, login, logout, reset, loaded, opened, welcome, bye, was_reset, refused, too_many_names, sessions_refused}
+use Rattle.kl1_model.specs.Event.{load, start, reduce, login, logout, reset, loaded, opened, welcome, bye, was_reset, refused, step_refused, too_many_names, sessions_refused}
 use Rattle.kl1_model.specs.Step.{step}
 use Rattle.kl1_history.specs.Journal.{loads, starts, sends, steps, new_journal, replay, done}
 use Rattle.kl1_history.specs.JournalText.{journal_lines, page_of, entry_in, name_in, heading_in, journal_in}
@@ -14,7 +14,7 @@ use Rattle.kl1_model.specs.Unify.{solve_within, walk}
 use Rattle.kl1_model.specs.Tree.{path_within}
 use Rattle.kl1_model.specs.Token.{tokens_within}
 use Rattle.kl1_model.specs.Reader.{expression_at, series_by, grouped_by, body_by}
-use Rattle.kl1_laws.specs.AccountRows.{equals, stream, true_term, with_entries}
+use Rattle.kl1_laws.specs.AccountRows.{equals, numbers, stream, true_term, with_entries}
 use Rattle.kl1_laws.specs.ShoenRows.{with_counts, with_reports, with_last_shoen, with_many_names, with_modules}
 use Rattle.kl1_laws.specs.HistoryRows.{alice, no_clauses, kept_after_lines, replies_to, with_each_entry, after_reset, start_of, deeds, HistoryRowsHold}
 
@@ -42,9 +42,29 @@ entries_read_back_row : journal_in (written_lines (journal_lines with_each_entry
 unfolding digits tokens_within expression_at series_by grouped_by body_by solve_within walk path_within
 entries_read_back_row = refl
 
-replay_of_entries_row : replay (codes "alice") with_each_entry.journal ≡ with_each_entry.state
+numbers_of_the_account_row : numbers with_each_entry.state ≡ 12 ∷ 2 ∷ 1 ∷ 10 ∷ []
 unfolding digits tokens_within expression_at series_by grouped_by body_by solve_within walk path_within
-replay_of_entries_row = refl
+numbers_of_the_account_row = refl
+
+numbers_of_the_replay_row : numbers (replay (codes "alice") with_each_entry.journal) ≡ 12 ∷ 2 ∷ 1 ∷ 10 ∷ []
+unfolding digits tokens_within expression_at series_by grouped_by body_by solve_within walk path_within
+numbers_of_the_replay_row = refl
+
+reports_of_the_account_row : stream 1 with_each_entry.state ≡ codes "[started,stopped,resumed,aborted]"
+unfolding digits tokens_within expression_at series_by grouped_by body_by solve_within walk path_within
+reports_of_the_account_row = refl
+
+reports_of_the_replay_row : stream 1 (replay (codes "alice") with_each_entry.journal) ≡ codes "[started,stopped,resumed,aborted]"
+unfolding digits tokens_within expression_at series_by grouped_by body_by solve_within walk path_within
+reports_of_the_replay_row = refl
+
+names_of_the_replay_row : (replay (codes "alice") with_each_entry.journal).names ≡ codes "e" ∷ codes "f" ∷ []
+unfolding digits tokens_within expression_at series_by grouped_by body_by solve_within walk path_within
+names_of_the_replay_row = refl
+
+sessions_of_the_replay_row : (replay (codes "alice") with_each_entry.journal).sessions ≡ 1
+unfolding digits tokens_within expression_at series_by grouped_by body_by solve_within walk path_within
+sessions_of_the_replay_row = refl
 
 page_of_two_row : page_of with_each_entry.journal 6 2 ≡ codes "allow 1 5" ∷ codes "abort 1" ∷ []
 unfolding digits tokens_within expression_at series_by grouped_by body_by solve_within walk path_within
@@ -58,9 +78,13 @@ page_after_the_end_row : page_of with_each_entry.journal 12 64 ≡ []
 unfolding digits tokens_within expression_at series_by grouped_by body_by solve_within walk path_within
 page_after_the_end_row = refl
 
-refused_reduction_row : (done with_each_entry (reduce 99 1)).kept ≡ with_each_entry
+refused_reduction_row : (done with_each_entry (reduce 99 1)).reply ≡ refused step_refused
 unfolding digits tokens_within expression_at series_by grouped_by body_by solve_within walk path_within
 refused_reduction_row = refl
+
+journal_of_a_refused_reduction_row : page_of (done with_each_entry (reduce 99 1)).kept.journal 11 64 ≡ codes "reduce 1 0" ∷ []
+unfolding digits tokens_within expression_at series_by grouped_by body_by solve_within walk path_within
+journal_of_a_refused_reduction_row = refl
 
 queries_row : kept_after_lines with_each_entry (codes "status 1" ∷ codes "journal 1 64" ∷ codes "quiet" ∷ codes "journal 0 1" ∷ []) ≡ with_each_entry
 unfolding digits tokens_within expression_at series_by grouped_by body_by solve_within walk path_within
@@ -208,4 +232,4 @@ replies_of_one_row = refl
 
 -- all of them
 pub history_rows_hold : HistoryRowsHold
-history_rows_hold = record { fifth_session = fifth_session_row; sessions_closed = sessions_closed_row; session_after_another = session_after_another_row; sessions_of_a_journal = sessions_of_a_journal_row; lines_of_entries = lines_of_entries_row; entries_read_back = entries_read_back_row; replay_of_entries = replay_of_entries_row; page_of_two = page_of_two_row; page_at_the_end = page_at_the_end_row; page_after_the_end = page_after_the_end_row; refused_reduction = refused_reduction_row; queries = queries_row; account_after_a_reset = account_after_a_reset_row; journal_after_a_reset = journal_after_a_reset_row; reply_of_a_reset = reply_of_a_reset_row; names_read_back = names_read_back_row; full_journal_reset = full_journal_reset_row; full_journal_login = full_journal_login_row; names_reset = names_reset_row; names_used_again = names_used_again_row; counts_reset = counts_reset_row; shoens_reset = shoens_reset_row; reports_reset = reports_reset_row; modules_reset = modules_reset_row; load_line = load_line_row; load_line_of_other_letters = load_line_of_other_letters_row; load_line_of_capitals = load_line_of_capitals_row; load_line_of_three_digits = load_line_of_three_digits_row; start_line = start_line_row; start_line_in_another_spelling = start_line_in_another_spelling_row; allow_line = allow_line_row; allow_line_of_64_bits = allow_line_of_64_bits_row; reduce_line = reduce_line_row; reduce_line_with_a_zero = reduce_line_with_a_zero_row; reduce_line_with_two_blanks = reduce_line_with_two_blanks_row; reduce_line_with_a_blank = reduce_line_with_a_blank_row; reduce_line_with_a_return = reduce_line_with_a_return_row; empty_line = empty_line_row; name_line = name_line_row; name_line_of_no_bytes = name_line_of_no_bytes_row; name_line_with_other_quotes = name_line_with_other_quotes_row; heading_line = heading_line_row; heading_line_of_5_sessions = heading_line_of_5_sessions_row; heading_line_of_1025_names = heading_line_of_1025_names_row; events_of_one = events_of_one_row; replies_alone = replies_alone_row; replies_of_one = replies_of_one_row }
+history_rows_hold = record { fifth_session = fifth_session_row; sessions_closed = sessions_closed_row; session_after_another = session_after_another_row; sessions_of_a_journal = sessions_of_a_journal_row; lines_of_entries = lines_of_entries_row; entries_read_back = entries_read_back_row; numbers_of_the_account = numbers_of_the_account_row; numbers_of_the_replay = numbers_of_the_replay_row; reports_of_the_account = reports_of_the_account_row; reports_of_the_replay = reports_of_the_replay_row; names_of_the_replay = names_of_the_replay_row; sessions_of_the_replay = sessions_of_the_replay_row; page_of_two = page_of_two_row; page_at_the_end = page_at_the_end_row; page_after_the_end = page_after_the_end_row; refused_reduction = refused_reduction_row; journal_of_a_refused_reduction = journal_of_a_refused_reduction_row; queries = queries_row; account_after_a_reset = account_after_a_reset_row; journal_after_a_reset = journal_after_a_reset_row; reply_of_a_reset = reply_of_a_reset_row; names_read_back = names_read_back_row; full_journal_reset = full_journal_reset_row; full_journal_login = full_journal_login_row; names_reset = names_reset_row; names_used_again = names_used_again_row; counts_reset = counts_reset_row; shoens_reset = shoens_reset_row; reports_reset = reports_reset_row; modules_reset = modules_reset_row; load_line = load_line_row; load_line_of_other_letters = load_line_of_other_letters_row; load_line_of_capitals = load_line_of_capitals_row; load_line_of_three_digits = load_line_of_three_digits_row; start_line = start_line_row; start_line_in_another_spelling = start_line_in_another_spelling_row; allow_line = allow_line_row; allow_line_of_64_bits = allow_line_of_64_bits_row; reduce_line = reduce_line_row; reduce_line_with_a_zero = reduce_line_with_a_zero_row; reduce_line_with_two_blanks = reduce_line_with_two_blanks_row; reduce_line_with_a_blank = reduce_line_with_a_blank_row; reduce_line_with_a_return = reduce_line_with_a_return_row; empty_line = empty_line_row; name_line = name_line_row; name_line_of_no_bytes = name_line_of_no_bytes_row; name_line_with_other_quotes = name_line_with_other_quotes_row; heading_line = heading_line_row; heading_line_of_5_sessions = heading_line_of_5_sessions_row; heading_line_of_1025_names = heading_line_of_1025_names_row; events_of_one = events_of_one_row; replies_alone = replies_alone_row; replies_of_one = replies_of_one_row }

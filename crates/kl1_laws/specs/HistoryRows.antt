@@ -10,7 +10,7 @@ use Rattle.kl1_history.specs.JournalText.{journal_lines, page_of, entry_in, name
 use Rattle.kl1_history.specs.Alone.{Deed, only, replies_at, alone}
 use Rattle.kl1_history.specs.Command.{parse, written_lines}
 use Rattle.kl1_history.specs.Script.{done_by}
-use Rattle.kl1_laws.specs.AccountRows.{equals, stream, true_term, with_entries}
+use Rattle.kl1_laws.specs.AccountRows.{equals, numbers, stream, true_term, with_entries}
 use Rattle.kl1_laws.specs.ShoenRows.{with_counts, with_reports, with_last_shoen, with_many_names, with_modules}
 
 -- the account of alice with its journal, in which nothing has happened
@@ -61,17 +61,29 @@ pub record HistoryRowsHold : Type 0 where
   pub lines_of_entries : journal_lines with_each_entry.journal ≡ codes "journal 1 1 0" ∷ codes "load 3a2d206d6f64756c6520652e" ∷ codes "start 9 0 9 ':='(_1,f(_2))" ∷ codes "stop 1" ∷ codes "resume 1" ∷ codes "allow 1 5" ∷ codes "abort 1" ∷ codes "reduce 1 0" ∷ codes "reduce 1 0" ∷ codes "reduce 1 0" ∷ codes "reduce 1 0" ∷ []
   -- they read back
   pub entries_read_back : journal_in (written_lines (journal_lines with_each_entry.journal)) ≡ Some with_each_entry.journal
-  -- and their replay is the account
-  pub replay_of_entries : replay (codes "alice") with_each_entry.journal ≡ with_each_entry.state
+  -- variables, goals, shoens and entries of the account
+  pub numbers_of_the_account : numbers with_each_entry.state ≡ 12 ∷ 2 ∷ 1 ∷ 10 ∷ []
+  -- and of the replay of its journal
+  pub numbers_of_the_replay : numbers (replay (codes "alice") with_each_entry.journal) ≡ 12 ∷ 2 ∷ 1 ∷ 10 ∷ []
+  -- the reports of the account
+  pub reports_of_the_account : stream 1 with_each_entry.state ≡ codes "[started,stopped,resumed,aborted]"
+  -- and of the replay of its journal
+  pub reports_of_the_replay : stream 1 (replay (codes "alice") with_each_entry.journal) ≡ codes "[started,stopped,resumed,aborted]"
+  -- the names of the replay
+  pub names_of_the_replay : (replay (codes "alice") with_each_entry.journal).names ≡ codes "e" ∷ codes "f" ∷ []
+  -- and its sessions
+  pub sessions_of_the_replay : (replay (codes "alice") with_each_entry.journal).sessions ≡ 1
   -- a page of a journal
   pub page_of_two : page_of with_each_entry.journal 6 2 ≡ codes "allow 1 5" ∷ codes "abort 1" ∷ []
   -- a page that the journal ends
   pub page_at_the_end : page_of with_each_entry.journal 11 64 ≡ codes "reduce 1 0" ∷ []
   -- a page after the end
   pub page_after_the_end : page_of with_each_entry.journal 12 64 ≡ []
-  -- a refused reduction leaves account and journal
-  pub refused_reduction : (done with_each_entry (reduce 99 1)).kept ≡ with_each_entry
-  -- so do queries, and lines that are no command
+  -- a reduction of no goal is refused
+  pub refused_reduction : (done with_each_entry (reduce 99 1)).reply ≡ refused step_refused
+  -- and leaves the journal
+  pub journal_of_a_refused_reduction : page_of (done with_each_entry (reduce 99 1)).kept.journal 11 64 ≡ codes "reduce 1 0" ∷ []
+  -- queries, and lines that are no command, leave account and journal
   pub queries : kept_after_lines with_each_entry (codes "status 1" ∷ codes "journal 1 64" ∷ codes "quiet" ∷ codes "journal 0 1" ∷ []) ≡ with_each_entry
   -- after a reset the account is fresh but for its names and sessions
   pub account_after_a_reset : (done with_each_entry reset).kept.state ≡ fresh_with (codes "alice") (codes "e" ∷ codes "f" ∷ []) 1
