@@ -10,3 +10,9 @@ pub mod ReadPlain
 pub mod ReadPlanted
 pub mod ReadStrict
 pub mod ReadTerms
+pub mod Words
+pub mod TextEntries
+pub mod TextNames
+pub mod TextLines
+pub mod TextUnbroken
+pub mod TextJournals

@@ -5,3 +5,4 @@ pub mod Command
 pub mod Script
 pub mod Replay
 pub mod HistoryLaws
+pub mod TextLaws
