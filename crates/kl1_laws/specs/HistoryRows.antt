@@ -1,11 +1,11 @@
 -- Rows of sessions, resets, journals and replays: what accounts come to in the course of events.
-use Rattle.std.specs.Prelude.{◌≡◌, codes, List, [], ◌∷◌, ◌++◌, Option, Some, None, pos, ℕ}
-use Rattle.kl1_model.specs.declared.message.Message.TheVariants.{Stop, Start, Abort, Allow}
-use Rattle.kl1_model.specs.Term.{Term, variable, integer, atom}
+use Rattle.std.specs.Prelude.{◌≡◌, codes, List, [], ◌∷◌, ◌++◌, Some, None, pos, ℕ}
+use Rattle.kl1_model.specs.declared.message.Message.TheVariants.{Allow}
+use Rattle.kl1_model.specs.Term.{variable, integer, atom}
 use Rattle.kl1_model.specs.State.{State, fresh, fresh_with}
-use Rattle.kl1_model.specs.Event.{Event, load, start, reduce, login, logout, reset, Reply, loaded, opened, reduced, welcome, bye, was_reset, refused, step_refused, too_many_names, journal_full, sessions_refused}
+use Rattle.kl1_model.specs.Event.{Event, load, start, reduce, login, logout, reset, Reply, loaded, opened, welcome, bye, was_reset, refused, step_refused, too_many_names, sessions_refused}
 use Rattle.kl1_model.specs.Step.{step}
-use Rattle.kl1_history.specs.Journal.{Entry, loads, starts, sends, steps, Journal, new_journal, replay, Kept, done, fresh_kept}
+use Rattle.kl1_history.specs.Journal.{loads, starts, sends, steps, new_journal, replay, Kept, done, fresh_kept}
 use Rattle.kl1_history.specs.JournalText.{journal_lines, page_of, entry_in, name_in, heading_in, journal_in}
 use Rattle.kl1_history.specs.Alone.{Deed, only, replies_at, alone}
 use Rattle.kl1_history.specs.Command.{parse, written_lines}
