@@ -634,6 +634,14 @@ modules_loaded_at_that_moment_script = codes "accounts alice bob" ++ 10 ∷ [] +
 abbrev pub modules_loaded_at_that_moment_output : List ℕ
 modules_loaded_at_that_moment_output = codes "alice + shoen 1" ++ 10 ∷ [] ++ codes "alice + 1" ++ 10 ∷ [] ++ codes "alice + shoen 2" ++ 10 ∷ [] ++ codes "alice + loaded app" ++ 10 ∷ [] ++ codes "alice + 2" ++ 10 ∷ [] ++ codes "alice + app:app([],a,_1)" ++ 10 ∷ [] ++ codes "alice + app:app([],a,a)" ++ 10 ∷ []
 
+-- the bytes of modules_of_two_accounts.script
+abbrev pub modules_of_two_accounts_script : List ℕ
+modules_of_two_accounts_script = codes "accounts alice bob" ++ 10 ∷ [] ++ codes "bob load 12" ++ 10 ∷ [] ++ codes ":- module z." ++ 10 ∷ [] ++ codes "alice load 12" ++ 10 ∷ [] ++ codes ":- module a." ++ 10 ∷ [] ++ codes "bob load 12" ++ 10 ∷ [] ++ codes ":- module a." ++ 10 ∷ [] ++ codes "alice load 12" ++ 10 ∷ [] ++ codes ":- module z." ++ 10 ∷ [] ++ codes "alice modules" ++ 10 ∷ [] ++ codes "bob modules" ++ 10 ∷ []
+
+-- the bytes of modules_of_two_accounts.expected
+abbrev pub modules_of_two_accounts_output : List ℕ
+modules_of_two_accounts_output = codes "bob + loaded z" ++ 10 ∷ [] ++ codes "alice + loaded a" ++ 10 ∷ [] ++ codes "bob + loaded a" ++ 10 ∷ [] ++ codes "alice + loaded z" ++ 10 ∷ [] ++ codes "alice + 2" ++ 10 ∷ [] ++ codes "alice a 12 0" ++ 10 ∷ [] ++ codes "alice z 12 0" ++ 10 ∷ [] ++ codes "bob + 2" ++ 10 ∷ [] ++ codes "bob z 12 0" ++ 10 ∷ [] ++ codes "bob a 12 0" ++ 10 ∷ []
+
 -- the bytes of names_before_the_first_space.script
 abbrev pub names_before_the_first_space_script : List ℕ
 names_before_the_first_space_script = codes "accounts alice bob" ++ 10 ∷ [] ++ codes "alice" ++ 10 ∷ [] ++ codes "alice " ++ 10 ∷ [] ++ codes "bob run 0" ++ 10 ∷ [] ++ codes "carol" ++ 10 ∷ [] ++ codes " alice run 0" ++ 10 ∷ [] ++ codes "alice" ++ 9 ∷ [] ++ codes "run 0" ++ 10 ∷ [] ++ codes "alice " ++ 9 ∷ [] ++ codes "run" ++ 9 ∷ [] ++ 9 ∷ [] ++ codes "0 " ++ 9 ∷ [] ++ 10 ∷ [] ++ codes "alice run 0" ++ 13 ∷ [] ++ 13 ∷ [] ++ 10 ∷ []
@@ -649,6 +657,14 @@ names_from_codes_script = codes "accounts alice" ++ 10 ∷ [] ++ codes "alice st
 -- the bytes of names_from_codes.expected
 abbrev pub names_from_codes_output : List ℕ
 names_from_codes_output = codes "alice + shoen 1" ++ 10 ∷ [] ++ codes "alice + 1" ++ 10 ∷ [] ++ codes "alice + atom_from([104,105],hi)" ++ 10 ∷ [] ++ codes "alice + shoen 2" ++ 10 ∷ [] ++ codes "alice + shoen 3" ++ 10 ∷ [] ++ codes "alice + reduced" ++ 10 ∷ [] ++ codes "alice + '='('[]'(a),'[]'(a))" ++ 10 ∷ []
+
+-- the bytes of names_in_order_of_first_use.script
+abbrev pub names_in_order_of_first_use_script : List ℕ
+names_in_order_of_first_use_script = codes "accounts alice bob" ++ 10 ∷ [] ++ codes "bob start 1 0 1 zeta = alpha" ++ 10 ∷ [] ++ codes "alice start 1 0 1 alpha = f(zeta,alpha)" ++ 10 ∷ [] ++ codes "bob reset" ++ 10 ∷ [] ++ codes "alice reset" ++ 10 ∷ [] ++ codes "alice journal 1 64" ++ 10 ∷ [] ++ codes "bob journal 1 64" ++ 10 ∷ []
+
+-- the bytes of names_in_order_of_first_use.expected
+abbrev pub names_in_order_of_first_use_output : List ℕ
+names_in_order_of_first_use_output = codes "bob + shoen 1" ++ 10 ∷ [] ++ codes "alice + shoen 1" ++ 10 ∷ [] ++ codes "bob + reset" ++ 10 ∷ [] ++ codes "alice + reset" ++ 10 ∷ [] ++ codes "alice + 4" ++ 10 ∷ [] ++ codes "alice journal 1 0 3" ++ 10 ∷ [] ++ codes "alice name alpha" ++ 10 ∷ [] ++ codes "alice name f" ++ 10 ∷ [] ++ codes "alice name zeta" ++ 10 ∷ [] ++ codes "bob + 3" ++ 10 ∷ [] ++ codes "bob journal 1 0 2" ++ 10 ∷ [] ++ codes "bob name zeta" ++ 10 ∷ [] ++ codes "bob name alpha" ++ 10 ∷ []
 
 -- the bytes of names_in_quotes.script
 abbrev pub names_in_quotes_script : List ℕ
@@ -873,6 +889,14 @@ reset_keeps_names_script = codes "accounts alice bob" ++ 10 ∷ [] ++ codes "ali
 -- the bytes of reset_keeps_names.expected
 abbrev pub reset_keeps_names_output : List ℕ
 reset_keeps_names_output = codes "alice + loaded e" ++ 10 ∷ [] ++ codes "alice + 1" ++ 10 ∷ [] ++ codes "alice e 12 0" ++ 10 ∷ [] ++ codes "alice + 2" ++ 10 ∷ [] ++ codes "alice journal 1 0 0" ++ 10 ∷ [] ++ codes "alice load 3a2d206d6f64756c6520652e" ++ 10 ∷ [] ++ codes "alice + reset" ++ 10 ∷ [] ++ codes "alice + 2" ++ 10 ∷ [] ++ codes "alice journal 1 0 1" ++ 10 ∷ [] ++ codes "alice name e" ++ 10 ∷ [] ++ codes "alice + 0" ++ 10 ∷ [] ++ codes "alice + loaded e" ++ 10 ∷ [] ++ codes "alice + 3" ++ 10 ∷ [] ++ codes "alice journal 1 0 1" ++ 10 ∷ [] ++ codes "alice name e" ++ 10 ∷ [] ++ codes "alice load 3a2d206d6f64756c6520652e" ++ 10 ∷ []
+
+-- the bytes of reset_of_another_account.script
+abbrev pub reset_of_another_account_script : List ℕ
+reset_of_another_account_script = codes "accounts alice bob" ++ 10 ∷ [] ++ codes "alice start 9 0 9 X := Y" ++ 10 ∷ [] ++ codes "bob start 9 0 9 X := Y" ++ 10 ∷ [] ++ codes "bob login" ++ 10 ∷ [] ++ codes "bob reset" ++ 10 ∷ [] ++ codes "bob status 1" ++ 10 ∷ [] ++ codes "alice status 1" ++ 10 ∷ [] ++ codes "alice journal 1 64" ++ 10 ∷ [] ++ codes "bob journal 1 64" ++ 10 ∷ []
+
+-- the bytes of reset_of_another_account.expected
+abbrev pub reset_of_another_account_output : List ℕ
+reset_of_another_account_output = codes "alice + shoen 1" ++ 10 ∷ [] ++ codes "bob + shoen 1" ++ 10 ∷ [] ++ codes "bob + welcome bob" ++ 10 ∷ [] ++ codes "bob + reset" ++ 10 ∷ [] ++ codes "bob - 4 noshoen" ++ 10 ∷ [] ++ codes "alice + running 0 9 1" ++ 10 ∷ [] ++ codes "alice + 2" ++ 10 ∷ [] ++ codes "alice journal 1 0 0" ++ 10 ∷ [] ++ codes "alice start 9 0 9 ':='(_1,_2)" ++ 10 ∷ [] ++ codes "bob + 1" ++ 10 ∷ [] ++ codes "bob journal 1 1 0" ++ 10 ∷ []
 
 -- the bytes of reversed_list.script
 abbrev pub reversed_list_script : List ℕ
@@ -1179,8 +1203,10 @@ pub record ExamplesHold : Type 0 where
   pub module_without_clauses : output module_without_clauses_script ≡ module_without_clauses_output
   pub modules_are_listed : output modules_are_listed_script ≡ modules_are_listed_output
   pub modules_loaded_at_that_moment : output modules_loaded_at_that_moment_script ≡ modules_loaded_at_that_moment_output
+  pub modules_of_two_accounts : output modules_of_two_accounts_script ≡ modules_of_two_accounts_output
   pub names_before_the_first_space : output names_before_the_first_space_script ≡ names_before_the_first_space_output
   pub names_from_codes : output names_from_codes_script ≡ names_from_codes_output
+  pub names_in_order_of_first_use : output names_in_order_of_first_use_script ≡ names_in_order_of_first_use_output
   pub names_in_quotes : output names_in_quotes_script ≡ names_in_quotes_output
   pub names_of_63_and_64_bytes : output names_of_63_and_64_bytes_script ≡ names_of_63_and_64_bytes_output
   pub nested_patterns : output nested_patterns_script ≡ nested_patterns_output
@@ -1209,6 +1235,7 @@ pub record ExamplesHold : Type 0 where
   pub report_that_holds_its_tail : output report_that_holds_its_tail_script ≡ report_that_holds_its_tail_output
   pub reset_after_each_event : output reset_after_each_event_script ≡ reset_after_each_event_output
   pub reset_keeps_names : output reset_keeps_names_script ≡ reset_keeps_names_output
+  pub reset_of_another_account : output reset_of_another_account_script ≡ reset_of_another_account_output
   pub reversed_list : output reversed_list_script ≡ reversed_list_output
   pub second_variable_wakes : output second_variable_wakes_script ≡ second_variable_wakes_output
   pub sessions_stay_through_a_reset : output sessions_stay_through_a_reset_script ≡ sessions_stay_through_a_reset_output
