@@ -6,3 +6,4 @@ pub mod Script
 pub mod Replay
 pub mod HistoryLaws
 pub mod TextLaws
+pub mod ReplayLaws
