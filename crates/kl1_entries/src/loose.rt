@@ -144,7 +144,7 @@ fn message_in(word: &[u8], rest: &[u8]) -> Option<Event>
 }
 
 /// The event that a line may be, by its first word and what is after that.
-pub(crate) fn event_by(
+fn event_by(
     alloc: Global,
     word: &[u8],
     rest: &[u8],
@@ -161,4 +161,12 @@ pub(crate) fn event_by(
         return start_in(alloc, rest);
     }
     Ok(message_in(word, rest))
+}
+
+/// The event that a line may be.
+pub(crate) fn loose_event(alloc: Global, line: &[u8]) -> Result<Option<Event>, AllocError>
+    ensures { IfOk result (λ e. option_map event_of e ≡ option_map event_in (entry_by (before_space line.now) (behind_space line.now))) }
+{
+    let (word, rest) = split_name(line);
+    event_by(alloc, word, rest)
 }
