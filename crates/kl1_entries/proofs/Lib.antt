@@ -6,3 +6,4 @@ pub mod Joined
 pub mod Feeds
 pub mod BuiltIns
 pub mod LinesRead
+pub mod TextsRead

@@ -1,8 +1,8 @@
 -- The entry whose line a line is.
-use Rattle.std.proofs.Common.{◌≡◌, ℕ, zero, suc, ◌<◌, ◌≤◌, ◌+◌, ◌*◌, ◌==◌, ◌&&◌, ◌⊎◌, inl, inr, Bool, true, false, if◌then◌else◌, List, [], ◌∷◌, ◌++◌, length, codes, bytes_eq, refl, sym, ap, subst, ◌∙◌, arith}
+use Rattle.std.proofs.Common.{◌≡◌, ℕ, suc, ◌<◌, ◌≤◌, ◌+◌, ◌*◌, ◌==◌, ◌&&◌, ◌⊎◌, inl, inr, Bool, true, false, if◌then◌else◌, List, [], ◌∷◌, length, codes, bytes_eq, refl, sym, ap, subst, ◌∙◌, arith}
 use Rattle.std.specs.Prelude.{nat_le, nat_lt, Option, Some, None, option_map, option_and_then}
 use Rattle.std.specs.List.{list_all}
-use Rattle.std.proofs.lemmas.Bool.{and_from, and_parts, lt-ltb, le-leb, leb-true, ltb-true}
+use Rattle.std.proofs.lemmas.Bool.{and_from, and_parts, le-leb}
 use Rattle.std.proofs.lemmas.Option.{option_and_then_some, same_Some}
 use Rattle.std.proofs.lemmas.Slice.Eq.{bytes_eq-Decides}
 use Rattle.kl1_model.specs.Limits.{number_limit, most_digits, most_line_bytes}
@@ -18,7 +18,7 @@ use Rattle.kl1_model.specs.Module.{Reading, good, bad, read_goal}
 use Rattle.kl1_model.specs.Opening.{start_line}
 use Rattle.kl1_model.specs.Sending.{may_send}
 use Rattle.kl1_history.specs.Journal.{Entry, loads, starts, sends, steps, event_in}
-use Rattle.kl1_history.specs.JournalText.{is_hex_digit, hex_text, hex_bytes, load_in, of_two, start_of, start_in, entry_by, entry_line, if_line, entry_in}
+use Rattle.kl1_history.specs.JournalText.{is_hex_digit, hex_bytes, load_in, of_two, start_of, start_in, entry_by, entry_line, if_line, entry_in}
 use Rattle.kl1_history.proofs.ReadStrict.{goals_read_are_printable}
 use Rattle.kl1_history.proofs.TextEntries.{length_hex}
 use Rattle.kl1_entries.specs.Lined.{is_lined, if_lined, lined_entry}
@@ -102,8 +102,8 @@ start_lined rest e h small few =
     (λ low second n. option_and_then_some (λ high. start_of a low high (read_goal text)) (number_in (before_space c)) e n
     (λ high third o. start_by a low high (read_goal text) e o
     (λ t read is.
-        let facts = goals_read_are_printable text t less read in
-        ap is_lined (sym is) ∙ start_from a low high t (number_read (before_space rest) a first) (number_read (before_space b) low second) (number_read (before_space c) high third) facts.1 facts.0 (subst (λ (d : Entry). length (entry_line d) ≤ most_line_bytes) (sym is) few)))))
+    let facts = goals_read_are_printable text t less read in
+    ap is_lined (sym is) ∙ start_from a low high t (number_read (before_space rest) a first) (number_read (before_space b) low second) (number_read (before_space c) high third) facts.1 facts.0 (subst (λ (d : Entry). length (entry_line d) ≤ most_line_bytes) (sym is) few)))))
 
 sent_lined : (m : Message) → (n : ℕ) → may_send n m ≡ true → is_lined (sends n m) ≡ true
 sent_lined m n h = h

@@ -1,5 +1,5 @@
 -- How the text of a journal is read.
-use Rattle.std.specs.Prelude.{◌≡◌, ℕ, ◌∷◌, [], List, Bool, false, if◌then◌else◌, ◌==◌, length, bytes_eq, codes, Option, Some, None, option_map, option_and_then}
+use Rattle.std.specs.Prelude.{ℕ, ◌∷◌, [], List, Bool, false, if◌then◌else◌, ◌==◌, length, bytes_eq, codes, Option, Some, None, option_map, option_and_then}
 use Rattle.kl1_model.specs.declared.message.Message.TheVariants.{Stop, Start, Abort, Allow}
 use Rattle.kl1_model.specs.Line.{before_space, behind_space, number_in}
 use Rattle.kl1_history.specs.Journal.{Entry, sends, Journal, with_entry}

@@ -52,7 +52,10 @@ pub fn heading_of(line: &[u8]) -> Option<Heading>
     let (first, second) = split_name(rest);
     let sessions = number_in(first)?;
     let names = number_in(second)?;
-    if sessions <= MOST_SESSIONS && names <= MOST_NAMES as u64 && is_first_line(line, sessions, names) {
+    if sessions <= MOST_SESSIONS
+        && names <= MOST_NAMES as u64
+        && is_first_line(line, sessions, names)
+    {
         Some(Heading { sessions, names })
     } else {
         None

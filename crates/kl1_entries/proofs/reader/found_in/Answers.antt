@@ -3,7 +3,7 @@ use Rattle.std.specs.Prelude.{Some, None, option_map}
 use Rattle.kl1_history.specs.Journal.{Entry, event_in}
 use Rattle.kl1_history.specs.JournalText.{entry_in}
 use Rattle.kl1_event.specs.Views.{event_of}
-use Rattle.kl1_entries.proofs.LinesRead.{none_found, IsFound, found, not_found}
+use Rattle.kl1_entries.proofs.LinesRead.{none_found, found, not_found}
 use Rattle.kl1_entries.proofs.reader.found_in.Goals as goal
 
 none_here : (c : goal.In_default) → entry_in c.args.line.now ≡ None

@@ -1,4 +1,4 @@
-use Rattle.std.proofs.Common.{◌≡◌, ◌-◌, ◌≤◌, [], length, true, vec_len}
+use Rattle.std.proofs.Common.{◌≡◌, ◌-◌, ◌≤◌, [], length, true}
 use Rattle.kl1_history.specs.TextLaws.{are_new_names}
 use Rattle.kl1_entries.specs.Reading.{read_after}
 use Rattle.kl1_entries.proofs.reader.read_names.Given as goal
