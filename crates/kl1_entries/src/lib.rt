@@ -13,4 +13,4 @@ mod whole;
 pub use entries::Entries;
 pub use entry::Entry;
 pub use journal::Journal;
-pub use prepared::{Prepared, entry_for};
+pub use prepared::{Prepared, entry_for, step_for};
