@@ -20,6 +20,6 @@ pub use entry::Entry;
 pub use heading::{Heading, heading_of};
 pub use journal::Journal;
 pub use name::name_of;
-pub use prepared::{Prepared, entry_for};
+pub use prepared::{Prepared, entry_for, step_for};
 pub use reader::{entry_of, may_follow};
 pub use text::next_line;

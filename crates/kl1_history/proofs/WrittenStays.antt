@@ -121,7 +121,7 @@ reduce_named s clause None h = h
 reduce_named s clause (Some g) h = reduced_named s g (action_of s g clause) (actions_name_texts s g clause) h
 
 -- each event leaves names that may have been used
-step_named : (s : State) (e : Event) → IsNamed s → IsNamed (step s e).state
+pub step_named : (s : State) (e : Event) → IsNamed s → IsNamed (step s e).state
 step_named s (load text) h = named_if (nat_le (length text) most_source_bytes) syntax s (load_module s (read_module text)) (λ short. load_named s (read_module text) (module_names_are_texts text) h) h
 step_named s (start allowance low high t) h = start_named s allowance low high t h
 step_named s (control n m) h = named_if (may_send n m) syntax s (send_to s n m (shoen_at n s.shoens)) (λ may. send_named s n m (shoen_at n s.shoens) h) h

@@ -1,0 +1,2 @@
+pub mod Lodgings
+pub mod Runs
