@@ -57,7 +57,7 @@ impl<A: AtomSource, C: CodeSource> UserState<A, C> {
     }
 
     /// An account of this name in which nothing has happened but that it has used `texts`, and that `sessions` sessions are open. The
-    /// seat knows no name before it and these after it; where memory is refused, it knows none.
+    /// seat knows no name before it and these after it; if memory is refused, it knows none.
     pub fn with_names(
         alloc: Global,
         name: AccountName,

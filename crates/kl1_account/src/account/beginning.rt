@@ -38,7 +38,7 @@ impl<C: CodeSource> Account<C> {
     }
 
     /// An account of this name in which nothing has happened but that it has used `texts`, and that `sessions` sessions are open. The
-    /// seat knows no name before it and these after it; where memory is refused, it knows none.
+    /// seat knows no name before it and these after it; if memory is refused, it knows none.
     pub fn with_names<A: AtomSource>(
         alloc: Global,
         name: AccountName,
@@ -65,7 +65,7 @@ impl<C: CodeSource> Account<C> {
         Ok(Account::blank(alloc, name, store, known, sessions))
     }
 
-    /// Makes the account fresh again; its names and its sessions stay. Where memory is refused, nothing changes.
+    /// Makes the account fresh again; its names and its sessions stay. If memory is refused, nothing changes.
     pub fn reset(&mut self) -> Result<(), AllocError>
         ensures step { OnOk result ((f : Reading) → Fits self.old.names f → step (state_of f self.old) reset ≡ record { state = state_of f self.new; reply = was_reset }) }
         ensures own { self.new.own_name ≡ self.old.own_name }

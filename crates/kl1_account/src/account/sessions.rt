@@ -13,7 +13,7 @@ use kl1_event::{Refusal, Reply};
 use kl1_model::limits::MOST_SESSIONS;
 
 impl<C: CodeSource> Account<C> {
-    /// Opens a session, where fewer than 4 are open. It takes no memory.
+    /// Opens a session, if fewer than 4 are open. It takes no memory.
     pub fn login(&mut self) -> Reply
         ensures step { (f : Reading) → step (state_of f self.old) login ≡ record { state = state_of f self.new; reply = reply_of result } }
         ensures names { self.new.names ≡ self.old.names }
@@ -26,7 +26,7 @@ impl<C: CodeSource> Account<C> {
         Reply::Welcome(self.name.text())
     }
 
-    /// Closes a session, where one is open. It takes no memory.
+    /// Closes a session, if one is open. It takes no memory.
     pub fn logout(&mut self) -> Reply
         ensures step { (f : Reading) → step (state_of f self.old) logout ≡ record { state = state_of f self.new; reply = reply_of result } }
         ensures names { self.new.names ≡ self.old.names }

@@ -1,0 +1,5 @@
+pub mod Lined
+pub mod Codes
+pub mod Slots
+pub mod Shown
+pub mod Reading
