@@ -7,7 +7,7 @@ use Rattle.kl1_model.specs.Event.{Stepped, refuse, is_number, syntax, journal_fu
 use Rattle.kl1_model.specs.Reduction.{Action, action_of, reduced_by, reduce_goal}
 use Rattle.kl1_model.specs.Step.{step}
 use Rattle.kl1_model.specs.Choice.{Chosen, first}
-use Rattle.kl1_model.specs.Command.{Going, run_choice, run_on, stopped_by}
+use Rattle.kl1_history.specs.Command.{Going, run_choice, run_on, stopped_by}
 use Rattle.kl1_event.specs.Views.{refusal_of}
 use Rattle.kl1_command.specs.declared.first_step.FirstStep.{FirstStep}
 use Rattle.kl1_command.specs.declared.first_step.FirstStep.TheVariants as first_step

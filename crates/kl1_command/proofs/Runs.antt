@@ -3,7 +3,7 @@ use Rattle.std.proofs.Common.{◌≡◌, ℕ, suc, ◌+◌, ◌-◌, ◌<◌, No
 use Rattle.kl1_model.specs.State.{State}
 use Rattle.kl1_model.specs.Event.{Refusal, ran}
 use Rattle.kl1_model.specs.Choice.{first}
-use Rattle.kl1_model.specs.Command.{Going, stopped_by, run_choice, run_from}
+use Rattle.kl1_history.specs.Command.{Going, stopped_by, run_choice, run_from}
 
 -- runs from one account go on at another behind so many steps
 abbrev pub GoesOn : State → ℕ → State → Type 0

@@ -2,7 +2,7 @@
 use Rattle.std.specs.Prelude.{◌≡◌, ℕ, suc, ◌<◌, Option, Some, None}
 use Rattle.kl1_model.specs.State.{State}
 use Rattle.kl1_model.specs.Event as model
-use Rattle.kl1_model.specs.Command.{Command, does, run, Going, run_choice, stopped_by, run_from, act}
+use Rattle.kl1_history.specs.Command.{Command, does, run, Going, run_choice, stopped_by, run_from, act}
 use Rattle.kl1_model.specs.Choice.{first}
 use Rattle.kl1_event.specs.Views.{refusal_of, reply_of}
 use Rattle.kl1_command.specs.declared.performed.Performed.{Performed}

@@ -1,7 +1,7 @@
 // The commands of lines and records.
 
 ghost use Rattle.std.specs.Prelude.{◌≡◌, IfOk, Some};
-ghost use Rattle.kl1_model.specs.Command.{parse, command_by, command_of, does, runs, asks_value, asks_status, asks_modules, asks_quiet, start_command, start_with, reduce_command, allow_command, send_command, reports_command};
+ghost use Rattle.kl1_history.specs.Command.{parse, command_by, command_of, does, runs, asks_value, asks_status, asks_modules, asks_quiet, start_command, start_with, reduce_command, allow_command, send_command, reports_command};
 ghost use Rattle.kl1_model.specs.Module.{read_goal};
 ghost use Rattle.kl1_lines.specs.Records.{request_of};
 ghost use Rattle.kl1_event.specs.Views.{event_of};

@@ -1,7 +1,7 @@
 // What a command does to an account.
 
 ghost use Rattle.std.specs.Prelude.{◌≡◌};
-ghost use Rattle.kl1_model.specs.Command as model;
+ghost use Rattle.kl1_history.specs.Command as model;
 ghost use Rattle.kl1_model.specs.State.{State};
 ghost use Rattle.kl1_event.specs.Views.{refusal_of, reply_of};
 ghost use Rattle.kl1_command.specs.Commands.{command_view};

@@ -1,9 +1,9 @@
 // The lines of replies.
 
 ghost use Rattle.std.specs.Prelude.{◌≡◌, ◌++◌, ◌∷◌, [], codes, decimal, length, map, take, option_map, OnOk, OnErr};
-ghost use Rattle.kl1_model.specs.Command.{reply_lines, written_lines, condition_word};
+ghost use Rattle.kl1_history.specs.Command.{reply_lines, written_lines, condition_word};
 ghost use Rattle.kl1_model.specs.Event.{refused, status_is, listed};
-ghost use Rattle.kl1_model.specs.Script.{written_reply};
+ghost use Rattle.kl1_history.specs.Script.{written_reply};
 ghost use Rattle.kl1_event.specs.Views.{refusal_of, reply_of};
 ghost use Rattle.kl1_command.specs.Replies.{front_of, written_after};
 

@@ -7,8 +7,8 @@ use Rattle.kl1_model.specs.State.{fresh, shoen_at}
 use Rattle.kl1_model.specs.Event.{load, start, reduce, reduced, ran, quiet_is, refused, syntax, exists, step_refused, journal_full}
 use Rattle.kl1_model.specs.Step.{step, origin_at}
 use Rattle.kl1_model.specs.Choice.{first, quiet}
-use Rattle.kl1_model.specs.Command.{run, parse, act}
-use Rattle.kl1_model.specs.Script.{done_by}
+use Rattle.kl1_history.specs.Command.{run, parse, act}
+use Rattle.kl1_history.specs.Script.{done_by}
 use Rattle.std.specs.Fmt.{digits}
 use Rattle.kl1_model.specs.Unify.{solve_within, walk}
 use Rattle.kl1_model.specs.Tree.{path_within}

@@ -5,15 +5,5 @@ pub mod UnifyAnswer
 pub mod UnifyDerivation
 pub mod UnifyFails
 pub mod AccountRowProofs
-pub mod LexWords
-pub mod LexFronts
-pub mod ReadPlanted
-pub mod ReadAgrees
-pub mod ReadTerms
-pub mod ReadNumbers
-pub mod ReadBack
-pub mod ReadCounts
-pub mod ReadStrict
-pub mod ReadPlain
 pub mod GuardRowProofs
 pub mod ShoenRowProofs

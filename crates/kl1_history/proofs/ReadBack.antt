@@ -15,11 +15,11 @@ use Rattle.kl1_model.specs.Print.{print}
 use Rattle.kl1_model.specs.Module.{Reading, good, bad, startable, bare_tokens, first_line, term_of_tokens, goal_of_tokens, read_goal}
 use Rattle.kl1_model.specs.ReadLaws.{tokens_at, is_printable}
 use Rattle.kl1_model.proofs.ReadComplete.{expression_trees_complete}
-use Rattle.kl1_laws.proofs.LexFronts.{spelled, on_first_line, lexes_nothing}
-use Rattle.kl1_laws.proofs.ReadPlanted.{plainly, planted}
+use Rattle.kl1_history.proofs.LexFronts.{spelled, on_first_line, lexes_nothing}
+use Rattle.kl1_history.proofs.ReadPlanted.{plainly, planted}
 use Rattle.kl1_model.proofs.ReadMeans.{numbers_of, part_variables}
-use Rattle.kl1_laws.proofs.ReadTerms.{agrees}
-use Rattle.kl1_laws.proofs.ReadNumbers.{are_few, numbered_again, few_variables}
+use Rattle.kl1_history.proofs.ReadTerms.{agrees}
+use Rattle.kl1_history.proofs.ReadNumbers.{are_few, numbered_again, few_variables}
 
 -- what is known of a printable term
 record Printable (t : Term) : Type 0 where

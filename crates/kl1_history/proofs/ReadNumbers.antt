@@ -12,8 +12,8 @@ use Rattle.kl1_model.specs.Token.{name_token, variable_token, digits_token, minu
 use Rattle.kl1_model.specs.Grammar.{Numbered}
 use Rattle.kl1_model.specs.Numbering.{place_of, variable_number, seen_after, numbered_from}
 use Rattle.kl1_model.specs.Meaning.{variables_of, variables_in, highest, highest_in, numbered_after}
-use Rattle.kl1_laws.proofs.LexWords.{decimal_writes}
-use Rattle.kl1_laws.proofs.LexFronts.{spelling, spelled}
+use Rattle.kl1_history.proofs.LexWords.{decimal_writes}
+use Rattle.kl1_history.proofs.LexFronts.{spelling, spelled}
 use Rattle.kl1_model.proofs.ReadMeans.{numbers_of}
 
 -- the spellings of so many variables, from this number on

@@ -19,8 +19,8 @@ use Rattle.kl1_model.specs.ReadLaws.{is_printable, strict_by, strict_goal}
 use Rattle.kl1_model.proofs.ReadSound.{expression_trees_sound}
 use Rattle.kl1_model.proofs.ReadMeans.{numbers_of, expression_variables}
 use Rattle.kl1_model.proofs.ReadOrder.{numbered_in_order}
-use Rattle.kl1_laws.proofs.ReadCounts.{length_numbered, few_numbers, numbered_upto, highest_upto, few_tokens}
-use Rattle.kl1_laws.proofs.ReadBack.{printed_goals_read_back}
+use Rattle.kl1_history.proofs.ReadCounts.{length_numbered, few_numbers, numbered_upto, highest_upto, few_tokens}
+use Rattle.kl1_history.proofs.ReadBack.{printed_goals_read_back}
 
 -- a term that was read has its variables numbered by first occurrence, and no more of them than tokens
 record Counted (t : Term) (most : ℕ) : Type 0 where

@@ -14,7 +14,7 @@ use Rattle.kl1_model.specs.Term.{Term, variable, integer, atom, structure, Terms
 use Rattle.kl1_model.specs.Token.{is_digit}
 use Rattle.kl1_model.specs.Meaning.{is_word, is_narrow, are_narrow, highest, highest_in}
 use Rattle.kl1_model.specs.Print.{form_of, Printed, plain, printed_atom, commas, call_text, printed_cell, printed_pair, printed, printed_each, print}
-use Rattle.kl1_laws.proofs.LexWords.{decimal_writes}
+use Rattle.kl1_history.proofs.LexWords.{decimal_writes}
 
 -- each byte is printable ASCII
 abbrev IsPlain : List ℕ → Type 0

@@ -13,7 +13,7 @@ use Rattle.kl1_model.specs.Token.{Token, name_token, variable_token, digits_toke
 use Rattle.kl1_model.specs.Grammar.{Numbered}
 use Rattle.kl1_model.specs.ReadLaws.{tokens_at}
 use Rattle.kl1_model.proofs.LexSteps.{tokens_go_on}
-use Rattle.kl1_laws.proofs.LexWords.{word_stops, behind_word_is, digits_stop, behind_digits_is, digits_are_words, letter_begins, digit_begins, Writes, decimal_writes}
+use Rattle.kl1_history.proofs.LexWords.{word_stops, behind_word_is, digits_stop, behind_digits_is, digits_are_words, letter_begins, digit_begins, Writes, decimal_writes}
 
 -- how a printed variable is spelled
 abbrev pub spelling : ℕ → List ℕ

@@ -16,9 +16,9 @@ use Rattle.kl1_model.specs.Token.{sign_token, first_is}
 use Rattle.kl1_model.specs.Grammar.{single, qualified, primary_tokens}
 use Rattle.kl1_model.specs.Meaning.{pair, is_narrow, are_narrow, highest, highest_in}
 use Rattle.kl1_model.specs.Print.{is_before_colon, is_behind_colon, form_of, Printed, plain, printed_atom, commas, call_text, printed_pair, printed, printed_each}
-use Rattle.kl1_laws.proofs.LexFronts.{Lexes, lexes_colon}
-use Rattle.kl1_laws.proofs.ReadPlanted.{Planted, planted_plain, planted_atom, primary_of, planted_pair, planted, Bears, qualified_bears}
-use Rattle.kl1_laws.proofs.ReadAgrees.{IsText, Agrees, EachAgrees, plain_agrees, variable_agrees, integer_agrees, atom_agrees, cell_agrees, arguments_agree}
+use Rattle.kl1_history.proofs.LexFronts.{Lexes, lexes_colon}
+use Rattle.kl1_history.proofs.ReadPlanted.{Planted, planted_plain, planted_atom, primary_of, planted_pair, planted, Bears, qualified_bears}
+use Rattle.kl1_history.proofs.ReadAgrees.{IsText, Agrees, EachAgrees, plain_agrees, variable_agrees, integer_agrees, atom_agrees, cell_agrees, arguments_agree}
 
 -- a text begins neither with `-` nor with `=`
 abbrev pub Tight : List ℕ → Type 0

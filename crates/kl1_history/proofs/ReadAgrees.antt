@@ -14,9 +14,9 @@ use Rattle.kl1_model.specs.Token.{sign_token}
 use Rattle.kl1_model.specs.Grammar.{Numbered, Part, single, numbered, positive, negative, constant, call, Series, part_tokens, primary_tokens, series_tokens, rest_tokens}
 use Rattle.kl1_model.specs.Meaning.{cell, is_word}
 use Rattle.kl1_model.specs.Print.{Printed, plain, printed_atom, commas, call_text, printed_cell, printed, printed_each}
-use Rattle.kl1_laws.proofs.LexWords.{no_word_no_digit}
-use Rattle.kl1_laws.proofs.LexFronts.{Lexes, lexes_token, Calm, lexes_called, lexes_name, lexes_digits, lexes_negative, lexes_variable}
-use Rattle.kl1_laws.proofs.ReadPlanted.{Planted, plainly, series_of, planted_plain, planted_atom, planted_integer, planted_cell, planted_series, planted_call, planted, planted_each, rest_row, series_row, Bears, BearsBehind, BearsEach, plain_behind, last_bears, another_bears, call_bears, cell_bears, cell_behind}
+use Rattle.kl1_history.proofs.LexWords.{no_word_no_digit}
+use Rattle.kl1_history.proofs.LexFronts.{Lexes, lexes_token, Calm, lexes_called, lexes_name, lexes_digits, lexes_negative, lexes_variable}
+use Rattle.kl1_history.proofs.ReadPlanted.{Planted, plainly, series_of, planted_plain, planted_atom, planted_integer, planted_cell, planted_series, planted_call, planted, planted_each, rest_row, series_row, Bears, BearsBehind, BearsEach, plain_behind, last_bears, another_bears, call_bears, cell_bears, cell_behind}
 
 -- a text has the tokens of a part, whatever calm text follows
 abbrev pub IsText : List ℕ → Part → Type 0

@@ -1,0 +1,12 @@
+pub mod Besides
+pub mod Replays
+pub mod LexFronts
+pub mod LexWords
+pub mod ReadAgrees
+pub mod ReadBack
+pub mod ReadCounts
+pub mod ReadNumbers
+pub mod ReadPlain
+pub mod ReadPlanted
+pub mod ReadStrict
+pub mod ReadTerms
