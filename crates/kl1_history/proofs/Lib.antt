@@ -10,3 +10,7 @@ pub mod ReadPlain
 pub mod ReadPlanted
 pub mod ReadStrict
 pub mod ReadTerms
+pub mod Feeds
+pub mod Loads
+pub mod Cuts
+pub mod InputLaws

@@ -5,3 +5,6 @@ pub mod Command
 pub mod Script
 pub mod Replay
 pub mod HistoryLaws
+pub mod Cut
+pub mod Inputs
+pub mod InputLaws
