@@ -66,6 +66,9 @@ fn put_each(out: &mut Vec<u8>, prefix: Option<&[u8]>, reply: &Reply) -> Result<(
         Reply::Listed(texts) => put_listed(out, prefix, texts),
         Reply::Quiet(true) => put_line(out, prefix, b"+ yes", b""),
         Reply::Quiet(false) => put_line(out, prefix, b"+ no", b""),
+        Reply::Welcome(name) => put_line(out, prefix, b"+ welcome ", name.unpacked().as_slice()),
+        Reply::Bye => put_line(out, prefix, b"+ bye", b""),
+        Reply::Reset => put_line(out, prefix, b"+ reset", b""),
         Reply::Refused(refusal) => put_refusal(out, prefix, *refusal),
     }
 }
@@ -85,6 +88,7 @@ fn put_refusal(out: &mut Vec<u8>, prefix: Option<&[u8]>, refusal: Refusal) -> Re
         Refusal::Names => put_line(out, prefix, b"- ", b"7 names"),
         Refusal::Limit => put_line(out, prefix, b"- ", b"8 limit"),
         Refusal::Journal => put_line(out, prefix, b"- ", b"9 journal"),
+        Refusal::Sessions => put_line(out, prefix, b"- ", b"12 sessions"),
     }
 }
 
