@@ -49,8 +49,8 @@ pub fn without_return(line: &[u8]) -> &[u8]
     }
 }
 
-#[tactic(auto, using(crate::proofs::Splits::split_nowhere))]
 /// The bytes before the first line feed of a text, and those after it; `None` if there is no line feed.
+#[tactic(auto, using(crate::proofs::Splits::split_nowhere))]
 pub fn split_feed(text: &[u8]) -> Option<(&[u8], &[u8])>
     ensures none { IsNone result → has_byte 10 text.now ≡ false }
     ensures some { IfSome result (λ r. IsSplit text.now r.0.now r.1.now) }

@@ -15,8 +15,8 @@ pub(crate) fn front(bytes: &[u8], most: usize) -> &[u8]
     }
 }
 
-#[tactic(auto, using(crate::proofs::Kept::kept_front))]
 /// Puts `bytes` after `kept`, as far as no more than `most` are kept then.
+#[tactic(auto, using(crate::proofs::Kept::kept_front))]
 pub(crate) fn keep(kept: &mut Vec<u8>, most: usize, bytes: &[u8]) -> Result<(), AllocError>
     requires { length kept.old.items ≤ most }
     ensures ok { OnOk result (kept.new.items ≡ take most (kept.old.items ++ bytes.now)) }
