@@ -14,3 +14,9 @@ pub mod Feeds
 pub mod Loads
 pub mod Cuts
 pub mod InputLaws
+pub mod Words
+pub mod TextEntries
+pub mod TextNames
+pub mod TextLines
+pub mod TextUnbroken
+pub mod TextJournals

@@ -46,7 +46,7 @@ allow_command line = option_and_then (λ n. option_map (λ more. does (control n
 abbrev pub send_command : Message → List ℕ → Option Command
 send_command m line = option_map (λ n. does (control n m)) (only_number line)
 
--- the reports of a shoen from one on, where that is one
+-- the reports of a shoen from the one of a number on, if that is at least 1
 abbrev pub reports_from : ℕ → ℕ → Option Command
 reports_from n from = if nat_le 1 from then Some (does (read (reports n from))) else None
 
@@ -141,7 +141,7 @@ Going = ℕ → Kept → Done
 abbrev pub said : Kept → Reply → Done
 said k r = record { kept = k; reply = r }
 
--- a run that stops: with its steps, or with the refusal where no step was done
+-- a run that stops: with its steps, or with the refusal if no step was done
 abbrev pub stopped_by : Kept → ℕ → Refusal → Done
 stopped_by k zero r = said k (refused r)
 stopped_by k (suc n) r = said k (ran (suc n))
@@ -151,7 +151,7 @@ abbrev pub run_on : Going → Kept → ℕ → Kept → Reply → Done
 run_on next before n after (refused r) = stopped_by before n r
 run_on next before n after reply = next (suc n) after
 
--- the first goal's step, where there is one, and how the run goes on
+-- the first goal's step, if one can step, and how the run goes on
 abbrev pub run_choice : Going → Kept → ℕ → Option Chosen → Done
 run_choice next k n None = said k (ran n)
 run_choice next k n (Some c) = let x = done k (reduce c.goal c.clause) in run_on next k n x.kept x.reply

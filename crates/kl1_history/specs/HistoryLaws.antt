@@ -14,7 +14,7 @@ beside name n s = record s { own_name = name; sessions = n }
 abbrev pub stepped_beside : List ℕ → ℕ → Stepped → Stepped
 stepped_beside name n x = record { state = beside name n x.state; reply = x.reply }
 
--- an entry's event does the same beside any own name and any number of sessions
+-- what an entry does depends neither on the account's own name nor on the number of its open sessions
 abbrev pub StaysBeside : Type 0
 StaysBeside = (name : List ℕ) (n : ℕ) (s : State) (e : Entry) → step (beside name n s) (event_in e) ≡ stepped_beside name n (step s (event_in e))
 

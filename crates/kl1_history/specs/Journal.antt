@@ -48,7 +48,7 @@ with_event j login s = record j { sessions = s.sessions }
 with_event j logout s = record j { sessions = s.sessions }
 with_event j reset s = new_journal s.names s.sessions
 
--- a journal after what became of an event: a refused event leaves it
+-- a journal after what became of an event: a refused event leaves it, and an accepted one is noted in it
 abbrev pub noted : Journal → Event → Stepped → Journal
 noted j e x = if is_refused x.reply then j else with_event j e x.state
 
@@ -76,7 +76,7 @@ pub record Done : Type 0 where
 abbrev pub fresh_kept : List ℕ → Kept
 fresh_kept name = record { state = fresh name; journal = new_journal [] 0 }
 
--- what becomes of an account with its journal
+-- an account with its journal after what became of an event
 abbrev pub kept_after : Kept → Event → Stepped → Done
 kept_after k e x = record { kept = record { state = x.state; journal = noted k.journal e x }; reply = x.reply }
 

@@ -1,12 +1,13 @@
 -- The text of a journal: its lines, and the journal that a text is.
-use Rattle.std.specs.Prelude.{ℕ, zero, suc, ◌+◌, ◌*◌, ◌-◌, ◌/◌, ◌%◌, ◌==◌, nat_le, nat_lt, ◌&&◌, not, Bool, true, false, if◌then◌else◌, List, [], ◌∷◌, ◌++◌, length, take, drop, map, codes, bytes_eq, decimal, Option, Some, None, option_map, option_and_then}
-use Rattle.std.specs.List.{list_any}
+use Rattle.std.specs.Prelude.{ℕ, zero, suc, ◌+◌, ◌*◌, ◌-◌, ◌/◌, ◌%◌, ◌==◌, nat_le, nat_lt, ◌&&◌, ◌||◌, not, Bool, true, false, if◌then◌else◌, List, [], ◌∷◌, ◌++◌, length, take, drop, map, codes, bytes_eq, decimal, Option, Some, None, option_map, option_and_then}
+use Rattle.std.specs.List.{list_all, list_any}
 use Rattle.kl1_model.specs.declared.message.Message.{Message}
 use Rattle.kl1_model.specs.declared.message.Message.TheVariants.{Stop, Start, Abort, Allow}
 use Rattle.kl1_model.specs.Limits.{most_line_bytes, most_names, most_sessions}
 use Rattle.kl1_model.specs.Text.{is_text, is_built_in}
 use Rattle.kl1_model.specs.Term.{Term}
 use Rattle.kl1_model.specs.Name.{atom_text}
+use Rattle.kl1_model.specs.Token.{is_digit}
 use Rattle.kl1_model.specs.Line.{before_space, behind_space, number_in}
 use Rattle.kl1_model.specs.Module.{Reading, good, bad, read_goal}
 use Rattle.kl1_model.specs.Opening.{start_line}
@@ -55,15 +56,23 @@ page_of j from count = take count (drop (from - 1) (journal_lines j))
 
 -- ---- the entry that a line is
 
--- the value of a hexadecimal digit; what is none has some value too
+-- whether a byte is a hexadecimal digit: 0 to 9, and a to f
+abbrev pub is_hex_digit : ℕ → Bool
+is_hex_digit c = is_digit c || nat_le 97 c && nat_le c 102
+
+-- the value of a hexadecimal digit
 abbrev pub hex_value : ℕ → ℕ
 hex_value c = if nat_le c 57 then c - 48 else c - 87
 
--- the bytes that two hexadecimal digits each are
+-- the bytes that two hexadecimal digits each are; one that is left over is dropped
 abbrev pub hex_bytes : List ℕ → List ℕ
 hex_bytes [] = []
 hex_bytes (c ∷ []) = []
 hex_bytes (c ∷ d ∷ cs) = (16 * hex_value c + hex_value d) ∷ hex_bytes cs
+
+-- a load of the source whose hexadecimal digits these are
+abbrev pub load_in : List ℕ → Option Entry
+load_in rest = if list_all is_hex_digit rest then Some (loads (hex_bytes rest)) else None
 
 -- an entry of two numbers
 abbrev pub of_two : (ℕ → ℕ → Entry) → List ℕ → Option Entry
@@ -85,7 +94,7 @@ start_in rest =
 abbrev pub entry_by : List ℕ → List ℕ → Option Entry
 entry_by w rest =
     if bytes_eq w (codes "reduce") then of_two steps rest
-    else if bytes_eq w (codes "load") then Some (loads (hex_bytes rest))
+    else if bytes_eq w (codes "load") then load_in rest
     else if bytes_eq w (codes "start") then start_in rest
     else if bytes_eq w (codes "stop") then option_map (λ n. sends n Stop) (number_in rest)
     else if bytes_eq w (codes "resume") then option_map (λ n. sends n Start) (number_in rest)

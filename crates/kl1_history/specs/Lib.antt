@@ -8,3 +8,4 @@ pub mod HistoryLaws
 pub mod Cut
 pub mod Inputs
 pub mod InputLaws
+pub mod TextLaws

@@ -8,7 +8,7 @@ use Rattle.kl1_history.specs.Command.{reply_lines, written_line, written_lines}
 use Rattle.kl1_history.specs.Journal.{Entry, event_in}
 use Rattle.kl1_history.specs.JournalText.{Heading, Lines, entry_in, name_in, is_new_name, heading_in, lines_of}
 
--- what is written for a line, from 1, that isn't of the form, or whose entry is refused
+-- what is written for the line of this number, from 1, if it isn't of the form or its entry is refused
 abbrev pub written_fault : ℕ → List ℕ
 written_fault k = written_line (codes "fault " ++ decimal k)
 
@@ -44,7 +44,7 @@ abbrev pub written_name : (List (List ℕ) → List ℕ) → ℕ → List (List 
 written_name next k names None = written_fault k
 written_name next k names (Some t) = if is_new_name names t then next (names ++ t ∷ []) else written_fault k
 
--- what is written for this number of lines of names, of which the first has the number k, after these names, and for those of entries
+-- what is written for n lines of names, the first of which is line k, after the names before them, and then for the lines of entries
 abbrev pub written_names : ℕ → ℕ → ℕ → List (List ℕ) → List (List ℕ) → List ℕ → List ℕ
 written_names zero k sessions names lines rest = written_entries k 0 (fresh_with replay_name names sessions) lines rest
 written_names (suc n) k sessions names [] rest = written_fault k

@@ -24,9 +24,9 @@ abbrev pub is_account : List (List ℕ) → List ℕ → Bool
 is_account accounts name = list_any (bytes_eq name) accounts
 
 -- the commands of an account among records, in order
-abbrev pub only : List ℕ → List Record → List (Option Command)
-only name [] = []
-only name (r ∷ rs) = if bytes_eq r.name name then command_of r.request ∷ only name rs else only name rs
+abbrev pub commands_of : List ℕ → List Record → List (Option Command)
+commands_of name [] = []
+commands_of name (r ∷ rs) = if bytes_eq r.name name then command_of r.request ∷ commands_of name rs else commands_of name rs
 
 -- what a record's command does; one without a command is refused
 abbrev pub done_by : Kept → Option Command → Done
@@ -39,8 +39,8 @@ after_all k [] = k
 after_all k (c ∷ cs) = after_all (done_by k c).kept cs
 
 -- an account alone: the fresh account after its own commands among records
-abbrev pub alone : List ℕ → List Record → Kept
-alone name records = after_all (fresh_kept name) (only name records)
+abbrev pub alone_after : List ℕ → List Record → Kept
+alone_after name records = after_all (fresh_kept name) (commands_of name records)
 
 -- the lines of a reply after the account's name
 abbrev pub written_reply : List ℕ → List (List ℕ) → List ℕ
@@ -51,7 +51,7 @@ written_reply name (line ∷ lines) = written_line (name ++ codes " " ++ line) +
 abbrev pub written_for : List (List ℕ) → List Record → Record → List ℕ
 written_for accounts before r =
     if is_account accounts r.name
-    then written_reply r.name (reply_lines (done_by (alone r.name before) (command_of r.request)).reply)
+    then written_reply r.name (reply_lines (done_by (alone_after r.name before) (command_of r.request)).reply)
     else written_line (codes "! account")
 
 -- what is written for records after others

@@ -1,13 +1,29 @@
-//! Definitions of what is done to accounts in the course of time, and what holds of them.
+//! Definitions of journals, commands, scripts and replays, and of what an account does alone; and that an account is the replay of its journal.
 #![tactic(auto)]
 
 ghost use Rattle.kl1_history.specs.HistoryLaws.{StaysBeside, FreshIsReplay, ReplaysStay, NamesStay};
+ghost use Rattle.kl1_history.specs.TextLaws.{EntriesReadBack, StrictLinesAreEntries, NamesReadBack, StrictLinesAreNames, HeadingsReadBack, StrictLinesAreHeadings, LinesOfLines, TextsAreLines, JournalsReadBack, StrictTextsAreJournals};
 
-/// An account is the replay of its journal: so is a fresh one, and it stays so through each event. What an entry does is the same
-/// beside any own name and any number of sessions, and no event changes the own name.
+/// An account is the replay of its journal: so is a fresh one, and it stays so through each event. What an entry does
+/// depends neither on the own name nor on the number of open sessions, and no event changes the own name.
 pub fn replays_stay()
     ensures beside { StaysBeside }
     ensures names { NamesStay }
     ensures fresh { FreshIsReplay }
     ensures stay { ReplaysStay }
+{}
+
+/// The text of a journal reads back as that journal, and no other text is read as one: so are the lines of its entries and names and
+/// its first line, and lines as they are written are the lines of that text.
+pub fn journal_texts_read_back()
+    ensures entries { EntriesReadBack }
+    ensures strict_entries { StrictLinesAreEntries }
+    ensures names { NamesReadBack }
+    ensures strict_names { StrictLinesAreNames }
+    ensures headings { HeadingsReadBack }
+    ensures strict_headings { StrictLinesAreHeadings }
+    ensures lines { LinesOfLines }
+    ensures texts { TextsAreLines }
+    ensures journals { JournalsReadBack }
+    ensures strict_journals { StrictTextsAreJournals }
 {}

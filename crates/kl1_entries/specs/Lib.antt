@@ -1,0 +1,3 @@
+pub mod Lined
+pub mod Codes
+pub mod Slots
