@@ -1,5 +1,5 @@
 -- Deeds in the definitions.
-use Rattle.std.specs.Prelude.{ℕ, ◌<◌, ⊤}
+use Rattle.std.specs.Prelude.{ℕ, ◌<◌, ⊤, Option, IfSome}
 use Rattle.kl1_event.specs.Views.{refusal_of}
 use Rattle.kl1_door.specs.Doors as doors
 use Rattle.kl1_door.specs.declared.deed.Deed.{Deed}
@@ -20,3 +20,7 @@ IsOfOne n deed.RefuseLogin = ⊤
 IsOfOne n (deed.LogIn account) = account < n
 IsOfOne n (deed.LogOut account) = account < n
 IsOfOne n (deed.Perform account) = account < n
+
+-- who is logged in is so to one of n accounts
+abbrev pub IsVisitor : ℕ → Option ℕ → Type 0
+IsVisitor n visitor = IfSome visitor (λ account. account < n)

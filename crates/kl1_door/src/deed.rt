@@ -1,11 +1,11 @@
 // What becomes of an input.
 
-ghost use Rattle.std.specs.Prelude.{◌≡◌, ◌<◌, ℕ, length, IfSome};
+ghost use Rattle.std.specs.Prelude.{◌≡◌, ◌<◌, ℕ, length};
 ghost use Rattle.kl1_session.specs.Asking.{input_view};
 ghost use Rattle.kl1_command.specs.Commands.{command_view};
 ghost use Rattle.kl1_keys.specs.Views.{entries_view};
 ghost use Rattle.kl1_door.specs.Doors.{deed_of, doing};
-ghost use Rattle.kl1_door.specs.Views.{deed_view, IsOfOne};
+ghost use Rattle.kl1_door.specs.Views.{deed_view, IsOfOne, IsVisitor};
 
 use kl1_command::Command;
 use kl1_event::{Event, Refusal};
@@ -30,7 +30,7 @@ pub enum Deed {
 /// What becomes of an input of one who isn't logged in, or who is, to the account of the number `visitor`, from 0.
 pub fn deed_of(keys: &[Key], visitor: Option<usize>, input: &Input) -> Deed
     ensures value { deed_view result ≡ deed_of (entries_view keys.now) visitor (input_view input.now) }
-    ensures within { IfSome visitor (λ n. n < length keys.now) → IsOfOne (length keys.now) result }
+    ensures within { IsVisitor (length keys.now) visitor → IsOfOne (length keys.now) result }
 {
     match (visitor, input) {
         (_, Input::Refused(refusal)) => Deed::Refuse(*refusal),

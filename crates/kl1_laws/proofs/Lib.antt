@@ -7,3 +7,4 @@ pub mod UnifyFails
 pub mod AccountRowProofs
 pub mod GuardRowProofs
 pub mod ShoenRowProofs
+pub mod SessionRowProofs
