@@ -208,7 +208,7 @@ fn control_for(shoen: u64, message: Message) -> Prepared
 }
 
 /// A reduction: in the row if both numbers have 32 bits.
-fn step_for(goal: u64, clause: u64) -> Prepared
+pub fn step_for(goal: u64, clause: u64) -> Prepared
     ensures { result ≡ if_lined (steps goal clause) }
 {
     if !is_number(goal) || !is_number(clause) {

@@ -20,3 +20,10 @@ pub mod TextNames
 pub mod TextLines
 pub mod TextUnbroken
 pub mod TextJournals
+pub mod NewNames
+pub mod SpelledTexts
+pub mod NamesKept
+pub mod ReadNames
+pub mod ModuleNames
+pub mod WrittenStays
+pub mod ReplayReplies

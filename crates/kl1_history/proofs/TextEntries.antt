@@ -1,12 +1,12 @@
 -- The lines of entries read back.
-use Rattle.std.specs.Prelude.{◌≡◌, ℕ, ◌+◌, ◌*◌, ◌-◌, ◌/◌, ◌%◌, ◌≤◌, ◌<◌, nat_le, nat_lt, ◌&&◌, ◌||◌, Bool, true, false, if◌then◌else◌, List, [], ◌∷◌, ◌++◌, length, codes, bytes_eq, decimal, Option, Some, None, option_map, option_and_then}
-use Rattle.std.specs.List.{list_all, AllByRecursion}
+use Rattle.std.specs.Prelude.{◌≡◌, ℕ, ◌+◌, ◌*◌, ◌-◌, ◌/◌, ◌%◌, ◌≤◌, ◌<◌, nat_le, nat_lt, ◌&&◌, Bool, true, false, if◌then◌else◌, List, [], ◌∷◌, ◌++◌, length, codes, bytes_eq, decimal, Option, Some, None, option_map, option_and_then}
+use Rattle.std.specs.List.{list_all}
 use Rattle.std.proofs.Common.{refl, sym, ap, ap₂, ◌∙◌, arith, inl, inr}
-use Rattle.std.proofs.lemmas.Bool.{and_parts, and_from, or_left, or_right, leb-true, le-leb, lt-leb, lt-ltb, le-ltb, ltb-true, cases_lt}
+use Rattle.std.proofs.lemmas.Bool.{and_parts, and_from, or_left, or_right, le-leb, lt-leb, lt-ltb, le-ltb, ltb-true, cases_lt}
 use Rattle.std.proofs.lemmas.List.{append_assoc, length-append}
 use Rattle.std.proofs.lemmas.Option.{none-some, same_Some}
 use Rattle.std.proofs.lemmas.Slice.Eq.{bytes_eq-Decides}
-use Rattle.kl1_model.specs.Limits.{number_limit, most_source_bytes, most_line_bytes}
+use Rattle.kl1_model.specs.Limits.{number_limit, most_line_bytes}
 use Rattle.kl1_model.specs.declared.message.Message.{Message}
 use Rattle.kl1_model.specs.declared.message.Message.TheVariants.{Stop, Start, Abort, Allow}
 use Rattle.kl1_model.specs.Term.{Term}
@@ -16,13 +16,13 @@ use Rattle.kl1_model.specs.Goal.{is_goal}
 use Rattle.kl1_model.specs.Print.{print}
 use Rattle.kl1_model.specs.Token.{is_digit}
 use Rattle.kl1_model.specs.Line.{before_space, behind_space, number_in}
-use Rattle.kl1_model.specs.Module.{Reading, good, bad, read_goal}
+use Rattle.kl1_model.specs.Module.{Reading, good, read_goal}
 use Rattle.kl1_model.specs.Event.{is_number}
 use Rattle.kl1_model.specs.Sending.{is_message, may_send}
 use Rattle.kl1_model.specs.Opening.{start_line}
 use Rattle.kl1_model.specs.ReadLaws.{is_printable}
 use Rattle.kl1_history.specs.Journal.{Entry, loads, starts, sends, steps}
-use Rattle.kl1_history.specs.JournalText.{hex_digit, is_hex_digit, load_in, hex_text, hex_value, hex_bytes, entry_line, of_two, start_of, start_in, entry_by, if_line, entry_in}
+use Rattle.kl1_history.specs.JournalText.{hex_digit, is_hex_digit, hex_text, hex_value, hex_bytes, entry_line, of_two, start_of, start_in, entry_by, if_line}
 use Rattle.kl1_history.specs.TextLaws.{AreBytes, HasLine, EntriesReadBack, StrictLinesAreEntries}
 use Rattle.kl1_history.proofs.ReadBack.{printed_goals_read_back}
 use Rattle.kl1_history.proofs.ReadPlain.{prints_are_plain}

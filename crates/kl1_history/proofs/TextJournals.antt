@@ -1,16 +1,15 @@
 -- The texts of journals read back.
-use Rattle.std.specs.Prelude.{◌≡◌, ℕ, zero, suc, ◌≤◌, ◌<◌, ◌==◌, ◌&&◌, Bool, true, false, if◌then◌else◌, List, [], ◌∷◌, ◌++◌, length, map, Option, Some, None, option_map, option_and_then}
+use Rattle.std.specs.Prelude.{◌≡◌, ℕ, zero, suc, ◌==◌, ◌&&◌, Bool, true, false, if◌then◌else◌, List, [], ◌∷◌, ◌++◌, length, map, Option, Some, None, option_map, option_and_then}
 use Rattle.std.specs.List.{list_all, AllByRecursion}
 use Rattle.std.proofs.Common.{refl, sym, ap, ap₂, ◌∙◌, subst, arith}
 use Rattle.std.proofs.lemmas.Bool.{and_parts, and_from, eqb-true}
 use Rattle.std.proofs.lemmas.List.{append_assoc, append-nil}
 use Rattle.std.proofs.lemmas.List.Folds.{list_all-append}
 use Rattle.std.proofs.lemmas.Option.{none-some, same_Some}
-use Rattle.kl1_model.specs.Limits.{number_limit, most_names, most_sessions}
 use Rattle.kl1_model.specs.Text.{is_text}
 use Rattle.kl1_history.specs.Command.{written_lines}
 use Rattle.kl1_history.specs.Journal.{Entry, Journal, new_journal}
-use Rattle.kl1_history.specs.JournalText.{entry_line, name_line, first_line, journal_lines, entry_in, name_in, is_new_name, Heading, heading_in, Lines, lines_of, entry_first, journal_with, journal_after, journal_of, journal_in}
+use Rattle.kl1_history.specs.JournalText.{entry_line, name_line, first_line, journal_lines, entry_in, name_in, is_new_name, Heading, heading_in, Lines, lines_of, entry_first, journal_with, journal_after, journal_of}
 use Rattle.kl1_history.specs.TextLaws.{HasLine, is_unbroken, are_new_names, IsWritten, journal_text, JournalsReadBack, StrictTextsAreJournals}
 use Rattle.kl1_history.proofs.TextEntries.{entries_read_back, strict_lines_are_entries}
 use Rattle.kl1_history.proofs.TextNames.{names_read_back, strict_lines_are_names, headings_read_back, strict_lines_are_headings}

@@ -1,7 +1,7 @@
 -- Lines as they are written, and the lines of a text.
-use Rattle.std.specs.Prelude.{◌≡◌, ℕ, ◌==◌, not, ◌&&◌, Bool, true, false, List, [], ◌∷◌, ◌++◌}
+use Rattle.std.specs.Prelude.{◌≡◌, ℕ, ◌==◌, not, Bool, true, false, List, [], ◌∷◌, ◌++◌}
 use Rattle.std.specs.List.{list_all}
-use Rattle.std.proofs.Common.{refl, sym, ap, ◌∙◌}
+use Rattle.std.proofs.Common.{refl, ap, ◌∙◌}
 use Rattle.std.proofs.lemmas.Bool.{and_parts, and_from, eqb-true, not_from_false}
 use Rattle.std.proofs.lemmas.List.{append_assoc}
 use Rattle.kl1_history.specs.Command.{written_line, written_lines}

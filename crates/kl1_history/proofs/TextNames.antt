@@ -1,5 +1,5 @@
 -- The lines of names and the first lines of journals read back.
-use Rattle.std.specs.Prelude.{◌≡◌, ℕ, ◌≤◌, ◌<◌, ◌==◌, nat_le, ◌&&◌, Bool, true, false, if◌then◌else◌, List, [], ◌∷◌, ◌++◌, length, codes, bytes_eq, decimal, Option, Some, None, option_and_then}
+use Rattle.std.specs.Prelude.{◌≡◌, ℕ, ◌≤◌, ◌<◌, ◌==◌, nat_le, ◌&&◌, Bool, true, false, if◌then◌else◌, List, [], ◌∷◌, ◌++◌, codes, bytes_eq, decimal, Option, Some, None, option_and_then}
 use Rattle.std.proofs.Common.{refl, sym, ap, ◌∙◌, subst, arith}
 use Rattle.std.proofs.lemmas.Bool.{and_parts, and_from, leb-true, le-leb, ne_eqb, eqb-true}
 use Rattle.std.proofs.lemmas.List.{append_assoc}
@@ -8,9 +8,9 @@ use Rattle.std.proofs.lemmas.Option.{none-some, same_Some}
 use Rattle.std.proofs.lemmas.Slice.Eq.{bytes_eq-Decides}
 use Rattle.kl1_model.specs.Limits.{number_limit, most_names, most_sessions}
 use Rattle.kl1_model.specs.Text.{is_text}
-use Rattle.kl1_model.specs.Name.{is_small_letter, is_word_byte, is_bare, doubled, quoted, name_text, atom_text}
+use Rattle.kl1_model.specs.Name.{is_small_letter, is_word_byte, is_bare, doubled, quoted, name_text}
 use Rattle.kl1_model.specs.Line.{before_space, behind_space, number_in}
-use Rattle.kl1_history.specs.JournalText.{name_line, unquoted, name_by, if_name_line, name_in, first_line, Heading, if_first_line, heading_in}
+use Rattle.kl1_history.specs.JournalText.{name_line, unquoted, name_by, if_name_line, first_line, Heading, if_first_line}
 use Rattle.kl1_history.specs.TextLaws.{NamesReadBack, StrictLinesAreNames, HeadingsReadBack, StrictLinesAreHeadings}
 use Rattle.kl1_history.proofs.Words.{number_back, before_front, behind_front, decimal_no_space}
 

@@ -1,8 +1,8 @@
 -- Numbers and words of a line, and how long they are.
-use Rattle.std.specs.Prelude.{◌≡◌, ℕ, suc, ◌+◌, ◌*◌, ◌^◌, ◌≤◌, ◌<◌, ◌==◌, nat_le, nat_lt, max, ◌&&◌, Bool, true, false, if◌then◌else◌, List, [], ◌∷◌, ◌++◌, length, codes, bytes_eq, decimal, Some}
+use Rattle.std.specs.Prelude.{◌≡◌, ℕ, ◌+◌, ◌≤◌, ◌<◌, ◌==◌, nat_le, Bool, true, false, List, [], ◌∷◌, ◌++◌, length, codes, bytes_eq, decimal, Some}
 use Rattle.std.specs.List.{list_all, AllByRecursion}
 use Rattle.std.specs.Fmt.{signed_decimal}
-use Rattle.std.proofs.Common.{refl, ap, ◌∙◌, arith}
+use Rattle.std.proofs.Common.{refl, ap, arith}
 use Rattle.std.proofs.lemmas.Bool.{and_parts, leb-true, le-leb, lt-ltb, ne_eqb}
 use Rattle.std.proofs.lemmas.List.{length-append}
 use Rattle.std.proofs.lemmas.Fmt.{length-decimal-le}
@@ -11,11 +11,11 @@ use Rattle.kl1_model.specs.declared.pair_form.PairForm.{PairForm}
 use Rattle.kl1_model.specs.declared.pair_form.PairForm.TheVariants.{Cell, Qualified, Call}
 use Rattle.kl1_model.specs.Name.{name_text, atom_text}
 use Rattle.kl1_model.specs.Term.{Term, variable, integer, atom, structure, Terms, none, more}
-use Rattle.kl1_model.specs.Token.{is_digit, number_of}
+use Rattle.kl1_model.specs.Token.{is_digit}
 use Rattle.kl1_model.specs.Line.{before_space, behind_space, number_in}
 use Rattle.kl1_model.specs.Meaning.{variables_of, variables_in, is_numbered, highest}
 use Rattle.kl1_model.specs.Print.{form_of, Printed, plain, printed_atom, commas, call_text, printed_cell, printed_pair, printed, printed_each, print}
-use Rattle.kl1_history.proofs.LexWords.{Writes, decimal_writes}
+use Rattle.kl1_history.proofs.LexWords.{decimal_writes}
 use Rattle.kl1_history.proofs.ReadCounts.{numbered_upto, highest_upto}
 
 -- a number below number_limit has at most 19 digits

@@ -9,3 +9,4 @@ pub mod Cut
 pub mod Inputs
 pub mod InputLaws
 pub mod TextLaws
+pub mod ReplayLaws

@@ -1,16 +1,16 @@
 -- What holds of the text of a journal.
-use Rattle.std.specs.Prelude.{⊤, ◌≡◌, ℕ, ◌≤◌, ◌<◌, ◌==◌, not, ◌&&◌, Bool, true, List, [], ◌∷◌, ◌++◌, length, Some, IsTrue}
+use Rattle.std.specs.Prelude.{◌≡◌, ℕ, ◌≤◌, ◌<◌, ◌==◌, not, ◌&&◌, Bool, true, List, [], ◌∷◌, ◌++◌, length, Some, IsTrue}
 use Rattle.std.specs.List.{list_all, AllByRecursion}
 use Rattle.kl1_model.specs.Limits.{number_limit, most_source_bytes, most_line_bytes, most_names, most_sessions}
 use Rattle.kl1_model.specs.Text.{is_text}
-use Rattle.kl1_model.specs.Term.{Term}
 use Rattle.kl1_model.specs.Meaning.{is_writable, is_numbered}
 use Rattle.kl1_model.specs.Goal.{is_goal}
+use Rattle.kl1_model.specs.Event.{Event, load}
 use Rattle.kl1_model.specs.Sending.{may_send}
 use Rattle.kl1_model.specs.Opening.{start_line}
 use Rattle.kl1_history.specs.Command.{written_lines}
-use Rattle.kl1_history.specs.Journal.{Entry, loads, starts, sends, steps, Journal}
-use Rattle.kl1_history.specs.JournalText.{entry_line, name_line, first_line, journal_lines, entry_in, name_in, is_new_name, Heading, heading_in, Lines, lines_of, journal_in}
+use Rattle.kl1_history.specs.Journal.{Entry, loads, starts, sends, steps, Journal, Kept, fresh_kept, done}
+use Rattle.kl1_history.specs.JournalText.{entry_line, name_line, first_line, journal_lines, entry_in, name_in, is_new_name, Heading, heading_in, lines_of, journal_in}
 
 -- each is a byte
 abbrev pub AreBytes : List ℕ → Type 0
@@ -88,3 +88,22 @@ JournalsReadBack = (j : Journal) → IsWritten j → journal_in (journal_text j)
 -- a text that is read as a journal is the text of that journal
 abbrev pub StrictTextsAreJournals : Type 0
 StrictTextsAreJournals = (text : List ℕ) (j : Journal) → journal_in text ≡ Some j → journal_text j ≡ text
+
+-- an account whose journal has a text, and whose names may stand in the next one
+pub record IsWrittenDown (k : Kept) : Type 0 where
+  pub journal : IsWritten k.journal
+  pub names : AreNames k.state.names
+  pub sessions : k.state.sessions ≤ most_sessions
+
+-- the source of a load is bytes
+abbrev pub HasBytes : Event → Type 0
+HasBytes (load text) = AreBytes text
+HasBytes e = Unit {0}
+
+-- the journal of a fresh account has a text
+abbrev pub FreshIsWritten : Type 0
+FreshIsWritten = (name : List ℕ) → IsWrittenDown (fresh_kept name)
+
+-- and each event, whatever becomes of it, leaves a journal that has a text
+abbrev pub WrittenStays : Type 0
+WrittenStays = (k : Kept) (e : Event) → HasBytes e → IsWrittenDown k → IsWrittenDown (done k e).kept

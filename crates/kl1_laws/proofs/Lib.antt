@@ -1,10 +1,12 @@
 pub mod ExampleRows
+pub mod JournalRows
 pub mod UnifySound
 pub mod UnifySolution
 pub mod UnifyAnswer
 pub mod UnifyDerivation
 pub mod UnifyFails
 pub mod AccountRowProofs
+pub mod HistoryRowProofs
 pub mod GuardRowProofs
 pub mod ShoenRowProofs
-pub mod SessionRowProofs
+pub mod StreamRowProofs

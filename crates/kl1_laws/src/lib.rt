@@ -5,7 +5,6 @@ pub mod arithmetic;
 pub mod examples;
 pub mod reading;
 pub mod same;
-pub mod sessions;
 pub mod shoens;
 pub mod unification;
 pub mod waits;
