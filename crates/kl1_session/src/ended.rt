@@ -9,12 +9,12 @@ use crate::texts::front;
 use kl1_lines::{Request, source_bytes_in, split_feed, without_return};
 use kl1_model::limits::MOST_COMMAND_BYTES;
 
-/// What bytes are that a line feed ends.
+/// What a line, or the end of a load, comes to.
 #[derive(Clone, Copy)]
 pub(crate) enum Ended<'a> {
-    /// They ask for this.
+    /// It asks for this.
     Asks(Request<'a>),
-    /// They are the line of a load of this number of bytes.
+    /// It is the line of a load of this number of bytes.
     Loads(u64),
 }
 
@@ -61,7 +61,7 @@ fn load_end_in<'a>(size: usize, kept: &[u8], piece: &'a [u8]) -> Option<(&'a [u8
     }
 }
 
-/// What bytes are that a line feed ends, without it: a line, or a load's source and what stands after that in its last line.
+/// What `whole` comes to, to which only its line feed is lacking: a line, or a load's source with what stands after that.
 pub(crate) fn read_whole(source: Option<u64>, whole: &[u8]) -> Ended<'_>
     requires { passed_by source ≤ length whole.now }
     ensures ending { (behind : List ℕ) → ended_from result behind ≡ ending source whole.now behind }
@@ -76,7 +76,7 @@ pub(crate) fn read_whole(source: Option<u64>, whole: &[u8]) -> Ended<'_>
     }
 }
 
-/// What a line is, without its line feed.
+/// What a line comes to, without its line feed.
 fn read_line(whole: &[u8]) -> Ended<'_>
     ensures ending { (behind : List ℕ) → ended_from result behind ≡ ending None whole.now behind }
     ensures few { IsEnded result }

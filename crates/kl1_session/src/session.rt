@@ -100,8 +100,8 @@ fn joined(
     Ok(whole)
 }
 
-/// Puts what `whole` asks for, which a line feed ends, after `asked`; or answers how many bytes the source has of the load that it
-/// begins.
+/// Puts what `whole`, a line or the end of a load, asks for after `asked`. If it is the line of a load, answers how many bytes the
+/// source has instead.
 fn begin(
     alloc: Global,
     source: Option<u64>,
@@ -120,8 +120,8 @@ fn begin(
     }
 }
 
-/// Puts what `bytes` ask for after `asked`, and answers what is kept of them then: how many bytes the source of an unfinished load
-/// has, and the bytes themselves.
+/// Puts what `bytes` ask for after `asked`, and answers what is kept of them: the bytes, and before them how many the source has, if
+/// they stand after the line of a load.
 fn collect<'a>(
     alloc: Global,
     source: Option<u64>,
