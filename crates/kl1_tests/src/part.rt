@@ -27,10 +27,12 @@ pub enum Part {
     Command(command::Kind),
     /// Scripts and what they are made of, by what is asked of them.
     Script(script::Kind),
+    /// Sessions, files of accounts and conversations, by what is asked of them.
+    Session(kl1_session_tests::Kind),
 }
 
 /// The parts by the two words that name them at the front of a heading.
-const PARTS: [(&[u8], Part); 50] = [
+const PARTS: [(&[u8], Part); 54] = [
     (b"store numbers ", Part::Numbers),
     (b"store texts ", Part::Texts),
     (b"read name ", Part::Read(kl1_read_tests::Kind::Name)),
@@ -105,6 +107,22 @@ const PARTS: [(&[u8], Part); 50] = [
     (b"script script ", Part::Script(script::Kind::Script)),
     (b"script both ", Part::Script(script::Kind::Both)),
     (b"script run ", Part::Script(script::Kind::Run)),
+    (
+        b"session stream ",
+        Part::Session(kl1_session_tests::Kind::Stream),
+    ),
+    (
+        b"session file ",
+        Part::Session(kl1_session_tests::Kind::File),
+    ),
+    (
+        b"session talk ",
+        Part::Session(kl1_session_tests::Kind::Talk),
+    ),
+    (
+        b"session faults ",
+        Part::Session(kl1_session_tests::Kind::Faults),
+    ),
 ];
 
 /// The part that the heading of a group names.

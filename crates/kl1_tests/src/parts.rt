@@ -55,6 +55,7 @@ impl<H: Wait> Tried for Parts<'_, H> {
             Part::Again => self.accounts.is_right_again(self.alloc, act, wanted),
             Part::Command(kind) => command::is_right(self.alloc, kind, act, wanted),
             Part::Script(kind) => script::is_right(self.rt, self.alloc, kind, act, wanted),
+            Part::Session(kind) => kl1_session_tests::is_right(self.alloc, kind, act, wanted),
         }
     }
 }
