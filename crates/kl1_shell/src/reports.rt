@@ -12,7 +12,7 @@ use kl1_event::{Listed, Query, Reply, ShoenNo};
 use std::alloc::{AllocError, Global};
 
 /// The reports that one reply lists.
-const PAGE: u64 = 64;
+pub(crate) const PAGE: u64 = 64;
 
 /// The most replies that list the reports of an account.
 const MOST_PAGES: u64 = 1_024;
@@ -53,7 +53,7 @@ fn is_exception(report: &[u8]) -> bool
 }
 
 /// Puts a line after the bytes. After an `Err` some of it may be there.
-fn put_line(out: &mut Vec<u8>, line: &[u8]) -> Result<(), AllocError>
+pub(crate) fn put_line(out: &mut Vec<u8>, line: &[u8]) -> Result<(), AllocError>
     ensures { OnOk result (out.new.items ≡ out.old.items ++ written_line line.now) }
 {
     out.extend_from_slice(line)?;
