@@ -51,7 +51,7 @@ are_apart x y = differs (bytes_eq x y) x y refl
 -- no account has a name that is none of theirs
 pub none_named : (names : List (List ℕ)) (x : List ℕ) (u : ℕ) → is_account names x ≡ false → u < length names → bytes_eq x (get_or names u []) ≡ false
 none_named names x u none within =
-    are_apart x (get_or names u []) (λ e. let h : is_account names x ≡ true = list_any_at (bytes_eq x) names u [] within ((bytes_eq-Decides x (get_or names u [])).1 e) in absurd cc)
+    are_apart x (get_or names u []) (λ e. let h : is_account names x ≡ true = list_any_at (bytes_eq x) names u [] within ((bytes_eq-Decides x (get_or names u [])).1 e) in cc)
 
 not_true : (b : Bool) → not b ≡ true → b ≡ false
 not_true true e = sym e

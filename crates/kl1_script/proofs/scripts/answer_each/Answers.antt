@@ -1,4 +1,4 @@
-use Rattle.std.proofs.Common.{◌∙◌, true, false, refl, sym, subst, rules, List, ℕ}
+use Rattle.std.proofs.Common.{◌∙◌, true, false, refl, ap, sym, subst, arith, length, List, ℕ}
 use Rattle.kl1_model.specs.Record.{Record}
 use Rattle.kl1_lines.specs.Records.{request_of}
 use Rattle.kl1_script.proofs.Endings.{Underway, starts, more_done, fails_there, ends_here, finish_waiting}
@@ -10,7 +10,7 @@ records-init g c =
     let P : List ℕ → Type 0 = λ out. Underway old old c.args.accounts.now c.args.text.now c.args.text.now c.args.world.now.0 out in
     record {
       underway = subst P (sym c.requires.none) (starts old c.args.accounts.now c.args.text.now c.args.world.now.0 c.requires.fresh);
-      few = search rules;
+      few = omega (arith, ap length c.requires.none);
       kept = refl;
     }
 
