@@ -10,8 +10,7 @@ use Rattle.kl1_history.specs.Journal.{Kept}
 use Rattle.kl1_history.specs.Command.{Command, command_of, act, reply_lines, written_line}
 use Rattle.kl1_history.specs.Script.{are_distinct, is_account, done_by, alone_after, written_reply, written_for}
 use Rattle.kl1_atoms.specs.Names.{AreNames}
-use Rattle.kl1_effects.specs.Fitting.{Reading, Fits}
-use Rattle.kl1_journal.specs.Keeping.{Held, kept_of}
+use Rattle.kl1_journal.specs.Keeping.{Reading, Fits, Held, kept_of}
 use Rattle.kl1_journal.proofs.Readings.{reading_of, reading_fits}
 use Rattle.kl1_world.specs.Worlds.{account_in, AreFresh}
 use Rattle.kl1_script.specs.Alone.{AreAlone}

@@ -2,8 +2,7 @@
 use Rattle.std.specs.Prelude.{◌≡◌, ℕ, ◌<◌, List, [], length, get_or}
 use Rattle.kl1_model.specs.Record.{Record}
 use Rattle.kl1_history.specs.Script.{alone_after}
-use Rattle.kl1_effects.specs.Fitting.{Reading, Fits}
-use Rattle.kl1_journal.specs.Keeping.{Held, kept_of}
+use Rattle.kl1_journal.specs.Keeping.{Reading, Fits, Held, kept_of}
 use Rattle.kl1_world.specs.Worlds.{account_in}
 
 -- each account of a world, for each reading of its names, is the account of its name alone after its own commands among these records

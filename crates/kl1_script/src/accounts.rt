@@ -8,7 +8,7 @@ ghost use Rattle.kl1_script.specs.Accounts.{named};
 
 use kl1_lines::{is_blank_line, is_same, split_word};
 use kl1_model::limits::MOST_ACCOUNTS;
-use kl1_user::AccountName;
+use kl1_world::AccountName;
 use std::alloc::{AllocError, Global};
 
 /// Whether no name stands twice.

@@ -6,8 +6,7 @@ ghost use Rattle.kl1_model.specs.Record.{Record as Asked};
 ghost use Rattle.kl1_history.specs.Command.{act, reply_lines};
 ghost use Rattle.kl1_history.specs.Script.{are_distinct, written_for, written_reply};
 ghost use Rattle.kl1_atoms.specs.Names.{AreNames};
-ghost use Rattle.kl1_effects.specs.Fitting.{Reading, Fits};
-ghost use Rattle.kl1_journal.specs.Keeping.{kept_of};
+ghost use Rattle.kl1_journal.specs.Keeping.{Reading, Fits, kept_of};
 ghost use Rattle.kl1_command.specs.Commands.{command_view};
 ghost use Rattle.kl1_lines.specs.Records.{request_of};
 ghost use Rattle.kl1_world.specs.Worlds.{account_in};
@@ -19,8 +18,7 @@ use kl1_codes::CodeSource;
 use kl1_command::{Command, Parsed, Performed, command_in, put_lines};
 use kl1_event::{Refusal, Reply};
 use kl1_lines::Record;
-use kl1_user::AccountName;
-use kl1_world::World;
+use kl1_world::{AccountName, World};
 use std::alloc::{AllocError, Global};
 
 /// Does the command of a record to the account that it names, and puts what is written for it after the bytes. After an `Err` the

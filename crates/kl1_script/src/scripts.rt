@@ -21,8 +21,7 @@ use kl1_lines::{
     NextRecord, Record, ScriptFault, Sink, Source, finish, next_record, pass_on, read_all,
     split_line,
 };
-use kl1_user::AccountName;
-use kl1_world::World;
+use kl1_world::{AccountName, World};
 use std::alloc::Global;
 use std::sync::Wait;
 
