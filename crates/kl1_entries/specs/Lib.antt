@@ -2,3 +2,4 @@ pub mod Lined
 pub mod Codes
 pub mod Slots
 pub mod Shown
+pub mod Reading

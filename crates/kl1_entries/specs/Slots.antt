@@ -1,5 +1,5 @@
 -- What the row of a journal means.
-use Rattle.std.specs.Prelude.{◌≡◌, ℕ, ◌<◌, ◌≤◌, ◌^◌, IsTrue, List, [], length, slice_get, Option, Some, None}
+use Rattle.std.specs.Prelude.{◌≡◌, ℕ, ◌<◌, ◌≤◌, ◌^◌, List, [], length, slice_get, Option, Some, None}
 use Rattle.std.specs.List.{AllByRecursion}
 use Rattle.kl1_model.specs.Limits.{most_sessions}
 use Rattle.kl1_model.specs.declared.message.Message.TheVariants.{Stop, Start, Abort}
@@ -7,7 +7,7 @@ use Rattle.kl1_model.specs.Term.{Term, atom}
 use Rattle.kl1_model.specs.Print.{print}
 use Rattle.kl1_model.specs.Module.{Reading, good, bad, read_goal}
 use Rattle.kl1_history.specs.Journal.{Entry, loads, starts, sends, steps}
-use Rattle.kl1_entries.specs.Lined.{has_line, is_name_row}
+use Rattle.kl1_history.specs.TextLaws.{HasLine, AreNames}
 use Rattle.kl1_entries.specs.declared.slot.Slot.{Slot}
 use Rattle.kl1_entries.specs.declared.slot.Slot.TheVariants as slot
 use Rattle.kl1_entries.specs.declared.whole.Whole.{Whole}
@@ -61,7 +61,7 @@ IsPrinted (whole.Step goal clause) = Unit {0}
 
 -- what is kept whole has a line, and of a goal it has the print
 pub record IsSound (w : Whole) : Type 0 where
-  pub line : IsTrue (has_line (entry_of_whole w))
+  pub line : HasLine (entry_of_whole w)
   pub printed : IsPrinted w
 
 -- what is prepared
@@ -79,6 +79,6 @@ IsSoundForm (form.Long w) = IsSound w
 -- what holds of the parts of each journal
 pub record IsHeld (sessions : ℕ) (names : List (List ℕ)) (slots : List Slot) (wholes : List Whole) : Type 0 where
   pub few_sessions : sessions ≤ most_sessions
-  pub are_names : IsTrue (is_name_row names)
+  pub are_names : AreNames names
   pub places : AllByRecursion (IsPlace (length wholes)) slots
   pub sound : AllByRecursion IsSound wholes

@@ -1,10 +1,10 @@
 // The journal of an account.
 
-ghost use Rattle.std.specs.Prelude.{◌≡◌, ◌<◌, ◌≤◌, ◌==◌, [], length, IsTrue, IfOk, OnOk, IfSome};
-ghost use Rattle.std.specs.List.{list_all};
-ghost use Rattle.kl1_model.specs.Limits.{most_sessions, most_names};
+ghost use Rattle.std.specs.Prelude.{◌≡◌, ◌<◌, ◌≤◌, ◌==◌, [], length, IfOk, OnOk, IfSome};
+ghost use Rattle.kl1_model.specs.Limits.{most_sessions};
 ghost use Rattle.kl1_history.specs.Journal.{new_journal};
-ghost use Rattle.kl1_entries.specs.Lined.{has_line, is_name_row, with_prepared};
+ghost use Rattle.kl1_history.specs.TextLaws.{AreNames, IsWritten};
+ghost use Rattle.kl1_entries.specs.Lined.{with_prepared};
 
 use crate::prepared::{Form, Prepared};
 use crate::slot::Slot;
@@ -55,7 +55,7 @@ impl Journal {
 
     /// A journal of these names and this number of open sessions, without entries.
     pub fn with_names(alloc: Global, names: &[AtomText], sessions: u64) -> Result<Self, AllocError>
-        requires names { IsTrue (is_name_row names.now) }
+        requires names { AreNames names.now }
         requires sessions { sessions ≤ most_sessions }
         ensures { IfOk result (λ j. j.journal ≡ new_journal names.now sessions) }
     {
@@ -128,12 +128,10 @@ impl Journal {
         self.slots.is_empty()
     }
 
-    /// Tells a caller's proof what holds of each journal: at most 4 sessions are open, its names are names without repeats, none of
-    /// them built in, and at most 1,024, and each entry has a line. It does nothing.
-    pub fn shows_lines(&self)
-        ensures sessions { self.now.journal.sessions ≤ most_sessions }
-        ensures names { IsTrue (is_name_row self.now.journal.names) }
-        ensures entries { IsTrue (list_all has_line self.now.journal.entries) }
+    /// Tells a caller's proof that each journal has a text that reads back: at most 4 sessions are open, its names are at most 1,024
+    /// names, none built in and no two the same, and each entry has a line. It does nothing.
+    pub fn shows_written(&self)
+        ensures { IsWritten self.now.journal }
     {
         let _slots = &self.slots;
     }

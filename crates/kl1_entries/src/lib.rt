@@ -3,14 +3,21 @@
 
 mod entries;
 mod entry;
+mod heading;
 mod journal;
 mod lines;
+mod loose;
+mod name;
 mod page;
 mod prepared;
 mod slot;
+mod text;
 mod whole;
 
 pub use entries::Entries;
 pub use entry::Entry;
+pub use heading::{Heading, heading_of};
 pub use journal::Journal;
+pub use name::name_of;
 pub use prepared::{Prepared, entry_for, step_for};
+pub use text::next_line;

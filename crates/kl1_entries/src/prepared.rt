@@ -4,7 +4,6 @@ ghost use Rattle.std.specs.Prelude.{◌≡◌, ◌≤◌, ◌+◌, nat_le, lengt
 ghost use Rattle.kl1_model.specs.Print.{print};
 ghost use Rattle.kl1_model.specs.Event.{is_number, most_line_bytes};
 ghost use Rattle.kl1_model.specs.Sending.{may_send};
-ghost use Rattle.kl1_model.specs.ReadLaws.{is_printable};
 ghost use Rattle.kl1_history.specs.Journal.{loads, starts, sends, steps};
 ghost use Rattle.kl1_event.specs.Views.{event_of};
 ghost use Rattle.kl1_entries.specs.Lined.{entry_of, is_lined, if_lined, lined_entry};
@@ -107,13 +106,6 @@ fn load_for(alloc: Global, source: &[u8]) -> Result<Prepared, AllocError>
     })
 }
 
-/// Whether a goal can be read from its print.
-fn is_printable(alloc: Global, goal: &Term) -> Result<bool, AllocError>
-    ensures { IfOk result (λ may. may ≡ is_printable goal.now) }
-{
-    Ok(goal.is_writable(alloc)? && goal.is_numbered() && is_number(goal.highest()))
-}
-
 /// How many digits a number has.
 fn digits(number: u64) -> usize
     ensures value { result ≡ length (decimal number) }
@@ -131,7 +123,8 @@ fn fits_line(allowance: u64, low: u64, high: u64, bytes: usize) -> bool
         && 9 + digits(allowance) + digits(low) + digits(high) + bytes <= MOST_LINE_BYTES
 }
 
-/// Whether the numbers of a start may stand in a line, its goal can be read from its print `text`, and the line isn't too long.
+/// Whether the numbers of a start may stand in a line, its goal, whose print is `text`, can be written and read back, and the line isn't
+/// too long.
 fn is_lined(
     alloc: Global,
     allowance: u64,
@@ -143,13 +136,14 @@ fn is_lined(
     requires { text.now ≡ print goal.now }
     ensures { IfOk result (λ may. may ≡ is_lined (starts allowance low high goal.now)) }
 {
-    let printable = is_printable(alloc, goal)?;
+    let writable = goal.is_writable(alloc)?;
     Ok(
         is_number(allowance)
             && is_number(low)
             && is_number(high)
             && is_goal(goal)
-            && printable
+            && writable
+            && goal.is_numbered()
             && fits_line(allowance, low, high, text.len()),
     )
 }

@@ -137,7 +137,8 @@ by_back (sends n Abort) h = ap (option_map (λ k. sends k Abort)) (number_back n
 by_back (sends n (Allow k)) h = ap (of_two (λ n k. sends n (Allow k))) (two_parts (decimal n) (decimal k)) ∙ two_back (λ n k. sends n (Allow k)) n k (sent_number n (Allow k) h) (sent_more n k h)
 by_back (steps goal clause) h = ap (of_two steps) (two_parts (decimal goal) (decimal clause)) ∙ two_back steps goal clause h.0 h.1
 
-length_hex : (bs : List ℕ) → length (hex_text bs) ≡ 2 * length bs
+-- two digits each
+pub length_hex : (bs : List ℕ) → length (hex_text bs) ≡ 2 * length bs
 length_hex [] = refl
 length_hex (b ∷ bs) = omega (arith, length_hex bs)
 
@@ -146,7 +147,7 @@ length_two a b p q = omega (arith, length-append (decimal a ++ codes " ") (decim
 
 -- the line of an entry isn't too long
 fits : (e : Entry) → HasLine e → length (entry_line e) ≤ most_line_bytes
-fits (loads text) h = omega (arith, length_hex text, h.1)
+fits (loads text) h = h.1
 fits (starts allowance low high t) h = h.6
 fits (sends n Stop) h = omega (arith, few_digits n (sent_number n Stop h))
 fits (sends n Start) h = omega (arith, few_digits n (sent_number n Start h))

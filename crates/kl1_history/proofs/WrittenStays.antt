@@ -23,6 +23,7 @@ use Rattle.kl1_history.specs.Journal.{Entry, loads, starts, sends, steps, event_
 use Rattle.kl1_history.specs.TextLaws.{HasLine, AreNames, IsWritten, HasBytes, FreshIsWritten, WrittenStays}
 use Rattle.kl1_history.proofs.Besides.{stays_beside}
 use Rattle.kl1_history.proofs.Replays.{reading_stays}
+use Rattle.kl1_history.proofs.TextEntries.{length_hex}
 use Rattle.kl1_history.proofs.NewNames.{with_names_new, no_names, names_are_texts}
 use Rattle.kl1_history.proofs.SpelledTexts.{MayAct, actions_name_texts}
 use Rattle.kl1_history.proofs.NamesKept.{IsNamed, same_names, open_has, acted_named, sent_has}
@@ -168,7 +169,7 @@ entry_written j e is w = record { sessions = w.sessions; names = w.names; entrie
 
 accepted_written : (j : Journal) (s : State) (e : Event) → HasBytes e → is_refused (step s e).reply ≡ false → IsNamed (step s e).state → (step s e).state.sessions ≤ most_sessions → IsWritten j → IsWritten (with_event j e (step s e).state)
 accepted_written j s (load text) bytes a named few w =
-    entry_written j (loads text) (bytes, leb-true (length text) most_source_bytes (passed (nat_le (length text) most_source_bytes) s (load_module s (read_module text)) syntax a)) w
+    entry_written j (loads text) (bytes, omega (arith, length_hex text, leb-true (length text) most_source_bytes (passed (nat_le (length text) most_source_bytes) s (load_module s (read_module text)) syntax a))) w
 accepted_written j s (start allowance low high t) bytes a named few w =
     entry_written j (starts allowance low high t) (may_start_line allowance low high t (passed (may_start allowance low high t) s _ syntax a)) w
 accepted_written j s (control n m) bytes a named few w = entry_written j (sends n m) (passed (may_send n m) s (send_to s n m (shoen_at n s.shoens)) syntax a) w

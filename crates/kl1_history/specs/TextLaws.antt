@@ -1,7 +1,7 @@
 -- What holds of the text of a journal.
 use Rattle.std.specs.Prelude.{◌≡◌, ℕ, ◌≤◌, ◌<◌, ◌==◌, not, ◌&&◌, Bool, true, List, [], ◌∷◌, ◌++◌, length, Some, IsTrue}
 use Rattle.std.specs.List.{list_all, AllByRecursion}
-use Rattle.kl1_model.specs.Limits.{number_limit, most_source_bytes, most_line_bytes, most_names, most_sessions}
+use Rattle.kl1_model.specs.Limits.{number_limit, most_line_bytes, most_names, most_sessions}
 use Rattle.kl1_model.specs.Text.{is_text}
 use Rattle.kl1_model.specs.Meaning.{is_writable, is_numbered}
 use Rattle.kl1_model.specs.Goal.{is_goal}
@@ -16,10 +16,10 @@ use Rattle.kl1_history.specs.JournalText.{entry_line, name_line, first_line, jou
 abbrev pub AreBytes : List ℕ → Type 0
 AreBytes bs = AllByRecursion (λ b. b < 256) bs
 
--- an entry that has a line: its numbers are below 2 ^ 63, its source is bytes and not too many of them, and its goal can be written and
--- read back on a line that isn't too long
+-- an entry that has a line: its numbers are below 2 ^ 63, its source is bytes, its goal can be written and read back, and the line of a
+-- source or of a goal isn't too long
 abbrev pub HasLine : Entry → Type 0
-HasLine (loads text) = AreBytes text × (length text ≤ most_source_bytes)
+HasLine (loads text) = AreBytes text × (length (entry_line (loads text)) ≤ most_line_bytes)
 HasLine (starts allowance low high t) =
     (allowance < number_limit) × (low < number_limit) × (high < number_limit) × IsTrue (is_goal t) × IsTrue (is_writable t) × IsTrue (is_numbered t) × (length (start_line allowance low high t) ≤ most_line_bytes)
 HasLine (sends n m) = IsTrue (may_send n m)

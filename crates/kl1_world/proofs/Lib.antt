@@ -1,2 +1,3 @@
 pub mod Lodgings
+pub mod Steps
 pub mod Runs
