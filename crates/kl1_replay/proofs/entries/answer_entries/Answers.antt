@@ -57,4 +57,4 @@ returns-in-None g c = λ s from.
     let ls = lines_of c.args.text.now in
     let user = state_of f c.entries.replayed in
     let rest = c.entries.rest.now in
-    ends_here c.finish_rest.result (g.W.Sink.contents c.args.sink.now) (g.W.Sink.contents c.entries.sink) (g.W.Sink.contents c.finish_rest.new.sink) (g.W.Sink.failures c.args.sink.now) (g.W.Sink.failures c.entries.sink) (g.W.Sink.failures c.finish_rest.new.sink) (written_entries c.args.first 0 s ls.whole ls.rest) (λ n. first_entries n s ls.whole) c.entries.line c.entries.entries user (lines_of rest) c.as_slice-in-None.result.now c.entries.out.items (written_rest c.entries.line c.entries.entries rest) (c.entries.invariant.underway s from f fits) c.entries.invariant.kept c.as_slice-in-None.ensures.value (rest_next c.entries.line c.entries.entries user (lines_of rest) rest (c.in-None.ensures.none tt)) c.finish_rest.ensures
+    ends_here c.finish_rest.result (g.W.Sink.contents c.args.sink.now) (g.W.Sink.contents c.entries.sink) (g.W.Sink.contents c.finish_rest.new.sink) (g.W.Sink.failures c.args.sink.now) (g.W.Sink.failures c.entries.sink) (g.W.Sink.failures c.finish_rest.new.sink) (written_entries c.args.first 0 s ls.whole ls.rest) (λ n. first_entries n s ls.whole) c.entries.line c.entries.entries user (lines_of rest) c.as_slice-in-None.result.now c.entries.out.items (written_rest c.entries.line c.entries.entries rest) (c.entries.invariant.underway s from f fits) c.entries.invariant.kept c.as_slice-in-None.ensures.value (rest_next c.entries.line c.entries.entries user (lines_of rest) rest (c.in-None.ensures.none refl)) c.finish_rest.ensures

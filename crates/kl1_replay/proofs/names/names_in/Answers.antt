@@ -1,4 +1,4 @@
-use Rattle.std.proofs.Common.{◌≡◌, ℕ, suc, ◌+◌, ◌-◌, ◌<◌, Bool, true, false, List, [], ◌∷◌, ◌++◌, length, length-append, Some, None, sym, arith}
+use Rattle.std.proofs.Common.{◌≡◌, ℕ, suc, ◌+◌, ◌-◌, ◌<◌, Bool, true, false, List, [], ◌∷◌, ◌++◌, length, length-append, refl, sym, arith}
 use Rattle.std.proofs.lemmas.Grind.{common_steps}
 use Rattle.kl1_history.specs.JournalText.{lines_of, name_in, is_new_name}
 use Rattle.kl1_replay.proofs.LinesOfNames.{goes_more, ends_short, ends_nameless, ends_old}
@@ -10,7 +10,7 @@ returns-in_default c =
     let names = c.loop-names.names.items in
     let few : length names < c.args.count = grind (arith, common_steps) in
     let place : c.len-in-loop-names.result + 2 ≡ length names + 2 = grind (arith, common_steps) in
-    ends_short c.args.count (lines_of c.args.text.now) (c.args.count - length names) (c.args.count - (length names + 1)) (length names + 2) (c.len-in-loop-names.result + 2) names (lines_of c.loop-names.rest.now) c.loop-names.rest.now c.loop-names.invariant.on (omega (arith, few)) place (c.in_default.ensures.none tt)
+    ends_short c.args.count (lines_of c.args.text.now) (c.args.count - length names) (c.args.count - (length names + 1)) (length names + 2) (c.len-in-loop-names.result + 2) names (lines_of c.loop-names.rest.now) c.loop-names.rest.now c.loop-names.invariant.on (omega (arith, few)) place (c.in_default.ensures.none refl)
 
 pub returns-in_default-name_of : goal.returns-in_default-name_of
 returns-in_default-name_of c =
@@ -24,14 +24,14 @@ returns-then-not-may_follow c =
     let names = c.loop-names.names.items in
     let few : length names < c.args.count = grind (arith, common_steps) in
     let place : c.len-in-loop-names.result + 2 ≡ length names + 2 = grind (arith, common_steps) in
-    let old : is_new_name names c.in-Some-name_of.name ≡ false = rw (sym c.as_slice.ensures.value, sym c.may_follow.ensures) c.if-not-may_follow.ensures in
+    let old : is_new_name names c.in-Some-name_of.name ≡ false = rw (sym c.as_slice.ensures.value) (sym c.if-not-may_follow.ensures) in
     ends_old c.args.count (lines_of c.args.text.now) (c.args.count - length names) (c.args.count - (length names + 1)) (length names + 2) (c.len-in-loop-names.result + 2) names c.in-Some-name_of.name c.in-Some.name_line.now (lines_of c.loop-names.rest.now) (lines_of c.in-Some.after.now) c.loop-names.invariant.on (omega (arith, few)) place c.in-Some.ensures.some (sym c.in-Some-name_of.ensures) old
 
 pub loop-names-preserved : goal.loop-names-preserved
 loop-names-preserved c =
     let names = c.loop-names.names.items in
     let few : length names < c.args.count = grind (arith, common_steps) in
-    let new : is_new_name names c.in-Some-name_of.name ≡ true = rw (sym c.as_slice.ensures.value, sym c.may_follow.ensures) c.if-not-may_follow.ensures in
+    let new : is_new_name names c.in-Some-name_of.name ≡ true = rw (sym c.as_slice.ensures.value) (sym c.if-not-may_follow.ensures) in
     let more : length c.push.new.self.items ≡ length names + 1 = rw c.in_ok-push.ensures.items (length-append names (c.in-Some-name_of.name ∷ [])) in
     record {
       on = goes_more c.args.count (lines_of c.args.text.now) (c.args.count - length names) (c.args.count - length c.push.new.self.items) (length names + 2) (length c.push.new.self.items + 2) names c.push.new.self.items c.in-Some-name_of.name c.in-Some.name_line.now (lines_of c.loop-names.rest.now) (lines_of c.in-Some.after.now) c.loop-names.invariant.on (omega (arith, few, more)) (omega (arith, more)) c.in_ok-push.ensures.items c.in-Some.ensures.some (sym c.in-Some-name_of.ensures) new;
