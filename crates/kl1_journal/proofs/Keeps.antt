@@ -16,8 +16,8 @@ use Rattle.kl1_atoms.specs.declared.known.Known.{Known}
 use Rattle.std.proofs.lemmas.Option.{none-some}
 use Rattle.kl1_atoms.specs.Names.{AreNames}
 use Rattle.kl1_atoms.specs.Knowing.{are_names}
-use Rattle.kl1_effects.specs.Fitting.{Reading, Fits}
-use Rattle.kl1_effects.specs.Account.{Account, state_of, texts_of}
+use Rattle.kl1_user.specs.Accounts.{Reading, Fits}
+use Rattle.kl1_user.specs.Accounts.{Account, state_of, texts_of}
 use Rattle.kl1_entries.specs.Lined.{if_lined, with_prepared}
 use Rattle.kl1_entries.proofs.Accepted.{accepted_entries}
 use Rattle.kl1_event.specs.declared.refusal.Refusal.{Refusal}

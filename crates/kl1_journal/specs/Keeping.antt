@@ -4,8 +4,8 @@ use Rattle.kl1_history.specs.Journal.{Journal, new_journal, Kept}
 use Rattle.kl1_history.specs.HistoryLaws.{IsReplay}
 use Rattle.kl1_history.specs.TextLaws.{AreNames}
 use Rattle.kl1_store.specs.Held.{nothing_held}
-use Rattle.kl1_effects.specs.Fitting.{Reading, Fits}
-use Rattle.kl1_effects.specs.Account.{Account, state_of, texts_of}
+pub use Rattle.kl1_user.specs.Accounts.{Reading, Fits}
+use Rattle.kl1_user.specs.Accounts.{Account, state_of, texts_of}
 
 -- an account with its journal
 abbrev pub Held : Type 0

@@ -8,7 +8,7 @@ use Rattle.kl1_model.specs.Event as model
 use Rattle.kl1_event.specs.declared.event.Event.{Event}
 use Rattle.kl1_event.specs.declared.reply.Reply.{Reply}
 use Rattle.kl1_event.specs.Views.{event_of, reply_of}
-use Rattle.kl1_effects.specs.Fitting.{Reading, Fits}
+use Rattle.kl1_journal.specs.Keeping.{Reading, Fits}
 use Rattle.kl1_history.specs.Alone.{Deed, Told, only, replies_at, with_reply, alone}
 use Rattle.kl1_journal.specs.Keeping.{Held, nobody, kept_of}
 use Rattle.kl1_world.specs.Worlds.{account_in, deed_of, deeds_of, IsRun, Answers}

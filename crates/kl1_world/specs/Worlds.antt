@@ -7,7 +7,7 @@ use Rattle.kl1_history.specs.Alone.{Deed, Told, only, replies_at, alone}
 use Rattle.kl1_event.specs.declared.event.Event.{Event}
 use Rattle.kl1_event.specs.declared.reply.Reply.{Reply}
 use Rattle.kl1_event.specs.Views.{event_of, reply_of}
-use Rattle.kl1_effects.specs.Fitting.{Reading, Fits}
+use Rattle.kl1_journal.specs.Keeping.{Reading, Fits}
 use Rattle.kl1_journal.specs.Keeping.{Held, nobody, kept_of}
 
 -- the account of a number, with its journal

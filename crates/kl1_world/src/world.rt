@@ -6,7 +6,7 @@ ghost use Rattle.kl1_model.specs.Choice.{first, quiet};
 ghost use Rattle.kl1_history.specs.Journal.{done};
 ghost use Rattle.kl1_history.specs.JournalText.{page_of};
 ghost use Rattle.kl1_atoms.specs.Names.{AreNames};
-ghost use Rattle.kl1_effects.specs.Fitting.{Reading, Fits};
+ghost use Rattle.kl1_journal.specs.Keeping.{Reading, Fits};
 ghost use Rattle.kl1_event.specs.Views.{event_of, is_logout, reply_of, reduced_or, chosen_of};
 ghost use Rattle.kl1_event.specs.Whole.{whole_value};
 ghost use Rattle.kl1_command.specs.Commands.{command_view};
@@ -20,8 +20,7 @@ use kl1_atoms::AtomSource;
 use kl1_codes::CodeSource;
 use kl1_command::{Command, Host, Performed, perform};
 use kl1_event::{ClauseNo, Event, GoalNo, Listed, Refusal, Reply, ShoenNo};
-use kl1_journal::Kept;
-use kl1_user::AccountName;
+use kl1_journal::{AccountName, Kept};
 use std::alloc::{AllocError, Global};
 use std::marker::Model;
 
@@ -218,7 +217,7 @@ impl<A: AtomSource + Drop, C: CodeSource + Drop> World<A, C> {
 
 impl<A: AtomSource + Drop, C: CodeSource + Drop> Host for World<A, C> {
     ghost use Rattle.std.specs.Prelude.{List, ℕ};
-    ghost use Rattle.kl1_effects.specs.Fitting.{Reading as NameReading, Fits};
+    ghost use Rattle.kl1_journal.specs.Keeping.{Reading as NameReading, Fits};
     ghost use Rattle.kl1_journal.specs.Keeping.{Held, kept_of};
     ghost use Rattle.kl1_world.specs.Worlds.{account_in, all_but};
 

@@ -2,8 +2,8 @@ use Rattle.std.proofs.Common.{◌≡◌, if◌then◌else◌, ap, sym, ◌∙◌
 use Rattle.kl1_model.specs.TreeLaws.{is_refused}
 use Rattle.kl1_history.specs.Journal.{Journal, done}
 use Rattle.kl1_atoms.specs.Names.{AreNames}
-use Rattle.kl1_effects.specs.Fitting.{Reading, Fits}
-use Rattle.kl1_effects.specs.Account.{Account, texts_of}
+use Rattle.kl1_user.specs.Accounts.{Reading, Fits}
+use Rattle.kl1_user.specs.Accounts.{Account, texts_of}
 use Rattle.kl1_event.specs.Views.{event_of, reply_of}
 use Rattle.kl1_journal.specs.Changes.{IsChange, SessionsFit, changed}
 use Rattle.kl1_journal.specs.Keeping.{kept_of}

@@ -3,8 +3,8 @@ use Rattle.std.specs.Prelude.{is_some}
 use Rattle.kl1_model.specs.Event as model
 use Rattle.kl1_history.specs.Journal.{Journal, steps, done}
 use Rattle.kl1_atoms.specs.Names.{AreNames}
-use Rattle.kl1_effects.specs.Fitting.{Reading, Fits}
-use Rattle.kl1_effects.specs.Account.{Account}
+use Rattle.kl1_user.specs.Accounts.{Reading, Fits}
+use Rattle.kl1_user.specs.Accounts.{Account}
 use Rattle.kl1_entries.specs.Lined.{if_lined, with_prepared}
 use Rattle.kl1_event.specs.Views.{reduced_or}
 use Rattle.kl1_journal.specs.Keeping.{kept_of}

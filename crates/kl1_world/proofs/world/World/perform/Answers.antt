@@ -1,7 +1,7 @@
 use Rattle.std.proofs.Common.{◌≡◌, ℕ, List, length, sym, ap, ◌∙◌, subst}
 use Rattle.kl1_command.specs.Commands.{command_view}
 use Rattle.kl1_command.specs.Performing.{Performs, IsUntouched}
-use Rattle.kl1_effects.specs.Fitting.{Reading, Fits}
+use Rattle.kl1_journal.specs.Keeping.{Reading, Fits}
 use Rattle.kl1_journal.specs.Keeping.{Held, kept_of}
 use Rattle.kl1_world.specs.Worlds.{account_in, all_but}
 use Rattle.kl1_world.proofs.Lodgings.{accounts_of}

@@ -4,7 +4,7 @@ use Rattle.kl1_model.specs.Event as model
 use Rattle.kl1_history.specs.Journal.{done}
 use Rattle.kl1_event.specs.Views.{reduced_or}
 use Rattle.kl1_modules.specs.Numbered.{ArePlaced}
-use Rattle.kl1_effects.specs.Fitting.{Reading, Fits}
+use Rattle.kl1_journal.specs.Keeping.{Reading, Fits}
 use Rattle.kl1_journal.specs.Keeping.{Held, kept_of}
 use Rattle.kl1_world.specs.Worlds.{account_in}
 use Rattle.kl1_world.proofs.Lodgings.{accounts_of, as_many, stands, account_at, lodged_set, changed_at, changed_all, changed_none}
