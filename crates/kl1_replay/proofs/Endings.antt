@@ -1,5 +1,5 @@
 -- How far the entries of a text are done, and what is written at the end.
-use Rattle.std.proofs.Common.{◌≡◌, ℕ, suc, ◌+◌, Bool, true, false, List, [], ◌∷◌, ◌++◌, Option, Some, None, refl, sym, ap, ◌∙◌, subst, append_assoc, arith}
+use Rattle.std.proofs.Common.{◌≡◌, ℕ, suc, ◌+◌, true, false, List, [], ◌++◌, Option, Some, None, refl, sym, ap, ◌∙◌, subst, append_assoc, arith}
 use Rattle.std.proofs.lemmas.List.{append-nil}
 use Rattle.std.specs.Prelude.{Ok, Err}
 use Rattle.std.specs.declared.result.Result.{Result}
@@ -14,7 +14,7 @@ use Rattle.kl1_lines.specs.Devices.{PassesOn}
 use Rattle.kl1_lines.specs.declared.script_fault.ScriptFault.{ScriptFault}
 use Rattle.kl1_lines.specs.declared.script_fault.ScriptFault.TheVariants as faults
 use Rattle.kl1_lines.proofs.DeviceLaws.{appends_both, appends_none, front_behind, some_left}
-use Rattle.kl1_replay.specs.Fronts.{accepted_in, first_entries, front_of}
+use Rattle.kl1_replay.specs.Fronts.{accepted_in, first_entries}
 use Rattle.kl1_replay.specs.Replays.{Ends, Fails, Stops, StopsBefore, Finishes}
 use Rattle.kl1_replay.specs.Steps.{told_of, Went}
 use Rattle.kl1_replay.proofs.Accepted.{one_accepted, one_fault, one_first, told_front}

@@ -1,7 +1,6 @@
 -- How the lines of names go on, and end.
-use Rattle.std.proofs.Common.{◌≡◌, ℕ, zero, suc, ◌+◌, Bool, true, false, List, [], ◌∷◌, ◌++◌, Option, Some, None, refl, sym, ap, ◌∙◌, if◌then◌else◌}
+use Rattle.std.proofs.Common.{◌≡◌, ℕ, zero, suc, ◌+◌, Bool, true, false, List, [], ◌∷◌, ◌++◌, Option, Some, None, refl, ◌∙◌, if◌then◌else◌}
 use Rattle.kl1_history.specs.JournalText.{Lines, Heading, name_in, is_new_name, heading_in, lines_of}
-use Rattle.kl1_history.specs.Replay.{written_names, written_fault}
 use Rattle.kl1_entries.specs.Reading.{with_line}
 use Rattle.kl1_replay.specs.Fronts.{first_name, first_names, first_after, first_lines, front_of}
 use Rattle.kl1_replay.specs.Names.{GoesOn, EndsAt}

@@ -5,8 +5,7 @@ use Rattle.kl1_text.specs.declared.cell_name.CellName.{CellName}
 use Rattle.kl1_atoms.specs.declared.known.Known.{Known}
 use Rattle.kl1_atoms.specs.Names.{AreNames, reading}
 use Rattle.kl1_atoms.specs.Knowing.{is_reading}
-use Rattle.kl1_effects.specs.Fitting.{Reading, Fits}
-use Rattle.kl1_effects.specs.Naming.{Grows}
+use Rattle.kl1_user.specs.Accounts.{Reading, Fits, Grows}
 
 -- what fits more names fits those before
 pub fits_before : (old new : List Known) (f : Reading) → Grows old new → Fits new f → Fits old f

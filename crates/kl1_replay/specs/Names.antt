@@ -2,7 +2,7 @@
 use Rattle.std.specs.Prelude.{◌≡◌, ◌+◌, ◌≤◌, ℕ, List, [], length}
 use Rattle.kl1_history.specs.JournalText.{Lines, lines_of}
 use Rattle.kl1_history.specs.Replay.{written_names, written_fault}
-use Rattle.kl1_effects.specs.Naming.{IsNameList}
+use Rattle.kl1_user.specs.Accounts.{IsNameList}
 use Rattle.kl1_replay.specs.Fronts.{first_names}
 use Rattle.kl1_replay.specs.declared.names.Named.{Named}
 use Rattle.kl1_replay.specs.declared.names.Named.TheVariants as named

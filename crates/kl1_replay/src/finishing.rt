@@ -1,6 +1,6 @@
 // How a replay ends: the last bytes, and the lines that end it.
 
-ghost use Rattle.std.specs.Prelude.{◌≡◌, ◌+◌, ◌≤◌, ◌++◌, length, codes, decimal};
+ghost use Rattle.std.specs.Prelude.{◌≡◌, ◌+◌, ◌≤◌, ◌++◌, length, decimal};
 ghost use Rattle.kl1_history.specs.Command.{written_line};
 ghost use Rattle.kl1_history.specs.Replay.{written_end, written_fault, written_rest};
 ghost use Rattle.kl1_replay.specs.Replays.{Finishes, Stops};

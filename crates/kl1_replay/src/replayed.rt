@@ -7,9 +7,7 @@ ghost use Rattle.kl1_model.specs.Step.{step};
 ghost use Rattle.kl1_history.specs.Replay.{replay_name};
 ghost use Rattle.kl1_atoms.specs.Names.{AreNames};
 ghost use Rattle.kl1_event.specs.Views.{event_of, reply_of};
-ghost use Rattle.kl1_effects.specs.Fitting.{Reading, Fits};
-ghost use Rattle.kl1_effects.specs.Naming.{IsNameList};
-ghost use Rattle.kl1_effects.specs.Account.{state_of};
+ghost use Rattle.kl1_user.specs.Accounts.{Reading, Fits, IsNameList, state_of};
 
 use kl1_atoms::AtomSource;
 use kl1_codes::CodeSource;
@@ -31,7 +29,7 @@ pub(crate) struct Replayed<A: AtomSource + Drop, C: CodeSource + Drop> {
 impl<A: AtomSource + Drop, C: CodeSource + Drop> Model for Replayed<A, C> {
     ghost use Rattle.std.specs.Coded.{codes};
     ghost use Rattle.kl1_modules.specs.Numbered.{numbered_code, ArePlaced};
-    ghost use Rattle.kl1_effects.specs.Account.{Account as Kept};
+    ghost use Rattle.kl1_user.specs.Accounts.{Account as Kept};
 
     ghost Value = { Kept };
 

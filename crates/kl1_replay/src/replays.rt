@@ -1,12 +1,12 @@
 // The replay of a journal, from the bytes of its text to what is written for it.
 
-ghost use Rattle.std.specs.Prelude.{◌≡◌, ◌+◌, ◌<◌, ◌≤◌, ◌^◌, ℕ, List, [], length, OnOk, IsErrOf};
+ghost use Rattle.std.specs.Prelude.{◌≡◌, ◌+◌, ◌<◌, ◌≤◌, ℕ, List, [], length, OnOk, IsErrOf};
 ghost use Rattle.std.specs.Io.KnownBytes.{Consumes};
 ghost use Rattle.kl1_model.specs.Limits.{most_names, most_script_bytes};
 ghost use Rattle.kl1_model.specs.State.{fresh_with};
 ghost use Rattle.kl1_history.specs.JournalText.{lines_of};
 ghost use Rattle.kl1_history.specs.Replay.{replay_name, replay_output, written_entries, written_names};
-ghost use Rattle.kl1_effects.specs.Naming.{IsNameList};
+ghost use Rattle.kl1_user.specs.Accounts.{IsNameList};
 ghost use Rattle.kl1_lines.specs.Devices.{ReadsFew};
 ghost use Rattle.kl1_lines.specs.declared.script_fault.ScriptFault.TheVariants as faults;
 ghost use Rattle.kl1_replay.specs.Fronts.{first_entries, first_names, front_of};

@@ -1,7 +1,7 @@
-use Rattle.std.proofs.Common.{◌≡◌, ℕ, ◌+◌, Bool, true, false, refl, sym, ◌∙◌, subst, arith}
+use Rattle.std.proofs.Common.{◌+◌, Bool, refl, ◌∙◌, subst, arith}
 use Rattle.kl1_history.specs.JournalText.{lines_of}
 use Rattle.kl1_history.specs.Replay.{written_entries, written_fault, written_rest}
-use Rattle.kl1_effects.specs.Account.{state_of}
+use Rattle.kl1_user.specs.Accounts.{state_of}
 use Rattle.kl1_replay.specs.Fronts.{accepted_in, first_entries}
 use Rattle.kl1_replay.specs.Steps.{Went}
 use Rattle.kl1_replay.proofs.Endings.{more_done, fault_next, rest_next, fails_there, ends_here}

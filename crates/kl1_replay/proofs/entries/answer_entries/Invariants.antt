@@ -3,8 +3,7 @@ use Rattle.kl1_model.specs.Limits.{most_waiting_bytes}
 use Rattle.kl1_model.specs.State.{State}
 use Rattle.kl1_history.specs.JournalText.{lines_of}
 use Rattle.kl1_history.specs.Replay.{written_entries}
-use Rattle.kl1_effects.specs.Fitting.{Reading, Fits}
-use Rattle.kl1_effects.specs.Account.{state_of}
+use Rattle.kl1_user.specs.Accounts.{Reading, Fits, state_of}
 use Rattle.kl1_replay.specs.Fronts.{first_entries}
 use Rattle.kl1_replay.proofs.Endings.{Underway}
 use Rattle.kl1_replay.proofs.entries.answer_entries.Given as goal

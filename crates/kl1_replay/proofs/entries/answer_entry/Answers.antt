@@ -1,5 +1,5 @@
 use Rattle.std.proofs.Common.{subst, List, ℕ, ◌∙◌}
-use Rattle.kl1_effects.specs.Account.{state_of}
+use Rattle.kl1_user.specs.Accounts.{state_of}
 use Rattle.kl1_replay.specs.Fronts.{accepted_in}
 use Rattle.kl1_replay.specs.Replays.{Stops}
 use Rattle.kl1_replay.specs.Steps.{told_of}

@@ -1,11 +1,10 @@
-use Rattle.std.proofs.Common.{◌≡◌, None, Some, ◌++◌, ◌∙◌, ap, sym}
+use Rattle.std.proofs.Common.{◌≡◌, ◌++◌, ap, sym}
 use Rattle.std.specs.Prelude.{option_map}
 use Rattle.std.proofs.lemmas.Result.{IfOk-weaker}
 use Rattle.std.proofs.lemmas.List.{append-nil}
 use Rattle.kl1_model.specs.Step.{step}
 use Rattle.kl1_event.specs.Views.{event_of}
-use Rattle.kl1_effects.specs.Account.{state_of}
-use Rattle.kl1_effects.specs.Fitting.{Reading, Fits}
+use Rattle.kl1_user.specs.Accounts.{state_of, Reading, Fits}
 use Rattle.kl1_replay.specs.Fronts.{accepted_in, if_accepted}
 use Rattle.kl1_replay.specs.Steps.{Went, told_of}
 use Rattle.kl1_replay.proofs.Accepted.{no_entry, some_entry}

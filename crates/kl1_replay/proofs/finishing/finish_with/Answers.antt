@@ -1,4 +1,4 @@
-use Rattle.std.proofs.Common.{◌≡◌, [], ◌++◌, refl, sym}
+use Rattle.std.proofs.Common.{[], ◌++◌, refl, sym}
 use Rattle.std.proofs.lemmas.List.{append-nil}
 use Rattle.kl1_lines.proofs.DeviceLaws.{appends_none, front_behind}
 use Rattle.kl1_replay.proofs.finishing.finish_with.Goals as goal

@@ -1,6 +1,6 @@
-use Rattle.std.proofs.Common.{◌≡◌, ℕ, suc, ◌+◌, ◌-◌, ◌<◌, Bool, true, false, List, [], ◌∷◌, ◌++◌, length, length-append, refl, sym, arith}
+use Rattle.std.proofs.Common.{◌≡◌, ◌+◌, ◌-◌, ◌<◌, true, false, [], ◌∷◌, length, length-append, refl, sym, arith}
 use Rattle.std.proofs.lemmas.Grind.{common_steps}
-use Rattle.kl1_history.specs.JournalText.{lines_of, name_in, is_new_name}
+use Rattle.kl1_history.specs.JournalText.{lines_of, is_new_name}
 use Rattle.kl1_replay.proofs.LinesOfNames.{goes_more, ends_short, ends_nameless, ends_old}
 use Rattle.kl1_replay.proofs.NewNames.{names_more}
 use Rattle.kl1_replay.proofs.names.names_in.Goals as goal

@@ -1,6 +1,6 @@
-use Rattle.std.proofs.Common.{◌≡◌, ◌+◌, ◌-◌, ◌≤◌, [], length}
+use Rattle.std.proofs.Common.{◌+◌, ◌-◌, ◌≤◌, [], length}
 use Rattle.kl1_history.specs.JournalText.{lines_of}
-use Rattle.kl1_effects.specs.Naming.{IsNameList}
+use Rattle.kl1_user.specs.Accounts.{IsNameList}
 use Rattle.kl1_replay.specs.Names.{GoesOn}
 use Rattle.kl1_replay.proofs.names.names_in.Given as goal
 
