@@ -78,8 +78,3 @@ Passes old new f g waiting more left (Err fault) = Fails old new f g waiting mor
 abbrev pub Closes : {T : Type 0} → Option (List ℕ) → Option (List ℕ) → ℕ → ℕ → List ℕ → List ℕ → Result T ScriptFault → Type 0
 Closes old new f g waiting more (Ok x) = Appends old new (waiting ++ more) × (g ≡ f)
 Closes old new f g waiting more (Err fault) = Fails old new f g waiting more fault
-
--- a name is the first of these
-abbrev pub IsFirstOf : List ℕ → List (List ℕ) → Type 0
-IsFirstOf name [] = ⊥
-IsFirstOf name (first ∷ others) = name ≡ first
