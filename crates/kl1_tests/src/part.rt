@@ -108,11 +108,11 @@ const PARTS: [(&[u8], Part); 54] = [
     (b"script fault ", Part::Script(script::Kind::Fault)),
     (b"script read ", Part::Script(script::Kind::Read)),
     (b"script write ", Part::Script(script::Kind::Write)),
+    (b"script replay ", Part::Script(script::Kind::Replay)),
+    (b"script replayed ", Part::Script(script::Kind::Replayed)),
     (b"script script ", Part::Script(script::Kind::Script)),
     (b"script both ", Part::Script(script::Kind::Both)),
     (b"script run ", Part::Script(script::Kind::Run)),
-    (b"script replay ", Part::Script(script::Kind::Replay)),
-    (b"script replayed ", Part::Script(script::Kind::Replayed)),
 ];
 
 /// The part that the heading of a group names.
