@@ -8,6 +8,9 @@ use kl1_rows::{Text, cut};
 use kl1_world::AccountName;
 use std::alloc::Global;
 
+/// An event, with its account's place among the names, from 0.
+type Deed = (usize, Event);
+
 /// The accounts that a line names, parted by a space each.
 fn accounts_of(alloc: Global, line: &[u8]) -> Option<Vec<AccountName>> {
     let mut accounts = Vec::new(alloc);
@@ -23,9 +26,9 @@ fn accounts_of(alloc: Global, line: &[u8]) -> Option<Vec<AccountName>> {
     Some(accounts)
 }
 
-/// The place of the account of a name, from 0.
-fn place_in(accounts: &[AccountName], name: &[u8]) -> Option<usize> {
-    for (place, account) in accounts.iter().enumerate() {
+/// The place of the account of a name.
+fn place_in(names: &[AccountName], name: &[u8]) -> Option<usize> {
+    for (place, account) in names.iter().enumerate() {
         if is_same(name, account.text().unpacked().as_slice()) {
             return Some(place);
         }
@@ -33,19 +36,15 @@ fn place_in(accounts: &[AccountName], name: &[u8]) -> Option<usize> {
     None
 }
 
-/// The events of records, each with its account's place.
-fn events_of(
-    alloc: Global,
-    accounts: &[AccountName],
-    records: &[u8],
-) -> Option<Vec<(usize, Event)>> {
+/// The events of records.
+fn events_of(alloc: Global, names: &[AccountName], records: &[u8]) -> Option<Vec<Deed>> {
     let mut events = Vec::new(alloc);
     let mut left = records;
     for _ in 0..records.len() {
         let NextRecord::Found(record) = next_record(left) else {
             return Some(events);
         };
-        let account = place_in(accounts, record.name)?;
+        let account = place_in(names, record.name)?;
         match command_in(alloc, record.request).ok()? {
             Parsed::Command(Command::Does(event)) => events.push((account, event)).ok()?,
             _ => return None,
@@ -56,36 +55,26 @@ fn events_of(
 }
 
 /// Puts the replies to the first of some events.
-fn put_replies(
-    out: &mut Text,
-    accounts: &[AccountName],
-    events: &[(usize, Event)],
-    replies: &[Reply],
-) {
+fn put_replies(out: &mut Text, names: &[AccountName], events: &[Deed], replies: &[Reply]) {
     for place in 0..replies.len().min(events.len()) {
         let account = events[place].0;
-        if account < accounts.len() {
-            let name = accounts[account].text();
+        if account < names.len() {
+            let name = names[account].text();
             let done = put_lines(&mut out.bytes, name.unpacked().as_slice(), &replies[place]);
             out.note(done);
         }
     }
 }
 
-/// Does events to accounts that are together, by one call, and by a second one those from which on the first wants memory; and puts
-/// their replies.
-fn put_together(
-    out: &mut Text,
-    accounts: &[AccountName],
-    player: &mut Player,
-    events: &[(usize, Event)],
-) {
+/// Does events to accounts that are together, by one call, and by a second one those before which the first stops for want of memory;
+/// and puts their replies.
+fn put_together(out: &mut Text, names: &[AccountName], events: &[Deed], player: &mut Player) {
     let mut left = events;
     for _call in 0..2 {
         match player.run(left) {
             None => out.fail(),
             Some(replies) => {
-                put_replies(out, accounts, left, replies.as_slice());
+                put_replies(out, names, left, replies.as_slice());
                 left = &left[replies.len().min(left.len())..];
             }
         }
@@ -101,28 +90,23 @@ fn reply_to(player: &mut Player, event: &Event) -> Option<Reply> {
 }
 
 /// Does events to accounts that are alone, and puts their replies.
-fn put_alone(
-    out: &mut Text,
-    accounts: &[AccountName],
-    alone: &mut [Player],
-    events: &[(usize, Event)],
-) {
+fn put_alone(out: &mut Text, names: &[AccountName], events: &[Deed], alone: &mut [Player]) {
     for place in 0..events.len() {
         let (account, event) = &events[place];
         if *account < alone.len() {
             match reply_to(&mut alone[*account], event) {
                 None => out.fail(),
-                Some(reply) => put_replies(out, accounts, &events[place..], &[reply]),
+                Some(reply) => put_replies(out, names, &events[place..], &[reply]),
             }
         }
     }
 }
 
 /// An account of each name, alone.
-fn each_alone(alloc: Global, accounts: &[AccountName]) -> Option<Vec<Player>> {
+fn each_alone(alloc: Global, names: &[AccountName]) -> Option<Vec<Player>> {
     let mut alone = Vec::new(alloc);
-    for account in accounts {
-        alone.push(Player::new(alloc, &[*account]).ok()?).ok()?;
+    for name in names {
+        alone.push(Player::new(alloc, &[*name]).ok()?).ok()?;
     }
     Some(alone)
 }
@@ -131,23 +115,14 @@ fn each_alone(alloc: Global, accounts: &[AccountName]) -> Option<Vec<Player>> {
 fn is_right_once(alloc: Global, script: &[u8], wanted: &[u8]) -> Option<bool> {
     let (line, records) = split_line(script);
     let accounts = accounts_of(alloc, line)?;
-    let events = events_of(alloc, accounts.as_slice(), records)?;
+    let names = accounts.as_slice();
+    let events = events_of(alloc, names, records)?;
+    let mut alone = each_alone(alloc, names)?;
+    let mut player = Player::new(alloc, names).ok()?;
     let mut together = Text::new(alloc);
-    let mut player = Player::new(alloc, accounts.as_slice()).ok()?;
-    put_together(
-        &mut together,
-        accounts.as_slice(),
-        &mut player,
-        events.as_slice(),
-    );
+    put_together(&mut together, names, events.as_slice(), &mut player);
     let mut apart = Text::new(alloc);
-    let mut alone = each_alone(alloc, accounts.as_slice())?;
-    put_alone(
-        &mut apart,
-        accounts.as_slice(),
-        alone.as_mut_slice(),
-        events.as_slice(),
-    );
+    put_alone(&mut apart, names, events.as_slice(), alone.as_mut_slice());
     if together.has_failed || apart.has_failed {
         return None;
     }
