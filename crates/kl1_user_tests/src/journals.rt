@@ -4,6 +4,17 @@ use kl1_entries::Journal;
 use kl1_rows::{Text, is_counted};
 use std::alloc::Global;
 
+/// How many entries of a journal come one after another.
+fn count_of(journal: &Journal) -> u64 {
+    let mut entries = journal.entries();
+    for place in 0..journal.len() {
+        if entries.next().is_none() {
+            return place;
+        }
+    }
+    journal.len()
+}
+
 /// Whether a text is a journal's whose own lines are the text, and which has this number of entries, or `none`; nothing if memory is
 /// refused.
 fn is_read(alloc: Global, text: &[u8], wanted: &[u8]) -> Option<bool> {
@@ -19,7 +30,7 @@ fn is_read(alloc: Global, text: &[u8], wanted: &[u8]) -> Option<bool> {
     if told.has_failed {
         return None;
     }
-    Some(told.bytes.as_slice() == text && is_counted(wanted, b"", journal.len()))
+    Some(told.bytes.as_slice() == text && is_counted(wanted, b"", count_of(&journal)))
 }
 
 /// Whether a text is a journal's whose own lines are the text, and which has this number of entries, or `none`; at the second try if
