@@ -6,6 +6,6 @@ mod checks;
 mod ratios;
 mod tally;
 
-pub use atoms::{next_seat, put_atom_times};
+pub use atoms::put_atom_times;
 pub use checks::put_checks;
 pub use tally::put_tally_times;
