@@ -9,6 +9,7 @@ use crate::hand::Queue;
 use crate::naming::Naming;
 use crate::rest::Rest;
 use crate::share::Share;
+use crossbeam_utils::CachePadded;
 use kl1_tally::Tally;
 use std::sync::atomic::{AtomicBool, Ordering};
 use std::sync::{Mutex, Wait};
@@ -19,7 +20,8 @@ use std::sync::{Mutex, Wait};
 pub struct Common<K: Naming> {
     pub(crate) tally: Tally,
     pub(crate) queue: Queue,
-    pub(crate) bell: Bell,
+    /// Padded, since the words beside it are read in each step and it is written where workers fall asleep.
+    pub(crate) bell: CachePadded<Bell>,
     pub(crate) is_closed: AtomicBool,
     pub(crate) rest: Mutex<Rest<K>>,
     pub ghost of_tally: { tally.id ≡ K.tally },

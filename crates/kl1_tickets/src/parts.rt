@@ -16,6 +16,7 @@ use crate::naming::Naming;
 use crate::rest::Rest;
 use crate::share::Share;
 use crossbeam_queue::Pass;
+use crossbeam_utils::CachePadded;
 use kl1_tally::{BookSeat, MOST_ACCOUNTS, ShareSeat, Tally};
 use std::alloc::{AllocError, Global};
 use std::marker::{Model, PhantomData};
@@ -96,7 +97,7 @@ impl Parts {
         let common = Common {
             tally,
             queue,
-            bell: Bell::new(),
+            bell: CachePadded::new(Bell::new()),
             is_closed: AtomicBool::new(false),
             rest: Mutex::new(rest_of(rest, room_of_books, room_of_seats)),
         };

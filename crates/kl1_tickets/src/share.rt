@@ -1,6 +1,6 @@
 // What one thread counted, put and took.
 
-ghost use Rattle.std.specs.Prelude.{◌≡◌, ℕ, ◌+◌, ◌<◌, ◌^◌, slice_index, cond, MatchOption, IsTrue};
+ghost use Rattle.std.specs.Prelude.{◌≡◌, ℕ, ◌+◌, ◌<◌, ◌^◌, ◌↔◌, slice_index, cond, MatchOption, IsTrue};
 ghost use Rattle.kl1_tally.specs.declared.amounts.TheConstants.{MOST_ACCOUNTS};
 ghost use Rattle.kl1_tally.specs.Seats.{raised_book};
 ghost use Rattle.kl1_tickets.specs.Counts.{Moved, CanTake};
@@ -77,7 +77,7 @@ impl<K: Naming> Share<K> {
 
     /// Whether the share has taken fewer than `MOST_TICKETS` of each account.
     pub fn can_take(&self) -> bool
-        ensures { IsTrue result → CanTake self.now }
+        ensures { IsTrue result ↔ CanTake self.now }
     {
         for account in 0..MOST_ACCOUNTS {
             if self.takes[account] >= MOST_TICKETS {

@@ -1,4 +1,4 @@
-use Rattle.std.proofs.Common.{◌≡◌, ◌+◌, ◌<◌, arith}
+use Rattle.std.proofs.Common.{arith}
 use Rattle.kl1_tickets.proofs.gathering.gather.Goals as goal
 
 pub drain-left-requires-clause-few : goal.drain-left-requires-clause-few

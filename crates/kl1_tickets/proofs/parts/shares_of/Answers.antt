@@ -1,8 +1,7 @@
-use Rattle.std.proofs.Common.{◌≡◌, ◌<◌, ◌+◌, [], ◌∷◌, ◌++◌, length, sym, ap, ◌∙◌, subst, rules, arith, length-append}
+use Rattle.std.proofs.Common.{◌≡◌, ◌<◌, [], ◌∷◌, length, sym, ap, ◌∙◌, subst, rules, arith, length-append}
 use Rattle.std.specs.Prelude.{All, IfSome}
 use Rattle.std.proofs.lemmas.List.Elements.{All-push, All-pop}
 use Rattle.crossbeam_queue.specs.Passes.{view}
-use Rattle.kl1_tickets.specs.Hands.{all_parts, hand}
 use Rattle.kl1_tickets.specs.Counts.{new_counts}
 use Rattle.kl1_tally.specs.Seats.{Share, new_share}
 use Rattle.kl1_tickets.proofs.Moves.{forks}

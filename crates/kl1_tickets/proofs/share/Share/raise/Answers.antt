@@ -1,6 +1,6 @@
-use Rattle.std.proofs.Common.{◌≡◌, ℕ, List, cond, length, slice_index, sym, ap, ◌∙◌, subst, ◌<◌, arith}
-use Rattle.kl1_tally.specs.Seats.{Share, raised_share}
-use Rattle.kl1_tickets.specs.Counts.{Counts, Moved, IsMoreAt}
+use Rattle.std.proofs.Common.{cond, length, sym, subst, ◌<◌, arith}
+use Rattle.kl1_tally.specs.Seats.{Share}
+use Rattle.kl1_tickets.specs.Counts.{Counts, Moved}
 use Rattle.kl1_tickets.proofs.Counting.{raised_more, same_more}
 use Rattle.kl1_tickets.proofs.share.Share.raise.Goals as goal
 
