@@ -1,24 +1,26 @@
 -- Commands and replies as texts, and what a command does.
-use Rattle.std.specs.Prelude.{ℕ, zero, suc, nat_le, true, false, if◌then◌else◌, List, [], ◌∷◌, ◌++◌, length, codes, bytes_eq, decimal, Option, Some, None, option_map, option_and_then}
+use Rattle.std.specs.Prelude.{ℕ, zero, suc, nat_le, ◌&&◌, true, false, if◌then◌else◌, List, [], ◌∷◌, ◌++◌, length, codes, bytes_eq, decimal, Option, Some, None, option_map, option_and_then}
 use Rattle.kl1_model.specs.declared.message.Message.{Message}
 use Rattle.kl1_model.specs.declared.message.Message.TheVariants.{Stop, Start, Abort, Allow}
 use Rattle.kl1_model.specs.declared.condition.Condition.{Condition}
 use Rattle.kl1_model.specs.declared.condition.Condition.TheVariants.{Terminated, Aborted, Stopped, Exhausted, Running}
 use Rattle.kl1_model.specs.Term.{Term}
 use Rattle.kl1_model.specs.Name.{atom_text}
-use Rattle.kl1_model.specs.Limits.{most_command_bytes, most_steps}
+use Rattle.kl1_model.specs.Limits.{most_command_bytes, most_listed, most_steps}
 use Rattle.kl1_model.specs.Line.{word_in, behind_word_in, number_in, up_to, only_number, is_blank_line}
 use Rattle.kl1_model.specs.Module.{Reading, good, bad, read_goal}
-use Rattle.kl1_model.specs.State.{State}
-use Rattle.kl1_model.specs.Event.{Refusal, syntax, source, exists, no_shoen, shoen_ended, step_refused, too_many_names, limit_passed, journal_full, value, status, reports, modules, is_quiet, Event, load, start, control, reduce, read, Reply, loaded, opened, sent, reduced, ran, shown, status_is, listed, quiet_is, refused, Stepped, refuse, is_range}
-use Rattle.kl1_model.specs.Step.{step}
+use Rattle.kl1_model.specs.Event.{Refusal, syntax, source, exists, no_shoen, shoen_ended, step_refused, too_many_names, limit_passed, journal_full, sessions_refused, value, status, reports, modules, is_quiet, Event, load, start, control, reduce, read, login, logout, reset, Reply, loaded, opened, sent, reduced, ran, shown, status_is, listed, quiet_is, welcome, bye, was_reset, refused, is_range}
 use Rattle.kl1_model.specs.Choice.{Chosen, first}
 use Rattle.kl1_model.specs.Record.{Request, load_of, spoiled_load, other_line}
+use Rattle.kl1_history.specs.Journal.{Kept, Done, done}
+use Rattle.kl1_history.specs.JournalText.{page_of}
 
--- a command: an event, or a run of at most so many steps
+-- a command: an event; a run of at most a number of steps; or a page of the journal, from a line on, the first being 1, with at most a
+-- number of lines
 pub data Command : Type 0 where
   does : Event → Command
   run : ℕ → Command
+  shows : ℕ → ℕ → Command
 
 -- a start with its goal as it was read
 abbrev pub start_with : ℕ → ℕ → ℕ → Reading Term → Option Command
@@ -44,13 +46,25 @@ allow_command line = option_and_then (λ n. option_map (λ more. does (control n
 abbrev pub send_command : Message → List ℕ → Option Command
 send_command m line = option_map (λ n. does (control n m)) (only_number line)
 
--- the reports of a shoen from one on, where that is one
+-- the reports of a shoen from the one of a number on, if that is at least 1
 abbrev pub reports_from : ℕ → ℕ → Option Command
 reports_from n from = if nat_le 1 from then Some (does (read (reports n from))) else None
 
 -- a shoen's number and a report's, from 1, and nothing else
 abbrev pub reports_command : List ℕ → Option Command
 reports_command line = option_and_then (λ n. option_and_then (reports_from n) (only_number (behind_word_in line))) (number_in (word_in line))
+
+-- a page of the journal from one line on, if that is at least 1, and with at least one line and not too many
+abbrev pub journal_from : ℕ → ℕ → Option Command
+journal_from from count = if nat_le 1 from && nat_le 1 count && nat_le count most_listed then Some (shows from count) else None
+
+-- a line's number, from 1, and how many lines at most, and nothing else
+abbrev pub journal_command : List ℕ → Option Command
+journal_command line = option_and_then (λ from. option_and_then (journal_from from) (only_number (behind_word_in line))) (number_in (word_in line))
+
+-- an event of a line that says nothing else
+abbrev pub alone_command : Event → List ℕ → Option Command
+alone_command e line = if is_blank_line line then Some (does e) else None
 
 -- the first word of a command, but for a load
 pub data Verb : Type 0 where
@@ -64,6 +78,10 @@ pub data Verb : Type 0 where
   asks_modules : Verb
   asks_quiet : Verb
   reduces_goal : Verb
+  shows_journal : Verb
+  logs_in : Verb
+  logs_out : Verb
+  resets : Verb
   unknown : Verb
 
 -- the verb that a word is
@@ -81,6 +99,10 @@ verb_of w =
     else if bytes_eq w (codes "modules") then asks_modules
     else if bytes_eq w (codes "quiet") then asks_quiet
     else if bytes_eq w (codes "reduce") then reduces_goal
+    else if bytes_eq w (codes "journal") then shows_journal
+    else if bytes_eq w (codes "login") then logs_in
+    else if bytes_eq w (codes "logout") then logs_out
+    else if bytes_eq w (codes "reset") then resets
     else unknown
 
 -- the command of a line by its first word and what is after it
@@ -92,9 +114,13 @@ command_by runs rest = option_map run (up_to most_steps (only_number rest))
 command_by asks_value rest = option_map (λ n. does (read (value n))) (only_number rest)
 command_by asks_status rest = option_map (λ n. does (read (status n))) (only_number rest)
 command_by asks_reports rest = reports_command rest
-command_by asks_modules rest = if is_blank_line rest then Some (does (read modules)) else None
-command_by asks_quiet rest = if is_blank_line rest then Some (does (read is_quiet)) else None
+command_by asks_modules rest = alone_command (read modules) rest
+command_by asks_quiet rest = alone_command (read is_quiet) rest
 command_by reduces_goal rest = reduce_command rest
+command_by shows_journal rest = journal_command rest
+command_by logs_in rest = alone_command login rest
+command_by logs_out rest = alone_command logout rest
+command_by resets rest = alone_command reset rest
 command_by unknown rest = None
 
 -- the command that a line is, without its end, if it is one; one of too many bytes is none, and neither is a load alone
@@ -109,32 +135,37 @@ command_of (other_line line) = parse line
 
 -- how a run goes on, from the steps done and the account
 abbrev pub Going : Type 0
-Going = ℕ → State → Stepped
+Going = ℕ → Kept → Done
 
--- a run that stops: with its steps, or with the refusal where no step was done
-abbrev pub stopped_by : State → ℕ → Refusal → Stepped
-stopped_by s zero r = refuse s r
-stopped_by s (suc n) r = record { state = s; reply = ran (suc n) }
+-- a reply that leaves an account as it is
+abbrev pub said : Kept → Reply → Done
+said k r = record { kept = k; reply = r }
+
+-- a run that stops: with its steps, or with the refusal if no step was done
+abbrev pub stopped_by : Kept → ℕ → Refusal → Done
+stopped_by k zero r = said k (refused r)
+stopped_by k (suc n) r = said k (ran (suc n))
 
 -- goes on after a step, unless it was refused
-abbrev pub run_on : Going → State → ℕ → State → Reply → Stepped
+abbrev pub run_on : Going → Kept → ℕ → Kept → Reply → Done
 run_on next before n after (refused r) = stopped_by before n r
 run_on next before n after reply = next (suc n) after
 
--- the first goal's step, where there is one, and how the run goes on
-abbrev pub run_choice : Going → State → ℕ → Option Chosen → Stepped
-run_choice next s n None = record { state = s; reply = ran n }
-run_choice next s n (Some c) = let done = step s (reduce c.goal c.clause) in run_on next s n done.state done.reply
+-- the first goal's step, if one can step, and how the run goes on
+abbrev pub run_choice : Going → Kept → ℕ → Option Chosen → Done
+run_choice next k n None = said k (ran n)
+run_choice next k n (Some c) = let x = done k (reduce c.goal c.clause) in run_on next k n x.kept x.reply
 
--- first steps, one after another, at most so many and until none can step or one is refused, after those done before
-abbrev pub run_from : ℕ → ℕ → State → Stepped
-run_from zero n s = record { state = s; reply = ran n }
-run_from (suc k) n s = run_choice (run_from k) s n (first s)
+-- first steps, one after another, at most this number of them and until none can step or one is refused, after n that are done
+abbrev pub run_from : ℕ → ℕ → Kept → Done
+run_from zero n k = said k (ran n)
+run_from (suc most) n k = run_choice (run_from most) k n (first k.state)
 
--- what a command does
-abbrev pub act : State → Command → Stepped
-act s (does e) = step s e
-act s (run k) = run_from k 0 s
+-- what a command does to an account with its journal, and the reply
+abbrev pub act : Kept → Command → Done
+act k (does e) = done k e
+act k (run most) = run_from most 0 k
+act k (shows from count) = said k (listed (page_of k.journal from count))
 
 -- the text of a refusal: its number and its word, and for a source the line
 abbrev pub refusal_text : Refusal → List ℕ
@@ -147,6 +178,7 @@ refusal_text step_refused = codes "6 step"
 refusal_text too_many_names = codes "7 names"
 refusal_text limit_passed = codes "8 limit"
 refusal_text journal_full = codes "9 journal"
+refusal_text sessions_refused = codes "12 sessions"
 
 -- the word for the state of a shoen
 abbrev pub condition_word : Condition → List ℕ
@@ -169,6 +201,9 @@ reply_lines (status_is c charged allowance alive) =
 reply_lines (listed texts) = (codes "+ " ++ decimal (length texts)) ∷ texts
 reply_lines (quiet_is true) = codes "+ yes" ∷ []
 reply_lines (quiet_is false) = codes "+ no" ∷ []
+reply_lines (welcome name) = (codes "+ welcome " ++ name) ∷ []
+reply_lines bye = codes "+ bye" ∷ []
+reply_lines was_reset = codes "+ reset" ∷ []
 reply_lines (refused r) = (codes "- " ++ refusal_text r) ∷ []
 
 -- a line as it is written

@@ -1,5 +1,7 @@
 pub mod Examples
+pub mod JournalExamples
 pub mod AccountRows
+pub mod HistoryRows
 pub mod ShoenRows
 pub mod ReadRows
 pub mod ReadFaults

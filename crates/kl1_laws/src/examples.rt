@@ -1,7 +1,9 @@
-//! Example scripts, rows of accounts, and rows of arithmetic, tests, verdicts and the grammar.
+//! Example scripts and journals, rows of accounts, and rows of arithmetic, tests, verdicts and the grammar.
 ghost use Rattle.kl1_laws.specs.AccountRows.{AccountRowsHold};
 ghost use Rattle.kl1_laws.specs.Examples.{ExamplesHold};
 ghost use Rattle.kl1_laws.specs.GuardRows.{GuardRowsHold};
+ghost use Rattle.kl1_laws.specs.HistoryRows.{HistoryRowsHold};
+ghost use Rattle.kl1_laws.specs.JournalExamples.{JournalsHold};
 ghost use Rattle.kl1_laws.specs.ShoenRows.{ShoenRowsHold};
 
 /// Each script in `examples/scripts` has the output that stands beside it, computed from the definitions.
@@ -9,9 +11,19 @@ pub fn example_scripts_hold()
     ensures { ExamplesHold }
 {}
 
+/// For each journal in `examples/journals` a replay writes what stands beside it, computed from the definitions.
+pub fn example_journals_hold()
+    ensures { JournalsHold }
+{}
+
 /// Accounts come to what the rows say, by the events that they say, computed from the definitions.
 pub fn account_rows_hold()
     ensures { AccountRowsHold }
+{}
+
+/// Sessions, resets, journals and replays come to what the rows say, and so do the lines of journals, computed from the definitions.
+pub fn history_rows_hold()
+    ensures { HistoryRowsHold }
 {}
 
 /// Accounts at their limits, and their shoens, come to what the rows say, computed from the definitions.

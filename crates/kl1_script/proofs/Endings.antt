@@ -5,10 +5,10 @@ use Rattle.std.specs.Prelude.{Ok, Err}
 use Rattle.std.specs.declared.result.Result.{Result}
 use Rattle.std.specs.Io.KnownBytes.{Appends}
 use Rattle.kl1_model.specs.State.{State}
-use Rattle.kl1_model.specs.Command.{written_line}
+use Rattle.kl1_history.specs.Command.{written_line}
 use Rattle.kl1_model.specs.Line.{line_in, behind_feed, words_of}
 use Rattle.kl1_model.specs.Record.{Record, record_first, records_of}
-use Rattle.kl1_model.specs.Script.{accounts_in, written_from, written_records}
+use Rattle.kl1_history.specs.Script.{accounts_in, written_from, written_records}
 use Rattle.kl1_lines.specs.Devices.{PassesOn}
 use Rattle.kl1_script.specs.Scripts.{Closes, Ends, Fails, Stops, StopsBefore, Finishes, IsFirstOf, first_written}
 use Rattle.kl1_script.specs.Told.{state_by, told_by}

@@ -4,9 +4,9 @@ use Rattle.std.proofs.Math.Seq.{take-append_seam}
 use Rattle.std.proofs.lemmas.List.{append-nil}
 use Rattle.std.proofs.lemmas.Slice.Eq.{bytes_eq-Decides}
 use Rattle.kl1_model.specs.State.{State, fresh}
-use Rattle.kl1_model.specs.Command.{Command, command_of, reply_lines, written_line}
+use Rattle.kl1_history.specs.Command.{Command, command_of, reply_lines, written_line}
 use Rattle.kl1_model.specs.Record.{Record, Records, record_first, records_of}
-use Rattle.kl1_model.specs.Script.{only, done_by, after_all, alone, written_reply, written_for, written_from, written_records}
+use Rattle.kl1_history.specs.Script.{only, done_by, after_all, alone, written_reply, written_for, written_from, written_records}
 use Rattle.kl1_script.specs.Scripts.{IsFirstOf, first_written}
 use Rattle.kl1_script.specs.Told.{state_by, told_by}
 

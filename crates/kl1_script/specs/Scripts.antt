@@ -5,7 +5,7 @@ use Rattle.std.specs.declared.result.Result.{Result}
 use Rattle.std.specs.Io.KnownBytes.{Appends}
 use Rattle.kl1_model.specs.Line.{line_in, behind_feed, words_of}
 use Rattle.kl1_model.specs.Record.{Record, records_of}
-use Rattle.kl1_model.specs.Script.{accounts_in, written_from, output}
+use Rattle.kl1_history.specs.Script.{accounts_in, written_from, output}
 use Rattle.kl1_lines.specs.Devices.{IsLeft, IsWhole, AppendsFront, PassesOn}
 use Rattle.kl1_lines.specs.declared.script_fault.ScriptFault.{ScriptFault}
 use Rattle.kl1_lines.specs.declared.script_fault.ScriptFault.TheVariants as faults

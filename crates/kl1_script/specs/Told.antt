@@ -1,9 +1,9 @@
 -- What a record does to the account that is served, and what is written for it.
 use Rattle.std.specs.Prelude.{ℕ, List, codes, if◌then◌else◌}
 use Rattle.kl1_model.specs.State.{State}
-use Rattle.kl1_model.specs.Command.{command_of, reply_lines, written_line}
+use Rattle.kl1_history.specs.Command.{command_of, reply_lines, written_line}
 use Rattle.kl1_model.specs.Record.{Record}
-use Rattle.kl1_model.specs.Script.{is_served, done_by, written_reply}
+use Rattle.kl1_history.specs.Script.{is_served, done_by, written_reply}
 
 -- the account that is served after a record
 abbrev pub state_by : List (List ℕ) → State → Record → State

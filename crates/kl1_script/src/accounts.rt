@@ -3,7 +3,7 @@
 ghost use Rattle.std.specs.Prelude.{◌≡◌, ◌&&◌, nat_le, length, bytes_eq, IfOk, option_map};
 ghost use Rattle.std.specs.List.{list_any};
 ghost use Rattle.kl1_model.specs.Line.{words_of};
-ghost use Rattle.kl1_model.specs.Script.{are_distinct, accounts_in};
+ghost use Rattle.kl1_history.specs.Script.{are_distinct, accounts_in};
 ghost use Rattle.kl1_script.specs.Accounts.{named};
 
 use kl1_lines::{is_blank_line, is_same, split_word};

@@ -1,9 +1,9 @@
 // What a record does to the account that is served, and what is written for it.
 
 ghost use Rattle.std.specs.Prelude.{◌≡◌, ◌++◌, ◌<◌, length, OnOk, OnErr};
-ghost use Rattle.kl1_model.specs.Command.{act, reply_lines};
+ghost use Rattle.kl1_history.specs.Command.{act, reply_lines};
 ghost use Rattle.kl1_model.specs.Limits.{most_waiting_bytes};
-ghost use Rattle.kl1_model.specs.Script.{is_served, written_reply};
+ghost use Rattle.kl1_history.specs.Script.{is_served, written_reply};
 ghost use Rattle.kl1_effects.specs.Fitting.{Reading, Fits};
 ghost use Rattle.kl1_effects.specs.Account.{state_of};
 ghost use Rattle.kl1_command.specs.Commands.{command_view};

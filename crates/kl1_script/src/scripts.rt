@@ -2,10 +2,10 @@
 
 ghost use Rattle.std.specs.Prelude.{◌≡◌, ◌+◌, ◌<◌, ◌≤◌, ℕ, List, [], length, Some, OnOk, IsErrOf, codes, if◌then◌else◌};
 ghost use Rattle.std.specs.Io.KnownBytes.{Consumes, Appends};
-ghost use Rattle.kl1_model.specs.Command.{written_line};
+ghost use Rattle.kl1_history.specs.Command.{written_line};
 ghost use Rattle.kl1_model.specs.Limits.{most_accounts, most_script_bytes, most_waiting_bytes};
 ghost use Rattle.kl1_model.specs.Record.{records_of};
-ghost use Rattle.kl1_model.specs.Script.{output, written_records};
+ghost use Rattle.kl1_history.specs.Script.{output, written_records};
 ghost use Rattle.kl1_lines.specs.Devices.{ReadsFew};
 ghost use Rattle.kl1_script.specs.Scripts.{Answered, BreaksOff, Closes, Ends, Finishes, IsFirstOf, Passes, StopsBefore, Stops, first_written, front_of};
 ghost use Rattle.kl1_model.specs.State.{fresh};

@@ -4,7 +4,7 @@ use Rattle.kl1_model.specs.State.{State}
 use Rattle.kl1_model.specs.Event.{Refusal, reduce, Reply, loaded, opened, sent, reduced, ran, shown, status_is, listed, quiet_is, refused, Stepped}
 use Rattle.kl1_model.specs.Step.{step}
 use Rattle.kl1_model.specs.Choice.{Chosen, first}
-use Rattle.kl1_model.specs.Command.{run, Going, run_choice, run_on, stopped_by, run_from, act}
+use Rattle.kl1_history.specs.Command.{run, Going, run_choice, run_on, stopped_by, run_from, act}
 
 -- a run that stops leaves the account as it is
 stopped_state : (s : State) (n : ℕ) (r : Refusal) → (stopped_by s n r).state ≡ s

@@ -8,7 +8,7 @@ use Rattle.kl1_model.specs.State.{State}
 use Rattle.kl1_model.specs.Event as model
 use Rattle.kl1_model.specs.Event.{start, Stepped}
 use Rattle.kl1_model.specs.Step.{step}
-use Rattle.kl1_model.specs.Command.{run_from}
+use Rattle.kl1_history.specs.Command.{run_from}
 use Rattle.kl1_event.specs.Views.{refusal_of}
 use Rattle.kl1_event.specs.declared.numbers.ShoenNo.{ShoenNo}
 use Rattle.kl1_event.specs.declared.refusal.Refusal.{Refusal}

@@ -11,7 +11,7 @@ use Rattle.kl1_model.specs.State.{Origin, State}
 use Rattle.kl1_model.specs.Event.{value, status, is_number, Reply, loaded, opened, sent, reduced, ran, shown, status_is, listed, quiet_is, refused}
 use Rattle.kl1_model.specs.Asking.{answer, origin_at, elements_of}
 use Rattle.kl1_model.specs.Choice.{first}
-use Rattle.kl1_model.specs.Command.{written_line, written_lines}
+use Rattle.kl1_history.specs.Command.{written_line, written_lines}
 use Rattle.kl1_event.specs.Views.{refusal_of}
 use Rattle.kl1_event.specs.Whole.{whole_value}
 use Rattle.kl1_lines.specs.Devices.{AppendsFront}

@@ -6,7 +6,7 @@ use Rattle.kl1_model.specs.Term.{Term}
 use Rattle.kl1_model.specs.State.{State}
 use Rattle.kl1_model.specs.Event.{Refusal, syntax, load, start, Reply, loaded, opened, sent, reduced, ran, shown, status_is, listed, quiet_is, refused, Stepped}
 use Rattle.kl1_model.specs.Step.{step}
-use Rattle.kl1_model.specs.Command.{run_from}
+use Rattle.kl1_history.specs.Command.{run_from}
 use Rattle.kl1_event.specs.Views.{refusal_of}
 use Rattle.kl1_event.specs.declared.numbers.ShoenNo.{ShoenNo}
 use Rattle.kl1_command.specs.Performing.{refusal_in}

@@ -1,7 +1,7 @@
 // A run in slices, which is told as it goes on.
 
 ghost use Rattle.std.specs.Prelude.{◌≡◌, OnOk};
-ghost use Rattle.kl1_model.specs.Command.{run_from};
+ghost use Rattle.kl1_history.specs.Command.{run_from};
 
 use crate::asked::ask;
 use crate::watch::Watch;

@@ -2,7 +2,7 @@ use Rattle.std.proofs.Common.{◌≡◌, ◌+◌, ◌*◌, take, ◌∙◌, sym,
 use Rattle.std.specs.Prelude.{filter}
 use Rattle.kl1_model.specs.Limits.{most_listed, most_reports}
 use Rattle.kl1_model.specs.State.{State}
-use Rattle.kl1_model.specs.Command.{written_lines}
+use Rattle.kl1_history.specs.Command.{written_lines}
 use Rattle.kl1_shell.specs.Answers.{is_exception, reports_in}
 use Rattle.kl1_shell.proofs.Pages.{lines_more, exceptions_more, lines_all, exceptions_all}
 use Rattle.kl1_shell.proofs.reports.reported_by.Goals as goal

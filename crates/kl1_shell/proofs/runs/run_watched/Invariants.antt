@@ -1,5 +1,5 @@
 use Rattle.std.proofs.Common.{◌≡◌}
-use Rattle.kl1_model.specs.Command.{run_from}
+use Rattle.kl1_history.specs.Command.{run_from}
 use Rattle.kl1_shell.proofs.runs.run_watched.Given as goal
 
 -- a run of the steps that are left at the account now comes to what a run of all came to at first

@@ -1,0 +1,4 @@
+pub mod Rows
+pub mod Sound
+pub mod Accepted
+pub mod Pages

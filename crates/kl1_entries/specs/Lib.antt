@@ -1,0 +1,4 @@
+pub mod Lined
+pub mod Codes
+pub mod Slots
+pub mod Shown
