@@ -8,6 +8,7 @@ use Rattle.kl1_command.specs.declared.performed.Performed.TheVariants as perform
 use Rattle.kl1_command.specs.Performing.{IsUntouched}
 use Rattle.kl1_journal.specs.Keeping.{Held, nobody}
 use Rattle.kl1_world.specs.Worlds.{account_in, all_but}
+use Rattle.kl1_world.proofs.Lodgings.{all_but_same}
 
 -- of two accounts under other names
 pub moved : (P : Held → Held → Type 0) (a b old new : Held) → a ≡ old → b ≡ new → P a b → P old new
@@ -34,3 +35,19 @@ as_many_but old new n e = sym (length-set new n nobody) ∙ ap length e ∙ leng
 
 pub same_but : (old new : List Held) (n u : ℕ) → all_but n new ≡ all_but n old → (u ≡ n → ⊥) → account_in new u ≡ account_in old u
 same_but old new n u e apart = sym (get_or-set_other new n u nobody nobody apart) ∙ ap (λ us. account_in us u) e ∙ get_or-set_other old n u nobody nobody apart
+
+-- what was said of the account of a number, said of the one to which commands are done
+pub hosted : (P : Held → Held → Type 0) (old new : List Held × ℕ) (n : ℕ) → n ≡ old.1 → new.1 ≡ old.1 → P (account_in old.0 n) (account_in new.0 n) → P (account_in old.0 old.1) (account_in new.0 new.1)
+hosted P old new n is kept h = subst (λ m. P (account_in old.0 old.1) (account_in new.0 m)) (sym kept) (subst (λ m. P (account_in old.0 m) (account_in new.0 m)) is h)
+
+-- the accounts but for that to which commands are done, and its number
+abbrev pub beside_of : List Held × ℕ → List Held × ℕ
+beside_of w = (all_but w.1 w.0, w.1)
+
+-- all but that account stay
+pub beside_same : (old new : List Held × ℕ) (n : ℕ) → n ≡ old.1 → new.1 ≡ old.1 → new.0 ≡ slice_set old.0 n (account_in new.0 n) → beside_of new ≡ beside_of old
+beside_same old new n is kept others =
+    let left = all_but_same old.0 new.0 n (account_in new.0 n) others in
+    let P : ℕ → List Held × ℕ = λ m. (all_but m new.0, m) in
+    let Q : List Held → List Held × ℕ = λ us. (us, old.1) in
+    ap P kept ∙ ap Q (subst (λ m. all_but m new.0 ≡ all_but m old.0) is left)

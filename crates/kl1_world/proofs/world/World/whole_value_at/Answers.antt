@@ -9,16 +9,6 @@ use Rattle.kl1_world.proofs.Lodgings.{accounts_of, as_many, stands, account_at, 
 use Rattle.kl1_world.proofs.Steps.{moved, on_err, still_within}
 use Rattle.kl1_world.proofs.world.World.whole_value_at.Goals as goal
 
-pub whole_value-requires-clause-of : goal.whole_value-requires-clause-of
-whole_value-requires-clause-of g c =
-    let xs = c.self.inside.accounts.items in
-    let n = c.args.account in
-    let x = c.index_mut-kept.result.now in
-    let view : accounts_of xs ≡ c.args.self.now.0 = ap (λ p. p.0) c.self.view_is in
-    let less = as_many xs c.args.self.now.0 n view c.requires in
-    let at = stands xs n x less c.index_mut-kept.ensures.value in
-    (c.self.invariant.0 n x at).0
-
 pub invariant_of-self : goal.invariant_of-self
 invariant_of-self g c =
     let xs = c.self.inside.accounts.items in
