@@ -65,6 +65,7 @@ impl<A: AtomSource + Drop, C: CodeSource + Drop> World<A, C> {
         requires seats { AreNewSeats A.is_of A.place A.knows names seats.items }
         ensures many { IfOk result (λ w. length w.0 ≡ length accounts.now) }
         ensures fresh { IfOk result (λ w. AreFresh w.0 accounts.now) }
+        ensures at { IfOk result (λ w. w.1 ≡ 0) }
     {
         let mut kept = Vec::new(alloc);
         for seat in seats {
