@@ -1,6 +1,6 @@
 -- The entry of each event that an account accepts has a line.
 use Rattle.std.proofs.Common.{◌≡◌, ℕ, suc, ◌≤◌, ◌+◌, ◌*◌, ◌&&◌, Bool, true, false, if◌then◌else◌, length, refl, arith}
-use Rattle.std.specs.Prelude.{nat_le, Option, Some}
+use Rattle.std.specs.Prelude.{nat_le, Some}
 use Rattle.std.proofs.lemmas.Bool.{and_from, and_parts, lt-ltb, le-leb, leb-true}
 use Rattle.kl1_model.specs.Limits.{number_limit, most_priority}
 use Rattle.kl1_model.specs.Term.{Term}

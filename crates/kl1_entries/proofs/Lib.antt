@@ -4,3 +4,6 @@ pub mod Accepted
 pub mod Pages
 pub mod Joined
 pub mod Feeds
+pub mod BuiltIns
+pub mod LinesRead
+pub mod TextsRead

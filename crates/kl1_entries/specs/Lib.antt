@@ -3,3 +3,4 @@ pub mod Codes
 pub mod Slots
 pub mod Shown
 pub mod Reading
+pub mod Found

@@ -1,10 +1,10 @@
 -- How the text of a journal is read.
-use Rattle.std.specs.Prelude.{◌≡◌, ℕ, ◌∷◌, [], List, Bool, false, if◌then◌else◌, bytes_eq, codes, Option, Some, None, option_map, option_and_then}
+use Rattle.std.specs.Prelude.{ℕ, ◌∷◌, [], List, Bool, false, if◌then◌else◌, ◌==◌, length, bytes_eq, codes, Option, Some, None, option_map, option_and_then}
 use Rattle.kl1_model.specs.declared.message.Message.TheVariants.{Stop, Start, Abort, Allow}
 use Rattle.kl1_model.specs.Line.{before_space, behind_space, number_in}
 use Rattle.kl1_history.specs.Journal.{Entry, sends, Journal, with_entry}
 use Rattle.kl1_history.specs.JournalText as model
-use Rattle.kl1_history.specs.JournalText.{Lines, of_two, entry_line, entry_in}
+use Rattle.kl1_history.specs.JournalText.{Lines, of_two, entry_line, entry_in, lines_of, journal_after}
 use Rattle.kl1_entries.specs.declared.heading.Heading.{Heading}
 
 -- lines with one more in front
@@ -37,3 +37,11 @@ is_line_of (Some e) line = bytes_eq (entry_line e) line
 abbrev pub read_on : Journal → List (List ℕ) → Option Journal
 read_on j [] = Some j
 read_on j (line ∷ lines) = option_and_then (λ e. read_on (with_entry j e) lines) (entry_in line)
+
+-- the journal that this one is after the entries whose lines a text is, if it is
+abbrev pub read_text : Journal → List ℕ → Option Journal
+read_text j text = if length (lines_of text).rest == 0 then read_on j (lines_of text).whole else None
+
+-- the journal of these sessions and names, after which a text has this number of names and then entries, if it has
+abbrev pub read_after : ℕ → List (List ℕ) → ℕ → List ℕ → Option Journal
+read_after sessions names n text = if length (lines_of text).rest == 0 then journal_after sessions names n (lines_of text).whole else None

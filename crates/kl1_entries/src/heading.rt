@@ -1,6 +1,7 @@
 // The first line of a journal's text.
 
-ghost use Rattle.std.specs.Prelude.{◌≡◌, ◌+◌, ◌≤◌, ◌++◌, length, bytes_eq, option_map};
+ghost use Rattle.std.specs.Prelude.{◌≡◌, ◌+◌, ◌≤◌, ◌++◌, length, bytes_eq, option_map, IfSome};
+ghost use Rattle.kl1_model.specs.Limits.{most_sessions, most_names};
 ghost use Rattle.kl1_history.specs.JournalText.{first_line, heading_in};
 ghost use Rattle.kl1_entries.specs.Reading.{heading_view};
 
@@ -42,14 +43,19 @@ fn is_first_line(line: &[u8], sessions: u64, names: u64) -> bool
 
 /// What a line says as the first line of a journal, if it is one.
 pub fn heading_of(line: &[u8]) -> Option<Heading>
-    ensures { option_map heading_view result ≡ heading_in line.now }
+    ensures value { option_map heading_view result ≡ heading_in line.now }
+    ensures sessions { IfSome result (λ h. h.sessions ≤ most_sessions) }
+    ensures names { IfSome result (λ h. h.names ≤ most_names) }
 {
     let (_, behind) = split_name(line);
     let (_, rest) = split_name(behind);
     let (first, second) = split_name(rest);
     let sessions = number_in(first)?;
     let names = number_in(second)?;
-    if sessions <= MOST_SESSIONS && names <= MOST_NAMES as u64 && is_first_line(line, sessions, names) {
+    if sessions <= MOST_SESSIONS
+        && names <= MOST_NAMES as u64
+        && is_first_line(line, sessions, names)
+    {
         Some(Heading { sessions, names })
     } else {
         None

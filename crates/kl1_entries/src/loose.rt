@@ -27,11 +27,7 @@ fn hex_value(byte: u8) -> u8
     ensures value { result ≡ hex_value byte }
     ensures small { result < 16 }
 {
-    if byte <= b'9' {
-        byte - b'0'
-    } else {
-        byte - 87
-    }
+    if byte <= b'9' { byte - b'0' } else { byte - 87 }
 }
 
 /// Whether bytes are hexadecimal digits alone.
@@ -144,11 +140,7 @@ fn message_in(word: &[u8], rest: &[u8]) -> Option<Event>
 }
 
 /// The event that a line may be, by its first word and what is after that.
-pub(crate) fn event_by(
-    alloc: Global,
-    word: &[u8],
-    rest: &[u8],
-) -> Result<Option<Event>, AllocError>
+fn event_by(alloc: Global, word: &[u8], rest: &[u8]) -> Result<Option<Event>, AllocError>
     ensures { IfOk result (λ e. option_map event_of e ≡ option_map event_in (entry_by word.now rest.now)) }
 {
     if is_same(word, b"reduce") {
@@ -161,4 +153,12 @@ pub(crate) fn event_by(
         return start_in(alloc, rest);
     }
     Ok(message_in(word, rest))
+}
+
+/// The event that a line may be.
+pub(crate) fn loose_event(alloc: Global, line: &[u8]) -> Result<Option<Event>, AllocError>
+    ensures { IfOk result (λ e. option_map event_of e ≡ option_map event_in (entry_by (before_space line.now) (behind_space line.now))) }
+{
+    let (word, rest) = split_name(line);
+    event_by(alloc, word, rest)
 }

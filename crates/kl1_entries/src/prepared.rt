@@ -1,18 +1,22 @@
 // Entries before they are put.
 
-ghost use Rattle.std.specs.Prelude.{◌≡◌, ◌≤◌, ◌+◌, nat_le, length, decimal, IfOk, IsOk, None};
+ghost use Rattle.std.specs.Prelude.{◌≡◌, ◌≤◌, ◌+◌, nat_le, length, decimal, is_some, option_map, IfOk, IsOk, None};
 ghost use Rattle.kl1_model.specs.Print.{print};
 ghost use Rattle.kl1_model.specs.Event.{is_number, most_line_bytes};
 ghost use Rattle.kl1_model.specs.Sending.{may_send};
 ghost use Rattle.kl1_history.specs.Journal.{loads, starts, sends, steps};
+ghost use Rattle.kl1_history.specs.JournalText.{entry_line};
 ghost use Rattle.kl1_event.specs.Views.{event_of};
 ghost use Rattle.kl1_entries.specs.Lined.{entry_of, is_lined, if_lined, lined_entry};
-ghost use Rattle.kl1_entries.specs.Slots.{entry_in, IsSoundForm};
+ghost use Rattle.kl1_entries.specs.Reading.{is_line_of};
 
+use crate::entry::{shown_at, shown_whole};
+use crate::lines::put_entry;
 use crate::slot::Slot;
 use crate::whole::Whole;
 use itoa::Buffer;
 use kl1_event::Event;
+use kl1_lines::is_same;
 use kl1_model::Message;
 use kl1_model::limits::{MOST_LINE_BYTES, NUMBER_LIMIT};
 use kl1_read::is_goal;
@@ -52,6 +56,43 @@ impl Model for Prepared {
     ghost view = { λ p. entry_in p.form };
 
     ghost invariant = { λ p. IsSoundForm p.form };
+}
+
+impl Prepared {
+    /// Whether this is an entry.
+    pub fn is_entry(&self) -> bool
+        ensures { result ≡ is_some self.now }
+    {
+        match &self.form {
+            Form::Nothing => false,
+            Form::Short(_slot) => true,
+            Form::Long(_whole) => true,
+        }
+    }
+
+    /// The line of what is prepared, if it is an entry.
+    fn line(&self, alloc: Global) -> Result<Option<Vec<u8>>, AllocError>
+        ensures { IfOk result (λ line. option_map (λ v. v.items) line ≡ option_map entry_line self.now) }
+    {
+        let entry = match &self.form {
+            Form::Nothing => return Ok(None),
+            Form::Short(slot) => shown_at(&[], *slot),
+            Form::Long(whole) => shown_whole(whole),
+        };
+        let mut line = Vec::new(alloc);
+        put_entry(&mut line, entry)?;
+        Ok(Some(line))
+    }
+
+    /// Whether a line is that of what is prepared.
+    pub(crate) fn has_line(&self, alloc: Global, line: &[u8]) -> Result<bool, AllocError>
+        ensures { IfOk result (λ is. is ≡ is_line_of self.now line.now) }
+    {
+        match self.line(alloc)? {
+            None => Ok(false),
+            Some(own) => Ok(is_same(own.as_slice(), line)),
+        }
+    }
 }
 
 /// What an event is in a journal, if it is accepted: an entry, or nothing for a query, for a session that is opened or closed, and for

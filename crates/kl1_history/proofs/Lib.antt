@@ -10,6 +10,10 @@ pub mod ReadPlain
 pub mod ReadPlanted
 pub mod ReadStrict
 pub mod ReadTerms
+pub mod Feeds
+pub mod Loads
+pub mod Cuts
+pub mod InputLaws
 pub mod Words
 pub mod TextEntries
 pub mod TextNames

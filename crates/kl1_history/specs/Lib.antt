@@ -5,5 +5,8 @@ pub mod Command
 pub mod Script
 pub mod Replay
 pub mod HistoryLaws
+pub mod Cut
+pub mod Inputs
+pub mod InputLaws
 pub mod TextLaws
 pub mod ReplayLaws

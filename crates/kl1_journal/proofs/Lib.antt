@@ -1,4 +1,3 @@
 pub mod Readings
-pub mod Rows
 pub mod Changing
 pub mod Keeps

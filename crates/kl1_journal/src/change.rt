@@ -67,7 +67,7 @@ fn anew(alloc: Global, journal: &Journal, names: &[AtomText]) -> Result<Journal,
     ensures { IfOk result (λ new. new.journal ≡ new_journal names.now journal.now.journal.sessions) }
 {
     // This is called for the fact that it proves: at most 4 sessions are open.
-    journal.shows_lines();
+    journal.shows_written();
     Journal::with_names(alloc, names, journal.sessions())
 }
 
@@ -120,7 +120,7 @@ fn note_sessions(journal: &mut Journal, reply: &Reply)
     ensures { journal.new.journal ≡ sessions_after journal.old.journal (reply_of reply.now) }
 {
     // This is called for the fact that it proves: at most 4 sessions are open.
-    journal.shows_lines();
+    journal.shows_written();
     let sessions = journal.sessions();
     match reply {
         Reply::Welcome(_name) => journal.set_sessions(sessions + 1),

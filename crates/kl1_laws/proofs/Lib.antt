@@ -9,3 +9,4 @@ pub mod AccountRowProofs
 pub mod HistoryRowProofs
 pub mod GuardRowProofs
 pub mod ShoenRowProofs
+pub mod StreamRowProofs

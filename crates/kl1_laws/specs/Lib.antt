@@ -7,3 +7,4 @@ pub mod ReadRows
 pub mod ReadFaults
 pub mod GuardRows
 pub mod ArithmeticLaws
+pub mod StreamRows

@@ -5,6 +5,7 @@ ghost use Rattle.kl1_laws.specs.GuardRows.{GuardRowsHold};
 ghost use Rattle.kl1_laws.specs.HistoryRows.{HistoryRowsHold};
 ghost use Rattle.kl1_laws.specs.JournalExamples.{JournalsHold};
 ghost use Rattle.kl1_laws.specs.ShoenRows.{ShoenRowsHold};
+ghost use Rattle.kl1_laws.specs.StreamRows.{StreamRowsHold};
 
 /// Each script in `examples/scripts` has the output that stands beside it, computed from the definitions.
 pub fn example_scripts_hold()
@@ -34,4 +35,9 @@ pub fn shoen_rows_hold()
 /// Arithmetic, tests, verdicts and the reader come to what the rows say, computed from the definitions.
 pub fn guard_rows_hold()
     ensures { GuardRowsHold }
+{}
+
+/// Bytes of a session come to the inputs that the rows say, and to what is left of them, computed from the definitions.
+pub fn stream_rows_hold()
+    ensures { StreamRowsHold }
 {}

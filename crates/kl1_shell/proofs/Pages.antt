@@ -34,7 +34,7 @@ page_is s n done few =
     page_by (is_number n) (is_number (done + 1)) (nat_le 1 (done + 1)) (origin_at n s.shoens) s (done + 1) (lt-ltb (done + 1) number_limit (omega arith)) (le-leb 1 (done + 1) (omega arith)) ∙ ap (λ k. take most_listed (drop k (reports_in s n))) one
 
 -- the lines of texts, and then of others
-lines_both : (xs ys : List (List ℕ)) → written_lines (xs ++ ys) ≡ written_lines xs ++ written_lines ys
+pub lines_both : (xs ys : List (List ℕ)) → written_lines (xs ++ ys) ≡ written_lines xs ++ written_lines ys
 lines_both [] ys = refl
 lines_both (x ∷ xs) ys = ap (λ z. written_line x ++ z) (lines_both xs ys) ∙ sym (append_assoc (written_line x) (written_lines xs) (written_lines ys))
 

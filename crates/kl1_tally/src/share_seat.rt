@@ -1,6 +1,7 @@
 // What one thread counted.
 
-ghost use Rattle.std.specs.Prelude.{◌≡◌};
+ghost use Rattle.std.specs.Prelude.{◌≡◌, length};
+ghost use Rattle.kl1_tally.specs.declared.amounts.TheConstants.{MOST_ACCOUNTS};
 
 use crate::amounts::Amounts;
 use crate::view::View;
@@ -36,5 +37,13 @@ impl ShareSeat {
         ensures steps { result.steps ≡ self.now.steps }
     {
         self.amounts
+    }
+
+    /// Does nothing: it shows that there is a number for each account.
+    pub fn has_places(&self)
+        ensures events { length self.now.events ≡ MOST_ACCOUNTS }
+        ensures steps { length self.now.steps ≡ MOST_ACCOUNTS }
+    {
+        let _amounts = self.amounts;
     }
 }

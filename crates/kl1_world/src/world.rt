@@ -169,6 +169,7 @@ impl<A: AtomSource + Drop, C: CodeSource + Drop> World<A, C> {
         requires { AreOf (length self.old.0) events.now }
         ensures all { IfOk result (λ replies. IsRun self.old.0 self.new.0 (deeds_of events.now) replies.items) }
         ensures stopped { IfErr result (λ s. (s.done < length events.now) × IsRun self.old.0 self.new.0 (deeds_of (take s.done events.now)) s.replies.items) }
+        ensures many { length self.new.0 ≡ length self.old.0 }
     {
         let mut replies = Vec::new(self.alloc);
         for done in 0..events.len() {

@@ -1,6 +1,7 @@
 // Scripts over plain tables of names and of codes, and over shared ones.
 
-use crate::script::scripts::is_script;
+use crate::script::kind::Kind;
+use crate::script::scripts::is_whole;
 use kl1_atoms::PlainTable;
 use kl1_codes::PlainCodes;
 use kl1_lines::split_line;
@@ -32,5 +33,5 @@ fn is_over_plain(alloc: Global, script: &[u8], output: &[u8]) -> bool {
 
 /// Whether these bytes are written for a script, over shared tables of names and of codes as over plain ones.
 pub fn is_over_both<H: Wait>(rt: &H, alloc: Global, script: &[u8], output: &[u8]) -> bool {
-    is_script(rt, alloc, script, output) && is_over_plain(alloc, script, output)
+    is_whole(rt, alloc, Kind::Script, script, output) && is_over_plain(alloc, script, output)
 }

@@ -1,7 +1,6 @@
-use Rattle.std.proofs.Common.{◌≡◌, ℕ, ◌+◌, ◌-◌, ◌++◌, List, length, ap, sym, refl, ◌∙◌, arith}
-use Rattle.std.specs.Prelude.{slice_get, Option, Some}
+use Rattle.std.proofs.Common.{◌≡◌, ℕ, ◌-◌, ◌++◌, List, length, ap, sym, ◌∙◌, arith}
+use Rattle.std.specs.Prelude.{slice_get, Some}
 use Rattle.std.proofs.lemmas.List.{length-map}
-use Rattle.kl1_history.specs.Journal.{Entry}
 use Rattle.kl1_history.specs.JournalText.{name_line, entry_line}
 use Rattle.kl1_entries.specs.declared.whole.Whole.{Whole}
 use Rattle.kl1_entries.specs.Lined.{Rows}

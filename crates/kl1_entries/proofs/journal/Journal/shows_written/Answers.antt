@@ -1,4 +1,4 @@
-use Rattle.std.proofs.Common.{◌≡◌, subst}
+use Rattle.std.proofs.Common.{subst}
 use Rattle.kl1_history.specs.TextLaws.{IsWritten}
 use Rattle.kl1_entries.specs.Lined.{Rows}
 use Rattle.kl1_entries.proofs.Sound.{row_lines}

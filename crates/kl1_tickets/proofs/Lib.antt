@@ -1,0 +1,4 @@
+pub mod Moves
+pub mod Apart
+pub mod Counting
+pub mod NewBooks

@@ -1,0 +1,4 @@
+pub mod Hands
+pub mod Counts
+pub mod Totals
+pub mod Parts
