@@ -65,13 +65,15 @@ more_done old now after all front k n j m s next ls rest line out left (Some x) 
 -- a line is a fault, and of the bytes that wait some were passed on
 pub fault_next : (old now after : Option (List ℕ)) (all : List ℕ) (front : ℕ → List ℕ) (k n : ℕ) (s next : State) (ls rest : Lines) (line out left : List ℕ) (o : Option Stepped) → Underway old now all front k n s ls out → ls ≡ with_line line rest → accepted_in s line ≡ o → Went false o next → PassesOn now after (out ++ told_of o) left → Underway old after all front k n s ls left × (written_entries k n s ls.whole ls.rest ≡ written_fault k)
 fault_next old now after all front k n s next ls rest line out left None u is h went passes =
-    let same = passed_same u.passed out [] passes.passed left passes.same ∙ append-nil (u.passed ++ out) in
-    (record {
-      passed = u.passed ++ passes.passed;
-      appends = appends_both old now after u.passed passes.passed u.appends passes.appends;
-      written = ap (λ y. y ++ written_entries k n s ls.whole ls.rest) same ∙ u.written;
-      first = λ i. u.first i ∙ ap (λ y. y ++ first_entries i s ls.whole) (sym same);
-    }, rw is (one_fault k n s line rest.whole rest.rest h))
+    let same = passed_same u.passed out [] passes.passed left passes.same ∙ append-nil (u.passed ++ out) in (
+      record {
+        passed = u.passed ++ passes.passed;
+        appends = appends_both old now after u.passed passes.passed u.appends passes.appends;
+        written = ap (λ y. y ++ written_entries k n s ls.whole ls.rest) same ∙ u.written;
+        first = λ i. u.first i ∙ ap (λ y. y ++ first_entries i s ls.whole) (sym same);
+      },
+      rw is (one_fault k n s line rest.whole rest.rest h),
+    )
 fault_next old now after all front k n s next ls rest line out left (Some x) u is h went passes = absurd went
 
 -- no line is left

@@ -17,7 +17,9 @@ pub(crate) enum Named<'a> {
         rest: &'a [u8],
     },
     /// The line of this number isn't there, or has no name that may follow the others.
-    Fault { line: u64 },
+    Fault {
+        line: u64,
+    },
 }
 
 /// The names of the first `count` lines of a text, whose first line is the second of the journal's text.

@@ -24,12 +24,12 @@ pub returns-in-Some-clause-went : goal.returns-in-Some-clause-went
 returns-in-Some-clause-went g c =
     let event = event_of c.in-Some.event in
     IfOk-weaker c.put_event.result (λ accepted. (f : Reading) → Fits c.put_event.new.replayed.names f → Went accepted (if_accepted (step (state_of f c.args.replayed.now) event)) (state_of f c.put_event.new.replayed)) (λ accepted. (f : Reading) → Fits c.put_event.new.replayed.names f → Went accepted (accepted_in (state_of f c.args.replayed.now) c.args.line.now) (state_of f c.put_event.new.replayed)) (λ accepted h f fits.
-      let e = some_entry (state_of f c.args.replayed.now) c.args.line.now event (option_map event_of c.in_ok-entry_of.field-0) c.in_ok-entry_of.ensures (ap (option_map event_of) c.in-Some.is) in
-      rw e (h f fits)) c.put_event.ensures.went
+    let e = some_entry (state_of f c.args.replayed.now) c.args.line.now event (option_map event_of c.in_ok-entry_of.field-0) c.in_ok-entry_of.ensures (ap (option_map event_of) c.in-Some.is) in
+    rw e (h f fits)) c.put_event.ensures.went
 
 pub returns-in-Some-clause-told : goal.returns-in-Some-clause-told
 returns-in-Some-clause-told g c =
     let event = event_of c.in-Some.event in
     IfOk-weaker c.put_event.result (λ accepted. (f : Reading) → Fits c.put_event.new.replayed.names f → c.put_event.new.out.items ≡ c.args.out.now.items ++ told_of (if_accepted (step (state_of f c.args.replayed.now) event))) (λ accepted. (f : Reading) → Fits c.put_event.new.replayed.names f → c.put_event.new.out.items ≡ c.args.out.now.items ++ told_of (accepted_in (state_of f c.args.replayed.now) c.args.line.now)) (λ accepted h f fits.
-      let e = some_entry (state_of f c.args.replayed.now) c.args.line.now event (option_map event_of c.in_ok-entry_of.field-0) c.in_ok-entry_of.ensures (ap (option_map event_of) c.in-Some.is) in
-      rw e (h f fits)) c.put_event.ensures.told
+    let e = some_entry (state_of f c.args.replayed.now) c.args.line.now event (option_map event_of c.in_ok-entry_of.field-0) c.in_ok-entry_of.ensures (ap (option_map event_of) c.in-Some.is) in
+    rw e (h f fits)) c.put_event.ensures.told
