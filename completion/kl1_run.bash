@@ -2,11 +2,17 @@
 
 _kl1_run() {
     local word=${COMP_WORDS[COMP_CWORD]} before=${COMP_WORDS[COMP_CWORD - 1]}
-    local options="--steps --allowance --reports --whole --check --script --help"
+    local options="--steps --allowance --reports --whole --journal --check --script --help"
     COMPREPLY=()
     case $before in
     --steps | --allowance)
         # A number.
+        return
+        ;;
+    --journal)
+        # A file of any name.
+        compopt -o filenames 2>/dev/null
+        mapfile -t COMPREPLY < <(compgen -f -- "$word")
         return
         ;;
     esac

@@ -1,8 +1,10 @@
-//! The program: a script from standard input, and what is written for it to standard output.
+//! The program: a script, or the text of a journal, from standard input, and what is written for it to standard output.
 #![tactic(auto)]
 
+use kl1_replay::run_replay;
 use kl1_script::{Counted, ScriptFault, run_script};
 use std::env;
+use std::env::Args;
 use std::io::{Error, ErrorKind};
 use std::process::ExitCode;
 use std::rt::Env;
@@ -10,30 +12,63 @@ use std::rt::Env;
 /// The status of a program that is called with other words than it knows.
 const OTHER_WORDS: u8 = 2;
 
+/// What the words after the program's name ask for.
+#[derive(Clone, Copy)]
+enum Work {
+    /// To run a script: there are none.
+    Script,
+    /// To replay a journal: `replay`.
+    Replay,
+    /// Nothing that the program knows.
+    Unknown,
+}
+
 fn main(rt: HostRuntime) -> ExitCode {
-    match has_words(&rt) {
-        Ok(true) => tell_usage(&rt),
-        Ok(false) => {
-            let mut source = Counted::new(rt.stdin());
-            let mut sink = Counted::new(rt.stdout());
-            match run_script(&rt, rt.alloc(), &mut source, &mut sink) {
-                Ok(()) => ExitCode::SUCCESS,
-                Err(fault) => tell_fault(&rt, fault),
-            }
-        }
+    match work_of(&rt) {
+        Ok(Work::Unknown) => tell_usage(&rt),
+        Ok(work) => match do_work(&rt, work) {
+            Ok(()) => ExitCode::SUCCESS,
+            Err(fault) => tell_fault(&rt, fault),
+        },
         Err(fault) => tell_fault(&rt, fault),
     }
 }
 
-/// Whether words stand after the program's name. One that isn't UTF-8 is a word too.
-fn has_words<R: Env + AllocGlobal>(rt: &R) -> Result<bool, ScriptFault> {
+/// Runs the script, or replays the journal, that standard input gives.
+fn do_work(rt: &HostRuntime, work: Work) -> Result<(), ScriptFault> {
+    let mut source = Counted::new(rt.stdin());
+    let mut sink = Counted::new(rt.stdout());
+    match work {
+        Work::Script => run_script(rt, rt.alloc(), &mut source, &mut sink),
+        Work::Replay => run_replay(rt, rt.alloc(), &mut source, &mut sink),
+        Work::Unknown => Ok(()),
+    }
+}
+
+/// What the program's words ask for. One that isn't UTF-8 is a word that it doesn't know.
+fn work_of<R: Env + AllocGlobal>(rt: &R) -> Result<Work, ScriptFault> {
     match env::args(rt) {
-        Ok(words) => Ok(words.len() > 1),
+        Ok(words) => Ok(work_in(words)),
         Err(error) => {
             if is_want_of_memory(&error) {
                 Err(ScriptFault::Memory)
             } else {
-                Ok(true)
+                Ok(Work::Unknown)
+            }
+        }
+    }
+}
+
+/// What these words ask for, of which the first is the program's name.
+fn work_in(mut words: Args) -> Work {
+    let _program = words.next();
+    match words.next() {
+        None => Work::Script,
+        Some(word) => {
+            if word == "replay" && words.next().is_none() {
+                Work::Replay
+            } else {
+                Work::Unknown
             }
         }
     }

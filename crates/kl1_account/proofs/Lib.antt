@@ -46,3 +46,4 @@ pub mod Named
 pub mod ReducedKept
 pub mod ReducePut
 pub mod Reductions
+pub mod GivenNames

@@ -6,7 +6,7 @@ use Rattle.kl1_model.specs.Name.{is_small_letter}
 use Rattle.kl1_model.specs.Text.{is_text, is_name_byte}
 use Rattle.kl1_model.specs.Token.{is_digit}
 use Rattle.kl1_model.specs.Limits.{most_account_name_bytes, most_name_bytes}
-use Rattle.kl1_model.specs.Script.{is_account_name}
+use Rattle.kl1_model.specs.AccountName.{is_account_name}
 
 letter_in_text : (b : ℕ) → is_small_letter b ≡ true → is_name_byte b ≡ true
 letter_in_text b h =

@@ -22,8 +22,8 @@ use Rattle.kl1_acts.specs.Spelling.{IsPublished}
 use Rattle.kl1_account.specs.Reducing.{account_at, named_in, IsReduced, IsRefused, ReducesAs}
 use Rattle.kl1_account.proofs.Sent.{as_was}
 
--- what always holds of an account holds of it by any name
-kept_own : (a : Account) (own : List ℕ) (hooks : List Hook) (known : ℕ) → IsKept a hooks known → IsKept (record a { own_name = own }) hooks known
+-- what always holds of an account holds of it by any name and with any number of sessions
+kept_own : (a : Account) (own : List ℕ × ℕ) (hooks : List Hook) (known : ℕ) → IsKept a hooks known → IsKept (record a { own_name = own.0; sessions = own.1 }) hooks known
 kept_own a own hooks known k = record {
   some = k.some;
   goals = k.goals;
@@ -37,22 +37,22 @@ kept_own a own hooks known k = record {
   settled = k.settled;
   enabled = k.enabled;
   rows = k.rows;
-  named = λ f g one two. ap (λ (s : State). let z : State = record s { own_name = own } in z) (k.named f g one two);
+  named = λ f g one two. ap (λ (s : State). let z : State = record s { own_name = own.0; sessions = own.1 } in z) (k.named f g one two);
   small = k.small;
 }
 
 -- an account with a tree of its shoens is the account
-at_is : (a : Account) (own : List ℕ) (t : Tree CellName) → t.shoens ≡ a.shoens → t.work ≡ a.work → account_at own a.held a.goals t a.modules a.names a.last_goal a.variables a.nodes a.reports a.entries ≡ record a { own_name = own }
-at_is a own t shoens work = as_was (record a { own_name = own }) a.held t.shoens t.work refl shoens work
+at_is : (a : Account) (own : List ℕ × ℕ) (t : Tree CellName) → t.shoens ≡ a.shoens → t.work ≡ a.work → account_at own a.held a.goals t a.modules a.names a.last_goal a.variables a.nodes a.reports a.entries ≡ record a { own_name = own.0; sessions = own.1 }
+at_is a own t shoens work = as_was (record a { own_name = own.0; sessions = own.1 }) a.held t.shoens t.work refl shoens work
 
--- what always holds of an account holds of it with a tree of its shoens, by any name
-pub kept_at : (a : Account) (t : Tree CellName) (hooks : List Hook) (known : ℕ) → t.shoens ≡ a.shoens → t.work ≡ a.work → IsKept a hooks known → (own : List ℕ) → IsKept (account_at own a.held a.goals t a.modules a.names a.last_goal a.variables a.nodes a.reports a.entries) hooks known
+-- what always holds of an account holds of it with a tree of its shoens, by any name and with any number of sessions
+pub kept_at : (a : Account) (t : Tree CellName) (hooks : List Hook) (known : ℕ) → t.shoens ≡ a.shoens → t.work ≡ a.work → IsKept a hooks known → (own : List ℕ × ℕ) → IsKept (account_at own a.held a.goals t a.modules a.names a.last_goal a.variables a.nodes a.reports a.entries) hooks known
 kept_at a t hooks known shoens work k own = subst (λ (z : Account). IsKept z hooks known) (sym (at_is a own t shoens work)) (kept_own a own hooks known k)
 
 -- what came of a reduction, as it is of the account itself
 pub comes_of : (a : Account) (t : Tree CellName) (n c : ℕ) (old new : Kept CellName) (u : Tree CellName) (table : Tabled CellName) (d : Draft) (p : Option Refusal) → t.shoens ≡ a.shoens → t.work ≡ a.work →
-    ((own : List ℕ) → ReducesAs (account_at own a.held a.goals t a.modules a.names a.last_goal a.variables a.nodes a.reports a.entries) n c old new t u table d p) → ReducesAs a n c old new t u table d p
-comes_of a t n c old new u table d p shoens work came = subst (λ (z : Account). ReducesAs z n c old new t u table d p) (at_is a a.own_name t shoens work) (came a.own_name)
+    ((own : List ℕ × ℕ) → ReducesAs (account_at own a.held a.goals t a.modules a.names a.last_goal a.variables a.nodes a.reports a.entries) n c old new t u table d p) → ReducesAs a n c old new t u table d p
+comes_of a t n c old new u table d p shoens work came = subst (λ (z : Account). ReducesAs z n c old new t u table d p) (at_is a (a.own_name, a.sessions) t shoens work) (came (a.own_name, a.sessions))
 
 pub reduced_of : (a : Account) (n c : ℕ) (old new : Kept CellName) (t u : Tree CellName) (table : Tabled CellName) (d : Draft) (p : Option Refusal) → p ≡ None → ReducesAs a n c old new t u table d p → IsReduced a n c new u table d
 reduced_of a n c old new t u table d p is came = subst (λ (z : Option Refusal). ReducesAs a n c old new t u table d z) is came

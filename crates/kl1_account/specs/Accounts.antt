@@ -18,6 +18,7 @@ kept_in u = record {
   nodes = u.nodes;
   reports = u.reports;
   entries = u.entries;
+  sessions = u.sessions;
 }
 
 -- what always holds of the fields

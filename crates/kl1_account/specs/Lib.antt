@@ -9,3 +9,4 @@ pub mod Starting
 pub mod Asked
 pub mod Finishing
 pub mod Sending
+pub mod Beginning

@@ -116,10 +116,10 @@ put_in a h t d = record a {
   entries = suc a.entries;
 }
 
--- an account of this name with these parts
-abbrev pub account_at : List ℕ → Held CellName → List (Goal CellName) → Tree CellName → List Numbered → List Known → ℕ → ℕ → ℕ → ℕ → ℕ → Account
+-- an account of this name, with so many open sessions, with these parts
+abbrev pub account_at : (List ℕ × ℕ) → Held CellName → List (Goal CellName) → Tree CellName → List Numbered → List Known → ℕ → ℕ → ℕ → ℕ → ℕ → Account
 account_at own h goals t ms known last variables nodes reports entries = record {
-  own_name = own;
+  own_name = own.0;
   held = h;
   goals = goals;
   shoens = t.shoens;
@@ -131,6 +131,7 @@ account_at own h goals t ms known last variables nodes reports entries = record 
   nodes = nodes;
   reports = reports;
   entries = entries;
+  sessions = own.1;
 }
 
 -- an account comes to this one by a reduction, and all that always holds of it holds

@@ -1,12 +1,14 @@
 // One account.
 
+mod beginning;
+mod sessions;
+
 ghost use Rattle.std.specs.Prelude.{◌≡◌, ◌↔◌, ℕ, [], IfOk, OnErr, option_map};
-ghost use Rattle.kl1_model.specs.State.{fresh};
 ghost use Rattle.kl1_model.specs.Step.{step};
 ghost use Rattle.kl1_model.specs.Choice.{first, quiet};
 ghost use Rattle.kl1_model.specs.Event.{load as load_event, start as start_event, control, reduce, read, value, status, reports, modules as modules_query};
 ghost use Rattle.kl1_effects.specs.Fitting.{Reading, Fits};
-ghost use Rattle.kl1_effects.specs.Account.{state_of};
+ghost use Rattle.kl1_effects.specs.Account.{state_of, texts_of};
 ghost use Rattle.kl1_effects.specs.Naming.{Keeps};
 ghost use Rattle.kl1_account.specs.Starting.{HasNames};
 ghost use Rattle.kl1_event.specs.Views.{reply_of, reduced_or, chosen_of};
@@ -38,7 +40,7 @@ use kl1_moves::Trial;
 use kl1_shoen::ShoenTree;
 use kl1_store::Store;
 use kl1_term::Term;
-use kl1_text::CellName;
+use kl1_text::{AtomText, CellName};
 use std::alloc::{AllocError, Global};
 use std::marker::Model;
 
@@ -57,6 +59,7 @@ pub struct Account<C: CodeSource> {
     nodes: u64,
     reports: u64,
     entries: u64,
+    sessions: u64,
     trial: Trial<CellName>,
     draft: Draft,
     walk: Walk,
@@ -82,33 +85,11 @@ impl<C: CodeSource> Model for Account<C> {
 }
 
 impl<C: CodeSource> Account<C> {
-    /// An account of this name in which nothing has happened.
-    pub fn fresh(alloc: Global, name: AccountName) -> Result<Self, AllocError>
-        ensures fresh { IfOk result (λ account. (f : Reading) → state_of f account ≡ fresh name) }
-        ensures names { IfOk result (λ account. account.names ≡ []) }
-        ensures modules { IfOk result (λ account. account.modules ≡ []) }
+    /// The texts of the names that the account uses, in order of first use.
+    pub fn name_texts(&self) -> &[AtomText]
+        ensures { result.now ≡ texts_of self.now.names }
     {
-        let mut store = Store::new(alloc);
-        let _first = store.fresh()?;
-        Ok(Account {
-            name,
-            store,
-            goals: GoalTable::new(alloc),
-            shoens: ShoenTree::new(alloc),
-            modules: Modules::new(alloc),
-            names: AccountNames::new(alloc),
-            last_goal: 0,
-            variables: 0,
-            nodes: 0,
-            reports: 0,
-            entries: 0,
-            trial: Trial::new(alloc),
-            draft: Draft::new(alloc),
-            walk: Walk::new(alloc),
-            numbers: Vec::new(alloc),
-            scratch: Scratch::new(alloc),
-            alloc,
-        })
+        self.names.texts()
     }
 
     /// The first goal that can step, with the clause by which it steps.

@@ -4,7 +4,7 @@ ghost use Rattle.std.specs.Prelude.{◌≡◌, ◌||◌, IfSome, is_some};
 ghost use Rattle.std.specs.List.{list_all};
 ghost use Rattle.kl1_model.specs.Name.{is_small_letter};
 ghost use Rattle.kl1_model.specs.Token.{is_digit};
-ghost use Rattle.kl1_model.specs.Script.{is_account_name};
+ghost use Rattle.kl1_model.specs.AccountName.{is_account_name};
 
 use kl1_model::limits::MOST_ACCOUNT_NAME_BYTES;
 use kl1_text::AtomText;
@@ -18,7 +18,7 @@ pub struct AccountName {
 
 impl Model for AccountName {
     ghost use Rattle.std.specs.Prelude.{ℕ, List, IsTrue, refl};
-    ghost use Rattle.kl1_model.specs.Script.{is_account_name};
+    ghost use Rattle.kl1_model.specs.AccountName.{is_account_name};
 
     ghost Value = { List ℕ };
 

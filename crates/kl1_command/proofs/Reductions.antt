@@ -1,46 +1,50 @@
 -- What becomes of the first goal that can step.
 use Rattle.std.proofs.Common.{◌≡◌, ℕ, suc, ◌&&◌, nat_lt, Bool, true, false, if◌then◌else◌, Option, Some, None, ap, sym, ◌∙◌, refl}
-use Rattle.kl1_model.specs.Limits.{most_entries}
-use Rattle.kl1_model.specs.State.{State, Goal, goal_at}
+use Rattle.kl1_model.specs.State.{State}
 use Rattle.kl1_model.specs.Event as model
-use Rattle.kl1_model.specs.Event.{Stepped, refuse, is_number, syntax, journal_full, reduce}
-use Rattle.kl1_model.specs.Reduction.{Action, action_of, reduced_by, reduce_goal}
+use Rattle.kl1_model.specs.Event.{reduce}
 use Rattle.kl1_model.specs.Step.{step}
+use Rattle.kl1_model.specs.TreeLaws.{is_refused}
+use Rattle.kl1_model.proofs.TreeSteps.{refusals_change_nothing}
+use Rattle.kl1_history.specs.Journal.{Journal, with_event, Kept, done}
 use Rattle.kl1_model.specs.Choice.{Chosen, first}
-use Rattle.kl1_model.specs.Command.{Going, run_choice, run_on, stopped_by}
+use Rattle.kl1_history.specs.Command.{Going, run_choice, run_on, stopped_by}
 use Rattle.kl1_event.specs.Views.{refusal_of}
 use Rattle.kl1_command.specs.declared.first_step.FirstStep.{FirstStep}
 use Rattle.kl1_command.specs.declared.first_step.FirstStep.TheVariants as first_step
 use Rattle.kl1_command.specs.Performing.{refusal_in, IsTold, IsFirstStep}
 
--- what is refused leaves the account as it was
-abbrev StaysRefused : State → Stepped → Type 0
-StaysRefused s x = (r : model.Refusal) → refusal_in x.reply ≡ Some r → x.state ≡ s
-
 none_is : (X : Type 0) (r : model.Refusal) → None ≡ Some r → X
 none_is X r e = cc
 
-by_entries : (s : State) (after : Stepped) (v : Bool) → refusal_in after.reply ≡ None → StaysRefused s (if v then after else refuse s journal_full)
-by_entries s after true e = λ r h. none_is (after.state ≡ s) r (sym e ∙ h)
-by_entries s after false e = λ r h. refl
+-- a reply that tells a refusal is one
+is_refusal : (reply : model.Reply) (r : model.Refusal) → refusal_in reply ≡ Some r → is_refused reply ≡ true
+is_refusal (model.refused q) r e = refl
+is_refusal (model.loaded name) r e = none_is _ r e
+is_refusal (model.opened m) r e = none_is _ r e
+is_refusal model.sent r e = none_is _ r e
+is_refusal model.reduced r e = none_is _ r e
+is_refusal (model.ran m) r e = none_is _ r e
+is_refusal (model.shown text) r e = none_is _ r e
+is_refusal (model.status_is c charged allowance alive) r e = none_is _ r e
+is_refusal (model.listed texts) r e = none_is _ r e
+is_refusal (model.quiet_is b) r e = none_is _ r e
+is_refusal (model.welcome name) r e = none_is _ r e
+is_refusal model.bye r e = none_is _ r e
+is_refusal model.was_reset r e = none_is _ r e
 
-by_action : (s : State) (g : Goal) (a : Option Action) → StaysRefused s (reduced_by s g a)
-by_action s g None = λ r h. refl
-by_action s g (Some a) = by_entries s _ (nat_lt s.entries most_entries) refl
+left_by : (j : Journal) (e : model.Event) (s : State) (c : Bool) → c ≡ true → (if c then j else with_event j e s) ≡ j
+left_by j e s true is = refl
+left_by j e s false is = cc
 
-by_goal : (s : State) (clause : ℕ) (g : Option Goal) → StaysRefused s (reduce_goal s clause g)
-by_goal s clause None = λ r h. refl
-by_goal s clause (Some g) = by_action s g (action_of s g clause)
+-- an event that is refused leaves the account and its journal as they were
+pub refused_stays : (k : Kept) (e : model.Event) (r : model.Refusal) → refusal_in (done k e).reply ≡ Some r → (done k e).kept ≡ k
+refused_stays k e r is =
+    let refused = is_refusal (done k e).reply r is in
+    ap (λ (s : State). let z : Kept = record { state = s; journal = (done k e).kept.journal } in z) (refusals_change_nothing k.state e refused)
+    ∙ ap (λ (j : Journal). let z : Kept = record { state = k.state; journal = j } in z) (left_by k.journal e (step k.state e).state (is_refused (step k.state e).reply) refused)
 
-by_numbers : (s : State) (goal clause : ℕ) (v : Bool) → StaysRefused s (if v then reduce_goal s clause (goal_at goal s.goals) else refuse s syntax)
-by_numbers s goal clause true = by_goal s clause (goal_at goal s.goals)
-by_numbers s goal clause false = λ r h. refl
-
--- a reduction that is refused leaves the account as it was
-reduce_stays : (s : State) (goal clause : ℕ) → StaysRefused s (step s (reduce goal clause))
-reduce_stays s goal clause = by_numbers s goal clause (is_number goal && is_number clause)
-
-goes_by : (reply : model.Reply) (next : Going) (s after : State) (n : ℕ) → refusal_in reply ≡ None → run_on next s n after reply ≡ next (suc n) after
+goes_by : (reply : model.Reply) (next : Going) (s after : Kept) (n : ℕ) → refusal_in reply ≡ None → run_on next s n after reply ≡ next (suc n) after
 goes_by (model.refused r) next s after n e = none_is _ r (sym e)
 goes_by (model.loaded name) next s after n e = refl
 goes_by (model.opened m) next s after n e = refl
@@ -51,8 +55,11 @@ goes_by (model.shown text) next s after n e = refl
 goes_by (model.status_is c charged allowance alive) next s after n e = refl
 goes_by (model.listed texts) next s after n e = refl
 goes_by (model.quiet_is b) next s after n e = refl
+goes_by (model.welcome name) next s after n e = refl
+goes_by model.bye next s after n e = refl
+goes_by model.was_reset next s after n e = refl
 
-stops_by : (reply : model.Reply) (next : Going) (s after : State) (n : ℕ) (r : model.Refusal) → refusal_in reply ≡ Some r → run_on next s n after reply ≡ stopped_by s n r
+stops_by : (reply : model.Reply) (next : Going) (s after : Kept) (n : ℕ) (r : model.Refusal) → refusal_in reply ≡ Some r → run_on next s n after reply ≡ stopped_by s n r
 stops_by (model.refused q) next s after n r e = ap (stopped_by s n) (let same : q ≡ r = cc in same)
 stops_by (model.loaded name) next s after n r e = none_is _ r e
 stops_by (model.opened m) next s after n r e = none_is _ r e
@@ -63,15 +70,18 @@ stops_by (model.shown text) next s after n r e = none_is _ r e
 stops_by (model.status_is c charged allowance alive) next s after n r e = none_is _ r e
 stops_by (model.listed texts) next s after n r e = none_is _ r e
 stops_by (model.quiet_is b) next s after n r e = none_is _ r e
+stops_by (model.welcome name) next s after n r e = none_is _ r e
+stops_by model.bye next s after n r e = none_is _ r e
+stops_by model.was_reset next s after n r e = none_is _ r e
 
 -- the first goal was reduced, or its reduction refused
-pub first_told : (s after : State) (reply : model.Reply) (c : Chosen) (told : FirstStep) → Some c ≡ first s → step s (reduce c.goal c.clause) ≡ record { state = after; reply = reply } → IsTold reply told → IsFirstStep s told after
+pub first_told : (s after : Kept) (reply : model.Reply) (c : Chosen) (told : FirstStep) → Some c ≡ first s.state → done s (reduce c.goal c.clause) ≡ record { kept = after; reply = reply } → IsTold reply told → IsFirstStep s told after
 first_told s after reply c first_step.Quiet found is t = absurd t
-first_told s after reply c first_step.Done found is t = λ next n. ap (run_choice next s n) (sym found) ∙ ap (λ x. run_on next s n x.state x.reply) is ∙ goes_by reply next s after n t
+first_told s after reply c first_step.Done found is t = λ next n. ap (run_choice next s n) (sym found) ∙ ap (λ x. run_on next s n x.kept x.reply) is ∙ goes_by reply next s after n t
 first_told s after reply c (first_step.Refused r) found is t =
-    (λ next n. ap (run_choice next s n) (sym found) ∙ ap (λ x. run_on next s n x.state x.reply) is ∙ stops_by reply next s after n (refusal_of r) t, sym (ap (λ x. x.state) is) ∙ reduce_stays s c.goal c.clause (refusal_of r) (ap (λ x. refusal_in x.reply) is ∙ t))
+    (λ next n. ap (run_choice next s n) (sym found) ∙ ap (λ x. run_on next s n x.kept x.reply) is ∙ stops_by reply next s after n (refusal_of r) t, sym (ap (λ x. x.kept) is) ∙ refused_stays s (reduce c.goal c.clause) (refusal_of r) (ap (λ x. refusal_in x.reply) is ∙ t))
 first_told s after reply c first_step.Memory found is t = absurd t
 
 -- there was no goal that can step
-pub none_first : (s after : State) → None ≡ first s → after ≡ s → IsFirstStep s first_step.Quiet after
+pub none_first : (s after : Kept) → None ≡ first s.state → after ≡ s → IsFirstStep s first_step.Quiet after
 none_first s after none same = (sym none, same)

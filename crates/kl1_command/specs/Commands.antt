@@ -1,6 +1,6 @@
 -- What commands and parsed lines are in the definitions.
 use Rattle.std.specs.Prelude.{Option, Some, None}
-use Rattle.kl1_model.specs.Command as model
+use Rattle.kl1_history.specs.Command as model
 use Rattle.kl1_event.specs.Views.{event_of}
 use Rattle.kl1_command.specs.declared.command.Command.{Command}
 use Rattle.kl1_command.specs.declared.command.Command.TheVariants as command
@@ -11,6 +11,7 @@ use Rattle.kl1_command.specs.declared.parsed.Parsed.TheVariants as parsed
 abbrev pub command_view : Command → model.Command
 command_view (command.Does e) = model.does (event_of e)
 command_view (command.Run n) = model.run n
+command_view (command.Shows from count) = model.shows from count
 
 -- the command that was parsed, if there is one
 abbrev pub parsed_view : Parsed → Option model.Command

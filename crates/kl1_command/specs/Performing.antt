@@ -1,8 +1,8 @@
 -- What a command, and the first step of a run, did to an account.
 use Rattle.std.specs.Prelude.{◌≡◌, ℕ, suc, ◌<◌, Option, Some, None}
-use Rattle.kl1_model.specs.State.{State}
 use Rattle.kl1_model.specs.Event as model
-use Rattle.kl1_model.specs.Command.{Command, does, run, Going, run_choice, stopped_by, run_from, act}
+use Rattle.kl1_history.specs.Journal.{Kept}
+use Rattle.kl1_history.specs.Command.{Command, does, run, shows, Going, run_choice, stopped_by, run_from, act}
 use Rattle.kl1_model.specs.Choice.{first}
 use Rattle.kl1_event.specs.Views.{refusal_of, reply_of}
 use Rattle.kl1_command.specs.declared.performed.Performed.{Performed}
@@ -22,6 +22,9 @@ refusal_in (model.shown text) = None
 refusal_in (model.status_is c charged allowance alive) = None
 refusal_in (model.listed texts) = None
 refusal_in (model.quiet_is b) = None
+refusal_in (model.welcome name) = None
+refusal_in model.bye = None
+refusal_in model.was_reset = None
 
 -- what became of a goal whose reduction has this reply
 abbrev pub IsTold : model.Reply → FirstStep → Type 0
@@ -31,21 +34,22 @@ IsTold reply (first_step.Refused r) = refusal_in reply ≡ Some (refusal_of r)
 IsTold reply first_step.Memory = ⊥
 
 -- only a run stops short: after some of its steps, fewer than it may do
-abbrev pub StopsShort : State → Command → ℕ → State → Type 0
+abbrev pub StopsShort : Kept → Command → ℕ → Kept → Type 0
 StopsShort s (does e) n after = ⊥
-StopsShort s (run k) n after = (0 < n) × (n < k) × (run_from n 0 s ≡ record { state = after; reply = model.ran n })
+StopsShort s (run k) n after = (0 < n) × (n < k) × (run_from n 0 s ≡ record { kept = after; reply = model.ran n })
+StopsShort s (shows from count) n after = ⊥
 
 -- a command was done, with its reply; or a run's first steps were; or nothing was
-abbrev pub Performs : State → Command → Performed → State → Type 0
-Performs s c (performed.Whole reply) after = act s c ≡ record { state = after; reply = reply_of reply }
+abbrev pub Performs : Kept → Command → Performed → Kept → Type 0
+Performs s c (performed.Whole reply) after = act s c ≡ record { kept = after; reply = reply_of reply }
 Performs s c (performed.Short n) after = StopsShort s c n after
 Performs s c performed.Memory after = after ≡ s
 
 -- what became of the first goal that can step: how each run goes on after it
-abbrev pub IsFirstStep : State → FirstStep → State → Type 0
-IsFirstStep s first_step.Quiet after = (first s ≡ None) × (after ≡ s)
-IsFirstStep s first_step.Done after = (next : Going) (n : ℕ) → run_choice next s n (first s) ≡ next (suc n) after
-IsFirstStep s (first_step.Refused r) after = ((next : Going) (n : ℕ) → run_choice next s n (first s) ≡ stopped_by s n (refusal_of r)) × (after ≡ s)
+abbrev pub IsFirstStep : Kept → FirstStep → Kept → Type 0
+IsFirstStep s first_step.Quiet after = (first s.state ≡ None) × (after ≡ s)
+IsFirstStep s first_step.Done after = (next : Going) (n : ℕ) → run_choice next s n (first s.state) ≡ next (suc n) after
+IsFirstStep s (first_step.Refused r) after = ((next : Going) (n : ℕ) → run_choice next s n (first s.state) ≡ stopped_by s n (refusal_of r)) × (after ≡ s)
 IsFirstStep s first_step.Memory after = after ≡ s
 
 -- where memory was refused at once, a host is as it was

@@ -7,6 +7,8 @@ use kl1_event::Event;
 pub enum Command {
     /// This event.
     Does(Event),
-    /// At most so many first steps.
+    /// At most this number of first steps.
     Run(u64),
+    /// The lines of the journal from one on, the first being 1, at most this number of them.
+    Shows { from: u64, count: u64 },
 }

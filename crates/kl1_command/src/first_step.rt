@@ -1,5 +1,6 @@
 // What becomes of the first goal that can step.
 
+ghost use Rattle.std.specs.Prelude.{◌≡◌};
 ghost use Rattle.kl1_event.specs.Views.{reduced_or};
 ghost use Rattle.kl1_command.specs.Performing.{IsFirstStep, IsStepUntouched, IsTold};
 
@@ -20,9 +21,10 @@ pub(crate) enum FirstStep {
 
 /// Reduces the first goal that can step.
 pub(crate) fn reduce_first<H: Host>(host: &mut H) -> FirstStep
-    ensures step { (f : H.Reading) → H.fits host.new f → IsFirstStep (H.state f host.old) result (H.state f host.new) }
+    ensures step { (f : H.Reading) → H.fits host.new f → IsFirstStep (H.kept f host.old) result (H.kept f host.new) }
     ensures memory { IsStepUntouched result host.old host.new }
     ensures before { (f : H.Reading) → H.fits host.new f → H.fits host.old f }
+    ensures beside { H.beside host.new ≡ H.beside host.old }
 {
     let Some((goal, clause)) = host.pick() else {
         return FirstStep::Quiet;

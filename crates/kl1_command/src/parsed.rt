@@ -1,7 +1,7 @@
 // The commands of lines and records.
 
 ghost use Rattle.std.specs.Prelude.{◌≡◌, IfOk, Some};
-ghost use Rattle.kl1_model.specs.Command.{parse, command_by, command_of, does, runs, asks_value, asks_status, asks_modules, asks_quiet, start_command, start_with, reduce_command, allow_command, send_command, reports_command};
+ghost use Rattle.kl1_history.specs.Command.{parse, command_by, command_of, does, runs, asks_value, asks_status, start_command, start_with, reduce_command, allow_command, send_command, reports_command, journal_command, alone_command};
 ghost use Rattle.kl1_model.specs.Module.{read_goal};
 ghost use Rattle.kl1_lines.specs.Records.{request_of};
 ghost use Rattle.kl1_event.specs.Views.{event_of};
@@ -11,7 +11,7 @@ use crate::command::Command;
 use kl1_event::{ClauseNo, Event, GoalNo, Query, ShoenNo};
 use kl1_lines::{Request, is_blank_line, is_same, number_in, only_number, split_word, up_to};
 use kl1_model::Message;
-use kl1_model::limits::{MOST_COMMAND_BYTES, MOST_PRIORITY, MOST_STEPS};
+use kl1_model::limits::{MOST_COMMAND_BYTES, MOST_LISTED, MOST_PRIORITY, MOST_STEPS};
 use kl1_read::{ReadFault, read_goal};
 use std::alloc::{AllocError, Global};
 
@@ -65,11 +65,19 @@ pub fn parse(alloc: Global, line: &[u8]) -> Result<Parsed, AllocError>
     } else if is_same(word, b"reports") {
         Ok(parse_reports(rest))
     } else if is_same(word, b"modules") {
-        Ok(parse_modules(rest))
+        Ok(parse_alone(Event::Read(Query::Modules), rest))
     } else if is_same(word, b"quiet") {
-        Ok(parse_quiet(rest))
+        Ok(parse_alone(Event::Read(Query::Quiet), rest))
     } else if is_same(word, b"reduce") {
         Ok(parse_reduce(rest))
+    } else if is_same(word, b"journal") {
+        Ok(parse_journal(rest))
+    } else if is_same(word, b"login") {
+        Ok(parse_alone(Event::Login, rest))
+    } else if is_same(word, b"logout") {
+        Ok(parse_alone(Event::Logout, rest))
+    } else if is_same(word, b"reset") {
+        Ok(parse_alone(Event::Reset, rest))
     } else {
         Ok(Parsed::Refused)
     }
@@ -162,26 +170,32 @@ fn parse_reports(rest: &[u8]) -> Parsed
     }))
 }
 
-/// What stands after `modules`.
-fn parse_modules(rest: &[u8]) -> Parsed
-    ensures { parsed_view result ≡ command_by asks_modules rest.now }
+/// An event whose word has nothing after it.
+fn parse_alone(event: Event, rest: &[u8]) -> Parsed
+    ensures { parsed_view result ≡ alone_command (event_of event) rest.now }
 {
     if is_blank_line(rest) {
-        does(Event::Read(Query::Modules))
+        does(event)
     } else {
         Parsed::Refused
     }
 }
 
-/// What stands after `quiet`.
-fn parse_quiet(rest: &[u8]) -> Parsed
-    ensures { parsed_view result ≡ command_by asks_quiet rest.now }
+/// What stands after `journal`: a line's number, from 1, and how many lines at most, from 1.
+fn parse_journal(rest: &[u8]) -> Parsed
+    ensures { parsed_view result ≡ journal_command rest.now }
 {
-    if is_blank_line(rest) {
-        does(Event::Read(Query::Quiet))
-    } else {
-        Parsed::Refused
+    let (first, rest) = split_word(rest);
+    let Some(from) = number_in(first) else {
+        return Parsed::Refused;
+    };
+    let Some(count) = only_number(rest) else {
+        return Parsed::Refused;
+    };
+    if from < 1 || count < 1 || count > MOST_LISTED as u64 {
+        return Parsed::Refused;
     }
+    Parsed::Command(Command::Shows { from, count })
 }
 
 /// What stands after `reduce`.

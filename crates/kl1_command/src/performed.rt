@@ -1,8 +1,8 @@
 // What a command does to an account.
 
 ghost use Rattle.std.specs.Prelude.{◌≡◌};
-ghost use Rattle.kl1_model.specs.Command as model;
-ghost use Rattle.kl1_model.specs.State.{State};
+ghost use Rattle.kl1_history.specs.Command as model;
+ghost use Rattle.kl1_history.specs.Journal.{Kept};
 ghost use Rattle.kl1_event.specs.Views.{refusal_of, reply_of};
 ghost use Rattle.kl1_command.specs.Commands.{command_view};
 ghost use Rattle.kl1_command.specs.Performing.{IsUntouched, Performs};
@@ -17,7 +17,7 @@ use kl1_event::{Refusal, Reply};
 pub enum Performed {
     /// It is done, with this reply.
     Whole(Reply),
-    /// Memory was refused in the midst of a run, after so many of its steps, at least one.
+    /// Memory was refused in the midst of a run, after this number of its steps, at least one.
     Short { steps: u64 },
     /// Memory was refused, and the host is as it was.
     Memory,
@@ -25,9 +25,10 @@ pub enum Performed {
 
 /// Does a command.
 pub fn perform<H: Host>(host: &mut H, command: &Command) -> Performed
-    ensures does { (f : H.Reading) → H.fits host.new f → Performs (H.state f host.old) (command_view command.now) result (H.state f host.new) }
+    ensures does { (f : H.Reading) → H.fits host.new f → Performs (H.kept f host.old) (command_view command.now) result (H.kept f host.new) }
     ensures memory { IsUntouched result host.old host.new }
     ensures before { (f : H.Reading) → H.fits host.new f → H.fits host.old f }
+    ensures beside { H.beside host.new ≡ H.beside host.old }
 {
     match command {
         Command::Does(event) => match host.apply(event) {
@@ -35,14 +36,19 @@ pub fn perform<H: Host>(host: &mut H, command: &Command) -> Performed
             Err(_) => Performed::Memory,
         },
         Command::Run(most) => run(host, *most),
+        Command::Shows { from, count } => match host.journal(*from, *count) {
+            Ok(lines) => Performed::Whole(Reply::Listed(lines)),
+            Err(_) => Performed::Memory,
+        },
     }
 }
 
-/// Reduces the first goal that can step, again and again, at most so many times.
+/// Reduces the first goal that can step, again and again, at most `most` times.
 fn run<H: Host>(host: &mut H, most: u64) -> Performed
-    ensures does { (f : H.Reading) → H.fits host.new f → Performs (H.state f host.old) (model.run most) result (H.state f host.new) }
+    ensures does { (f : H.Reading) → H.fits host.new f → Performs (H.kept f host.old) (model.run most) result (H.kept f host.new) }
     ensures memory { IsUntouched result host.old host.new }
     ensures before { (f : H.Reading) → H.fits host.new f → H.fits host.old f }
+    ensures beside { H.beside host.new ≡ H.beside host.old }
 {
     let mut done = 0;
     while done < most {
@@ -61,9 +67,9 @@ fn run<H: Host>(host: &mut H, most: u64) -> Performed
     Performed::Whole(Reply::Ran(done))
 }
 
-/// The reply to a run whose next step is refused, after so many that are done.
+/// The reply to a run whose next step is refused, after `done` steps that are done.
 fn stopped(done: u64, refusal: Refusal) -> Reply
-    ensures { (user : State) → model.stopped_by user done (refusal_of refusal) ≡ record { state = user; reply = reply_of result } }
+    ensures { (k : Kept) → model.stopped_by k done (refusal_of refusal) ≡ record { kept = k; reply = reply_of result } }
 {
     if done == 0 {
         Reply::Refused(refusal)

@@ -1,9 +1,9 @@
 // The lines of replies.
 
 ghost use Rattle.std.specs.Prelude.{◌≡◌, ◌++◌, ◌∷◌, [], codes, decimal, length, map, take, option_map, OnOk, OnErr};
-ghost use Rattle.kl1_model.specs.Command.{reply_lines, written_lines, condition_word};
+ghost use Rattle.kl1_history.specs.Command.{reply_lines, written_lines, condition_word};
 ghost use Rattle.kl1_model.specs.Event.{refused, status_is, listed};
-ghost use Rattle.kl1_model.specs.Script.{written_reply};
+ghost use Rattle.kl1_history.specs.Script.{written_reply};
 ghost use Rattle.kl1_event.specs.Views.{refusal_of, reply_of};
 ghost use Rattle.kl1_command.specs.Replies.{front_of, written_after};
 
@@ -66,6 +66,9 @@ fn put_each(out: &mut Vec<u8>, prefix: Option<&[u8]>, reply: &Reply) -> Result<(
         Reply::Listed(texts) => put_listed(out, prefix, texts),
         Reply::Quiet(true) => put_line(out, prefix, b"+ yes", b""),
         Reply::Quiet(false) => put_line(out, prefix, b"+ no", b""),
+        Reply::Welcome(name) => put_line(out, prefix, b"+ welcome ", name.unpacked().as_slice()),
+        Reply::Bye => put_line(out, prefix, b"+ bye", b""),
+        Reply::Reset => put_line(out, prefix, b"+ reset", b""),
         Reply::Refused(refusal) => put_refusal(out, prefix, *refusal),
     }
 }
@@ -85,6 +88,7 @@ fn put_refusal(out: &mut Vec<u8>, prefix: Option<&[u8]>, refusal: Refusal) -> Re
         Refusal::Names => put_line(out, prefix, b"- ", b"7 names"),
         Refusal::Limit => put_line(out, prefix, b"- ", b"8 limit"),
         Refusal::Journal => put_line(out, prefix, b"- ", b"9 journal"),
+        Refusal::Sessions => put_line(out, prefix, b"- ", b"12 sessions"),
     }
 }
 

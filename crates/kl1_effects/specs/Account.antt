@@ -22,7 +22,7 @@ use Rattle.kl1_effects.specs.Fitting.{Reading}
 -- what an account keeps: its own name; what its cells are; its goals and its shoens; for each reduction that was charged, the number
 -- of its goal's shoen, the newest first; its modules, each with its row of numbers; its names with their numbers, in order of first
 -- use; the last number of a goal; how many variables and structures its starts, messages from the console and commits had; how many
--- reports it made; and how many entries its journal has
+-- reports it made; how many entries its journal has; and how many sessions are open
 pub record Account : Type 0 where
   pub own_name : List ℕ
   pub held : Held CellName
@@ -36,6 +36,7 @@ pub record Account : Type 0 where
   pub nodes : ℕ
   pub reports : ℕ
   pub entries : ℕ
+  pub sessions : ℕ
 
 -- what cells mean
 abbrev pub Means : Type 0
@@ -120,5 +121,5 @@ state_of f a =
       nodes = a.nodes;
       reports = a.reports;
       entries = a.entries;
-      sessions = 0;
+      sessions = a.sessions;
     }) a.held a.goals a.shoens

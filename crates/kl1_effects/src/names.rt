@@ -46,6 +46,13 @@ impl AccountNames {
         }
     }
 
+    /// Their texts, in order of first use.
+    pub fn texts(&self) -> &[AtomText]
+        ensures { result.now ≡ texts_of self.now.names }
+    {
+        self.numbers.keys().as_slice()
+    }
+
     /// How many there are.
     pub fn len(&self) -> usize
         ensures { result ≡ length self.now.names }

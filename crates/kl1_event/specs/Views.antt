@@ -1,5 +1,5 @@
 -- What events, queries, replies, refusals and choices are in the definitions.
-use Rattle.std.specs.Prelude.{Option, Some, None}
+use Rattle.std.specs.Prelude.{Bool, true, false, Option, Some, None}
 use Rattle.kl1_model.specs.Event as model
 use Rattle.kl1_model.specs.Choice as model_choice
 use Rattle.kl1_event.specs.declared.numbers.GoalNo.{GoalNo}
@@ -28,6 +28,20 @@ event_of (event.Start allowance low high goal) = model.start allowance low high 
 event_of (event.Control n message) = model.control n.0 message
 event_of (event.Reduce goal clause) = model.reduce goal.0 clause.0
 event_of (event.Read q) = model.read (query_of q)
+event_of event.Login = model.login
+event_of event.Logout = model.logout
+event_of event.Reset = model.reset
+
+-- whether an event closes a session
+abbrev pub is_logout : Event → Bool
+is_logout (event.Load source) = false
+is_logout (event.Start allowance low high goal) = false
+is_logout (event.Control n message) = false
+is_logout (event.Reduce goal clause) = false
+is_logout (event.Read q) = false
+is_logout event.Login = false
+is_logout event.Logout = true
+is_logout event.Reset = false
 
 -- the refusal that this one is
 abbrev pub refusal_of : Refusal → model.Refusal
@@ -40,6 +54,7 @@ refusal_of refusal.Step = model.step_refused
 refusal_of refusal.Names = model.too_many_names
 refusal_of refusal.Limit = model.limit_passed
 refusal_of refusal.Journal = model.journal_full
+refusal_of refusal.Sessions = model.sessions_refused
 
 -- the reply that this one is
 abbrev pub reply_of : Reply → model.Reply
@@ -52,6 +67,9 @@ reply_of (reply.Shown text) = model.shown text.items
 reply_of (reply.Status condition charged allowance alive) = model.status_is condition charged allowance alive
 reply_of (reply.Listed texts) = model.listed texts
 reply_of (reply.Quiet b) = model.quiet_is b
+reply_of (reply.Welcome name) = model.welcome name
+reply_of reply.Bye = model.bye
+reply_of reply.Reset = model.was_reset
 reply_of (reply.Refused r) = model.refused (refusal_of r)
 
 -- the reply to a reduction that is refused for this reason, or done where there is none

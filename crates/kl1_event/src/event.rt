@@ -48,4 +48,10 @@ pub enum Event {
     },
     /// Nothing changes.
     Read(Query),
+    /// One more session is open.
+    Login,
+    /// One session fewer is open.
+    Logout,
+    /// The account is made fresh again; its names and its sessions stay.
+    Reset,
 }

@@ -21,4 +21,6 @@ pub enum Refusal {
     Limit,
     /// The journal is full.
     Journal,
+    /// A session more than may be open, or one fewer than none.
+    Sessions,
 }

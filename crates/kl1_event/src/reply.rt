@@ -33,6 +33,12 @@ pub enum Reply {
     Listed(Listed),
     /// Whether no goal can step.
     Quiet(bool),
+    /// A session of the account of this name is open.
+    Welcome(AtomText),
+    /// A session is closed.
+    Bye,
+    /// The account is fresh again.
+    Reset,
     /// The event is refused, and the account is as it was.
     Refused(Refusal),
 }

@@ -7,14 +7,13 @@ use Rattle.kl1_model.specs.State.{fresh, shoen_at}
 use Rattle.kl1_model.specs.Event.{load, start, reduce, reduced, ran, quiet_is, refused, syntax, exists, step_refused, journal_full}
 use Rattle.kl1_model.specs.Step.{step, origin_at}
 use Rattle.kl1_model.specs.Choice.{first, quiet}
-use Rattle.kl1_model.specs.Command.{run, parse, act}
-use Rattle.kl1_model.specs.Script.{done_by}
+use Rattle.kl1_history.specs.Command.{run, parse}
 use Rattle.std.specs.Fmt.{digits}
 use Rattle.kl1_model.specs.Unify.{solve_within, walk}
 use Rattle.kl1_model.specs.Tree.{path_within}
 use Rattle.kl1_model.specs.Token.{tokens_within}
 use Rattle.kl1_model.specs.Reader.{expression_at, series_by, grouped_by, body_by}
-use Rattle.kl1_laws.specs.AccountRows.{lines, after_events, after_lines, app_text, equals, having, numbers, one_fact, stream, three_goals, true_term, two_ways, with_entries, AccountRowsHold}
+use Rattle.kl1_laws.specs.AccountRows.{lines, line_done, command_done, after_events, after_lines, app_text, equals, having, numbers, one_fact, stream, three_goals, true_term, two_ways, with_entries, AccountRowsHold}
 
 numbers_after_a_start_row : numbers (after_lines (having one_fact) (codes "start 10 0 10 t:q(X,c)" ∷ [])) ≡ 4 ∷ 2 ∷ 1 ∷ 2 ∷ []
 unfolding digits tokens_within expression_at series_by grouped_by body_by solve_within walk path_within
@@ -156,15 +155,15 @@ full_journal_bad_step_row : (step (with_entries 262144 (after_lines (having one_
 unfolding digits tokens_within expression_at series_by grouped_by body_by solve_within walk path_within
 full_journal_bad_step_row = refl
 
-full_journal_run_row : (act (with_entries 262144 (after_lines (having one_fact) (codes "start 10 0 10 t:q(X,c)" ∷ []))) (run 5)).reply ≡ refused journal_full
+full_journal_run_row : (command_done (with_entries 262144 (after_lines (having one_fact) (codes "start 10 0 10 t:q(X,c)" ∷ []))) (run 5)).reply ≡ refused journal_full
 unfolding digits tokens_within expression_at series_by grouped_by body_by solve_within walk path_within
 full_journal_run_row = refl
 
-full_journal_quiet_row : (act (with_entries 262144 (after_lines (having one_fact) (codes "start 10 0 10 t:q(X,b)" ∷ []))) (run 5)).reply ≡ ran 0
+full_journal_quiet_row : (command_done (with_entries 262144 (after_lines (having one_fact) (codes "start 10 0 10 t:q(X,b)" ∷ []))) (run 5)).reply ≡ ran 0
 unfolding digits tokens_within expression_at series_by grouped_by body_by solve_within walk path_within
 full_journal_quiet_row = refl
 
-run_to_the_last_entry_row : (act (with_entries 262142 (after_lines (having app_text) (codes "start 100 0 10 app:app([1],[2],R)" ∷ []))) (run 5)).reply ≡ ran 2
+run_to_the_last_entry_row : (command_done (with_entries 262142 (after_lines (having app_text) (codes "start 100 0 10 app:app([1],[2],R)" ∷ []))) (run 5)).reply ≡ ran 2
 unfolding digits tokens_within expression_at series_by grouped_by body_by solve_within walk path_within
 run_to_the_last_entry_row = refl
 
@@ -200,19 +199,19 @@ result_in_the_goal_row : option_map (λ o. print o.goal) (origin_at 1 (after_lin
 unfolding digits tokens_within expression_at series_by grouped_by body_by solve_within walk path_within
 result_in_the_goal_row = refl
 
-expression_that_waits_row : (done_by (after_lines (fresh (codes "alice")) (codes "start 10 0 10 X := 1 + Y" ∷ [])) (parse (codes "quiet"))).reply ≡ quiet_is true
+expression_that_waits_row : (line_done (after_lines (fresh (codes "alice")) (codes "start 10 0 10 X := 1 + Y" ∷ [])) (parse (codes "quiet"))).reply ≡ quiet_is true
 unfolding digits tokens_within expression_at series_by grouped_by body_by solve_within walk path_within
 expression_that_waits_row = refl
 
-expression_by_clause_0_row : (done_by (after_lines (fresh (codes "alice")) (codes "start 10 0 10 X := 1 + Y" ∷ [])) (parse (codes "reduce 2 0"))).reply ≡ refused step_refused
+expression_by_clause_0_row : (line_done (after_lines (fresh (codes "alice")) (codes "start 10 0 10 X := 1 + Y" ∷ [])) (parse (codes "reduce 2 0"))).reply ≡ refused step_refused
 unfolding digits tokens_within expression_at series_by grouped_by body_by solve_within walk path_within
 expression_by_clause_0_row = refl
 
-built_in_goal_by_clause_1_row : (done_by (after_lines (fresh (codes "alice")) (codes "start 10 0 10 X := 1 + 1" ∷ [])) (parse (codes "reduce 2 1"))).reply ≡ refused step_refused
+built_in_goal_by_clause_1_row : (line_done (after_lines (fresh (codes "alice")) (codes "start 10 0 10 X := 1 + 1" ∷ [])) (parse (codes "reduce 2 1"))).reply ≡ refused step_refused
 unfolding digits tokens_within expression_at series_by grouped_by body_by solve_within walk path_within
 built_in_goal_by_clause_1_row = refl
 
-built_in_goal_by_clause_0_row : (done_by (after_lines (fresh (codes "alice")) (codes "start 10 0 10 X := 1 + 1" ∷ [])) (parse (codes "reduce 2 0"))).reply ≡ reduced
+built_in_goal_by_clause_0_row : (line_done (after_lines (fresh (codes "alice")) (codes "start 10 0 10 X := 1 + 1" ∷ [])) (parse (codes "reduce 2 0"))).reply ≡ reduced
 unfolding digits tokens_within expression_at series_by grouped_by body_by solve_within walk path_within
 built_in_goal_by_clause_0_row = refl
 
@@ -232,39 +231,39 @@ one_variable_seven_and_one_row : stream 1 (after_lines (having (lines (codes ":-
 unfolding digits tokens_within expression_at series_by grouped_by body_by solve_within walk path_within
 one_variable_seven_and_one_row = refl
 
-failure_is_open_row : (done_by (after_lines (having (lines (codes ":- module m." ∷ codes "p(f(X),X) :- X > 5 | true." ∷ codes "g :- p(V,1), V = f(W)." ∷ []))) (codes "start 9 0 9 m:g" ∷ codes "run 1" ∷ [])) (parse (codes "reduce 3 0"))).reply ≡ reduced
+failure_is_open_row : (line_done (after_lines (having (lines (codes ":- module m." ∷ codes "p(f(X),X) :- X > 5 | true." ∷ codes "g :- p(V,1), V = f(W)." ∷ []))) (codes "start 9 0 9 m:g" ∷ codes "run 1" ∷ [])) (parse (codes "reduce 3 0"))).reply ≡ reduced
 unfolding digits tokens_within expression_at series_by grouped_by body_by solve_within walk path_within
 failure_is_open_row = refl
 
-failure_closes_row : (done_by (after_lines (having (lines (codes ":- module m." ∷ codes "p(f(X),X) :- X > 5 | true." ∷ codes "g :- p(V,1), V = f(W)." ∷ []))) (codes "start 9 0 9 m:g" ∷ codes "run 1" ∷ codes "reduce 4 0" ∷ [])) (parse (codes "reduce 3 0"))).reply ≡ refused step_refused
+failure_closes_row : (line_done (after_lines (having (lines (codes ":- module m." ∷ codes "p(f(X),X) :- X > 5 | true." ∷ codes "g :- p(V,1), V = f(W)." ∷ []))) (codes "start 9 0 9 m:g" ∷ codes "run 1" ∷ codes "reduce 4 0" ∷ [])) (parse (codes "reduce 3 0"))).reply ≡ refused step_refused
 unfolding digits tokens_within expression_at series_by grouped_by body_by solve_within walk path_within
 failure_closes_row = refl
 
-clause_below_opens_by_number_row : (done_by (after_lines (having (lines (codes ":- module m." ∷ codes "p(f(X),X) :- X > 5 | true." ∷ codes "otherwise." ∷ codes "p(X,Y)." ∷ codes "g :- p(V,1), V = f(W)." ∷ []))) (codes "start 9 0 9 m:g" ∷ codes "run 1" ∷ [])) (parse (codes "reduce 3 2"))).reply ≡ reduced
+clause_below_opens_by_number_row : (line_done (after_lines (having (lines (codes ":- module m." ∷ codes "p(f(X),X) :- X > 5 | true." ∷ codes "otherwise." ∷ codes "p(X,Y)." ∷ codes "g :- p(V,1), V = f(W)." ∷ []))) (codes "start 9 0 9 m:g" ∷ codes "run 1" ∷ [])) (parse (codes "reduce 3 2"))).reply ≡ reduced
 unfolding digits tokens_within expression_at series_by grouped_by body_by solve_within walk path_within
 clause_below_opens_by_number_row = refl
 
-clause_below_closes_by_number_row : (done_by (after_lines (having (lines (codes ":- module m." ∷ codes "p(f(X),X) :- X > 5 | true." ∷ codes "otherwise." ∷ codes "p(X,Y)." ∷ codes "g :- p(V,1), V = f(W)." ∷ []))) (codes "start 9 0 9 m:g" ∷ codes "run 1" ∷ codes "reduce 4 0" ∷ [])) (parse (codes "reduce 3 2"))).reply ≡ refused step_refused
+clause_below_closes_by_number_row : (line_done (after_lines (having (lines (codes ":- module m." ∷ codes "p(f(X),X) :- X > 5 | true." ∷ codes "otherwise." ∷ codes "p(X,Y)." ∷ codes "g :- p(V,1), V = f(W)." ∷ []))) (codes "start 9 0 9 m:g" ∷ codes "run 1" ∷ codes "reduce 4 0" ∷ [])) (parse (codes "reduce 3 2"))).reply ≡ refused step_refused
 unfolding digits tokens_within expression_at series_by grouped_by body_by solve_within walk path_within
 clause_below_closes_by_number_row = refl
 
-second_section_waits_row : (done_by (after_lines (having (lines (codes ":- module m." ∷ codes "p(a,X)." ∷ codes "otherwise." ∷ codes "p(X,b)." ∷ codes "otherwise." ∷ codes "p(X,Y)." ∷ []))) (codes "start 9 0 9 m:p(c,V)" ∷ [])) (parse (codes "quiet"))).reply ≡ quiet_is true
+second_section_waits_row : (line_done (after_lines (having (lines (codes ":- module m." ∷ codes "p(a,X)." ∷ codes "otherwise." ∷ codes "p(X,b)." ∷ codes "otherwise." ∷ codes "p(X,Y)." ∷ []))) (codes "start 9 0 9 m:p(c,V)" ∷ [])) (parse (codes "quiet"))).reply ≡ quiet_is true
 unfolding digits tokens_within expression_at series_by grouped_by body_by solve_within walk path_within
 second_section_waits_row = refl
 
-third_section_is_closed_row : (done_by (after_lines (having (lines (codes ":- module m." ∷ codes "p(a,X)." ∷ codes "otherwise." ∷ codes "p(X,b)." ∷ codes "otherwise." ∷ codes "p(X,Y)." ∷ []))) (codes "start 9 0 9 m:p(c,V)" ∷ [])) (parse (codes "reduce 2 3"))).reply ≡ refused step_refused
+third_section_is_closed_row : (line_done (after_lines (having (lines (codes ":- module m." ∷ codes "p(a,X)." ∷ codes "otherwise." ∷ codes "p(X,b)." ∷ codes "otherwise." ∷ codes "p(X,Y)." ∷ []))) (codes "start 9 0 9 m:p(c,V)" ∷ [])) (parse (codes "reduce 2 3"))).reply ≡ refused step_refused
 unfolding digits tokens_within expression_at series_by grouped_by body_by solve_within walk path_within
 third_section_is_closed_row = refl
 
-third_section_is_open_row : (done_by (after_lines (having (lines (codes ":- module m." ∷ codes "p(a,X)." ∷ codes "otherwise." ∷ codes "p(X,b)." ∷ codes "otherwise." ∷ codes "p(X,Y)." ∷ []))) (codes "start 9 0 9 m:p(c,d)" ∷ [])) (parse (codes "reduce 2 3"))).reply ≡ reduced
+third_section_is_open_row : (line_done (after_lines (having (lines (codes ":- module m." ∷ codes "p(a,X)." ∷ codes "otherwise." ∷ codes "p(X,b)." ∷ codes "otherwise." ∷ codes "p(X,Y)." ∷ []))) (codes "start 9 0 9 m:p(c,d)" ∷ [])) (parse (codes "reduce 2 3"))).reply ≡ reduced
 unfolding digits tokens_within expression_at series_by grouped_by body_by solve_within walk path_within
 third_section_is_open_row = refl
 
-clause_0_of_a_goal_that_waits_row : (done_by (after_lines (having one_fact) (codes "start 10 0 10 t:q(X,b)" ∷ [])) (parse (codes "reduce 2 0"))).reply ≡ refused step_refused
+clause_0_of_a_goal_that_waits_row : (line_done (after_lines (having one_fact) (codes "start 10 0 10 t:q(X,b)" ∷ [])) (parse (codes "reduce 2 0"))).reply ≡ refused step_refused
 unfolding digits tokens_within expression_at series_by grouped_by body_by solve_within walk path_within
 clause_0_of_a_goal_that_waits_row = refl
 
-variable_in_its_own_expression_row : (done_by (after_lines (fresh (codes "alice")) (codes "start 10 0 10 X := X + 1" ∷ [])) (parse (codes "quiet"))).reply ≡ quiet_is true
+variable_in_its_own_expression_row : (line_done (after_lines (fresh (codes "alice")) (codes "start 10 0 10 X := X + 1" ∷ [])) (parse (codes "quiet"))).reply ≡ quiet_is true
 unfolding digits tokens_within expression_at series_by grouped_by body_by solve_within walk path_within
 variable_in_its_own_expression_row = refl
 

@@ -1,6 +1,6 @@
 -- The example scripts with what is written for them. Made by tools/examples_as_definitions from examples/scripts.
 use Rattle.std.specs.Prelude.{◌≡◌, ℕ, List, [], ◌∷◌, ◌++◌, codes}
-use Rattle.kl1_model.specs.Script.{output}
+use Rattle.kl1_history.specs.Script.{output}
 
 -- the bytes of a_failure_stops_nothing_else.script
 abbrev pub a_failure_stops_nothing_else_script : List ℕ
@@ -74,6 +74,22 @@ accounts_alone_script = codes "accounts" ++ 10 ∷ [] ++ codes "alice run 0" ++ 
 abbrev pub accounts_alone_output : List ℕ
 accounts_alone_output = codes "! accounts" ++ 10 ∷ []
 
+-- the bytes of alice_beside_a_runaway_account.script
+abbrev pub alice_beside_a_runaway_account_script : List ℕ
+alice_beside_a_runaway_account_script = codes "accounts alice bob" ++ 10 ∷ [] ++ codes "bob load 30" ++ 10 ∷ [] ++ codes ":- module r." ++ 10 ∷ [] ++ codes "r :- true | r, r." ++ 10 ∷ [] ++ codes "alice load 91" ++ 10 ∷ [] ++ codes ":- module app." ++ 10 ∷ [] ++ codes "app([],Y,Z) :- true | Z = Y." ++ 10 ∷ [] ++ codes "app([A|X],Y,Z) :- true | Z = [A|W], app(X,Y,W)." ++ 10 ∷ [] ++ codes "bob start 100 0 10 r:r" ++ 10 ∷ [] ++ codes "alice start 100 0 10 app:app([1],[2],R)" ++ 10 ∷ [] ++ codes "bob run 9" ++ 10 ∷ [] ++ codes "alice run 2" ++ 10 ∷ [] ++ codes "bob start 9 0 9 zeta = [a,b,c,d,e,f,g]" ++ 10 ∷ [] ++ codes "alice start 9 0 9 X = zeta" ++ 10 ∷ [] ++ codes "bob abort 1" ++ 10 ∷ [] ++ codes "alice run 100" ++ 10 ∷ [] ++ codes "bob run 9" ++ 10 ∷ [] ++ codes "alice value 1" ++ 10 ∷ [] ++ codes "bob reports 2 2" ++ 10 ∷ [] ++ codes "alice value 2" ++ 10 ∷ [] ++ codes "bob reset" ++ 10 ∷ [] ++ codes "alice status 1" ++ 10 ∷ [] ++ codes "bob status 1" ++ 10 ∷ [] ++ codes "alice quiet" ++ 10 ∷ []
+
+-- the bytes of alice_beside_a_runaway_account.expected
+abbrev pub alice_beside_a_runaway_account_output : List ℕ
+alice_beside_a_runaway_account_output = codes "bob + loaded r" ++ 10 ∷ [] ++ codes "alice + loaded app" ++ 10 ∷ [] ++ codes "bob + shoen 1" ++ 10 ∷ [] ++ codes "alice + shoen 1" ++ 10 ∷ [] ++ codes "bob + 9" ++ 10 ∷ [] ++ codes "alice + 2" ++ 10 ∷ [] ++ codes "bob + shoen 2" ++ 10 ∷ [] ++ codes "alice + shoen 2" ++ 10 ∷ [] ++ codes "bob + sent" ++ 10 ∷ [] ++ codes "alice + 3" ++ 10 ∷ [] ++ codes "bob + 2" ++ 10 ∷ [] ++ codes "alice + app:app([1],[2],[1,2])" ++ 10 ∷ [] ++ codes "bob + 2" ++ 10 ∷ [] ++ codes "bob exception(failure,'='(zeta,[a,b,c,d,e,f,g]))" ++ 10 ∷ [] ++ codes "bob terminated" ++ 10 ∷ [] ++ codes "alice + '='(zeta,zeta)" ++ 10 ∷ [] ++ codes "bob + reset" ++ 10 ∷ [] ++ codes "alice + terminated 4 100 0" ++ 10 ∷ [] ++ codes "bob - 4 noshoen" ++ 10 ∷ [] ++ codes "alice + yes" ++ 10 ∷ []
+
+-- the bytes of alice_by_herself.script
+abbrev pub alice_by_herself_script : List ℕ
+alice_by_herself_script = codes "accounts alice bob" ++ 10 ∷ [] ++ codes "alice load 91" ++ 10 ∷ [] ++ codes ":- module app." ++ 10 ∷ [] ++ codes "app([],Y,Z) :- true | Z = Y." ++ 10 ∷ [] ++ codes "app([A|X],Y,Z) :- true | Z = [A|W], app(X,Y,W)." ++ 10 ∷ [] ++ codes "alice start 100 0 10 app:app([1],[2],R)" ++ 10 ∷ [] ++ codes "alice run 2" ++ 10 ∷ [] ++ codes "alice start 9 0 9 X = zeta" ++ 10 ∷ [] ++ codes "alice run 100" ++ 10 ∷ [] ++ codes "alice value 1" ++ 10 ∷ [] ++ codes "alice value 2" ++ 10 ∷ [] ++ codes "alice status 1" ++ 10 ∷ [] ++ codes "alice quiet" ++ 10 ∷ []
+
+-- the bytes of alice_by_herself.expected
+abbrev pub alice_by_herself_output : List ℕ
+alice_by_herself_output = codes "alice + loaded app" ++ 10 ∷ [] ++ codes "alice + shoen 1" ++ 10 ∷ [] ++ codes "alice + 2" ++ 10 ∷ [] ++ codes "alice + shoen 2" ++ 10 ∷ [] ++ codes "alice + 3" ++ 10 ∷ [] ++ codes "alice + app:app([1],[2],[1,2])" ++ 10 ∷ [] ++ codes "alice + '='(zeta,zeta)" ++ 10 ∷ [] ++ codes "alice + terminated 4 100 0" ++ 10 ∷ [] ++ codes "alice + yes" ++ 10 ∷ []
+
 -- the bytes of allow_of_a_variable_waits.script
 abbrev pub allow_of_a_variable_waits_script : List ℕ
 allow_of_a_variable_waits_script = codes "accounts alice" ++ 10 ∷ [] ++ codes "alice start 100 0 10 shoen:execute(true,0,10,0,[allow(N)],R)" ++ 10 ∷ [] ++ codes "alice run 100" ++ 10 ∷ [] ++ codes "alice quiet" ++ 10 ∷ [] ++ codes "alice status 2" ++ 10 ∷ [] ++ codes "alice value 1" ++ 10 ∷ [] ++ codes "alice status 1" ++ 10 ∷ []
@@ -121,6 +137,14 @@ allowance_runs_out_twice_script = codes "accounts alice" ++ 10 ∷ [] ++ codes "
 -- the bytes of allowance_runs_out_twice.expected
 abbrev pub allowance_runs_out_twice_output : List ℕ
 allowance_runs_out_twice_output = codes "alice + loaded r" ++ 10 ∷ [] ++ codes "alice + shoen 1" ++ 10 ∷ [] ++ codes "alice + 1" ++ 10 ∷ [] ++ codes "alice + sent" ++ 10 ∷ [] ++ codes "alice + 2" ++ 10 ∷ [] ++ codes "alice + 3" ++ 10 ∷ [] ++ codes "alice started" ++ 10 ∷ [] ++ codes "alice exhausted" ++ 10 ∷ [] ++ codes "alice exhausted" ++ 10 ∷ []
+
+-- the bytes of append_beside_another_account.script
+abbrev pub append_beside_another_account_script : List ℕ
+append_beside_another_account_script = codes "accounts alice bob" ++ 10 ∷ [] ++ codes "alice load 91" ++ 10 ∷ [] ++ codes ":- module app." ++ 10 ∷ [] ++ codes "app([],Y,Z) :- true | Z = Y." ++ 10 ∷ [] ++ codes "app([A|X],Y,Z) :- true | Z = [A|W], app(X,Y,W)." ++ 10 ∷ [] ++ codes "bob load 91" ++ 10 ∷ [] ++ codes ":- module app." ++ 10 ∷ [] ++ codes "app([],Y,Z) :- true | Z = Y." ++ 10 ∷ [] ++ codes "app([A|X],Y,Z) :- true | Z = [A|W], app(X,Y,W)." ++ 10 ∷ [] ++ codes "alice start 100 0 10 app:app([1],[2],R)" ++ 10 ∷ [] ++ codes "bob start 100 0 10 app:app([],[a],R)" ++ 10 ∷ [] ++ codes "alice run 1" ++ 10 ∷ [] ++ codes "bob run 100" ++ 10 ∷ [] ++ codes "alice run 99" ++ 10 ∷ [] ++ codes "alice value 1" ++ 10 ∷ [] ++ codes "bob value 1" ++ 10 ∷ [] ++ codes "alice status 1" ++ 10 ∷ [] ++ codes "bob status 1" ++ 10 ∷ []
+
+-- the bytes of append_beside_another_account.expected
+abbrev pub append_beside_another_account_output : List ℕ
+append_beside_another_account_output = codes "alice + loaded app" ++ 10 ∷ [] ++ codes "bob + loaded app" ++ 10 ∷ [] ++ codes "alice + shoen 1" ++ 10 ∷ [] ++ codes "bob + shoen 1" ++ 10 ∷ [] ++ codes "alice + 1" ++ 10 ∷ [] ++ codes "bob + 2" ++ 10 ∷ [] ++ codes "alice + 3" ++ 10 ∷ [] ++ codes "alice + app:app([1],[2],[1,2])" ++ 10 ∷ [] ++ codes "bob + app:app([],[a],[a])" ++ 10 ∷ [] ++ codes "alice + terminated 4 100 0" ++ 10 ∷ [] ++ codes "bob + terminated 2 100 0" ++ 10 ∷ []
 
 -- the bytes of append_by_single_reductions.script
 abbrev pub append_by_single_reductions_script : List ℕ
@@ -260,11 +284,11 @@ codes_that_are_wrong_output = codes "alice + shoen 1" ++ 10 ∷ [] ++ codes "ali
 
 -- the bytes of commands_that_are_none.script
 abbrev pub commands_that_are_none_script : List ℕ
-commands_that_are_none_script = codes "accounts alice bob" ++ 10 ∷ [] ++ codes "alice quiet now" ++ 10 ∷ [] ++ codes "alice modules now" ++ 10 ∷ [] ++ codes "alice status" ++ 10 ∷ [] ++ codes "alice reduce 2" ++ 10 ∷ [] ++ codes "alice login" ++ 10 ∷ [] ++ codes "alice journal 1 1" ++ 10 ∷ [] ++ codes "alice RUN 1" ++ 10 ∷ []
+commands_that_are_none_script = codes "accounts alice bob" ++ 10 ∷ [] ++ codes "alice quiet now" ++ 10 ∷ [] ++ codes "alice modules now" ++ 10 ∷ [] ++ codes "alice status" ++ 10 ∷ [] ++ codes "alice reduce 2" ++ 10 ∷ [] ++ codes "alice login k1" ++ 10 ∷ [] ++ codes "alice login alice k1" ++ 10 ∷ [] ++ codes "alice logout now" ++ 10 ∷ [] ++ codes "alice reset now" ++ 10 ∷ [] ++ codes "alice journal" ++ 10 ∷ [] ++ codes "alice journal 1" ++ 10 ∷ [] ++ codes "alice journal 0 1" ++ 10 ∷ [] ++ codes "alice journal 1 0" ++ 10 ∷ [] ++ codes "alice journal 1 65" ++ 10 ∷ [] ++ codes "alice journal 1 1 1" ++ 10 ∷ [] ++ codes "alice RUN 1" ++ 10 ∷ []
 
 -- the bytes of commands_that_are_none.expected
 abbrev pub commands_that_are_none_output : List ℕ
-commands_that_are_none_output = codes "alice - 1 syntax" ++ 10 ∷ [] ++ codes "alice - 1 syntax" ++ 10 ∷ [] ++ codes "alice - 1 syntax" ++ 10 ∷ [] ++ codes "alice - 1 syntax" ++ 10 ∷ [] ++ codes "alice - 1 syntax" ++ 10 ∷ [] ++ codes "alice - 1 syntax" ++ 10 ∷ [] ++ codes "alice - 1 syntax" ++ 10 ∷ []
+commands_that_are_none_output = codes "alice - 1 syntax" ++ 10 ∷ [] ++ codes "alice - 1 syntax" ++ 10 ∷ [] ++ codes "alice - 1 syntax" ++ 10 ∷ [] ++ codes "alice - 1 syntax" ++ 10 ∷ [] ++ codes "alice - 1 syntax" ++ 10 ∷ [] ++ codes "alice - 1 syntax" ++ 10 ∷ [] ++ codes "alice - 1 syntax" ++ 10 ∷ [] ++ codes "alice - 1 syntax" ++ 10 ∷ [] ++ codes "alice - 1 syntax" ++ 10 ∷ [] ++ codes "alice - 1 syntax" ++ 10 ∷ [] ++ codes "alice - 1 syntax" ++ 10 ∷ [] ++ codes "alice - 1 syntax" ++ 10 ∷ [] ++ codes "alice - 1 syntax" ++ 10 ∷ [] ++ codes "alice - 1 syntax" ++ 10 ∷ [] ++ codes "alice - 1 syntax" ++ 10 ∷ []
 
 -- the bytes of commands_to_shoens_that_are_none.script
 abbrev pub commands_to_shoens_that_are_none_script : List ℕ
@@ -370,6 +394,14 @@ forms_that_are_faults_script = codes "accounts alice" ++ 10 ∷ [] ++ codes "ali
 abbrev pub forms_that_are_faults_output : List ℕ
 forms_that_are_faults_output = codes "alice - 2 source 2" ++ 10 ∷ [] ++ codes "alice - 2 source 2" ++ 10 ∷ [] ++ codes "alice - 2 source 2" ++ 10 ∷ [] ++ codes "alice - 2 source 2" ++ 10 ∷ [] ++ codes "alice - 2 source 2" ++ 10 ∷ [] ++ codes "alice - 2 source 2" ++ 10 ∷ [] ++ codes "alice - 2 source 2" ++ 10 ∷ [] ++ codes "alice + loaded h" ++ 10 ∷ []
 
+-- the bytes of four_sessions.script
+abbrev pub four_sessions_script : List ℕ
+four_sessions_script = codes "accounts alice bob" ++ 10 ∷ [] ++ codes "alice login" ++ 10 ∷ [] ++ codes "alice login" ++ 10 ∷ [] ++ codes "alice login" ++ 10 ∷ [] ++ codes "alice login" ++ 10 ∷ [] ++ codes "alice login" ++ 10 ∷ [] ++ codes "bob logout" ++ 10 ∷ [] ++ codes "alice logout" ++ 10 ∷ [] ++ codes "alice logout" ++ 10 ∷ [] ++ codes "alice logout" ++ 10 ∷ [] ++ codes "alice logout" ++ 10 ∷ [] ++ codes "alice logout" ++ 10 ∷ []
+
+-- the bytes of four_sessions.expected
+abbrev pub four_sessions_output : List ℕ
+four_sessions_output = codes "alice + welcome alice" ++ 10 ∷ [] ++ codes "alice + welcome alice" ++ 10 ∷ [] ++ codes "alice + welcome alice" ++ 10 ∷ [] ++ codes "alice + welcome alice" ++ 10 ∷ [] ++ codes "alice - 12 sessions" ++ 10 ∷ [] ++ codes "bob - 12 sessions" ++ 10 ∷ [] ++ codes "alice + bye" ++ 10 ∷ [] ++ codes "alice + bye" ++ 10 ∷ [] ++ codes "alice + bye" ++ 10 ∷ [] ++ codes "alice + bye" ++ 10 ∷ [] ++ codes "alice - 12 sessions" ++ 10 ∷ []
+
 -- the bytes of fresh_variables.script
 abbrev pub fresh_variables_script : List ℕ
 fresh_variables_script = codes "accounts alice bob" ++ 10 ∷ [] ++ codes "alice load 61" ++ 10 ∷ [] ++ codes ":- module t." ++ 10 ∷ [] ++ codes "p(R) :- true | q(B,A), R = f(A,B,C,_,_)." ++ 10 ∷ [] ++ codes "q(X,Y)." ++ 10 ∷ [] ++ codes "alice start 9 0 9 t:p(R)" ++ 10 ∷ [] ++ codes "alice run 20" ++ 10 ∷ [] ++ codes "alice value 1" ++ 10 ∷ []
@@ -450,6 +482,54 @@ integers_are_no_atoms_script = codes "accounts alice bob" ++ 10 ∷ [] ++ codes 
 abbrev pub integers_are_no_atoms_output : List ℕ
 integers_are_no_atoms_output = codes "alice + loaded t" ++ 10 ∷ [] ++ codes "alice + shoen 1" ++ 10 ∷ [] ++ codes "alice + shoen 2" ++ 10 ∷ [] ++ codes "alice + 4" ++ 10 ∷ [] ++ codes "alice + t:p('1',a)" ++ 10 ∷ [] ++ codes "alice + t:p(1,i)" ++ 10 ∷ []
 
+-- the bytes of journal_by_pages.script
+abbrev pub journal_by_pages_script : List ℕ
+journal_by_pages_script = codes "accounts alice bob" ++ 10 ∷ [] ++ codes "alice start 9 0 9 true" ++ 10 ∷ [] ++ codes "alice start 8 0 9 true" ++ 10 ∷ [] ++ codes "alice run 2" ++ 10 ∷ [] ++ codes "alice journal 1 1" ++ 10 ∷ [] ++ codes "alice journal 2 2" ++ 10 ∷ [] ++ codes "alice journal 4 64" ++ 10 ∷ [] ++ codes "alice journal 5 1" ++ 10 ∷ [] ++ codes "alice journal 6 64" ++ 10 ∷ [] ++ codes "alice journal 9223372036854775807 1" ++ 10 ∷ []
+
+-- the bytes of journal_by_pages.expected
+abbrev pub journal_by_pages_output : List ℕ
+journal_by_pages_output = codes "alice + shoen 1" ++ 10 ∷ [] ++ codes "alice + shoen 2" ++ 10 ∷ [] ++ codes "alice + 2" ++ 10 ∷ [] ++ codes "alice + 1" ++ 10 ∷ [] ++ codes "alice journal 1 0 0" ++ 10 ∷ [] ++ codes "alice + 2" ++ 10 ∷ [] ++ codes "alice start 9 0 9 true" ++ 10 ∷ [] ++ codes "alice start 8 0 9 true" ++ 10 ∷ [] ++ codes "alice + 2" ++ 10 ∷ [] ++ codes "alice reduce 2 0" ++ 10 ∷ [] ++ codes "alice reduce 4 0" ++ 10 ∷ [] ++ codes "alice + 1" ++ 10 ∷ [] ++ codes "alice reduce 4 0" ++ 10 ∷ [] ++ codes "alice + 0" ++ 10 ∷ [] ++ codes "alice + 0" ++ 10 ∷ []
+
+-- the bytes of journal_names_in_quotes.script
+abbrev pub journal_names_in_quotes_script : List ℕ
+journal_names_in_quotes_script = codes "accounts alice bob" ++ 10 ∷ [] ++ codes "alice start 1 0 1 f('A b','it''s') = ''('_',x1)" ++ 10 ∷ [] ++ codes "alice reset" ++ 10 ∷ [] ++ codes "alice journal 1 64" ++ 10 ∷ []
+
+-- the bytes of journal_names_in_quotes.expected
+abbrev pub journal_names_in_quotes_output : List ℕ
+journal_names_in_quotes_output = codes "alice + shoen 1" ++ 10 ∷ [] ++ codes "alice + reset" ++ 10 ∷ [] ++ codes "alice + 7" ++ 10 ∷ [] ++ codes "alice journal 1 0 6" ++ 10 ∷ [] ++ codes "alice name f" ++ 10 ∷ [] ++ codes "alice name 'A b'" ++ 10 ∷ [] ++ codes "alice name 'it''s'" ++ 10 ∷ [] ++ codes "alice name ''" ++ 10 ∷ [] ++ codes "alice name '_'" ++ 10 ∷ [] ++ codes "alice name x1" ++ 10 ∷ []
+
+-- the bytes of journal_of_a_start.script
+abbrev pub journal_of_a_start_script : List ℕ
+journal_of_a_start_script = codes "accounts alice bob" ++ 10 ∷ [] ++ codes "alice start 10 0 10 X = 1" ++ 10 ∷ [] ++ codes "alice run 10" ++ 10 ∷ [] ++ codes "alice journal 1 64" ++ 10 ∷ [] ++ codes "bob journal 1 64" ++ 10 ∷ []
+
+-- the bytes of journal_of_a_start.expected
+abbrev pub journal_of_a_start_output : List ℕ
+journal_of_a_start_output = codes "alice + shoen 1" ++ 10 ∷ [] ++ codes "alice + 1" ++ 10 ∷ [] ++ codes "alice + 3" ++ 10 ∷ [] ++ codes "alice journal 1 0 0" ++ 10 ∷ [] ++ codes "alice start 10 0 10 '='(_1,1)" ++ 10 ∷ [] ++ codes "alice reduce 2 0" ++ 10 ∷ [] ++ codes "bob + 1" ++ 10 ∷ [] ++ codes "bob journal 1 0 0" ++ 10 ∷ []
+
+-- the bytes of journal_of_each_event.script
+abbrev pub journal_of_each_event_script : List ℕ
+journal_of_each_event_script = codes "accounts alice bob" ++ 10 ∷ [] ++ codes "alice load 12" ++ 10 ∷ [] ++ codes ":- module e." ++ 10 ∷ [] ++ codes "alice load 12" ++ 10 ∷ [] ++ codes ":- module e." ++ 10 ∷ [] ++ codes "alice start 9 0 9 X := Y" ++ 10 ∷ [] ++ codes "alice stop 1" ++ 10 ∷ [] ++ codes "alice resume 1" ++ 10 ∷ [] ++ codes "alice allow 1 5" ++ 10 ∷ [] ++ codes "alice abort 1" ++ 10 ∷ [] ++ codes "alice status 1" ++ 10 ∷ [] ++ codes "alice login" ++ 10 ∷ [] ++ codes "alice run 9" ++ 10 ∷ [] ++ codes "alice stop 1" ++ 10 ∷ [] ++ codes "alice stop 2" ++ 10 ∷ [] ++ codes "alice journal 1 64" ++ 10 ∷ []
+
+-- the bytes of journal_of_each_event.expected
+abbrev pub journal_of_each_event_output : List ℕ
+journal_of_each_event_output = codes "alice + loaded e" ++ 10 ∷ [] ++ codes "alice - 3 exists" ++ 10 ∷ [] ++ codes "alice + shoen 1" ++ 10 ∷ [] ++ codes "alice + sent" ++ 10 ∷ [] ++ codes "alice + sent" ++ 10 ∷ [] ++ codes "alice + sent" ++ 10 ∷ [] ++ codes "alice + sent" ++ 10 ∷ [] ++ codes "alice + running 0 9 1" ++ 10 ∷ [] ++ codes "alice + welcome alice" ++ 10 ∷ [] ++ codes "alice + 4" ++ 10 ∷ [] ++ codes "alice - 5 ended" ++ 10 ∷ [] ++ codes "alice - 4 noshoen" ++ 10 ∷ [] ++ codes "alice + 11" ++ 10 ∷ [] ++ codes "alice journal 1 1 0" ++ 10 ∷ [] ++ codes "alice load 3a2d206d6f64756c6520652e" ++ 10 ∷ [] ++ codes "alice start 9 0 9 ':='(_1,_2)" ++ 10 ∷ [] ++ codes "alice stop 1" ++ 10 ∷ [] ++ codes "alice resume 1" ++ 10 ∷ [] ++ codes "alice allow 1 5" ++ 10 ∷ [] ++ codes "alice abort 1" ++ 10 ∷ [] ++ codes "alice reduce 1 0" ++ 10 ∷ [] ++ codes "alice reduce 1 0" ++ 10 ∷ [] ++ codes "alice reduce 1 0" ++ 10 ∷ [] ++ codes "alice reduce 1 0" ++ 10 ∷ []
+
+-- the bytes of journal_of_reductions.script
+abbrev pub journal_of_reductions_script : List ℕ
+journal_of_reductions_script = codes "accounts alice bob" ++ 10 ∷ [] ++ codes "alice load 81" ++ 10 ∷ [] ++ codes ":- module k." ++ 10 ∷ [] ++ codes "g :- true | h(a)@priority(1), h(b)@priority(9)." ++ 10 ∷ [] ++ codes "h(X) :- true | true." ++ 10 ∷ [] ++ codes "alice start 10 0 10 k:g" ++ 10 ∷ [] ++ codes "alice run 2" ++ 10 ∷ [] ++ codes "alice journal 4 64" ++ 10 ∷ []
+
+-- the bytes of journal_of_reductions.expected
+abbrev pub journal_of_reductions_output : List ℕ
+journal_of_reductions_output = codes "alice + loaded k" ++ 10 ∷ [] ++ codes "alice + shoen 1" ++ 10 ∷ [] ++ codes "alice + 2" ++ 10 ∷ [] ++ codes "alice + 2" ++ 10 ∷ [] ++ codes "alice reduce 2 1" ++ 10 ∷ [] ++ codes "alice reduce 4 1" ++ 10 ∷ []
+
+-- the bytes of journal_prints_goals.script
+abbrev pub journal_prints_goals_script : List ℕ
+journal_prints_goals_script = codes "accounts alice bob" ++ 10 ∷ [] ++ codes "alice start 5 1 7 f(X,Y,X) = g('A b',[1,2|T])" ++ 10 ∷ [] ++ codes "alice start 007 0 1 X := -3 + 4 * Y" ++ 10 ∷ [] ++ codes "alice start 1 0 1 m:p(a,'it''s')" ++ 10 ∷ [] ++ codes "alice start 1 0 1 m:'p'" ++ 10 ∷ [] ++ codes "alice start 1 0 1 shoen:execute(M:P,0,1,2,C,R)" ++ 10 ∷ [] ++ codes "alice start 1 0 1 ( true )" ++ 10 ∷ [] ++ codes "alice start 1 0 1 X = '[]'(a,'[]')" ++ 10 ∷ [] ++ codes "alice start 1 0 1 _ = _" ++ 10 ∷ [] ++ codes "alice start 1 0 1 m:[]" ++ 10 ∷ [] ++ codes "alice journal 2 64" ++ 10 ∷ []
+
+-- the bytes of journal_prints_goals.expected
+abbrev pub journal_prints_goals_output : List ℕ
+journal_prints_goals_output = codes "alice + shoen 1" ++ 10 ∷ [] ++ codes "alice + shoen 2" ++ 10 ∷ [] ++ codes "alice + shoen 3" ++ 10 ∷ [] ++ codes "alice + shoen 4" ++ 10 ∷ [] ++ codes "alice + shoen 5" ++ 10 ∷ [] ++ codes "alice + shoen 6" ++ 10 ∷ [] ++ codes "alice + shoen 7" ++ 10 ∷ [] ++ codes "alice + shoen 8" ++ 10 ∷ [] ++ codes "alice + shoen 9" ++ 10 ∷ [] ++ codes "alice + 9" ++ 10 ∷ [] ++ codes "alice start 5 1 7 '='(f(_1,_2,_1),g('A b',[1,2|_3]))" ++ 10 ∷ [] ++ codes "alice start 7 0 1 ':='(_1,'+'(-3,'*'(4,_2)))" ++ 10 ∷ [] ++ codes "alice start 1 0 1 m:p(a,'it''s')" ++ 10 ∷ [] ++ codes "alice start 1 0 1 m:p" ++ 10 ∷ [] ++ codes "alice start 1 0 1 shoen:execute(':'(_1,_2),0,1,2,_3,_4)" ++ 10 ∷ [] ++ codes "alice start 1 0 1 true" ++ 10 ∷ [] ++ codes "alice start 1 0 1 '='(_1,'[]'(a,[]))" ++ 10 ∷ [] ++ codes "alice start 1 0 1 '='(_1,_2)" ++ 10 ∷ [] ++ codes "alice start 1 0 1 m:[]" ++ 10 ∷ []
+
 -- the bytes of last_line_without_a_feed.script
 abbrev pub last_line_without_a_feed_script : List ℕ
 last_line_without_a_feed_script = codes "accounts alice bob" ++ 10 ∷ [] ++ codes "alice run 0" ++ 13 ∷ []
@@ -504,7 +584,7 @@ loads_of_other_names_script = codes "accounts alice bob" ++ 10 ∷ [] ++ codes "
 
 -- the bytes of loads_of_other_names.expected
 abbrev pub loads_of_other_names_output : List ℕ
-loads_of_other_names_output = codes "! account" ++ 10 ∷ [] ++ codes "! account" ++ 10 ∷ [] ++ codes "! account" ++ 10 ∷ [] ++ codes "alice + 0" ++ 10 ∷ []
+loads_of_other_names_output = codes "! account" ++ 10 ∷ [] ++ codes "bob - 1 syntax" ++ 10 ∷ [] ++ codes "! account" ++ 10 ∷ [] ++ codes "alice + 0" ++ 10 ∷ []
 
 -- the bytes of loads_of_others_are_skipped.script
 abbrev pub loads_of_others_are_skipped_script : List ℕ
@@ -554,13 +634,21 @@ modules_loaded_at_that_moment_script = codes "accounts alice bob" ++ 10 ∷ [] +
 abbrev pub modules_loaded_at_that_moment_output : List ℕ
 modules_loaded_at_that_moment_output = codes "alice + shoen 1" ++ 10 ∷ [] ++ codes "alice + 1" ++ 10 ∷ [] ++ codes "alice + shoen 2" ++ 10 ∷ [] ++ codes "alice + loaded app" ++ 10 ∷ [] ++ codes "alice + 2" ++ 10 ∷ [] ++ codes "alice + app:app([],a,_1)" ++ 10 ∷ [] ++ codes "alice + app:app([],a,a)" ++ 10 ∷ []
 
+-- the bytes of modules_of_two_accounts.script
+abbrev pub modules_of_two_accounts_script : List ℕ
+modules_of_two_accounts_script = codes "accounts alice bob" ++ 10 ∷ [] ++ codes "bob load 12" ++ 10 ∷ [] ++ codes ":- module z." ++ 10 ∷ [] ++ codes "alice load 12" ++ 10 ∷ [] ++ codes ":- module a." ++ 10 ∷ [] ++ codes "bob load 12" ++ 10 ∷ [] ++ codes ":- module a." ++ 10 ∷ [] ++ codes "alice load 12" ++ 10 ∷ [] ++ codes ":- module z." ++ 10 ∷ [] ++ codes "alice modules" ++ 10 ∷ [] ++ codes "bob modules" ++ 10 ∷ []
+
+-- the bytes of modules_of_two_accounts.expected
+abbrev pub modules_of_two_accounts_output : List ℕ
+modules_of_two_accounts_output = codes "bob + loaded z" ++ 10 ∷ [] ++ codes "alice + loaded a" ++ 10 ∷ [] ++ codes "bob + loaded a" ++ 10 ∷ [] ++ codes "alice + loaded z" ++ 10 ∷ [] ++ codes "alice + 2" ++ 10 ∷ [] ++ codes "alice a 12 0" ++ 10 ∷ [] ++ codes "alice z 12 0" ++ 10 ∷ [] ++ codes "bob + 2" ++ 10 ∷ [] ++ codes "bob z 12 0" ++ 10 ∷ [] ++ codes "bob a 12 0" ++ 10 ∷ []
+
 -- the bytes of names_before_the_first_space.script
 abbrev pub names_before_the_first_space_script : List ℕ
 names_before_the_first_space_script = codes "accounts alice bob" ++ 10 ∷ [] ++ codes "alice" ++ 10 ∷ [] ++ codes "alice " ++ 10 ∷ [] ++ codes "bob run 0" ++ 10 ∷ [] ++ codes "carol" ++ 10 ∷ [] ++ codes " alice run 0" ++ 10 ∷ [] ++ codes "alice" ++ 9 ∷ [] ++ codes "run 0" ++ 10 ∷ [] ++ codes "alice " ++ 9 ∷ [] ++ codes "run" ++ 9 ∷ [] ++ 9 ∷ [] ++ codes "0 " ++ 9 ∷ [] ++ 10 ∷ [] ++ codes "alice run 0" ++ 13 ∷ [] ++ 13 ∷ [] ++ 10 ∷ []
 
 -- the bytes of names_before_the_first_space.expected
 abbrev pub names_before_the_first_space_output : List ℕ
-names_before_the_first_space_output = codes "alice - 1 syntax" ++ 10 ∷ [] ++ codes "alice - 1 syntax" ++ 10 ∷ [] ++ codes "! account" ++ 10 ∷ [] ++ codes "! account" ++ 10 ∷ [] ++ codes "! account" ++ 10 ∷ [] ++ codes "! account" ++ 10 ∷ [] ++ codes "alice + 0" ++ 10 ∷ [] ++ codes "alice - 1 syntax" ++ 10 ∷ []
+names_before_the_first_space_output = codes "alice - 1 syntax" ++ 10 ∷ [] ++ codes "alice - 1 syntax" ++ 10 ∷ [] ++ codes "bob + 0" ++ 10 ∷ [] ++ codes "! account" ++ 10 ∷ [] ++ codes "! account" ++ 10 ∷ [] ++ codes "! account" ++ 10 ∷ [] ++ codes "alice + 0" ++ 10 ∷ [] ++ codes "alice - 1 syntax" ++ 10 ∷ []
 
 -- the bytes of names_from_codes.script
 abbrev pub names_from_codes_script : List ℕ
@@ -569,6 +657,14 @@ names_from_codes_script = codes "accounts alice" ++ 10 ∷ [] ++ codes "alice st
 -- the bytes of names_from_codes.expected
 abbrev pub names_from_codes_output : List ℕ
 names_from_codes_output = codes "alice + shoen 1" ++ 10 ∷ [] ++ codes "alice + 1" ++ 10 ∷ [] ++ codes "alice + atom_from([104,105],hi)" ++ 10 ∷ [] ++ codes "alice + shoen 2" ++ 10 ∷ [] ++ codes "alice + shoen 3" ++ 10 ∷ [] ++ codes "alice + reduced" ++ 10 ∷ [] ++ codes "alice + '='('[]'(a),'[]'(a))" ++ 10 ∷ []
+
+-- the bytes of names_in_order_of_first_use.script
+abbrev pub names_in_order_of_first_use_script : List ℕ
+names_in_order_of_first_use_script = codes "accounts alice bob" ++ 10 ∷ [] ++ codes "bob start 1 0 1 zeta = alpha" ++ 10 ∷ [] ++ codes "alice start 1 0 1 alpha = f(zeta,alpha)" ++ 10 ∷ [] ++ codes "bob reset" ++ 10 ∷ [] ++ codes "alice reset" ++ 10 ∷ [] ++ codes "alice journal 1 64" ++ 10 ∷ [] ++ codes "bob journal 1 64" ++ 10 ∷ []
+
+-- the bytes of names_in_order_of_first_use.expected
+abbrev pub names_in_order_of_first_use_output : List ℕ
+names_in_order_of_first_use_output = codes "bob + shoen 1" ++ 10 ∷ [] ++ codes "alice + shoen 1" ++ 10 ∷ [] ++ codes "bob + reset" ++ 10 ∷ [] ++ codes "alice + reset" ++ 10 ∷ [] ++ codes "alice + 4" ++ 10 ∷ [] ++ codes "alice journal 1 0 3" ++ 10 ∷ [] ++ codes "alice name alpha" ++ 10 ∷ [] ++ codes "alice name f" ++ 10 ∷ [] ++ codes "alice name zeta" ++ 10 ∷ [] ++ codes "bob + 3" ++ 10 ∷ [] ++ codes "bob journal 1 0 2" ++ 10 ∷ [] ++ codes "bob name zeta" ++ 10 ∷ [] ++ codes "bob name alpha" ++ 10 ∷ []
 
 -- the bytes of names_in_quotes.script
 abbrev pub names_in_quotes_script : List ℕ
@@ -625,6 +721,14 @@ numbers_of_19_digits_script = codes "accounts alice bob" ++ 10 ∷ [] ++ codes "
 -- the bytes of numbers_of_19_digits.expected
 abbrev pub numbers_of_19_digits_output : List ℕ
 numbers_of_19_digits_output = codes "alice + 0" ++ 10 ∷ [] ++ codes "alice - 1 syntax" ++ 10 ∷ [] ++ codes "alice - 4 noshoen" ++ 10 ∷ [] ++ codes "alice - 1 syntax" ++ 10 ∷ [] ++ codes "alice + 0" ++ 10 ∷ [] ++ codes "alice - 1 syntax" ++ 10 ∷ [] ++ codes "alice - 1 syntax" ++ 10 ∷ [] ++ codes "alice - 1 syntax" ++ 10 ∷ [] ++ codes "alice - 1 syntax" ++ 10 ∷ [] ++ codes "alice + shoen 1" ++ 10 ∷ []
+
+-- the bytes of one_text_in_two_accounts.script
+abbrev pub one_text_in_two_accounts_script : List ℕ
+one_text_in_two_accounts_script = codes "accounts alice bob" ++ 10 ∷ [] ++ codes "alice load 91" ++ 10 ∷ [] ++ codes ":- module app." ++ 10 ∷ [] ++ codes "app([],Y,Z) :- true | Z = Y." ++ 10 ∷ [] ++ codes "app([A|X],Y,Z) :- true | Z = [A|W], app(X,Y,W)." ++ 10 ∷ [] ++ codes "bob load 91" ++ 10 ∷ [] ++ codes ":- module app." ++ 10 ∷ [] ++ codes "app([],Y,Z) :- true | Z = Y." ++ 10 ∷ [] ++ codes "app([A|X],Y,Z) :- true | Z = [A|W], app(X,Y,W)." ++ 10 ∷ [] ++ codes "alice load 91" ++ 10 ∷ [] ++ codes ":- module app." ++ 10 ∷ [] ++ codes "app([],Y,Z) :- true | Z = Y." ++ 10 ∷ [] ++ codes "app([A|X],Y,Z) :- true | Z = [A|W], app(X,Y,W)." ++ 10 ∷ [] ++ codes "bob modules" ++ 10 ∷ []
+
+-- the bytes of one_text_in_two_accounts.expected
+abbrev pub one_text_in_two_accounts_output : List ℕ
+one_text_in_two_accounts_output = codes "alice + loaded app" ++ 10 ∷ [] ++ codes "bob + loaded app" ++ 10 ∷ [] ++ codes "alice - 3 exists" ++ 10 ∷ [] ++ codes "bob + 1" ++ 10 ∷ [] ++ codes "bob app 91 2" ++ 10 ∷ []
 
 -- the bytes of orders_of_each_kind.script
 abbrev pub orders_of_each_kind_script : List ℕ
@@ -754,6 +858,14 @@ range_of_a_child_is_clipped_script = codes "accounts alice" ++ 10 ∷ [] ++ code
 abbrev pub range_of_a_child_is_clipped_output : List ℕ
 range_of_a_child_is_clipped_output = codes "alice + shoen 1" ++ 10 ∷ [] ++ codes "alice + reduced" ++ 10 ∷ [] ++ codes "alice + shoen 3" ++ 10 ∷ [] ++ codes "alice + 1" ++ 10 ∷ [] ++ codes "alice + terminated 1 10 0" ++ 10 ∷ []
 
+-- the bytes of refused_reduction_leaves_the_journal.script
+abbrev pub refused_reduction_leaves_the_journal_script : List ℕ
+refused_reduction_leaves_the_journal_script = codes "accounts alice bob" ++ 10 ∷ [] ++ codes "alice start 10 0 10 X = 1" ++ 10 ∷ [] ++ codes "bob start 1 0 1 true" ++ 10 ∷ [] ++ codes "alice journal 1 64" ++ 10 ∷ [] ++ codes "alice reduce 99 1" ++ 10 ∷ [] ++ codes "alice journal 1 64" ++ 10 ∷ [] ++ codes "bob run 1" ++ 10 ∷ [] ++ codes "alice load 50" ++ 10 ∷ [] ++ codes "xxxxxxxxxxxxxxxxxxxxxxxxxxxxxxxxxxxxxxxxxxxxxxxxx"
+
+-- the bytes of refused_reduction_leaves_the_journal.expected
+abbrev pub refused_reduction_leaves_the_journal_output : List ℕ
+refused_reduction_leaves_the_journal_output = codes "alice + shoen 1" ++ 10 ∷ [] ++ codes "bob + shoen 1" ++ 10 ∷ [] ++ codes "alice + 2" ++ 10 ∷ [] ++ codes "alice journal 1 0 0" ++ 10 ∷ [] ++ codes "alice start 10 0 10 '='(_1,1)" ++ 10 ∷ [] ++ codes "alice - 6 step" ++ 10 ∷ [] ++ codes "alice + 2" ++ 10 ∷ [] ++ codes "alice journal 1 0 0" ++ 10 ∷ [] ++ codes "alice start 10 0 10 '='(_1,1)" ++ 10 ∷ [] ++ codes "bob + 1" ++ 10 ∷ [] ++ codes "! truncated" ++ 10 ∷ []
+
 -- the bytes of report_that_holds_its_tail.script
 abbrev pub report_that_holds_its_tail_script : List ℕ
 report_that_holds_its_tail_script = codes "accounts alice" ++ 10 ∷ [] ++ codes "alice start 100 0 10 shoen:execute(T = a,0,10,5,C,T)" ++ 10 ∷ [] ++ codes "alice run 100" ++ 10 ∷ [] ++ codes "alice value 1" ++ 10 ∷ [] ++ codes "alice status 2" ++ 10 ∷ []
@@ -761,6 +873,30 @@ report_that_holds_its_tail_script = codes "accounts alice" ++ 10 ∷ [] ++ codes
 -- the bytes of report_that_holds_its_tail.expected
 abbrev pub report_that_holds_its_tail_output : List ℕ
 report_that_holds_its_tail_output = codes "alice + shoen 1" ++ 10 ∷ [] ++ codes "alice + 2" ++ 10 ∷ [] ++ codes "alice + shoen:execute('='([started|_6],a),0,10,5,_2,[started|_6])" ++ 10 ∷ [] ++ codes "alice + terminated 1 5 0" ++ 10 ∷ []
+
+-- the bytes of reset_after_each_event.script
+abbrev pub reset_after_each_event_script : List ℕ
+reset_after_each_event_script = codes "accounts alice bob" ++ 10 ∷ [] ++ codes "alice reset" ++ 10 ∷ [] ++ codes "alice journal 1 64" ++ 10 ∷ [] ++ codes "alice load 12" ++ 10 ∷ [] ++ codes ":- module e." ++ 10 ∷ [] ++ codes "alice reset" ++ 10 ∷ [] ++ codes "alice modules" ++ 10 ∷ [] ++ codes "alice load 12" ++ 10 ∷ [] ++ codes ":- module e." ++ 10 ∷ [] ++ codes "alice start 9 0 9 p = p" ++ 10 ∷ [] ++ codes "alice reset" ++ 10 ∷ [] ++ codes "alice status 1" ++ 10 ∷ [] ++ codes "alice start 9 0 9 X := Y" ++ 10 ∷ [] ++ codes "alice stop 1" ++ 10 ∷ [] ++ codes "alice reset" ++ 10 ∷ [] ++ codes "alice run 5" ++ 10 ∷ [] ++ codes "alice start 9 0 9 X = Y" ++ 10 ∷ [] ++ codes "alice reduce 2 0" ++ 10 ∷ [] ++ codes "alice reset" ++ 10 ∷ [] ++ codes "alice reports 1 1" ++ 10 ∷ [] ++ codes "alice start 9 0 9 true" ++ 10 ∷ [] ++ codes "alice value 1" ++ 10 ∷ [] ++ codes "alice reset" ++ 10 ∷ [] ++ codes "alice value 1" ++ 10 ∷ [] ++ codes "alice reduce 2 0" ++ 10 ∷ [] ++ codes "alice reset" ++ 10 ∷ [] ++ codes "alice login" ++ 10 ∷ [] ++ codes "alice reset" ++ 10 ∷ [] ++ codes "alice journal 1 1" ++ 10 ∷ [] ++ codes "alice logout" ++ 10 ∷ [] ++ codes "alice reset" ++ 10 ∷ [] ++ codes "alice logout" ++ 10 ∷ [] ++ codes "alice journal 1 64" ++ 10 ∷ []
+
+-- the bytes of reset_after_each_event.expected
+abbrev pub reset_after_each_event_output : List ℕ
+reset_after_each_event_output = codes "alice + reset" ++ 10 ∷ [] ++ codes "alice + 1" ++ 10 ∷ [] ++ codes "alice journal 1 0 0" ++ 10 ∷ [] ++ codes "alice + loaded e" ++ 10 ∷ [] ++ codes "alice + reset" ++ 10 ∷ [] ++ codes "alice + 0" ++ 10 ∷ [] ++ codes "alice + loaded e" ++ 10 ∷ [] ++ codes "alice + shoen 1" ++ 10 ∷ [] ++ codes "alice + reset" ++ 10 ∷ [] ++ codes "alice - 4 noshoen" ++ 10 ∷ [] ++ codes "alice + shoen 1" ++ 10 ∷ [] ++ codes "alice + sent" ++ 10 ∷ [] ++ codes "alice + reset" ++ 10 ∷ [] ++ codes "alice + 0" ++ 10 ∷ [] ++ codes "alice + shoen 1" ++ 10 ∷ [] ++ codes "alice + reduced" ++ 10 ∷ [] ++ codes "alice + reset" ++ 10 ∷ [] ++ codes "alice - 4 noshoen" ++ 10 ∷ [] ++ codes "alice + shoen 1" ++ 10 ∷ [] ++ codes "alice + true" ++ 10 ∷ [] ++ codes "alice + reset" ++ 10 ∷ [] ++ codes "alice - 4 noshoen" ++ 10 ∷ [] ++ codes "alice - 6 step" ++ 10 ∷ [] ++ codes "alice + reset" ++ 10 ∷ [] ++ codes "alice + welcome alice" ++ 10 ∷ [] ++ codes "alice + reset" ++ 10 ∷ [] ++ codes "alice + 1" ++ 10 ∷ [] ++ codes "alice journal 1 1 2" ++ 10 ∷ [] ++ codes "alice + bye" ++ 10 ∷ [] ++ codes "alice + reset" ++ 10 ∷ [] ++ codes "alice - 12 sessions" ++ 10 ∷ [] ++ codes "alice + 3" ++ 10 ∷ [] ++ codes "alice journal 1 0 2" ++ 10 ∷ [] ++ codes "alice name e" ++ 10 ∷ [] ++ codes "alice name p" ++ 10 ∷ []
+
+-- the bytes of reset_keeps_names.script
+abbrev pub reset_keeps_names_script : List ℕ
+reset_keeps_names_script = codes "accounts alice bob" ++ 10 ∷ [] ++ codes "alice load 12" ++ 10 ∷ [] ++ codes ":- module e." ++ 10 ∷ [] ++ codes "alice modules" ++ 10 ∷ [] ++ codes "alice journal 1 64" ++ 10 ∷ [] ++ codes "alice reset" ++ 10 ∷ [] ++ codes "alice journal 1 64" ++ 10 ∷ [] ++ codes "alice modules" ++ 10 ∷ [] ++ codes "alice load 12" ++ 10 ∷ [] ++ codes ":- module e." ++ 10 ∷ [] ++ codes "alice journal 1 64" ++ 10 ∷ []
+
+-- the bytes of reset_keeps_names.expected
+abbrev pub reset_keeps_names_output : List ℕ
+reset_keeps_names_output = codes "alice + loaded e" ++ 10 ∷ [] ++ codes "alice + 1" ++ 10 ∷ [] ++ codes "alice e 12 0" ++ 10 ∷ [] ++ codes "alice + 2" ++ 10 ∷ [] ++ codes "alice journal 1 0 0" ++ 10 ∷ [] ++ codes "alice load 3a2d206d6f64756c6520652e" ++ 10 ∷ [] ++ codes "alice + reset" ++ 10 ∷ [] ++ codes "alice + 2" ++ 10 ∷ [] ++ codes "alice journal 1 0 1" ++ 10 ∷ [] ++ codes "alice name e" ++ 10 ∷ [] ++ codes "alice + 0" ++ 10 ∷ [] ++ codes "alice + loaded e" ++ 10 ∷ [] ++ codes "alice + 3" ++ 10 ∷ [] ++ codes "alice journal 1 0 1" ++ 10 ∷ [] ++ codes "alice name e" ++ 10 ∷ [] ++ codes "alice load 3a2d206d6f64756c6520652e" ++ 10 ∷ []
+
+-- the bytes of reset_of_another_account.script
+abbrev pub reset_of_another_account_script : List ℕ
+reset_of_another_account_script = codes "accounts alice bob" ++ 10 ∷ [] ++ codes "alice start 9 0 9 X := Y" ++ 10 ∷ [] ++ codes "bob start 9 0 9 X := Y" ++ 10 ∷ [] ++ codes "bob login" ++ 10 ∷ [] ++ codes "bob reset" ++ 10 ∷ [] ++ codes "bob status 1" ++ 10 ∷ [] ++ codes "alice status 1" ++ 10 ∷ [] ++ codes "alice journal 1 64" ++ 10 ∷ [] ++ codes "bob journal 1 64" ++ 10 ∷ []
+
+-- the bytes of reset_of_another_account.expected
+abbrev pub reset_of_another_account_output : List ℕ
+reset_of_another_account_output = codes "alice + shoen 1" ++ 10 ∷ [] ++ codes "bob + shoen 1" ++ 10 ∷ [] ++ codes "bob + welcome bob" ++ 10 ∷ [] ++ codes "bob + reset" ++ 10 ∷ [] ++ codes "bob - 4 noshoen" ++ 10 ∷ [] ++ codes "alice + running 0 9 1" ++ 10 ∷ [] ++ codes "alice + 2" ++ 10 ∷ [] ++ codes "alice journal 1 0 0" ++ 10 ∷ [] ++ codes "alice start 9 0 9 ':='(_1,_2)" ++ 10 ∷ [] ++ codes "bob + 1" ++ 10 ∷ [] ++ codes "bob journal 1 1 0" ++ 10 ∷ []
 
 -- the bytes of reversed_list.script
 abbrev pub reversed_list_script : List ℕ
@@ -777,6 +913,14 @@ second_variable_wakes_script = codes "accounts alice bob" ++ 10 ∷ [] ++ codes 
 -- the bytes of second_variable_wakes.expected
 abbrev pub second_variable_wakes_output : List ℕ
 second_variable_wakes_output = codes "alice + loaded s" ++ 10 ∷ [] ++ codes "alice + shoen 1" ++ 10 ∷ [] ++ codes "alice + 4" ++ 10 ∷ [] ++ codes "alice + s:g(r)" ++ 10 ∷ []
+
+-- the bytes of sessions_stay_through_a_reset.script
+abbrev pub sessions_stay_through_a_reset_script : List ℕ
+sessions_stay_through_a_reset_script = codes "accounts alice bob" ++ 10 ∷ [] ++ codes "alice login" ++ 10 ∷ [] ++ codes "alice login" ++ 10 ∷ [] ++ codes "alice journal 1 64" ++ 10 ∷ [] ++ codes "alice start 1 0 1 true" ++ 10 ∷ [] ++ codes "alice reset" ++ 10 ∷ [] ++ codes "alice journal 1 64" ++ 10 ∷ [] ++ codes "alice login" ++ 10 ∷ [] ++ codes "alice login" ++ 10 ∷ [] ++ codes "alice login" ++ 10 ∷ [] ++ codes "alice logout" ++ 10 ∷ [] ++ codes "alice journal 1 64" ++ 10 ∷ []
+
+-- the bytes of sessions_stay_through_a_reset.expected
+abbrev pub sessions_stay_through_a_reset_output : List ℕ
+sessions_stay_through_a_reset_output = codes "alice + welcome alice" ++ 10 ∷ [] ++ codes "alice + welcome alice" ++ 10 ∷ [] ++ codes "alice + 1" ++ 10 ∷ [] ++ codes "alice journal 1 2 0" ++ 10 ∷ [] ++ codes "alice + shoen 1" ++ 10 ∷ [] ++ codes "alice + reset" ++ 10 ∷ [] ++ codes "alice + 1" ++ 10 ∷ [] ++ codes "alice journal 1 2 0" ++ 10 ∷ [] ++ codes "alice + welcome alice" ++ 10 ∷ [] ++ codes "alice + welcome alice" ++ 10 ∷ [] ++ codes "alice - 12 sessions" ++ 10 ∷ [] ++ codes "alice + bye" ++ 10 ∷ [] ++ codes "alice + 1" ++ 10 ∷ [] ++ codes "alice journal 1 3 0" ++ 10 ∷ []
 
 -- the bytes of seventeen_accounts.script
 abbrev pub seventeen_accounts_script : List ℕ
@@ -808,7 +952,15 @@ sixteen_accounts_script = codes "accounts a0 a1 a2 a3 a4 a5 a6 a7 a8 a9 a10 a11 
 
 -- the bytes of sixteen_accounts.expected
 abbrev pub sixteen_accounts_output : List ℕ
-sixteen_accounts_output = codes "a0 + 0" ++ 10 ∷ [] ++ codes "! account" ++ 10 ∷ []
+sixteen_accounts_output = codes "a0 + 0" ++ 10 ∷ [] ++ codes "a15 + 0" ++ 10 ∷ []
+
+-- the bytes of sixteen_accounts_interleaved.script
+abbrev pub sixteen_accounts_interleaved_script : List ℕ
+sixteen_accounts_interleaved_script = codes "accounts a0 a1 a2 a3 a4 a5 a6 a7 a8 a9 a10 a11 a12 a13 a14 a15" ++ 10 ∷ [] ++ codes "a3 start 4 0 1 X = v3" ++ 10 ∷ [] ++ codes "a8 start 9 0 1 X = v8" ++ 10 ∷ [] ++ codes "a13 start 14 0 1 X = v13" ++ 10 ∷ [] ++ codes "a2 start 3 0 1 X = v2" ++ 10 ∷ [] ++ codes "a7 start 8 0 1 X = v7" ++ 10 ∷ [] ++ codes "a12 start 13 0 1 X = v12" ++ 10 ∷ [] ++ codes "a1 start 2 0 1 X = v1" ++ 10 ∷ [] ++ codes "a6 start 7 0 1 X = v6" ++ 10 ∷ [] ++ codes "a11 start 12 0 1 X = v11" ++ 10 ∷ [] ++ codes "a0 start 1 0 1 X = v0" ++ 10 ∷ [] ++ codes "a5 start 6 0 1 X = v5" ++ 10 ∷ [] ++ codes "a10 start 11 0 1 X = v10" ++ 10 ∷ [] ++ codes "a15 start 16 0 1 X = v15" ++ 10 ∷ [] ++ codes "a4 start 5 0 1 X = v4" ++ 10 ∷ [] ++ codes "a9 start 10 0 1 X = v9" ++ 10 ∷ [] ++ codes "a14 start 15 0 1 X = v14" ++ 10 ∷ [] ++ codes "a2 run 9" ++ 10 ∷ [] ++ codes "a9 run 9" ++ 10 ∷ [] ++ codes "a0 run 9" ++ 10 ∷ [] ++ codes "a7 run 9" ++ 10 ∷ [] ++ codes "a14 run 9" ++ 10 ∷ [] ++ codes "a5 run 9" ++ 10 ∷ [] ++ codes "a12 run 9" ++ 10 ∷ [] ++ codes "a3 run 9" ++ 10 ∷ [] ++ codes "a10 run 9" ++ 10 ∷ [] ++ codes "a1 run 9" ++ 10 ∷ [] ++ codes "a8 run 9" ++ 10 ∷ [] ++ codes "a15 run 9" ++ 10 ∷ [] ++ codes "a6 run 9" ++ 10 ∷ [] ++ codes "a13 run 9" ++ 10 ∷ [] ++ codes "a4 run 9" ++ 10 ∷ [] ++ codes "a11 run 9" ++ 10 ∷ [] ++ codes "a3 value 1" ++ 10 ∷ [] ++ codes "a8 value 1" ++ 10 ∷ [] ++ codes "a13 value 1" ++ 10 ∷ [] ++ codes "a2 value 1" ++ 10 ∷ [] ++ codes "a7 value 1" ++ 10 ∷ [] ++ codes "a12 value 1" ++ 10 ∷ [] ++ codes "a1 value 1" ++ 10 ∷ [] ++ codes "a6 value 1" ++ 10 ∷ [] ++ codes "a11 value 1" ++ 10 ∷ [] ++ codes "a0 value 1" ++ 10 ∷ [] ++ codes "a5 value 1" ++ 10 ∷ [] ++ codes "a10 value 1" ++ 10 ∷ [] ++ codes "a15 value 1" ++ 10 ∷ [] ++ codes "a4 value 1" ++ 10 ∷ [] ++ codes "a9 value 1" ++ 10 ∷ [] ++ codes "a14 value 1" ++ 10 ∷ []
+
+-- the bytes of sixteen_accounts_interleaved.expected
+abbrev pub sixteen_accounts_interleaved_output : List ℕ
+sixteen_accounts_interleaved_output = codes "a3 + shoen 1" ++ 10 ∷ [] ++ codes "a8 + shoen 1" ++ 10 ∷ [] ++ codes "a13 + shoen 1" ++ 10 ∷ [] ++ codes "a2 + shoen 1" ++ 10 ∷ [] ++ codes "a7 + shoen 1" ++ 10 ∷ [] ++ codes "a12 + shoen 1" ++ 10 ∷ [] ++ codes "a1 + shoen 1" ++ 10 ∷ [] ++ codes "a6 + shoen 1" ++ 10 ∷ [] ++ codes "a11 + shoen 1" ++ 10 ∷ [] ++ codes "a0 + shoen 1" ++ 10 ∷ [] ++ codes "a5 + shoen 1" ++ 10 ∷ [] ++ codes "a10 + shoen 1" ++ 10 ∷ [] ++ codes "a15 + shoen 1" ++ 10 ∷ [] ++ codes "a4 + shoen 1" ++ 10 ∷ [] ++ codes "a9 + shoen 1" ++ 10 ∷ [] ++ codes "a14 + shoen 1" ++ 10 ∷ [] ++ codes "a2 + 1" ++ 10 ∷ [] ++ codes "a9 + 1" ++ 10 ∷ [] ++ codes "a0 + 1" ++ 10 ∷ [] ++ codes "a7 + 1" ++ 10 ∷ [] ++ codes "a14 + 1" ++ 10 ∷ [] ++ codes "a5 + 1" ++ 10 ∷ [] ++ codes "a12 + 1" ++ 10 ∷ [] ++ codes "a3 + 1" ++ 10 ∷ [] ++ codes "a10 + 1" ++ 10 ∷ [] ++ codes "a1 + 1" ++ 10 ∷ [] ++ codes "a8 + 1" ++ 10 ∷ [] ++ codes "a15 + 1" ++ 10 ∷ [] ++ codes "a6 + 1" ++ 10 ∷ [] ++ codes "a13 + 1" ++ 10 ∷ [] ++ codes "a4 + 1" ++ 10 ∷ [] ++ codes "a11 + 1" ++ 10 ∷ [] ++ codes "a3 + '='(v3,v3)" ++ 10 ∷ [] ++ codes "a8 + '='(v8,v8)" ++ 10 ∷ [] ++ codes "a13 + '='(v13,v13)" ++ 10 ∷ [] ++ codes "a2 + '='(v2,v2)" ++ 10 ∷ [] ++ codes "a7 + '='(v7,v7)" ++ 10 ∷ [] ++ codes "a12 + '='(v12,v12)" ++ 10 ∷ [] ++ codes "a1 + '='(v1,v1)" ++ 10 ∷ [] ++ codes "a6 + '='(v6,v6)" ++ 10 ∷ [] ++ codes "a11 + '='(v11,v11)" ++ 10 ∷ [] ++ codes "a0 + '='(v0,v0)" ++ 10 ∷ [] ++ codes "a5 + '='(v5,v5)" ++ 10 ∷ [] ++ codes "a10 + '='(v10,v10)" ++ 10 ∷ [] ++ codes "a15 + '='(v15,v15)" ++ 10 ∷ [] ++ codes "a4 + '='(v4,v4)" ++ 10 ∷ [] ++ codes "a9 + '='(v9,v9)" ++ 10 ∷ [] ++ codes "a14 + '='(v14,v14)" ++ 10 ∷ []
 
 -- the bytes of slices_by_allowances.script
 abbrev pub slices_by_allowances_script : List ℕ
@@ -981,12 +1133,15 @@ pub record ExamplesHold : Type 0 where
   pub account_name_of_17_bytes : output account_name_of_17_bytes_script ≡ account_name_of_17_bytes_output
   pub account_with_a_capital : output account_with_a_capital_script ≡ account_with_a_capital_output
   pub accounts_alone : output accounts_alone_script ≡ accounts_alone_output
+  pub alice_beside_a_runaway_account : output alice_beside_a_runaway_account_script ≡ alice_beside_a_runaway_account_output
+  pub alice_by_herself : output alice_by_herself_script ≡ alice_by_herself_output
   pub allow_of_a_variable_waits : output allow_of_a_variable_waits_script ≡ allow_of_a_variable_waits_output
   pub allow_raises_an_allowance : output allow_raises_an_allowance_script ≡ allow_raises_an_allowance_output
   pub allowance_has_a_greatest : output allowance_has_a_greatest_script ≡ allowance_has_a_greatest_output
   pub allowance_of_0 : output allowance_of_0_script ≡ allowance_of_0_output
   pub allowance_runs_out : output allowance_runs_out_script ≡ allowance_runs_out_output
   pub allowance_runs_out_twice : output allowance_runs_out_twice_script ≡ allowance_runs_out_twice_output
+  pub append_beside_another_account : output append_beside_another_account_script ≡ append_beside_another_account_output
   pub append_by_single_reductions : output append_by_single_reductions_script ≡ append_by_single_reductions_output
   pub append_two_lists : output append_two_lists_script ≡ append_two_lists_output
   pub append_with_its_status : output append_with_its_status_script ≡ append_with_its_status_output
@@ -1018,6 +1173,7 @@ pub record ExamplesHold : Type 0 where
   pub failure_is_reported : output failure_is_reported_script ≡ failure_is_reported_output
   pub first_of_two_clauses : output first_of_two_clauses_script ≡ first_of_two_clauses_output
   pub forms_that_are_faults : output forms_that_are_faults_script ≡ forms_that_are_faults_output
+  pub four_sessions : output four_sessions_script ≡ four_sessions_output
   pub fresh_variables : output fresh_variables_script ≡ fresh_variables_output
   pub goal_of_a_child_has_its_greatest_priority : output goal_of_a_child_has_its_greatest_priority_script ≡ goal_of_a_child_has_its_greatest_priority_output
   pub goal_waits_for_ever : output goal_waits_for_ever_script ≡ goal_waits_for_ever_output
@@ -1028,6 +1184,12 @@ pub record ExamplesHold : Type 0 where
   pub higher_variable_takes_the_lower : output higher_variable_takes_the_lower_script ≡ higher_variable_takes_the_lower_output
   pub inner_shoen_stays_stopped : output inner_shoen_stays_stopped_script ≡ inner_shoen_stays_stopped_output
   pub integers_are_no_atoms : output integers_are_no_atoms_script ≡ integers_are_no_atoms_output
+  pub journal_by_pages : output journal_by_pages_script ≡ journal_by_pages_output
+  pub journal_names_in_quotes : output journal_names_in_quotes_script ≡ journal_names_in_quotes_output
+  pub journal_of_a_start : output journal_of_a_start_script ≡ journal_of_a_start_output
+  pub journal_of_each_event : output journal_of_each_event_script ≡ journal_of_each_event_output
+  pub journal_of_reductions : output journal_of_reductions_script ≡ journal_of_reductions_output
+  pub journal_prints_goals : output journal_prints_goals_script ≡ journal_prints_goals_output
   pub last_line_without_a_feed : output last_line_without_a_feed_script ≡ last_line_without_a_feed_output
   pub least_priority_of_a_child_is_clipped : output least_priority_of_a_child_is_clipped_script ≡ least_priority_of_a_child_is_clipped_output
   pub lines_of_4096_bytes : output lines_of_4096_bytes_script ≡ lines_of_4096_bytes_output
@@ -1041,8 +1203,10 @@ pub record ExamplesHold : Type 0 where
   pub module_without_clauses : output module_without_clauses_script ≡ module_without_clauses_output
   pub modules_are_listed : output modules_are_listed_script ≡ modules_are_listed_output
   pub modules_loaded_at_that_moment : output modules_loaded_at_that_moment_script ≡ modules_loaded_at_that_moment_output
+  pub modules_of_two_accounts : output modules_of_two_accounts_script ≡ modules_of_two_accounts_output
   pub names_before_the_first_space : output names_before_the_first_space_script ≡ names_before_the_first_space_output
   pub names_from_codes : output names_from_codes_script ≡ names_from_codes_output
+  pub names_in_order_of_first_use : output names_in_order_of_first_use_script ≡ names_in_order_of_first_use_output
   pub names_in_quotes : output names_in_quotes_script ≡ names_in_quotes_output
   pub names_of_63_and_64_bytes : output names_of_63_and_64_bytes_script ≡ names_of_63_and_64_bytes_output
   pub nested_patterns : output nested_patterns_script ≡ nested_patterns_output
@@ -1050,6 +1214,7 @@ pub record ExamplesHold : Type 0 where
   pub no_clause_for_a_goal_that_waits : output no_clause_for_a_goal_that_waits_script ≡ no_clause_for_a_goal_that_waits_output
   pub no_cyclic_terms : output no_cyclic_terms_script ≡ no_cyclic_terms_output
   pub numbers_of_19_digits : output numbers_of_19_digits_script ≡ numbers_of_19_digits_output
+  pub one_text_in_two_accounts : output one_text_in_two_accounts_script ≡ one_text_in_two_accounts_output
   pub orders_of_each_kind : output orders_of_each_kind_script ≡ orders_of_each_kind_output
   pub orders_that_are_wrong : output orders_that_are_wrong_script ≡ orders_that_are_wrong_output
   pub orders_that_wait : output orders_that_wait_script ≡ orders_that_wait_output
@@ -1066,13 +1231,19 @@ pub record ExamplesHold : Type 0 where
   pub quiet_or_not : output quiet_or_not_script ≡ quiet_or_not_output
   pub quiet_with_many_blanks : output quiet_with_many_blanks_script ≡ quiet_with_many_blanks_output
   pub range_of_a_child_is_clipped : output range_of_a_child_is_clipped_script ≡ range_of_a_child_is_clipped_output
+  pub refused_reduction_leaves_the_journal : output refused_reduction_leaves_the_journal_script ≡ refused_reduction_leaves_the_journal_output
   pub report_that_holds_its_tail : output report_that_holds_its_tail_script ≡ report_that_holds_its_tail_output
+  pub reset_after_each_event : output reset_after_each_event_script ≡ reset_after_each_event_output
+  pub reset_keeps_names : output reset_keeps_names_script ≡ reset_keeps_names_output
+  pub reset_of_another_account : output reset_of_another_account_script ≡ reset_of_another_account_output
   pub reversed_list : output reversed_list_script ≡ reversed_list_output
   pub second_variable_wakes : output second_variable_wakes_script ≡ second_variable_wakes_output
+  pub sessions_stay_through_a_reset : output sessions_stay_through_a_reset_script ≡ sessions_stay_through_a_reset_output
   pub seventeen_accounts : output seventeen_accounts_script ≡ seventeen_accounts_output
   pub shoens_32_deep : output shoens_32_deep_script ≡ shoens_32_deep_output
   pub single_reductions : output single_reductions_script ≡ single_reductions_output
   pub sixteen_accounts : output sixteen_accounts_script ≡ sixteen_accounts_output
+  pub sixteen_accounts_interleaved : output sixteen_accounts_interleaved_script ≡ sixteen_accounts_interleaved_output
   pub slices_by_allowances : output slices_by_allowances_script ≡ slices_by_allowances_output
   pub stopped_and_resumed : output stopped_and_resumed_script ≡ stopped_and_resumed_output
   pub stopped_before_exhausted : output stopped_before_exhausted_script ≡ stopped_before_exhausted_output

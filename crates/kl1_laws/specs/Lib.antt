@@ -1,7 +1,10 @@
 pub mod Examples
+pub mod JournalExamples
 pub mod AccountRows
+pub mod HistoryRows
 pub mod ShoenRows
 pub mod ReadRows
 pub mod ReadFaults
 pub mod GuardRows
 pub mod ArithmeticLaws
+pub mod StreamRows

@@ -1,4 +1,5 @@
 pub mod Cuts
+pub mod Splits
 pub mod Fuel
 pub mod WordFuel
 pub mod DeviceLaws

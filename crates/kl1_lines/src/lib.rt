@@ -14,7 +14,7 @@ mod words;
 
 pub use counted::{Counted, DeviceFailed};
 pub use input::read_all;
-pub use lines::{is_blank_line, split_line, split_name};
+pub use lines::{is_blank_line, split_feed, split_line, split_name, without_return};
 pub use numbers::{number_in, only_number, source_bytes_in, up_to};
 pub use output::{finish, pass_on, write_all};
 pub use record::{NextRecord, Record, Request, next_record};

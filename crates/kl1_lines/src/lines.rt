@@ -1,8 +1,8 @@
 // Lines, and the name in front of one.
 
-ghost use Rattle.std.specs.Prelude.{◌≡◌, ◌+◌, ◌<◌, ◌≤◌, length, take, drop};
+ghost use Rattle.std.specs.Prelude.{◌≡◌, ◌+◌, ◌<◌, ◌≤◌, length, take, drop, false, IfSome, IsNone};
 ghost use Rattle.kl1_model.specs.Line.{is_blank_line, without_return, line_in, behind_feed, before_space, behind_space};
-ghost use Rattle.kl1_lines.specs.Places.{place_of};
+ghost use Rattle.kl1_lines.specs.Places.{place_of, has_byte, IsSplit};
 
 use crate::words::without_blanks;
 
@@ -35,7 +35,7 @@ fn behind_place(text: &[u8], place: usize) -> &[u8]
 }
 
 /// A line without a carriage return at its end.
-pub(crate) fn without_return(line: &[u8]) -> &[u8]
+pub fn without_return(line: &[u8]) -> &[u8]
     ensures { result.now ≡ without_return line.now }
 {
     if line.is_empty() {
@@ -46,6 +46,20 @@ pub(crate) fn without_return(line: &[u8]) -> &[u8]
         &line[..last]
     } else {
         line
+    }
+}
+
+/// The bytes before the first line feed of a text, and those after it; `None` if there is no line feed.
+#[tactic(auto, using(crate::proofs::Splits::split_nowhere))]
+pub fn split_feed(text: &[u8]) -> Option<(&[u8], &[u8])>
+    ensures none { IsNone result → has_byte 10 text.now ≡ false }
+    ensures some { IfSome result (λ r. IsSplit text.now r.0.now r.1.now) }
+{
+    let place = place_of(b'\n', text);
+    if place < text.len() {
+        Some((&text[..place], behind_place(text, place)))
+    } else {
+        None
     }
 }
 

@@ -1,10 +1,10 @@
 -- Each event leaves goals and monitors to living shoens alone.
-use Rattle.std.proofs.Common.{◌≡◌, ◌≤◌, ℕ, suc, ◌+◌, ◌==◌, ◌&&◌, Bool, true, false, if◌then◌else◌, List, [], ◌∷◌, ◌++◌, refl, ap, ◌∙◌, subst, arith}
+use Rattle.std.proofs.Common.{◌≡◌, ◌≤◌, ℕ, suc, ◌+◌, ◌-◌, ◌==◌, ◌&&◌, Bool, true, false, if◌then◌else◌, List, [], ◌∷◌, ◌++◌, refl, ap, ◌∙◌, subst, arith}
 use Rattle.std.specs.Prelude.{nat_lt, nat_le, length, Option, Some, None, is_some}
 use Rattle.std.specs.List.{AllByRecursion}
 use Rattle.std.proofs.lemmas.Bool.{false≢true, eq-eqb, ne_eqb}
 use Rattle.std.proofs.lemmas.Option.{none-some, same_Some}
-use Rattle.kl1_model.specs.Limits.{most_names, most_modules}
+use Rattle.kl1_model.specs.Limits.{most_names, most_modules, most_sessions}
 use Rattle.kl1_model.specs.declared.message.Message.{Message}
 use Rattle.kl1_model.specs.declared.message.Message.TheVariants.{Stop, Start, Abort, Allow}
 use Rattle.kl1_model.specs.Term.{Term, variable, integer, atom, structure, Replacement}
@@ -16,7 +16,7 @@ use Rattle.kl1_model.specs.Match.{Candidate, module_of}
 use Rattle.kl1_model.specs.State.{Goal, Origin, Shoen, State, goal_at, shoen_at, names_of, names_of_module, with_name, with_names, replace_in_state, replace_all, change_shoen, without_goal, is_living}
 use Rattle.kl1_model.specs.Tree.{parents_of, charge}
 use Rattle.kl1_model.specs.Control.{Control, awaits_message, tells, tells_other, ends, breaks_off, message_term, message_nodes}
-use Rattle.kl1_model.specs.Event.{exists, shoen_ended, syntax, too_many_names, limit_passed, journal_full, Query, value, status, reports, modules, is_quiet, Event, load, start, control, reduce, read, loaded, opened, sent, reduced, Stepped, refuse, is_number, most_source_bytes, most_entries, with_entry, recorded, named, limited}
+use Rattle.kl1_model.specs.Event.{exists, shoen_ended, syntax, too_many_names, limit_passed, journal_full, sessions_refused, Query, value, status, reports, modules, is_quiet, Event, load, start, control, reduce, read, login, logout, reset, loaded, opened, sent, reduced, welcome, bye, Stepped, refuse, is_number, most_source_bytes, most_entries, with_entry, recorded, named, limited}
 use Rattle.kl1_model.specs.Report.{report, exception, failure, illegal_input, exhaustion, started_report, exhausted_report, stopped_report, resumed_report}
 use Rattle.kl1_model.specs.Ending.{without_monitor}
 use Rattle.kl1_model.specs.Opening.{may_start, has_room_to_start, opening_goals, with_shoen, open_shoen, with_next_variables, started_shoen, start_goal, has_room_for_child, child_shoen, open_child}
@@ -254,6 +254,9 @@ step_posts s (start allowance low high t) tree a = start_posts s allowance low h
 step_posts s (control n m) tree a = posts_if (may_send n m) (send_to s n m (shoen_at n s.shoens)) (refuse s syntax) (send_posts s n m (shoen_at n s.shoens) a) a
 step_posts s (reduce goal clause) tree a = posts_if (is_number goal && is_number clause) (reduce_goal s clause (goal_at goal s.goals)) (refuse s syntax) (goal_posts s goal clause (goal_at goal s.goals) refl tree a) a
 step_posts s (read q) tree a = answer_posts s q a
+step_posts s login tree a = posts_if (nat_lt s.sessions most_sessions) (record { state = record s { sessions = suc s.sessions }; reply = welcome s.own_name }) (refuse s sessions_refused) a a
+step_posts s logout tree a = posts_if (nat_lt 0 s.sessions) (record { state = record s { sessions = s.sessions - 1 }; reply = bye }) (refuse s sessions_refused) a a
+step_posts s reset tree a = tt
 
 pub ended_have_no_goals : EndedHaveNoGoals
 ended_have_no_goals s e tree a = from_posted (step s e).state (step_posts s e tree (to_posted s a))

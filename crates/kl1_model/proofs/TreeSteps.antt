@@ -1,24 +1,24 @@
 -- What each event does to the tree of shoens and to charges, and that a refused event changes nothing.
-use Rattle.std.proofs.Common.{◌≡◌, ◌≤◌, ℕ, suc, ◌+◌, ◌==◌, ◌&&◌, Bool, true, false, if◌then◌else◌, List, refl, sym, ap, ◌∙◌, subst, arith}
+use Rattle.std.proofs.Common.{◌≡◌, ◌≤◌, ℕ, suc, ◌+◌, ◌-◌, ◌==◌, ◌&&◌, Bool, true, false, if◌then◌else◌, List, refl, sym, ap, ◌∙◌, subst, arith}
 use Rattle.std.proofs.lemmas.Bool.{false≢true}
 use Rattle.std.specs.Prelude.{nat_lt, nat_le, length, Option, Some, None, option_map, is_some}
 use Rattle.std.proofs.lemmas.Option.{none-some, same_Some}
 use Rattle.kl1_model.specs.declared.message.Message.{Message}
-use Rattle.kl1_model.specs.Limits.{most_modules}
+use Rattle.kl1_model.specs.Limits.{most_modules, most_sessions}
 use Rattle.kl1_model.specs.Term.{Term, variable, integer, atom, structure}
 use Rattle.kl1_model.specs.Meaning.{cell, highest}
 use Rattle.kl1_model.specs.Nodes.{goal_nodes}
 use Rattle.kl1_model.specs.Module.{Module, Reading, good, bad, read_module}
 use Rattle.kl1_model.specs.Match.{call_of, module_of}
-use Rattle.kl1_model.specs.State.{Task, monitor, reduces, Goal, Origin, Shoen, State, goal_at, shoen_at, names_of, names_of_module, with_names, replace_in_state, change_shoen, is_monitor, is_living}
+use Rattle.kl1_model.specs.State.{Task, monitor, reduces, Goal, Origin, Shoen, State, fresh_with, goal_at, shoen_at, names_of, names_of_module, with_names, replace_in_state, change_shoen, is_monitor, is_living}
 use Rattle.kl1_model.specs.Tree.{is_on_path, charged_of, is_enabled}
 use Rattle.kl1_model.specs.Control.{Control, awaits_message, tells, tells_other, ends, breaks_off, control_of, message_term, message_nodes}
-use Rattle.kl1_model.specs.Event.{Refusal, syntax, source, exists, no_shoen, shoen_ended, step_refused, too_many_names, limit_passed, journal_full, Query, value, status, reports, modules, is_quiet, load, start, control, reduce, read, Reply, loaded, opened, sent, reduced, Stepped, refuse, is_number, most_source_bytes, most_names, most_entries, with_entry, recorded, named, limited}
+use Rattle.kl1_model.specs.Event.{Refusal, syntax, source, exists, no_shoen, shoen_ended, step_refused, too_many_names, limit_passed, journal_full, sessions_refused, Query, value, status, reports, modules, is_quiet, load, start, control, reduce, read, login, logout, reset, Reply, loaded, opened, sent, reduced, welcome, bye, Stepped, refuse, is_number, most_source_bytes, most_names, most_entries, with_entry, recorded, named, limited}
 use Rattle.kl1_model.specs.Reduction.{Move, Action, moves, reads, term_move, read_action, monitor_action, task_action, action_of, acted, reduced_by, reduce_goal}
 use Rattle.kl1_model.specs.Opening.{may_start, has_room_to_start, with_next_variables, started_shoen, start_goal}
 use Rattle.kl1_model.specs.Sending.{may_send, has_room_to_send, with_control_tail, sent_on, send_by, send_to}
 use Rattle.kl1_model.specs.Asking.{origin_at, value_of, status_of, reports_of, answer}
-use Rattle.kl1_model.specs.Step.{with_module, load_module, step}
+use Rattle.kl1_model.specs.Step.{with_module, load_module, log_in, log_out, step}
 use Rattle.kl1_model.specs.TreeLaws.{IsTree, FreshIsTree, TreesStay, ReductionsCharge, MonitorsChargeNobody, OthersChargeNobody, is_refused, RefusalsChangeNothing}
 use Rattle.kl1_model.proofs.TreeKeeps.{Keeps, keeps_same, keeps_both, kept_tree, keeps_change, keeps_replace}
 use Rattle.kl1_model.proofs.TreeGrows.{Follows, follows_kept, follows_then, opening_follows, acted_move, acted_reading, charged_among, charged_kept, with_entry_keeps, found_within}
@@ -251,6 +251,22 @@ comes_load_event s text = comes_or (nat_le (length text) most_source_bytes) s (l
 comes_control : (s : State) (n : ℕ) (m : Message) → Comes s (step s (control n m))
 comes_control s n m = comes_or (may_send n m) s (send_to s n m (shoen_at n s.shoens)) syntax (comes_send s n m (shoen_at n s.shoens))
 
+-- another number of sessions
+comes_with : (s : State) (n : ℕ) (r : Reply) → is_refused r ≡ false → Comes s (record { state = record s { sessions = n }; reply = r })
+comes_with s n r e = record {
+  follows = follows_kept 0 s (record s { sessions = n }) (record { parents = refl; work = refl; last = refl; owners = λ n a. a; numbered = λ n a. a });
+  kept = λ h. absurd (false≢true (sym e ∙ h));
+}
+
+comes_login : (s : State) → Comes s (log_in s)
+comes_login s = comes_or (nat_lt s.sessions most_sessions) s (record { state = record s { sessions = suc s.sessions }; reply = welcome s.own_name }) sessions_refused (comes_with s (suc s.sessions) (welcome s.own_name) refl)
+
+comes_logout : (s : State) → Comes s (log_out s)
+comes_logout s = comes_or (nat_lt 0 s.sessions) s (record { state = record s { sessions = s.sessions - 1 }; reply = bye }) sessions_refused (comes_with s (s.sessions - 1) bye refl)
+
+reset_tree : (s : State) → IsTree (fresh_with s.own_name s.names s.sessions)
+reset_tree s = record { numbered = tt; lower = λ k. omega arith; count = refl; owners = tt; worked = tt }
+
 tree_from : (s : State) (x : Stepped) → Comes s x → IsTree s → IsTree x.state
 tree_from s x c tree = c.follows.tree (omega arith) tree
 
@@ -260,6 +276,9 @@ trees_stay s (start allowance low high t) tree = tree_from s (step s (start allo
 trees_stay s (control n m) tree = tree_from s (step s (control n m)) (comes_control s n m) tree
 trees_stay s (reduce goal clause) tree = reduction_tree s goal clause (goal_at goal s.goals) refl tree
 trees_stay s (read q) tree = tree_from s (answer s q) (comes_answer s q) tree
+trees_stay s login tree = tree_from s (log_in s) (comes_login s) tree
+trees_stay s logout tree = tree_from s (log_out s) (comes_logout s) tree
+trees_stay s reset tree = reset_tree s
 
 charged_from : (s : State) (x : Stepped) (a : ℕ) → Comes s x → IsTree s → charged_of x.state a ≡ charged_of s a
 charged_from s x a c tree = charged_among s x.state c.follows.more a tree c.follows.parents c.follows.work
@@ -270,6 +289,9 @@ others_charge_nobody s (start allowance low high t) tree e a = charged_from s (s
 others_charge_nobody s (control n m) tree e a = charged_from s (step s (control n m)) a (comes_control s n m) tree
 others_charge_nobody s (reduce goal clause) tree e a = absurd (false≢true (sym e))
 others_charge_nobody s (read q) tree e a = charged_from s (answer s q) a (comes_answer s q) tree
+others_charge_nobody s login tree e a = charged_from s (log_in s) a (comes_login s) tree
+others_charge_nobody s logout tree e a = charged_from s (log_out s) a (comes_logout s) tree
+others_charge_nobody s reset tree e a = refl
 
 pub refusals_change_nothing : RefusalsChangeNothing
 refusals_change_nothing s (load text) e = (comes_load_event s text).kept e
@@ -277,3 +299,6 @@ refusals_change_nothing s (start allowance low high t) e = (comes_start s allowa
 refusals_change_nothing s (control n m) e = (comes_control s n m).kept e
 refusals_change_nothing s (reduce goal clause) e = reduction_kept s goal clause (goal_at goal s.goals) refl e
 refusals_change_nothing s (read q) e = (comes_answer s q).kept e
+refusals_change_nothing s login e = (comes_login s).kept e
+refusals_change_nothing s logout e = (comes_logout s).kept e
+refusals_change_nothing s reset e = absurd (false≢true e)

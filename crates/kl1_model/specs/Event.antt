@@ -18,6 +18,7 @@ pub data Refusal : Type 0 where
   too_many_names : Refusal
   limit_passed : Refusal
   journal_full : Refusal
+  sessions_refused : Refusal
 
 -- what is asked of an account without a change: the goal of a shoen as started, with what is bound now; the state of a shoen; the
 -- reports of a shoen from one on, the first being 1; the modules; and whether no goal can step
@@ -29,17 +30,21 @@ pub data Query : Type 0 where
   is_quiet : Query
 
 -- what may be done to an account: a module loaded from its source; a goal started with an allowance and priorities from low to high;
--- a message sent to a shoen; a goal reduced by the clause of a number, or 0; and a query
+-- a message sent to a shoen; a goal reduced by the clause of a number, or 0; a query; a session opened, and one closed; and the account
+-- made fresh again, with its names and sessions
 pub data Event : Type 0 where
   load : List ℕ → Event
   start : ℕ → ℕ → ℕ → Term → Event
   control : ℕ → Message → Event
   reduce : ℕ → ℕ → Event
   read : Query → Event
+  login : Event
+  logout : Event
+  reset : Event
 
 -- an answer: the name of the module loaded, the number of the shoen opened, a message sent, a reduction done, so many steps done by
 -- a run, the printed goal, a shoen's state with what it was charged, its allowance and its goals alive, a list of texts, whether no
--- goal can step, or a refusal
+-- goal can step, a session opened in the account of a name, a session closed, the account made fresh again, or a refusal
 pub data Reply : Type 0 where
   loaded : List ℕ → Reply
   opened : ℕ → Reply
@@ -50,6 +55,9 @@ pub data Reply : Type 0 where
   status_is : Condition → ℕ → ℕ → ℕ → Reply
   listed : List (List ℕ) → Reply
   quiet_is : Bool → Reply
+  welcome : List ℕ → Reply
+  bye : Reply
+  was_reset : Reply
   refused : Refusal → Reply
 
 -- the account after an event, and the reply

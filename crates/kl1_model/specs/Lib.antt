@@ -37,8 +37,7 @@ pub mod Record
 pub mod SameLaws
 pub mod WaitsLaws
 pub mod ScanLaws
-pub mod Command
-pub mod Script
+pub mod AccountName
 pub mod TreeLaws
 pub mod UnifyLaws
 pub mod ReadLaws

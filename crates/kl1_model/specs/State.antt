@@ -81,6 +81,10 @@ fresh name = record {
   sessions = 0;
 }
 
+-- an account of this name in which nothing has happened but that it has used these names, with this number of open sessions
+abbrev pub fresh_with : List ℕ → List (List ℕ) → ℕ → State
+fresh_with name names sessions = record (fresh name) { names = names; sessions = sessions }
+
 -- the goal of a number
 abbrev pub goal_at : ℕ → List Goal → Option Goal
 goal_at n goals = find (λ g. g.number == n) goals

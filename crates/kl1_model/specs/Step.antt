@@ -1,10 +1,10 @@
 -- The step: what each event does to an account, and the reply.
-use Rattle.std.specs.Prelude.{suc, nat_le, nat_lt, ◌&&◌, if◌then◌else◌, [], ◌∷◌, ◌++◌, length, is_some}
-use Rattle.kl1_model.specs.Limits.{most_modules}
+use Rattle.std.specs.Prelude.{suc, ◌-◌, nat_le, nat_lt, ◌&&◌, if◌then◌else◌, [], ◌∷◌, ◌++◌, length, is_some}
+use Rattle.kl1_model.specs.Limits.{most_modules, most_sessions}
 use Rattle.kl1_model.specs.Module.{Module, Reading, good, bad, read_module}
 use Rattle.kl1_model.specs.Match.{module_of}
-use Rattle.kl1_model.specs.State.{State, goal_at, shoen_at, names_of, names_of_module, with_names}
-use Rattle.kl1_model.specs.Event.{syntax, source, exists, Event, load, start, control, reduce, read, loaded, opened, Stepped, refuse, is_number, most_source_bytes, with_entry, recorded, named, limited}
+use Rattle.kl1_model.specs.State.{State, fresh_with, goal_at, shoen_at, names_of, names_of_module, with_names}
+use Rattle.kl1_model.specs.Event.{syntax, source, exists, sessions_refused, Event, load, start, control, reduce, read, login, logout, reset, loaded, opened, welcome, bye, was_reset, Stepped, refuse, is_number, most_source_bytes, with_entry, recorded, named, limited}
 use Rattle.kl1_model.specs.Reduction.{reduce_goal}
 use Rattle.kl1_model.specs.Opening.{may_start, has_room_to_start, start_goal}
 use Rattle.kl1_model.specs.Sending.{may_send, send_to}
@@ -23,6 +23,14 @@ load_module s (good m) =
     else named s (with_names s.names (names_of_module m)) (limited s (nat_lt (length s.modules) most_modules) (recorded s
     (record { state = with_entry (with_module s m); reply = loaded m.name })))
 
+-- a session more, where not too many are open
+abbrev pub log_in : State → Stepped
+log_in s = if nat_lt s.sessions most_sessions then record { state = record s { sessions = suc s.sessions }; reply = welcome s.own_name } else refuse s sessions_refused
+
+-- a session less, where one is open
+abbrev pub log_out : State → Stepped
+log_out s = if nat_lt 0 s.sessions then record { state = record s { sessions = s.sessions - 1 }; reply = bye } else refuse s sessions_refused
+
 -- what an event does, and the reply; of several refusals the one of least number
 abbrev pub step : State → Event → Stepped
 step s (load text) = if nat_le (length text) most_source_bytes then load_module s (read_module text) else refuse s syntax
@@ -34,3 +42,6 @@ step s (start allowance low high t) =
 step s (control n m) = if may_send n m then send_to s n m (shoen_at n s.shoens) else refuse s syntax
 step s (reduce goal clause) = if is_number goal && is_number clause then reduce_goal s clause (goal_at goal s.goals) else refuse s syntax
 step s (read q) = answer s q
+step s login = log_in s
+step s logout = log_out s
+step s reset = record { state = fresh_with s.own_name s.names s.sessions; reply = was_reset }

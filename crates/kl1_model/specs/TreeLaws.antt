@@ -6,7 +6,7 @@ use Rattle.kl1_model.specs.declared.life.Life.TheVariants.{Terminated, Aborted}
 use Rattle.kl1_model.specs.Module.{is_among}
 use Rattle.kl1_model.specs.State.{Goal, Shoen, State, fresh, goal_at, shoen_at, is_monitor, is_living}
 use Rattle.kl1_model.specs.Tree.{parents_of, path, is_on_path, charged_of, charge, is_blocking_at, is_enabled_in}
-use Rattle.kl1_model.specs.Event.{Event, reduce, Reply, reduced, refused}
+use Rattle.kl1_model.specs.Event.{Event, reduce, reset, Reply, reduced, refused}
 use Rattle.kl1_model.specs.Ending.{has_goal, lives, ending_of, has_reached, reached_of, settle, settle_charged, abort}
 use Rattle.kl1_model.specs.Step.{step}
 
@@ -77,9 +77,14 @@ abbrev pub is_reduction : Event → Bool
 is_reduction (reduce goal clause) = true
 is_reduction _ = false
 
--- no other event charges anybody
+-- whether an event makes the account fresh again
+abbrev pub is_reset : Event → Bool
+is_reset reset = true
+is_reset _ = false
+
+-- no other event charges anybody, and after a reset nobody has been charged
 abbrev pub OthersChargeNobody : Type 0
-OthersChargeNobody = (s : State) (e : Event) → IsTree s → is_reduction e ≡ false → (a : ℕ) → charged_of (step s e).state a ≡ charged_of s a
+OthersChargeNobody = (s : State) (e : Event) → IsTree s → is_reduction e ≡ false → (a : ℕ) → charged_of (step s e).state a ≡ (if is_reset e then 0 else charged_of s a)
 
 -- ---- goals and lives
 

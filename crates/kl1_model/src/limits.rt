@@ -87,7 +87,10 @@ pub const MOST_SHOEN_DEPTH: usize = 32;
 /// The most reports of an account.
 pub const MOST_REPORTS: u64 = 65_536;
 
-/// The most lines of a reply that lists reports.
+/// The most sessions of an account that are open at one time.
+pub const MOST_SESSIONS: u64 = 4;
+
+/// The most lines of a reply that lists reports or lines of a journal.
 pub const MOST_LISTED: usize = 64;
 
 /// The greatest allowance of a shoen, in reductions.

@@ -37,6 +37,13 @@ fn command<'a>(alloc: Global) -> Result<Command<'a>, AllocError> {
     )
     .conflicts_with("check")?
     .conflicts_with("script")?;
+    let journal = Arg::new(alloc, "journal")
+        .long("journal")
+        .action(ArgAction::Set)
+        .value_name("FILE")
+        .help("Write the journal of the run to FILE")
+        .conflicts_with("check")?
+        .conflicts_with("script")?;
     let check = flag(
         alloc,
         "check",
@@ -56,6 +63,7 @@ fn command<'a>(alloc: Global) -> Result<Command<'a>, AllocError> {
         .arg(allowance)?
         .arg(reports)?
         .arg(whole)?
+        .arg(journal)?
         .arg(check)?
         .arg(script)?
         .arg(words)
@@ -85,6 +93,7 @@ pub fn asked_in<'a>(alloc: Global, words: &'a [String]) -> Result<Asked<'a>, Err
             reports: matches.get_flag("reports"),
             whole: matches.get_flag("whole"),
         },
+        journal: matches.get_str("journal"),
     })
 }
 

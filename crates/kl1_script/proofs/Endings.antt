@@ -1,43 +1,45 @@
 -- What is written where a script ends, behind what was passed on.
-use Rattle.std.proofs.Common.{◌≡◌, ℕ, Bool, if◌then◌else◌, List, [], ◌++◌, length, codes, Option, Some, None, ap, sym, ◌∙◌, subst, append_assoc, refl}
+use Rattle.std.proofs.Common.{◌≡◌, ℕ, Bool, if◌then◌else◌, List, [], ◌∷◌, ◌++◌, length, codes, Option, Some, None, ap, sym, ◌∙◌, subst, append_assoc, refl}
 use Rattle.std.proofs.lemmas.List.{append-nil}
 use Rattle.std.specs.Prelude.{Ok, Err}
 use Rattle.std.specs.declared.result.Result.{Result}
 use Rattle.std.specs.Io.KnownBytes.{Appends}
-use Rattle.kl1_model.specs.State.{State}
-use Rattle.kl1_model.specs.Command.{written_line}
+use Rattle.kl1_history.specs.Command.{written_line}
 use Rattle.kl1_model.specs.Line.{line_in, behind_feed, words_of}
 use Rattle.kl1_model.specs.Record.{Record, record_first, records_of}
-use Rattle.kl1_model.specs.Script.{accounts_in, written_from, written_records}
+use Rattle.kl1_history.specs.Script.{accounts_in, written_for, written_from, written_records}
 use Rattle.kl1_lines.specs.Devices.{PassesOn}
-use Rattle.kl1_script.specs.Scripts.{Closes, Ends, Fails, Stops, StopsBefore, Finishes, IsFirstOf, first_written}
-use Rattle.kl1_script.specs.Told.{state_by, told_by}
+use Rattle.kl1_journal.specs.Keeping.{Held}
+use Rattle.kl1_script.specs.Alone.{AreAlone}
+use Rattle.kl1_script.specs.Scripts.{Closes, Ends, Fails, Stops, StopsBefore, Finishes, first_written}
 use Rattle.kl1_lines.specs.declared.script_fault.ScriptFault.{ScriptFault}
 use Rattle.kl1_lines.specs.declared.script_fault.ScriptFault.TheVariants as faults
 use Rattle.kl1_lines.proofs.DeviceLaws.{appends_both, appends_none, front_behind, some_left}
-use Rattle.kl1_script.proofs.Progress.{Progress, goes_on, told_first, told_all, told_some}
+use Rattle.kl1_script.proofs.Progress.{Progress, begins, goes_on, told_as, told_first, told_all, told_some}
 
--- some records are done, and of what was told for them these bytes were not passed on yet
-pub record Underway (old now : Option (List ℕ)) (accounts : List (List ℕ)) (name text rest : List ℕ) (user : State) (out : List ℕ) : Type 0 where
+-- some records are done, after which the accounts are these, and of what was told for them these bytes were not passed on yet
+pub record Underway (old now : Option (List ℕ)) (accounts : List (List ℕ)) (text rest : List ℕ) (world : List Held) (out : List ℕ) : Type 0 where
   pub passed : List ℕ
   pub appends : Appends old now passed
-  pub progress : Progress accounts name text rest user (passed ++ out)
+  pub progress : Progress accounts text rest (passed ++ out)
+  pub alone : AreAlone accounts world progress.before
 
 -- none is done yet
-pub starts : (old : Option (List ℕ)) (accounts : List (List ℕ)) (name text : List ℕ) (user : State) → Progress accounts name text text user [] → Underway old old accounts name text text user []
-starts old accounts name text user p = record { passed = []; appends = appends_none old; progress = p }
+pub starts : (old : Option (List ℕ)) (accounts : List (List ℕ)) (text : List ℕ) (world : List Held) → AreAlone accounts world [] → Underway old old accounts text text world []
+starts old accounts text world fresh = record { passed = []; appends = appends_none old; progress = begins accounts text; alone = fresh }
 
 -- a record more, of whose bytes some were passed on
-pub more_done : (old now after : Option (List ℕ)) (accounts : List (List ℕ)) (name text rest behind : List ℕ) (user next : State) (out more left : List ℕ) (r : Record) → IsFirstOf name accounts → Underway old now accounts name text rest user out → records_of rest ≡ record_first r (records_of behind) → next ≡ state_by accounts user r → more ≡ out ++ told_by accounts user r → PassesOn now after more left → Underway old after accounts name text behind next left
-more_done old now after accounts name text rest behind user next out more left r first u is state told passes =
-    let done = goes_on accounts name text rest behind user next (u.passed ++ out) r first u.progress is state in
-    let same : (u.passed ++ out) ++ told_by accounts user r ≡ (u.passed ++ passes.passed) ++ left =
-    append_assoc u.passed out (told_by accounts user r) ∙ ap (λ x. u.passed ++ x) (sym told ∙ sym passes.same) ∙ sym (append_assoc u.passed passes.passed left) in
-    let P : List ℕ → Type 0 = λ x. Progress accounts name text behind next x in
+pub more_done : (old now after : Option (List ℕ)) (accounts : List (List ℕ)) (text rest behind : List ℕ) (world next : List Held) (out left : List ℕ) (r : Record) → (u : Underway old now accounts text rest world out) → records_of rest ≡ record_first r (records_of behind) → AreAlone accounts next (u.progress.before ++ r ∷ []) → PassesOn now after (out ++ written_for accounts u.progress.before r) left → Underway old after accounts text behind next left
+more_done old now after accounts text rest behind world next out left r u is alone passes =
+    let more = written_for accounts u.progress.before r in
+    let done = goes_on accounts text rest behind (u.passed ++ out) r u.progress is in
+    let same : (u.passed ++ out) ++ more ≡ (u.passed ++ passes.passed) ++ left =
+    append_assoc u.passed out more ∙ ap (λ x. u.passed ++ x) (sym passes.same) ∙ sym (append_assoc u.passed passes.passed left) in
     record {
       passed = u.passed ++ passes.passed;
       appends = appends_both old now after u.passed passes.passed u.appends passes.appends;
-      progress = subst P same done;
+      progress = told_as accounts text behind ((u.passed ++ out) ++ more) ((u.passed ++ passes.passed) ++ left) same done;
+      alone = alone;
     }
 
 -- no more bytes were written, and memory was refused, or a write failed
@@ -66,36 +68,37 @@ pub finish_waiting : {T : Type 0} (r : Result T ScriptFault) (old new : Option (
 finish_waiting r old new f g waiting bytes e s = finish_same r old new f g waiting [] bytes (e ∙ sym (append-nil waiting)) s
 
 -- memory was refused behind the records that are done, or a write failed, and these bytes and the others are the output
-fails_by : (T : Type 0) (old now after : Option (List ℕ)) (f g : ℕ) (accounts : List (List ℕ)) (name text rest : List ℕ) (user : State) (out more others : List ℕ) (fault : ScriptFault) → (u : Underway old now accounts name text rest user out) → (u.passed ++ (out ++ more)) ++ others ≡ written_records accounts (records_of text) → Fails now after f g out more fault → Ends {T = T} old after f g (written_records accounts (records_of text)) (λ n. first_written n (Some accounts) (records_of text).list) (Err fault)
-fails_by T old now after f g accounts name text rest user out more others faults.Memory u all s =
+fails_by : (T : Type 0) (old now after : Option (List ℕ)) (f g : ℕ) (accounts : List (List ℕ)) (text rest : List ℕ) (world : List Held) (out more others : List ℕ) (fault : ScriptFault) → (u : Underway old now accounts text rest world out) → (u.passed ++ (out ++ more)) ++ others ≡ written_records accounts (records_of text) → Fails now after f g out more fault → Ends {T = T} old after f g (written_records accounts (records_of text)) (λ n. first_written n (Some accounts) (records_of text).list) (Err fault)
+fails_by T old now after f g accounts text rest world out more others faults.Memory u all s =
     let P : List ℕ → Type 0 = λ x. Appends old after x in
-    ((length u.progress.before, subst P (told_some accounts name text rest user (u.passed ++ out) u.progress) (appends_both old now after u.passed out u.appends s.0)), s.1)
-fails_by T old now after f g accounts name text rest user out more others faults.Write u all s =
+    ((length u.progress.before, subst P (told_some accounts text rest (u.passed ++ out) u.progress) (appends_both old now after u.passed out u.appends s.0)), s.1)
+fails_by T old now after f g accounts text rest world out more others faults.Write u all s =
     (front_behind old now after u.passed (out ++ more) others (written_records accounts (records_of text)) u.appends s.0 all, s.1)
-fails_by T old now after f g accounts name text rest user out more others faults.Read u all s = absurd s
-fails_by T old now after f g accounts name text rest user out more others faults.TooLong u all s = absurd s
+fails_by T old now after f g accounts text rest world out more others faults.Read u all s = absurd s
+fails_by T old now after f g accounts text rest world out more others faults.TooLong u all s = absurd s
 
 -- so at a record
-pub fails_there : (T : Type 0) (old now after : Option (List ℕ)) (f h g : ℕ) (accounts : List (List ℕ)) (name text rest behind : List ℕ) (user : State) (out : List ℕ) (r : Record) (fault : ScriptFault) → IsFirstOf name accounts → Underway old now accounts name text rest user out → h ≡ f → records_of rest ≡ record_first r (records_of behind) → Fails now after h g out (told_by accounts user r) fault → Ends {T = T} old after f g (written_records accounts (records_of text)) (λ n. first_written n (Some accounts) (records_of text).list) (Err fault)
-fails_there T old now after f h g accounts name text rest behind user out r fault first u kept is s =
-    let P : ℕ → Type 0 = λ x. Fails now after x g out (told_by accounts user r) fault in
-    let done = goes_on accounts name text rest behind user (state_by accounts user r) (u.passed ++ out) r first u.progress is refl in
+pub fails_there : (T : Type 0) (old now after : Option (List ℕ)) (f h g : ℕ) (accounts : List (List ℕ)) (text rest behind : List ℕ) (world : List Held) (out : List ℕ) (r : Record) (fault : ScriptFault) → (u : Underway old now accounts text rest world out) → h ≡ f → records_of rest ≡ record_first r (records_of behind) → Fails now after h g out (written_for accounts u.progress.before r) fault → Ends {T = T} old after f g (written_records accounts (records_of text)) (λ n. first_written n (Some accounts) (records_of text).list) (Err fault)
+fails_there T old now after f h g accounts text rest behind world out r fault u kept is s =
+    let more = written_for accounts u.progress.before r in
+    let P : ℕ → Type 0 = λ x. Fails now after x g out more fault in
+    let done = goes_on accounts text rest behind (u.passed ++ out) r u.progress is in
     let others : List ℕ = written_from accounts done.before (records_of behind).list ++ (if (records_of behind).is_truncated then written_line (codes "! truncated") else []) in
-    let all = ap (λ x. x ++ others) (sym (append_assoc u.passed out (told_by accounts user r))) ∙ told_first accounts name text behind (state_by accounts user r) ((u.passed ++ out) ++ told_by accounts user r) done in
-    fails_by T old now after f g accounts name text rest user out (told_by accounts user r) others fault u all (subst P kept s)
+    let all = ap (λ x. x ++ others) (sym (append_assoc u.passed out more)) ∙ told_first accounts text behind ((u.passed ++ out) ++ more) done in
+    fails_by T old now after f g accounts text rest world out more others fault u all (subst P kept s)
 
 -- no record is left, and the last bytes are written, or some of them
-pub ends_here : {T : Type 0} (r : Result T ScriptFault) (old now after : Option (List ℕ)) (f h g : ℕ) (accounts : List (List ℕ)) (name text rest : List ℕ) (user : State) (out : List ℕ) (v : Bool) → Underway old now accounts name text rest user out → h ≡ f → records_of rest ≡ record { list = []; is_truncated = v } → Closes now after h g out (if v then written_line (codes "! truncated") else []) r → Ends old after f g (written_records accounts (records_of text)) (λ n. first_written n (Some accounts) (records_of text).list) r
-ends_here (Ok x) old now after f h g accounts name text rest user out v u kept e s =
+pub ends_here : {T : Type 0} (r : Result T ScriptFault) (old now after : Option (List ℕ)) (f h g : ℕ) (accounts : List (List ℕ)) (text rest : List ℕ) (world : List Held) (out : List ℕ) (v : Bool) → Underway old now accounts text rest world out → h ≡ f → records_of rest ≡ record { list = []; is_truncated = v } → Closes now after h g out (if v then written_line (codes "! truncated") else []) r → Ends old after f g (written_records accounts (records_of text)) (λ n. first_written n (Some accounts) (records_of text).list) r
+ends_here (Ok x) old now after f h g accounts text rest world out v u kept e s =
     let end : List ℕ = if v then written_line (codes "! truncated") else [] in
     let P : List ℕ → Type 0 = λ y. Appends old after y in
-    let all = sym (append_assoc u.passed out end) ∙ told_all accounts name text rest user (u.passed ++ out) v u.progress e in
+    let all = sym (append_assoc u.passed out end) ∙ told_all accounts text rest (u.passed ++ out) v u.progress e in
     (subst P all (appends_both old now after u.passed (out ++ end) u.appends s.0), s.1 ∙ kept)
-ends_here {T} (Err fault) old now after f h g accounts name text rest user out v u kept e s =
+ends_here {T} (Err fault) old now after f h g accounts text rest world out v u kept e s =
     let end : List ℕ = if v then written_line (codes "! truncated") else [] in
     let P : ℕ → Type 0 = λ x. Fails now after x g out end fault in
-    let all = append-nil (u.passed ++ (out ++ end)) ∙ sym (append_assoc u.passed out end) ∙ told_all accounts name text rest user (u.passed ++ out) v u.progress e in
-    fails_by T old now after f g accounts name text rest user out end [] fault u all (subst P kept s)
+    let all = append-nil (u.passed ++ (out ++ end)) ∙ sym (append_assoc u.passed out end) ∙ told_all accounts text rest (u.passed ++ out) v u.progress e in
+    fails_by T old now after f g accounts text rest world out end [] fault u all (subst P kept s)
 
 none_first : (accounts : Option (List (List ℕ))) (records : List Record) → first_written 0 accounts records ≡ []
 none_first None records = refl

@@ -1,4 +1,5 @@
-pub mod Readings
 pub mod Names
+pub mod Others
+pub mod Worlds
 pub mod Progress
 pub mod Endings

@@ -5,8 +5,9 @@ use Rattle.std.proofs.lemmas.Bool.{false≢true, and_parts, and_from, and_left, 
 use Rattle.std.proofs.lemmas.List.{append-nil}
 use Rattle.std.proofs.lemmas.List.Folds.{list_all-append}
 use Rattle.kl1_model.specs.Limits.{most_accounts}
+use Rattle.kl1_model.specs.AccountName.{is_account_name}
 use Rattle.kl1_model.specs.Line.{is_space, first_word, word_in, behind_word_in, is_blank_line, words_of}
-use Rattle.kl1_model.specs.Script.{accounts_in, is_account_name, are_distinct}
+use Rattle.kl1_history.specs.Script.{accounts_in, are_distinct}
 use Rattle.kl1_script.specs.Accounts.{named}
 use Rattle.kl1_lines.proofs.WordFuel.{words_none, words_more}
 

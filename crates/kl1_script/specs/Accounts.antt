@@ -2,7 +2,7 @@
 use Rattle.std.specs.Prelude.{ℕ, nat_le, ◌&&◌, if◌then◌else◌, List, length, Option, Some, None}
 use Rattle.std.specs.List.{list_all}
 use Rattle.kl1_model.specs.Limits.{most_accounts}
-use Rattle.kl1_model.specs.Script.{is_account_name}
+use Rattle.kl1_model.specs.AccountName.{is_account_name}
 
 -- words, if they are names of accounts and not too many
 abbrev pub named : List (List ℕ) → Option (List (List ℕ))

@@ -1,3 +1,3 @@
 pub mod Accounts
-pub mod Told
+pub mod Alone
 pub mod Scripts

@@ -5,7 +5,7 @@ use Rattle.std.specs.declared.result.Result.{Result}
 use Rattle.std.specs.Io.KnownBytes.{Appends}
 use Rattle.kl1_model.specs.Line.{line_in, behind_feed, words_of}
 use Rattle.kl1_model.specs.Record.{Record, records_of}
-use Rattle.kl1_model.specs.Script.{accounts_in, written_from, output}
+use Rattle.kl1_history.specs.Script.{accounts_in, written_from, output}
 use Rattle.kl1_lines.specs.Devices.{IsLeft, IsWhole, AppendsFront, PassesOn}
 use Rattle.kl1_lines.specs.declared.script_fault.ScriptFault.{ScriptFault}
 use Rattle.kl1_lines.specs.declared.script_fault.ScriptFault.TheVariants as faults
@@ -78,8 +78,3 @@ Passes old new f g waiting more left (Err fault) = Fails old new f g waiting mor
 abbrev pub Closes : {T : Type 0} → Option (List ℕ) → Option (List ℕ) → ℕ → ℕ → List ℕ → List ℕ → Result T ScriptFault → Type 0
 Closes old new f g waiting more (Ok x) = Appends old new (waiting ++ more) × (g ≡ f)
 Closes old new f g waiting more (Err fault) = Fails old new f g waiting more fault
-
--- a name is the first of these
-abbrev pub IsFirstOf : List ℕ → List (List ℕ) → Type 0
-IsFirstOf name [] = ⊥
-IsFirstOf name (first ∷ others) = name ≡ first

@@ -1,14 +1,14 @@
-// The first line of a script, which names its accounts.
+// The accounts of a script, which its first line names.
 
-ghost use Rattle.std.specs.Prelude.{◌≡◌, ◌&&◌, nat_le, length, bytes_eq, IfOk, option_map};
+ghost use Rattle.std.specs.Prelude.{◌≡◌, ◌&&◌, nat_le, length, bytes_eq, slice_get, IsFalse, IfOk, IfSome, IfNone, option_map};
 ghost use Rattle.std.specs.List.{list_any};
 ghost use Rattle.kl1_model.specs.Line.{words_of};
-ghost use Rattle.kl1_model.specs.Script.{are_distinct, accounts_in};
+ghost use Rattle.kl1_history.specs.Script.{are_distinct, is_account, accounts_in};
 ghost use Rattle.kl1_script.specs.Accounts.{named};
 
 use kl1_lines::{is_blank_line, is_same, split_word};
 use kl1_model::limits::MOST_ACCOUNTS;
-use kl1_user::AccountName;
+use kl1_world::AccountName;
 use std::alloc::{AllocError, Global};
 
 /// Whether no name stands twice.
@@ -73,4 +73,17 @@ pub fn accounts_in(alloc: Global, line: &[u8]) -> Result<Option<Vec<AccountName>
             }
         }
     }
+}
+
+/// The place of the account of a name; `None` if no account has it.
+pub(crate) fn place_in(accounts: &[AccountName], name: &[u8]) -> Option<usize>
+    ensures some { IfSome result (λ place. slice_get accounts.now place ≡ Some name.now) }
+    ensures none { IfNone result (IsFalse (is_account accounts.now name.now)) }
+{
+    for (place, account) in accounts.iter().enumerate() {
+        if is_same(name, account.text().unpacked().as_slice()) {
+            return Some(place);
+        }
+    }
+    None
 }

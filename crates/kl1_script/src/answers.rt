@@ -1,72 +1,73 @@
-// What a record does to the account that is served, and what is written for it.
+// What a record does to the account that it names, and what is written for it.
 
-ghost use Rattle.std.specs.Prelude.{◌≡◌, ◌++◌, ◌<◌, length, OnOk, OnErr};
-ghost use Rattle.kl1_model.specs.Command.{act, reply_lines};
+ghost use Rattle.std.specs.Prelude.{◌≡◌, ◌++◌, ◌∷◌, ◌<◌, ℕ, List, [], length, IsTrue, OnOk, OnErr};
 ghost use Rattle.kl1_model.specs.Limits.{most_waiting_bytes};
-ghost use Rattle.kl1_model.specs.Script.{is_served, written_reply};
-ghost use Rattle.kl1_effects.specs.Fitting.{Reading, Fits};
-ghost use Rattle.kl1_effects.specs.Account.{state_of};
+ghost use Rattle.kl1_model.specs.Record.{Record as Asked};
+ghost use Rattle.kl1_history.specs.Command.{act, reply_lines};
+ghost use Rattle.kl1_history.specs.Script.{are_distinct, written_for, written_reply};
+ghost use Rattle.kl1_atoms.specs.Names.{AreNames};
+ghost use Rattle.kl1_journal.specs.Keeping.{Reading, Fits, kept_of};
 ghost use Rattle.kl1_command.specs.Commands.{command_view};
 ghost use Rattle.kl1_lines.specs.Records.{request_of};
-ghost use Rattle.kl1_script.specs.Told.{state_by, told_by};
+ghost use Rattle.kl1_world.specs.Worlds.{account_in};
+ghost use Rattle.kl1_script.specs.Alone.{AreAlone};
 
-use crate::served::Served;
+use crate::accounts::place_in;
 use kl1_atoms::AtomSource;
 use kl1_codes::CodeSource;
-use kl1_command::{Command, Parsed, Performed, command_in, perform, put_lines};
+use kl1_command::{Command, Parsed, Performed, command_in, put_lines};
 use kl1_event::{Refusal, Reply};
-use kl1_lines::{Record, is_same};
-use kl1_user::AccountName;
+use kl1_lines::Record;
+use kl1_world::{AccountName, World};
 use std::alloc::{AllocError, Global};
 
-/// Whether a name is that of the account that is served, which is the first.
-fn is_served(accounts: &[AccountName], name: &[u8]) -> bool
-    ensures { result ≡ is_served accounts.now name.now }
-{
-    match accounts {
-        [] => false,
-        [first, _others @ ..] => is_same(first.text().unpacked().as_slice(), name),
-    }
-}
-
-/// Does the command of a record, and puts what is written for it after the bytes. After an `Err` the bytes are as they
-/// were, and a run's first steps may be done.
+/// Does the command of a record to the account that it names, and puts what is written for it after the bytes. After an `Err` the
+/// bytes are as they were, and a run's first steps may be done.
 pub(crate) fn put_record<A: AtomSource + Drop, C: CodeSource + Drop>(
     alloc: Global,
     accounts: &[AccountName],
-    served: &mut Served<A, C>,
+    world: &mut World<A, C>,
     found: Record<'_>,
     out: &mut Vec<u8>,
 ) -> Result<(), AllocError>
     requires few { length out.old.items < most_waiting_bytes }
-    ensures state { OnOk result ((f : Reading) → Fits served.new.names f → state_of f served.new ≡ state_by accounts.now (state_of f served.old) (record { name = found.entry.name.now; request = request_of found.entry.request })) }
-    ensures reply { OnOk result ((f : Reading) → Fits served.new.names f → out.new.items ≡ out.old.items ++ told_by accounts.now (state_of f served.old) (record { name = found.entry.name.now; request = request_of found.entry.request })) }
-    ensures before { (f : Reading) → Fits served.new.names f → Fits served.old.names f }
+    requires many { length world.old.0 ≡ length accounts.now }
+    requires distinct { IsTrue (are_distinct accounts.now) }
+    ensures alone { OnOk result ((before : List Asked) → AreAlone accounts.now world.old.0 before → AreAlone accounts.now world.new.0 (before ++ record { name = found.entry.name.now; request = request_of found.entry.request } ∷ [])) }
+    ensures reply { OnOk result ((before : List Asked) → AreAlone accounts.now world.old.0 before → out.new.items ≡ out.old.items ++ written_for accounts.now before (record { name = found.entry.name.now; request = request_of found.entry.request })) }
     ensures err { OnErr result (out.new.items ≡ out.old.items) }
 {
-    if !is_served(accounts, found.name) {
+    let Some(account) = place_in(accounts, found.name) else {
         return out.extend_from_slice(b"! account\n");
-    }
+    };
     match command_in(alloc, found.request) {
-        Ok(Parsed::Command(command)) => put_performed(served, &command, found.name, out),
+        Ok(Parsed::Command(command)) => put_performed(world, account, &command, found.name, out),
         Ok(Parsed::Refused) => put_lines(out, found.name, &Reply::Refused(Refusal::Syntax)),
         Err(error) => Err(error),
     }
 }
 
-/// Does a command, and puts its reply after the bytes.
+/// Does a command to an account, and puts its reply after the bytes.
 fn put_performed<A: AtomSource + Drop, C: CodeSource + Drop>(
-    served: &mut Served<A, C>,
+    world: &mut World<A, C>,
+    account: usize,
     command: &Command,
     name: &[u8],
     out: &mut Vec<u8>,
 ) -> Result<(), AllocError>
-    ensures state { OnOk result ((f : Reading) → Fits served.new.names f → state_of f served.new ≡ (act (state_of f served.old) (command_view command.now)).state) }
-    ensures reply { OnOk result ((f : Reading) → Fits served.new.names f → out.new.items ≡ out.old.items ++ written_reply name.now (reply_lines (act (state_of f served.old) (command_view command.now)).reply)) }
-    ensures before { (f : Reading) → Fits served.new.names f → Fits served.old.names f }
+    requires { account < length world.old.0 }
+    ensures kept { OnOk result ((f : Reading) → Fits (account_in world.new.0 account).0.names f → kept_of f (account_in world.new.0 account) ≡ (act (kept_of f (account_in world.old.0 account)) (command_view command.now)).kept) }
+    ensures reply { OnOk result ((f : Reading) → Fits (account_in world.new.0 account).0.names f → out.new.items ≡ out.old.items ++ written_reply name.now (reply_lines (act (kept_of f (account_in world.old.0 account)) (command_view command.now)).reply)) }
     ensures err { OnErr result (out.new.items ≡ out.old.items) }
+    ensures before { (f : Reading) → Fits (account_in world.new.0 account).0.names f → Fits (account_in world.old.0 account).0.names f }
+    ensures others { (u : ℕ) → (u ≡ account → ⊥) → account_in world.new.0 u ≡ account_in world.old.0 u }
+    ensures many { length world.new.0 ≡ length world.old.0 }
+    ensures names { AreNames (account_in world.new.0 account).0.names }
 {
-    match perform(served, command) {
+    let performed = world.perform(account, command);
+    // This is called for the fact that it proves: some reading fits the account's names.
+    world.shows_names(account);
+    match performed {
         Performed::Whole(reply) => put_lines(out, name, &reply),
         Performed::Short { steps: _steps } => Err(AllocError),
         Performed::Memory => Err(AllocError),

@@ -1,10 +1,9 @@
-//! Scripts: what their records do to an account, and the bytes that are written for them.
+//! Scripts: what their records do to accounts, and the bytes that are written for them.
 #![tactic(auto)]
 
 mod accounts;
 mod answers;
 mod scripts;
-mod served;
 
 pub use accounts::accounts_in;
 pub use kl1_command::{
@@ -12,4 +11,3 @@ pub use kl1_command::{
 };
 pub use kl1_lines::{Counted, DeviceFailed, Request, ScriptFault, Sink, Source};
 pub use scripts::{answer_over, run_script};
-pub use served::Served;

@@ -1,35 +1,31 @@
 // A script, from its bytes to what is written for it.
 
-ghost use Rattle.std.specs.Prelude.{◌≡◌, ◌+◌, ◌<◌, ◌≤◌, ℕ, List, [], length, Some, OnOk, IsErrOf, codes, if◌then◌else◌};
+ghost use Rattle.std.specs.Prelude.{◌≡◌, ◌+◌, ◌++◌, ◌∷◌, ◌<◌, ◌≤◌, ℕ, List, [], length, Some, IsTrue, OnOk, IsErrOf, codes, if◌then◌else◌};
 ghost use Rattle.std.specs.Io.KnownBytes.{Consumes, Appends};
-ghost use Rattle.kl1_model.specs.Command.{written_line};
+ghost use Rattle.kl1_history.specs.Command.{written_line};
 ghost use Rattle.kl1_model.specs.Limits.{most_accounts, most_script_bytes, most_waiting_bytes};
-ghost use Rattle.kl1_model.specs.Record.{records_of};
-ghost use Rattle.kl1_model.specs.Script.{output, written_records};
+ghost use Rattle.kl1_model.specs.Record.{Record as Asked, records_of};
+ghost use Rattle.kl1_history.specs.Script.{are_distinct, output, written_for, written_records};
 ghost use Rattle.kl1_lines.specs.Devices.{ReadsFew};
-ghost use Rattle.kl1_script.specs.Scripts.{Answered, BreaksOff, Closes, Ends, Finishes, IsFirstOf, Passes, StopsBefore, Stops, first_written, front_of};
-ghost use Rattle.kl1_model.specs.State.{fresh};
-ghost use Rattle.kl1_effects.specs.Fitting.{Reading, Fits};
-ghost use Rattle.kl1_effects.specs.Account.{state_of};
-ghost use Rattle.kl1_script.specs.Told.{state_by, told_by};
+ghost use Rattle.kl1_script.specs.Scripts.{Answered, BreaksOff, Closes, Ends, Finishes, Passes, StopsBefore, Stops, first_written, front_of};
+ghost use Rattle.kl1_script.specs.Alone.{AreAlone};
+ghost use Rattle.kl1_world.specs.Lodging.{AreNewSeats};
 ghost use Rattle.kl1_lines.specs.Records.{request_of};
 ghost use Rattle.kl1_lines.specs.declared.script_fault.ScriptFault.TheVariants as faults;
 
 use crate::accounts::accounts_in;
 use crate::answers::put_record;
-use crate::served::Served;
 use kl1_atoms::{AtomSource, AtomTable, SharedAtoms};
 use kl1_codes::{CodeSource, CodeTable, SharedCodes};
 use kl1_lines::{
     NextRecord, Record, ScriptFault, Sink, Source, finish, next_record, pass_on, read_all,
     split_line,
 };
-use kl1_user::AccountName;
+use kl1_world::{AccountName, World};
 use std::alloc::Global;
 use std::sync::Wait;
 
-/// Runs a script: reads all of it, and writes its output. Of several accounts the first alone is served. It may wait, where a code
-/// is put in.
+/// Runs a script: reads all of it, and writes its output. It may wait, where a code is put in.
 pub fn run_script<H: Wait, R: Source, W: Sink>(
     rt: &H,
     alloc: Global,
@@ -81,77 +77,71 @@ fn answer_shared<H: Wait, W: Sink>(
 ) -> Result<(), ScriptFault>
     requires some { 0 < length accounts.now }
     requires few { length accounts.now ≤ most_accounts }
+    requires distinct { IsTrue (are_distinct accounts.now) }
     ensures { Ends (W.contents sink.old) (W.contents sink.new) (W.failures sink.old) (W.failures sink.new) (written_records accounts.now (records_of text.now)) (λ n. first_written n (Some accounts.now) (records_of text.now).list) result }
 {
     let Ok(codes) = CodeTable::new(alloc) else {
         return Err(ScriptFault::Memory);
     };
     match AtomTable::new(alloc, accounts.len()) {
-        Ok((table, mut seats)) => {
-            let seat = seats.swap_remove(0);
-            answer_over(
-                alloc,
-                accounts,
-                SharedAtoms { table: &table },
-                seat,
-                SharedCodes { table: &codes, rt },
-                text,
-                sink,
-            )
-        }
+        Ok((table, seats)) => answer_over(
+            alloc,
+            accounts,
+            SharedAtoms { table: &table },
+            seats,
+            SharedCodes { table: &codes, rt },
+            text,
+            sink,
+        ),
         Err(_) => Err(ScriptFault::Memory),
     }
 }
 
-/// Writes what is written for the records of a text, over any table of names and the seat of the first account, which knows the
+/// Writes what is written for the records of a text, over any table of names, seats of it for the accounts, each of which knows the
 /// built-in names alone, and any source of codes.
 pub fn answer_over<A: AtomSource + Drop, C: CodeSource + Drop, W: Sink>(
     alloc: Global,
     accounts: &[AccountName],
     names: A,
-    seat: A::Seat,
+    seats: Vec<A::Seat>,
     codes: C,
     text: &[u8],
     sink: &mut W,
 ) -> Result<(), ScriptFault>
     requires some { 0 < length accounts.now }
-    requires of { A.is_of names seat }
-    requires nothing { A.knows seat ≡ [] }
+    requires distinct { IsTrue (are_distinct accounts.now) }
+    requires count { length seats.items ≡ length accounts.now }
+    requires seats { AreNewSeats A.is_of A.place A.knows names seats.items }
     ensures { Ends (W.contents sink.old) (W.contents sink.new) (W.failures sink.old) (W.failures sink.new) (written_records accounts.now (records_of text.now)) (λ n. first_written n (Some accounts.now) (records_of text.now).list) result }
 {
-    let first = accounts[0];
-    match Served::fresh(alloc, first, names, seat, codes) {
-        Ok(mut served) => {
+    match World::new(alloc, names, seats, codes, accounts) {
+        Ok(mut world) => {
             let mut out = Vec::new(alloc);
-            answer_each(alloc, accounts, first, &mut served, text, &mut out, sink)
+            answer_each(alloc, accounts, &mut world, text, &mut out, sink)
         }
         Err(_) => Err(ScriptFault::Memory),
     }
 }
 
-/// Writes what is written for the records of a text, where the account that is served is fresh.
+/// Writes what is written for the records of a text, if nothing has happened in the accounts.
 fn answer_each<A: AtomSource + Drop, C: CodeSource + Drop, W: Sink>(
     alloc: Global,
     accounts: &[AccountName],
-    first: AccountName,
-    served: &mut Served<A, C>,
+    world: &mut World<A, C>,
     text: &[u8],
     out: &mut Vec<u8>,
     sink: &mut W,
 ) -> Result<(), ScriptFault>
-    requires first { IsFirstOf first accounts.now }
-    requires fresh { (f : Reading) → state_of f served.now ≡ fresh first }
+    requires distinct { IsTrue (are_distinct accounts.now) }
+    requires fresh { AreAlone accounts.now world.now.0 [] }
     requires none { out.now.items ≡ [] }
     ensures { Ends (W.contents sink.old) (W.contents sink.new) (W.failures sink.old) (W.failures sink.new) (written_records accounts.now (records_of text.now)) (λ n. first_written n (Some accounts.now) (records_of text.now).list) result }
 {
     let mut rest = text;
     'records: loop {
-        served.shows_names();
         match next_record(rest) {
             NextRecord::Found(record) => {
-                let answered = answer_record(alloc, accounts, served, record, out, sink);
-                served.shows_names();
-                match answered {
+                match answer_record(alloc, accounts, world, record, out, sink) {
                     Ok(()) => rest = record.rest,
                     Err(fault) => return Err(fault),
                 }
@@ -167,18 +157,19 @@ fn answer_each<A: AtomSource + Drop, C: CodeSource + Drop, W: Sink>(
 fn answer_record<A: AtomSource + Drop, C: CodeSource + Drop, W: Sink>(
     alloc: Global,
     accounts: &[AccountName],
-    served: &mut Served<A, C>,
+    world: &mut World<A, C>,
     found: Record<'_>,
     out: &mut Vec<u8>,
     sink: &mut W,
 ) -> Result<(), ScriptFault>
     requires few { length out.old.items < most_waiting_bytes }
-    ensures state { OnOk result ((f : Reading) → Fits served.new.names f → state_of f served.new ≡ state_by accounts.now (state_of f served.old) (record { name = found.entry.name.now; request = request_of found.entry.request })) }
-    ensures bytes { (f : Reading) → Fits served.new.names f → Passes (W.contents sink.old) (W.contents sink.new) (W.failures sink.old) (W.failures sink.new) out.old.items (told_by accounts.now (state_of f served.old) (record { name = found.entry.name.now; request = request_of found.entry.request })) out.new.items result }
-    ensures before { (f : Reading) → Fits served.new.names f → Fits served.old.names f }
+    requires many { length world.old.0 ≡ length accounts.now }
+    requires distinct { IsTrue (are_distinct accounts.now) }
+    ensures alone { OnOk result ((before : List Asked) → AreAlone accounts.now world.old.0 before → AreAlone accounts.now world.new.0 (before ++ record { name = found.entry.name.now; request = request_of found.entry.request } ∷ [])) }
+    ensures bytes { (before : List Asked) → AreAlone accounts.now world.old.0 before → Passes (W.contents sink.old) (W.contents sink.new) (W.failures sink.old) (W.failures sink.new) out.old.items (written_for accounts.now before (record { name = found.entry.name.now; request = request_of found.entry.request })) out.new.items result }
     ensures few { OnOk result (length out.new.items < most_waiting_bytes) }
 {
-    match put_record(alloc, accounts, served, found, out) {
+    match put_record(alloc, accounts, world, found, out) {
         Ok(()) => match pass_on(sink, out) {
             Ok(()) => Ok(()),
             Err(_) => Err(ScriptFault::Write),

@@ -10,5 +10,4 @@ mod tells;
 mod times;
 
 pub use checks::put_atom_checks;
-pub use seats::next_seat;
 pub use tells::put_times as put_atom_times;

@@ -8,6 +8,6 @@ mod ratios;
 mod tally;
 mod tickets;
 
-pub use atoms::{next_seat, put_atom_times};
+pub use atoms::put_atom_times;
 pub use checks::put_checks;
 pub use tally::put_tally_times;

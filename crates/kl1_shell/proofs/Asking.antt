@@ -1,10 +1,11 @@
 -- What is asked changes nothing.
 use Rattle.std.proofs.Common.{◌≡◌, ℕ, Bool, true, false, if◌then◌else◌, nat_le, ◌&&◌, List, [], ◌∷◌, ◌++◌, Option, Some, None, option_map, is_none, is_some, not, ap, sym, ◌∙◌, refl}
 use Rattle.kl1_model.specs.State.{Origin, Shoen, State, shoen_at}
-use Rattle.kl1_model.specs.Event.{syntax, Query, value, status, reports, modules, is_quiet, read, Reply, Stepped, refuse, is_number}
+use Rattle.kl1_model.specs.Event.{syntax, Query, value, status, reports, modules, is_quiet, read, Reply, refuse, is_number}
 use Rattle.kl1_model.specs.Asking.{answer, value_of, status_of, reports_of, origin_at}
 use Rattle.kl1_model.specs.Choice.{Chosen, first}
-use Rattle.kl1_model.specs.Step.{step}
+use Rattle.kl1_model.specs.TreeLaws.{is_refused}
+use Rattle.kl1_history.specs.Journal.{Journal, Kept, Done, done}
 use Rattle.kl1_shell.specs.declared.ending.Ending.{Ending}
 use Rattle.kl1_shell.specs.Answers.{value_text, value_line, ending_in, ending_of}
 
@@ -31,13 +32,23 @@ asking_stays s (reports n from) = reports_stay s from (is_number n && is_number 
 asking_stays s modules = refl
 asking_stays s is_quiet = refl
 
--- a query that was answered left the account as it was
-pub stays : (s after : State) (q : Query) (reply : Reply) → step s (read q) ≡ record { state = after; reply = reply } → after ≡ s
-stays s after q reply e = sym (ap (λ (d : Stepped). d.state) e) ∙ asking_stays s q
+either_journal : (j : Journal) (c : Bool) → (if c then j else j) ≡ j
+either_journal j true = refl
+either_journal j false = refl
+
+-- nor its journal
+asking_keeps : (k : Kept) (q : Query) → (done k (read q)).kept ≡ k
+asking_keeps k q =
+    ap (λ (s : State). let x : Kept = record { state = s; journal = (done k (read q)).kept.journal } in x) (asking_stays k.state q)
+    ∙ ap (λ (j : Journal). let x : Kept = record { state = k.state; journal = j } in x) (either_journal k.journal (is_refused (answer k.state q).reply))
+
+-- a query that was answered left the account with its journal as it was
+pub stays : (k after : Kept) (q : Query) (reply : Reply) → done k (read q) ≡ record { kept = after; reply = reply } → after ≡ k
+stays k after q reply e = sym (ap (λ (x : Done). x.kept) e) ∙ asking_keeps k q
 
 -- and the answer is that of the account
-pub answered : (s after : State) (q : Query) (reply : Reply) → step s (read q) ≡ record { state = after; reply = reply } → (answer after q).reply ≡ reply
-answered s after q reply e = ap (λ (t : State). (answer t q).reply) (stays s after q reply e) ∙ ap (λ (d : Stepped). d.reply) e
+pub answered : (k after : Kept) (q : Query) (reply : Reply) → done k (read q) ≡ record { kept = after; reply = reply } → (answer after.state q).reply ≡ reply
+answered k after q reply e = ap (λ (x : Kept). (answer x.state q).reply) (stays k after q reply e) ∙ ap (λ (x : Done). x.reply) e
 
 -- the line of the goal, whole or as a reply shows it
 pub line_is : (is_whole : Bool) (s : State) (n : ℕ) (text line : List ℕ) → text ≡ value_text is_whole s n → line ≡ text ++ 10 ∷ [] → line ≡ value_line is_whole s n

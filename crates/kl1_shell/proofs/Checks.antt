@@ -4,8 +4,10 @@ use Rattle.std.proofs.lemmas.Bool.{lt-leb, le-leb}
 use Rattle.kl1_model.specs.Limits.{most_source_bytes}
 use Rattle.kl1_model.specs.Module.{Module, Reading, good, bad, read_module}
 use Rattle.kl1_model.specs.State.{State}
-use Rattle.kl1_model.specs.Event.{Refusal, syntax, load, refuse}
-use Rattle.kl1_model.specs.Step.{load_module, step}
+use Rattle.kl1_model.specs.Event.{Refusal, syntax, load, refused, refuse}
+use Rattle.kl1_model.specs.Step.{load_module}
+use Rattle.kl1_history.specs.Journal.{Kept, kept_after, done}
+use Rattle.kl1_history.specs.Command.{said}
 use Rattle.kl1_shell.specs.Faults.{fault_by, fault_in, told_of}
 
 refused_as : (s : State) (r q : Refusal) → Some q ≡ Some r → refuse s q ≡ refuse s r
@@ -23,9 +25,9 @@ by_length s true m r e = by_reading s m r e
 by_length s false m r e = refused_as s r syntax e
 
 -- each account refuses to load them
-pub loads_refused : (text : List ℕ) (s : State) (r : Refusal) → fault_in text ≡ Some r → step s (load text) ≡ refuse s r
+pub loads_refused : (text : List ℕ) (k : Kept) (r : Refusal) → fault_in text ≡ Some r → done k (load text) ≡ said k (refused r)
 unfolding fault_in
-loads_refused text s r e = by_length s (nat_le (length text) most_source_bytes) (read_module text) r e
+loads_refused text k r e = ap (kept_after k (load text)) (by_length k.state (nat_le (length text) most_source_bytes) (read_module text) r e)
 
 -- a text of too many bytes
 pub too_long : (text : List ℕ) → most_source_bytes < length text → Some syntax ≡ fault_in text

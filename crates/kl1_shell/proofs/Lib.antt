@@ -5,3 +5,4 @@ pub mod StartLaws
 pub mod Pages
 pub mod Writes
 pub mod Checks
+pub mod JournalPages

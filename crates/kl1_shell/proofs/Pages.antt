@@ -10,7 +10,7 @@ use Rattle.kl1_model.specs.Print.{cut_print}
 use Rattle.kl1_model.specs.State.{Origin, State}
 use Rattle.kl1_model.specs.Event.{syntax, reports, refuse, is_number}
 use Rattle.kl1_model.specs.Asking.{answer, reports_of, origin_at, elements_of}
-use Rattle.kl1_model.specs.Command.{written_line, written_lines}
+use Rattle.kl1_history.specs.Command.{written_line, written_lines}
 use Rattle.kl1_shell.specs.Answers.{listed_in, is_exception, reports_by, reports_in, all_reports, report_lines, exception_lines}
 
 false_true : (X : Type 0) → false ≡ true → X
@@ -34,7 +34,7 @@ page_is s n done few =
     page_by (is_number n) (is_number (done + 1)) (nat_le 1 (done + 1)) (origin_at n s.shoens) s (done + 1) (lt-ltb (done + 1) number_limit (omega arith)) (le-leb 1 (done + 1) (omega arith)) ∙ ap (λ k. take most_listed (drop k (reports_in s n))) one
 
 -- the lines of texts, and then of others
-lines_both : (xs ys : List (List ℕ)) → written_lines (xs ++ ys) ≡ written_lines xs ++ written_lines ys
+pub lines_both : (xs ys : List (List ℕ)) → written_lines (xs ++ ys) ≡ written_lines xs ++ written_lines ys
 lines_both [] ys = refl
 lines_both (x ∷ xs) ys = ap (λ z. written_line x ++ z) (lines_both xs ys) ∙ sym (append_assoc (written_line x) (written_lines xs) (written_lines ys))
 

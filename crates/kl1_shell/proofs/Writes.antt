@@ -6,6 +6,7 @@ use Rattle.std.specs.declared.option.Option.{Option}
 use Rattle.std.specs.declared.result.Result.{Result}
 use Rattle.std.specs.Io.KnownBytes.{Appends}
 use Rattle.kl1_model.specs.State.{State}
+use Rattle.kl1_history.specs.Journal.{Kept}
 use Rattle.kl1_lines.specs.Devices.{AppendsFront, KeepsIfKnown}
 use Rattle.kl1_lines.proofs.DeviceLaws.{appends_none, front_behind, front_of_all}
 use Rattle.kl1_shell.specs.declared.answers.Answers.{Answers}
@@ -41,30 +42,30 @@ text_is q a s n t =
     ap (λ x. x ++ (if q.reports then a.reports.items else [])) t.value ∙ ap (λ x. value_line q.whole s n ++ (if q.reports then x else [])) t.reports
 
 -- what is told of a shoen was written, or a write failed
-pub shows : (w : Worked) (q : Wanted) (out out' err err' : Option (List ℕ)) (a : Answers) (s : State) (n : ℕ) (r : Result Ending Stop) → w ≡ worked n s → Tells q s n a → IsToldTo a q out out' err err' r → IsRun w q out out' err err' r s
-shows w q out out' err err' a s n (Ok e) is t h =
+pub shows : (w : Worked) (q : Wanted) (out out' err err' : Option (List ℕ)) (a : Answers) (k : Kept) (n : ℕ) (r : Result Ending Stop) → w ≡ worked n k → Tells q k.state n a → IsToldTo a q out out' err err' r → IsRun w q out out' err err' r k
+shows w q out out' err err' a k n (Ok e) is t h =
     let P : List ℕ → Type 0 = λ x. Appends out out' x in
     let Q : List ℕ → Type 0 = λ x. Appends err err' x in
     record {
       shoen = n;
       works = is;
-      value = subst P (text_is q a s n t) h.0;
+      value = subst P (text_is q a k.state n t) h.0;
       exceptions = subst Q t.exceptions h.1;
       ending = h.2 ∙ t.ending;
     }
-shows w q out out' err err' a s n (Err (stop.Source place r)) is t h = absurd h
-shows w q out out' err err' a s n (Err (stop.Goal r)) is t h = absurd h
-shows w q out out' err err' a s n (Err stop.Memory) is t h = absurd h
-shows w q out out' err err' a s n (Err stop.Write) is t h =
+shows w q out out' err err' a k n (Err (stop.Source place r)) is t h = absurd h
+shows w q out out' err err' a k n (Err (stop.Goal r)) is t h = absurd h
+shows w q out out' err err' a k n (Err stop.Memory) is t h = absurd h
+shows w q out out' err err' a k n (Err stop.Write) is t h =
     let P : List ℕ → Type 0 = λ x. AppendsFront out out' x in
-    record { shoen = n; works = is; front = subst P (text_is q a s n t) h }
+    record { shoen = n; works = is; front = subst P (text_is q a k.state n t) h }
 
 -- the work stopped, and nothing was written
-pub stops : (w : Worked) (q : Wanted) (out err : Option (List ℕ)) (s : State) (e : Stop) → IsWorked w (Err e) s → IsRun w q out out err err (Err e) s
-stops w q out err s (stop.Source place r) h = (h, record { first = refl; second = refl })
-stops w q out err s (stop.Goal r) h = (h, record { first = refl; second = refl })
-stops w q out err s stop.Memory h = record { first = refl; second = refl }
-stops w q out err s stop.Write h = absurd h
+pub stops : (w : Worked) (q : Wanted) (out err : Option (List ℕ)) (k : Kept) (e : Stop) → IsWorked w (Err e) k → IsRun w q out out err err (Err e) k
+stops w q out err k (stop.Source place r) h = (h, record { first = refl; second = refl })
+stops w q out err k (stop.Goal r) h = (h, record { first = refl; second = refl })
+stops w q out err k stop.Memory h = record { first = refl; second = refl }
+stops w q out err k stop.Write h = absurd h
 
 -- bytes that were put in two parts
 pub two_parts : (old a b middle new : List ℕ) → middle ≡ old ++ a → new ≡ middle ++ b → new ≡ old ++ (a ++ b)

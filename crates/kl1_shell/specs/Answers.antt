@@ -8,10 +8,11 @@ use Rattle.kl1_model.specs.declared.condition.Condition.TheVariants.{Terminated,
 use Rattle.kl1_model.specs.Limits.{most_reports}
 use Rattle.kl1_model.specs.Print.{cut_print}
 use Rattle.kl1_model.specs.State.{Origin, State}
-use Rattle.kl1_model.specs.Event.{value, status, is_number, Reply, loaded, opened, sent, reduced, ran, shown, status_is, listed, quiet_is, refused}
+use Rattle.kl1_model.specs.Event.{value, status, is_number, Reply, loaded, opened, sent, reduced, ran, shown, status_is, listed, quiet_is, welcome, bye, was_reset, refused}
 use Rattle.kl1_model.specs.Asking.{answer, origin_at, elements_of}
 use Rattle.kl1_model.specs.Choice.{first}
-use Rattle.kl1_model.specs.Command.{written_line, written_lines}
+use Rattle.kl1_history.specs.Journal.{Kept}
+use Rattle.kl1_history.specs.Command.{written_line, written_lines}
 use Rattle.kl1_event.specs.Views.{refusal_of}
 use Rattle.kl1_event.specs.Whole.{whole_value}
 use Rattle.kl1_lines.specs.Devices.{AppendsFront}
@@ -34,6 +35,9 @@ shown_in (ran n) = []
 shown_in (status_is c charged allowance alive) = []
 shown_in (listed texts) = []
 shown_in (quiet_is b) = []
+shown_in (welcome name) = []
+shown_in bye = []
+shown_in was_reset = []
 shown_in (refused r) = []
 
 -- the texts that a reply lists
@@ -47,6 +51,9 @@ listed_in (ran n) = []
 listed_in (shown text) = []
 listed_in (status_is c charged allowance alive) = []
 listed_in (quiet_is b) = []
+listed_in (welcome name) = []
+listed_in bye = []
+listed_in was_reset = []
 listed_in (refused r) = []
 
 -- a shoen's goal as it was started, with what is bound now, as a reply shows it
@@ -118,6 +125,9 @@ ending_in is_quiet raised (ran n) = ending.Unfinished
 ending_in is_quiet raised (shown text) = ending.Unfinished
 ending_in is_quiet raised (listed texts) = ending.Unfinished
 ending_in is_quiet raised (quiet_is b) = ending.Unfinished
+ending_in is_quiet raised (welcome name) = ending.Unfinished
+ending_in is_quiet raised bye = ending.Unfinished
+ending_in is_quiet raised was_reset = ending.Unfinished
 ending_in is_quiet raised (refused r) = ending.Unfinished
 
 -- how a shoen stands
@@ -136,18 +146,18 @@ abbrev pub out_text : Wanted → State → ℕ → List ℕ
 out_text wanted s n = value_line wanted.whole s n ++ (if wanted.reports then report_lines s n else [])
 
 -- the shoen's run is over, and what is told of it was written to two streams, and nothing else
-pub record Shows (w : Worked) (wanted : Wanted) (out out' err err' : Option (List ℕ)) (e : Ending) (s : State) : Type 0 where
+pub record Shows (w : Worked) (wanted : Wanted) (out out' err err' : Option (List ℕ)) (e : Ending) (k : Kept) : Type 0 where
   pub shoen : ℕ
-  pub works : w ≡ worked shoen s
-  pub value : Appends out out' (out_text wanted s shoen)
-  pub exceptions : Appends err err' (exception_lines s shoen)
-  pub ending : e ≡ ending_of s shoen (is_some_byte (exception_lines s shoen))
+  pub works : w ≡ worked shoen k
+  pub value : Appends out out' (out_text wanted k.state shoen)
+  pub exceptions : Appends err err' (exception_lines k.state shoen)
+  pub ending : e ≡ ending_of k.state shoen (is_some_byte (exception_lines k.state shoen))
 
 -- the shoen's run is over, and a write failed: of what was to be written first, the bytes up to some place were
-pub record Breaks (w : Worked) (wanted : Wanted) (out out' : Option (List ℕ)) (s : State) : Type 0 where
+pub record Breaks (w : Worked) (wanted : Wanted) (out out' : Option (List ℕ)) (k : Kept) : Type 0 where
   pub shoen : ℕ
-  pub works : w ≡ worked shoen s
-  pub front : AppendsFront out out' (out_text wanted s shoen)
+  pub works : w ≡ worked shoen k
+  pub front : AppendsFront out out' (out_text wanted k.state shoen)
 
 -- how the answers of a shoen were written to two streams: all of them; or a write failed
 abbrev pub IsToldTo : Answers → Wanted → Option (List ℕ) → Option (List ℕ) → Option (List ℕ) → Option (List ℕ) → Result Ending Stop → Type 0
@@ -163,9 +173,9 @@ pub record WritesNone (out out' err err' : Option (List ℕ)) : Type 0 where
   pub second : err' ≡ err
 
 -- what was written, by how the work ended
-abbrev pub IsRun : Worked → Wanted → Option (List ℕ) → Option (List ℕ) → Option (List ℕ) → Option (List ℕ) → Result Ending Stop → State → Type 0
-IsRun w wanted out out' err err' (Ok e) s = Shows w wanted out out' err err' e s
-IsRun w wanted out out' err err' (Err (stop.Source place r)) s = (w ≡ source_refused place (refusal_of r) s) × WritesNone out out' err err'
-IsRun w wanted out out' err err' (Err (stop.Goal r)) s = (w ≡ goal_refused (refusal_of r) s) × WritesNone out out' err err'
-IsRun w wanted out out' err err' (Err stop.Memory) s = WritesNone out out' err err'
-IsRun w wanted out out' err err' (Err stop.Write) s = Breaks w wanted out out' s
+abbrev pub IsRun : Worked → Wanted → Option (List ℕ) → Option (List ℕ) → Option (List ℕ) → Option (List ℕ) → Result Ending Stop → Kept → Type 0
+IsRun w wanted out out' err err' (Ok e) k = Shows w wanted out out' err err' e k
+IsRun w wanted out out' err err' (Err (stop.Source place r)) k = (w ≡ source_refused place (refusal_of r) k) × WritesNone out out' err err'
+IsRun w wanted out out' err err' (Err (stop.Goal r)) k = (w ≡ goal_refused (refusal_of r) k) × WritesNone out out' err err'
+IsRun w wanted out out' err err' (Err stop.Memory) k = WritesNone out out' err err'
+IsRun w wanted out out' err err' (Err stop.Write) k = Breaks w wanted out out' k

@@ -42,15 +42,19 @@ fn shown_in(alloc: Global, reply: Reply) -> Vec<u8>
         Reply::Status { .. } => Vec::new(alloc),
         Reply::Listed(_texts) => Vec::new(alloc),
         Reply::Quiet(_is_quiet) => Vec::new(alloc),
+        Reply::Welcome(_name) => Vec::new(alloc),
+        Reply::Bye => Vec::new(alloc),
+        Reply::Reset => Vec::new(alloc),
         Reply::Refused(_refusal) => Vec::new(alloc),
     }
 }
 
 /// A shoen's goal as started, with what is bound now, as a reply shows it.
 fn shown_text<H: Host>(alloc: Global, host: &mut H, shoen: ShoenNo) -> Result<Vec<u8>, AllocError>
-    ensures text { IfOk result (λ text. (f : H.Reading) → H.fits host.new f → text.items ≡ shown_text (H.state f host.new) shoen.0) }
-    ensures same { (f : H.Reading) → H.fits host.new f → H.state f host.new ≡ H.state f host.old }
+    ensures text { IfOk result (λ text. (f : H.Reading) → H.fits host.new f → text.items ≡ shown_text (H.kept f host.new).state shoen.0) }
+    ensures same { (f : H.Reading) → H.fits host.new f → H.kept f host.new ≡ H.kept f host.old }
     ensures before { (f : H.Reading) → H.fits host.new f → H.fits host.old f }
+    ensures beside { H.beside host.new ≡ H.beside host.old }
 {
     let reply = ask(host, Query::Value(shoen))?;
     Ok(shown_in(alloc, reply))
@@ -63,9 +67,10 @@ fn value_text<H: Host>(
     shoen: ShoenNo,
     is_whole: bool,
 ) -> Result<Vec<u8>, AllocError>
-    ensures text { IfOk result (λ text. (f : H.Reading) → H.fits host.new f → text.items ≡ value_text is_whole (H.state f host.new) shoen.0) }
-    ensures same { (f : H.Reading) → H.fits host.new f → H.state f host.new ≡ H.state f host.old }
+    ensures text { IfOk result (λ text. (f : H.Reading) → H.fits host.new f → text.items ≡ value_text is_whole (H.kept f host.new).state shoen.0) }
+    ensures same { (f : H.Reading) → H.fits host.new f → H.kept f host.new ≡ H.kept f host.old }
     ensures before { (f : H.Reading) → H.fits host.new f → H.fits host.old f }
+    ensures beside { H.beside host.new ≡ H.beside host.old }
 {
     if !is_whole {
         return shown_text(alloc, host, shoen);
@@ -83,9 +88,10 @@ fn value_line<H: Host>(
     shoen: ShoenNo,
     is_whole: bool,
 ) -> Result<Vec<u8>, AllocError>
-    ensures value { IfOk result (λ line. (f : H.Reading) → H.fits host.new f → line.items ≡ value_line is_whole (H.state f host.new) shoen.0) }
-    ensures same { (f : H.Reading) → H.fits host.new f → H.state f host.new ≡ H.state f host.old }
+    ensures value { IfOk result (λ line. (f : H.Reading) → H.fits host.new f → line.items ≡ value_line is_whole (H.kept f host.new).state shoen.0) }
+    ensures same { (f : H.Reading) → H.fits host.new f → H.kept f host.new ≡ H.kept f host.old }
     ensures before { (f : H.Reading) → H.fits host.new f → H.fits host.old f }
+    ensures beside { H.beside host.new ≡ H.beside host.old }
 {
     let mut line = value_text(alloc, host, shoen, is_whole)?;
     line.push(b'\n')?;
@@ -133,15 +139,19 @@ fn ending_in(is_quiet: bool, raised: bool, reply: &Reply) -> Ending
         Reply::Shown(_text) => Ending::Unfinished,
         Reply::Listed(_texts) => Ending::Unfinished,
         Reply::Quiet(_is_quiet) => Ending::Unfinished,
+        Reply::Welcome(_name) => Ending::Unfinished,
+        Reply::Bye => Ending::Unfinished,
+        Reply::Reset => Ending::Unfinished,
         Reply::Refused(_refusal) => Ending::Unfinished,
     }
 }
 
 /// How a shoen stands, by whether there were exceptions.
 fn ending_of<H: Host>(host: &mut H, shoen: ShoenNo, raised: bool) -> Result<Ending, AllocError>
-    ensures ending { IfOk result (λ ending. (f : H.Reading) → H.fits host.new f → ending ≡ ending_of (H.state f host.new) shoen.0 raised) }
-    ensures same { (f : H.Reading) → H.fits host.new f → H.state f host.new ≡ H.state f host.old }
+    ensures ending { IfOk result (λ ending. (f : H.Reading) → H.fits host.new f → ending ≡ ending_of (H.kept f host.new).state shoen.0 raised) }
+    ensures same { (f : H.Reading) → H.fits host.new f → H.kept f host.new ≡ H.kept f host.old }
     ensures before { (f : H.Reading) → H.fits host.new f → H.fits host.old f }
+    ensures beside { H.beside host.new ≡ H.beside host.old }
 {
     let reply = ask(host, Query::Status(shoen))?;
     let is_quiet = host.pick().is_none();
@@ -155,9 +165,10 @@ pub fn answers_of<H: Host>(
     shoen: ShoenNo,
     wanted: Wanted,
 ) -> Result<Answers, AllocError>
-    ensures tells { IfOk result (λ answers. (f : H.Reading) → H.fits host.new f → Tells wanted (H.state f host.new) shoen.0 answers) }
-    ensures same { (f : H.Reading) → H.fits host.new f → H.state f host.new ≡ H.state f host.old }
+    ensures tells { IfOk result (λ answers. (f : H.Reading) → H.fits host.new f → Tells wanted (H.kept f host.new).state shoen.0 answers) }
+    ensures same { (f : H.Reading) → H.fits host.new f → H.kept f host.new ≡ H.kept f host.old }
     ensures before { (f : H.Reading) → H.fits host.new f → H.fits host.old f }
+    ensures beside { H.beside host.new ≡ H.beside host.old }
 {
     let value = value_line(alloc, host, shoen, wanted.whole)?;
     let Reported {

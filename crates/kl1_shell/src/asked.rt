@@ -10,9 +10,10 @@ use std::alloc::AllocError;
 
 /// What is answered to a query, which changes nothing.
 pub(crate) fn ask<H: Host>(host: &mut H, query: Query) -> Result<Reply, AllocError>
-    ensures reply { IfOk result (λ reply. (f : H.Reading) → H.fits host.new f → (answer (H.state f host.new) (query_of query)).reply ≡ reply_of reply) }
-    ensures same { (f : H.Reading) → H.fits host.new f → H.state f host.new ≡ H.state f host.old }
+    ensures reply { IfOk result (λ reply. (f : H.Reading) → H.fits host.new f → (answer (H.kept f host.new).state (query_of query)).reply ≡ reply_of reply) }
+    ensures same { (f : H.Reading) → H.fits host.new f → H.kept f host.new ≡ H.kept f host.old }
     ensures before { (f : H.Reading) → H.fits host.new f → H.fits host.old f }
+    ensures beside { H.beside host.new ≡ H.beside host.old }
 {
     match host.apply(&Event::Read(query)) {
         Ok(reply) => Ok(reply),

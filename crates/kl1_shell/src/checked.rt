@@ -1,9 +1,9 @@
 // Sources by themselves: which of them are no modules.
 
 ghost use Rattle.std.specs.Prelude.{◌≡◌, ◌++◌, Some, option_map, IfOk, OnOk};
-ghost use Rattle.kl1_model.specs.State.{State};
 ghost use Rattle.kl1_model.specs.Event as model;
-ghost use Rattle.kl1_model.specs.Step.{step};
+ghost use Rattle.kl1_history.specs.Journal.{Kept, done};
+ghost use Rattle.kl1_history.specs.Command.{said};
 ghost use Rattle.kl1_event.specs.Views.{refusal_of};
 ghost use Rattle.kl1_shell.specs.Faults.{fault_in, checked};
 
@@ -17,7 +17,7 @@ use std::alloc::{AllocError, Global};
 /// Why a text by itself is no module: each account refuses to load it for this reason.
 pub fn fault_in(alloc: Global, text: &[u8]) -> Result<Option<Refusal>, AllocError>
     ensures fault { IfOk result (λ refusal. option_map refusal_of refusal ≡ fault_in text.now) }
-    ensures loads { (s : State) (r : model.Refusal) → fault_in text.now ≡ Some r → step s (model.load text.now) ≡ model.refuse s r }
+    ensures loads { (k : Kept) (r : model.Refusal) → fault_in text.now ≡ Some r → done k (model.load text.now) ≡ said k (model.refused r) }
 {
     if text.len() > MOST_SOURCE_BYTES {
         return Ok(Some(Refusal::Syntax));

@@ -22,6 +22,7 @@ fn line_of(refusal: Refusal) -> u64
         Refusal::Names => 1,
         Refusal::Limit => 1,
         Refusal::Journal => 1,
+        Refusal::Sessions => 1,
     }
 }
 
@@ -39,6 +40,7 @@ pub fn words_of(refusal: Refusal) -> &'static [u8]
         Refusal::Names => b"too many names",
         Refusal::Limit => b"a limit would be passed",
         Refusal::Journal => b"the journal is full",
+        Refusal::Sessions => b"no session more or fewer",
     }
 }
 

@@ -2,7 +2,7 @@
 
 ghost use Rattle.std.specs.Prelude.{◌≡◌, option_map, IfOk};
 ghost use Rattle.kl1_model.specs.Event as model;
-ghost use Rattle.kl1_model.specs.Step.{step};
+ghost use Rattle.kl1_history.specs.Journal.{done};
 ghost use Rattle.kl1_event.specs.Views.{refusal_of, reply_of};
 ghost use Rattle.kl1_command.specs.Performing.{refusal_in};
 ghost use Rattle.kl1_shell.specs.Works.{texts_of, loaded_from, IsLoaded};
@@ -28,14 +28,18 @@ pub(crate) fn refusal_in(reply: &Reply) -> Option<Refusal>
         Reply::Status { .. } => None,
         Reply::Listed(_texts) => None,
         Reply::Quiet(_is_quiet) => None,
+        Reply::Welcome(_name) => None,
+        Reply::Bye => None,
+        Reply::Reset => None,
     }
 }
 
 /// Loads a source, or answers why it is refused.
 fn load<H: Host>(alloc: Global, host: &mut H, text: &[u8]) -> Result<Option<Refusal>, AllocError>
-    ensures state { IfOk result (λ refused. (f : H.Reading) → H.fits host.new f → (step (H.state f host.old) (model.load text.now)).state ≡ H.state f host.new) }
-    ensures refused { IfOk result (λ refused. (f : H.Reading) → H.fits host.new f → refusal_in (step (H.state f host.old) (model.load text.now)).reply ≡ option_map refusal_of refused) }
+    ensures kept { IfOk result (λ refused. (f : H.Reading) → H.fits host.new f → (done (H.kept f host.old) (model.load text.now)).kept ≡ H.kept f host.new) }
+    ensures refused { IfOk result (λ refused. (f : H.Reading) → H.fits host.new f → refusal_in (done (H.kept f host.old) (model.load text.now)).reply ≡ option_map refusal_of refused) }
     ensures before { (f : H.Reading) → H.fits host.new f → H.fits host.old f }
+    ensures beside { H.beside host.new ≡ H.beside host.old }
 {
     let source = Vec::from_slice(alloc, text)?;
     match host.apply(&Event::Load { source }) {
@@ -50,8 +54,9 @@ pub(crate) fn load_each<H: Host>(
     host: &mut H,
     files: &[SourceFile],
 ) -> Result<(), Stop>
-    ensures does { (f : H.Reading) → H.fits host.new f → IsLoaded (loaded_from 0 (H.state f host.old) (texts_of files.now)) result (H.state f host.new) }
+    ensures does { (f : H.Reading) → H.fits host.new f → IsLoaded (loaded_from 0 (H.kept f host.old) (texts_of files.now)) result (H.kept f host.new) }
     ensures before { (f : H.Reading) → H.fits host.new f → H.fits host.old f }
+    ensures beside { H.beside host.new ≡ H.beside host.old }
 {
     let mut place = 0;
     let mut rest = files;

@@ -1,7 +1,7 @@
 // The reports of a shoen, and the exceptions among them.
 
 ghost use Rattle.std.specs.Prelude.{◌≡◌, ◌++◌, ◌<◌, ◌*◌, [], length, map, take, drop, filter, IfOk, OnOk};
-ghost use Rattle.kl1_model.specs.Command.{written_line, written_lines};
+ghost use Rattle.kl1_history.specs.Command.{written_line, written_lines};
 ghost use Rattle.kl1_model.specs.Limits.{most_listed};
 ghost use Rattle.kl1_event.specs.Views.{reply_of};
 ghost use Rattle.kl1_shell.specs.Answers.{listed_in, is_exception, reports_in, report_lines, exception_lines};
@@ -12,7 +12,7 @@ use kl1_event::{Listed, Query, Reply, ShoenNo};
 use std::alloc::{AllocError, Global};
 
 /// The reports that one reply lists.
-const PAGE: u64 = 64;
+pub(crate) const PAGE: u64 = 64;
 
 /// The most replies that list the reports of an account.
 const MOST_PAGES: u64 = 1_024;
@@ -38,6 +38,9 @@ fn listed_in(alloc: Global, reply: Reply) -> Listed
         Reply::Shown(_text) => Listed::new(alloc),
         Reply::Status { .. } => Listed::new(alloc),
         Reply::Quiet(_is_quiet) => Listed::new(alloc),
+        Reply::Welcome(_name) => Listed::new(alloc),
+        Reply::Bye => Listed::new(alloc),
+        Reply::Reset => Listed::new(alloc),
         Reply::Refused(_refusal) => Listed::new(alloc),
     }
 }
@@ -50,7 +53,7 @@ fn is_exception(report: &[u8]) -> bool
 }
 
 /// Puts a line after the bytes. After an `Err` some of it may be there.
-fn put_line(out: &mut Vec<u8>, line: &[u8]) -> Result<(), AllocError>
+pub(crate) fn put_line(out: &mut Vec<u8>, line: &[u8]) -> Result<(), AllocError>
     ensures { OnOk result (out.new.items ≡ out.old.items ++ written_line line.now) }
 {
     out.extend_from_slice(line)?;
@@ -81,9 +84,10 @@ fn page_from<H: Host>(
     done: u64,
 ) -> Result<Listed, AllocError>
     requires few { done < 65536 }
-    ensures page { IfOk result (λ page. (f : H.Reading) → H.fits host.new f → page ≡ take most_listed (drop done (reports_in (H.state f host.new) shoen.0))) }
-    ensures same { (f : H.Reading) → H.fits host.new f → H.state f host.new ≡ H.state f host.old }
+    ensures page { IfOk result (λ page. (f : H.Reading) → H.fits host.new f → page ≡ take most_listed (drop done (reports_in (H.kept f host.new).state shoen.0))) }
+    ensures same { (f : H.Reading) → H.fits host.new f → H.kept f host.new ≡ H.kept f host.old }
     ensures before { (f : H.Reading) → H.fits host.new f → H.fits host.old f }
+    ensures beside { H.beside host.new ≡ H.beside host.old }
 {
     let from = done + 1;
     let reply = ask(host, Query::Reports { shoen, from })?;
@@ -96,10 +100,11 @@ pub(crate) fn reported_by<H: Host>(
     host: &mut H,
     shoen: ShoenNo,
 ) -> Result<Reported, AllocError>
-    ensures reports { IfOk result (λ reported. (f : H.Reading) → H.fits host.new f → reported.reports.items ≡ report_lines (H.state f host.new) shoen.0) }
-    ensures exceptions { IfOk result (λ reported. (f : H.Reading) → H.fits host.new f → reported.exceptions.items ≡ exception_lines (H.state f host.new) shoen.0) }
-    ensures same { (f : H.Reading) → H.fits host.new f → H.state f host.new ≡ H.state f host.old }
+    ensures reports { IfOk result (λ reported. (f : H.Reading) → H.fits host.new f → reported.reports.items ≡ report_lines (H.kept f host.new).state shoen.0) }
+    ensures exceptions { IfOk result (λ reported. (f : H.Reading) → H.fits host.new f → reported.exceptions.items ≡ exception_lines (H.kept f host.new).state shoen.0) }
+    ensures same { (f : H.Reading) → H.fits host.new f → H.kept f host.new ≡ H.kept f host.old }
     ensures before { (f : H.Reading) → H.fits host.new f → H.fits host.old f }
+    ensures beside { H.beside host.new ≡ H.beside host.old }
 {
     let mut reported = Reported {
         reports: Vec::new(alloc),

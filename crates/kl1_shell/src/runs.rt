@@ -1,7 +1,7 @@
 // A run in slices, which is told as it goes on.
 
 ghost use Rattle.std.specs.Prelude.{◌≡◌, OnOk};
-ghost use Rattle.kl1_model.specs.Command.{run_from};
+ghost use Rattle.kl1_history.specs.Command.{run_from};
 
 use crate::asked::ask;
 use crate::watch::Watch;
@@ -14,8 +14,9 @@ const SLICE: u64 = 4_096;
 
 /// Does first steps, at most so many. After an `Err` some of them may be done.
 fn run_slice<H: Host>(host: &mut H, steps: u64) -> Result<(), AllocError>
-    ensures does { OnOk result ((f : H.Reading) → H.fits host.new f → (run_from steps 0 (H.state f host.old)).state ≡ H.state f host.new) }
+    ensures does { OnOk result ((f : H.Reading) → H.fits host.new f → (run_from steps 0 (H.kept f host.old)).kept ≡ H.kept f host.new) }
     ensures before { (f : H.Reading) → H.fits host.new f → H.fits host.old f }
+    ensures beside { H.beside host.new ≡ H.beside host.old }
 {
     match perform(host, &Command::Run(steps)) {
         Performed::Whole(_reply) => Ok(()),
@@ -30,8 +31,9 @@ fn tell_progress<H: Host, T: Watch>(
     shoen: ShoenNo,
     watch: &mut T,
 ) -> Result<(), AllocError>
-    ensures same { OnOk result ((f : H.Reading) → H.fits host.new f → H.state f host.new ≡ H.state f host.old) }
+    ensures same { OnOk result ((f : H.Reading) → H.fits host.new f → H.kept f host.new ≡ H.kept f host.old) }
     ensures before { (f : H.Reading) → H.fits host.new f → H.fits host.old f }
+    ensures beside { H.beside host.new ≡ H.beside host.old }
 {
     if !watch.is_due() {
         return Ok(());
@@ -50,8 +52,9 @@ pub(crate) fn run_watched<H: Host, T: Watch>(
     steps: u64,
     watch: &mut T,
 ) -> Result<(), AllocError>
-    ensures does { OnOk result ((f : H.Reading) → H.fits host.new f → (run_from steps 0 (H.state f host.old)).state ≡ H.state f host.new) }
+    ensures does { OnOk result ((f : H.Reading) → H.fits host.new f → (run_from steps 0 (H.kept f host.old)).kept ≡ H.kept f host.new) }
     ensures before { (f : H.Reading) → H.fits host.new f → H.fits host.old f }
+    ensures beside { H.beside host.new ≡ H.beside host.old }
 {
     let mut left = steps;
     while 0 < left {

@@ -39,8 +39,9 @@ pub fn run<H: Host, T: Watch, W: Sink, E: Sink>(
     out: &mut W,
     err: &mut E,
 ) -> Result<Ending, Stop>
-    ensures does { (f : H.Reading) → H.fits host.new f → IsRun (worked_of (H.state f host.old) (texts_of work.files.items) work.goal work.allowance work.steps) wanted (W.contents out.old) (W.contents out.new) (E.contents err.old) (E.contents err.new) result (H.state f host.new) }
+    ensures does { (f : H.Reading) → H.fits host.new f → IsRun (worked_of (H.kept f host.old) (texts_of work.files.items) work.goal work.allowance work.steps) wanted (W.contents out.old) (W.contents out.new) (E.contents err.old) (E.contents err.new) result (H.kept f host.new) }
     ensures before { (f : H.Reading) → H.fits host.new f → H.fits host.old f }
+    ensures beside { H.beside host.new ≡ H.beside host.old }
 {
     match do_work(alloc, host, work, watch) {
         Ok(shoen) => match answers_of(alloc, host, shoen, wanted) {

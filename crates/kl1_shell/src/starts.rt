@@ -3,7 +3,7 @@
 ghost use Rattle.std.specs.Prelude.{◌≡◌, option_map};
 ghost use Rattle.kl1_model.specs.Limits.{most_priority};
 ghost use Rattle.kl1_model.specs.Event as model;
-ghost use Rattle.kl1_model.specs.Step.{step};
+ghost use Rattle.kl1_history.specs.Journal.{done};
 ghost use Rattle.kl1_event.specs.Views.{reply_of};
 ghost use Rattle.kl1_shell.specs.Works.{opened_in, IsStarted};
 
@@ -28,14 +28,18 @@ fn opened_in(reply: &Reply) -> Option<ShoenNo>
         Reply::Status { .. } => None,
         Reply::Listed(_texts) => None,
         Reply::Quiet(_is_quiet) => None,
+        Reply::Welcome(_name) => None,
+        Reply::Bye => None,
+        Reply::Reset => None,
         Reply::Refused(_refusal) => None,
     }
 }
 
 /// Starts a goal with an allowance and all priorities, and answers the number of its shoen.
 pub(crate) fn start<H: Host>(host: &mut H, goal: Term, allowance: u64) -> Result<ShoenNo, Stop>
-    ensures does { (f : H.Reading) → H.fits host.new f → IsStarted (step (H.state f host.old) (model.start allowance 0 most_priority goal)) result (H.state f host.new) }
+    ensures does { (f : H.Reading) → H.fits host.new f → IsStarted (done (H.kept f host.old) (model.start allowance 0 most_priority goal)) result (H.kept f host.new) }
     ensures before { (f : H.Reading) → H.fits host.new f → H.fits host.old f }
+    ensures beside { H.beside host.new ≡ H.beside host.old }
 {
     let event = Event::Start {
         allowance,

@@ -1,8 +1,9 @@
 // The work: sources, a goal, and its run.
 
+ghost use Rattle.std.specs.Prelude.{◌≡◌};
 ghost use Rattle.kl1_model.specs.Limits.{most_priority};
 ghost use Rattle.kl1_model.specs.Event as model;
-ghost use Rattle.kl1_model.specs.Step.{step};
+ghost use Rattle.kl1_history.specs.Journal.{done};
 ghost use Rattle.kl1_shell.specs.Works.{texts_of, started, worked_of, IsWorked};
 
 use crate::loads::load_each;
@@ -37,8 +38,9 @@ pub fn do_work<H: Host, T: Watch>(
     work: Work,
     watch: &mut T,
 ) -> Result<ShoenNo, Stop>
-    ensures does { (f : H.Reading) → H.fits host.new f → IsWorked (worked_of (H.state f host.old) (texts_of work.files.items) work.goal work.allowance work.steps) result (H.state f host.new) }
+    ensures does { (f : H.Reading) → H.fits host.new f → IsWorked (worked_of (H.kept f host.old) (texts_of work.files.items) work.goal work.allowance work.steps) result (H.kept f host.new) }
     ensures before { (f : H.Reading) → H.fits host.new f → H.fits host.old f }
+    ensures beside { H.beside host.new ≡ H.beside host.old }
 {
     let Work {
         files,
@@ -60,8 +62,9 @@ fn start_and_run<H: Host, T: Watch>(
     steps: u64,
     watch: &mut T,
 ) -> Result<ShoenNo, Stop>
-    ensures does { (f : H.Reading) → H.fits host.new f → IsWorked (started steps (step (H.state f host.old) (model.start allowance 0 most_priority goal))) result (H.state f host.new) }
+    ensures does { (f : H.Reading) → H.fits host.new f → IsWorked (started steps (done (H.kept f host.old) (model.start allowance 0 most_priority goal))) result (H.kept f host.new) }
     ensures before { (f : H.Reading) → H.fits host.new f → H.fits host.old f }
+    ensures beside { H.beside host.new ≡ H.beside host.old }
 {
     match start(host, goal, allowance) {
         Ok(shoen) => match run_watched(host, shoen, steps, watch) {

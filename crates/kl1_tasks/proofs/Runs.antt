@@ -1,24 +1,41 @@
 -- Runs from an account in which nothing has happened.
-use Rattle.std.proofs.Common.{◌≡◌, ℕ, List, Option, Err, refl, subst}
+use Rattle.std.proofs.Common.{◌≡◌, ℕ, ◌<◌, List, [], length, get_or, Err, ap, sym, ◌∙◌, refl, subst, arith}
+use Rattle.std.specs.Prelude.{None, Some, slice_set}
+use Rattle.std.specs.declared.option.Option.{Option}
 use Rattle.std.specs.declared.result.Result.{Result}
+use Rattle.std.proofs.lemmas.List.{append-nil}
 use Rattle.kl1_model.specs.Term.{Term}
-use Rattle.kl1_model.specs.State.{State, fresh}
+use Rattle.kl1_history.specs.Journal.{Kept, fresh_kept}
+use Rattle.kl1_history.specs.JournalText.{journal_lines}
+use Rattle.kl1_history.specs.Command.{written_lines}
+use Rattle.kl1_lines.specs.Devices.{GrowsIfKnown, AppendsFront}
 use Rattle.kl1_shell.specs.declared.ending.Ending.{Ending}
 use Rattle.kl1_shell.specs.declared.stop.Stop.{Stop}
 use Rattle.kl1_shell.specs.declared.stop.Stop.TheVariants as stop
 use Rattle.kl1_shell.specs.declared.wanted.Wanted.{Wanted}
 use Rattle.kl1_shell.specs.Works.{worked_of}
 use Rattle.kl1_shell.specs.Answers.{IsRun}
-use Rattle.kl1_tasks.specs.Alone.{account_name, RunsAlone}
+use Rattle.kl1_tasks.specs.declared.alone.Outcome.{Outcome}
+use Rattle.kl1_tasks.specs.Alone.{account_name, IsTold, RunsAlone}
 
--- a run from a state that is the fresh account's
-pub runs_alone : (s after : State) (texts : List (List ℕ)) (goal : Term) (allowance steps : ℕ) (q : Wanted) (out out' err err' : Option (List ℕ)) (r : Result Ending Stop) →
-    s ≡ fresh account_name → IsRun (worked_of s texts goal allowance steps) q out out' err err' r after → RunsAlone texts goal allowance steps q out out' err err' r
-runs_alone s after texts goal allowance steps q out out' err err' r e is =
-    let P : State → Type 0 = λ from. IsRun (worked_of from texts goal allowance steps) q out out' err err' r after in
-    record { after = after; runs = subst P e is }
+-- a run from an account that is the fresh one
+pub runs_alone : (k after : Kept) (texts : List (List ℕ)) (goal : Term) (allowance steps : ℕ) (q : Wanted) (out out' err err' book book' : Option (List ℕ)) (r : Result Ending Stop) (told : Result (Unit {0}) Stop) →
+    k ≡ fresh_kept account_name → IsRun (worked_of k texts goal allowance steps) q out out' err err' r after → IsTold after.journal book book' told → RunsAlone texts goal allowance steps q out out' err err' book book' (record { ending = r; journal = told })
+runs_alone k after texts goal allowance steps q out out' err err' book book' r told e is journal =
+    let P : Kept → Type 0 = λ from. IsRun (worked_of from texts goal allowance steps) q out out' err err' r after in
+    record { after = after; runs = subst P e is; journal = journal }
+
+grows_none : (a : Option (List ℕ)) → GrowsIfKnown a a []
+grows_none None = tt
+grows_none (Some xs) = sym (append-nil xs)
 
 -- memory was refused before anything was done
-pub refused_alone : (texts : List (List ℕ)) (goal : Term) (allowance steps : ℕ) (q : Wanted) (out err : Option (List ℕ)) →
-    RunsAlone texts goal allowance steps q out out err err (Err stop.Memory)
-refused_alone texts goal allowance steps q out err = record { after = fresh account_name; runs = record { first = refl; second = refl } }
+pub refused_alone : (texts : List (List ℕ)) (goal : Term) (allowance steps : ℕ) (q : Wanted) (out err book : Option (List ℕ)) (outcome : Outcome) →
+    outcome ≡ record { ending = Err stop.Memory; journal = Err stop.Memory } → RunsAlone texts goal allowance steps q out out err err book book outcome
+refused_alone texts goal allowance steps q out err book outcome e =
+    let P : Outcome → Type 0 = λ x. RunsAlone texts goal allowance steps q out out err err book book x in
+    subst P (sym e) (record {
+      after = fresh_kept account_name;
+      runs = record { first = refl; second = refl };
+      journal = record { count = 0; grows = grows_none book };
+    })

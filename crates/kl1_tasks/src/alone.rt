@@ -1,47 +1,86 @@
 // The account on which the work is done.
 
+ghost use Rattle.std.specs.Prelude.{◌≡◌, Err, option_and_then};
+ghost use Rattle.kl1_shell.specs.declared.stop.Stop.TheVariants as stop;
 ghost use Rattle.kl1_shell.specs.Works.{texts_of};
-ghost use Rattle.kl1_tasks.specs.Alone.{RunsAlone};
+ghost use Rattle.kl1_tasks.specs.Alone.{IsTold, RunsAlone};
 
 use kl1_atoms::{AtomTable, SharedAtoms};
 use kl1_codes::PlainCodes;
-use kl1_script::Served;
-use kl1_shell::{Ending, Sink, Stop, Wanted, Watch, Work, run};
-use kl1_user::AccountName;
+use kl1_shell::{Ending, Host, Sink, Stop, Wanted, Watch, Work, put_journal, run};
+use kl1_world::{AccountName, World};
 use std::alloc::Global;
 
-/// Does the work on an account of its own, and writes what is told of the goal's shoen.
+/// How work on an account of its own ended.
+#[derive(Drop)]
+pub struct Outcome {
+    /// How the goal's shoen stands, or why the work was not done to its end.
+    pub ending: Result<Ending, Stop>,
+    /// Why the journal was not written to its end, if it was not.
+    pub journal: Result<(), Stop>,
+}
+
+/// Writes the journal of the host's account to the stream, if there is one.
+fn write_journal<H: Host, J: Sink>(
+    alloc: Global,
+    host: &H,
+    journal: &mut Option<J>,
+) -> Result<(), Stop>
+    ensures { (f : H.Reading) → H.fits host.now f → IsTold (H.kept f host.now).journal (option_and_then J.contents journal.old) (option_and_then J.contents journal.new) result }
+{
+    match journal {
+        Some(sink) => put_journal(alloc, host, sink),
+        None => Ok(()),
+    }
+}
+
+/// Does the work on an account of its own, and writes what is told of the goal's shoen, and the journal to its stream, if there is
+/// one.
 #[tactic(auto, using(crate::proofs::Runs::refused_alone))]
-pub fn run_alone<T: Watch, W: Sink, E: Sink>(
+pub fn run_alone<T: Watch, W: Sink, E: Sink, J: Sink>(
     alloc: Global,
     work: Work,
     wanted: Wanted,
     watch: &mut T,
     out: &mut W,
     err: &mut E,
-) -> Result<Ending, Stop>
-    ensures { RunsAlone (texts_of work.files.items) work.goal work.allowance work.steps wanted (W.contents out.old) (W.contents out.new) (E.contents err.old) (E.contents err.new) result }
+    journal: &mut Option<J>,
+) -> Outcome
+    ensures { RunsAlone (texts_of work.files.items) work.goal work.allowance work.steps wanted (W.contents out.old) (W.contents out.new) (E.contents err.old) (E.contents err.new) (option_and_then J.contents journal.old) (option_and_then J.contents journal.new) result }
 {
     let name = AccountName::read(b"me").unwrap();
     match AtomTable::new(alloc, 1) {
-        Ok((table, mut seats)) => {
-            let seat = seats.swap_remove(0);
-            match Served::fresh(
+        Ok((table, seats)) => {
+            match World::new(
                 alloc,
-                name,
                 SharedAtoms { table: &table },
-                seat,
+                seats,
                 PlainCodes::new(alloc),
+                &[name],
             ) {
-                Ok(mut served) => {
-                    let told = run(alloc, &mut served, work, wanted, watch, out, err);
+                Ok(mut world) => {
+                    let ending = run(alloc, &mut world, work, wanted, watch, out, err);
+                    let told = write_journal(alloc, &world, journal);
                     // This is called for the fact that it proves: some reading fits the names.
-                    served.shows_names();
-                    told
+                    world.shows_names(0);
+                    Outcome {
+                        ending,
+                        journal: told,
+                    }
                 }
-                Err(_) => Err(Stop::Memory),
+                Err(_) => no_memory(),
             }
         }
-        Err(_) => Err(Stop::Memory),
+        Err(_) => no_memory(),
+    }
+}
+
+/// Memory was refused before anything was done.
+fn no_memory() -> Outcome
+    ensures { result ≡ record { ending = Err stop.Memory; journal = Err stop.Memory } }
+{
+    Outcome {
+        ending: Err(Stop::Memory),
+        journal: Err(Stop::Memory),
     }
 }

@@ -6,7 +6,7 @@ use std::env;
 
 /// How the program is called.
 pub const USAGE: &str =
-    "kl1_run [--steps N] [--allowance N] [--reports] [--whole] FILE... GOAL\n       kl1_run --check FILE...\n       kl1_run --script [--steps N] [--allowance N] [--reports] FILE... GOAL";
+    "kl1_run [--steps N] [--allowance N] [--reports] [--whole] [--journal FILE] FILE... GOAL\n       kl1_run --check FILE...\n       kl1_run --script [--steps N] [--allowance N] [--reports] FILE... GOAL";
 
 /// What is to be done with the files.
 #[derive(Clone, Copy)]
@@ -32,6 +32,8 @@ pub struct Asked<'a> {
     pub allowance: u64,
     /// What is told of the goal.
     pub wanted: Wanted,
+    /// The name of the file to which the journal of a run is written; `None` if it is written nowhere.
+    pub journal: Option<&'a str>,
 }
 
 /// The words of the program, of which the first is its name.

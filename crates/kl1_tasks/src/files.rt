@@ -1,7 +1,8 @@
-// The files that are read.
+// The files that are read, and the one that is written.
 
 use crate::fault::Fault;
-use kl1_shell::{MOST_SOURCE_BYTES, SourceFile};
+use kl1_shell::{Counted, MOST_SOURCE_BYTES, SourceFile};
+use std::alloc::{AllocError, Global};
 use std::fs::File;
 use std::io;
 use std::io::Read;
@@ -15,6 +16,26 @@ fn read_text(rt: &HostRuntime, name: &str) -> io::Result<Vec<u8>> {
     Ok(text)
 }
 
+/// The file for the journal, made or emptied, if one is named.
+pub fn journal_file(
+    rt: &HostRuntime,
+    name: Option<&str>,
+) -> Result<Option<Counted<File>>, Fault> {
+    let Some(name) = name else {
+        return Ok(None);
+    };
+    match File::create(rt, name) {
+        Ok(file) => Ok(Some(Counted::new(file))),
+        Err(error) => Err(file_fault(rt.alloc(), name, error)?),
+    }
+}
+
+/// The fault of a file that can't be read or made.
+fn file_fault(alloc: Global, name: &str, error: io::Error) -> Result<Fault, AllocError> {
+    let line = format!(in alloc; "kl1_run: {name}: {error}\n")?;
+    Ok(Fault::Lines(line.into_bytes()))
+}
+
 /// Reads the files of these names, in order.
 pub fn read_each(rt: &HostRuntime, names: &[&str]) -> Result<Vec<SourceFile>, Fault> {
     let alloc = rt.alloc();
@@ -25,10 +46,7 @@ pub fn read_each(rt: &HostRuntime, names: &[&str]) -> Result<Vec<SourceFile>, Fa
                 let name = Vec::from_slice(alloc, name.as_bytes())?;
                 files.push(SourceFile { name, text })?;
             }
-            Err(error) => {
-                let line = format!(in alloc; "kl1_run: {name}: {error}\n")?;
-                return Err(Fault::Lines(line.into_bytes()));
-            }
+            Err(error) => return Err(file_fault(alloc, name, error)?),
         }
     }
     Ok(files)

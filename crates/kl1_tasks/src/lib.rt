@@ -9,7 +9,7 @@ mod progress;
 mod tasks;
 mod told;
 
-pub use alone::run_alone;
+pub use alone::{Outcome, run_alone};
 pub use asked::{Asked, Task, USAGE, words_in};
 pub use fault::{BAD, Fault};
 pub use kl1_shell::{MOST_ALLOWANCE, MOST_STEPS, Wanted};

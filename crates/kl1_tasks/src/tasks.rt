@@ -1,9 +1,9 @@
 // What is done for each task.
 
-use crate::alone::run_alone;
+use crate::alone::{Outcome, run_alone};
 use crate::asked::{Asked, Task, USAGE};
 use crate::fault::{BAD, Fault};
-use crate::files::read_each;
+use crate::files::{journal_file, read_each};
 use crate::progress::Progress;
 use crate::told::tell_ending;
 use kl1_shell::{
@@ -99,16 +99,32 @@ fn run_goal(
     let mut progress = Progress::new(rt);
     let mut out = Counted::new(rt.stdout());
     let mut err = Counted::new(rt.stderr());
+    let mut journal = journal_file(rt, asked.journal)?;
     let work = Work {
         files,
         goal,
         allowance: asked.allowance,
         steps: asked.steps,
     };
-    let ending = run_alone(alloc, work, asked.wanted, &mut progress, &mut out, &mut err);
+    let Outcome {
+        ending,
+        journal: told,
+    } = run_alone(
+        alloc,
+        work,
+        asked.wanted,
+        &mut progress,
+        &mut out,
+        &mut err,
+        &mut journal,
+    );
     progress.clear();
-    match ending {
-        Ok(ending) => Ok(tell_ending(rt, ending)?),
+    let status = match ending {
+        Ok(ending) => tell_ending(rt, ending)?,
+        Err(stop) => return Err(fault_of(alloc, stop, names, word)?),
+    };
+    match told {
+        Ok(()) => Ok(status),
         Err(stop) => Err(fault_of(alloc, stop, names, word)?),
     }
 }

@@ -23,14 +23,20 @@ pub enum Part {
     Again,
     /// An account, and a slow one beside it.
     Both,
+    /// Events of many accounts, together and each alone.
+    World,
+    /// Journals and their texts.
+    Journal,
     /// Commands and replies, by what is asked of them.
     Command(command::Kind),
     /// Scripts and what they are made of, by what is asked of them.
     Script(script::Kind),
+    /// Sessions, files of accounts and conversations, by what is asked of them.
+    Session(kl1_session_tests::Kind),
 }
 
 /// The parts by the two words that name them at the front of a heading.
-const PARTS: [(&[u8], Part); 50] = [
+const PARTS: [(&[u8], Part); 58] = [
     (b"store numbers ", Part::Numbers),
     (b"store texts ", Part::Texts),
     (b"read name ", Part::Read(kl1_read_tests::Kind::Name)),
@@ -86,6 +92,8 @@ const PARTS: [(&[u8], Part); 50] = [
     (b"user one ", Part::One),
     (b"user again ", Part::Again),
     (b"user both ", Part::Both),
+    (b"world both ", Part::World),
+    (b"journal read ", Part::Journal),
     (b"command line ", Part::Command(command::Kind::Line)),
     (b"command record ", Part::Command(command::Kind::Record)),
     (b"command reply ", Part::Command(command::Kind::Reply)),
@@ -102,9 +110,27 @@ const PARTS: [(&[u8], Part); 50] = [
     (b"script fault ", Part::Script(script::Kind::Fault)),
     (b"script read ", Part::Script(script::Kind::Read)),
     (b"script write ", Part::Script(script::Kind::Write)),
+    (b"script replay ", Part::Script(script::Kind::Replay)),
+    (b"script replayed ", Part::Script(script::Kind::Replayed)),
     (b"script script ", Part::Script(script::Kind::Script)),
     (b"script both ", Part::Script(script::Kind::Both)),
     (b"script run ", Part::Script(script::Kind::Run)),
+    (
+        b"session stream ",
+        Part::Session(kl1_session_tests::Kind::Stream),
+    ),
+    (
+        b"session file ",
+        Part::Session(kl1_session_tests::Kind::File),
+    ),
+    (
+        b"session talk ",
+        Part::Session(kl1_session_tests::Kind::Talk),
+    ),
+    (
+        b"session faults ",
+        Part::Session(kl1_session_tests::Kind::Faults),
+    ),
 ];
 
 /// The part that the heading of a group names.

@@ -1,20 +1,22 @@
 // One account over a table of names and a source of codes.
 
-ghost use Rattle.std.specs.Prelude.{◌≡◌, ◌↔◌, ℕ, [], IfOk, OnErr, option_map};
-ghost use Rattle.kl1_model.specs.State.{fresh};
+ghost use Rattle.std.specs.Prelude.{◌≡◌, ◌↔◌, ◌≤◌, ℕ, [], length, IfOk, IsOk, OnErr, IsTrue, option_map};
+ghost use Rattle.kl1_model.specs.Limits.{most_names};
+ghost use Rattle.kl1_model.specs.State.{fresh, fresh_with};
 ghost use Rattle.kl1_model.specs.Event.{reduce as reduce_event, read};
 ghost use Rattle.kl1_model.specs.Step.{step};
 ghost use Rattle.kl1_model.specs.Choice.{first, quiet};
 ghost use Rattle.kl1_modules.specs.Numbered.{ArePlaced};
 ghost use Rattle.kl1_effects.specs.Fitting.{Reading, Fits};
-ghost use Rattle.kl1_effects.specs.Account.{state_of};
-ghost use Rattle.kl1_effects.specs.Naming.{Keeps};
-ghost use Rattle.kl1_event.specs.Views.{event_of, query_of, reply_of, reduced_or, chosen_of};
+ghost use Rattle.kl1_effects.specs.Account.{state_of, texts_of};
+ghost use Rattle.kl1_effects.specs.Naming.{IsNameList, Keeps};
+ghost use Rattle.kl1_event.specs.Views.{event_of, is_logout, query_of, reply_of, reduced_or, chosen_of};
 ghost use Rattle.kl1_event.specs.Whole.{whole_value};
 
 use kl1_account::{Account, AccountName, ClauseNo, Event, GoalNo, Query, Refusal, Reply};
 use kl1_atoms::AtomSource;
 use kl1_codes::CodeSource;
+use kl1_text::AtomText;
 use std::alloc::{AllocError, Global};
 use std::marker::{Model, PhantomData};
 
@@ -54,8 +56,36 @@ impl<A: AtomSource, C: CodeSource> UserState<A, C> {
         })
     }
 
+    /// An account of this name in which nothing has happened but that it has used `texts`, and that `sessions` sessions are open. The
+    /// seat knows no name before it and these after it; if memory is refused, it knows none.
+    pub fn with_names(
+        alloc: Global,
+        name: AccountName,
+        sessions: u64,
+        names: &mut A,
+        seat: &mut A::Seat,
+        texts: &[AtomText],
+    ) -> Result<Self, AllocError>
+        requires of { A.is_of names.old seat.old }
+        requires knows { A.knows seat.old ≡ [] }
+        requires list { IsNameList texts.now }
+        requires few { length texts.now ≤ most_names }
+        ensures fresh { IfOk result (λ user. (f : Reading) → state_of f user ≡ fresh_with name texts.now sessions) }
+        ensures knows { IfOk result (λ user. A.knows seat.new ≡ user.names) }
+        ensures modules { IfOk result (λ user. user.modules ≡ []) }
+        ensures keeps { Keeps A.is_of A.place A.knows names.old names.new seat.old seat.new }
+        ensures seat { OnErr result (A.knows seat.new ≡ []) }
+    {
+        let account = Account::with_names(alloc, name, sessions, names, seat, texts)?;
+        Ok(UserState {
+            account,
+            source: PhantomData,
+            code_source: PhantomData,
+        })
+    }
+
     /// What an event does to the account, and the reply. Where memory is refused, the account and what the seat knows are as
-    /// before; a code may have been put in.
+    /// before; a code may have been put in. A session is closed without memory.
     pub fn apply(
         &mut self,
         names: &mut A,
@@ -67,6 +97,7 @@ impl<A: AtomSource, C: CodeSource> UserState<A, C> {
         requires knows { A.knows seat.old ≡ self.old.names }
         requires placed { ArePlaced (C.has codes.old) self.old.modules }
         ensures step { IfOk result (λ reply. (f : Reading) → Fits self.new.names f → step (state_of f self.old) (event_of event.now) ≡ record { state = state_of f self.new; reply = reply_of reply }) }
+        ensures logout { IsTrue (is_logout event.now) → IsOk result }
         ensures err { OnErr result (self.new ≡ self.old) }
         ensures seat { OnErr result (A.knows seat.new ≡ A.knows seat.old) }
         ensures keeps { Keeps A.is_of A.place A.knows names.old names.new seat.old seat.new }
@@ -89,6 +120,12 @@ impl<A: AtomSource, C: CodeSource> UserState<A, C> {
                 .account
                 .start(names, seat, codes, *allowance, *low, *high, goal),
             Event::Control { shoen, message } => self.account.send(codes, shoen.0, *message),
+            Event::Login => Ok(self.account.login()),
+            Event::Logout => Ok(self.account.logout()),
+            Event::Reset => {
+                self.account.reset()?;
+                Ok(Reply::Reset)
+            }
         }
     }
 
@@ -153,6 +190,13 @@ impl<A: AtomSource, C: CodeSource> UserState<A, C> {
         ensures modules { self.new.modules ≡ self.old.modules }
     {
         self.account.reduce(names, seat, codes, goal.0, clause.0)
+    }
+
+    /// The texts of the names that the account uses, in order of first use.
+    pub fn name_texts(&self) -> &[AtomText]
+        ensures { result.now ≡ texts_of self.now.names }
+    {
+        self.account.name_texts()
     }
 
     /// The first goal that can step, with the clause by which it steps.

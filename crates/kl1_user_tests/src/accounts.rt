@@ -1,6 +1,6 @@
 // The accounts that rows are tried on: one, and in the groups of the kind `both` a slow one beside it.
 
-use crate::acts::{event_of, is_run_right};
+use crate::acts::{event_of, is_page, is_run_right};
 use crate::again::is_right_again;
 use crate::answers::{condition_word, is_answered, is_first, is_first_by, is_shown};
 use crate::beside::is_answered_beside;
@@ -156,6 +156,7 @@ fn is_act_right(
         b"first" => is_first(user, wanted),
         b"run" => is_run_right(user, words, wanted),
         b"play" => is_play_right(user, plain, words, wanted),
+        b"journal" => is_page(user, words, wanted),
         _ => match event_of(alloc, user, word, words) {
             Some(event) => is_event_right(alloc, user, plain, &event, wanted),
             None => false,

@@ -13,10 +13,13 @@
 // | `status S` | the state of shoen S is shown |
 // | `reports S N` | the reports of shoen S from number N on are shown |
 // | `modules` | the modules are shown |
+// | `login`, `logout` | a session is opened or closed |
+// | `reset` | the account is made fresh again |
+// | `journal N M` | at most M lines of the journal from number N on are shown |
 // | `run N` | the first goal is reduced, again and again, at most N times; the answer is how often |
 // | `first` | nothing; the answer is the first goal with its clause, as `2 by 1`, or `quiet` |
 
-use crate::answers::is_answered;
+use crate::answers::{are_listed, is_answered};
 use crate::made::made_goal;
 use crate::player::Player;
 use kl1_event::{ClauseNo, Event, GoalNo, Query, ShoenNo};
@@ -143,6 +146,12 @@ pub fn event_of(alloc: Global, user: &Player, word: &[u8], words: &[u8]) -> Opti
         Some(reduction_of(words))
     } else if word == b"step".as_slice() {
         first_step(user)
+    } else if word == b"login".as_slice() {
+        Some(Event::Login)
+    } else if word == b"logout".as_slice() {
+        Some(Event::Logout)
+    } else if word == b"reset".as_slice() {
+        Some(Event::Reset)
     } else {
         other_of(word, words)
     }
@@ -165,4 +174,13 @@ pub fn is_run_right(user: &mut Player, words: &[u8], wanted: &[u8]) -> bool {
         }
     }
     is_counted(wanted, b"+ ", most)
+}
+
+/// Whether a page of the journal has these lines: the number of the first, and how many there are at most.
+pub fn is_page(user: &Player, words: &[u8], wanted: &[u8]) -> bool {
+    let (from, count) = cut(words, b' ');
+    match user.journal(number_of(from), number_of(count)) {
+        Ok(lines) => are_listed(lines.texts(), wanted),
+        Err(_refused) => false,
+    }
 }

@@ -4,9 +4,10 @@
 // |---|---|
 // | `first` | nothing; the answer is the first goal with its clause, as `2 by 1`, or `quiet` |
 // | `instead ACT~OTHER` | the act, and where it is refused memory the other one in its place; the answers stand so too |
+// | `journal N M` | the page of the journal, once more where memory is refused |
 // | any other | the act, and where it is refused memory the same once more, if the account answers as before |
 
-use crate::acts::event_of;
+use crate::acts::{event_of, is_page};
 use crate::answers::{condition_word, is_answered, is_first, is_reply};
 use crate::player::Player;
 use kl1_event::{ClauseNo, Event, GoalNo, Query, Reply, ShoenNo};
@@ -16,8 +17,8 @@ use std::alloc::{AllocError, Global};
 /// More than the shoens of any account of the rows.
 const MANY: u64 = 99;
 
-/// What an account answers: its first goal with its clause, whether no goal can step, and what is shown of each shoen, with line
-/// feeds after it.
+/// What an account answers: its first goal with its clause, whether no goal can step, and its journal with what is shown of each shoen,
+/// with line feeds after it.
 #[derive(Drop)]
 struct Seen {
     first: Option<(GoalNo, ClauseNo)>,
@@ -73,6 +74,7 @@ fn put_shoens(user: &mut Player, out: &mut Text) -> Result<(), AllocError> {
 /// What an account answers, where memory is not refused.
 fn seen_once(alloc: Global, user: &mut Player) -> Option<Seen> {
     let mut shown = Text::new(alloc);
+    put_shown(&mut shown, &Reply::Listed(user.journal(1, u64::MAX).ok()?));
     put_shoens(user, &mut shown).ok()?;
     if shown.has_failed {
         return None;
@@ -181,6 +183,7 @@ pub fn is_right_again(alloc: Global, user: &mut Player, act: &[u8], wanted: &[u8
     match word {
         b"first" => is_first(user, wanted),
         b"instead" => is_done_instead(alloc, user, words, wanted),
+        b"journal" => is_page(user, words, wanted) || is_page(user, words, wanted),
         _ => is_done(alloc, user, act, wanted),
     }
 }

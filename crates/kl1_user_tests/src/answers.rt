@@ -18,6 +18,7 @@ pub fn refusal_word(refusal: Refusal) -> &'static [u8] {
         Refusal::Names => b"- 7 names",
         Refusal::Limit => b"- 8 limit",
         Refusal::Journal => b"- 9 journal",
+        Refusal::Sessions => b"- 12 sessions",
     }
 }
 
@@ -34,6 +35,16 @@ fn is_loaded(name: &AtomText, wanted: &[u8]) -> bool {
     is_joined(wanted, b"+ loaded ", name.unpacked().as_slice())
 }
 
+/// Whether a reply to a session that is opened or closed, or to a reset, has this text.
+fn is_session(reply: &Reply, wanted: &[u8]) -> bool {
+    match reply {
+        Reply::Welcome(name) => is_joined(wanted, b"+ welcome ", name.unpacked().as_slice()),
+        Reply::Bye => wanted == b"+ bye".as_slice(),
+        Reply::Reset => wanted == b"+ reset".as_slice(),
+        _ => false,
+    }
+}
+
 /// Whether a reply that a change is done has this text.
 fn is_change(reply: &Reply, wanted: &[u8]) -> bool {
     match reply {
@@ -41,7 +52,7 @@ fn is_change(reply: &Reply, wanted: &[u8]) -> bool {
         Reply::Opened(shoen) => is_counted(wanted, b"+ shoen ", shoen.0),
         Reply::Sent => wanted == b"+ sent".as_slice(),
         Reply::Reduced => wanted == b"+ reduced".as_slice(),
-        _ => false,
+        _ => is_session(reply, wanted),
     }
 }
 

@@ -83,7 +83,7 @@ fn sent(plain: &mut Plain, shoen: u64, message: Message) -> Option<Answer> {
     }
 }
 
-/// What a slow account answers to an event that isn't a question.
+/// What a slow account answers to a load, a start, a message or a reduction.
 pub fn answer_of(plain: &mut Plain, event: &Event) -> Option<Answer> {
     match event {
         Event::Load { source } => plain.load(source.as_slice()),
@@ -95,7 +95,7 @@ pub fn answer_of(plain: &mut Plain, event: &Event) -> Option<Answer> {
         } => plain.start(*allowance, *low, *high, goal.nodes()),
         Event::Control { shoen, message } => sent(plain, shoen.0, *message),
         Event::Reduce { goal, clause } => plain.reduce(goal.0, clause.0),
-        Event::Read(_query) => None,
+        _ => None,
     }
 }
 

@@ -1,4 +1,4 @@
-//! Rows of events on an account, also beside a slow one, and what a reduction costs.
+//! Rows of events on an account, also beside a slow one, and on many accounts; rows on journals; and what a reduction costs.
 #![tactic(auto)]
 
 mod accounts;
@@ -6,14 +6,16 @@ mod acts;
 mod again;
 mod answers;
 mod beside;
+mod journals;
 mod made;
 mod over_accounts;
 mod player;
 mod playing;
 mod reductions;
-mod seats;
+mod worlds;
 
 pub use accounts::Accounts;
+pub use journals::is_journal;
 pub use over_accounts::{OverAccounts, put_over};
 pub use reductions::put_times;
-pub use seats::names_of_one;
+pub use worlds::is_world_right;

@@ -1,82 +1,103 @@
-// An account over a table of names and codes of its own.
+// Accounts over a table of names and codes of their own.
 
-ghost use Rattle.std.specs.Prelude.{◌≡◌, []};
-ghost use Rattle.kl1_atoms.specs.Plain.{IsSeatOf};
+ghost use Rattle.std.specs.Prelude.{IsTrue};
+ghost use Rattle.kl1_world.specs.Worlds.{AreOf};
 
-use crate::seats::names_of_one;
-use kl1_atoms::{PlainSeat, PlainTable};
+use kl1_atoms::PlainTable;
 use kl1_codes::PlainCodes;
-use kl1_event::{ClauseNo, Event, GoalNo, Reply};
-use kl1_user::{AccountName, UserState};
+use kl1_command::Host;
+use kl1_event::{ClauseNo, Event, GoalNo, Listed, Reply};
+use kl1_model::limits::MOST_ACCOUNTS;
+use kl1_world::{AccountName, World};
 use std::alloc::{AllocError, Global};
 use std::marker::Model;
 
-/// An account, the plain table of names that it uses alone, what it knows of it, and the plain codes that it uses alone.
+/// Accounts, with the plain table of names and the plain codes that they use alone.
 #[derive(Drop)]
 pub struct Player {
-    user: UserState<PlainTable, PlainCodes>,
-    names: PlainTable,
-    seat: PlainSeat,
-    codes: PlainCodes,
+    world: World<PlainTable, PlainCodes>,
+    count: usize,
 }
 
 impl Model for Player {
     ghost use Rattle.std.specs.Prelude.{ℕ};
-    ghost use Rattle.kl1_user_tests.specs.Players.{IsPlaying};
+    ghost use Rattle.kl1_user_tests.specs.Players.{IsCounted};
 
     ghost Value = { ℕ };
 
     ghost view = { λ p. 0 };
 
-    ghost invariant = { IsPlaying };
+    ghost invariant = { IsCounted };
+}
+
+/// Whether each event is of one of this number of accounts.
+fn are_of(count: usize, events: &[(usize, Event)]) -> bool
+    ensures { IsTrue result → AreOf count events.now }
+{
+    match events {
+        [] => true,
+        [first, rest @ ..] => first.0 < count && are_of(count, rest),
+    }
 }
 
 impl Player {
-    /// Puts an account in which nothing has happened behind others.
+    /// Accounts of these names, in which nothing has happened; an `Err` also if there are none or too many.
+    pub fn new(alloc: Global, accounts: &[AccountName]) -> Result<Self, AllocError> {
+        let count = accounts.len();
+        if count == 0 || count > MOST_ACCOUNTS {
+            return Err(AllocError);
+        }
+        let (names, seats) = PlainTable::new(alloc, count)?;
+        let codes = PlainCodes::new(alloc);
+        let world = World::new(alloc, names, seats, codes, accounts)?;
+        Ok(Player { world, count })
+    }
+
+    /// Puts one account in which nothing has happened, alice, behind other players.
     pub fn put_fresh(alloc: Global, players: &mut Vec<Self>) -> Result<(), AllocError> {
         let Some(name) = AccountName::read(b"alice") else {
             return Err(AllocError);
         };
-        let (names, seat) = names_of_one(alloc)?;
-        Player::put_seated(alloc, name, names, seat, players)
-    }
-
-    /// Puts an account of this name in which nothing has happened behind others, over a table of names whose seat knows the
-    /// built-in names alone.
-    fn put_seated(
-        alloc: Global,
-        name: AccountName,
-        names: PlainTable,
-        seat: PlainSeat,
-        players: &mut Vec<Self>,
-    ) -> Result<(), AllocError>
-        requires of { IsSeatOf names.places.items seat.account seat.used seat.known.items }
-        requires nothing { seat.known.items ≡ [] }
-    {
-        let user = UserState::fresh(alloc, name)?;
-        let codes = PlainCodes::new(alloc);
-        players.push(Player {
-            user,
-            names,
-            seat,
-            codes,
-        })?;
+        players.push(Player::new(alloc, &[name])?)?;
         Ok(())
     }
 
-    /// Does an event to the account.
+    /// Does an event to the first account.
+    #[tactic(auto, using(crate::proofs::Counts::counted_after))]
     pub fn apply(&mut self, event: &Event) -> Result<Reply, AllocError> {
-        self.user
-            .apply(&mut self.names, &mut self.seat, &mut self.codes, event)
+        self.world.apply_at(0, event)
     }
 
-    /// The first goal that can step, with its clause.
+    /// Does events, each to the account at a place, from 0, and gives the replies to those before the first that is refused memory;
+    /// `None` if there is no account at a place, or if it isn't told rightly how many events are done.
+    pub fn run(&mut self, events: &[(usize, Event)]) -> Option<Vec<Reply>> {
+        if !are_of(self.count, events) {
+            return None;
+        }
+        match self.world.run(events) {
+            Ok(replies) => Some(replies),
+            Err(stopped) => {
+                if stopped.done == stopped.replies.len() {
+                    Some(stopped.replies)
+                } else {
+                    None
+                }
+            }
+        }
+    }
+
+    /// The lines of the first account's journal from one on, at most `count` of them.
+    pub fn journal(&self, from: u64, count: u64) -> Result<Listed, AllocError> {
+        self.world.journal(from, count)
+    }
+
+    /// The first goal of the first account that can step, with its clause.
     pub fn pick(&self) -> Option<(GoalNo, ClauseNo)> {
-        self.user.pick()
+        self.world.pick()
     }
 
-    /// Whether no goal can step.
+    /// Whether no goal of the first account can step.
     pub fn quiet(&self) -> bool {
-        self.user.quiet()
+        self.world.quiet(0)
     }
 }

@@ -1,17 +1,19 @@
 // What commands do to an account.
 
-ghost use Rattle.kl1_model.specs.State.{fresh};
-ghost use Rattle.std.specs.Prelude.{◌≡◌, [], OnErr};
+ghost use Rattle.std.specs.Prelude.{◌≡◌, ℕ, [], OnErr};
+ghost use Rattle.kl1_history.specs.Journal.{fresh_kept};
 
 use kl1_command::{Host, Parsed, Performed, parse, perform, put_reply};
-use kl1_event::{ClauseNo, Event, GoalNo, Refusal, Reply, ShoenNo};
+use kl1_event::{ClauseNo, Event, GoalNo, Listed, Refusal, Reply, ShoenNo};
 use kl1_rows::{Text, cut};
 use std::alloc::{AllocError, Global};
 
 /// What stands in the place of an account: it does as each letter says. By `d` it does what it is asked for, by `r` it refuses
-/// that, by `m` it is refused memory, each time again; by another letter, and after the last, no goal can step.
+/// that, by `m` it is refused memory, each time again; by another letter, and after the last, no goal can step. A page of
+/// its journal is one line, of the two numbers that are asked for; by `m` it is refused memory.
 #[derive(Clone, Copy)]
 struct Letters<'a> {
+    alloc: Global,
     left: &'a [u8],
 }
 
@@ -35,7 +37,11 @@ impl Host for Letters<'_> {
 
     ghost fits = { λ h f. ⊥ };
 
-    ghost state = { λ f h. fresh [] };
+    ghost kept = { λ f h. fresh_kept [] };
+
+    ghost Beside = { ℕ };
+
+    ghost beside = { λ h. 0 };
 
     fn apply(&mut self, event: &Event) -> Result<Reply, AllocError> {
         let is_done = self.is_next_done()?;
@@ -51,6 +57,22 @@ impl Host for Letters<'_> {
 
     fn whole_value(&mut self, _shoen: ShoenNo) -> Result<Option<Vec<u8>>, AllocError> {
         Ok(None)
+    }
+
+    fn journal(&self, from: u64, count: u64) -> Result<Listed, AllocError> {
+        if let [b'm', ..] = self.left {
+            return Err(AllocError);
+        }
+        let mut told = Text::new(self.alloc);
+        told.put_number(from);
+        told.put(b" ");
+        told.put_number(count);
+        if told.has_failed {
+            return Err(AllocError);
+        }
+        let mut lines = Listed::new(self.alloc);
+        lines.push(told.bytes)?;
+        Ok(lines)
     }
 
     fn pick(&self) -> Option<(GoalNo, ClauseNo)> {
@@ -90,7 +112,10 @@ fn put_performed(told: &mut Text, performed: &Performed) {
 
 /// Puts what the command of a line does to letters, and behind a bar those that are left.
 fn put_acted(told: &mut Text, line: &[u8], letters: &[u8]) {
-    let mut host = Letters { left: letters };
+    let mut host = Letters {
+        alloc: told.alloc,
+        left: letters,
+    };
     match parse(told.alloc, line) {
         Ok(Parsed::Command(command)) => put_performed(told, &perform(&mut host, &command)),
         _ => told.fail(),

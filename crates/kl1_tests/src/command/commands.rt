@@ -64,6 +64,9 @@ fn put_event(told: &mut Text, event: &Event) {
         Event::Control { shoen, message } => put_message(told, shoen.0, *message),
         Event::Reduce { goal, clause } => put_told(told, b"reduces", &[goal.0, clause.0]),
         Event::Read(query) => put_query(told, *query),
+        Event::Login => told.put(b"opens a session"),
+        Event::Logout => told.put(b"closes a session"),
+        Event::Reset => told.put(b"resets"),
     }
 }
 
@@ -72,6 +75,9 @@ fn put_parsed(told: &mut Text, parsed: &Parsed) {
     match parsed {
         Parsed::Command(Command::Does(event)) => put_event(told, event),
         Parsed::Command(Command::Run(steps)) => put_told(told, b"runs", &[*steps]),
+        Parsed::Command(Command::Shows { from, count }) => {
+            put_told(told, b"shows", &[*from, *count])
+        }
         Parsed::Refused => told.put(b"none"),
     }
 }

@@ -24,7 +24,7 @@ const CONDITIONS: [(&[u8], Condition); 5] = [
 ];
 
 /// The refusals without a number by the words that name them in acts.
-const REFUSALS: [(&[u8], Refusal); 8] = [
+const REFUSALS: [(&[u8], Refusal); 9] = [
     (b"syntax", Refusal::Syntax),
     (b"exists", Refusal::Exists),
     (b"noshoen", Refusal::NoShoen),
@@ -33,6 +33,7 @@ const REFUSALS: [(&[u8], Refusal); 8] = [
     (b"names", Refusal::Names),
     (b"limit", Refusal::Limit),
     (b"journal", Refusal::Journal),
+    (b"sessions", Refusal::Sessions),
 ];
 
 /// The state that a word names.
@@ -93,6 +94,8 @@ fn status_of(text: &[u8]) -> Option<Reply> {
 fn text_reply_of(alloc: Global, word: &[u8], rest: &[u8]) -> Option<Reply> {
     if is_same(word, b"loaded") {
         Some(Reply::Loaded(AtomText::read(rest)?))
+    } else if is_same(word, b"welcome") {
+        Some(Reply::Welcome(AtomText::read(rest)?))
     } else if is_same(word, b"shown") {
         Some(Reply::Shown(Vec::from_slice(alloc, rest).ok()?))
     } else if is_same(word, b"listed") {
@@ -117,6 +120,10 @@ fn reply_of(alloc: Global, act: &[u8]) -> Option<Reply> {
         Some(Reply::Reduced)
     } else if is_same(word, b"ran") {
         Some(Reply::Ran(number_of(rest)))
+    } else if is_same(word, b"bye") {
+        Some(Reply::Bye)
+    } else if is_same(word, b"reset") {
+        Some(Reply::Reset)
     } else if is_same(word, b"quiet") {
         Some(Reply::Quiet(is_same(rest, b"yes")))
     } else {

@@ -33,4 +33,8 @@ pub enum Kind {
     Both,
     /// What is written for a script between streams that give and take little, and fail.
     Run,
+    /// What is written for a journal's text that is replayed.
+    Replay,
+    /// What is written for a journal's text that is replayed between such streams.
+    Replayed,
 }

@@ -7,7 +7,7 @@ use crate::script::kind::Kind;
 use crate::script::lines::{is_blank, is_line, is_name, is_number, is_source, is_word};
 use crate::script::over_both::is_over_both;
 use crate::script::records::is_record;
-use crate::script::scripts::{is_run, is_script};
+use crate::script::scripts::{is_run, is_whole};
 use std::alloc::Global;
 use std::sync::Wait;
 
@@ -26,8 +26,8 @@ pub fn is_right<H: Wait>(rt: &H, alloc: Global, kind: Kind, act: &[u8], wanted: 
         Kind::Fault => is_fault(alloc, act, wanted),
         Kind::Read => is_read(alloc, act, wanted),
         Kind::Write => is_written(alloc, act, wanted),
-        Kind::Script => is_script(rt, alloc, act, wanted),
+        Kind::Script | Kind::Replay => is_whole(rt, alloc, kind, act, wanted),
         Kind::Both => is_over_both(rt, alloc, act, wanted),
-        Kind::Run => is_run(rt, alloc, act, wanted),
+        Kind::Run | Kind::Replayed => is_run(rt, alloc, kind, act, wanted),
     }
 }

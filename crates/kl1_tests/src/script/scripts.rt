@@ -1,26 +1,29 @@
-// Scripts from their bytes to what is written for them.
+// Scripts, and journals that are replayed, from their bytes to what is written for them.
 
+use crate::script::kind::Kind;
 use crate::script::streams::{Faulty, cause_of};
 use crate::script::told::{are_told, end_of};
+use kl1_replay::run_replay;
 use kl1_rows::{cut, number_of};
 use kl1_script::{Counted, run_script};
 use std::alloc::Global;
 use std::sync::Wait;
 
-/// Whether this is told, and this written, where a script is run between streams that give and take at most so many bytes a
+/// Whether this is told, and this written, where a text is run or replayed between streams that give and take at most so many bytes a
 /// call, and the reads and the writes of these numbers fail, counted from 1.
 fn is_between<H: Wait>(
     rt: &H,
     alloc: Global,
+    kind: Kind,
     most: u64,
     read: u64,
     write: u64,
-    script: &[u8],
+    text: &[u8],
     told: &[u8],
     output: &[u8],
 ) -> bool {
     let mut source = Counted::new(Faulty {
-        inner: script,
+        inner: text,
         most,
         calls: read,
         cause: cause_of(b"other"),
@@ -31,7 +34,11 @@ fn is_between<H: Wait>(
         calls: write,
         cause: cause_of(b"other"),
     });
-    let end = match run_script(rt, alloc, &mut source, &mut sink) {
+    let done = match kind {
+        Kind::Replay | Kind::Replayed => run_replay(rt, alloc, &mut source, &mut sink),
+        _ => run_script(rt, alloc, &mut source, &mut sink),
+    };
+    let end = match done {
         Ok(()) => b"ok",
         Err(fault) => end_of(fault),
     };
@@ -40,25 +47,26 @@ fn is_between<H: Wait>(
     are_told(told, end, &counts) && sink.inner.inner.as_slice() == output
 }
 
-/// Whether a script is run to its end, and these bytes are written for it.
-pub fn is_script<H: Wait>(rt: &H, alloc: Global, script: &[u8], output: &[u8]) -> bool {
-    is_between(rt, alloc, u64::MAX, 0, 0, script, b"ok 0 0 0", output)
+/// Whether a text is run or replayed to its end, and these bytes are written for it.
+pub fn is_whole<H: Wait>(rt: &H, alloc: Global, kind: Kind, text: &[u8], output: &[u8]) -> bool {
+    is_between(rt, alloc, kind, u64::MAX, 0, 0, text, b"ok 0 0 0", output)
 }
 
-/// Whether this is told of running a script between streams: the most bytes of a call, the number of the read and that of the
-/// write that fails, and the script, parted by a space each.
-pub fn is_run<H: Wait>(rt: &H, alloc: Global, act: &[u8], wanted: &[u8]) -> bool {
+/// Whether this is told of running or replaying a text between streams: the most bytes of a call, the number of the read and that of
+/// the write that fails, and the text, parted by a space each.
+pub fn is_run<H: Wait>(rt: &H, alloc: Global, kind: Kind, act: &[u8], wanted: &[u8]) -> bool {
     let (most, rest) = cut(act, b' ');
     let (read, rest) = cut(rest, b' ');
-    let (write, script) = cut(rest, b' ');
+    let (write, text) = cut(rest, b' ');
     let (told, output) = cut(wanted, b'|');
     is_between(
         rt,
         alloc,
+        kind,
         number_of(most),
         number_of(read),
         number_of(write),
-        script,
+        text,
         told,
         output,
     )

@@ -15,7 +15,7 @@ use Rattle.kl1_account.proofs.reducing.draft_move.Goals as goal
 pub kind_of_qualified-kind-requires : goal.kind_of_qualified-kind-requires
 kind_of_qualified-kind-requires g c =
     let P : Task CellName → Type 0 = λ t. IsTaskIn c.args.store.now.held t in
-    subst P c.requires.reduces (found_holds (λ g. IsTaskIn c.args.store.now.held g.task) c.args.goal.number c.args.goals.now.goals c.args.goal (c.requires.kept []).goals c.requires.steppable.found)
+    subst P c.requires.reduces (found_holds (λ g. IsTaskIn c.args.store.now.held g.task) c.args.goal.number c.args.goals.now.goals c.args.goal (c.requires.kept ([], 0)).goals c.requires.steppable.found)
 
 pub move_to_make-requires-clause-is : goal.move_to_make-requires-clause-is
 move_to_make-requires-clause-is g c f knows = kind_at f c.args.store.now.held c.args.cell c.kind_of_qualified-kind.result (c.kind_of_qualified-kind.ensures.kind f knows.reads)
@@ -34,21 +34,21 @@ overflow_sub-alive g c =
 pub do_or_spell-requires-clause-cell : goal.do_or_spell-requires-clause-cell
 do_or_spell-requires-clause-cell g c =
     let P : Task CellName → Type 0 = λ t. IsTaskIn c.args.store.now.held t in
-    subst P c.requires.reduces (found_holds (λ g. IsTaskIn c.args.store.now.held g.task) c.args.goal.number c.args.goals.now.goals c.args.goal (c.requires.kept []).goals c.requires.steppable.found)
+    subst P c.requires.reduces (found_holds (λ g. IsTaskIn c.args.store.now.held g.task) c.args.goal.number c.args.goals.now.goals c.args.goal (c.requires.kept ([], 0)).goals c.requires.steppable.found)
 
 pub do_or_spell-requires-clause-some : goal.do_or_spell-requires-clause-some
-do_or_spell-requires-clause-some g c = (c.requires.kept []).some
+do_or_spell-requires-clause-some g c = (c.requires.kept ([], 0)).some
 
 pub do_or_spell-requires-clause-shoens : goal.do_or_spell-requires-clause-shoens
-do_or_spell-requires-clause-shoens g c = (c.requires.kept []).shoens
+do_or_spell-requires-clause-shoens g c = (c.requires.kept ([], 0)).shoens
 
 pub do_or_spell-requires-clause-owned : goal.do_or_spell-requires-clause-owned
-do_or_spell-requires-clause-owned g c = found_holds (IsOwned (length c.args.shoens.now.shoens)) c.args.goal.number c.args.goals.now.goals c.args.goal (c.requires.kept []).owned c.requires.steppable.found
+do_or_spell-requires-clause-owned g c = found_holds (IsOwned (length c.args.shoens.now.shoens)) c.args.goal.number c.args.goals.now.goals c.args.goal (c.requires.kept ([], 0)).owned c.requires.steppable.found
 
 pub do_or_spell-requires-clause-begun : goal.do_or_spell-requires-clause-begun
 do_or_spell-requires-clause-begun g c =
     let b = (begun_for c.args.goal.number c.args.draft.now c.requires.begun) in
-    let le = found_holds (λ g. g.number ≤ c.args.draft.now.last_goal) c.args.goal.number c.args.goals.now.goals c.args.goal (c.requires.kept []).last c.requires.steppable.found in
+    let le = found_holds (λ g. g.number ≤ c.args.draft.now.last_goal) c.args.goal.number c.args.goals.now.goals c.args.goal (c.requires.kept ([], 0)).last c.requires.steppable.found in
     let r = b.removed_is in
     let l = b.last_is in
     record { aborted = b.aborted; ended = b.ended; removed = omega (arith, le, r, l) }
@@ -56,7 +56,7 @@ do_or_spell-requires-clause-begun g c =
 pub do_or_spell-requires-clause-may : goal.do_or_spell-requires-clause-may
 do_or_spell-requires-clause-may g c =
     shoen_lets c.args.shoens.now.shoens c.args.shoens.now.work c.args.goal c.args.cell c.requires.reduces c.requires.steppable.enabled
-    (found_holds (IsEnabled c.args.shoens.now.shoens c.args.shoens.now.work) c.args.goal.number c.args.goals.now.goals c.args.goal (c.requires.kept []).enabled c.requires.steppable.found)
+    (found_holds (IsEnabled c.args.shoens.now.shoens c.args.shoens.now.work) c.args.goal.number c.args.goals.now.goals c.args.goal (c.requires.kept ([], 0)).enabled c.requires.steppable.found)
 
 pub do_or_spell-requires-clause-alive : goal.do_or_spell-requires-clause-alive
 do_or_spell-requires-clause-alive g c =
@@ -64,26 +64,26 @@ do_or_spell-requires-clause-alive g c =
     omega (arith, n)
 
 pub do_or_spell-requires-clause-few : goal.do_or_spell-requires-clause-few
-do_or_spell-requires-clause-few g c = let few = (c.requires.kept []).few in let most = (c.requires.kept []).most in omega (arith, few, most)
+do_or_spell-requires-clause-few g c = let few = (c.requires.kept ([], 0)).few in let most = (c.requires.kept ([], 0)).most in omega (arith, few, most)
 
 pub finish-requires-clause-goals : goal.finish-requires-clause-goals
-finish-requires-clause-goals g c = goals_grown c.args.store.now.held c.do_or_spell.new.store.held c.in_ok-do_or_spell.ensures.grown c.args.goals.now.goals (c.requires.kept []).goals
+finish-requires-clause-goals g c = goals_grown c.args.store.now.held c.do_or_spell.new.store.held c.in_ok-do_or_spell.ensures.grown c.args.goals.now.goals (c.requires.kept ([], 0)).goals
 
 pub finish-requires-clause-next : goal.finish-requires-clause-next
 finish-requires-clause-next g c =
-    let k = c.requires.kept [] in
+    let k = c.requires.kept ([], 0) in
     let P : ℕ → Type 0 = λ last. AreUpTo last c.args.goals.now.goals in
     c.in_ok-do_or_spell.ensures.leaves.comes.next c.args.goals.now.goals (subst P (sym refl) k.last) k.owned
 
 pub finish-requires-clause-known_shoens : goal.finish-requires-clause-known_shoens
-finish-requires-clause-known_shoens g c = let n = (c.requires.kept []).count in let m = c.in_ok-do_or_spell.ensures.leaves.more in omega (arith, n, m)
+finish-requires-clause-known_shoens g c = let n = (c.requires.kept ([], 0)).count in let m = c.in_ok-do_or_spell.ensures.leaves.more in omega (arith, n, m)
 
 pub finish-requires-clause-one_opens : goal.finish-requires-clause-one_opens
-finish-requires-clause-one_opens g c = let n = (c.requires.kept []).count in let m = c.in_ok-do_or_spell.ensures.leaves.one_opens in omega (arith, n, m)
+finish-requires-clause-one_opens g c = let n = (c.requires.kept ([], 0)).count in let m = c.in_ok-do_or_spell.ensures.leaves.one_opens in omega (arith, n, m)
 
 pub finish-requires-clause-lets : goal.finish-requires-clause-lets
 finish-requires-clause-lets g c shifts ended reached =
-    let kept = c.requires.kept [] in
+    let kept = c.requires.kept ([], 0) in
     let ss = c.args.shoens.now.shoens in
     let goals = c.args.goals.now.goals in
     let owned = found_holds (IsOwned (length ss)) c.args.goal.number goals c.args.goal kept.owned c.requires.steppable.found in

@@ -7,7 +7,7 @@ use Rattle.kl1_account.proofs.Reductions.{heard_reduces}
 use Rattle.kl1_account.proofs.reducing.draft_reading.Goals as goal
 
 pub control_to_read-requires : goal.control_to_read-requires
-control_to_read-requires g c = record { shoens = (c.requires.kept []).shoens }
+control_to_read-requires g c = record { shoens = (c.requires.kept ([], 0)).shoens }
 
 pub returns-in-Err-clause-ok : goal.returns-in-Err-clause-ok
 returns-in-Err-clause-ok g c own =
@@ -15,16 +15,16 @@ returns-in-Err-clause-ok g c own =
     record { held = refl; hooks = refl; tree = refl; steps = c.in-Err.ensures.refused a c.args.goal.number c.requires.steppable c.requires.monitor (c.requires.kept own).enabled }
 
 pub read-requires-clause-shoens : goal.read-requires-clause-shoens
-read-requires-clause-shoens g c = (c.requires.kept []).shoens
+read-requires-clause-shoens g c = (c.requires.kept ([], 0)).shoens
 
 pub finish-requires-clause-goals : goal.finish-requires-clause-goals
-finish-requires-clause-goals g c = goals_grown c.args.store.now.held c.read.new.store.held c.in_ok-read.ensures.grown c.args.goals.now.goals (c.requires.kept []).goals
+finish-requires-clause-goals g c = goals_grown c.args.store.now.held c.read.new.store.held c.in_ok-read.ensures.grown c.args.goals.now.goals (c.requires.kept ([], 0)).goals
 
 pub finish-requires-clause-known_shoens : goal.finish-requires-clause-known_shoens
-finish-requires-clause-known_shoens g c = let n = (c.requires.kept []).count in let m = c.in_ok-read.ensures.leaves.more in omega (arith, n, m)
+finish-requires-clause-known_shoens g c = let n = (c.requires.kept ([], 0)).count in let m = c.in_ok-read.ensures.leaves.more in omega (arith, n, m)
 
 pub finish-requires-clause-one_opens : goal.finish-requires-clause-one_opens
-finish-requires-clause-one_opens g c = let n = (c.requires.kept []).count in let m = c.in_ok-read.ensures.leaves.one_opens in omega (arith, n, m)
+finish-requires-clause-one_opens g c = let n = (c.requires.kept ([], 0)).count in let m = c.in_ok-read.ensures.leaves.one_opens in omega (arith, n, m)
 
 pub finish-requires-clause-lets : goal.finish-requires-clause-lets
 finish-requires-clause-lets g c shifts ended reached = nobody_lets c.read.new.shoens.shoens c.read.new.shoens.work

@@ -2,11 +2,12 @@ use Rattle.std.proofs.Common.{◌≡◌, ◌≤◌, ◌-◌}
 use Rattle.kl1_command.proofs.Runs.{GoesOn}
 use Rattle.kl1_command.proofs.performed.run.Given as goal
 
--- runs go on at the account behind the steps that are done
+-- runs go on at the account after the steps that are done
 abbrev pub invariant-loop-done : goal.invariant-loop-done
 invariant-loop-done g l = record {
-  goes : (f : g.H.Host.Reading) → g.H.Host.fits l.host f → GoesOn (g.H.Host.state f l.fn.host) l.done (g.H.Host.state f l.host);
+  goes : (f : g.H.Host.Reading) → g.H.Host.fits l.host f → GoesOn (g.H.Host.kept f l.fn.host) l.done (g.H.Host.kept f l.host);
   before : (f : g.H.Host.Reading) → g.H.Host.fits l.host f → g.H.Host.fits l.fn.host f;
+  beside : g.H.Host.beside l.host ≡ g.H.Host.beside l.fn.host;
   untouched : l.done ≡ 0 → l.host ≡ l.fn.host;
   few : l.done ≤ l.most;
 }

@@ -2,7 +2,7 @@ use Rattle.std.proofs.Common.{◌≡◌, ◌≤◌, ◌++◌, true, length}
 use Rattle.std.specs.List.{list_all}
 use Rattle.kl1_model.specs.Limits.{most_accounts}
 use Rattle.kl1_model.specs.Line.{words_of}
-use Rattle.kl1_model.specs.Script.{is_account_name}
+use Rattle.kl1_model.specs.AccountName.{is_account_name}
 use Rattle.kl1_script.proofs.accounts.names_in.Given as goal
 
 -- the names so far and the words that are left are the words of the line

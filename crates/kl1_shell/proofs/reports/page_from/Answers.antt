@@ -5,4 +5,4 @@ use Rattle.kl1_shell.proofs.reports.page_from.Goals as goal
 
 pub returns-clause-page : goal.returns-clause-page
 returns-clause-page g c = λ f fits.
-    c.listed_in.ensures ∙ ap listed_in (sym (c.in_ok-reply.ensures.reply f fits)) ∙ page_is (g.H.Host.state f c.ask.new.host) c.args.shoen.0 c.args.done c.requires.few
+    c.listed_in.ensures ∙ ap listed_in (sym (c.in_ok-reply.ensures.reply f fits)) ∙ page_is (g.H.Host.kept f c.ask.new.host).state c.args.shoen.0 c.args.done c.requires.few

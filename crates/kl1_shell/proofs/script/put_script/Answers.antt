@@ -1,5 +1,5 @@
 use Rattle.std.proofs.Common.{codes}
-use Rattle.kl1_model.specs.Command.{written_line}
+use Rattle.kl1_history.specs.Command.{written_line}
 use Rattle.kl1_shell.specs.Scripts.{load_lines, goal_lines, question_lines}
 use Rattle.kl1_shell.specs.Works.{texts_of}
 use Rattle.kl1_shell.proofs.Writes.{four_parts}

@@ -1,5 +1,5 @@
 use Rattle.std.proofs.Common.{◌≡◌, true}
-use Rattle.kl1_model.specs.Script.{is_account_name}
+use Rattle.kl1_model.specs.AccountName.{is_account_name}
 use Rattle.kl1_account.proofs.NameTexts.{account_is_text}
 use Rattle.kl1_account.proofs.account_name.AccountName.read.Goals as goal
 

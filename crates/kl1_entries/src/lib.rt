@@ -1,0 +1,25 @@
+//! The journal of an account as a value: its entries, the lines of its text, and the reader of that text.
+#![tactic(auto)]
+
+mod entries;
+mod entry;
+mod heading;
+mod journal;
+mod lines;
+mod loose;
+mod name;
+mod page;
+mod prepared;
+mod reader;
+mod slot;
+mod text;
+mod whole;
+
+pub use entries::Entries;
+pub use entry::Entry;
+pub use heading::{Heading, heading_of};
+pub use journal::Journal;
+pub use name::name_of;
+pub use prepared::{Prepared, entry_for, step_for};
+pub use reader::{entry_of, may_follow};
+pub use text::next_line;

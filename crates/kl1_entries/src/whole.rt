@@ -1,0 +1,26 @@
+// Entries that are kept whole.
+
+use kl1_model::Message;
+
+/// An entry that is kept whole.
+#[derive(Drop)]
+pub(crate) enum Whole {
+    Load {
+        source: Vec<u8>,
+    },
+    /// `goal` is the goal's print.
+    Start {
+        allowance: u64,
+        low: u64,
+        high: u64,
+        goal: Vec<u8>,
+    },
+    Control {
+        shoen: u64,
+        message: Message,
+    },
+    Step {
+        goal: u64,
+        clause: u64,
+    },
+}

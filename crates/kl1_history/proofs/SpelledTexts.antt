@@ -1,0 +1,176 @@
+-- What a goal names is the text of a name.
+use Rattle.std.specs.Prelude.{◌≡◌, ℕ, zero, suc, ◌≤◌, ◌==◌, nat_le, Bool, true, false, if◌then◌else◌, pos, negsuc, List, [], length, codes, bytes_eq, Option, Some, None, find, option_map}
+use Rattle.std.specs.List.{list_all}
+use Rattle.std.proofs.Common.{refl, arith}
+use Rattle.std.proofs.lemmas.Bool.{and_from, le-leb}
+use Rattle.kl1_model.specs.Limits.{most_name_bytes}
+use Rattle.kl1_model.specs.Text.{is_name_byte, is_text}
+use Rattle.kl1_model.specs.Term.{Term, variable, integer, atom, structure, none, more}
+use Rattle.kl1_model.specs.Arithmetic.{Evaluated, comes_to, awaits, is_no_expression, evaluated}
+use Rattle.kl1_model.specs.declared.number.Number.{Number}
+use Rattle.kl1_model.specs.declared.number.Number.TheVariants.{Value, Overflow, ZeroDivisor}
+use Rattle.kl1_model.specs.Goal.{is_execute}
+use Rattle.kl1_model.specs.Module.{Module}
+use Rattle.kl1_model.specs.Match.{Call, call_of, Candidate, candidates_of, fails}
+use Rattle.kl1_model.specs.Look.{Spelling, spelled, awaits_code, misspelled, spelled_before, spelled_by, spelling, most_spelled, Look, right, waits_on, wrong, Order, order_look}
+use Rattle.kl1_model.specs.Control.{Control, awaits_message, tells, tells_other, ends, breaks_off, control_of}
+use Rattle.kl1_model.specs.State.{Task, monitor, reduces, Goal, Shoen, State, shoen_at}
+use Rattle.kl1_model.specs.Tree.{is_enabled}
+use Rattle.kl1_model.specs.Report.{failure}
+use Rattle.kl1_model.specs.Reduction.{Move, commits, raises, unifies, names, opens, goes, call_move, becomes, assigned, spells, ordered, order_of, order_move, execute_move, pair_move, built_in_move, term_move, Action, moves, reads, read_action, monitor_action, task_action, action_of}
+
+-- a text that is spelled is bytes of names, and no more of them than cells
+abbrev IsSpelled : ℕ → Spelling → Type 0
+IsSpelled most (spelled text) = (list_all is_name_byte text ≡ true) × (length text ≤ most)
+IsSpelled most (awaits_code v) = Unit {0}
+IsSpelled most misspelled = Unit {0}
+
+before_spelled : (x : Bool) (n most : ℕ) (s : Spelling) → is_name_byte n ≡ x → IsSpelled most s → IsSpelled (suc most) (if x then spelled_before n s else misspelled)
+before_spelled true n most (spelled text) is h = (and_from (is_name_byte n) (list_all is_name_byte text) is h.0, omega (arith, h.1))
+before_spelled true n most (awaits_code v) is h = tt
+before_spelled true n most misspelled is h = tt
+before_spelled false n most s is h = tt
+
+by_spelled : (t : Term) (most : ℕ) (s : Spelling) → IsSpelled most s → IsSpelled (suc most) (spelled_by t s)
+by_spelled (variable v) most s h = tt
+by_spelled (integer (pos n)) most s h = before_spelled (is_name_byte n) n most s refl h
+by_spelled (integer (negsuc n)) most s h = tt
+by_spelled (atom a) most s h = tt
+by_spelled (structure f ts) most s h = tt
+
+either_spelled : (x : Bool) (most : ℕ) (r s : Spelling) → IsSpelled most r → IsSpelled most s → IsSpelled most (if x then r else s)
+either_spelled true most r s g h = g
+either_spelled false most r s g h = h
+
+is_spelled : (most : ℕ) (t : Term) → IsSpelled most (spelling most t)
+is_spelled most (variable v) = tt
+is_spelled most (atom a) = either_spelled (bytes_eq a (codes "[]")) most (spelled []) misspelled (refl, omega arith) tt
+is_spelled (suc most) (structure f (more h (more t none))) =
+    either_spelled (bytes_eq f (codes ".")) (suc most) (spelled_by h (spelling most t)) misspelled (by_spelled h most (spelling most t) (is_spelled most t)) tt
+is_spelled zero (structure f (more h (more t none))) = tt
+is_spelled zero (integer i) = tt
+is_spelled (suc most) (integer i) = tt
+is_spelled zero (structure f none) = tt
+is_spelled (suc most) (structure f none) = tt
+is_spelled zero (structure f (more h none)) = tt
+is_spelled (suc most) (structure f (more h none)) = tt
+is_spelled zero (structure f (more h (more t (more u us)))) = tt
+is_spelled (suc most) (structure f (more h (more t (more u us)))) = tt
+
+-- a name that a move names is a text
+abbrev pub NamesText : Move → Type 0
+NamesText (names text a) = is_text text ≡ true
+NamesText (commits k) = Unit {0}
+NamesText (raises kind) = Unit {0}
+NamesText (unifies a b) = Unit {0}
+NamesText (opens o) = Unit {0}
+NamesText goes = Unit {0}
+
+-- the same of a move that may be there
+abbrev MayName : Option Move → Type 0
+MayName None = Unit {0}
+MayName (Some m) = NamesText m
+
+either_names : (x : Bool) (m n : Option Move) → MayName m → MayName n → MayName (if x then m else n)
+either_names true m n g h = g
+either_names false m n g h = h
+
+spelled_names : (a : Term) (s : Spelling) → IsSpelled most_spelled s → MayName (spells a s)
+spelled_names a (spelled text) h = and_from (nat_le (length text) most_name_bytes) (list_all is_name_byte text) (le-leb (length text) most_name_bytes h.1) h.0
+spelled_names a (awaits_code v) h = tt
+spelled_names a misspelled h = tt
+
+become_names : (a : Term) (n : Number) → NamesText (becomes a n)
+become_names a (Value z) = tt
+become_names a Overflow = tt
+become_names a ZeroDivisor = tt
+
+assigned_names : (a : Term) (e : Evaluated) → MayName (assigned a e)
+assigned_names a (comes_to n) = become_names a n
+assigned_names a (awaits v) = tt
+assigned_names a is_no_expression = tt
+
+ordered_names : (o : Order) (l : Look) → MayName (ordered o l)
+ordered_names o right = tt
+ordered_names o (waits_on v) = tt
+ordered_names o wrong = tt
+
+order_names : (o : Option Order) → MayName (order_move o)
+order_names None = tt
+order_names (Some o) = ordered_names o (order_look o)
+
+execute_names : (a b : Term) → MayName (execute_move a b)
+execute_names (atom m) b = either_names (is_execute m b) (order_move (order_of b)) None (order_names (order_of b)) tt
+execute_names (variable v) b = tt
+execute_names (integer i) b = tt
+execute_names (structure f ts) b = tt
+
+pair_names : (f : List ℕ) (a b : Term) → MayName (pair_move f a b)
+pair_names f a b =
+    let last = if bytes_eq f (codes ":") then execute_move a b else None in
+    let third = if bytes_eq f (codes "atom_from") then spells b (spelling most_spelled a) else last in
+    let second = if bytes_eq f (codes ":=") then assigned a (evaluated b) else third in
+    either_names (bytes_eq f (codes "=")) (Some (unifies a b)) second tt
+    (either_names (bytes_eq f (codes ":=")) (assigned a (evaluated b)) third (assigned_names a (evaluated b))
+    (either_names (bytes_eq f (codes "atom_from")) (spells b (spelling most_spelled a)) last (spelled_names b (spelling most_spelled a) (is_spelled most_spelled a))
+    (either_names (bytes_eq f (codes ":")) (execute_move a b) None (execute_names a b) tt)))
+
+built_in_names : (t : Term) → MayName (built_in_move t)
+built_in_names (atom a) = either_names (bytes_eq a (codes "true")) (Some goes) None tt tt
+built_in_names (structure f (more a (more b none))) = pair_names f a b
+built_in_names (variable v) = tt
+built_in_names (integer i) = tt
+built_in_names (structure f none) = tt
+built_in_names (structure f (more a none)) = tt
+built_in_names (structure f (more a (more b (more c ts)))) = tt
+
+commit_names : (o : Option Candidate) → MayName (option_map (λ k. commits k) o)
+commit_names None = tt
+commit_names (Some k) = tt
+
+call_names : (modules : List Module) (call : Call) (clause : ℕ) → MayName (call_move modules call clause)
+call_names modules call clause =
+    let failing = if fails modules call then Some (raises failure) else None in
+    let found = find (λ k. k.number == clause) (candidates_of modules call) in
+    either_names (clause == 0) failing (option_map (λ k. commits k) found) (either_names (fails modules call) (Some (raises failure)) None tt tt) (commit_names found)
+
+term_names : (modules : List Module) (t : Term) (clause : ℕ) (o : Option Call) → MayName (term_move modules t clause o)
+term_names modules t clause None = either_names (clause == 0) (built_in_move t) None (built_in_names t) tt
+term_names modules t clause (Some call) = call_names modules call clause
+
+-- the same of an action
+abbrev pub ActionText : Action → Type 0
+ActionText (moves t m) = NamesText m
+ActionText (reads c) = Unit {0}
+
+-- the same of an action that may be there
+abbrev pub MayAct : Option Action → Type 0
+MayAct None = Unit {0}
+MayAct (Some a) = ActionText a
+
+either_acts : (x : Bool) (a b : Option Action) → MayAct a → MayAct b → MayAct (if x then a else b)
+either_acts true a b g h = g
+either_acts false a b g h = h
+
+moves_act : (t : Term) (m : Option Move) → MayName m → MayAct (option_map (moves t) m)
+moves_act t None h = tt
+moves_act t (Some m) h = h
+
+read_acts : (c : Control) → MayAct (read_action c)
+read_acts (awaits_message v) = tt
+read_acts (tells m rest) = tt
+read_acts (tells_other m rest) = tt
+read_acts ends = tt
+read_acts (breaks_off t) = tt
+
+monitor_acts : (h : Option Shoen) (clause : ℕ) → MayAct (monitor_action h clause)
+monitor_acts None clause = tt
+monitor_acts (Some h) clause = either_acts (clause == 0) (read_action (control_of h.control)) None (read_acts (control_of h.control)) tt
+
+task_acts : (s : State) (shoen : ℕ) (task : Task) (clause : ℕ) → MayAct (task_action s shoen task clause)
+task_acts s shoen monitor clause = monitor_acts (shoen_at shoen s.shoens) clause
+task_acts s shoen (reduces t) clause = moves_act t (term_move s.modules t clause (call_of t)) (term_names s.modules t clause (call_of t))
+
+-- what a goal can do names texts alone
+pub actions_name_texts : (s : State) (g : Goal) (clause : ℕ) → MayAct (action_of s g clause)
+actions_name_texts s g clause = either_acts (is_enabled s g) (task_action s g.shoen g.task clause) None (task_acts s g.shoen g.task clause) tt

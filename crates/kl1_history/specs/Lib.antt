@@ -1,0 +1,12 @@
+pub mod Journal
+pub mod JournalText
+pub mod Alone
+pub mod Command
+pub mod Script
+pub mod Replay
+pub mod HistoryLaws
+pub mod Cut
+pub mod Inputs
+pub mod InputLaws
+pub mod TextLaws
+pub mod ReplayLaws

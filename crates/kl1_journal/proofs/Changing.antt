@@ -1,0 +1,84 @@
+-- What is noted of an event is its change.
+use Rattle.std.proofs.Common.{◌≡◌, ℕ, suc, ◌-◌, ◌<◌, nat_lt, Bool, true, false, if◌then◌else◌, List, refl, sym, ap, ◌∙◌, subst, inl, inr}
+use Rattle.std.specs.Prelude.{◌⊎◌, Option, Some, None}
+use Rattle.std.proofs.lemmas.Bool.{ltb-true}
+use Rattle.kl1_model.specs.Limits.{most_sessions}
+use Rattle.kl1_model.specs.State.{State}
+use Rattle.kl1_model.specs.Event as model
+use Rattle.kl1_model.specs.Event.{Stepped, refuse, sessions_refused}
+use Rattle.kl1_model.specs.Step.{log_in, log_out, step}
+use Rattle.kl1_model.specs.TreeLaws.{is_refused}
+use Rattle.kl1_history.specs.Journal.{Entry, Journal, new_journal, with_event, noted}
+use Rattle.kl1_entries.specs.Lined.{entry_of, lined_entry, with_prepared}
+use Rattle.kl1_entries.proofs.Accepted.{accepted_entries}
+use Rattle.kl1_journal.specs.declared.change.Change.{Change}
+use Rattle.kl1_journal.specs.declared.change.Change.TheVariants as change
+use Rattle.kl1_journal.specs.Changes.{IsEntered, IsChange, ReplyFits, SessionsFit, sessions_after, changed}
+
+-- an entry or a query
+entered_is : (j : Journal) (e : model.Event) (t : State) → IsEntered e → with_event j e t ≡ with_prepared j (entry_of e)
+entered_is j (model.load text) t h = refl
+entered_is j (model.start allowance low high goal) t h = refl
+entered_is j (model.control n m) t h = refl
+entered_is j (model.reduce goal clause) t h = refl
+entered_is j (model.read q) t h = refl
+entered_is j model.login t h = absurd h
+entered_is j model.logout t h = absurd h
+entered_is j model.reset t h = absurd h
+
+sized : Journal → ℕ → Journal
+sized j n = record j { sessions = n }
+
+login_is : (c : Bool) (s : State) (j : Journal) → j.sessions ≡ s.sessions →
+    (let x : Stepped = if c then record { state = record s { sessions = suc s.sessions }; reply = model.welcome s.own_name } else refuse s sessions_refused in is_refused x.reply ≡ false → record j { sessions = x.state.sessions } ≡ sessions_after j x.reply)
+login_is true s j same a = ap (λ (n : ℕ). let z : Journal = record j { sessions = suc n } in z) (sym same)
+login_is false s j same a = cc
+
+logout_is : (c : Bool) (s : State) (j : Journal) → j.sessions ≡ s.sessions →
+    (let x : Stepped = if c then record { state = record s { sessions = s.sessions - 1 }; reply = model.bye } else refuse s sessions_refused in is_refused x.reply ≡ false → record j { sessions = x.state.sessions } ≡ sessions_after j x.reply)
+logout_is true s j same a = ap (λ (n : ℕ). let z : Journal = record j { sessions = n - 1 } in z) (sym same)
+logout_is false s j same a = cc
+
+-- a session that is opened or closed
+session_is : (s : State) (j : Journal) (e : model.Event) → (e ≡ model.login) ⊎ (e ≡ model.logout) → j.sessions ≡ s.sessions → is_refused (step s e).reply ≡ false → with_event j e (step s e).state ≡ sessions_after j (step s e).reply
+session_is s j e (inl is) same a =
+    subst (λ d. is_refused (step s d).reply ≡ false → with_event j d (step s d).state ≡ sessions_after j (step s d).reply) (sym is) (login_is (nat_lt s.sessions most_sessions) s j same) a
+session_is s j e (inr is) same a =
+    subst (λ d. is_refused (step s d).reply ≡ false → with_event j d (step s d).state ≡ sessions_after j (step s d).reply) (sym is) (logout_is (nat_lt 0 s.sessions) s j same) a
+
+-- an event that is accepted
+accepted_is : (s : State) (names : List (List ℕ)) (j : Journal) (e : model.Event) (c : Change) → IsChange names j e c → s.names ≡ names → j.sessions ≡ s.sessions → is_refused (step s e).reply ≡ false →
+    with_event j e (step s e).state ≡ changed j c (step s e).reply
+accepted_is s names j e (change.Entry entry) h used same a =
+    entered_is j e (step s e).state h.1 ∙ ap (with_prepared j) (sym (accepted_entries s e a) ∙ sym h.0)
+accepted_is s names j e change.Sessions h used same a = session_is s j e h same a
+accepted_is s names j e (change.Anew new) h used same a =
+    subst (λ d. with_event j d (step s d).state ≡ new.journal) (sym h.0) (ap (λ ns. new_journal ns s.sessions) used ∙ ap (new_journal names) (sym same) ∙ sym h.1)
+
+noted_by : (c : Bool) (s : State) (names : List (List ℕ)) (j : Journal) (e : model.Event) (d : Change) → IsChange names j e d → s.names ≡ names → j.sessions ≡ s.sessions → is_refused (step s e).reply ≡ c →
+    (if c then j else with_event j e (step s e).state) ≡ (if c then j else changed j d (step s e).reply)
+noted_by true s names j e d h used same a = refl
+noted_by false s names j e d h used same a = accepted_is s names j e d h used same a
+
+-- what is noted of an event
+pub noted_is : (s : State) (names : List (List ℕ)) (j : Journal) (e : model.Event) (d : Change) → IsChange names j e d → s.names ≡ names → j.sessions ≡ s.sessions →
+    noted j e (step s e) ≡ (if is_refused (step s e).reply then j else changed j d (step s e).reply)
+noted_is s names j e d h used same = noted_by (is_refused (step s e).reply) s names j e d h used same refl
+
+login_fits : (c : Bool) (s : State) (j : Journal) → nat_lt s.sessions most_sessions ≡ c → j.sessions ≡ s.sessions → ReplyFits j (if c then record { state = record s { sessions = suc s.sessions }; reply = model.welcome s.own_name } else refuse s sessions_refused).reply
+login_fits true s j e same = subst (λ n. n < most_sessions) (sym same) (ltb-true s.sessions most_sessions e)
+login_fits false s j e same = tt
+
+logout_fits : (c : Bool) (s : State) (j : Journal) → nat_lt 0 s.sessions ≡ c → j.sessions ≡ s.sessions → ReplyFits j (if c then record { state = record s { sessions = s.sessions - 1 }; reply = model.bye } else refuse s sessions_refused).reply
+logout_fits true s j e same = subst (λ n. 0 < n) (sym same) (ltb-true 0 s.sessions e)
+logout_fits false s j e same = tt
+
+session_fits : (s : State) (j : Journal) (e : model.Event) → (e ≡ model.login) ⊎ (e ≡ model.logout) → j.sessions ≡ s.sessions → ReplyFits j (step s e).reply
+session_fits s j e (inl is) same = subst (λ d. ReplyFits j (step s d).reply) (sym is) (login_fits (nat_lt s.sessions most_sessions) s j refl same)
+session_fits s j e (inr is) same = subst (λ d. ReplyFits j (step s d).reply) (sym is) (logout_fits (nat_lt 0 s.sessions) s j refl same)
+
+-- a reply fits the change of its event
+pub sessions_fit : (s : State) (names : List (List ℕ)) (j : Journal) (e : model.Event) (d : Change) → IsChange names j e d → j.sessions ≡ s.sessions → SessionsFit j d (step s e).reply
+sessions_fit s names j e (change.Entry entry) h same = tt
+sessions_fit s names j e change.Sessions h same = session_fits s j e h same
+sessions_fit s names j e (change.Anew new) h same = tt

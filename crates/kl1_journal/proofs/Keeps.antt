@@ -1,0 +1,99 @@
+-- An account with its journal after an event.
+use Rattle.std.proofs.Common.{◌≡◌, ℕ, Bool, true, false, if◌then◌else◌, List, [], refl, sym, ap, ◌∙◌, subst}
+use Rattle.std.specs.Prelude.{Option, Some, None, is_some}
+use Rattle.kl1_model.specs.State.{State, fresh}
+use Rattle.kl1_model.specs.Event as model
+use Rattle.kl1_model.specs.Event.{Stepped}
+use Rattle.kl1_model.specs.Step.{step}
+use Rattle.kl1_model.specs.TreeLaws.{is_refused}
+use Rattle.kl1_history.specs.Journal.{Journal, steps, noted, Kept, Done, fresh_kept, kept_after, done}
+use Rattle.kl1_history.specs.HistoryLaws.{IsReplay}
+use Rattle.kl1_history.specs.TextLaws as texts
+use Rattle.kl1_history.proofs.Replays.{fresh_is_replay, replays_stay}
+use Rattle.kl1_history.proofs.NewNames.{no_names}
+use Rattle.kl1_history.proofs.WrittenStays.{step_named}
+use Rattle.kl1_atoms.specs.declared.known.Known.{Known}
+use Rattle.std.proofs.lemmas.Option.{none-some}
+use Rattle.kl1_atoms.specs.Names.{AreNames}
+use Rattle.kl1_atoms.specs.Knowing.{are_names}
+use Rattle.kl1_user.specs.Accounts.{Reading, Fits}
+use Rattle.kl1_user.specs.Accounts.{Account, state_of, texts_of}
+use Rattle.kl1_entries.specs.Lined.{if_lined, with_prepared}
+use Rattle.kl1_entries.proofs.Accepted.{accepted_entries}
+use Rattle.kl1_event.specs.declared.refusal.Refusal.{Refusal}
+use Rattle.kl1_event.specs.Views.{reduced_or}
+use Rattle.kl1_journal.specs.declared.change.Change.{Change}
+use Rattle.kl1_journal.specs.Changes.{IsChange, SessionsFit, changed}
+use Rattle.kl1_journal.specs.Keeping.{kept_of, IsKept}
+use Rattle.kl1_journal.proofs.Readings.{reading_of, reading_fits}
+use Rattle.kl1_journal.proofs.Changing.{noted_is, sessions_fit}
+
+-- an event did this to an account, for each reading of the names that it uses then
+abbrev pub Does : Account → model.Event → Account → model.Reply → Type 0
+Does old e new reply = (f : Reading) → Fits new.names f → step (state_of f old) e ≡ record { state = state_of f new; reply = reply }
+
+-- what an event does to an account with its journal, by what it does to the account and what is noted
+done_by : (f : Reading) (old new : Account) (j k : Journal) (e : model.Event) (reply : model.Reply) → step (state_of f old) e ≡ record { state = state_of f new; reply = reply } → noted j e (step (state_of f old) e) ≡ k →
+    done (kept_of f (old, j)) e ≡ record { kept = kept_of f (new, k); reply = reply }
+done_by f old new j k e reply is noted_as =
+    ap (λ (i : Journal). let z : Done = record { kept = record { state = (step (state_of f old) e).state; journal = i }; reply = (step (state_of f old) e).reply } in z) noted_as
+    ∙ ap (λ (x : Stepped). let z : Done = record { kept = record { state = x.state; journal = k }; reply = x.reply } in z) is
+
+-- the change of an event was noted
+pub done_change : (f : Reading) (old new : Account) (j k : Journal) (e : model.Event) (reply : model.Reply) (c : Change) → IsReplay (kept_of f (old, j)) → step (state_of f old) e ≡ record { state = state_of f new; reply = reply } → IsChange (texts_of old.names) j e c →
+    k ≡ (if is_refused reply then j else changed j c reply) → done (kept_of f (old, j)) e ≡ record { kept = kept_of f (new, k); reply = reply }
+done_change f old new j k e reply c was is h k_is =
+    done_by f old new j k e reply is
+    (noted_is (state_of f old) (texts_of old.names) j e c h refl was.sessions ∙ ap (λ (x : Stepped). if is_refused x.reply then j else changed j c x.reply) is ∙ sym k_is)
+
+-- an account is the replay of its journal after an event
+kept_by : (old new : Account) (j k : Journal) (e : model.Event) (reply : model.Reply) → IsKept (old, j) → AreNames new.names → Does old e new reply → ((f : Reading) → Fits new.names f → Fits old.names f) →
+    ((f : Reading) → Fits new.names f → done (kept_of f (old, j)) e ≡ record { kept = kept_of f (new, k); reply = reply }) → IsKept (new, k)
+kept_by old new j k e reply was names does before is = record {
+  replay = λ f fits. subst IsReplay (ap (λ (x : Done). x.kept) (is f fits)) (replays_stay (kept_of f (old, j)) e (was.replay f (before f fits)));
+  names =
+      let f = reading_of new.names in
+      subst texts.AreNames (ap (λ (x : Stepped). x.state.names) (does f (reading_fits new.names names))) (step_named (state_of f old) e was.names);
+}
+
+-- so by its change
+pub kept_change : (old new : Account) (j k : Journal) (e : model.Event) (reply : model.Reply) (c : Change) → IsKept (old, j) → AreNames new.names → Does old e new reply → ((f : Reading) → Fits new.names f → Fits old.names f) → IsChange (texts_of old.names) j e c →
+    k ≡ (if is_refused reply then j else changed j c reply) → IsKept (new, k)
+kept_change old new j k e reply c was names does before h k_is =
+    kept_by old new j k e reply was names does before (λ f fits. done_change f old new j k e reply c (was.replay f (before f fits)) (does f fits) h k_is)
+
+-- a reply fits how many sessions are open
+pub fits_change : (old new : Account) (j : Journal) (e : model.Event) (reply : model.Reply) (c : Change) → IsKept (old, j) → AreNames new.names → Does old e new reply → ((f : Reading) → Fits new.names f → Fits old.names f) → IsChange (texts_of old.names) j e c → SessionsFit j c reply
+fits_change old new j e reply c was names does before h =
+    let f = reading_of new.names in
+    let fits = reading_fits new.names names in
+    subst (SessionsFit j c) (ap (λ (x : Stepped). x.reply) (does f fits)) (sessions_fit (state_of f old) (texts_of old.names) j e c h (was.replay f (before f fits)).sessions)
+
+step_noted : (s : State) (j k : Journal) (goal clause : ℕ) (o : Option Refusal) → (step s (model.reduce goal clause)).reply ≡ reduced_or o → k ≡ (if is_some o then j else with_prepared j (if_lined (steps goal clause))) → noted j (model.reduce goal clause) (step s (model.reduce goal clause)) ≡ k
+step_noted s j k goal clause None told is =
+    ap (λ (r : model.Reply). if is_refused r then j else with_prepared j (Some (steps goal clause))) told
+    ∙ ap (with_prepared j) (sym (accepted_entries s (model.reduce goal clause) (ap is_refused told))) ∙ sym is
+step_noted s j k goal clause (Some r) told is = ap (λ (x : model.Reply). if is_refused x then j else with_prepared j (Some (steps goal clause))) told ∙ sym is
+
+-- a reduction was noted
+pub done_step : (f : Reading) (old new : Account) (j k : Journal) (goal clause : ℕ) (o : Option Refusal) → step (state_of f old) (model.reduce goal clause) ≡ record { state = state_of f new; reply = reduced_or o } →
+    k ≡ (if is_some o then j else with_prepared j (if_lined (steps goal clause))) → done (kept_of f (old, j)) (model.reduce goal clause) ≡ record { kept = kept_of f (new, k); reply = reduced_or o }
+done_step f old new j k goal clause o is k_is =
+    done_by f old new j k (model.reduce goal clause) (reduced_or o) is (step_noted (state_of f old) j k goal clause o (ap (λ (x : Stepped). x.reply) is) k_is)
+
+pub kept_step : (old new : Account) (j k : Journal) (goal clause : ℕ) (o : Option Refusal) → IsKept (old, j) → AreNames new.names → Does old (model.reduce goal clause) new (reduced_or o) → ((f : Reading) → Fits new.names f → Fits old.names f) →
+    k ≡ (if is_some o then j else with_prepared j (if_lined (steps goal clause))) → IsKept (new, k)
+kept_step old new j k goal clause o was names does before k_is =
+    kept_by old new j k (model.reduce goal clause) (reduced_or o) was names does before (λ f fits. done_step f old new j k goal clause o (does f fits) k_is)
+
+-- a fresh account is the replay of its journal
+pub kept_fresh : (a : Account) (j : Journal) (name : List ℕ) → a.names ≡ [] → ((f : Reading) → kept_of f (a, j) ≡ fresh_kept name) → IsKept (a, j)
+kept_fresh a j name none is = record {
+  replay = λ f fits. subst IsReplay (sym (is f)) (fresh_is_replay name);
+  names = subst (λ (ks : List Known). texts.AreNames (texts_of ks)) (sym none) no_names;
+}
+
+-- no names are one to one
+pub fresh_names : (ks : List Known) → ks ≡ [] → AreNames ks
+fresh_names ks none =
+    subst AreNames (sym none) (are_names (λ n t. ⊥) [] (record { names = λ t n h. absurd h; not_built_in = λ t n h. absurd h; from_64 = λ t n h. absurd h; one_text = λ t u n h k. absurd h; one_number = λ t m n h k. absurd h }) (record { by_text = λ t n e. absurd (none-some n e); by_number = λ t n e. absurd (none-some t e) }))

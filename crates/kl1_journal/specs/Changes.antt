@@ -1,0 +1,51 @@
+-- What an event changes in a journal.
+use Rattle.std.specs.Prelude.{⊤, ◌≡◌, ℕ, suc, ◌-◌, ◌<◌, ◌⊎◌, List, IfSome}
+use Rattle.kl1_model.specs.Limits.{most_sessions}
+use Rattle.kl1_model.specs.Event as model
+use Rattle.kl1_history.specs.Journal.{Journal, new_journal}
+use Rattle.kl1_entries.specs.Lined.{Rows, lined_entry, with_prepared}
+use Rattle.kl1_journal.specs.declared.change.Change.{Change}
+use Rattle.kl1_journal.specs.declared.change.Change.TheVariants as change
+
+-- a journal after a reply that tells of a session
+abbrev pub sessions_after : Journal → model.Reply → Journal
+sessions_after j (model.welcome name) = record j { sessions = suc j.sessions }
+sessions_after j model.bye = record j { sessions = j.sessions - 1 }
+sessions_after j _ = j
+
+-- a journal after a change, and the reply
+abbrev pub changed : Journal → Change → model.Reply → Journal
+changed j (change.Entry entry) reply = with_prepared j entry
+changed j change.Sessions reply = sessions_after j reply
+changed j (change.Anew new) reply = new.journal
+
+-- whether an event is an entry or a query: it opens and closes no session, and begins no journal
+abbrev pub IsEntered : model.Event → Type 0
+IsEntered model.login = ⊥
+IsEntered model.logout = ⊥
+IsEntered model.reset = ⊥
+IsEntered _ = ⊤
+
+-- a change is that of an event in this journal, where the account uses these names
+abbrev pub IsChange : List (List ℕ) → Journal → model.Event → Change → Type 0
+IsChange names j e (change.Entry entry) = (entry ≡ lined_entry e) × IsEntered e
+IsChange names j e change.Sessions = (e ≡ model.login) ⊎ (e ≡ model.logout)
+IsChange names j e (change.Anew new) = (e ≡ model.reset) × (new.journal ≡ new_journal names j.sessions)
+
+-- there is room for the entry of a change
+abbrev pub HasRoom : Rows → Change → Type 0
+HasRoom rows (change.Entry entry) = IfSome entry (λ _. 0 < rows.room)
+HasRoom rows change.Sessions = ⊤
+HasRoom rows (change.Anew new) = ⊤
+
+-- a reply fits how many sessions are open
+abbrev pub ReplyFits : Journal → model.Reply → Type 0
+ReplyFits j (model.welcome name) = j.sessions < most_sessions
+ReplyFits j model.bye = 0 < j.sessions
+ReplyFits j _ = ⊤
+
+-- a reply fits a change of how many sessions are open
+abbrev pub SessionsFit : Journal → Change → model.Reply → Type 0
+SessionsFit j change.Sessions reply = ReplyFits j reply
+SessionsFit j (change.Entry entry) reply = ⊤
+SessionsFit j (change.Anew new) reply = ⊤

@@ -1,0 +1,25 @@
+-- An account with its journal, of which it is the replay.
+use Rattle.std.specs.Prelude.{◌≡◌, List, []}
+use Rattle.kl1_history.specs.Journal.{Journal, new_journal, Kept}
+use Rattle.kl1_history.specs.HistoryLaws.{IsReplay}
+use Rattle.kl1_history.specs.TextLaws.{AreNames}
+use Rattle.kl1_store.specs.Held.{nothing_held}
+pub use Rattle.kl1_user.specs.Accounts.{Reading, Fits}
+use Rattle.kl1_user.specs.Accounts.{Account, state_of, texts_of}
+
+-- an account with its journal
+abbrev pub Held : Type 0
+Held = Account × Journal
+
+-- what stands for an account where there is none
+abbrev pub nobody : Held
+nobody = (record { own_name = []; held = nothing_held; goals = []; shoens = []; work = []; modules = []; names = []; last_goal = 0; variables = 0; nodes = 0; reports = 0; entries = 0; sessions = 0 }, new_journal [] 0)
+
+-- the account with its journal that these are, for a reading of its names
+abbrev pub kept_of : Reading → Held → Kept
+kept_of f k = record { state = state_of f k.0; journal = k.1 }
+
+-- for each reading of its names an account is the replay of its journal, and its names may have been used
+pub record IsKept (k : Held) : Type 0 where
+  pub replay : (f : Reading) → Fits k.0.names f → IsReplay (kept_of f k)
+  pub names : AreNames (texts_of k.0.names)

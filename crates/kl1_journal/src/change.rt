@@ -1,0 +1,137 @@
+// What an event changes in a journal.
+
+ghost use Rattle.std.specs.Prelude.{◌≡◌, ◌<◌, ℕ, List, is_some, if◌then◌else◌, IfOk, IsOk, IsTrue};
+ghost use Rattle.kl1_model.specs.TreeLaws.{is_refused};
+ghost use Rattle.kl1_event.specs.Views.{event_of, is_logout, reply_of};
+ghost use Rattle.kl1_history.specs.TextLaws.{AreNames};
+ghost use Rattle.kl1_history.specs.Journal.{new_journal, steps};
+ghost use Rattle.kl1_entries.specs.Lined.{if_lined, with_prepared};
+ghost use Rattle.kl1_journal.specs.Changes.{IsChange, HasRoom, SessionsFit, ReplyFits, IsEntered, changed, sessions_after};
+
+use kl1_entries::{Journal, Prepared, entry_for, step_for};
+use kl1_event::{ClauseNo, Event, GoalNo, Refusal, Reply};
+use kl1_text::AtomText;
+use std::alloc::{AllocError, Global};
+
+/// What an event changes in a journal, if it is accepted.
+#[derive(Drop)]
+pub(crate) enum Change {
+    /// This entry comes after the others, if there is one.
+    Entry(Prepared),
+    /// The number of open sessions is what the reply tells.
+    Sessions,
+    /// The journal begins anew as this one.
+    Anew(Journal),
+}
+
+/// What an event changes in the journal of an account that uses `names`, in order of first use, if it is accepted. There is room
+/// for it afterwards. Closing a session asks for no memory.
+pub(crate) fn prepare(
+    alloc: Global,
+    journal: &mut Journal,
+    names: &[AtomText],
+    event: &Event,
+) -> Result<Change, AllocError>
+    requires { AreNames names.now }
+    ensures same { journal.new.journal ≡ journal.old.journal }
+    ensures change { IfOk result (λ change. IsChange names.now journal.old.journal (event_of event.now) change) }
+    ensures room { IfOk result (λ change. HasRoom journal.new change) }
+    ensures logout { IsTrue (is_logout event.now) → IsOk result }
+{
+    match event {
+        Event::Login => Ok(Change::Sessions),
+        Event::Logout => Ok(Change::Sessions),
+        Event::Reset => Ok(Change::Anew(anew(alloc, journal, names)?)),
+        Event::Load { source: _source } => entered(alloc, journal, event),
+        Event::Start {
+            allowance: _allowance,
+            low: _low,
+            high: _high,
+            goal: _goal,
+        } => entered(alloc, journal, event),
+        Event::Control {
+            shoen: _shoen,
+            message: _message,
+        } => entered(alloc, journal, event),
+        Event::Reduce {
+            goal: _goal,
+            clause: _clause,
+        } => entered(alloc, journal, event),
+        Event::Read(_query) => entered(alloc, journal, event),
+    }
+}
+
+/// The journal that a reset begins.
+fn anew(alloc: Global, journal: &Journal, names: &[AtomText]) -> Result<Journal, AllocError>
+    requires { AreNames names.now }
+    ensures { IfOk result (λ new. new.journal ≡ new_journal names.now journal.now.journal.sessions) }
+{
+    // This is called for the fact that it proves: at most 4 sessions are open.
+    journal.shows_written();
+    Journal::with_names(alloc, names, journal.sessions())
+}
+
+/// The entry of an event, with room for it.
+fn entered(alloc: Global, journal: &mut Journal, event: &Event) -> Result<Change, AllocError>
+    requires { IsEntered (event_of event.now) }
+    ensures same { journal.new.journal ≡ journal.old.journal }
+    ensures change { IfOk result (λ change. (names : List (List ℕ)) → IsChange names journal.old.journal (event_of event.now) change) }
+    ensures room { IfOk result (λ change. HasRoom journal.new change) }
+{
+    let entry = entry_for(alloc, event)?;
+    journal.reserve()?;
+    Ok(Change::Entry(entry))
+}
+
+/// Changes a journal after a reply, unless that is a refusal.
+pub(crate) fn note(journal: &mut Journal, change: Change, reply: &Reply)
+    requires room { HasRoom journal.old change }
+    requires sessions { SessionsFit journal.old.journal change (reply_of reply.now) }
+    ensures { journal.new.journal ≡ (if is_refused (reply_of reply.now) then journal.old.journal else changed journal.old.journal change (reply_of reply.now)) }
+{
+    if is_refusal(reply) {
+        return;
+    }
+    match change {
+        Change::Entry(entry) => journal.put(entry),
+        Change::Sessions => note_sessions(journal, reply),
+        Change::Anew(new) => *journal = new,
+    }
+}
+
+/// Puts the entry of a reduction after the others, unless it was refused.
+pub(crate) fn note_step(
+    journal: &mut Journal,
+    goal: GoalNo,
+    clause: ClauseNo,
+    refused: &Option<Refusal>,
+)
+    requires { 0 < journal.old.room }
+    ensures { journal.new.journal ≡ (if is_some refused.now then journal.old.journal else with_prepared journal.old.journal (if_lined (steps goal.0 clause.0))) }
+{
+    if refused.is_none() {
+        journal.put(step_for(goal.0, clause.0));
+    }
+}
+
+/// Counts a session that was opened or closed.
+fn note_sessions(journal: &mut Journal, reply: &Reply)
+    requires { ReplyFits journal.old.journal (reply_of reply.now) }
+    ensures { journal.new.journal ≡ sessions_after journal.old.journal (reply_of reply.now) }
+{
+    // This is called for the fact that it proves: at most 4 sessions are open.
+    journal.shows_written();
+    let sessions = journal.sessions();
+    match reply {
+        Reply::Welcome(_name) => journal.set_sessions(sessions + 1),
+        Reply::Bye => journal.set_sessions(sessions - 1),
+        _ => {}
+    }
+}
+
+/// Whether a reply is a refusal.
+fn is_refusal(reply: &Reply) -> bool
+    ensures { result ≡ is_refused (reply_of reply.now) }
+{
+    matches!(reply, Reply::Refused(_))
+}

@@ -1,0 +1,9 @@
+//! An account that is the replay of its journal: what each event does to both, and the reply.
+#![tactic(auto)]
+
+mod change;
+mod kept;
+
+pub use kept::Kept;
+pub use kl1_entries::Journal;
+pub use kl1_user::AccountName;

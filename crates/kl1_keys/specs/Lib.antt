@@ -1,0 +1,3 @@
+pub mod Limits
+pub mod Files
+pub mod Views

@@ -1,0 +1,5 @@
+pub mod NewNames
+pub mod LinesOfNames
+pub mod Accepted
+pub mod Endings
+pub mod Readings

@@ -1,0 +1,4 @@
+pub mod Fronts
+pub mod Replays
+pub mod Steps
+pub mod Names

@@ -1,0 +1,28 @@
+-- Inputs that are kept.
+use Rattle.std.specs.Prelude.{◌≡◌, ℕ, List, ◌++◌, map, Option}
+use Rattle.kl1_event.specs.Views.{refusal_of}
+use Rattle.kl1_command.specs.Commands.{command_view}
+use Rattle.kl1_history.specs.Cut.{Cut}
+use Rattle.kl1_history.specs.Inputs as inputs
+use Rattle.kl1_history.specs.Inputs.{inputs_in}
+use Rattle.kl1_session.specs.Going.{rest_of, IsKept, IsFew, going}
+use Rattle.kl1_session.specs.declared.input.Input.{Input}
+use Rattle.kl1_session.specs.declared.input.Input.TheVariants as input
+
+-- the input that this one is
+abbrev pub input_view : Input → inputs.Input
+input_view (input.Login name key) = inputs.login name.items key.items
+input_view (input.Command c) = inputs.command (command_view c)
+input_view (input.Refused r) = inputs.refused (refusal_of r)
+
+-- the inputs of a cut were put after others, and its rest is what is kept
+pub record Collects (cut : Cut) (before after : List Input) (source : Option ℕ) (kept : List ℕ) : Type 0 where
+  pub inputs : map input_view after ≡ map input_view before ++ inputs_in cut
+  pub rest : rest_of source kept ≡ cut.rest
+  pub fits : IsKept source kept
+
+-- what bytes ask for that were ended was put after others, or they began a load: so the inputs and the rest go on, whatever follows
+pub record Begins (cut : List ℕ → Cut) (before after : List Input) (source : Option ℕ) : Type 0 where
+  pub inputs : (bytes : List ℕ) → map input_view after ++ inputs_in (going source bytes) ≡ map input_view before ++ inputs_in (cut bytes)
+  pub rest : (bytes : List ℕ) → (going source bytes).rest ≡ (cut bytes).rest
+  pub few : IsFew source

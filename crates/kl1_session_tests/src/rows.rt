@@ -1,0 +1,17 @@
+// The answers to rows, by the kinds of their groups.
+
+use crate::asked::is_asked;
+use crate::files::is_file;
+use crate::kind::Kind;
+use crate::talks::{closes_sessions, is_talk};
+use std::alloc::Global;
+
+/// Whether an act of a kind comes to the answer that is wanted.
+pub fn is_right(alloc: Global, kind: Kind, act: &[u8], wanted: &[u8]) -> bool {
+    match kind {
+        Kind::Stream => is_asked(alloc, act, wanted),
+        Kind::File => is_file(alloc, act, wanted),
+        Kind::Talk => is_talk(alloc, act, wanted),
+        Kind::Faults => closes_sessions(alloc, act, wanted),
+    }
+}

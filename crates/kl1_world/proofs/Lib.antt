@@ -1,0 +1,4 @@
+pub mod Lodgings
+pub mod Steps
+pub mod Runs
+pub mod Makes

@@ -1,0 +1,44 @@
+use Rattle.std.proofs.Common.{◌≡◌, ℕ, List, ap, sym, ◌∙◌, subst, refl}
+use Rattle.std.specs.Prelude.{IfOk, OnErr, option_map, slice_set}
+use Rattle.kl1_event.specs.Whole.{whole_value}
+use Rattle.kl1_modules.specs.Numbered.{ArePlaced}
+use Rattle.kl1_journal.specs.Keeping.{Reading, Fits}
+use Rattle.kl1_journal.specs.Keeping.{Held, kept_of}
+use Rattle.kl1_world.specs.Worlds.{account_in}
+use Rattle.kl1_world.proofs.Lodgings.{accounts_of, as_many, stands, account_at, lodged_set, changed_at, changed_all, changed_none}
+use Rattle.kl1_world.proofs.Steps.{moved, on_err, still_within}
+use Rattle.kl1_world.proofs.world.World.whole_value_at.Goals as goal
+
+pub invariant_of-self : goal.invariant_of-self
+invariant_of-self g c =
+    let xs = c.self.inside.accounts.items in
+    let n = c.args.account in
+    let x = c.index_mut-kept.result.now in
+    let view : accounts_of xs ≡ c.args.self.now.0 = ap (λ p. p.0) c.self.view_is in
+    let less = as_many xs c.args.self.now.0 n view c.requires in
+    let at = stands xs n x less c.index_mut-kept.ensures.value in
+    let y = c.whole_value.new.self in
+    let has = g.C.CodeSource.has c.self.inside.code_source in
+    (lodged_set g.A.AtomSource.is_of g.A.AtomSource.place has has c.self.inside.names c.whole_value.new.names xs n x y
+    c.self.invariant.0 at c.whole_value.ensures.of c.whole_value.ensures.place c.whole_value.ensures.others (subst (λ (h : Held). ArePlaced has h.0.modules) (sym c.whole_value.ensures.same) (c.self.invariant.0 n x at).2) (λ p. (λ h. h, λ h. h)), still_within xs n c.self.inside.at y c.self.invariant.1)
+
+pub returns-clause-whole : goal.returns-clause-whole
+returns-clause-whole g c =
+    let xs = c.self.inside.accounts.items in
+    let n = c.args.account in
+    let x = c.index_mut-kept.result.now in
+    let view : accounts_of xs ≡ c.args.self.now.0 = ap (λ p. p.0) c.self.view_is in
+    let less = as_many xs c.args.self.now.0 n view c.requires in
+    let at = stands xs n x less c.index_mut-kept.ensures.value in
+    let y = c.whole_value.new.self in
+    subst (λ (b : Held). IfOk c.whole_value.result (λ shown. (f : Reading) → Fits b.0.names f → option_map (λ text. text.items) shown ≡ whole_value (kept_of f b).state c.args.shoen.0)) (sym (changed_at xs n y less)) c.whole_value.ensures.whole
+
+pub returns-clause-same : goal.returns-clause-same
+returns-clause-same g c =
+    let xs = c.self.inside.accounts.items in
+    let n = c.args.account in
+    let x = c.index_mut-kept.result.now in
+    let view : accounts_of xs ≡ c.args.self.now.0 = ap (λ p. p.0) c.self.view_is in
+    let less = as_many xs c.args.self.now.0 n view c.requires in
+    let at = stands xs n x less c.index_mut-kept.ensures.value in
+    ap (λ (us : List Held). (us, c.self.inside.at)) (changed_none xs (accounts_of xs) n x c.whole_value.new.self refl at c.whole_value.ensures.same) ∙ c.self.view_is

@@ -1,0 +1,2 @@
+pub mod Lodging
+pub mod Worlds
