@@ -197,11 +197,7 @@ fn log_in<D: Desk>(desk: &mut D, account: usize, visitor: &mut Visitor) -> Resul
 
 /// Closes the session of an account, and tells whether that was done. The visitor is out before the reply is put, so that no session
 /// is closed twice.
-fn log_out<D: Desk>(
-    desk: &mut D,
-    account: usize,
-    visitor: &mut Visitor,
-) -> Result<bool, AllocError>
+fn log_out<D: Desk>(desk: &mut D, account: usize, visitor: &mut Visitor) -> Result<bool, AllocError>
     requires { account < D.accounts desk.old }
     ensures desk { D.accounts desk.new ≡ D.accounts desk.old }
     ensures visitor { (n : ℕ) → IsVisitor n visitor.old.account → IsVisitor n visitor.new.account }

@@ -82,7 +82,12 @@ impl<A: AtomSource, C: CodeSource> Kept<A, C> {
 
     /// What an event does to the account and its journal, and the reply. If memory is refused, both are as before, and so is what
     /// the seat knows; a code may have been put in. A session is closed without memory.
-    pub fn apply(&mut self, names: &mut A, codes: &mut C, event: &Event) -> Result<Reply, AllocError>
+    pub fn apply(
+        &mut self,
+        names: &mut A,
+        codes: &mut C,
+        event: &Event,
+    ) -> Result<Reply, AllocError>
         requires of { A.is_of names.old self.old.0 }
         requires placed { ArePlaced (C.has codes.old) self.old.1.0.modules }
         ensures step { IfOk result (λ reply. (f : Reading) → Fits self.new.1.0.names f → done (kept_of f self.old.1) (event_of event.now) ≡ record { kept = kept_of f self.new.1; reply = reply_of reply }) }
@@ -120,7 +125,9 @@ impl<A: AtomSource, C: CodeSource> Kept<A, C> {
         ensures modules { self.new.1.0.modules ≡ self.old.1.0.modules }
     {
         self.journal.reserve()?;
-        let refused = self.user.reduce(names, &mut self.seat, codes, goal, clause)?;
+        let refused = self
+            .user
+            .reduce(names, &mut self.seat, codes, goal, clause)?;
         note_step(&mut self.journal, goal, clause, &refused);
         Ok(refused)
     }

@@ -42,7 +42,9 @@ impl Desk for Book {
         match command {
             Command::Does(Event::Login) => Performed::Whole(self.login(account)),
             Command::Does(Event::Logout) => Performed::Whole(self.logout(account)),
-            Command::Does(Event::Read(Query::Quiet)) => Performed::Whole(Reply::Quiet(account == 1)),
+            Command::Does(Event::Read(Query::Quiet)) => Performed::Whole(Reply::Quiet(
+                account == 1,
+            )),
             Command::Does(_) => Performed::Whole(Reply::Sent),
             Command::Run(7) => Performed::Short { steps: 3 },
             Command::Run(8) => Performed::Memory,

@@ -32,7 +32,10 @@ fn talk_of(
     reads: u64,
     writes: u64,
 ) -> Result<Talk, AllocError> {
-    let keys = [key_of(alloc, b"bob", b"k2")?, key_of(alloc, b"alice", b"k1")?];
+    let keys = [
+        key_of(alloc, b"bob", b"k2")?,
+        key_of(alloc, b"alice", b"k1")?,
+    ];
     let mut source = Counted::new(Failing {
         inner: bytes,
         calls: reads,
@@ -108,8 +111,14 @@ pub fn closes_sessions(alloc: Global, bytes: &[u8], wanted: &[u8]) -> bool {
         };
         if !is_closed(&read.book)
             || !is_closed(&write.book)
-            || !whole.written.as_slice().starts_with(read.written.as_slice())
-            || !whole.written.as_slice().starts_with(write.written.as_slice())
+            || !whole
+                .written
+                .as_slice()
+                .starts_with(read.written.as_slice())
+            || !whole
+                .written
+                .as_slice()
+                .starts_with(write.written.as_slice())
         {
             return false;
         }

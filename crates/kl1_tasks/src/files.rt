@@ -17,10 +17,7 @@ fn read_text(rt: &HostRuntime, name: &str) -> io::Result<Vec<u8>> {
 }
 
 /// The file for the journal, made or emptied, if one is named.
-pub fn journal_file(
-    rt: &HostRuntime,
-    name: Option<&str>,
-) -> Result<Option<Counted<File>>, Fault> {
+pub fn journal_file(rt: &HostRuntime, name: Option<&str>) -> Result<Option<Counted<File>>, Fault> {
     let Some(name) = name else {
         return Ok(None);
     };

@@ -37,9 +37,11 @@ invariant_of-self g c =
     let view : accounts_of xs ≡ c.args.self.now.0 = ap (λ p. p.0) c.self.view_is in
     let less = as_many xs c.args.self.now.0 n view c.requires in
     let at = stands xs n x less c.index_mut-kept.ensures.value in
-    let y = c.apply.new.self in
-    (lodged_set g.A.AtomSource.is_of g.A.AtomSource.place (g.C.CodeSource.has c.self.inside.code_source) (g.C.CodeSource.has c.apply.new.codes) c.self.inside.names c.apply.new.names xs n x y
-    c.self.invariant.0 at c.apply.ensures.of c.apply.ensures.place c.apply.ensures.others c.apply.ensures.placed c.apply.ensures.same, still_within xs n c.self.inside.at y c.self.invariant.1)
+    let y = c.apply.new.self in (
+      lodged_set g.A.AtomSource.is_of g.A.AtomSource.place (g.C.CodeSource.has c.self.inside.code_source) (g.C.CodeSource.has c.apply.new.codes) c.self.inside.names c.apply.new.names xs n x y
+          c.self.invariant.0 at c.apply.ensures.of c.apply.ensures.place c.apply.ensures.others c.apply.ensures.placed c.apply.ensures.same,
+      still_within xs n c.self.inside.at y c.self.invariant.1,
+    )
 
 pub returns-clause-step : goal.returns-clause-step
 returns-clause-step g c =

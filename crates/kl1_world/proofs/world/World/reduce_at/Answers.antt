@@ -40,9 +40,11 @@ invariant_of-self g c =
     let less = as_many xs c.args.self.now.0 n view c.requires in
     let at = stands xs n x less c.index_mut-kept.ensures.value in
     let y = c.reduce.new.self in
-    let has = g.C.CodeSource.has c.self.inside.code_source in
-    (lodged_set g.A.AtomSource.is_of g.A.AtomSource.place has has c.self.inside.names c.reduce.new.names xs n x y
-    c.self.invariant.0 at c.reduce.ensures.of c.reduce.ensures.place c.reduce.ensures.others (subst (ArePlaced has) (sym c.reduce.ensures.modules) (c.self.invariant.0 n x at).2) (λ p. (λ h. h, λ h. h)), still_within xs n c.self.inside.at y c.self.invariant.1)
+    let has = g.C.CodeSource.has c.self.inside.code_source in (
+      lodged_set g.A.AtomSource.is_of g.A.AtomSource.place has has c.self.inside.names c.reduce.new.names xs n x y
+          c.self.invariant.0 at c.reduce.ensures.of c.reduce.ensures.place c.reduce.ensures.others (subst (ArePlaced has) (sym c.reduce.ensures.modules) (c.self.invariant.0 n x at).2) (λ p. (λ h. h, λ h. h)),
+      still_within xs n c.self.inside.at y c.self.invariant.1,
+    )
 
 pub returns-clause-step : goal.returns-clause-step
 returns-clause-step g c =

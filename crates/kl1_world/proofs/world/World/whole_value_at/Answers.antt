@@ -18,9 +18,11 @@ invariant_of-self g c =
     let less = as_many xs c.args.self.now.0 n view c.requires in
     let at = stands xs n x less c.index_mut-kept.ensures.value in
     let y = c.whole_value.new.self in
-    let has = g.C.CodeSource.has c.self.inside.code_source in
-    (lodged_set g.A.AtomSource.is_of g.A.AtomSource.place has has c.self.inside.names c.whole_value.new.names xs n x y
-    c.self.invariant.0 at c.whole_value.ensures.of c.whole_value.ensures.place c.whole_value.ensures.others (subst (λ (h : Held). ArePlaced has h.0.modules) (sym c.whole_value.ensures.same) (c.self.invariant.0 n x at).2) (λ p. (λ h. h, λ h. h)), still_within xs n c.self.inside.at y c.self.invariant.1)
+    let has = g.C.CodeSource.has c.self.inside.code_source in (
+      lodged_set g.A.AtomSource.is_of g.A.AtomSource.place has has c.self.inside.names c.whole_value.new.names xs n x y
+          c.self.invariant.0 at c.whole_value.ensures.of c.whole_value.ensures.place c.whole_value.ensures.others (subst (λ (h : Held). ArePlaced has h.0.modules) (sym c.whole_value.ensures.same) (c.self.invariant.0 n x at).2) (λ p. (λ h. h, λ h. h)),
+      still_within xs n c.self.inside.at y c.self.invariant.1,
+    )
 
 pub returns-clause-whole : goal.returns-clause-whole
 returns-clause-whole g c =
