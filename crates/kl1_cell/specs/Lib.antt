@@ -1,0 +1,4 @@
+pub mod Cells
+pub mod Told
+pub mod Filling
+pub mod Stepping
