@@ -1,3 +1,4 @@
 pub mod Tells
 pub mod FirstSteps
 pub mod Runs
+pub mod Cells
