@@ -2,3 +2,4 @@ pub mod Tells
 pub mod FirstSteps
 pub mod Runs
 pub mod Cells
+pub mod Grows

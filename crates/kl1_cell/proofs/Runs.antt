@@ -67,3 +67,20 @@ vain_entry s after e reply entry told same =
 -- an event that is none is done
 pub vain_other : (s : Kept) (e : model.Event) (d : Done) → is_entry e ≡ false → done s e ≡ d → act_in_vain s (does e) ≡ d
 vain_other s e d other is = ap (λ (b : Bool). if b then said s (model.refused model.journal_full) else done s e) other ∙ is
+
+vain_by : (b : Bool) (s after : Kept) (e : model.Event) (reply : model.Reply) → is_entry e ≡ b → (is_entry e ≡ true → (reply ≡ model.refused model.journal_full) × (after ≡ s)) → (is_entry e ≡ false → done s e ≡ record { kept = after; reply = reply }) → act_in_vain s (does e) ≡ record { kept = after; reply = reply }
+vain_by true s after e reply is entry other = vain_entry s after e reply is (entry is).0 (entry is).1
+vain_by false s after e reply is entry other = vain_other s e (record { kept = after; reply = reply }) is (other is)
+
+-- an event, in vain or not
+pub vain_event : (s after : Kept) (e : model.Event) (reply : model.Reply) → (is_entry e ≡ true → (reply ≡ model.refused model.journal_full) × (after ≡ s)) → (is_entry e ≡ false → done s e ≡ record { kept = after; reply = reply }) → act_in_vain s (does e) ≡ record { kept = after; reply = reply }
+vain_event s after e reply entry other = vain_by (is_entry e) s after e reply refl entry other
+
+-- the same by the event of a command
+pub vain_command : (s after : Kept) (c : Command) (e : model.Event) (reply : model.Reply) → c ≡ does e → act_in_vain s (does e) ≡ record { kept = after; reply = reply } → act_in_vain s c ≡ record { kept = after; reply = reply }
+vain_command s after c e reply is h = subst (λ (x : Command). act_in_vain s x ≡ record { kept = after; reply = reply }) (sym is) h
+
+-- an event that isn't an entry has room
+pub has_room : (X : Type 0) (b : Bool) → b ≡ false → b ≡ true → X
+has_room X true no yes = cc
+has_room X false no yes = cc

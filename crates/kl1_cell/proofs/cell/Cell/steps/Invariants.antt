@@ -3,7 +3,7 @@ use Rattle.kl1_tickets.specs.Counts.{Moved}
 use Rattle.kl1_journal.specs.Keeping.{Reading, Fits, kept_of}
 use Rattle.kl1_cell.specs.Counted.{with_more}
 use Rattle.kl1_cell.specs.Stepping.{RunsOn}
-use Rattle.kl1_cell.proofs.running.Cell.steps.Given as goal
+use Rattle.kl1_cell.proofs.cell.Cell.steps.Given as goal
 
 -- runs go on at the account after the steps that are done, which are counted
 abbrev pub invariant-loop-done : goal.invariant-loop-done
