@@ -1,0 +1,5 @@
+pub mod Counted
+pub mod Cells
+pub mod Told
+pub mod Filling
+pub mod Stepping
