@@ -1,0 +1,49 @@
+// Accounts in which nothing has happened, each under its lock.
+
+ghost use Rattle.std.specs.Prelude.{◌≡◌, IfOk, All, vec_len};
+ghost use Rattle.kl1_tickets.specs.Parts.{IsNewBook};
+ghost use Rattle.kl1_pool.specs.Parts.{AreFreshSeats, IsFreshSeat};
+
+use crate::place::Place;
+use crossbeam_utils::CachePadded;
+use kl1_atoms::AtomSeat;
+use kl1_cell::{AccountName, Cell, CellNaming};
+use kl1_journal::Kept;
+use kl1_tally::BookSeat;
+use std::alloc::{AllocError, Global};
+use std::sync::{Mutex, Wait};
+
+/// An account of this name in which nothing has happened, under its lock.
+fn place_of<'t, R: Wait, K: CellNaming>(
+    alloc: Global,
+    name: AccountName,
+    seat: AtomSeat,
+    book: BookSeat,
+) -> Result<Mutex<Place<'t, R, K>>, AllocError>
+    requires seat { IsFreshSeat K.table K.seats seat }
+    requires book { IsNewBook K.tally book }
+{
+    let kept = Kept::new(alloc, name, seat)?;
+    let cell = CachePadded::new(Cell::new(kept, book));
+    Ok(Mutex::new(Place { cell }))
+}
+
+/// An account for each book, in the order of the books, with the name and the seat at its place.
+pub(crate) fn places_of<'t, R: Wait, K: CellNaming>(
+    alloc: Global,
+    mut names: Vec<AccountName>,
+    mut seats: Vec<AtomSeat>,
+    mut books: Vec<BookSeat>,
+) -> Result<Vec<Mutex<Place<'t, R, K>>>, AllocError>
+    requires seats { AreFreshSeats K.table K.seats seats.items }
+    requires books { All (IsNewBook K.tally) books.items }
+    requires count { (vec_len names ≡ vec_len books) × (vec_len seats ≡ vec_len books) }
+    ensures { IfOk result (λ places. vec_len places ≡ vec_len books) }
+{
+    let mut places = Vec::with_capacity(alloc, books.len())?;
+    while let (Some(name), Some(seat), Some(book)) = (names.pop(), seats.pop(), books.pop()) {
+        places.push_reserved(place_of::<R, K>(alloc, name, seat, book)?);
+    }
+    places.as_mut_slice().reverse();
+    Ok(places)
+}
