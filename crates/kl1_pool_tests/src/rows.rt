@@ -1,0 +1,121 @@
+// Rows of what is asked of two accounts before, while and after workers are at work.
+
+use crate::gate::Counter;
+use crate::job::Job;
+use crate::play::play;
+use crate::tried::tried;
+use kl1_pool::{CellNaming, Pool, Share, Totals, worker};
+use kl1_rows::{Text, cut};
+use std::alloc::Global;
+use std::rt::Clock;
+use std::sync::Wait;
+use std::thread::Threads;
+
+/// What parts the texts of a row.
+const MARK: u8 = b'~';
+
+/// The records of a row. The thread of the number 0 plays `during`, and then ends the workers in the other threads.
+#[derive(Drop)]
+struct Row<'a> {
+    gate: Counter,
+    before: &'a [u8],
+    during: &'a [u8],
+    after: &'a [u8],
+}
+
+impl Job for Row<'_> {
+    fn begin<'t, R: Wait + Clock, K: CellNaming>(
+        &self,
+        rt: &R,
+        pool: &Pool<'t, R, K>,
+        share: &mut Share<K>,
+        out: &mut Text,
+    ) {
+        play(rt, pool, &self.gate, self.before, share, out);
+    }
+
+    fn go_on<'t, R: Wait + Clock, K: CellNaming>(
+        &self,
+        rt: &R,
+        pool: &Pool<'t, R, K>,
+        number: u64,
+        share: &mut Share<K>,
+        out: &mut Text,
+    ) {
+        if number == 0 {
+            play(rt, pool, &self.gate, self.during, share, out);
+            pool.close();
+        } else {
+            worker(rt, pool, &self.gate, number, share);
+        }
+    }
+
+    fn end<'t, R: Wait + Clock, K: CellNaming>(
+        &self,
+        rt: &R,
+        pool: &Pool<'t, R, K>,
+        share: &mut Share<K>,
+        out: &mut Text,
+    ) {
+        play(rt, pool, &self.gate, self.after, share, out);
+    }
+}
+
+/// Puts the totals of the first two accounts, a line each: events, steps, tickets put, taken and left; or, if workers were ended in
+/// the midst of their work, only by how much the events are more than the steps, and how many tickets are left.
+fn put_totals(out: &mut Text, told: &Totals, are_known: bool) {
+    for account in 0..2 {
+        if are_known {
+            out.put_number(told.events[account]);
+            out.put(b" ");
+            out.put_number(told.steps[account]);
+            out.put(b" ");
+            out.put_number(told.puts[account] as u64);
+            out.put(b" ");
+            out.put_number(told.takes[account] as u64);
+            out.put(b" ");
+        } else {
+            out.put_number(told.events[account].saturating_sub(told.steps[account]));
+            out.put(b" ");
+        }
+        out.put_number(told.left[account] as u64);
+        out.put(b"\n");
+    }
+}
+
+/// What a row answers. Its first text is how many workers there are, from 0 to 9, with `h` after it if the gate holds who enters
+/// first, or `m` if workers are ended in the midst of their work.
+fn answer<R: Threads + Wait + Clock + Sync>(rt: &R, act: &[u8], out: &mut Text) {
+    let (how, rest) = cut(act, MARK);
+    let (before, rest) = cut(rest, MARK);
+    let (during, after) = cut(rest, MARK);
+    let workers = match how.first() {
+        Some(digit) => usize::from(digit.saturating_sub(b'0').min(9)),
+        None => 0,
+    };
+    let row = Row {
+        gate: Counter::new(how.ends_with(b"h")),
+        before,
+        during,
+        after,
+    };
+    match tried(rt, 2, workers + 1, &row, out) {
+        Ok(told) => put_totals(out, &told, !how.ends_with(b"m")),
+        Err(_) => out.fail(),
+    }
+    if row.gate.has_met() {
+        out.put(b"met\n");
+    }
+}
+
+/// Whether a row answers this.
+pub fn is_right<R: Threads + Wait + Clock + Sync>(
+    rt: &R,
+    alloc: Global,
+    act: &[u8],
+    wanted: &[u8],
+) -> bool {
+    let mut out = Text::new(alloc);
+    answer(rt, act, &mut out);
+    !out.has_failed && out.bytes.as_slice() == wanted
+}
