@@ -1,6 +1,6 @@
 // Accounts in which nothing has happened, each under its lock.
 
-ghost use Rattle.std.specs.Prelude.{◌≡◌, IfOk, All, vec_len};
+ghost use Rattle.std.specs.Prelude.{◌≡◌, ◌<◌, ◌++◌, ◌∷◌, [], IfOk, All, vec_len};
 ghost use Rattle.kl1_tickets.specs.Parts.{IsNewBook};
 ghost use Rattle.kl1_pool.specs.Parts.{AreFreshSeats, IsFreshSeat};
 
@@ -28,6 +28,17 @@ fn place_of<'t, R: Wait, K: CellNaming>(
     Ok(Mutex::new(Place { cell }))
 }
 
+/// The last of a list, which is taken off.
+fn last_of<T>(list: &mut Vec<T>) -> T
+    requires { 0 < vec_len list.old }
+    ensures { list.old.items ≡ list.new.items ++ result ∷ [] }
+{
+    let Some(last) = list.pop() else {
+        unreachable!()
+    };
+    last
+}
+
 /// An account for each book, in the order of the books, with the name and the seat at its place.
 pub(crate) fn places_of<'t, R: Wait, K: CellNaming>(
     alloc: Global,
@@ -41,7 +52,9 @@ pub(crate) fn places_of<'t, R: Wait, K: CellNaming>(
     ensures { IfOk result (λ places. vec_len places ≡ vec_len books) }
 {
     let mut places = Vec::with_capacity(alloc, books.len())?;
-    while let (Some(name), Some(seat), Some(book)) = (names.pop(), seats.pop(), books.pop()) {
+    while let Some(book) = books.pop() {
+        let name = last_of(&mut names);
+        let seat = last_of(&mut seats);
         places.push_reserved(place_of::<R, K>(alloc, name, seat, book)?);
     }
     places.as_mut_slice().reverse();

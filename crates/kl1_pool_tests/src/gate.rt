@@ -7,24 +7,42 @@ use std::thread;
 /// How often a wait looks again.
 pub const LOOKS: u32 = 1_000_000;
 
-/// Counts who entered and who left. If it holds, who enters first is held until a second has entered, but for at most `LOOKS` looks.
+/// Whom a gate holds, but for at most `LOOKS` looks.
+#[derive(Clone, Copy)]
+pub enum Held {
+    /// Nobody.
+    None,
+    /// Who enters first, until a second has entered.
+    First,
+    /// Who enters after as many, until it is opened.
+    After(u64),
+}
+
+/// Counts who entered and who left, and may hold some.
 #[derive(Drop)]
 pub struct Counter {
-    holds: bool,
+    held: Held,
     entered: AtomicU64,
     left: AtomicU64,
     met: AtomicU64,
+    open: AtomicU64,
 }
 
 impl Counter {
     /// A gate that nobody has come to.
-    pub fn new(holds: bool) -> Counter {
+    pub fn new(held: Held) -> Counter {
         Counter {
-            holds,
+            held,
             entered: AtomicU64::new(0),
             left: AtomicU64::new(0),
             met: AtomicU64::new(0),
+            open: AtomicU64::new(0),
         }
+    }
+
+    /// Holds nobody from now on.
+    pub fn open(&self) {
+        self.open.store(1, Ordering::SeqCst);
     }
 
     /// How many have entered.
@@ -43,10 +61,20 @@ impl Counter {
     }
 
     /// Waits until a second has entered.
-    fn hold(&self) {
+    fn meet(&self) {
         for _look in 0..LOOKS {
             if self.entered() > 1 {
                 self.met.store(1, Ordering::SeqCst);
+                return;
+            }
+            thread::yield_now();
+        }
+    }
+
+    /// Waits until the gate is opened.
+    fn hold(&self) {
+        for _look in 0..LOOKS {
+            if self.open.load(Ordering::SeqCst) == 1 {
                 return;
             }
             thread::yield_now();
@@ -56,9 +84,11 @@ impl Counter {
 
 impl Gate for Counter {
     fn enter(&self, _worker: u64) {
-        let first = self.entered.fetch_add(1, Ordering::SeqCst) == 0;
-        if self.holds && first {
-            self.hold();
+        let before = self.entered.fetch_add(1, Ordering::SeqCst);
+        match self.held {
+            Held::First if before == 0 => self.meet(),
+            Held::After(count) if before >= count => self.hold(),
+            _ => {}
         }
     }
 

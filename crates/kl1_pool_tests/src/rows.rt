@@ -1,6 +1,6 @@
 // Rows of what is asked of two accounts before, while and after workers are at work.
 
-use crate::gate::Counter;
+use crate::gate::{Counter, Held};
 use crate::job::Job;
 use crate::play::play;
 use crate::tried::tried;
@@ -45,6 +45,7 @@ impl Job for Row<'_> {
         if number == 0 {
             play(rt, pool, &self.gate, self.during, share, out);
             pool.close();
+            self.gate.open();
         } else {
             worker(rt, pool, &self.gate, number, share);
         }
@@ -61,8 +62,8 @@ impl Job for Row<'_> {
     }
 }
 
-/// Puts the totals of the first two accounts, a line each: events, steps, tickets put, taken and left; or, if workers were ended in
-/// the midst of their work, only by how much the events are more than the steps, and how many tickets are left.
+/// Puts the totals of the first two accounts, a line each: events, steps, tickets put, taken and left; or, if the number of steps
+/// isn't known, by how much the events are more, and how many tickets are left.
 fn put_totals(out: &mut Text, told: &Totals, are_known: bool) {
     for account in 0..2 {
         if are_known {
@@ -73,34 +74,45 @@ fn put_totals(out: &mut Text, told: &Totals, are_known: bool) {
             out.put_number(told.puts[account] as u64);
             out.put(b" ");
             out.put_number(told.takes[account] as u64);
-            out.put(b" ");
         } else {
             out.put_number(told.events[account].saturating_sub(told.steps[account]));
-            out.put(b" ");
         }
+        out.put(b" ");
         out.put_number(told.left[account] as u64);
         out.put(b"\n");
     }
 }
 
-/// What a row answers. Its first text is how many workers there are, from 0 to 9, with `h` after it if the gate holds who enters
-/// first, or `m` if workers are ended in the midst of their work.
+/// What a row's first text says: how many workers there are, whom the gate holds, and whether the number of steps is known.
+fn how(text: &[u8]) -> (usize, Held, bool) {
+    match text {
+        [digit, letters @ ..] => {
+            let workers = usize::from(digit.saturating_sub(b'0').min(9));
+            match letters {
+                b"meet" => (workers, Held::First, true),
+                b"cut" => (workers, Held::After(8), false),
+                b"some" => (workers, Held::None, false),
+                _ => (workers, Held::None, true),
+            }
+        }
+        _ => (0, Held::None, true),
+    }
+}
+
+/// What a row answers.
 fn answer<R: Threads + Wait + Clock + Sync>(rt: &R, act: &[u8], out: &mut Text) {
-    let (how, rest) = cut(act, MARK);
+    let (front, rest) = cut(act, MARK);
     let (before, rest) = cut(rest, MARK);
     let (during, after) = cut(rest, MARK);
-    let workers = match how.first() {
-        Some(digit) => usize::from(digit.saturating_sub(b'0').min(9)),
-        None => 0,
-    };
+    let (workers, held, are_known) = how(front);
     let row = Row {
-        gate: Counter::new(how.ends_with(b"h")),
+        gate: Counter::new(held),
         before,
         during,
         after,
     };
     match tried(rt, 2, workers + 1, &row, out) {
-        Ok(told) => put_totals(out, &told, !how.ends_with(b"m")),
+        Ok(told) => put_totals(out, &told, are_known),
         Err(_) => out.fail(),
     }
     if row.gate.has_met() {

@@ -2,7 +2,7 @@
 
 ghost use Rattle.std.specs.Prelude.{◌≡◌, ◌<◌, ◌≤◌};
 
-use crate::gate::Counter;
+use crate::gate::{Counter, Held};
 use crate::job::Job;
 use crate::play::{is_quiet, put_answer};
 use crate::tried::tried;
@@ -174,7 +174,7 @@ pub fn steps_a_second<R: Threads + Wait + Clock + Sync>(
 {
     let mut out = Text::new(alloc);
     let busy = Busy {
-        gate: Counter::new(false),
+        gate: Counter::new(Held::None),
         busy: accounts,
         start: b"start 200000 0 10 r:spin",
         asked: Asked::Rest,
@@ -192,7 +192,7 @@ pub fn put_looks<R: Threads + Wait + Clock + Sync>(
     account: usize,
 ) {
     let job = Busy {
-        gate: Counter::new(false),
+        gate: Counter::new(Held::None),
         busy,
         start: b"start 260000 0 10 r:spin",
         asked: Asked::Looks(account, 2_000),

@@ -1,6 +1,6 @@
 // Workers that sleep, and how long it takes until one is awake.
 
-use crate::gate::{Counter, LOOKS};
+use crate::gate::{Counter, Held, LOOKS};
 use crate::job::Job;
 use crate::play::{comes_to_rest, put_answer};
 use crate::speeds::put_halves;
@@ -103,7 +103,7 @@ impl Job for Wakes {
 /// Puts how long it takes from a start until a worker, of four that sleep, has the account.
 pub fn put_wakes<R: Threads + Wait + Clock + Sync>(rt: &R, out: &mut Text) {
     let job = Wakes {
-        gate: Counter::new(false),
+        gate: Counter::new(Held::None),
         starts: 500,
         seconds: 0,
     };
@@ -115,7 +115,7 @@ pub fn put_wakes<R: Threads + Wait + Clock + Sync>(rt: &R, out: &mut Text) {
 /// Lets four workers be without work for as many seconds.
 pub fn sleep_idle<R: Threads + Wait + Clock + Sync>(rt: &R, out: &mut Text, seconds: u64) {
     let job = Wakes {
-        gate: Counter::new(false),
+        gate: Counter::new(Held::None),
         starts: 0,
         seconds,
     };

@@ -33,10 +33,12 @@ pub enum Part {
     Script(script::Kind),
     /// Sessions, files of accounts and conversations, by what is asked of them.
     Session(kl1_session_tests::Kind),
+    /// Accounts under locks, with workers.
+    Pool,
 }
 
 /// The parts by the two words that name them at the front of a heading.
-const PARTS: [(&[u8], Part); 58] = [
+const PARTS: [(&[u8], Part); 59] = [
     (b"store numbers ", Part::Numbers),
     (b"store texts ", Part::Texts),
     (b"read name ", Part::Read(kl1_read_tests::Kind::Name)),
@@ -94,6 +96,7 @@ const PARTS: [(&[u8], Part); 58] = [
     (b"user both ", Part::Both),
     (b"world both ", Part::World),
     (b"journal read ", Part::Journal),
+    (b"pool row ", Part::Pool),
     (b"command line ", Part::Command(command::Kind::Line)),
     (b"command record ", Part::Command(command::Kind::Record)),
     (b"command reply ", Part::Command(command::Kind::Reply)),
