@@ -1,5 +1,5 @@
 -- What a book that can tell no more events refuses.
-use Rattle.std.specs.Prelude.{◌≡◌, ⊥, ℕ, zero, suc, ◌-◌, ◌<◌, ◌^◌, min, Bool, true, false, if◌then◌else◌, Option, Some, None}
+use Rattle.std.specs.Prelude.{◌≡◌, ℕ, zero, suc, ◌-◌, ◌<◌, ◌^◌, min, Bool, true, false, if◌then◌else◌, Option, Some, None}
 use Rattle.kl1_model.specs.Event as model
 use Rattle.kl1_model.specs.Choice.{Chosen, first}
 use Rattle.kl1_history.specs.Journal.{Kept, Done, done}

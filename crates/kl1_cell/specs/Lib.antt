@@ -1,3 +1,4 @@
+pub mod Counted
 pub mod Cells
 pub mod Told
 pub mod Filling

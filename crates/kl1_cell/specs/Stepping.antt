@@ -5,6 +5,8 @@ use Rattle.kl1_model.specs.Choice.{first, quiet}
 use Rattle.kl1_history.specs.Journal.{Kept}
 use Rattle.kl1_history.specs.Command.{Going, run_choice, run_from, stopped_by}
 use Rattle.kl1_event.specs.Views.{refusal_of}
+use Rattle.kl1_command.specs.declared.performed.Performed.{Performed}
+use Rattle.kl1_command.specs.declared.performed.Performed.TheVariants as performed
 use Rattle.kl1_cell.specs.declared.outcome.Outcome.{Outcome}
 use Rattle.kl1_cell.specs.declared.outcome.Outcome.TheVariants as outcome
 use Rattle.kl1_cell.specs.declared.outcome.Steps.{Steps}
@@ -46,3 +48,13 @@ IsLeft outcome.Done before after = ⊤
 IsLeft outcome.Quiet before after = after ≡ before
 IsLeft (outcome.Refused r) before after = ⊤
 IsLeft outcome.Memory before after = after ≡ before
+
+-- the outcome that memory was refused
+abbrev pub memory : Outcome
+memory = outcome.Memory
+
+-- an answer that nothing was done is one to no step, where memory was refused for the first
+abbrev pub IsNoneFor : Performed → ℕ → Outcome → Type 0
+IsNoneFor (performed.Whole reply) n last = ⊤
+IsNoneFor (performed.Short k) n last = ⊤
+IsNoneFor performed.Memory n last = (n ≡ 0) × (last ≡ memory)

@@ -12,12 +12,14 @@ ghost use Rattle.kl1_event.specs.Views.{event_of, is_logout, reply_of, reduced_o
 ghost use Rattle.kl1_tickets.specs.Counts.{Moved};
 ghost use Rattle.kl1_tickets.specs.Parts.{IsNewBook};
 ghost use Rattle.kl1_journal.specs.Keeping.{Reading, Fits, kept_of, IsKept};
-ghost use Rattle.kl1_cell.specs.Cells.{no_past, with_more, IsCounted, StandsIn};
-ghost use Rattle.kl1_cell.specs.Told.{events_by, steps_by, past_by};
+ghost use Rattle.kl1_cell.specs.Cells.{StandsIn};
+ghost use Rattle.kl1_cell.specs.Counted.{no_past, with_more, IsCounted, events_by, steps_by, past_by};
 ghost use Rattle.kl1_cell.specs.Filling.{room_in, is_entry, HasRoom};
 
 use crate::cell_naming::CellNaming;
+use crate::counting::{count, count_step, is_entry, past_after};
 use crate::named_atoms::NamedAtoms;
+use crate::past::Past;
 use kl1_codes::SharedCodes;
 use kl1_event::{ClauseNo, Event, GoalNo, Listed, Refusal, Reply};
 use kl1_journal::Kept;
@@ -36,8 +38,7 @@ pub const MOST_EVENTS: u64 = 1 << 63;
 pub struct Cell<'t, R: Wait, K: CellNaming> {
     kept: Kept<NamedAtoms<'t, K>, SharedCodes<'t, R>>,
     book: BookSeat,
-    past_events: u64,
-    past_steps: u64,
+    past: Past,
     is_out: bool,
     of: PhantomData<K>,
 }
@@ -49,15 +50,16 @@ impl<'t, R: Wait, K: CellNaming> Model for Cell<'t, R, K> {
     ghost use Rattle.kl1_atoms.specs.Seats.{face_in, IsSharedSeat};
     ghost use Rattle.kl1_modules.specs.Numbered.{numbered_code, ArePlaced};
     ghost use Rattle.kl1_entries.specs.Codes.{journal_code};
-    ghost use Rattle.kl1_cell.specs.Cells.{CellValue, IsCounted, StandsIn};
+    ghost use Rattle.kl1_cell.specs.Cells.{CellValue, StandsIn};
+    ghost use Rattle.kl1_cell.specs.Counted.{IsCounted};
 
     ghost Value = { CellValue };
 
     ghost coded = { Prim.hlevel (codes, numbered_code, journal_code) };
 
-    ghost view = { λ c. record { held = c.kept.1; book = c.book; past = record { events = c.past_events; steps = c.past_steps } } };
+    ghost view = { λ c. record { held = c.kept.1; book = c.book; past = c.past } };
 
-    ghost invariant = { λ c. IsSharedSeat K.table c.kept.0.badge.table_id K.seats (face_in c.kept.0.badge.views) c.kept.0.account × ArePlaced (StandsIn K.codes) c.kept.1.0.modules × (c.book.tally ≡ K.tally) × (c.book.account < MOST_ACCOUNTS) × IsCounted (record { events = c.past_events; steps = c.past_steps }) c.kept.1.1 c.book };
+    ghost invariant = { λ c. IsSharedSeat K.table c.kept.0.badge.table_id K.seats (face_in c.kept.0.badge.views) c.kept.0.account × ArePlaced (StandsIn K.codes) c.kept.1.0.modules × (c.book.tally ≡ K.tally) × (c.book.account < MOST_ACCOUNTS) × IsCounted c.past c.kept.1.1 c.book };
 }
 
 impl<'t, R: Wait, K: CellNaming> Cell<'t, R, K> {
@@ -74,8 +76,10 @@ impl<'t, R: Wait, K: CellNaming> Cell<'t, R, K> {
         Cell {
             kept,
             book,
-            past_events: 0,
-            past_steps: 0,
+            past: Past {
+                events: 0,
+                steps: 0,
+            },
             is_out: false,
             of: PhantomData,
         }
@@ -104,22 +108,13 @@ impl<'t, R: Wait, K: CellNaming> Cell<'t, R, K> {
         ensures err { OnErr result ((self.new ≡ self.old) × (share.new ≡ share.old)) }
         ensures before { (f : Reading) → Fits self.new.held.0.names f → Fits self.old.held.0.names f }
     {
-        if self.book.events() >= MOST_EVENTS && is_entry(event) {
+        if self.room() == 0 && is_entry(event) {
             return Ok(Reply::Refused(Refusal::Journal));
         }
         let reply = self.kept.apply(names, codes, event)?;
         self.kept.shows_replay();
-        match reply {
-            Reply::Loaded(_) | Reply::Opened(_) | Reply::Sent => {
-                share.raise(tally, &mut self.book, false);
-            }
-            Reply::Reduced => share.raise(tally, &mut self.book, true),
-            Reply::Reset => {
-                self.past_events = self.book.events();
-                self.past_steps = self.book.steps();
-            }
-            _ => {}
-        }
+        self.past = past_after(self.past, &self.book, &reply);
+        count(tally, &mut self.book, share, &reply);
         Ok(reply)
     }
 
@@ -145,9 +140,7 @@ impl<'t, R: Wait, K: CellNaming> Cell<'t, R, K> {
     {
         let refused = self.kept.reduce(names, codes, goal, clause)?;
         self.kept.shows_replay();
-        if refused.is_none() {
-            share.raise(tally, &mut self.book, true);
-        }
+        count_step(tally, &mut self.book, share, &refused);
         Ok(refused)
     }
 
@@ -215,16 +208,6 @@ impl<'t, R: Wait, K: CellNaming> Cell<'t, R, K> {
     {
         self.is_out = false;
     }
-}
-
-/// Whether an event is an entry of the journal if it is accepted.
-fn is_entry(event: &Event) -> bool
-    ensures { result ≡ is_entry (event_of event.now) }
-{
-    matches!(
-        event,
-        Event::Load { .. } | Event::Start { .. } | Event::Control { .. } | Event::Reduce { .. }
-    )
 }
 
 impl<'t, R: Wait, K: CellNaming> Booked for Cell<'t, R, K> {

@@ -1,10 +1,13 @@
 //! An account of a running server with what it counts: a journal, a book and what was counted before resets.
 #![tactic(auto)]
 
+mod answering;
 mod cell;
 mod cell_naming;
+mod counting;
 mod named_atoms;
 mod outcome;
+mod past;
 mod running;
 
 pub use cell::{Cell, MOST_EVENTS};
@@ -12,9 +15,4 @@ pub use cell_naming::CellNaming;
 pub use kl1_journal::AccountName;
 pub use kl1_tickets::Turn;
 pub use named_atoms::NamedAtoms;
-
-#[cfg(test)]
-mod tests {
-    #[test]
-    fn is_there() {}
-}
+pub use past::Past;

@@ -1,5 +1,8 @@
 // How first steps end.
 
+ghost use Rattle.std.specs.Prelude.{◌≡◌, cond};
+ghost use Rattle.kl1_cell.specs.Stepping.{step_of};
+
 use kl1_event::Refusal;
 
 /// What became of the first goal that can step, or of the last one that was tried.
@@ -13,6 +16,15 @@ pub(crate) enum Outcome {
     Refused(Refusal),
     /// Memory was refused.
     Memory,
+}
+
+impl Outcome {
+    /// Whether the goal is reduced.
+    pub(crate) fn is_done(&self) -> bool
+        ensures { step_of self.now ≡ cond result 1 0 }
+    {
+        matches!(self, Outcome::Done)
+    }
 }
 
 /// How many first steps were done, and what became of the last one that was tried.

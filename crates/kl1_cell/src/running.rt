@@ -2,16 +2,18 @@
 
 ghost use Rattle.std.specs.Prelude.{◌≡◌, ℕ, ◌+◌, ◌<◌, ◌≤◌, ◌^◌};
 ghost use Rattle.kl1_history.specs.Command.{run as run_command};
+ghost use Rattle.kl1_event.specs.Views.{reply_of};
 ghost use Rattle.kl1_command.specs.Commands.{command_view};
 ghost use Rattle.kl1_command.specs.Performing.{IsUntouched, Performs};
 ghost use Rattle.kl1_tickets.specs.Counts.{Moved};
 ghost use Rattle.kl1_tickets.specs.declared.serving.TheConstants.{MOST_STEPS};
 ghost use Rattle.kl1_journal.specs.Keeping.{Reading, Fits, kept_of};
-ghost use Rattle.kl1_cell.specs.Cells.{with_more};
+ghost use Rattle.kl1_cell.specs.Counted.{with_more, events_by, steps_by};
 ghost use Rattle.kl1_cell.specs.Told.{events_told, steps_told, past_told};
-ghost use Rattle.kl1_cell.specs.Filling.{room_in, held_to, PerformsInVain};
+ghost use Rattle.kl1_cell.specs.Filling.{room_in, held_to, act_in_vain, PerformsInVain};
 ghost use Rattle.kl1_cell.specs.Stepping.{AreFirstSteps, goes_on, IsOutcome, step_of, RunsOn, IsEnd, IsLeft};
 
+use crate::answering::performed;
 use crate::cell::Cell;
 use crate::cell_naming::CellNaming;
 use crate::named_atoms::NamedAtoms;
@@ -104,10 +106,22 @@ impl<'t, R: Wait, K: CellNaming> Cell<'t, R, K> {
         ensures before { (f : Reading) → Fits self.new.held.0.names f → Fits self.old.held.0.names f }
     {
         let room = self.room();
-        if room == 0 && most > 0 && self.pick().is_some() {
-            return Performed::Whole(Reply::Refused(Refusal::Journal));
+        if room == 0 {
+            return Performed::Whole(self.run_in_vain(most));
         }
         performed(self.steps(tally, names, codes, share, most.min(room)))
+    }
+
+    /// The reply to a run where the book can tell no more events.
+    fn run_in_vain(&self, most: u64) -> Reply
+        ensures reply { (f : Reading) → Fits self.now.held.0.names f → act_in_vain (kept_of f self.now.held) (run_command most) ≡ record { kept = kept_of f self.now.held; reply = reply_of result } }
+        ensures none { (events_by (reply_of result) ≡ 0) × (steps_by (reply_of result) ≡ 0) }
+    {
+        if most == 0 || self.pick().is_none() {
+            Reply::Ran(0)
+        } else {
+            Reply::Refused(Refusal::Journal)
+        }
     }
 
     /// First steps until `most` are done, none can step, or one is refused.
@@ -133,10 +147,11 @@ impl<'t, R: Wait, K: CellNaming> Cell<'t, R, K> {
     {
         let mut done = 0;
         while done < most {
-            match self.first_step(tally, names, codes, share) {
-                Outcome::Done => done += 1,
-                last => return Steps { done, last },
+            let last = self.first_step(tally, names, codes, share);
+            if !last.is_done() {
+                return Steps { done, last };
             }
+            done += 1;
         }
         Steps {
             done,
@@ -170,18 +185,5 @@ impl<'t, R: Wait, K: CellNaming> Cell<'t, R, K> {
             Ok(Some(refusal)) => Outcome::Refused(refusal),
             Err(_) => Outcome::Memory,
         }
-    }
-}
-
-/// The answer to a run of which these steps were done.
-fn performed(steps: Steps) -> Performed {
-    match steps.last {
-        Outcome::Done | Outcome::Quiet => Performed::Whole(Reply::Ran(steps.done)),
-        Outcome::Refused(refusal) if steps.done == 0 => {
-            Performed::Whole(Reply::Refused(refusal))
-        }
-        Outcome::Refused(_) => Performed::Whole(Reply::Ran(steps.done)),
-        Outcome::Memory if steps.done == 0 => Performed::Memory,
-        Outcome::Memory => Performed::Short { steps: steps.done },
     }
 }
