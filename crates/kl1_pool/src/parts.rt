@@ -18,7 +18,7 @@ use std::marker::Model;
 #[derive(Drop)]
 pub struct PoolParts<'t> {
     pub(crate) table: &'t AtomTable,
-    pub(crate) codes: &'t CodeTable,
+    pub(crate) code_table: &'t CodeTable,
     pub(crate) accounts: Vec<AccountName>,
     pub(crate) seats: Vec<AtomSeat>,
     pub(crate) tickets: Parts,
@@ -35,7 +35,7 @@ impl<'t> Model for PoolParts<'t> {
 
     ghost coded = { Prim.hlevel (codes, table_id_coded, shelves_coded) };
 
-    ghost view = { λ p. record { table = p.table.now.table.shared.table_id; seats = p.table.now.accounts; codes = p.codes.now; tally = p.tickets.tally; queue = p.tickets.queue; accounts = p.tickets.accounts; shares = p.tickets.shares } };
+    ghost view = { λ p. record { table = p.table.now.table.shared.table_id; seats = p.table.now.accounts; codes = p.code_table.now; tally = p.tickets.tally; queue = p.tickets.queue; accounts = p.tickets.accounts; shares = p.tickets.shares } };
 
     ghost invariant = { λ p. AreFreshSeats p.table.now.table.shared.table_id p.table.now.accounts p.seats.items × (vec_len p.accounts ≡ p.tickets.accounts) × (vec_len p.seats ≡ p.tickets.accounts) };
 }
@@ -63,7 +63,7 @@ impl<'t> PoolParts<'t> {
         let tickets = Parts::new(alloc, accounts.len(), shares)?;
         Ok(PoolParts {
             table,
-            codes,
+            code_table: codes,
             accounts: names,
             seats,
             tickets,

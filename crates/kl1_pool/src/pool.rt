@@ -54,7 +54,7 @@ impl<'t, R: Wait, K: CellNaming> Pool<'t, R, K> {
     {
         let PoolParts {
             table,
-            codes,
+            code_table,
             accounts,
             seats,
             tickets,
@@ -69,7 +69,7 @@ impl<'t, R: Wait, K: CellNaming> Pool<'t, R, K> {
             Pool {
                 rt,
                 table,
-                codes,
+                codes: code_table,
                 common,
                 places,
             },

@@ -1,5 +1,7 @@
 // Rows of what is asked of two accounts before, while and after workers are at work.
 
+ghost use Rattle.std.specs.Prelude.{◌≤◌};
+
 use crate::gate::{Counter, Held};
 use crate::job::Job;
 use crate::play::play;
@@ -84,7 +86,9 @@ fn put_totals(out: &mut Text, told: &Totals, are_known: bool) {
 }
 
 /// What a row's first text says: how many workers there are, whom the gate holds, and whether the number of steps is known.
-fn how(text: &[u8]) -> (usize, Held, bool) {
+fn how(text: &[u8]) -> (usize, Held, bool)
+    ensures { result.0 ≤ 9 }
+{
     match text {
         [digit, letters @ ..] => {
             let workers = usize::from(digit.saturating_sub(b'0').min(9));

@@ -85,7 +85,10 @@ pub fn put_halves(out: &mut Text, times: Result<Vec<u64>, AllocError>) {
         return;
     }
     let count = times.len();
-    for place in [count / 2, count - count / 100 - 1] {
+    for place in [
+        count / 2,
+        count.saturating_sub(count / 100).saturating_sub(1),
+    ] {
         out.put(b" ");
         match times.get(place) {
             Some(time) => out.put_number(*time),
