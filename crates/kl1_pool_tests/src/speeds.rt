@@ -165,8 +165,28 @@ fn steps_of(told: &Totals) -> u64 {
     sum
 }
 
+/// How many runs are made of each number of accounts and workers, of which the fastest is told.
+const RUNS: u8 = 5;
+
+/// How many steps a second a number of workers does over accounts that run, in the fastest of some runs.
+pub fn most_steps_a_second<R: Threads + Wait + Clock + Sync>(
+    rt: &R,
+    alloc: Global,
+    accounts: usize,
+    workers: usize,
+) -> Result<u64, AllocError>
+    requires some { (0 < accounts) × (accounts ≤ 16) }
+    requires few { workers ≤ 16 }
+{
+    let mut most = 0u64;
+    for _run in 0..RUNS {
+        most = most.max(steps_a_second(rt, alloc, accounts, workers)?);
+    }
+    Ok(most)
+}
+
 /// How many steps a second a number of workers does over accounts that run.
-pub fn steps_a_second<R: Threads + Wait + Clock + Sync>(
+fn steps_a_second<R: Threads + Wait + Clock + Sync>(
     rt: &R,
     alloc: Global,
     accounts: usize,

@@ -2,7 +2,7 @@
 
 ghost use Rattle.std.specs.Prelude.{◌<◌, ◌≤◌};
 
-use crate::speeds::{put_looks, steps_a_second};
+use crate::speeds::{most_steps_a_second, put_looks};
 use crate::wakes::{put_wakes, sleep_idle};
 use kl1_rows::Text;
 use std::rt::Clock;
@@ -19,7 +19,7 @@ fn put_steps<R: Threads + Wait + Clock + Sync>(
     requires some { (0 < accounts) × (accounts ≤ 16) }
     requires few { workers ≤ 16 }
 {
-    let steps = steps_a_second(rt, out.alloc, accounts, workers);
+    let steps = most_steps_a_second(rt, out.alloc, accounts, workers);
     out.put_number(accounts as u64);
     out.put(b" accounts that run, ");
     out.put_number(workers as u64);
