@@ -14,7 +14,7 @@ use std::alloc::{AllocError, Global};
 use std::sync::{Mutex, Wait};
 
 /// An account of this name in which nothing has happened, under its lock.
-fn place_of<'t, R: Wait, K: CellNaming>(
+fn place_of<'t, R: Wait + 't, K: CellNaming>(
     alloc: Global,
     name: AccountName,
     seat: AtomSeat,
@@ -40,7 +40,7 @@ fn last_of<T>(list: &mut Vec<T>) -> T
 }
 
 /// An account for each book, in the order of the books, with the name and the seat at its place.
-pub(crate) fn places_of<'t, R: Wait, K: CellNaming>(
+pub(crate) fn places_of<'t, R: Wait + 't, K: CellNaming>(
     alloc: Global,
     mut names: Vec<AccountName>,
     mut seats: Vec<AtomSeat>,
