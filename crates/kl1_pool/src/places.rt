@@ -14,7 +14,7 @@ use std::alloc::{AllocError, Global};
 use std::sync::{Mutex, Wait};
 
 /// An account of this name in which nothing has happened, under its lock.
-fn place_of<'t, R: Wait + 't, K: CellNaming>(
+fn place_of<'t, R: Wait, K: CellNaming>(
     alloc: Global,
     name: AccountName,
     seat: AtomSeat,
@@ -39,8 +39,9 @@ fn last_of<T>(list: &mut Vec<T>) -> T
     last
 }
 
-/// An account for each book, in the order of the books, with the name and the seat at its place.
-pub(crate) fn places_of<'t, R: Wait + 't, K: CellNaming>(
+/// An account for each book, in the order of the books, with the name and the seat at its place. By `rt` codes will be put in.
+pub(crate) fn places_of<'t, R: Wait, K: CellNaming>(
+    _rt: &'t R,
     alloc: Global,
     mut names: Vec<AccountName>,
     mut seats: Vec<AtomSeat>,

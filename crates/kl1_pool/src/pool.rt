@@ -64,7 +64,7 @@ impl<'t, R: Wait, K: CellNaming> Pool<'t, R, K> {
             books,
             shares,
         } = tickets.open::<K>(alloc)?;
-        let places = places_of::<R, K>(alloc, accounts, seats, books)?;
+        let places = places_of::<R, K>(rt, alloc, accounts, seats, books)?;
         Ok((
             Pool {
                 rt,
