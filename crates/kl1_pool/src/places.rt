@@ -13,8 +13,10 @@ use kl1_tally::BookSeat;
 use std::alloc::{AllocError, Global};
 use std::sync::{Mutex, Wait};
 
-/// An account of this name in which nothing has happened, under its lock.
+/// An account of this name in which nothing has happened, under its lock. By `rt` codes will be put in: it is asked for since it says
+/// for how long the account may be there.
 fn place_of<'t, R: Wait, K: CellNaming>(
+    _rt: &'t R,
     alloc: Global,
     name: AccountName,
     seat: AtomSeat,
@@ -39,9 +41,9 @@ fn last_of<T>(list: &mut Vec<T>) -> T
     last
 }
 
-/// An account for each book, in the order of the books, with the name and the seat at its place. By `rt` codes will be put in.
+/// An account for each book, in the order of the books, with the name and the seat at its place. `rt` is as for `place_of`.
 pub(crate) fn places_of<'t, R: Wait, K: CellNaming>(
-    _rt: &'t R,
+    rt: &'t R,
     alloc: Global,
     mut names: Vec<AccountName>,
     mut seats: Vec<AtomSeat>,
@@ -52,11 +54,11 @@ pub(crate) fn places_of<'t, R: Wait, K: CellNaming>(
     requires count { (vec_len names ≡ vec_len books) × (vec_len seats ≡ vec_len books) }
     ensures { IfOk result (λ places. vec_len places ≡ vec_len books) }
 {
-    let mut places = Vec::with_capacity(alloc, books.len())?;
+    let mut places: Vec<Mutex<Place<'t, R, K>>> = Vec::with_capacity(alloc, books.len())?;
     while let Some(book) = books.pop() {
         let name = last_of(&mut names);
         let seat = last_of(&mut seats);
-        places.push_reserved(place_of::<R, K>(alloc, name, seat, book)?);
+        places.push_reserved(place_of::<R, K>(rt, alloc, name, seat, book)?);
     }
     places.as_mut_slice().reverse();
     Ok(places)
