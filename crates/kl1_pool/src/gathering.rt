@@ -1,0 +1,28 @@
+// Adding up what all shares of a pool counted, put and took.
+
+ghost use Rattle.std.specs.Prelude.{◌≡◌, vec_len};
+ghost use Rattle.kl1_tickets.specs.Totals.{Gathered};
+
+use crate::pool::Pool;
+use kl1_cell::CellNaming;
+use kl1_tickets::{Share, Totals};
+use std::sync::Wait;
+
+/// What all shares of a pool counted, put and took, and the tickets that are left in its queue.
+pub fn gather<'t, R: Wait, K: CellNaming, W: Wait>(
+    rt: &W,
+    pool: Pool<'t, R, K>,
+    shares: Vec<Share<K>>,
+) -> Totals
+    requires { vec_len shares ≡ K.shares }
+    ensures { Gathered shares.items result }
+{
+    let Pool {
+        rt: _,
+        table: _,
+        codes: _,
+        common,
+        places,
+    } = pool;
+    kl1_tickets::gather(rt, common, places, shares)
+}

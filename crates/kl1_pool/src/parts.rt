@@ -1,0 +1,72 @@
+// The parts of a pool before a type names them.
+
+ghost use Rattle.std.specs.Prelude.{◌≡◌, ℕ, ◌<◌, ◌≤◌, Some, slice_get, IfOk, length, vec_len};
+ghost use Rattle.kl1_atoms.specs.Seats.{face_in, IsNewSharedSeat};
+ghost use Rattle.kl1_atoms.specs.declared.atom_seat.AtomSeat.{AtomSeat};
+ghost use Rattle.kl1_tally.specs.declared.amounts.TheConstants.{MOST_ACCOUNTS};
+
+use kl1_atoms::{AtomSeat, AtomTable};
+use kl1_cell::AccountName;
+use kl1_codes::CodeTable;
+use kl1_tickets::Parts;
+use std::alloc::{AllocError, Global};
+use std::marker::Model;
+
+/// The names of accounts in which nothing has happened, with their seats in a table of names; a tally and a queue of tickets for them;
+/// and that table and a table of codes, lent. Contracts see which tables, which tally and which queue they are, and the numbers of
+/// accounts and shares.
+#[derive(Drop)]
+pub struct PoolParts<'t> {
+    pub(crate) table: &'t AtomTable,
+    pub(crate) code_table: &'t CodeTable,
+    pub(crate) accounts: Vec<AccountName>,
+    pub(crate) seats: Vec<AtomSeat>,
+    pub(crate) tickets: Parts,
+}
+
+impl<'t> Model for PoolParts<'t> {
+    ghost use Rattle.std.specs.Prelude.{◌≡◌, vec_len};
+    ghost use Rattle.std.specs.Coded.{codes};
+    ghost use Rattle.atomic_table.specs.Seated.{table_id_coded};
+    ghost use Rattle.boxcar.specs.Table.{shelves_coded};
+    ghost use Rattle.kl1_pool.specs.Parts.{PoolPartsValue, AreFreshSeats};
+
+    ghost Value = { PoolPartsValue };
+
+    ghost coded = { Prim.hlevel (codes, table_id_coded, shelves_coded) };
+
+    ghost view = { λ p. record { table = p.table.now.table.shared.table_id; seats = p.table.now.accounts; codes = p.code_table.now; tally = p.tickets.tally; queue = p.tickets.queue; accounts = p.tickets.accounts; shares = p.tickets.shares } };
+
+    ghost invariant = { λ p. AreFreshSeats p.table.now.table.shared.table_id p.table.now.accounts p.seats.items × (vec_len p.accounts ≡ p.tickets.accounts) × (vec_len p.seats ≡ p.tickets.accounts) };
+}
+
+impl<'t> PoolParts<'t> {
+    /// Accounts of these names, 1 to 16 of them, in which nothing has happened, each with a seat of its own that knows the built-in
+    /// names alone; and a tally and a queue for them and for `shares` shares.
+    pub fn new(
+        alloc: Global,
+        table: &'t AtomTable,
+        codes: &'t CodeTable,
+        accounts: &[AccountName],
+        seats: Vec<AtomSeat>,
+        shares: usize,
+    ) -> Result<PoolParts<'t>, AllocError>
+        requires some { 0 < length accounts.now }
+        requires few { length accounts.now ≤ MOST_ACCOUNTS }
+        requires count { vec_len seats ≡ length accounts.now }
+        requires seats { (k : ℕ) (seat : AtomSeat) → slice_get seats.items k ≡ Some seat → IsNewSharedSeat table.now.table.shared.table_id seat.badge.table_id table.now.accounts (face_in seat.badge.views) seat.account k }
+        ensures table { IfOk result (λ parts. (parts.table ≡ table.now.table.shared.table_id) × (parts.seats ≡ table.now.accounts)) }
+        ensures codes { IfOk result (λ parts. parts.codes ≡ codes.now) }
+        ensures counts { IfOk result (λ parts. (parts.accounts ≡ length accounts.now) × (parts.shares ≡ shares)) }
+    {
+        let names = accounts.to_vec(alloc)?;
+        let tickets = Parts::new(alloc, accounts.len(), shares)?;
+        Ok(PoolParts {
+            table,
+            code_table: codes,
+            accounts: names,
+            seats,
+            tickets,
+        })
+    }
+}

@@ -1,0 +1,202 @@
+// Accounts under locks, with what threads share besides.
+
+ghost use Rattle.std.specs.Prelude.{◌≡◌, ◌<◌, ◌≤◌, IfOk, All, vec_len};
+ghost use Rattle.kl1_tally.specs.declared.amounts.TheConstants.{MOST_ACCOUNTS};
+ghost use Rattle.kl1_tickets.specs.Counts.{Moved, Acts, new_counts};
+ghost use Rattle.kl1_tickets.specs.declared.serving.TheConstants.{MOST_STEPS};
+ghost use Rattle.kl1_cell.specs.Told.{events_told, steps_told};
+
+use crate::gate::Gate;
+use crate::parts::PoolParts;
+use crate::place::Place;
+use crate::places::places_of;
+use kl1_atoms::AtomTable;
+use kl1_cell::{CellNaming, NamedAtoms};
+use kl1_codes::{CodeTable, SharedCodes};
+use kl1_command::{Command, Performed};
+use kl1_tickets::{Common, Opened, Share, Turn};
+use std::alloc::{AllocError, Global};
+use std::marker::PhantomData;
+use std::sync::{Mutex, Wait};
+
+/// Accounts, each under its lock, the table of names and the table of codes that they share, and what the threads share that command
+/// them and go on with them. All of it is what K names.
+#[derive(Drop)]
+pub struct Pool<'t, R: Wait, K: CellNaming> {
+    pub(crate) rt: &'t R,
+    pub(crate) table: &'t AtomTable,
+    pub(crate) codes: &'t CodeTable,
+    pub(crate) common: Common<K>,
+    pub(crate) places: Vec<Mutex<Place<'t, R, K>>>,
+    pub ghost named: { table.now.table.shared.table_id ≡ K.table },
+    pub ghost sized: { table.now.accounts ≡ K.seats },
+    pub ghost coded: { codes.now ≡ K.codes },
+    pub ghost counted: { vec_len places ≡ K.accounts },
+}
+
+/// What becomes of a ticket if no turn was done.
+const NO_TURN: Turn = Turn {
+    steps: 0,
+    again: false,
+};
+
+impl<'t, R: Wait, K: CellNaming> Pool<'t, R, K> {
+    /// The pool of these parts, in whose accounts nothing has happened, and its shares, which are at zero. By `rt` codes are put in.
+    pub fn new(
+        rt: &'t R,
+        alloc: Global,
+        parts: PoolParts<'t>,
+    ) -> Result<(Pool<'t, R, K>, Vec<Share<K>>), AllocError>
+        requires tables { (parts.table ≡ K.table) × (parts.seats ≡ K.seats) × (parts.codes ≡ K.codes) }
+        requires tickets { (parts.tally ≡ K.tally) × (parts.queue ≡ K.queue) × (parts.accounts ≡ K.accounts) × (parts.shares ≡ K.shares) }
+        ensures shares { IfOk result (λ made. All (λ share. share ≡ new_counts) made.1.items) }
+        ensures count { IfOk result (λ made. vec_len made.1 ≡ K.shares) }
+    {
+        let PoolParts {
+            table,
+            code_table,
+            accounts,
+            seats,
+            tickets,
+        } = parts;
+        let Opened {
+            common,
+            books,
+            shares,
+        } = tickets.open::<K>(alloc)?;
+        let places = places_of::<R, K>(rt, alloc, accounts, seats, books)?;
+        Ok((
+            Pool {
+                rt,
+                table,
+                codes: code_table,
+                common,
+                places,
+            },
+            shares,
+        ))
+    }
+
+    /// How many accounts there are.
+    pub fn accounts(&self) -> usize
+        ensures { result ≡ K.accounts }
+    {
+        self.places.len()
+    }
+
+    /// The table of names.
+    fn names(&self) -> NamedAtoms<'t, K> {
+        NamedAtoms {
+            table: self.table,
+            of: PhantomData,
+        }
+    }
+
+    /// The table of codes, with the handle by which codes are put in.
+    fn codes(&self) -> SharedCodes<'t, R>
+        ensures { result.table.now ≡ K.codes }
+    {
+        SharedCodes {
+            table: self.codes,
+            rt: self.rt,
+        }
+    }
+
+    /// Does a command to an account under its lock; and whether its ticket is to be put, which then counts as out.
+    fn visit<W: Wait>(
+        &self,
+        rt: &W,
+        account: usize,
+        command: &Command,
+        share: &mut Share<K>,
+    ) -> (Performed, bool)
+        requires within { account < K.accounts }
+        ensures { Moved account (events_told result.0) (steps_told result.0) 0 0 share.old share.new }
+    {
+        let mut names = self.names();
+        let mut codes = self.codes();
+        let mut guard = self.places[account].lock(rt);
+        let cell = &mut *guard.cell;
+        // The lock tells nothing of which account lies under it. It is always this one.
+        if cell.account() != account {
+            return (Performed::Memory, false);
+        }
+        let performed = cell.perform(self.common.tally(), &mut names, &mut codes, share, command);
+        let wants = cell.wants_ticket();
+        (performed, wants)
+    }
+
+    /// Does a command to an account under its lock, as `perform` of its cell. Afterwards a ticket of the account is put unless the
+    /// account is quiet or one is out.
+    pub fn act<W: Wait>(
+        &self,
+        rt: &W,
+        account: usize,
+        command: &Command,
+        share: &mut Share<K>,
+    ) -> Performed
+        requires within { account < K.accounts }
+        ensures { Acts account (events_told result) (steps_told result) share.old share.new }
+    {
+        let (performed, wants) = self.visit(rt, account, command, share);
+        if wants {
+            self.offer(rt, account, share);
+        }
+        performed
+    }
+
+    /// Puts an account's ticket; if it can't be put, none is out.
+    fn offer<W: Wait>(&self, rt: &W, account: usize, share: &mut Share<K>)
+        requires within { account < MOST_ACCOUNTS }
+        ensures { Acts account 0 0 share.old share.new }
+    {
+        if !self.common.offer(rt, account, share) {
+            self.clear_ticket(rt, account);
+        }
+    }
+
+    /// Notes that no ticket of an account is out.
+    pub(crate) fn clear_ticket<W: Wait>(&self, rt: &W, account: usize) {
+        if let Some(place) = self.places.get(account) {
+            place.lock(rt).cell.clear_ticket();
+        }
+    }
+
+    /// A turn of an account under its lock, as `turn` of its cell, between `enter` and `leave` of a gate. Unless the ticket is to be
+    /// put back, none is out afterwards.
+    pub(crate) fn turn<G: Gate, W: Wait>(
+        &self,
+        rt: &W,
+        gate: &G,
+        number: u64,
+        account: usize,
+        share: &mut Share<K>,
+    ) -> Turn
+        ensures few { result.steps ≤ MOST_STEPS }
+        ensures counted { Moved account result.steps result.steps 0 0 share.old share.new }
+    {
+        let mut names = self.names();
+        let mut codes = self.codes();
+        let Some(place) = self.places.get(account) else {
+            return NO_TURN;
+        };
+        let mut guard = place.lock(rt);
+        let cell = &mut *guard.cell;
+        // As in `visit`.
+        if cell.account() != account {
+            return NO_TURN;
+        }
+        gate.enter(number);
+        let turn = cell.turn(self.common.tally(), &mut names, &mut codes, share);
+        gate.leave(number);
+        if !turn.again {
+            cell.clear_ticket();
+        }
+        turn
+    }
+
+    /// Ends each worker before its next ticket.
+    pub fn close(&self) {
+        self.common.close();
+    }
+}

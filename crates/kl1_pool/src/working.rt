@@ -1,0 +1,44 @@
+// Workers, which go on with accounts.
+
+ghost use Rattle.std.specs.Prelude.{◌≡◌, ◌<◌, ◌≤◌};
+ghost use Rattle.kl1_tally.specs.declared.amounts.TheConstants.{MOST_ACCOUNTS};
+ghost use Rattle.kl1_tickets.specs.Counts.{Moved, Worked};
+ghost use Rattle.kl1_tickets.specs.declared.serving.TheConstants.{MOST_STEPS};
+
+use crate::gate::Gate;
+use crate::pool::Pool;
+use kl1_cell::CellNaming;
+use kl1_tickets::{Accounts, Share, Turn};
+use std::sync::Wait;
+
+/// A worker with its gate and its number, in a pool.
+#[derive(Drop)]
+struct AtWork<'p, 't, G: Gate, R: Wait, K: CellNaming> {
+    pool: &'p Pool<'t, R, K>,
+    gate: &'p G,
+    number: u64,
+}
+
+impl<'p, 't, G: Gate, R: Wait, K: CellNaming> Accounts<K> for AtWork<'p, 't, G, R, K> {
+    fn turn<W: Wait>(&self, rt: &W, account: usize, share: &mut Share<K>) -> Turn {
+        self.pool.turn(rt, self.gate, self.number, account, share)
+    }
+
+    fn clear_ticket<W: Wait>(&self, rt: &W, account: usize) {
+        self.pool.clear_ticket(rt, account);
+    }
+}
+
+/// Takes tickets, and does a turn of each ticket's account, between `enter` and `leave` of `gate` with the worker's `number`; the
+/// ticket is put back if the account goes on. Ends when `close` was called, or if the share can take no more.
+pub fn worker<'t, G: Gate, R: Wait, K: CellNaming, W: Wait>(
+    rt: &W,
+    pool: &Pool<'t, R, K>,
+    gate: &G,
+    number: u64,
+    share: &mut Share<K>,
+)
+    ensures { Worked share.old share.new }
+{
+    kl1_tickets::worker(rt, &pool.common, &AtWork { pool, gate, number }, share)
+}
