@@ -1,8 +1,8 @@
 -- What a cell keeps over an event.
-use Rattle.std.proofs.Common.{◌≡◌, ℕ, ◌+◌, ◌<◌, ◌≤◌, ◌^◌, Bool, false, List, ap, sym, ◌∙◌, subst, refl, arith}
+use Rattle.std.proofs.Common.{◌≡◌, ℕ, ◌<◌, false, List, ap, sym, ◌∙◌, subst, refl}
 use Rattle.std.specs.Prelude.{◌↔◌, Option, Some, None}
 use Rattle.kl1_model.specs.Event as model
-use Rattle.kl1_history.specs.Journal.{Journal, Kept, Done, done}
+use Rattle.kl1_history.specs.Journal.{Journal, Done, done}
 use Rattle.kl1_atoms.specs.Names.{AreNames}
 use Rattle.kl1_modules.specs.Numbered.{Numbered, ArePlaced}
 use Rattle.kl1_modules.proofs.Placing.{placed_still}

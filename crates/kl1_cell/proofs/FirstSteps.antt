@@ -1,11 +1,11 @@
 -- First steps, one after another.
-use Rattle.std.proofs.Common.{◌≡◌, ℕ, zero, suc, ◌+◌, ◌-◌, ◌<◌, ◌≤◌, ap, sym, ◌∙◌, subst, refl, arith}
+use Rattle.std.proofs.Common.{◌≡◌, ℕ, suc, ◌+◌, ◌<◌, ap, sym, ◌∙◌, subst, arith}
 use Rattle.std.specs.Prelude.{Option, Some, None}
 use Rattle.kl1_model.specs.Event as model
 use Rattle.kl1_model.specs.Event.{Refusal, reduce}
 use Rattle.kl1_model.specs.Choice.{Chosen, first}
 use Rattle.kl1_history.specs.Journal.{Kept, Done, done}
-use Rattle.kl1_history.specs.Command.{Going, run_choice, run_on, run_from, stopped_by}
+use Rattle.kl1_history.specs.Command.{Going, run_choice, run_on, stopped_by}
 use Rattle.kl1_event.specs.Views.{refusal_of, reduced_or}
 use Rattle.kl1_event.specs.declared.refusal.Refusal as refusal
 use Rattle.kl1_command.specs.Performing.{refusal_in}
@@ -13,7 +13,7 @@ use Rattle.kl1_command.proofs.Reductions.{refused_stays}
 use Rattle.kl1_command.proofs.Runs.{goes_further}
 use Rattle.kl1_cell.specs.declared.outcome.Outcome.{Outcome}
 use Rattle.kl1_cell.specs.declared.outcome.Outcome.TheVariants as outcome
-use Rattle.kl1_cell.specs.Stepping.{IsOutcome, step_of, RunsOn, IsEnd, IsLeft, memory}
+use Rattle.kl1_cell.specs.Stepping.{IsOutcome, step_of, RunsOn, IsEnd, IsLeft}
 
 -- the first goal that can step was reduced
 pub done_first : (s after : Kept) (c : Chosen) → Some c ≡ first s.state → done s (reduce c.goal c.clause) ≡ record { kept = after; reply = model.reduced } → (next : Going) (n : ℕ) → run_choice next s n (first s.state) ≡ next (suc n) after

@@ -1,4 +1,4 @@
-use Rattle.std.proofs.Common.{◌≡◌, ap, ◌<◌, ◌^◌, ◌∙◌, sym}
+use Rattle.std.proofs.Common.{ap, ◌<◌, ◌^◌, ◌∙◌, sym}
 use Rattle.kl1_event.specs.Views.{event_of, reply_of}
 use Rattle.kl1_command.specs.Commands.{command_view}
 use Rattle.kl1_journal.specs.Keeping.{kept_of}
@@ -11,7 +11,7 @@ pub returns-in-Ok-clause-full : goal.returns-in-Ok-clause-full
 returns-in-Ok-clause-full g c = λ full f fits.
     let s = kept_of f c.args.self.now.held in
     let after = kept_of f c.apply.new.self.held in
-    let e = event_of c.in-Does.event.now in
+    let e = event_of c.in-Does.event in
     let r = reply_of c.in-Ok.reply in
     vain_command s after (command_view c.args.command.now) e r (ap command_view c.in-Does.is)
     (vain_event s after e r

@@ -1,4 +1,4 @@
-use Rattle.std.proofs.Common.{◌≡◌, ap, sym, subst, ◌<◌, ◌^◌, List}
+use Rattle.std.proofs.Common.{ap, sym, subst, ◌<◌, ◌^◌, List}
 use Rattle.kl1_model.specs.Event.{reduce as reduce_event}
 use Rattle.kl1_modules.specs.Numbered.{Numbered, ArePlaced}
 use Rattle.kl1_event.specs.Views.{reduced_or}

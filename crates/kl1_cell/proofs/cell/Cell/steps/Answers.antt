@@ -1,4 +1,4 @@
-use Rattle.std.proofs.Common.{◌≡◌, ℕ, ap, sym, ◌∙◌, arith, ◌+◌, ◌<◌, ◌^◌, Bool}
+use Rattle.std.proofs.Common.{◌≡◌, ap, ◌∙◌, arith, ◌+◌, Bool}
 use Rattle.std.specs.Prelude.{cond}
 use Rattle.kl1_tally.specs.Seats.{Book}
 use Rattle.kl1_journal.specs.Keeping.{kept_of}
