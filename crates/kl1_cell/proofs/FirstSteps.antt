@@ -1,18 +1,19 @@
 -- First steps, one after another.
-use Rattle.std.proofs.Common.{◌≡◌, ℕ, zero, suc, ◌+◌, ◌-◌, ◌<◌, ◌≤◌, ap, sym, ◌∙◌, subst, refl, arith}
+use Rattle.std.proofs.Common.{◌≡◌, ℕ, suc, ◌+◌, ◌<◌, ap, sym, ◌∙◌, subst, arith}
 use Rattle.std.specs.Prelude.{Option, Some, None}
 use Rattle.kl1_model.specs.Event as model
 use Rattle.kl1_model.specs.Event.{Refusal, reduce}
 use Rattle.kl1_model.specs.Choice.{Chosen, first}
 use Rattle.kl1_history.specs.Journal.{Kept, Done, done}
-use Rattle.kl1_history.specs.Command.{Going, run_choice, run_on, run_from, stopped_by}
-use Rattle.kl1_event.specs.Views.{refusal_of}
+use Rattle.kl1_history.specs.Command.{Going, run_choice, run_on, stopped_by}
+use Rattle.kl1_event.specs.Views.{refusal_of, reduced_or}
+use Rattle.kl1_event.specs.declared.refusal.Refusal as refusal
 use Rattle.kl1_command.specs.Performing.{refusal_in}
 use Rattle.kl1_command.proofs.Reductions.{refused_stays}
 use Rattle.kl1_command.proofs.Runs.{goes_further}
 use Rattle.kl1_cell.specs.declared.outcome.Outcome.{Outcome}
 use Rattle.kl1_cell.specs.declared.outcome.Outcome.TheVariants as outcome
-use Rattle.kl1_cell.specs.Stepping.{IsOutcome, step_of, RunsOn, IsEnd, IsLeft, memory}
+use Rattle.kl1_cell.specs.Stepping.{IsOutcome, step_of, RunsOn, IsEnd, IsLeft}
 
 -- the first goal that can step was reduced
 pub done_first : (s after : Kept) (c : Chosen) → Some c ≡ first s.state → done s (reduce c.goal c.clause) ≡ record { kept = after; reply = model.reduced } → (next : Going) (n : ℕ) → run_choice next s n (first s.state) ≡ next (suc n) after
@@ -22,6 +23,11 @@ done_first s after c found is next n = ap (run_choice next s n) (sym found) ∙ 
 pub refused_first : (s after : Kept) (c : Chosen) (r : Refusal) → Some c ≡ first s.state → done s (reduce c.goal c.clause) ≡ record { kept = after; reply = model.refused r } → ((next : Going) (n : ℕ) → run_choice next s n (first s.state) ≡ stopped_by s n r) × (after ≡ s)
 refused_first s after c r found is =
     (λ next n. ap (run_choice next s n) (sym found) ∙ ap (λ (x : Done). run_on next s n x.kept x.reply) is, sym (ap (λ (x : Done). x.kept) is) ∙ refused_stays s (reduce c.goal c.clause) r (ap (λ (x : Done). refusal_in x.reply) is))
+
+-- so by what a reduction answers
+pub refused_as : (s after : Kept) (c : Chosen) (o : Option refusal.Refusal) (r : refusal.Refusal) → o ≡ Some r → Some c ≡ first s.state → done s (reduce c.goal c.clause) ≡ record { kept = after; reply = reduced_or o } → ((next : Going) (n : ℕ) → run_choice next s n (first s.state) ≡ stopped_by s n (refusal_of r)) × (after ≡ s)
+refused_as s after c o r e found is =
+    refused_first s after c (refusal_of r) found (subst (λ (x : Option refusal.Refusal). done s (reduce c.goal c.clause) ≡ record { kept = after; reply = reduced_or x }) e is)
 
 -- an outcome that is no step leaves the account
 pub outcome_stays : (s after : Kept) (o : Outcome) → IsOutcome s o after → step_of o ≡ 0 → after ≡ s

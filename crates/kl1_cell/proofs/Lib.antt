@@ -1,3 +1,5 @@
 pub mod Tells
 pub mod FirstSteps
 pub mod Runs
+pub mod Cells
+pub mod Grows

@@ -1,21 +1,19 @@
 -- Answers to runs and to commands.
-use Rattle.std.proofs.Common.{◌≡◌, ℕ, zero, suc, ◌+◌, ◌-◌, ◌<◌, ◌≤◌, ◌^◌, Bool, true, false, if◌then◌else◌, ap, sym, ◌∙◌, subst, refl, arith}
-use Rattle.std.specs.Prelude.{Option, Some, None, is_some}
+use Rattle.std.proofs.Common.{◌≡◌, ℕ, zero, suc, ◌<◌, Bool, true, false, if◌then◌else◌, ap, sym, ◌∙◌, subst, refl, arith}
+use Rattle.std.specs.Prelude.{Some, None}
 use Rattle.kl1_model.specs.Event as model
 use Rattle.kl1_model.specs.Choice.{Chosen, first}
 use Rattle.kl1_history.specs.Journal.{Kept, Done, done}
-use Rattle.kl1_history.specs.Command.{Command, does, run, shows, Going, run_choice, run_from, stopped_by, said, act}
-use Rattle.kl1_event.specs.Views.{refusal_of, reply_of}
+use Rattle.kl1_history.specs.Command.{Command, does, run, Going, run_choice, run_from, stopped_by, said, act}
+use Rattle.kl1_event.specs.Views.{refusal_of}
 use Rattle.kl1_event.specs.declared.refusal.Refusal.{Refusal}
-use Rattle.kl1_event.specs.declared.reply.Reply.{Reply}
 use Rattle.kl1_command.specs.declared.performed.Performed.{Performed}
 use Rattle.kl1_command.specs.declared.performed.Performed.TheVariants as performed
 use Rattle.kl1_command.specs.Performing.{Performs, IsUntouched}
 use Rattle.kl1_command.proofs.Runs.{none_done, all_done, none_left, next_refused}
 use Rattle.kl1_cell.specs.declared.outcome.Outcome.{Outcome}
-use Rattle.kl1_cell.specs.declared.outcome.Outcome.TheVariants as outcome
-use Rattle.kl1_cell.specs.Stepping.{RunsOn, IsEnd, IsLeft, IsNoneFor, memory}
-use Rattle.kl1_cell.specs.Filling.{is_entry, run_in_vain, act_in_vain, PerformsInVain}
+use Rattle.kl1_cell.specs.Stepping.{RunsOn, IsLeft, IsNoneFor}
+use Rattle.kl1_cell.specs.Filling.{is_entry, run_in_vain, act_in_vain}
 
 -- a run of all the steps that were asked for
 pub run_whole : (s after : Kept) (n most : ℕ) → RunsOn s n after → n ≡ most → act s (run most) ≡ record { kept = after; reply = model.ran n }
@@ -67,3 +65,20 @@ vain_entry s after e reply entry told same =
 -- an event that is none is done
 pub vain_other : (s : Kept) (e : model.Event) (d : Done) → is_entry e ≡ false → done s e ≡ d → act_in_vain s (does e) ≡ d
 vain_other s e d other is = ap (λ (b : Bool). if b then said s (model.refused model.journal_full) else done s e) other ∙ is
+
+vain_by : (b : Bool) (s after : Kept) (e : model.Event) (reply : model.Reply) → is_entry e ≡ b → (is_entry e ≡ true → (reply ≡ model.refused model.journal_full) × (after ≡ s)) → (is_entry e ≡ false → done s e ≡ record { kept = after; reply = reply }) → act_in_vain s (does e) ≡ record { kept = after; reply = reply }
+vain_by true s after e reply is entry other = vain_entry s after e reply is (entry is).0 (entry is).1
+vain_by false s after e reply is entry other = vain_other s e (record { kept = after; reply = reply }) is (other is)
+
+-- an event, in vain or not
+pub vain_event : (s after : Kept) (e : model.Event) (reply : model.Reply) → (is_entry e ≡ true → (reply ≡ model.refused model.journal_full) × (after ≡ s)) → (is_entry e ≡ false → done s e ≡ record { kept = after; reply = reply }) → act_in_vain s (does e) ≡ record { kept = after; reply = reply }
+vain_event s after e reply entry other = vain_by (is_entry e) s after e reply refl entry other
+
+-- the same by the event of a command
+pub vain_command : (s after : Kept) (c : Command) (e : model.Event) (reply : model.Reply) → c ≡ does e → act_in_vain s (does e) ≡ record { kept = after; reply = reply } → act_in_vain s c ≡ record { kept = after; reply = reply }
+vain_command s after c e reply is h = subst (λ (x : Command). act_in_vain s x ≡ record { kept = after; reply = reply }) (sym is) h
+
+-- an event that isn't an entry has room
+pub has_room : (X : Type 0) (b : Bool) → b ≡ false → b ≡ true → X
+has_room X true other entry = cc
+has_room X false other entry = cc

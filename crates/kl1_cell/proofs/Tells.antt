@@ -1,5 +1,5 @@
 -- What an event makes of what a book tells.
-use Rattle.std.proofs.Common.{◌≡◌, ℕ, suc, ◌+◌, ◌-◌, ◌<◌, ◌≤◌, ◌^◌, nat_le, nat_lt, not, ◌&&◌, Bool, true, false, if◌then◌else◌, List, [], ◌∷◌, ◌++◌, length, refl, sym, ap, ◌∙◌, subst, arith}
+use Rattle.std.proofs.Common.{◌≡◌, ℕ, suc, ◌+◌, ◌-◌, ◌<◌, ◌^◌, nat_le, nat_lt, ◌&&◌, Bool, true, false, if◌then◌else◌, List, [], ◌∷◌, ◌++◌, length, refl, ap, ◌∙◌, subst, arith}
 use Rattle.std.specs.Prelude.{Option, Some, None, is_some}
 use Rattle.std.proofs.lemmas.List.{length-append}
 use Rattle.kl1_model.specs.Limits.{most_modules, most_sessions, most_source_bytes, most_names, most_entries}
@@ -7,7 +7,7 @@ use Rattle.kl1_model.specs.Term.{Term}
 use Rattle.kl1_model.specs.declared.message.Message.{Message}
 use Rattle.kl1_model.specs.Module.{Module, Reading, good, bad, read_module}
 use Rattle.kl1_model.specs.Match.{module_of}
-use Rattle.kl1_model.specs.State.{Goal, Origin, Shoen, State, fresh_with, goal_at, shoen_at, names_of, names_of_module, with_names}
+use Rattle.kl1_model.specs.State.{Goal, Origin, Shoen, State, goal_at, shoen_at, names_of, names_of_module, with_names}
 use Rattle.kl1_model.specs.Event as model
 use Rattle.kl1_model.specs.Event.{Refusal, Stepped, refuse, is_number, with_entry, recorded, named, limited}
 use Rattle.kl1_model.specs.Reduction.{Action, reduce_goal, reduced_by, acted, action_of}
@@ -15,14 +15,14 @@ use Rattle.kl1_model.specs.Opening.{may_start, has_room_to_start, start_goal}
 use Rattle.kl1_model.specs.Sending.{may_send, has_room_to_send, send_to, send_by, sent_on}
 use Rattle.kl1_model.specs.State.{is_living}
 use Rattle.kl1_model.specs.Asking.{answer, value_of, status_of, reports_of, origin_at}
-use Rattle.kl1_model.specs.Step.{with_module, load_module, log_in, log_out, step}
+use Rattle.kl1_model.specs.Step.{with_module, load_module, step}
 use Rattle.kl1_history.specs.Journal.{Entry, loads, starts, sends, steps, Journal, noted, new_journal}
 use Rattle.kl1_history.specs.Journal.{Kept, Done, done}
 use Rattle.kl1_history.specs.Journal as history
 use Rattle.kl1_tally.specs.Seats.{Book}
 use Rattle.kl1_cell.specs.declared.past.Past.{Past}
 use Rattle.kl1_cell.specs.Counted.{reduces_in, IsCounted, with_more, events_by, steps_by, past_by, is_run, ended}
-use Rattle.kl1_cell.specs.Filling.{is_entry, HasRoom}
+use Rattle.kl1_cell.specs.Filling.{HasRoom}
 
 -- what holds of both sides of a choice holds of it
 by_choice : (P : Stepped → Type 0) (c : Bool) (x y : Stepped) → P x → P y → P (if c then x else y)

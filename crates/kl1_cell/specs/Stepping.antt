@@ -1,5 +1,5 @@
 -- What first steps, one after another, leave.
-use Rattle.std.specs.Prelude.{◌≡◌, ℕ, suc, ◌+◌, ◌<◌, nat_le, not, ◌&&◌, Bool, Option, Some, None, ⊤}
+use Rattle.std.specs.Prelude.{◌≡◌, ℕ, suc, ◌+◌, ◌<◌, nat_le, not, ◌&&◌, Bool, None, ⊤}
 use Rattle.kl1_model.specs.Event as model
 use Rattle.kl1_model.specs.Choice.{first, quiet}
 use Rattle.kl1_history.specs.Journal.{Kept}
@@ -9,7 +9,6 @@ use Rattle.kl1_command.specs.declared.performed.Performed.{Performed}
 use Rattle.kl1_command.specs.declared.performed.Performed.TheVariants as performed
 use Rattle.kl1_cell.specs.declared.outcome.Outcome.{Outcome}
 use Rattle.kl1_cell.specs.declared.outcome.Outcome.TheVariants as outcome
-use Rattle.kl1_cell.specs.declared.outcome.Steps.{Steps}
 
 -- n first steps, all of them done, lead from one account to another
 abbrev pub AreFirstSteps : Kept → ℕ → Kept → Type 0

@@ -2,11 +2,12 @@
 
 ghost use Rattle.std.specs.Prelude.{◌≡◌, ℕ, ◌<◌};
 ghost use Rattle.kl1_history.specs.Command.{run as run_command, stopped_by};
-ghost use Rattle.kl1_history.specs.Journal.{Kept};
+ghost use Rattle.kl1_history.specs.Journal.{Journal, Kept};
 ghost use Rattle.kl1_event.specs.Views.{refusal_of, reply_of};
 ghost use Rattle.kl1_command.specs.Performing.{Performs};
-ghost use Rattle.kl1_cell.specs.Counted.{events_by, steps_by};
-ghost use Rattle.kl1_cell.specs.Told.{events_told, steps_told};
+ghost use Rattle.kl1_cell.specs.declared.past.Past.{Past};
+ghost use Rattle.kl1_cell.specs.Counted.{events_by, steps_by, past_by};
+ghost use Rattle.kl1_cell.specs.Told.{events_told, steps_told, past_told};
 ghost use Rattle.kl1_cell.specs.Stepping.{RunsOn, IsEnd, IsNoneFor, memory};
 
 use crate::outcome::{Outcome, Steps};
@@ -17,6 +18,7 @@ use kl1_event::{Refusal, Reply};
 pub(crate) fn performed(steps: Steps) -> Performed
     ensures does { (s after : Kept) (most : ℕ) → RunsOn s steps.done after → IsEnd most steps.done steps.last after → Performs s (run_command most) result after }
     ensures told { (events_told result ≡ steps.done) × (steps_told result ≡ steps.done) }
+    ensures past { (p : Past) (j : Journal) → past_told p j result ≡ p }
     ensures memory { IsNoneFor result steps.done steps.last }
 {
     match steps.last {
@@ -31,6 +33,7 @@ pub(crate) fn performed(steps: Steps) -> Performed
 fn stopped(done: u64, refusal: Refusal) -> Reply
     ensures reply { (k : Kept) → stopped_by k done (refusal_of refusal) ≡ record { kept = k; reply = reply_of result } }
     ensures told { (events_by (reply_of result) ≡ done) × (steps_by (reply_of result) ≡ done) }
+    ensures past { (p : Past) (j : Journal) → past_by p j (reply_of result) ≡ p }
 {
     if done == 0 {
         Reply::Refused(refusal)
@@ -43,6 +46,7 @@ fn stopped(done: u64, refusal: Refusal) -> Reply
 fn short(done: u64) -> Performed
     ensures does { (s after : Kept) (most : ℕ) → RunsOn s done after → done < most → Performs s (run_command most) result after }
     ensures told { (events_told result ≡ done) × (steps_told result ≡ done) }
+    ensures past { (p : Past) (j : Journal) → past_told p j result ≡ p }
     ensures memory { IsNoneFor result done memory }
 {
     if done == 0 {

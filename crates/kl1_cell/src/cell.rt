@@ -17,7 +17,7 @@ ghost use Rattle.kl1_cell.specs.Counted.{no_past, with_more, IsCounted, events_b
 ghost use Rattle.kl1_cell.specs.Filling.{room_in, is_entry, HasRoom};
 
 use crate::cell_naming::CellNaming;
-use crate::counting::{count, count_step, is_entry, past_after};
+use crate::counting::{MOST_EVENTS, count, count_step, is_full, past_after};
 use crate::named_atoms::NamedAtoms;
 use crate::past::Past;
 use kl1_codes::SharedCodes;
@@ -28,9 +28,6 @@ use kl1_tickets::{Booked, Share};
 use std::alloc::AllocError;
 use std::marker::{Model, PhantomData};
 use std::sync::Wait;
-
-/// The most events of an account that its book tells.
-pub const MOST_EVENTS: u64 = 1 << 63;
 
 /// An account with its journal and its book; what its journals counted that resets ended; and whether its ticket is out, which no
 /// contract speaks of. What a book tells is always what was counted before the last reset and the entries of the journal.
@@ -69,7 +66,7 @@ impl<'t, R: Wait, K: CellNaming> Cell<'t, R, K> {
         requires modules { ArePlaced (StandsIn K.codes) kept.1.0.modules }
         requires entries { kept.1.1.entries ≡ [] }
         requires book { IsNewBook K.tally book }
-        ensures held { result.held ≡ kept.1 }
+        ensures held { result.held ≡ kept.entry.1 }
         ensures book { result.book ≡ book }
         ensures past { result.past ≡ no_past }
     {
@@ -108,7 +105,7 @@ impl<'t, R: Wait, K: CellNaming> Cell<'t, R, K> {
         ensures err { OnErr result ((self.new ≡ self.old) × (share.new ≡ share.old)) }
         ensures before { (f : Reading) → Fits self.new.held.0.names f → Fits self.old.held.0.names f }
     {
-        if self.room() == 0 && is_entry(event) {
+        if is_full(&self.book, event) {
             return Ok(Reply::Refused(Refusal::Journal));
         }
         let reply = self.kept.apply(names, codes, event)?;

@@ -1,16 +1,19 @@
 // What replies add to a book, to a share and to a past.
 
-ghost use Rattle.std.specs.Prelude.{◌≡◌, ◌+◌, ◌<◌, ◌≤◌, ◌^◌, false};
+ghost use Rattle.std.specs.Prelude.{◌≡◌, ◌+◌, ◌<◌, ◌≤◌, ◌^◌, true, false};
 ghost use Rattle.kl1_tally.specs.declared.amounts.TheConstants.{MOST_ACCOUNTS};
 ghost use Rattle.kl1_event.specs.Views.{event_of, reply_of, reduced_or};
 ghost use Rattle.kl1_tickets.specs.Counts.{Moved};
 ghost use Rattle.kl1_cell.specs.Counted.{with_more, events_by, steps_by, is_run, ended};
-ghost use Rattle.kl1_cell.specs.Filling.{is_entry};
+ghost use Rattle.kl1_cell.specs.Filling.{is_entry, HasRoom};
 
 use crate::past::Past;
 use kl1_event::{Event, Refusal, Reply};
 use kl1_tally::{BookSeat, Tally};
 use kl1_tickets::{Naming, Share};
+
+/// The most events of an account that its book tells.
+pub const MOST_EVENTS: u64 = 1 << 63;
 
 /// Counts what a reply tells, which is one event at most, in a book and in a share.
 pub(crate) fn count<K: Naming>(
@@ -65,11 +68,19 @@ pub(crate) fn past_after(past: Past, book: &BookSeat, reply: &Reply) -> Past
 }
 
 /// Whether an event is an entry of the journal if it is accepted.
-pub(crate) fn is_entry(event: &Event) -> bool
+fn is_entry(event: &Event) -> bool
     ensures { result ≡ is_entry (event_of event.now) }
 {
     matches!(
         event,
         Event::Load { .. } | Event::Start { .. } | Event::Control { .. } | Event::Reduce { .. }
     )
+}
+
+/// Whether a book can't tell what an event is, if that is an entry.
+pub(crate) fn is_full(book: &BookSeat, event: &Event) -> bool
+    ensures full { result ≡ true → (is_entry (event_of event.now) ≡ true) × (2 ^ 63 ≤ book.now.events) }
+    ensures room { result ≡ false → HasRoom book.now (event_of event.now) }
+{
+    is_entry(event) && book.events() >= MOST_EVENTS
 }

@@ -10,8 +10,9 @@ mod outcome;
 mod past;
 mod running;
 
-pub use cell::{Cell, MOST_EVENTS};
+pub use cell::Cell;
 pub use cell_naming::CellNaming;
+pub use counting::MOST_EVENTS;
 pub use kl1_journal::AccountName;
 pub use kl1_tickets::Turn;
 pub use named_atoms::NamedAtoms;

@@ -1,6 +1,7 @@
 // Commands and turns: first steps, one after another.
 
 ghost use Rattle.std.specs.Prelude.{◌≡◌, ℕ, ◌+◌, ◌<◌, ◌≤◌, ◌^◌};
+ghost use Rattle.kl1_history.specs.Journal.{Journal};
 ghost use Rattle.kl1_history.specs.Command.{run as run_command};
 ghost use Rattle.kl1_event.specs.Views.{reply_of};
 ghost use Rattle.kl1_command.specs.Commands.{command_view};
@@ -8,7 +9,8 @@ ghost use Rattle.kl1_command.specs.Performing.{IsUntouched, Performs};
 ghost use Rattle.kl1_tickets.specs.Counts.{Moved};
 ghost use Rattle.kl1_tickets.specs.declared.serving.TheConstants.{MOST_STEPS};
 ghost use Rattle.kl1_journal.specs.Keeping.{Reading, Fits, kept_of};
-ghost use Rattle.kl1_cell.specs.Counted.{with_more, events_by, steps_by};
+ghost use Rattle.kl1_cell.specs.declared.past.Past.{Past};
+ghost use Rattle.kl1_cell.specs.Counted.{with_more, events_by, steps_by, past_by};
 ghost use Rattle.kl1_cell.specs.Told.{events_told, steps_told, past_told};
 ghost use Rattle.kl1_cell.specs.Filling.{room_in, held_to, act_in_vain, PerformsInVain};
 ghost use Rattle.kl1_cell.specs.Stepping.{AreFirstSteps, goes_on, IsOutcome, step_of, RunsOn, IsEnd, IsLeft};
@@ -102,6 +104,7 @@ impl<'t, R: Wait, K: CellNaming> Cell<'t, R, K> {
         ensures memory { IsUntouched result self.old self.new × IsUntouched result share.old share.new }
         ensures counted { Moved self.old.book.account (events_told result) (steps_told result) 0 0 share.old share.new }
         ensures book { self.new.book ≡ with_more self.old.book (events_told result) (steps_told result) }
+        ensures told { (p : Past) (j : Journal) → past_told p j result ≡ p }
         ensures past { self.new.past ≡ self.old.past }
         ensures before { (f : Reading) → Fits self.new.held.0.names f → Fits self.old.held.0.names f }
     {
@@ -116,6 +119,7 @@ impl<'t, R: Wait, K: CellNaming> Cell<'t, R, K> {
     fn run_in_vain(&self, most: u64) -> Reply
         ensures reply { (f : Reading) → Fits self.now.held.0.names f → act_in_vain (kept_of f self.now.held) (run_command most) ≡ record { kept = kept_of f self.now.held; reply = reply_of result } }
         ensures none { (events_by (reply_of result) ≡ 0) × (steps_by (reply_of result) ≡ 0) }
+        ensures told { (p : Past) (j : Journal) → past_by p j (reply_of result) ≡ p }
     {
         if most == 0 || self.pick().is_none() {
             Reply::Ran(0)

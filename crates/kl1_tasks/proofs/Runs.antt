@@ -1,6 +1,6 @@
 -- Runs from an account in which nothing has happened.
-use Rattle.std.proofs.Common.{◌≡◌, ℕ, ◌<◌, List, [], length, get_or, Err, ap, sym, ◌∙◌, refl, subst, arith}
-use Rattle.std.specs.Prelude.{None, Some, slice_set}
+use Rattle.std.proofs.Common.{◌≡◌, ℕ, List, [], ◌∷◌, Err, ap, sym, ◌∙◌, refl, subst, arith}
+use Rattle.std.specs.Prelude.{None, Some}
 use Rattle.std.specs.declared.option.Option.{Option}
 use Rattle.std.specs.declared.result.Result.{Result}
 use Rattle.std.proofs.lemmas.List.{append-nil}
@@ -12,8 +12,7 @@ use Rattle.kl1_lines.specs.Devices.{GrowsIfKnown, AppendsFront}
 use Rattle.kl1_atoms.specs.Names.{AreNames}
 use Rattle.kl1_journal.specs.Keeping.{Reading, Fits, Held, kept_of}
 use Rattle.kl1_journal.proofs.Readings.{reading_of, reading_fits}
-use Rattle.kl1_world.specs.Worlds.{account_in, all_but, AreFresh}
-use Rattle.kl1_world.proofs.Steps.{as_many_but}
+use Rattle.kl1_world.specs.Worlds.{account_in, AreFresh}
 use Rattle.kl1_shell.specs.declared.ending.Ending.{Ending}
 use Rattle.kl1_shell.specs.declared.stop.Stop.{Stop}
 use Rattle.kl1_shell.specs.declared.stop.Stop.TheVariants as stop
@@ -29,13 +28,6 @@ pub runs_alone : (k after : Kept) (texts : List (List ℕ)) (goal : Term) (allow
 runs_alone k after texts goal allowance steps q out out' err err' book book' r told e is journal =
     let P : Kept → Type 0 = λ from. IsRun (worked_of from texts goal allowance steps) q out out' err err' r after in
     record { after = after; runs = subst P e is; journal = journal }
-
--- of a world of one account, all that stays but its account
-pub first_stays : (old new : List Held) (i j : ℕ) → i ≡ 0 → (all_but j new, j) ≡ (all_but i old, i) → (j ≡ 0) × (length new ≡ length old)
-first_stays old new i j first stays =
-    let same : j ≡ i = ap (λ (p : List Held × ℕ). p.1) stays in
-    let left : all_but i new ≡ all_but i old = ap (λ m. all_but m new) (sym same) ∙ ap (λ (p : List Held × ℕ). p.0) stays in
-    (same ∙ first, as_many_but old new i left)
 
 -- a run on the account of a world in which nothing has happened
 pub world_alone : (old new : List Held) (i j : ℕ) (name : List ℕ) (texts : List (List ℕ)) (goal : Term) (allowance steps : ℕ) (q : Wanted) (out out' err err' book book' : Option (List ℕ)) (r : Result Ending Stop) (told : Result (Unit {0}) Stop) →
