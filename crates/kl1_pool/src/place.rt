@@ -1,18 +1,65 @@
 // Where an account lies under its lock.
 
-ghost use Rattle.std.specs.Prelude.{◌≡◌};
+ghost use Rattle.std.specs.Prelude.{◌≡◌, ℕ};
+ghost use Rattle.atomic_table.specs.Seated.{TableId};
+ghost use Rattle.kl1_tickets.specs.Parts.{IsNewBook};
+ghost use Rattle.kl1_pool.specs.Parts.{IsFreshSeat};
 
 use crossbeam_utils::CachePadded;
-use kl1_cell::{Cell, CellNaming};
+use kl1_atoms::AtomSeat;
+use kl1_cell::{AccountName, Cell, CellNaming};
+use kl1_journal::Kept;
 use kl1_tally::BookSeat;
 use kl1_tickets::Booked;
+use std::alloc::{AllocError, Global};
 use std::sync::Wait;
+
+/// What an account in which nothing has happened is made as.
+pub(crate) trait Fresh: Drop {
+    /// Which table of names its seat is of.
+    ghost table: { TableId };
+
+    /// For how many accounts that table was made.
+    ghost seats: { ℕ };
+
+    /// Which tally its book is of.
+    ghost tally: { TableId };
+
+    /// An account of this name in which nothing has happened.
+    fn fresh(
+        alloc: Global,
+        name: AccountName,
+        seat: AtomSeat,
+        book: BookSeat,
+    ) -> Result<Self, AllocError>
+        requires seat { IsFreshSeat table seats seat }
+        requires book { IsNewBook tally book };
+}
 
 /// An account under its lock. It is padded: a lock's word is written by each thread that wants the account, and no word of an account
 /// lies on its line.
 #[derive(Drop)]
 pub struct Place<'t, R: Wait, K: CellNaming> {
     pub(crate) cell: CachePadded<Cell<'t, R, K>>,
+}
+
+impl<'t, R: Wait, K: CellNaming> Fresh for Place<'t, R, K> {
+    ghost table = { K.table };
+
+    ghost seats = { K.seats };
+
+    ghost tally = { K.tally };
+
+    fn fresh(
+        alloc: Global,
+        name: AccountName,
+        seat: AtomSeat,
+        book: BookSeat,
+    ) -> Result<Self, AllocError> {
+        let kept = Kept::new(alloc, name, seat)?;
+        let cell = CachePadded::new(Cell::new(kept, book));
+        Ok(Place { cell })
+    }
 }
 
 impl<'t, R: Wait, K: CellNaming> Booked for Place<'t, R, K> {

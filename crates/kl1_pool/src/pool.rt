@@ -9,7 +9,7 @@ ghost use Rattle.kl1_cell.specs.Told.{events_told, steps_told};
 use crate::gate::Gate;
 use crate::parts::PoolParts;
 use crate::place::Place;
-use crate::places::places_of;
+use crate::places::{drop_all, places_of};
 use kl1_atoms::AtomTable;
 use kl1_cell::{CellNaming, NamedAtoms};
 use kl1_codes::{CodeTable, SharedCodes};
@@ -64,7 +64,7 @@ impl<'t, R: Wait, K: CellNaming> Pool<'t, R, K> {
             books,
             shares,
         } = tickets.open::<K>(alloc)?;
-        let places = places_of::<R, K>(rt, alloc, accounts, seats, books)?;
+        let places = places_of::<Place<'t, R, K>>(alloc, accounts, seats, books)?;
         Ok((
             Pool {
                 rt,
@@ -193,6 +193,19 @@ impl<'t, R: Wait, K: CellNaming> Pool<'t, R, K> {
             cell.clear_ticket();
         }
         turn
+    }
+
+    /// Drops a pool whose shares can't be gathered. A drop without this call is proved only where the tables that are lent to the pool
+    /// are made.
+    pub fn discard(self) {
+        let Pool {
+            rt: _,
+            table: _,
+            codes: _,
+            common: _,
+            places,
+        } = self;
+        drop_all(places);
     }
 
     /// Ends each worker before its next ticket.

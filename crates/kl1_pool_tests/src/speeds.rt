@@ -37,13 +37,28 @@ struct Busy {
     asked: Asked,
 }
 
-/// Waits until all accounts are quiet; the nanoseconds that it took.
-fn time_to_rest<'t, R: Wait + Clock, K: CellNaming>(
-    rt: &R,
-    pool: &Pool<'t, R, K>,
-    share: &mut Share<K>,
-) -> u128 {
-    let from = moment(rt);
+impl Busy {
+    /// Asks each account that is to run for the same, whatever it answers.
+    fn ask_each<'t, R: Wait, K: CellNaming>(
+        &self,
+        rt: &R,
+        pool: &Pool<'t, R, K>,
+        request: Request<'_>,
+        share: &mut Share<K>,
+        out: &mut Text,
+    ) {
+        let mut said = Text::new(out.alloc);
+        for account in 0..self.busy {
+            put_answer(rt, pool, account, request, share, &mut said);
+        }
+        if said.has_failed {
+            out.fail();
+        }
+    }
+}
+
+/// Waits until all accounts are quiet.
+fn rest<'t, R: Wait + Clock, K: CellNaming>(rt: &R, pool: &Pool<'t, R, K>, share: &mut Share<K>) {
     for account in 0..pool.accounts() {
         for _look in 0..1_000_000u32 {
             if is_quiet(rt, pool, account, share) {
@@ -52,7 +67,6 @@ fn time_to_rest<'t, R: Wait + Clock, K: CellNaming>(
             thread::sleep(rt, Duration::from_micros(200));
         }
     }
-    nanoseconds_since(rt, from)
 }
 
 /// The nanoseconds of looks, each after a short sleep.
@@ -105,21 +119,7 @@ impl Job for Busy {
         share: &mut Share<K>,
         out: &mut Text,
     ) {
-        let mut said = Text::new(out.alloc);
-        for account in 0..self.busy {
-            put_answer(rt, pool, account, Request::Load(SPIN), share, &mut said);
-            put_answer(
-                rt,
-                pool,
-                account,
-                Request::Line(self.start),
-                share,
-                &mut said,
-            );
-        }
-        if said.has_failed {
-            out.fail();
-        }
+        self.ask_each(rt, pool, Request::Load(SPIN), share, out);
     }
 
     fn go_on<'t, R: Wait + Clock, K: CellNaming>(
@@ -134,8 +134,13 @@ impl Job for Busy {
             worker(rt, pool, &self.gate, number, share);
             return;
         }
+        let from = moment(rt);
+        self.ask_each(rt, pool, Request::Line(self.start), share, out);
         match self.asked {
-            Asked::Rest => out.put_number(time_to_rest(rt, pool, share) as u64),
+            Asked::Rest => {
+                rest(rt, pool, share);
+                out.put_number(nanoseconds_since(rt, from) as u64);
+            }
             Asked::Looks(account, looks) => {
                 let times = look_times(rt, out.alloc, pool, account, looks, share);
                 put_halves(out, times);

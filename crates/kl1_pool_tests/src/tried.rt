@@ -28,9 +28,16 @@ fn done<'t, J: Job + Sync, R: Threads + Wait + Clock + Sync, K: CellNaming + Sen
 {
     let (pool, mut shares) = Pool::<R, K>::new(rt, alloc, parts)?;
     job.begin(rt, &pool, &mut shares[0], out);
-    let mut shares = work(rt, alloc, &pool, job, shares, out)?;
-    job.end(rt, &pool, &mut shares[0], out);
-    Ok(gather(rt, pool, shares))
+    match work(rt, alloc, &pool, job, shares, out) {
+        Ok(mut shares) => {
+            job.end(rt, &pool, &mut shares[0], out);
+            Ok(gather(rt, pool, shares))
+        }
+        Err(refused) => {
+            pool.discard();
+            Err(refused)
+        }
+    }
 }
 
 /// `done` of parts that no type names yet.

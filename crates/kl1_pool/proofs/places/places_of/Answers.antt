@@ -11,8 +11,8 @@ loop-book-preserved g c =
     let names : length c.loop-book.names.items ≡ length c.last_of-name.new.list.items + 1 = ap length c.last_of-name.ensures ∙ length-append c.last_of-name.new.list.items (c.last_of-name.result ∷ []) in
     let seats : length c.loop-book.seats.items ≡ length c.last_of-seat.new.list.items + 1 = ap length c.last_of-seat.ensures ∙ length-append c.last_of-seat.new.list.items (c.last_of-seat.result ∷ []) in
     record {
-      seats = but_last (IsFreshSeat g.K.CellNaming.table g.K.CellNaming.seats) c.loop-book.seats.items c.last_of-seat.new.list.items c.last_of-seat.result c.last_of-seat.ensures c.loop-book.invariant.seats;
-      books = (All-pop (IsNewBook g.K.Naming.tally) c.loop-book.books.items c.pop.new.self.items c.pop.result c.pop.ensures.items c.loop-book.invariant.books).0;
+      seats = but_last (IsFreshSeat g.C.Fresh.table g.C.Fresh.seats) c.loop-book.seats.items c.last_of-seat.new.list.items c.last_of-seat.result c.last_of-seat.ensures c.loop-book.invariant.seats;
+      books = (All-pop (IsNewBook g.C.Fresh.tally) c.loop-book.books.items c.pop.new.self.items c.pop.result c.pop.ensures.items c.loop-book.invariant.books).0;
       names = omega (arith, books, names, c.loop-book.invariant.names);
       as_many = omega (arith, books, seats, c.loop-book.invariant.as_many);
       count = search rules;

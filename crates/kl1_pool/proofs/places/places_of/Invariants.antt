@@ -7,8 +7,8 @@ use Rattle.kl1_pool.proofs.places.places_of.Given as goal
 -- the books that aren't left have accounts, and as many names and seats are left as books
 abbrev pub invariant-loop-book : goal.invariant-loop-book
 invariant-loop-book g l = record {
-  seats : AreFreshSeats g.K.CellNaming.table g.K.CellNaming.seats l.seats.items;
-  books : All (IsNewBook g.K.Naming.tally) l.books.items;
+  seats : AreFreshSeats g.C.Fresh.table g.C.Fresh.seats l.seats.items;
+  books : All (IsNewBook g.C.Fresh.tally) l.books.items;
   names : length l.names.items ≡ length l.books.items;
   as_many : length l.seats.items ≡ length l.books.items;
   count : length l.places.items + length l.books.items ≡ length l.initial.books.items;
