@@ -1,6 +1,8 @@
 // One connection.
 
-ghost use Rattle.std.specs.Prelude.{◌≡◌, ◌<◌, ◌≤◌, ℕ, length};
+ghost use Rattle.std.specs.Prelude.{◌≡◌, ◌<◌, ◌≤◌, ℕ, [], length, OnOk, OnErr};
+ghost use Rattle.std.specs.Io.KnownBytes.{Appends};
+ghost use Rattle.kl1_lines.specs.Devices.{AppendsFront};
 ghost use Rattle.kl1_door.specs.Views.{IsVisitor};
 
 use crate::deed::{Deed, deed_of};
@@ -8,7 +10,7 @@ use crate::desk::{Desk, put_performed};
 use kl1_command::{Command, Performed, put_reply};
 use kl1_event::{Event, Reply};
 use kl1_keys::Key;
-use kl1_lines::{Sink, Source, finish, pass_on};
+use kl1_lines::{DeviceFailed, Sink, Source, finish, pass_on};
 use kl1_session::{Input, Session};
 use std::alloc::{AllocError, Global};
 
@@ -119,9 +121,7 @@ fn answer_piece<T: Sink, D: Desk>(
         return Some(Served::Fault);
     }
     // What was done is told, also if the connection ends.
-    let written = finish(sink, visitor.replies.as_slice());
-    visitor.replies.clear();
-    match (answered, written) {
+    match (answered, send(sink, &mut visitor.replies)) {
         (Answered::All, Ok(())) => None,
         (Answered::Bye, Ok(())) => Some(Served::Bye),
         _ => Some(Served::Fault),
@@ -142,6 +142,10 @@ fn answer_all<T: Sink, D: Desk>(
     ensures visitor { IsVisitor (length keys.now) visitor.new.account }
 {
     for input in inputs {
+        // No reply that is known waits for a long command.
+        if is_run(input) && send(sink, &mut visitor.replies).is_err() {
+            return Answered::Write;
+        }
         match answer(desk, keys, input, visitor) {
             Ok(false) => {
                 if pass_on(sink, &mut visitor.replies).is_err() {
@@ -153,6 +157,25 @@ fn answer_all<T: Sink, D: Desk>(
         }
     }
     Answered::All
+}
+
+/// Whether an input asks for a run.
+fn is_run(input: &Input) -> bool {
+    matches!(input, Input::Command(Command::Run(_)))
+}
+
+/// Writes the replies that wait, if there are any, and empties them.
+fn send<T: Sink>(sink: &mut T, replies: &mut Vec<u8>) -> Result<(), DeviceFailed>
+    ensures sent { OnOk result (Appends (T.contents sink.old) (T.contents sink.new) replies.old.items) }
+    ensures front { OnErr result (AppendsFront (T.contents sink.old) (T.contents sink.new) replies.old.items) }
+    ensures empty { replies.new.items ≡ [] }
+{
+    if replies.is_empty() {
+        return Ok(());
+    }
+    let written = finish(sink, replies.as_slice());
+    replies.clear();
+    written
 }
 
 /// Answers one input, and tells whether it was a logout that was done.

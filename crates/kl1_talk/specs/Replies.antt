@@ -1,0 +1,15 @@
+-- What the first lines of replies tell.
+use Rattle.std.specs.Prelude.{ℕ, List, Bool, Option, None, bytes_eq, codes, ◌||◌, if◌then◌else◌}
+use Rattle.kl1_model.specs.Line.{word_in, behind_word_in, only_number}
+
+-- a reply is a refusal if its first word is a minus sign
+abbrev pub is_refusal : List ℕ → Bool
+is_refusal line = bytes_eq (word_in line) (codes "-")
+
+-- the number after a plus sign, if it is all that is there
+abbrev pub count_in : List ℕ → Option ℕ
+count_in line = if bytes_eq (word_in line) (codes "+") then only_number (behind_word_in line) else None
+
+-- the second word tells that the shoen has ended
+abbrev pub has_ended : List ℕ → Bool
+has_ended line = bytes_eq (word_in (behind_word_in line)) (codes "terminated") || bytes_eq (word_in (behind_word_in line)) (codes "aborted")

@@ -1,0 +1,43 @@
+// How a talk ended, and the status of a program that held it.
+
+ghost use Rattle.std.specs.Prelude.{◌≡◌, IfOk, IsErr, true, if◌then◌else◌};
+
+use crate::fault::Fault;
+
+/// The status where each reply was none of a refusal.
+pub const ALL_WELL: u8 = 0;
+
+/// The status where a reply was a refusal.
+pub const REFUSED: u8 = 1;
+
+/// The status where the words of the program, the account's name or its key are no good.
+pub const BAD_WORDS: u8 = 2;
+
+/// The status where the talk ended before its commands did, and where a file could not be loaded.
+pub const TROUBLE: u8 = 3;
+
+/// How a talk ended that came to its end.
+#[derive(Clone, Copy)]
+pub struct Outcome {
+    /// Whether a reply was a refusal.
+    pub was_refused: bool,
+    /// Whether a file could not be loaded.
+    pub lacked_file: bool,
+}
+
+/// The status of a talk.
+pub fn status_of(talked: Result<Outcome, Fault>) -> u8
+    ensures fault { IsErr talked → result ≡ 3 }
+    ensures ok { IfOk talked (λ o. result ≡ (if o.lacked_file then 3 else if o.was_refused then 1 else 0)) }
+{
+    match talked {
+        Err(_) => TROUBLE,
+        Ok(Outcome {
+            lacked_file: true, ..
+        }) => TROUBLE,
+        Ok(Outcome {
+            was_refused: true, ..
+        }) => REFUSED,
+        Ok(_) => ALL_WELL,
+    }
+}
