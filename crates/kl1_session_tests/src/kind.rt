@@ -11,4 +11,10 @@ pub enum Kind {
     Talk,
     /// Whether no session stays open after these bytes, whichever read or write fails.
     Faults,
+    /// What is written first to who says these bytes in one piece.
+    First,
+    /// The status of a client, what it sends and what it shows, for commands and the replies to come.
+    Client,
+    /// The same of one who asks for all pages.
+    Pages,
 }

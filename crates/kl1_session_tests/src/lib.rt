@@ -1,8 +1,9 @@
-//! Rows on sessions: what streams ask for, files of accounts, and conversations.
+//! Rows on sessions: what streams ask for, files of accounts, conversations, and clients.
 #![tactic(auto)]
 
 mod asked;
 mod book;
+mod clients;
 mod files;
 mod kind;
 mod rows;

@@ -1,9 +1,10 @@
 // The answers to rows, by the kinds of their groups.
 
 use crate::asked::is_asked;
+use crate::clients::is_client;
 use crate::files::is_file;
 use crate::kind::Kind;
-use crate::talks::{closes_sessions, is_talk};
+use crate::talks::{closes_sessions, is_first, is_talk};
 use std::alloc::Global;
 
 /// Whether an act of a kind comes to the answer that is wanted.
@@ -13,5 +14,8 @@ pub fn is_right(alloc: Global, kind: Kind, act: &[u8], wanted: &[u8]) -> bool {
         Kind::File => is_file(alloc, act, wanted),
         Kind::Talk => is_talk(alloc, act, wanted),
         Kind::Faults => closes_sessions(alloc, act, wanted),
+        Kind::First => is_first(alloc, act, wanted),
+        Kind::Client => is_client(alloc, act, wanted, false),
+        Kind::Pages => is_client(alloc, act, wanted, true),
     }
 }

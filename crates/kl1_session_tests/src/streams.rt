@@ -1,4 +1,4 @@
-// Streams one of whose calls fails.
+// Streams one of whose calls fails, and streams in pieces.
 
 use std::io;
 use std::io::{ErrorKind, Read, Write};
@@ -43,5 +43,19 @@ impl Write for Failing<Vec<u8>> {
             return Err(io::Error::from(ErrorKind::Other));
         }
         self.inner.flush()
+    }
+}
+
+/// Bytes that come in pieces of at most this many.
+#[derive(Drop)]
+pub struct Pieces<'a> {
+    pub bytes: &'a [u8],
+    pub size: usize,
+}
+
+impl Read for Pieces<'_> {
+    fn read(&mut self, into: &mut [u8]) -> io::Result<usize> {
+        let size = self.size.min(into.len());
+        self.bytes.read(&mut into[..size])
     }
 }

@@ -125,3 +125,11 @@ pub fn closes_sessions(alloc: Global, bytes: &[u8], wanted: &[u8]) -> bool {
     }
     is_same(wanted, b"yes")
 }
+
+/// Whether who says these bytes in one piece, at most 64 of them, is written this by the first write.
+pub fn is_first(alloc: Global, bytes: &[u8], wanted: &[u8]) -> bool {
+    match talk_of(alloc, bytes, 64, 0, 2) {
+        Ok(talk) => talk.written.as_slice() == wanted,
+        Err(_) => false,
+    }
+}

@@ -15,6 +15,7 @@ pub use caller::Caller;
 pub use connection::Connection;
 pub use fault::Fault;
 pub use kl1_lines::{Counted, DeviceFailed, Sink, Source};
+pub use kl1_model::limits::MOST_SOURCE_BYTES;
 pub use lines::{LineReader, MOST_LINE_BYTES};
 pub use outcome::{ALL_WELL, BAD_WORDS, Outcome, REFUSED, TROUBLE, status_of};
 pub use replies::{count_in, has_ended, is_refusal};

@@ -32,12 +32,18 @@ pub fn status_of(talked: Result<Outcome, Fault>) -> u8
 {
     match talked {
         Err(_) => TROUBLE,
-        Ok(Outcome {
-            lacked_file: true, ..
-        }) => TROUBLE,
-        Ok(Outcome {
-            was_refused: true, ..
-        }) => REFUSED,
+        Ok(
+            Outcome {
+                lacked_file: true,
+                ..
+            },
+        ) => TROUBLE,
+        Ok(
+            Outcome {
+                was_refused: true,
+                ..
+            },
+        ) => REFUSED,
         Ok(_) => ALL_WELL,
     }
 }

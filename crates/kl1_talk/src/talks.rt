@@ -99,7 +99,13 @@ fn ask_all<S: Source, T: Sink, O: Sink, C: Caller>(
                 lacked_file = true;
             }
         } else {
-            ask(connection, shown, caller, asked, without_return(line.as_slice()))?;
+            ask(
+                connection,
+                shown,
+                caller,
+                asked,
+                without_return(line.as_slice()),
+            )?;
         }
         shown.flush()?;
         if matches!(asked, Asked::Logout) && connection.line().starts_with(b"+ bye") {

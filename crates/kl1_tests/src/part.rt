@@ -131,6 +131,18 @@ const PARTS: [(&[u8], Part); 58] = [
         b"session faults ",
         Part::Session(kl1_session_tests::Kind::Faults),
     ),
+    (
+        b"session first ",
+        Part::Session(kl1_session_tests::Kind::First),
+    ),
+    (
+        b"session client ",
+        Part::Session(kl1_session_tests::Kind::Client),
+    ),
+    (
+        b"session pages ",
+        Part::Session(kl1_session_tests::Kind::Pages),
+    ),
 ];
 
 /// The part that the heading of a group names.

@@ -1,0 +1,113 @@
+// The program, from its words to its status.
+
+use crate::house::serve_all;
+use kl1_keys::Key;
+use kl1_lines::{Counted, Sink, finish};
+use kl1_pool::Totals;
+use kl1_settings::{Halt, Words, put_served, read_accounts, words_in};
+use std::alloc::Global;
+use std::fs::{File, Files};
+use std::io;
+use std::net::{Net, TcpListener, TcpStream};
+use std::sync::Wait;
+use std::thread::Threads;
+
+/// The status where what came of the service can't be told.
+const NOT_TOLD: u8 = 1;
+
+/// The sum of the numbers of all accounts.
+fn sum_of(numbers: &[u64]) -> u128 {
+    let mut sum = 0u128;
+    for number in numbers {
+        sum = sum.saturating_add(u128::from(*number));
+    }
+    sum
+}
+
+/// The fault of a call of the system that would be this one if memory wasn't refused.
+fn halt_of(error: io::Error, halt: Halt) -> Halt {
+    if error.kind() == io::ErrorKind::OutOfMemory {
+        Halt::Memory
+    } else {
+        halt
+    }
+}
+
+/// The accounts of the file of this name, with their keys.
+fn accounts_in<R: Files>(rt: &R, alloc: Global, name: &str) -> Result<Vec<Key>, Halt> {
+    match File::open(rt, name) {
+        Ok(file) => read_accounts(alloc, &mut Counted::new(file)),
+        Err(error) => Err(halt_of(error, Halt::Accounts)),
+    }
+}
+
+/// Serves as the words ask for, to the end; and answers them, and what was done to the accounts.
+fn served_by<'a, R>(
+    rt: &R,
+    alloc: Global,
+    words: &'a [String],
+) -> Result<(Words<'a>, Totals), Halt>
+where
+    R: Net<Listener = TcpListener, Stream = TcpStream> + Files + Threads + Wait + Sync,
+{
+    let words = words_in(alloc, words)?;
+    let keys = accounts_in(rt, alloc, words.file)?;
+    let listener = match TcpListener::bind(rt, words.address) {
+        Ok(listener) => listener,
+        Err(error) => return Err(halt_of(error, Halt::Listen)),
+    };
+    let totals = serve_all(
+        rt,
+        alloc,
+        &listener,
+        keys.as_slice(),
+        words.workers,
+        words.accept,
+    )?;
+    Ok((words, totals))
+}
+
+/// Serves as the words ask for, of which the first is the program's name: looks at the words, then at the file of accounts, and then
+/// at the address. When all connections have ended it tells `out` what was served; else `err` is told why not. Answers the
+/// program's status.
+pub fn run_server<R, O: Sink, E: Sink>(
+    rt: &R,
+    alloc: Global,
+    words: &[String],
+    out: &mut O,
+    err: &mut E,
+) -> u8
+where
+    R: Net<Listener = TcpListener, Stream = TcpStream> + Files + Threads + Wait + Sync,
+{
+    match served_by(rt, alloc, words) {
+        Ok((words, totals)) => tell(alloc, words, &totals, out, err),
+        Err(halt) => stop(halt, err),
+    }
+}
+
+/// Tells what was served, and answers the program's status.
+fn tell<O: Sink, E: Sink>(
+    alloc: Global,
+    words: Words<'_>,
+    totals: &Totals,
+    out: &mut O,
+    err: &mut E,
+) -> u8 {
+    let mut line = Vec::new(alloc);
+    let events = sum_of(&totals.events);
+    let steps = sum_of(&totals.steps);
+    if put_served(&mut line, words.accept, events, steps).is_err() {
+        return stop(Halt::Memory, err);
+    }
+    match finish(out, line.as_slice()) {
+        Ok(()) => 0,
+        Err(_) => NOT_TOLD,
+    }
+}
+
+/// Tells why the server doesn't serve, and answers the program's status.
+pub fn stop<E: Sink>(halt: Halt, err: &mut E) -> u8 {
+    let _ = finish(err, halt.line());
+    halt.status()
+}
