@@ -1,18 +1,16 @@
 // The program, from its words to its status.
 
 use crate::house::serve_all;
-use kl1_keys::Key;
-use kl1_lines::{Counted, Sink, finish};
+use kl1_lines::{Sink, finish};
 use kl1_pool::Totals;
-use kl1_settings::{Halt, Words, put_served, read_accounts, words_in};
+use kl1_settings::{Halt, Ready, put_served, ready_by};
 use std::alloc::Global;
-use std::fs::{File, Files};
-use std::io;
+use std::fs::Files;
 use std::net::{Net, TcpListener, TcpStream};
 use std::sync::Wait;
 use std::thread::Threads;
 
-/// The status where what came of the service can't be told.
+/// The status where what was served can't be told.
 const NOT_TOLD: u8 = 1;
 
 /// The sum of the numbers of all accounts.
@@ -24,38 +22,16 @@ fn sum_of(numbers: &[u64]) -> u128 {
     sum
 }
 
-/// The fault of a call of the system that would be this one if memory wasn't refused.
-fn halt_of(error: io::Error, halt: Halt) -> Halt {
-    if error.kind() == io::ErrorKind::OutOfMemory {
-        Halt::Memory
-    } else {
-        halt
-    }
-}
-
-/// The accounts of the file of this name, with their keys.
-fn accounts_in<R: Files>(rt: &R, alloc: Global, name: &str) -> Result<Vec<Key>, Halt> {
-    match File::open(rt, name) {
-        Ok(file) => read_accounts(alloc, &mut Counted::new(file)),
-        Err(error) => Err(halt_of(error, Halt::Accounts)),
-    }
-}
-
-/// Serves as the words ask for, to the end; and answers them, and what was done to the accounts.
-fn served_by<'a, R>(
-    rt: &R,
-    alloc: Global,
-    words: &'a [String],
-) -> Result<(Words<'a>, Totals), Halt>
+/// Serves as the words ask for, to the end; and answers how many connections were accepted, and what was done to the accounts.
+fn served_by<R>(rt: &R, alloc: Global, words: &[String]) -> Result<(u64, Totals), Halt>
 where
     R: Net<Listener = TcpListener, Stream = TcpStream> + Files + Threads + Wait + Sync,
 {
-    let words = words_in(alloc, words)?;
-    let keys = accounts_in(rt, alloc, words.file)?;
-    let listener = match TcpListener::bind(rt, words.address) {
-        Ok(listener) => listener,
-        Err(error) => return Err(halt_of(error, Halt::Listen)),
-    };
+    let Ready {
+        words,
+        keys,
+        listener,
+    } = ready_by(rt, alloc, words)?;
     let totals = serve_all(
         rt,
         alloc,
@@ -64,7 +40,7 @@ where
         words.workers,
         words.accept,
     )?;
-    Ok((words, totals))
+    Ok((words.accept, totals))
 }
 
 /// Serves as the words ask for, of which the first is the program's name: looks at the words, then at the file of accounts, and then
@@ -81,7 +57,7 @@ where
     R: Net<Listener = TcpListener, Stream = TcpStream> + Files + Threads + Wait + Sync,
 {
     match served_by(rt, alloc, words) {
-        Ok((words, totals)) => tell(alloc, words, &totals, out, err),
+        Ok((accepted, totals)) => tell(alloc, accepted, &totals, out, err),
         Err(halt) => stop(halt, err),
     }
 }
@@ -89,7 +65,7 @@ where
 /// Tells what was served, and answers the program's status.
 fn tell<O: Sink, E: Sink>(
     alloc: Global,
-    words: Words<'_>,
+    accepted: u64,
     totals: &Totals,
     out: &mut O,
     err: &mut E,
@@ -97,7 +73,7 @@ fn tell<O: Sink, E: Sink>(
     let mut line = Vec::new(alloc);
     let events = sum_of(&totals.events);
     let steps = sum_of(&totals.steps);
-    if put_served(&mut line, words.accept, events, steps).is_err() {
+    if put_served(&mut line, accepted, events, steps).is_err() {
         return stop(Halt::Memory, err);
     }
     match finish(out, line.as_slice()) {
