@@ -11,7 +11,7 @@ use kl1_lines::Counted;
 use std::alloc::Global;
 use std::fs::{File, Files};
 use std::io;
-use std::net::{Net, TcpListener};
+use std::net::{Net, TcpListener, TcpStream};
 
 /// What a server needs.
 #[derive(Drop)]
@@ -50,7 +50,7 @@ fn accounts_in<R: Files>(rt: &R, alloc: Global, name: &str) -> Result<Vec<Key>, 
 /// good is told.
 pub fn ready_by<'a, R>(rt: &R, alloc: Global, words: &'a [String]) -> Result<Ready<'a>, Halt>
 where
-    R: Net<Listener = TcpListener> + Files,
+    R: Net<Listener = TcpListener, Stream = TcpStream> + Files,
 {
     let words = words_in(alloc, words)?;
     let keys = accounts_in(rt, alloc, words.file)?;

@@ -1,12 +1,14 @@
 // The words of the server.
 
-ghost use Rattle.std.specs.Prelude.{◌≡◌, ◌≤◌, ◌×◌, IfOk, IsErrOf};
+ghost use Rattle.std.specs.Prelude.{◌≡◌, ◌≤◌};
 ghost use Rattle.std.specs.List.{list_all};
 ghost use Rattle.kl1_model.specs.Token.{is_digit};
 ghost use Rattle.kl1_settings.specs.Counts.{count_in};
+ghost use Rattle.kl1_settings.specs.declared.words.TheConstants.{MOST_ACCEPT, MOST_WORKERS};
 
 use crate::halt::Halt;
-use clap::{Arg, ArgAction, ArgMatches, Command, Error, ErrorKind};
+use clap::error::ErrorKind;
+use clap::{Arg, ArgAction, ArgMatches, Command, Error};
 use kl1_text::decimal_up_to;
 use std::alloc::{AllocError, Global};
 
