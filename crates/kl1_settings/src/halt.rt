@@ -3,6 +3,8 @@
 ghost use Rattle.std.specs.Prelude.{◌≡◌};
 ghost use Rattle.kl1_settings.specs.Halts.{line_of, status_of};
 
+use std::alloc::{AllocError, AllocFailed};
+
 /// Why the server doesn't serve to its end.
 #[derive(Clone, Copy)]
 pub enum Halt {
@@ -37,5 +39,17 @@ impl Halt {
             Halt::Usage | Halt::Accounts => 2,
             Halt::Listen | Halt::Memory => 1,
         }
+    }
+}
+
+impl From<AllocError> for Halt {
+    fn from(_refused: AllocError) -> Self {
+        Halt::Memory
+    }
+}
+
+impl<T: Drop> From<AllocFailed<T>> for Halt {
+    fn from(_refused: AllocFailed<T>) -> Self {
+        Halt::Memory
     }
 }

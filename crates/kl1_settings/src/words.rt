@@ -13,10 +13,10 @@ use kl1_text::decimal_up_to;
 use std::alloc::{AllocError, Global};
 
 /// The most workers.
-pub const MOST_WORKERS: u64 = 16;
+pub const MOST_WORKERS: u16 = 16;
 
 /// The most connections that the server accepts in its whole life.
-pub const MOST_ACCEPT: u64 = 1_024;
+pub const MOST_ACCEPT: u16 = 1_024;
 
 /// What the words ask for.
 #[derive(Clone, Copy)]
@@ -26,9 +26,9 @@ pub struct Words<'a> {
     /// Where to listen.
     pub address: &'a str,
     /// How many threads go on with accounts.
-    pub workers: u64,
+    pub workers: u16,
     /// How many connections are accepted.
-    pub accept: u64,
+    pub accept: u16,
     pub ghost some_workers: { 1 ≤ workers },
     pub ghost few_workers: { workers ≤ MOST_WORKERS },
     pub ghost some_accept: { 1 ≤ accept },
@@ -43,15 +43,15 @@ fn are_digits(word: &[u8]) -> bool
 }
 
 /// The number from 1 to `most` that a word is, in decimal digits.
-fn count_in(most: u64, word: &[u8]) -> Option<u64>
+fn count_in(most: u16, word: &[u8]) -> Option<u16>
     ensures { result ≡ count_in most word.now }
 {
     if word.is_empty() || !are_digits(word) {
         return None;
     }
-    match decimal_up_to(most, word) {
-        Some(0) => None,
-        number => number,
+    match decimal_up_to(u64::from(most), word) {
+        None | Some(0) => None,
+        Some(number) => Some(number as u16),
     }
 }
 
