@@ -24,24 +24,17 @@ enum Work {
 }
 
 fn main(rt: HostRuntime) -> ExitCode {
-    match work_of(&rt) {
-        Ok(Work::Unknown) => tell_usage(&rt),
-        Ok(work) => match do_work(&rt, work) {
-            Ok(()) => ExitCode::SUCCESS,
-            Err(fault) => tell_fault(&rt, fault),
-        },
-        Err(fault) => tell_fault(&rt, fault),
-    }
-}
-
-/// Runs the script, or replays the journal, that standard input gives.
-fn do_work(rt: &HostRuntime, work: Work) -> Result<(), ScriptFault> {
     let mut source = Counted::new(rt.stdin());
     let mut sink = Counted::new(rt.stdout());
-    match work {
-        Work::Script => run_script(rt, rt.alloc(), &mut source, &mut sink),
-        Work::Replay => run_replay(rt, rt.alloc(), &mut source, &mut sink),
-        Work::Unknown => Ok(()),
+    let done = match work_of(&rt) {
+        Ok(Work::Script) => run_script(&rt, rt.alloc(), &mut source, &mut sink),
+        Ok(Work::Replay) => run_replay(&rt, rt.alloc(), &mut source, &mut sink),
+        Ok(Work::Unknown) => return tell_usage(&rt),
+        Err(fault) => Err(fault),
+    };
+    match done {
+        Ok(()) => ExitCode::SUCCESS,
+        Err(fault) => tell_fault(&rt, fault),
     }
 }
 
@@ -65,7 +58,7 @@ fn work_in(mut words: Args) -> Work {
     match words.next() {
         None => Work::Script,
         Some(word) => {
-            if word == "replay" && words.next().is_none() {
+            if word.as_str() == "replay" && words.next().is_none() {
                 Work::Replay
             } else {
                 Work::Unknown

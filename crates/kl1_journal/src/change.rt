@@ -71,7 +71,7 @@ fn anew(alloc: Global, journal: &Journal, names: &[AtomText]) -> Result<Journal,
     Journal::with_names(alloc, names, journal.sessions())
 }
 
-/// The entry of an event, with room for it.
+/// The entry of an event, with room for it. A query is no entry, and no room is made for it.
 fn entered(alloc: Global, journal: &mut Journal, event: &Event) -> Result<Change, AllocError>
     requires { IsEntered (event_of event.now) }
     ensures same { journal.new.journal ≡ journal.old.journal }
@@ -79,6 +79,9 @@ fn entered(alloc: Global, journal: &mut Journal, event: &Event) -> Result<Change
     ensures room { IfOk result (λ change. HasRoom journal.new change) }
 {
     let entry = entry_for(alloc, event)?;
+    if !entry.is_entry() {
+        return Ok(Change::Entry(entry));
+    }
     journal.reserve()?;
     Ok(Change::Entry(entry))
 }

@@ -1,6 +1,6 @@
 -- Runs from an account in which nothing has happened.
-use Rattle.std.proofs.Common.{◌≡◌, ℕ, ◌<◌, List, [], length, get_or, Err, ap, sym, ◌∙◌, refl, subst, arith}
-use Rattle.std.specs.Prelude.{None, Some, slice_set}
+use Rattle.std.proofs.Common.{◌≡◌, ℕ, List, [], ◌∷◌, Err, ap, sym, ◌∙◌, refl, subst, arith}
+use Rattle.std.specs.Prelude.{None, Some}
 use Rattle.std.specs.declared.option.Option.{Option}
 use Rattle.std.specs.declared.result.Result.{Result}
 use Rattle.std.proofs.lemmas.List.{append-nil}
@@ -9,6 +9,10 @@ use Rattle.kl1_history.specs.Journal.{Kept, fresh_kept}
 use Rattle.kl1_history.specs.JournalText.{journal_lines}
 use Rattle.kl1_history.specs.Command.{written_lines}
 use Rattle.kl1_lines.specs.Devices.{GrowsIfKnown, AppendsFront}
+use Rattle.kl1_atoms.specs.Names.{AreNames}
+use Rattle.kl1_journal.specs.Keeping.{Reading, Fits, Held, kept_of}
+use Rattle.kl1_journal.proofs.Readings.{reading_of, reading_fits}
+use Rattle.kl1_world.specs.Worlds.{account_in, AreFresh}
 use Rattle.kl1_shell.specs.declared.ending.Ending.{Ending}
 use Rattle.kl1_shell.specs.declared.stop.Stop.{Stop}
 use Rattle.kl1_shell.specs.declared.stop.Stop.TheVariants as stop
@@ -24,6 +28,19 @@ pub runs_alone : (k after : Kept) (texts : List (List ℕ)) (goal : Term) (allow
 runs_alone k after texts goal allowance steps q out out' err err' book book' r told e is journal =
     let P : Kept → Type 0 = λ from. IsRun (worked_of from texts goal allowance steps) q out out' err err' r after in
     record { after = after; runs = subst P e is; journal = journal }
+
+-- a run on the account of a world in which nothing has happened
+pub world_alone : (old new : List Held) (i j : ℕ) (name : List ℕ) (texts : List (List ℕ)) (goal : Term) (allowance steps : ℕ) (q : Wanted) (out out' err err' book book' : Option (List ℕ)) (r : Result Ending Stop) (told : Result (Unit {0}) Stop) →
+    name ≡ account_name → AreFresh old (name ∷ []) → i ≡ 0 → j ≡ 0 → AreNames (account_in new 0).0.names →
+    ((f : Reading) → Fits (account_in new j).0.names f → IsRun (worked_of (kept_of f (account_in old i)) texts goal allowance steps) q out out' err err' r (kept_of f (account_in new j))) →
+    ((f : Reading) → Fits (account_in new j).0.names f → IsTold (kept_of f (account_in new j)).journal book book' told) →
+    RunsAlone texts goal allowance steps q out out' err err' book book' (record { ending = r; journal = told })
+world_alone old new i j name texts goal allowance steps q out out' err err' book book' r told named fresh first same known does journal =
+    let f = reading_of (account_in new 0).0.names in
+    let P : ℕ → Type 0 = λ n. Fits (account_in new n).0.names f in
+    let fits = subst P (sym same) (reading_fits (account_in new 0).0.names known) in
+    let from : kept_of f (account_in old i) ≡ fresh_kept account_name = ap (λ n. kept_of f (account_in old n)) first ∙ fresh 0 f (omega arith) ∙ ap fresh_kept named in
+    runs_alone (kept_of f (account_in old i)) (kept_of f (account_in new j)) texts goal allowance steps q out out' err err' book book' r told from (does f fits) (journal f fits)
 
 grows_none : (a : Option (List ℕ)) → GrowsIfKnown a a []
 grows_none None = tt

@@ -23,8 +23,8 @@ pub enum Part {
     Again,
     /// An account, and a slow one beside it.
     Both,
-    /// Events of many accounts, together and each alone.
-    World,
+    /// Events of many accounts, together by at most so many calls and each alone.
+    World(u8),
     /// Journals and their texts.
     Journal,
     /// Commands and replies, by what is asked of them.
@@ -36,7 +36,7 @@ pub enum Part {
 }
 
 /// The parts by the two words that name them at the front of a heading.
-const PARTS: [(&[u8], Part); 58] = [
+const PARTS: [(&[u8], Part); 62] = [
     (b"store numbers ", Part::Numbers),
     (b"store texts ", Part::Texts),
     (b"read name ", Part::Read(kl1_read_tests::Kind::Name)),
@@ -92,7 +92,8 @@ const PARTS: [(&[u8], Part); 58] = [
     (b"user one ", Part::One),
     (b"user again ", Part::Again),
     (b"user both ", Part::Both),
-    (b"world both ", Part::World),
+    (b"world once ", Part::World(1)),
+    (b"world both ", Part::World(2)),
     (b"journal read ", Part::Journal),
     (b"command line ", Part::Command(command::Kind::Line)),
     (b"command record ", Part::Command(command::Kind::Record)),

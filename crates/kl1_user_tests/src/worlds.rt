@@ -66,11 +66,17 @@ fn put_replies(out: &mut Text, names: &[AccountName], events: &[Deed], replies: 
     }
 }
 
-/// Does events to accounts that are together, by one call, and by a second one those before which the first stops for want of memory;
-/// and puts their replies.
-fn put_together(out: &mut Text, names: &[AccountName], events: &[Deed], player: &mut Player) {
+/// Does events to accounts that are together, and puts their replies: by at most so many calls, each of which does those before which
+/// the one before it stops for want of memory.
+fn put_together(
+    out: &mut Text,
+    names: &[AccountName],
+    events: &[Deed],
+    player: &mut Player,
+    calls: u8,
+) {
     let mut left = events;
-    for _call in 0..2 {
+    for _call in 0..calls {
         match player.run(left) {
             None => out.fail(),
             Some(replies) => {
@@ -111,8 +117,9 @@ fn each_alone(alloc: Global, names: &[AccountName]) -> Option<Vec<Player>> {
     Some(alone)
 }
 
-/// Whether a script's accounts answer so, together and each alone; nothing if memory is refused elsewhere than in an event.
-fn is_right_once(alloc: Global, script: &[u8], wanted: &[u8]) -> Option<bool> {
+/// Whether a script's accounts answer so, together by at most so many calls and each alone; nothing if memory is refused elsewhere than
+/// in an event.
+fn is_right_once(alloc: Global, calls: u8, script: &[u8], wanted: &[u8]) -> Option<bool> {
     let (line, records) = split_line(script);
     let accounts = accounts_of(alloc, line)?;
     let names = accounts.as_slice();
@@ -120,7 +127,7 @@ fn is_right_once(alloc: Global, script: &[u8], wanted: &[u8]) -> Option<bool> {
     let mut alone = each_alone(alloc, names)?;
     let mut player = Player::new(alloc, names).ok()?;
     let mut together = Text::new(alloc);
-    put_together(&mut together, names, events.as_slice(), &mut player);
+    put_together(&mut together, names, events.as_slice(), &mut player, calls);
     let mut apart = Text::new(alloc);
     put_alone(&mut apart, names, events.as_slice(), alone.as_mut_slice());
     if together.has_failed || apart.has_failed {
@@ -129,11 +136,11 @@ fn is_right_once(alloc: Global, script: &[u8], wanted: &[u8]) -> Option<bool> {
     Some(together.bytes.as_slice() == wanted && apart.bytes.as_slice() == wanted)
 }
 
-/// Whether a script's accounts answer so, together and each alone, also if memory is refused once. The first line has their names,
-/// parted by a space each, and each record is an event.
-pub fn is_world_right(alloc: Global, script: &[u8], wanted: &[u8]) -> bool {
-    match is_right_once(alloc, script, wanted) {
+/// Whether a script's accounts answer so, together by at most so many calls and each alone, also if memory is refused once, outside the
+/// calls if there is one alone. The first line has their names, parted by a space each, and each record is an event.
+pub fn is_world_right(alloc: Global, calls: u8, script: &[u8], wanted: &[u8]) -> bool {
+    match is_right_once(alloc, calls, script, wanted) {
         Some(is_right) => is_right,
-        None => matches!(is_right_once(alloc, script, wanted), Some(true)),
+        None => matches!(is_right_once(alloc, calls, script, wanted), Some(true)),
     }
 }

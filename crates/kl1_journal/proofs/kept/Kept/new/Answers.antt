@@ -11,3 +11,7 @@ invariant_of-result g c =
     let is : (f : Reading) → kept_of f (c.in_ok-user.user, c.new.result.journal) ≡ fresh_kept c.args.name =
     λ f. ap (λ (s : State). let z : Kept = record { state = s; journal = c.new.result.journal } in z) (c.in_ok-user.ensures.fresh f) ∙ ap (λ (j : Journal). let z : Kept = record { state = (fresh_kept c.args.name).state; journal = j } in z) c.new.ensures in
     (c.requires ∙ sym c.in_ok-user.ensures.names, kept_fresh c.in_ok-user.user c.new.result.journal c.args.name c.in_ok-user.ensures.names is, fresh_names c.in_ok-user.user.names c.in_ok-user.ensures.names)
+
+pub returns-clause-fresh : goal.returns-clause-fresh
+returns-clause-fresh g c =
+    λ f. ap (λ (s : State). let z : Kept = record { state = s; journal = c.new.result.journal } in z) (c.in_ok-user.ensures.fresh f) ∙ ap (λ (j : Journal). let z : Kept = record { state = (fresh_kept c.args.name).state; journal = j } in z) c.new.ensures
