@@ -26,6 +26,7 @@ fn is_same_by<'t, K: CellNaming, R: Wait>(
     requires tickets { (parts.tally ≡ K.tally) × (parts.queue ≡ K.queue) × (parts.accounts ≡ K.accounts) × (parts.shares ≡ K.shares) }
     requires accounts { 1 ≤ parts.accounts }
 {
+    let keys = [alice(alloc)?];
     let (pool, mut shares) = Pool::<R, K>::new(rt, alloc, parts)?;
     let mut source = Counted::new(Pieces {
         bytes: LINES,
@@ -33,7 +34,6 @@ fn is_same_by<'t, K: CellNaming, R: Wait>(
         size,
     });
     let mut sink = Counted::new(Vec::new(alloc));
-    let keys = [alice(alloc)?];
     let served = match shares.as_mut_slice() {
         [share] => serve(rt, alloc, &mut source, &mut sink, &pool, &keys, share),
         _ => Served::Fault,

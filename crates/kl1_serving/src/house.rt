@@ -56,16 +56,43 @@ where
     requires tickets { (parts.tally ≡ K.tally) × (parts.queue ≡ K.queue) × (parts.accounts ≡ K.accounts) × (parts.shares ≡ K.shares) }
     requires keys { length keys.now ≤ parts.accounts }
 {
-    let (pool, mut shares) = Pool::<R, K>::new(rt, alloc, parts)?;
+    let (pool, shares) = Pool::<R, K>::new(rt, alloc, parts)?;
     let count = shares.len();
-    let workers = take_shares(alloc, &mut shares, workers)?;
-    let back = serve_with_workers(rt, alloc, listener, &pool, keys, workers, shares)?;
-    // Fewer came back only if memory was refused.
-    if back.len() == count {
-        Ok(gather(rt, pool, back))
-    } else {
-        Err(Halt::Memory)
+    match shares_back(rt, alloc, &pool, listener, keys, shares, workers) {
+        Ok(back) => {
+            // Fewer come back only if memory was refused.
+            if back.len() == count {
+                Ok(gather(rt, pool, back))
+            } else {
+                pool.discard();
+                Err(Halt::Memory)
+            }
+        }
+        Err(_) => {
+            pool.discard();
+            Err(Halt::Memory)
+        }
     }
+}
+
+/// Serves until all connections have ended, with `workers` of the shares for workers and the others for connections, and gives the
+/// shares back.
+fn shares_back<'t, K: CellNaming + Send + Sync, R>(
+    rt: &R,
+    alloc: Global,
+    pool: &Pool<'t, R, K>,
+    listener: &TcpListener,
+    keys: &[Key],
+    shares: Vec<Share<K>>,
+    workers: usize,
+) -> Result<Vec<Share<K>>, AllocError>
+where
+    R: Net<Listener = TcpListener, Stream = TcpStream> + Threads + Wait + Sync,
+    requires { length keys.now ≤ K.accounts }
+{
+    let mut shares = shares;
+    let workers = take_shares(alloc, &mut shares, workers)?;
+    serve_with_workers(rt, alloc, listener, pool, keys, workers, shares)
 }
 
 /// `totals` of parts that no type names yet.
