@@ -1,0 +1,44 @@
+//! The program with which people use a server: it logs in to an account, sends commands, and shows the replies.
+#![tactic(auto)]
+
+mod key;
+mod started;
+mod terminal;
+mod trouble;
+mod words;
+
+use crate::started::status_by;
+use crate::words::{asked_in, tell};
+use kl1_talk::{BAD_WORDS, TROUBLE};
+use std::process::ExitCode;
+use std::{env, io};
+
+fn main(rt: HostRuntime) -> ExitCode {
+    ExitCode::from(status_of(&rt))
+}
+
+/// The words of the program, of which the first is its name.
+fn words_in(rt: &HostRuntime) -> io::Result<Vec<String>> {
+    Ok(env::args(rt)?.collect(rt.alloc())?)
+}
+
+/// Does what the words ask for, and answers the program's status.
+fn status_of(rt: &HostRuntime) -> u8 {
+    match words_in(rt) {
+        Ok(words) => match asked_in(rt.alloc(), words.as_slice()) {
+            Ok(asked) => match status_by(rt, &asked) {
+                Ok(status) => status,
+                Err(trouble) => trouble.tell(rt),
+            },
+            Err(error) => tell(rt, &error),
+        },
+        Err(error) => {
+            let _ = eprintln!(rt; "kl1_client: {error}");
+            if error.kind() == io::ErrorKind::OutOfMemory {
+                TROUBLE
+            } else {
+                BAD_WORDS
+            }
+        }
+    }
+}

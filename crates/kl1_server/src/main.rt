@@ -1,0 +1,33 @@
+//! The server: accounts behind a socket, for those who know their keys.
+#![tactic(auto)]
+
+use kl1_serving::{Counted, Halt, run_server, stop};
+use std::process::ExitCode;
+use std::{env, io};
+
+fn main(rt: HostRuntime) -> ExitCode {
+    let mut out = Counted::new(rt.stdout());
+    let mut err = Counted::new(rt.stderr());
+    ExitCode::from(match words_in(&rt) {
+        Ok(words) => run_server(&rt, rt.alloc(), words.as_slice(), &mut out, &mut err),
+        Err(halt) => stop(halt, &mut err),
+    })
+}
+
+/// The words of the program, of which the first is its name.
+fn words_in(rt: &HostRuntime) -> Result<Vec<String>, Halt> {
+    let words = match env::args(rt) {
+        Ok(words) => words,
+        Err(error) => {
+            return Err(if error.kind() == io::ErrorKind::OutOfMemory {
+                Halt::Memory
+            } else {
+                Halt::Usage
+            });
+        }
+    };
+    match words.collect(rt.alloc()) {
+        Ok(words) => Ok(words),
+        Err(_) => Err(Halt::Memory),
+    }
+}
