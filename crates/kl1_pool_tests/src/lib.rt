@@ -4,6 +4,7 @@
 mod checks;
 mod gate;
 mod job;
+mod numbers;
 mod play;
 mod replaying;
 mod rows;

@@ -4,6 +4,7 @@ ghost use Rattle.std.specs.Prelude.{◌≤◌};
 
 use crate::gate::{Counter, Held};
 use crate::job::Job;
+use crate::numbers::small;
 use crate::play::play;
 use crate::tried::tried;
 use kl1_pool::{CellNaming, Pool, Share, Totals, worker};
@@ -73,14 +74,14 @@ fn put_totals(out: &mut Text, told: &Totals, are_known: bool) {
             out.put(b" ");
             out.put_number(told.steps[account]);
             out.put(b" ");
-            out.put_number(told.puts[account] as u64);
+            out.put_number(small(told.puts[account]));
             out.put(b" ");
-            out.put_number(told.takes[account] as u64);
+            out.put_number(small(told.takes[account]));
         } else {
             out.put_number(told.events[account].saturating_sub(told.steps[account]));
         }
         out.put(b" ");
-        out.put_number(told.left[account] as u64);
+        out.put_number(small(told.left[account]));
         out.put(b"\n");
     }
 }

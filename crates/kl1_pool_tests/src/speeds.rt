@@ -4,6 +4,7 @@ ghost use Rattle.std.specs.Prelude.{◌≡◌, ◌<◌, ◌≤◌};
 
 use crate::gate::{Counter, Held};
 use crate::job::Job;
+use crate::numbers::small;
 use crate::play::{is_quiet, put_answer};
 use crate::tried::tried;
 use kl1_lines::Request;
@@ -83,7 +84,7 @@ fn look_times<'t, R: Wait + Clock, K: CellNaming>(
         thread::sleep(rt, Duration::from_micros(50));
         let from = moment(rt);
         let _ = is_quiet(rt, pool, account, share);
-        times.push(nanoseconds_since(rt, from) as u64)?;
+        times.push(small(nanoseconds_since(rt, from)))?;
     }
     Ok(times)
 }
@@ -139,7 +140,7 @@ impl Job for Busy {
         match self.asked {
             Asked::Rest => {
                 rest(rt, pool, share);
-                out.put_number(nanoseconds_since(rt, from) as u64);
+                out.put_number(small(nanoseconds_since(rt, from)));
             }
             Asked::Looks(account, looks) => {
                 let times = look_times(rt, out.alloc, pool, account, looks, share);
@@ -209,7 +210,7 @@ fn steps_a_second<R: Threads + Wait + Clock + Sync>(
     };
     let told = tried(rt, accounts, workers + 1, &busy, &mut out)?;
     let nanoseconds = number_of(out.bytes.as_slice()).max(1);
-    Ok((u128::from(steps_of(&told)) * 1_000_000_000 / u128::from(nanoseconds)) as u64)
+    Ok(small(u128::from(steps_of(&told)) * 1_000_000_000 / u128::from(nanoseconds)))
 }
 
 /// Puts how long it takes to ask whether the account of this number, of 16, is quiet, while the first accounts run by four workers.

@@ -2,6 +2,7 @@
 
 use crate::gate::{Counter, Held, LOOKS};
 use crate::job::Job;
+use crate::numbers::small;
 use crate::play::{comes_to_rest, put_answer};
 use crate::speeds::put_halves;
 use crate::tried::tried;
@@ -56,7 +57,7 @@ fn wake_times<'t, R: Wait + Clock, K: CellNaming>(
             &mut said,
         );
         wait_past(&wakes.gate, entered);
-        times.push(nanoseconds_since(rt, from) as u64)?;
+        times.push(small(nanoseconds_since(rt, from)))?;
         let _ = comes_to_rest(rt, pool, 0, share);
     }
     Ok(times)
