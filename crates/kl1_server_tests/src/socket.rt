@@ -26,7 +26,11 @@ where
     let mut replies = Vec::new(alloc);
     let mut buffer = [0u8; 256];
     let mut reader = &stream;
-    while replies.len() < REPLIES.len() {
+    // Each read gives a byte at least, or is the last.
+    for _ in 0..REPLIES.len() {
+        if replies.len() >= REPLIES.len() {
+            break;
+        }
         let count = reader.read(&mut buffer)?;
         if count == 0 {
             break;

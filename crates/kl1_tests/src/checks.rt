@@ -10,7 +10,6 @@ use std::thread::Threads;
 pub fn put_checks<R: Threads + Wait + Clock + Sync>(rt: &R, out: &mut Text) {
     kl1_sharing_tests::put_checks(rt, out);
     kl1_goals_tests::put_checks(rt, out);
-    kl1_pool_tests::put_checks(rt, out);
     let done = two_accounts_answer_over_each_word(rt, out.alloc);
     put_check(
         out,

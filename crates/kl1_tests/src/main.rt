@@ -23,14 +23,14 @@ use std::thread::Threads;
 /// The line with which rows end behind which checks follow.
 const CHECKS: &[u8] = b"== checks\n";
 
-/// Rows, of which some are tried on accounts, with the handle by which a script may wait and threads are made.
+/// Rows, of which some are tried on accounts, with the handle by which a script may wait.
 #[derive(Drop)]
-struct Rows<'a, H: Threads + Wait + Clock + Sync> {
+struct Rows<'a, H: Wait> {
     rt: &'a H,
     text: &'a [u8],
 }
 
-impl<H: Threads + Wait + Clock + Sync> OverAccounts for Rows<'_, H> {
+impl<H: Wait> OverAccounts for Rows<'_, H> {
     fn put(&self, out: &mut Text, accounts: &mut Accounts) {
         put_report(
             out,

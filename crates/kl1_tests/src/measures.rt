@@ -18,21 +18,15 @@ pub enum Measure {
     Names,
     /// Counting in the tally beside an atomic number.
     Tally,
-    /// Workers over accounts that run, and what is asked meanwhile.
-    Pool,
-    /// Workers without work.
-    Idle,
 }
 
 /// The measures by their words, each with a line feed.
-const MEASURES: [(&[u8], Measure); 7] = [
+const MEASURES: [(&[u8], Measure); 5] = [
     (b"reductions\n", Measure::Reductions),
     (b"loads\n", Measure::Loads),
     (b"store\n", Measure::Store),
     (b"names\n", Measure::Names),
     (b"tally\n", Measure::Tally),
-    (b"pool\n", Measure::Pool),
-    (b"idle\n", Measure::Idle),
 ];
 
 /// What an input asks to be measured, if it is the word for that and a line feed.
@@ -53,7 +47,5 @@ pub fn put_measured<R: Threads + Wait + Clock + Sync>(rt: &R, out: &mut Text, me
         Measure::Store => kl1_goals_tests::put_store_times(rt, out),
         Measure::Names => kl1_sharing_tests::put_atom_times(rt, out),
         Measure::Tally => kl1_sharing_tests::put_tally_times(rt, out),
-        Measure::Pool => kl1_pool_tests::put_times(rt, out),
-        Measure::Idle => kl1_pool_tests::put_idle(rt, out),
     }
 }

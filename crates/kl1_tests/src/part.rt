@@ -33,12 +33,10 @@ pub enum Part {
     Script(script::Kind),
     /// Sessions, files of accounts and conversations, by what is asked of them.
     Session(kl1_session_tests::Kind),
-    /// Accounts under locks, with workers.
-    Pool,
 }
 
 /// The parts by the two words that name them at the front of a heading.
-const PARTS: [(&[u8], Part); 63] = [
+const PARTS: [(&[u8], Part); 62] = [
     (b"store numbers ", Part::Numbers),
     (b"store texts ", Part::Texts),
     (b"read name ", Part::Read(kl1_read_tests::Kind::Name)),
@@ -97,7 +95,6 @@ const PARTS: [(&[u8], Part); 63] = [
     (b"world once ", Part::World(1)),
     (b"world both ", Part::World(2)),
     (b"journal read ", Part::Journal),
-    (b"pool row ", Part::Pool),
     (b"command line ", Part::Command(command::Kind::Line)),
     (b"command record ", Part::Command(command::Kind::Record)),
     (b"command reply ", Part::Command(command::Kind::Reply)),

@@ -6,14 +6,12 @@ use kl1_rows::Tried;
 use kl1_store_tests::Stores;
 use kl1_user_tests::Accounts;
 use std::alloc::Global;
-use std::rt::Clock;
 use std::sync::Wait;
-use std::thread::Threads;
 
 /// What the rows of a group are tried on, and the stores and accounts as those before them left them, with the handle by which a
-/// script may wait and threads are made.
+/// script may wait.
 #[derive(Drop)]
-pub struct Parts<'a, H: Threads + Wait + Clock + Sync> {
+pub struct Parts<'a, H: Wait> {
     rt: &'a H,
     alloc: Global,
     part: Part,
@@ -21,7 +19,7 @@ pub struct Parts<'a, H: Threads + Wait + Clock + Sync> {
     accounts: &'a mut Accounts,
 }
 
-impl<'a, H: Threads + Wait + Clock + Sync> Parts<'a, H> {
+impl<'a, H: Wait> Parts<'a, H> {
     /// Empty stores and accounts that are lent, before the first group.
     pub fn new(rt: &'a H, alloc: Global, accounts: &'a mut Accounts) -> Self {
         Parts {
@@ -34,7 +32,7 @@ impl<'a, H: Threads + Wait + Clock + Sync> Parts<'a, H> {
     }
 }
 
-impl<H: Threads + Wait + Clock + Sync> Tried for Parts<'_, H> {
+impl<H: Wait> Tried for Parts<'_, H> {
     fn begin(&mut self, heading: &[u8]) {
         self.part = part_of(heading);
         match self.part {
@@ -59,7 +57,6 @@ impl<H: Threads + Wait + Clock + Sync> Tried for Parts<'_, H> {
             Part::Journal => kl1_user_tests::is_journal(self.alloc, act, wanted),
             Part::Command(kind) => command::is_right(self.alloc, kind, act, wanted),
             Part::Script(kind) => script::is_right(self.rt, self.alloc, kind, act, wanted),
-            Part::Pool => kl1_pool_tests::is_right(self.rt, self.alloc, act, wanted),
             Part::Session(kind) => kl1_session_tests::is_right(self.alloc, kind, act, wanted),
         }
     }
