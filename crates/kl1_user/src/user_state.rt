@@ -73,7 +73,7 @@ impl<A: AtomSource, C: CodeSource> UserState<A, C> {
         ensures fresh { IfOk result (λ user. (f : Reading) → state_of f user ≡ fresh_with name texts.now sessions) }
         ensures knows { IfOk result (λ user. A.knows seat.new ≡ user.names) }
         ensures modules { IfOk result (λ user. user.modules ≡ []) }
-        ensures keeps { Keeps A.is_of A.place A.knows names.old names.new seat.old seat.new }
+        ensures keeps { Keeps A.is_of A.place A.knows A.published names.old names.new seat.old seat.new }
         ensures seat { OnErr result (A.knows seat.new ≡ []) }
     {
         let account = Account::with_names(alloc, name, sessions, names, seat, texts)?;
@@ -100,7 +100,7 @@ impl<A: AtomSource, C: CodeSource> UserState<A, C> {
         ensures logout { IsTrue (is_logout event.now) → IsOk result }
         ensures err { OnErr result (self.new ≡ self.old) }
         ensures seat { OnErr result (A.knows seat.new ≡ A.knows seat.old) }
-        ensures keeps { Keeps A.is_of A.place A.knows names.old names.new seat.old seat.new }
+        ensures keeps { Keeps A.is_of A.place A.knows A.published names.old names.new seat.old seat.new }
         ensures knows { A.knows seat.new ≡ self.new.names }
         ensures placed { ArePlaced (C.has codes.new) self.new.modules }
         ensures same { (p : ℕ × ℕ) → C.has codes.old p ↔ C.has codes.new p }
@@ -141,7 +141,7 @@ impl<A: AtomSource, C: CodeSource> UserState<A, C> {
         requires knows { A.knows seat.old ≡ self.now.names }
         requires placed { ArePlaced (C.has codes.now) self.now.modules }
         ensures step { IfOk result (λ reply. (f : Reading) → Fits self.now.names f → step (state_of f self.now) (read (query_of query)) ≡ record { state = state_of f self.now; reply = reply_of reply }) }
-        ensures keeps { Keeps A.is_of A.place A.knows names.old names.new seat.old seat.new }
+        ensures keeps { Keeps A.is_of A.place A.knows A.published names.old names.new seat.old seat.new }
         ensures knows { A.knows seat.new ≡ self.now.names }
     {
         match query {
@@ -164,7 +164,7 @@ impl<A: AtomSource, C: CodeSource> UserState<A, C> {
         requires of { A.is_of names.old seat.old }
         requires knows { A.knows seat.old ≡ self.now.names }
         ensures whole { IfOk result (λ shown. (f : Reading) → Fits self.now.names f → option_map (λ text. text.items) shown ≡ whole_value (state_of f self.now) number) }
-        ensures keeps { Keeps A.is_of A.place A.knows names.old names.new seat.old seat.new }
+        ensures keeps { Keeps A.is_of A.place A.knows A.published names.old names.new seat.old seat.new }
         ensures knows { A.knows seat.new ≡ self.now.names }
     {
         self.account.whole_value(names, seat, number)
@@ -185,7 +185,7 @@ impl<A: AtomSource, C: CodeSource> UserState<A, C> {
         ensures step { IfOk result (λ refused. (f : Reading) → Fits self.new.names f → step (state_of f self.old) (reduce_event goal.0 clause.0) ≡ record { state = state_of f self.new; reply = reduced_or refused }) }
         ensures err { OnErr result (self.new ≡ self.old) }
         ensures seat { OnErr result (A.knows seat.new ≡ A.knows seat.old) }
-        ensures keeps { Keeps A.is_of A.place A.knows names.old names.new seat.old seat.new }
+        ensures keeps { Keeps A.is_of A.place A.knows A.published names.old names.new seat.old seat.new }
         ensures knows { A.knows seat.new ≡ self.new.names }
         ensures modules { self.new.modules ≡ self.old.modules }
     {
