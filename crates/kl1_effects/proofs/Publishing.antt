@@ -5,8 +5,8 @@ use Rattle.kl1_model.specs.Limits.{most_names}
 use Rattle.kl1_text.specs.declared.atom_no.AtomNo.{AtomNo}
 use Rattle.kl1_text.specs.declared.cell_name.CellName.{CellName}
 use Rattle.kl1_atoms.specs.declared.known.Known.{Known}
-use Rattle.kl1_atoms.specs.Names.{number_by, added, Adds, HasRoom}
-use Rattle.kl1_atoms.specs.Knowing.{option_cases, still_known}
+use Rattle.kl1_atoms.specs.Names.{number_by, added, Adds, HasRoom, PublishesWithin}
+use Rattle.kl1_atoms.specs.Knowing.{option_cases, still_known, publishes_same, publishes_then}
 use Rattle.kl1_clause.specs.NameList.{with_text, with_texts}
 use Rattle.kl1_clause.proofs.Growth.{with_none}
 use Rattle.kl1_effects.specs.Account.{texts_of}
