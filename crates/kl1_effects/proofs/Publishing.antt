@@ -88,6 +88,16 @@ module _ {T S : Type 0} (is_of : T → S → Type 0) (place : S → ℕ × ℕ) 
   pub keeps_same : (table : T) (seat : S) → is_of table seat → Keeps is_of place knows published table table seat seat
   keeps_same table seat of = record { of = of; stays = refl; others = λ other o ne. o; grows = λ t n e. e; publishes = publishes_same (published seat) (knows seat) }
 
+  -- two calls, one after the other
+  pub keeps_then : (old mid new : T) (before seat after : S) → Keeps is_of place knows published old mid before seat → Keeps is_of place knows published mid new seat after → Keeps is_of place knows published old new before after
+  keeps_then old mid new before seat after one two = record {
+    of = two.of;
+    stays = two.stays ∙ one.stays;
+    others = λ other o ne. two.others other (one.others other o ne) (λ e. ne (e ∙ one.stays));
+    grows = λ t n e. two.grows t n (one.grows t n e);
+    publishes = publishes_then (published before) (published seat) (published after) (knows before) (knows seat) (knows after) one.publishes two.publishes;
+  }
+
   -- one look-up more
   pub keeps_more : (old mid new : T) (before seat after : S) (t : List ℕ) (a : AtomNo) → Keeps is_of place knows published old mid before seat → is_of new after → place after ≡ place seat → ((other : S) → is_of mid other → (place other ≡ place seat → ⊥) → is_of new other) → Adds (knows seat) t a (knows after) →
       PublishesWithin (published seat) (published after) (knows seat) (knows after) → Keeps is_of place knows published old new before after
