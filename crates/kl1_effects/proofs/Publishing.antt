@@ -109,7 +109,7 @@ module _ {T S : Type 0} (is_of : T → S → Type 0) (place : S → ℕ × ℕ) 
     publishes = publishes_then (published before) (published seat) (published after) (knows before) (knows seat) (knows after) k.publishes publishes;
   }
 
-module _ {T S : Type 0} (knows : S → List Known) where
+module _ {S : Type 0} (knows : S → List Known) where
   -- what the names of an account are told of a look-up
   pub adds_to : (seat after : S) (now learned : List Known) (t : List ℕ) (a : AtomNo) → knows seat ≡ now → learned ≡ added now t a → Adds (knows seat) t a (knows after) → (knows after ≡ learned) × Adds now t a learned
   adds_to seat after now learned t a same is adds =
