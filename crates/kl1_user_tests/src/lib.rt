@@ -1,4 +1,4 @@
-//! Rows of events on an account, also beside a slow one, and on many accounts; rows on journals; and what a reduction costs.
+//! Rows of events on an account, also beside a slow one, and on many accounts; rows on loads and on journals; and what a reduction costs.
 #![tactic(auto)]
 
 mod accounts;
@@ -7,6 +7,7 @@ mod again;
 mod answers;
 mod beside;
 mod journals;
+mod loads;
 mod made;
 mod over_accounts;
 mod player;
@@ -16,6 +17,7 @@ mod worlds;
 
 pub use accounts::Accounts;
 pub use journals::is_journal;
+pub use loads::is_published;
 pub use over_accounts::{OverAccounts, put_over};
 pub use reductions::put_times;
 pub use worlds::is_world_right;
