@@ -14,7 +14,7 @@ mod serving;
 mod streams;
 mod told;
 
+pub use crowded::crowded_names_leave_room;
 pub use kind::Kind;
 pub use rows::is_right;
-pub use crowded::crowded_names_leave_room;
 pub use serving::{refused_load_puts_no_code_in, two_accounts_answer_over_each_word};

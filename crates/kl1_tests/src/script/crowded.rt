@@ -60,10 +60,7 @@ fn is_room_left<R: Wait>(rt: &R, alloc: Global) -> Result<bool, AllocError> {
     let next = put_start(&mut script, &table, b"alice", next);
     let _next = put_start(&mut script, &table, b"alice", next);
     script.put(b"alice start 1 0 1 X = zeta\n");
-    Ok(
-        !script.has_failed
-            && is_whole(rt, alloc, Kind::Script, script.bytes.as_slice(), REPLIES),
-    )
+    Ok(!script.has_failed && is_whole(rt, alloc, Kind::Script, script.bytes.as_slice(), REPLIES))
 }
 
 /// `is_room_left`, at the second try if memory is refused at the first.
