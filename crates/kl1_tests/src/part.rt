@@ -21,8 +21,6 @@ pub enum Part {
     One,
     /// An account, to which an event is done again where memory was refused.
     Again,
-    /// An account, and a slow one beside it.
-    Both,
     /// A load over the shared table of names, which is done again while memory is refused.
     Published,
     /// Events of many accounts, together by at most so many calls and each alone.
@@ -38,7 +36,7 @@ pub enum Part {
 }
 
 /// The parts by the two words that name them at the front of a heading.
-const PARTS: [(&[u8], Part); 63] = [
+const PARTS: [(&[u8], Part); 62] = [
     (b"store numbers ", Part::Numbers),
     (b"store texts ", Part::Texts),
     (b"read name ", Part::Read(kl1_read_tests::Kind::Name)),
@@ -93,7 +91,6 @@ const PARTS: [(&[u8], Part); 63] = [
     (b"shoen tree ", Part::Tree),
     (b"user one ", Part::One),
     (b"user again ", Part::Again),
-    (b"user both ", Part::Both),
     (b"user published ", Part::Published),
     (b"world once ", Part::World(1)),
     (b"world both ", Part::World(2)),

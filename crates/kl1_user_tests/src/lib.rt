@@ -1,17 +1,15 @@
-//! Rows of events on an account, also beside a slow one, and on many accounts; rows on loads and on journals; and what a reduction costs.
+//! Rows of events on an account and on many accounts; rows on loads and on journals; and what a reduction costs.
 #![tactic(auto)]
 
 mod accounts;
 mod acts;
 mod again;
 mod answers;
-mod beside;
 mod journals;
 mod loads;
 mod made;
 mod over_accounts;
 mod player;
-mod playing;
 mod reductions;
 mod worlds;
 

@@ -21,7 +21,7 @@ run :- true | run.
 /// Begins anew, and starts goals by an act, which are reduced so often until all wait, and one goal that runs: whether each act
 /// is answered so.
 fn is_begun(accounts: &mut Accounts, alloc: Global, start: &[u8], made: &[u8]) -> bool {
-    accounts.begin(alloc, false);
+    accounts.begin(alloc);
     accounts.is_right(alloc, LOAD, b"+ loaded m")
         && accounts.is_right(alloc, start, b"+ shoen 1")
         && accounts.is_right(alloc, b"run 1000", made)
