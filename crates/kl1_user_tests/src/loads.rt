@@ -2,9 +2,10 @@
 
 ghost use Rattle.std.specs.Prelude.{◌≡◌};
 ghost use Rattle.kl1_atoms.specs.Seats.{IsSharedSeat, face_in};
+ghost use Rattle.kl1_modules.specs.Numbered.{ArePlaced};
 
 use kl1_atoms::{AtomSeat, AtomTable, SharedAtoms};
-use kl1_codes::PlainCodes;
+use kl1_codes::{CodeSource, PlainCodes};
 use kl1_event::{Event, Reply};
 use kl1_rows::is_counted;
 use kl1_user::{AccountName, UserState};
@@ -15,15 +16,16 @@ const TRIES: u32 = 101;
 
 /// How many entries of the table an account has published once a module is loaded, which is tried again while memory is refused; nothing
 /// if a load that is refused publishes one, or if it is done otherwise.
-fn entries_after<'t>(
+fn entries_after<'t, C: CodeSource>(
     names: &mut SharedAtoms<'t>,
     seat: &mut AtomSeat,
-    user: &mut UserState<SharedAtoms<'t>, PlainCodes>,
-    codes: &mut PlainCodes,
+    user: &mut UserState<SharedAtoms<'t>, C>,
+    codes: &mut C,
     load: &Event,
 ) -> Option<u64>
     requires of { IsSharedSeat names.old.table.now.table.shared.table_id seat.old.badge.table_id names.old.table.now.accounts (face_in seat.old.badge.views) seat.old.account }
     requires knows { (face_in seat.old.badge.views).knows ≡ user.old.names }
+    requires placed { ArePlaced (C.has codes.old) user.old.modules }
 {
     for _try in 0..TRIES {
         let before = names.table.own_entries(seat);
