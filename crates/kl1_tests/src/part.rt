@@ -21,6 +21,8 @@ pub enum Part {
     One,
     /// An account, to which an event is done again where memory was refused.
     Again,
+    /// A load over the shared table of names, which is done again while memory is refused.
+    Published,
     /// Events of many accounts, together by at most so many calls and each alone.
     World(u8),
     /// Journals and their texts.
@@ -34,7 +36,7 @@ pub enum Part {
 }
 
 /// The parts by the two words that name them at the front of a heading.
-const PARTS: [(&[u8], Part); 61] = [
+const PARTS: [(&[u8], Part); 62] = [
     (b"store numbers ", Part::Numbers),
     (b"store texts ", Part::Texts),
     (b"read name ", Part::Read(kl1_read_tests::Kind::Name)),
@@ -89,6 +91,7 @@ const PARTS: [(&[u8], Part); 61] = [
     (b"shoen tree ", Part::Tree),
     (b"user one ", Part::One),
     (b"user again ", Part::Again),
+    (b"user published ", Part::Published),
     (b"world once ", Part::World(1)),
     (b"world both ", Part::World(2)),
     (b"journal read ", Part::Journal),

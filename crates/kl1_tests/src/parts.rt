@@ -52,6 +52,7 @@ impl<H: Wait> Tried for Parts<'_, H> {
             Part::Tree => kl1_goals_tests::is_tree_right(self.alloc, act, wanted),
             Part::One => self.accounts.is_right(self.alloc, act, wanted),
             Part::Again => self.accounts.is_right_again(self.alloc, act, wanted),
+            Part::Published => kl1_user_tests::is_published(self.alloc, act, wanted),
             Part::World(calls) => kl1_user_tests::is_world_right(self.alloc, calls, act, wanted),
             Part::Journal => kl1_user_tests::is_journal(self.alloc, act, wanted),
             Part::Command(kind) => command::is_right(self.alloc, kind, act, wanted),
