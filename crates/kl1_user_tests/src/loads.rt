@@ -50,11 +50,11 @@ fn entries_of(alloc: Global, source: &[u8]) -> Result<Option<u64>, AllocError> {
     let load = Event::Load {
         source: Vec::from_slice(alloc, source)?,
     };
+    let mut codes = PlainCodes::new(alloc);
+    let mut user = UserState::fresh(alloc, name)?;
     let (table, mut seats) = AtomTable::new(alloc, 1)?;
     let mut seat = seats.swap_remove(0);
     let mut names = SharedAtoms { table: &table };
-    let mut codes = PlainCodes::new(alloc);
-    let mut user = UserState::fresh(alloc, name)?;
     Ok(entries_after(&mut names, &mut seat, &mut user, &mut codes, &load))
 }
 
