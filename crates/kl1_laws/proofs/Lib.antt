@@ -10,3 +10,14 @@ pub mod HistoryRowProofs
 pub mod GuardRowProofs
 pub mod ShoenRowProofs
 pub mod StreamRowProofs
+pub mod SectionOrder
+pub mod Allowances
+pub mod Reaching
+pub mod Alike
+pub mod Modules
+pub mod Duties
+pub mod Counts
+pub mod Endings
+pub mod Idle
+pub mod Holds
+pub mod Tails
