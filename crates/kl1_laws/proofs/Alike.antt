@@ -40,18 +40,20 @@ duty_of g = record { number = g.number; shoen = g.shoen; is_monitor = is_monitor
 abbrev pub duties_of : List Goal → List Duty
 duties_of gs = map duty_of gs
 
--- an effect leaves the nodes of shoens, the duties of goals, the modules and the last number of a goal
+-- an effect leaves the nodes of shoens, the duties of goals, the modules, charged reductions, the last number of a goal and how many entries there are
 pub record Alike (s t : State) : Type 0 where
   pub nodes : nodes_of t.shoens ≡ nodes_of s.shoens
   pub duties : duties_of t.goals ≡ duties_of s.goals
   pub modules : t.modules ≡ s.modules
   pub last : t.last_goal ≡ s.last_goal
+  pub entries : t.entries ≡ s.entries
+  pub work : t.work ≡ s.work
 
 pub alike_same : (s : State) → Alike s s
-alike_same s = record { nodes = refl; duties = refl; modules = refl; last = refl }
+alike_same s = record { nodes = refl; duties = refl; modules = refl; last = refl; entries = refl; work = refl }
 
 pub alike_both : (s t u : State) → Alike s t → Alike t u → Alike s u
-alike_both s t u p q = record { nodes = q.nodes ∙ p.nodes; duties = q.duties ∙ p.duties; modules = q.modules ∙ p.modules; last = q.last ∙ p.last }
+alike_both s t u p q = record { nodes = q.nodes ∙ p.nodes; duties = q.duties ∙ p.duties; modules = q.modules ∙ p.modules; last = q.last ∙ p.last; entries = q.entries ∙ p.entries; work = q.work ∙ p.work }
 
 pub alike_if : (c : Bool) (s t u : State) → Alike s t → Alike s u → Alike s (if c then t else u)
 alike_if true s t u p q = p
@@ -78,10 +80,10 @@ replaced_duties v t [] = refl
 replaced_duties v t (g ∷ gs) = ap₂ (λ (b : Bool) (ds : List Duty). (record { number = g.number; shoen = g.shoen; is_monitor = b }) ∷ ds) (task_kept v t g.task) (replaced_duties v t gs)
 
 pub alike_change : (n : ℕ) (f : Shoen → Shoen) (s : State) → ((h : Shoen) → node_of (f h) ≡ node_of h) → Alike s (change_shoen n f s)
-alike_change n f s e = record { nodes = changed_nodes n f e s.shoens; duties = refl; modules = refl; last = refl }
+alike_change n f s e = record { nodes = changed_nodes n f e s.shoens; duties = refl; modules = refl; last = refl; entries = refl; work = refl }
 
 pub alike_replace : (v : ℕ) (t : Term) (s : State) → Alike s (replace_in_state v t s)
-alike_replace v t s = record { nodes = replaced_nodes v t s.shoens; duties = replaced_duties v t s.goals; modules = refl; last = refl }
+alike_replace v t s = record { nodes = replaced_nodes v t s.shoens; duties = replaced_duties v t s.goals; modules = refl; last = refl; entries = refl; work = refl }
 
 pub alike_all : (rs : List Replacement) (s : State) → Alike s (replace_all rs s)
 alike_all [] s = alike_same s
@@ -95,7 +97,7 @@ reported_alike n m (variable v) s =
     let next = suc s.last_variable in
     let bound = record (replace_in_state v (cell m (variable next)) s) { last_variable = next; reports = suc s.reports } in
     let k = alike_replace v (cell m (variable next)) s in
-    let b : Alike s bound = record { nodes = k.nodes; duties = k.duties; modules = refl; last = refl } in
+    let b : Alike s bound = record { nodes = k.nodes; duties = k.duties; modules = refl; last = refl; entries = refl; work = refl } in
     alike_if (occurs v m || not (nat_lt s.reports most_reports)) s (broken_at n s) (change_shoen n (λ h. record h { tail = variable next }) bound) (alike_broken n s)
     (alike_both s bound (change_shoen n (λ h. record h { tail = variable next }) bound) b (alike_change n (λ h. record h { tail = variable next }) bound (λ h. refl)))
 reported_alike n m (integer i) s = alike_broken n s
@@ -173,7 +175,7 @@ alike_sent n m (variable v) s =
     let by = cell (message_term m) (variable next) in
     let u = record (replace_in_state v by s) { last_variable = next; variables = suc s.variables; nodes = s.nodes + message_nodes m } in
     let k = alike_replace v by s in
-    let b : Alike s u = record { nodes = k.nodes; duties = k.duties; modules = refl; last = refl } in
+    let b : Alike s u = record { nodes = k.nodes; duties = k.duties; modules = refl; last = refl; entries = refl; work = refl } in
     alike_both s u (change_shoen n (with_control_tail (variable next)) u) b (alike_change n (with_control_tail (variable next)) u (λ h. refl))
 alike_sent n m (integer i) s = alike_same s
 alike_sent n m (atom a) s = alike_same s

@@ -53,12 +53,16 @@ last_false true b c e = absurd (false≢true (sym e))
 last_false false true c e = absurd (false≢true (sym e))
 last_false false false c e = e
 
-pub reductions_have_allowance : ReductionsHaveAllowance
-reductions_have_allowance s goal clause g there goes e a h on found =
-    let enabled = or_right (is_monitor g.task) (is_enabled_in s g.shoen) goes (enabled_where_reduced s goal clause g there e) in
+-- each shoen on the path of a goal that is enabled was charged less than its allowance
+pub enabled_has_allowance : (s : State) (g : Goal) → is_monitor g.task ≡ false → is_enabled s g ≡ true → (a : ℕ) (h : Shoen) → is_on_path s.shoens a g.shoen ≡ true → shoen_at a s.shoens ≡ Some h → charged_of s a < h.allowance
+enabled_has_allowance s g goes on_all a h on found =
+    let enabled = or_right (is_monitor g.task) (is_enabled_in s g.shoen) goes on_all in
     let free : is_blocking s h ≡ false = sym (ap (λ (o : Option Shoen). unwrap_or (option_map (is_blocking s) o) false) found) ∙ not_blocking s g.shoen a enabled on in
     let less : charged_of s h.number < h.allowance = leb-false h.allowance (charged_of s h.number) (last_false h.is_stopped (not (is_living h.life)) (is_exhausted s h) free) in
     subst (λ (n : ℕ). charged_of s n < h.allowance) (found_number a s.shoens h found) less
+
+pub reductions_have_allowance : ReductionsHaveAllowance
+reductions_have_allowance s goal clause g there goes e a h on found = enabled_has_allowance s g goes (enabled_where_reduced s goal clause g there e) a h on found
 
 pub reductions_stay_within : ReductionsStayWithin
 reductions_stay_within s goal clause g tree there goes e a h on found =

@@ -221,13 +221,12 @@ fresh_counted = record { few = omega arith; rising = omega arith }
 keeping : Keeping (Of AreCounted)
 keeping = record {
   fresh = λ name names sessions. fresh_counted;
-  enters = λ s a. a;
   seats = λ s n a. a;
-  loads = λ s source m is a. a;
-  starts = λ s allowance low high t tree may room a. start_counted s allowance low high t room a;
-  sends = λ s n m h o tree there is a. of_alike AreCounted s (sent_on n m o.control s) (alike_sent n m o.control s) a;
-  moving = λ s n clause g t m tree there task is a. acted_counted g t m (with_entry s) (found_goal n s.goals g there) (ap is_monitor task) a;
-  reading = λ s n g h c tree there found is a. of_settle AreCounted counted_fewer g.shoen (heard g.shoen c (with_entry s)) (of_heard AreCounted counted_fewer g.shoen c (with_entry s) a);
+  loads = λ s source m is free a. a;
+  starts = λ s allowance low high t tree may room free a. start_counted s allowance low high t room a;
+  sends = λ s n m h o tree there is free a. of_alike AreCounted s (sent_on n m o.control s) (alike_sent n m o.control s) a;
+  moving = λ s n clause g t m tree there task is enabled free a. acted_counted g t m (with_entry s) (found_goal n s.goals g there) (ap is_monitor task) a;
+  reading = λ s n g h c tree there found is free a. of_settle AreCounted counted_fewer g.shoen (heard g.shoen c (with_entry s)) (of_heard AreCounted counted_fewer g.shoen c (with_entry s) a);
 }
 
 pub goals_are_counted : (name : List ℕ) (es : List Event) → Of AreCounted (reached name es)

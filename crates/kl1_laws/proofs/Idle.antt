@@ -387,20 +387,19 @@ start_busy s allowance low high t room b =
 keeping : Keeping IsBusy
 keeping = record {
   fresh = λ name names sessions. record { counted = fresh_counted; idle = λ m. refl };
-  enters = λ s b. record { counted = b.counted; idle = b.idle };
   seats = λ s n b. record { counted = b.counted; idle = b.idle };
-  loads = λ s source m is b. record { counted = b.counted; idle = b.idle };
-  starts = λ s allowance low high t tree may room b. start_busy s allowance low high t room b;
-  sends = λ s n m h o tree there is b.
+  loads = λ s source m is free b. record { counted = b.counted; idle = b.idle };
+  starts = λ s allowance low high t tree may room free b. let d = start_busy s allowance low high t room b in record { counted = d.counted; idle = d.idle };
+  sends = λ s n m h o tree there is free b.
       let k = alike_sent n m o.control s in record { counted = of_alike AreCounted s (sent_on n m o.control s) k b.counted; idle = idle_alike s (sent_on n m o.control s) k b.idle };
-  moving = λ s n clause g t m tree there task is b.
+  moving = λ s n clause g t m tree there task is enabled free b.
       let own = found_goal n s.goals g there in
       let few = found_within s.last_shoen n s.goals g there tree.owners in
       let entered = kept_tree s (with_entry s) (with_entry_keeps s) tree in record {
         counted = acted_counted g t m (with_entry s) own (ap is_monitor task) b.counted;
         idle = acted_idle g t m (with_entry s) own few entered b.counted b.idle;
       };
-  reading = λ s n g h c tree there found is b.
+  reading = λ s n g h c tree there found is free b.
       let entered = kept_tree s (with_entry s) (with_entry_keeps s) tree in record {
         counted = of_settle AreCounted counted_fewer g.shoen (heard g.shoen c (with_entry s)) (of_heard AreCounted counted_fewer g.shoen c (with_entry s) b.counted);
         idle = read_idle g.shoen c (with_entry s) entered b.idle;

@@ -21,3 +21,4 @@ pub mod Endings
 pub mod Idle
 pub mod Holds
 pub mod Tails
+pub mod Charged

@@ -23,17 +23,20 @@ use Rattle.kl1_laws.specs.Reached.{after, reached}
 -- what is done to an account keeps a fact of it
 pub record Keeping (P : State → Type 0) : Type 0 where
   pub fresh : (name : List ℕ) (names : List (List ℕ)) (sessions : ℕ) → P (fresh_with name names sessions)
-  pub enters : (s : State) → P s → P (with_entry s)
   pub seats : (s : State) (n : ℕ) → P s → P (record s { sessions = n })
-  pub loads : (s : State) (source : List ℕ) (m : Module) → read_module source ≡ good m → P s → P (with_module s m)
-  pub starts : (s : State) (allowance low high : ℕ) (t : Term) → IsTree s → may_start allowance low high t ≡ true → has_room_to_start s t ≡ true → P s → P (start_goal s allowance low high t)
-  pub sends : (s : State) (n : ℕ) (m : Message) (h : Shoen) (o : Origin) → IsTree s → shoen_at n s.shoens ≡ Some h → h.origin ≡ Some o → P s → P (sent_on n m o.control s)
-  pub moving : (s : State) (n clause : ℕ) (g : Goal) (t : Term) (m : Move) → IsTree s → goal_at n s.goals ≡ Some g → g.task ≡ reduces t → term_move s.modules t clause (call_of t) ≡ Some m → P s → P (acted g (moves t m) (with_entry s))
-  pub reading : (s : State) (n : ℕ) (g : Goal) (h : Shoen) (c : Control) → IsTree s → goal_at n s.goals ≡ Some g → shoen_at g.shoen s.shoens ≡ Some h → control_of h.control ≡ c → P s → P (acted g (reads c) (with_entry s))
+  pub loads : (s : State) (source : List ℕ) (m : Module) → read_module source ≡ good m → nat_lt s.entries most_entries ≡ true → P s → P (with_entry (with_module s m))
+  pub starts : (s : State) (allowance low high : ℕ) (t : Term) → IsTree s → may_start allowance low high t ≡ true → has_room_to_start s t ≡ true → nat_lt s.entries most_entries ≡ true → P s → P (with_entry (start_goal s allowance low high t))
+  pub sends : (s : State) (n : ℕ) (m : Message) (h : Shoen) (o : Origin) → IsTree s → shoen_at n s.shoens ≡ Some h → h.origin ≡ Some o → nat_lt s.entries most_entries ≡ true → P s → P (with_entry (sent_on n m o.control s))
+  pub moving : (s : State) (n clause : ℕ) (g : Goal) (t : Term) (m : Move) → IsTree s → goal_at n s.goals ≡ Some g → g.task ≡ reduces t → term_move s.modules t clause (call_of t) ≡ Some m → is_enabled s g ≡ true → nat_lt s.entries most_entries ≡ true → P s → P (acted g (moves t m) (with_entry s))
+  pub reading : (s : State) (n : ℕ) (g : Goal) (h : Shoen) (c : Control) → IsTree s → goal_at n s.goals ≡ Some g → shoen_at g.shoen s.shoens ≡ Some h → control_of h.control ≡ c → nat_lt s.entries most_entries ≡ true → P s → P (acted g (reads c) (with_entry s))
 
 some_if : {A : Type 0} (c : Bool) (o : Option A) (a : A) → (if c then o else None) ≡ Some a → o ≡ Some a
 some_if true o a e = e
 some_if false o a e = absurd (none-some a e)
+
+is_if : {A : Type 0} (c : Bool) (o : Option A) (a : A) → (if c then o else None) ≡ Some a → c ≡ true
+is_if true o a e = refl
+is_if false o a e = absurd (none-some a e)
 
 module _ (P : State → Type 0) (k : Keeping P) where
   -- an outcome of an account of which the fact holds
@@ -57,7 +60,7 @@ module _ (P : State → Type 0) (k : Keeping P) where
       holds_or (is_some (module_of s.modules m.name)) s (named s (with_names s.names (names_of_module m)) b) exists p
       (holds_if (nat_le (length (with_names s.names (names_of_module m))) most_names) s b too_many_names p λ _.
       holds_if (nat_lt (length s.modules) most_modules) s a limit_passed p λ _.
-      holds_if (nat_lt s.entries most_entries) s x journal_full p λ _. k.enters (with_module s m) (k.loads s source m e p))
+      holds_if (nat_lt s.entries most_entries) s x journal_full p λ free. k.loads s source m e free p)
 
   holds_start : (s : State) (allowance low high : ℕ) (t : Term) → IsTree s → P s → Holds (step s (start allowance low high t))
   holds_start s allowance low high t tree p =
@@ -67,7 +70,7 @@ module _ (P : State → Type 0) (k : Keeping P) where
       holds_if (may_start allowance low high t) s (named s (with_names s.names (names_of t)) b) syntax p λ may.
       holds_if (nat_le (length (with_names s.names (names_of t))) most_names) s b too_many_names p λ _.
       holds_if (has_room_to_start s t) s a limit_passed p λ room.
-      holds_if (nat_lt s.entries most_entries) s x journal_full p λ _. k.enters (start_goal s allowance low high t) (k.starts s allowance low high t tree may room p)
+      holds_if (nat_lt s.entries most_entries) s x journal_full p λ free. k.starts s allowance low high t tree may room free p
 
   holds_by : (s : State) (n : ℕ) (m : Message) (h : Shoen) (o : Option Origin) → h.origin ≡ o → shoen_at n s.shoens ≡ Some h → IsTree s → P s → Holds (send_by s n m h o)
   holds_by s n m h None e there tree p = p
@@ -76,7 +79,7 @@ module _ (P : State → Type 0) (k : Keeping P) where
       let a = recorded s x in
       holds_if (is_living h.life) s (limited s (has_room_to_send s m) a) shoen_ended p λ _.
       holds_if (has_room_to_send s m) s a limit_passed p λ _.
-      holds_if (nat_lt s.entries most_entries) s x journal_full p λ _. k.enters (sent_on n m o.control s) (k.sends s n m h o tree there e p)
+      holds_if (nat_lt s.entries most_entries) s x journal_full p λ free. k.sends s n m h o tree there e free p
 
   holds_send : (s : State) (n : ℕ) (m : Message) (o : Option Shoen) → shoen_at n s.shoens ≡ o → IsTree s → P s → Holds (send_to s n m o)
   holds_send s n m None e tree p = p
@@ -86,31 +89,39 @@ module _ (P : State → Type 0) (k : Keeping P) where
   abbrev Acts : State → Goal → Action → Type 0
   Acts s g a = P (acted g a (with_entry s))
 
-  acts_read : (s : State) (n : ℕ) (g : Goal) (h : Shoen) (a : Action) (c : Control) → control_of h.control ≡ c → read_action c ≡ Some a → shoen_at g.shoen s.shoens ≡ Some h → goal_at n s.goals ≡ Some g → IsTree s → P s → Acts s g a
-  acts_read s n g h a (awaits_message v) e is found there tree p = absurd (none-some a is)
-  acts_read s n g h a (tells m rest) e is found there tree p = subst (Acts s g) (same_Some (reads (tells m rest)) a is) (k.reading s n g h (tells m rest) tree there found e p)
-  acts_read s n g h a (tells_other m rest) e is found there tree p = subst (Acts s g) (same_Some (reads (tells_other m rest)) a is) (k.reading s n g h (tells_other m rest) tree there found e p)
-  acts_read s n g h a ends e is found there tree p = subst (Acts s g) (same_Some (reads ends) a is) (k.reading s n g h ends tree there found e p)
-  acts_read s n g h a (breaks_off t) e is found there tree p = subst (Acts s g) (same_Some (reads (breaks_off t)) a is) (k.reading s n g h (breaks_off t) tree there found e p)
+  -- a goal that may be reduced
+  record Ready (s : State) (n : ℕ) (g : Goal) : Type 0 where
+    there : goal_at n s.goals ≡ Some g
+    tree : IsTree s
+    enabled : is_enabled s g ≡ true
+    free : nat_lt s.entries most_entries ≡ true
+    holds : P s
 
-  acts_monitor : (s : State) (n clause : ℕ) (g : Goal) (a : Action) (o : Option Shoen) → shoen_at g.shoen s.shoens ≡ o → monitor_action o clause ≡ Some a → goal_at n s.goals ≡ Some g → IsTree s → P s → Acts s g a
-  acts_monitor s n clause g a None found is there tree p = absurd (none-some a is)
-  acts_monitor s n clause g a (Some h) found is there tree p =
-      acts_read s n g h a (control_of h.control) refl (some_if (clause == 0) (read_action (control_of h.control)) a is) found there tree p
+  acts_read : (s : State) (n : ℕ) (g : Goal) (h : Shoen) (a : Action) (c : Control) → control_of h.control ≡ c → read_action c ≡ Some a → shoen_at g.shoen s.shoens ≡ Some h → Ready s n g → Acts s g a
+  acts_read s n g h a (awaits_message v) e is found r = absurd (none-some a is)
+  acts_read s n g h a (tells m rest) e is found r = subst (Acts s g) (same_Some (reads (tells m rest)) a is) (k.reading s n g h (tells m rest) r.tree r.there found e r.free r.holds)
+  acts_read s n g h a (tells_other m rest) e is found r = subst (Acts s g) (same_Some (reads (tells_other m rest)) a is) (k.reading s n g h (tells_other m rest) r.tree r.there found e r.free r.holds)
+  acts_read s n g h a ends e is found r = subst (Acts s g) (same_Some (reads ends) a is) (k.reading s n g h ends r.tree r.there found e r.free r.holds)
+  acts_read s n g h a (breaks_off t) e is found r = subst (Acts s g) (same_Some (reads (breaks_off t)) a is) (k.reading s n g h (breaks_off t) r.tree r.there found e r.free r.holds)
 
-  acts_move : (s : State) (n clause : ℕ) (g : Goal) (a : Action) (t : Term) (o : Option Move) → term_move s.modules t clause (call_of t) ≡ o → option_map (moves t) o ≡ Some a → g.task ≡ reduces t → goal_at n s.goals ≡ Some g → IsTree s → P s → Acts s g a
-  acts_move s n clause g a t None e is task there tree p = absurd (none-some a is)
-  acts_move s n clause g a t (Some m) e is task there tree p = subst (Acts s g) (same_Some (moves t m) a is) (k.moving s n clause g t m tree there task e p)
+  acts_monitor : (s : State) (n clause : ℕ) (g : Goal) (a : Action) (o : Option Shoen) → shoen_at g.shoen s.shoens ≡ o → monitor_action o clause ≡ Some a → Ready s n g → Acts s g a
+  acts_monitor s n clause g a None found is r = absurd (none-some a is)
+  acts_monitor s n clause g a (Some h) found is r = acts_read s n g h a (control_of h.control) refl (some_if (clause == 0) (read_action (control_of h.control)) a is) found r
 
-  acts_task : (s : State) (n clause : ℕ) (g : Goal) (a : Action) (task : Task) → g.task ≡ task → task_action s g.shoen task clause ≡ Some a → goal_at n s.goals ≡ Some g → IsTree s → P s → Acts s g a
-  acts_task s n clause g a monitor e is there tree p = acts_monitor s n clause g a (shoen_at g.shoen s.shoens) refl is there tree p
-  acts_task s n clause g a (reduces t) e is there tree p = acts_move s n clause g a t (term_move s.modules t clause (call_of t)) refl is e there tree p
+  acts_move : (s : State) (n clause : ℕ) (g : Goal) (a : Action) (t : Term) (o : Option Move) → term_move s.modules t clause (call_of t) ≡ o → option_map (moves t) o ≡ Some a → g.task ≡ reduces t → Ready s n g → Acts s g a
+  acts_move s n clause g a t None e is task r = absurd (none-some a is)
+  acts_move s n clause g a t (Some m) e is task r = subst (Acts s g) (same_Some (moves t m) a is) (k.moving s n clause g t m r.tree r.there task e r.enabled r.free r.holds)
+
+  acts_task : (s : State) (n clause : ℕ) (g : Goal) (a : Action) (task : Task) → g.task ≡ task → task_action s g.shoen task clause ≡ Some a → Ready s n g → Acts s g a
+  acts_task s n clause g a monitor e is r = acts_monitor s n clause g a (shoen_at g.shoen s.shoens) refl is r
+  acts_task s n clause g a (reduces t) e is r = acts_move s n clause g a t (term_move s.modules t clause (call_of t)) refl is e r
 
   holds_action : (s : State) (n clause : ℕ) (g : Goal) (o : Option Action) → action_of s g clause ≡ o → goal_at n s.goals ≡ Some g → IsTree s → P s → Holds (reduced_by s g o)
   holds_action s n clause g None e there tree p = p
   holds_action s n clause g (Some a) e there tree p =
-      holds_if (nat_lt s.entries most_entries) s (record { state = acted g a (with_entry s); reply = reduced }) journal_full p λ _.
-      acts_task s n clause g a g.task refl (some_if (is_enabled s g) (task_action s g.shoen g.task clause) a e) there tree p
+      holds_if (nat_lt s.entries most_entries) s (record { state = acted g a (with_entry s); reply = reduced }) journal_full p λ free.
+      acts_task s n clause g a g.task refl (some_if (is_enabled s g) (task_action s g.shoen g.task clause) a e)
+      (record { there = there; tree = tree; enabled = is_if (is_enabled s g) (task_action s g.shoen g.task clause) a e; free = free; holds = p })
 
   holds_goal : (s : State) (n clause : ℕ) (o : Option Goal) → goal_at n s.goals ≡ o → IsTree s → P s → Holds (reduce_goal s clause o)
   holds_goal s n clause None e tree p = p

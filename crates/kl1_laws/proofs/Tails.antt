@@ -60,13 +60,13 @@ record Console (c : ℕ → ℕ) (last n : ℕ) (t : Term) (o : Origin) : Type 0
   low : tail ≤ last
 
 -- a control stream: of the console, or with free variables alone
-abbrev Control_of : (ℕ → ℕ) → ℕ → ℕ → Term → Option Origin → Type 0
-Control_of c last n t None = IsFree c last t
-Control_of c last n t (Some o) = Console c last n t o
+abbrev ControlOf : (ℕ → ℕ) → ℕ → ℕ → Term → Option Origin → Type 0
+ControlOf c last n t None = IsFree c last t
+ControlOf c last n t (Some o) = Console c last n t o
 
 record Owned (c : ℕ → ℕ) (last : ℕ) (h : Shoen) : Type 0 where
   tail : IsFree c last h.tail
-  control : Control_of c last h.number h.control h.origin
+  control : ControlOf c last h.number h.control h.origin
 
 -- goals, reports and the control streams of other shoens have free variables alone, and no control tail is numbered above the last
 record AreOwned (c : ℕ → ℕ) (last : ℕ) (gs : List Goal) (hs : List Shoen) : Type 0 where
@@ -79,15 +79,15 @@ Of c s = AreOwned c s.last_variable s.goals s.shoens
 
 -- ---- lists
 
-all_map : {A : Type 0} (P Q : A → Type 0) (f : A → A) → ((x : A) → P x → Q (f x)) → (xs : List A) → AllByRecursion P xs → AllByRecursion Q (map f xs)
+pub all_map : {A : Type 0} (P Q : A → Type 0) (f : A → A) → ((x : A) → P x → Q (f x)) → (xs : List A) → AllByRecursion P xs → AllByRecursion Q (map f xs)
 all_map P Q f k [] a = tt
 all_map P Q f k (x ∷ xs) a = (k x a.0, all_map P Q f k xs a.1)
 
-all_weaker : {A : Type 0} (P Q : A → Type 0) → ((x : A) → P x → Q x) → (xs : List A) → AllByRecursion P xs → AllByRecursion Q xs
+pub all_weaker : {A : Type 0} (P Q : A → Type 0) → ((x : A) → P x → Q x) → (xs : List A) → AllByRecursion P xs → AllByRecursion Q xs
 all_weaker P Q k [] a = tt
 all_weaker P Q k (x ∷ xs) a = (k x a.0, all_weaker P Q k xs a.1)
 
-all_append : {A : Type 0} (P : A → Type 0) (xs ys : List A) → AllByRecursion P xs → AllByRecursion P ys → AllByRecursion P (xs ++ ys)
+pub all_append : {A : Type 0} (P : A → Type 0) (xs ys : List A) → AllByRecursion P xs → AllByRecursion P ys → AllByRecursion P (xs ++ ys)
 all_append P [] ys a b = b
 all_append P (x ∷ xs) ys a b = (a.0, all_append P xs ys a.1 b)
 
@@ -103,7 +103,7 @@ found_if : (b : Bool) (P : Shoen → Type 0) (k h : Shoen) (o : Option Shoen) �
 found_if true P k h o e p f = subst P (same_Some k h e) p
 found_if false P k h o e p f = f e
 
-found_shoen : (P : Shoen → Type 0) (n : ℕ) (hs : List Shoen) (h : Shoen) → shoen_at n hs ≡ Some h → AllByRecursion P hs → P h
+pub found_shoen : (P : Shoen → Type 0) (n : ℕ) (hs : List Shoen) (h : Shoen) → shoen_at n hs ≡ Some h → AllByRecursion P hs → P h
 found_shoen P n [] h e a = absurd (none-some h e)
 found_shoen P n (k ∷ hs) h e a = found_if (k.number == n) P k h (shoen_at n hs) e a.0 (λ f. found_shoen P n hs h f a.1)
 
@@ -157,7 +157,7 @@ tells_message (Allow n) rest = refl
 tail_stays : (c : ℕ → ℕ) (v n w : ℕ) (u : Term) → c v ≡ 0 → c w ≡ n → 0 < n → replace v u (variable w) ≡ variable w
 tail_stays c v n w u e f some = ap (λ b. if b then u else variable w) (ne_eqb w v (λ same. let x = ap c same in omega (arith, x, e, f, some)))
 
-control_replaced : (c : ℕ → ℕ) (last v n : ℕ) (u t : Term) (o : Option Origin) → c v ≡ 0 → IsFree c last u → Control_of c last n t o → Control_of c last n (replace v u t) (option_map (replace_in_origin v u) o)
+control_replaced : (c : ℕ → ℕ) (last v n : ℕ) (u t : Term) (o : Option Origin) → c v ≡ 0 → IsFree c last u → ControlOf c last n t o → ControlOf c last n (replace v u t) (option_map (replace_in_origin v u) o)
 control_replaced c last v n u t None e k a = holds_replace (Free c last) v u t k a
 control_replaced c last v n u t (Some o) e k a =
     let stays = tail_stays c v n a.tail u e a.owner a.some in record {
@@ -176,7 +176,7 @@ task_replaced c last v u (reduces t) k a = holds_replace (Free c last) v u t k a
 
 -- ---- a higher last number
 
-control_raised : (c : ℕ → ℕ) (last top n : ℕ) (t : Term) (o : Option Origin) → last ≤ top → Control_of c last n t o → Control_of c top n t o
+control_raised : (c : ℕ → ℕ) (last top n : ℕ) (t : Term) (o : Option Origin) → last ≤ top → ControlOf c last n t o → ControlOf c top n t o
 control_raised c last top n t None e a = holds_weaker (Free c last) (Free c top) (λ v f. (f.0, let x = f.1 in omega (arith, x, e))) t a
 control_raised c last top n t (Some o) e a = record { tail = a.tail; messages = a.messages; is = a.is; stream = a.stream; owner = a.owner; some = a.some; low = let x = a.low in omega (arith, x, e) }
 
@@ -328,8 +328,8 @@ FrontFree c last (breaks_off t) = IsFree c last t
 -- what stands at the front of a control stream, which goes on as one
 abbrev FrontOf : (ℕ → ℕ) → ℕ → ℕ → Option Origin → Control → Type 0
 FrontOf c last n o (awaits_message v) = Unit {0}
-FrontOf c last n o (tells m rest) = Control_of c last n rest o
-FrontOf c last n o (tells_other m rest) = IsFree c last m × Control_of c last n rest o
+FrontOf c last n o (tells m rest) = ControlOf c last n rest o
+FrontOf c last n o (tells_other m rest) = IsFree c last m × ControlOf c last n rest o
 FrontOf c last n o ends = Unit {0}
 FrontOf c last n o (breaks_off t) = IsFree c last t
 
@@ -363,7 +363,7 @@ front_message c last n v o [] e f some low = tt
 front_message c last n v o (m ∷ ms) e f some low =
     subst (FrontOf c last n (Some o)) (sym (tells_message m (messages_then ms (variable v)))) (record { tail = v; messages = ms; is = e; stream = refl; owner = f; some = some; low = low })
 
-front_of : (c : ℕ → ℕ) (last n : ℕ) (t : Term) (o : Option Origin) → Control_of c last n t o → FrontOf c last n o (control_of t)
+front_of : (c : ℕ → ℕ) (last n : ℕ) (t : Term) (o : Option Origin) → ControlOf c last n t o → FrontOf c last n o (control_of t)
 front_of c last n t None p = same_front c last n (control_of t) (front_free c last t p)
 front_of c last n t (Some o) p = subst (λ t. FrontOf c last n (Some o) (control_of t)) (sym p.stream) (front_message c last n p.tail o p.messages p.is p.owner p.some p.low)
 
@@ -375,7 +375,7 @@ changed_at : (P : Shoen → Type 0) (f : Shoen → Shoen) (n : ℕ) (h : Shoen) 
 changed_at P f n h [] u p a = tt
 changed_at P f n h (k ∷ hs) u p a = (only_changed (k.number == n) P f n k h refl u.0 p a.0, changed_at P f n h hs u.1 p a.1)
 
-own_rest : (c : ℕ → ℕ) (n : ℕ) (rest : Term) (h : Shoen) (s : State) → Only n h s.shoens → Owned c s.last_variable h → Control_of c s.last_variable h.number rest h.origin → Of c s → Of c (with_control n rest s)
+own_rest : (c : ℕ → ℕ) (n : ℕ) (rest : Term) (h : Shoen) (s : State) → Only n h s.shoens → Owned c s.last_variable h → ControlOf c s.last_variable h.number rest h.origin → Of c s → Of c (with_control n rest s)
 own_rest c n rest h s u own f a = record {
   goals = a.goals;
   shoens = changed_at (Owned c s.last_variable) (λ h. record h { control = rest }) n h s.shoens u (record { tail = own.tail; control = f }) a.shoens;
@@ -496,7 +496,7 @@ task_beside : (c : ℕ → ℕ) (last v n top : ℕ) (task : Task) → last < v 
 task_beside c last v n top monitor e l a = tt
 task_beside c last v n top (reduces t) e l a = term_beside c last v n top t e l a
 
-control_beside : (c : ℕ → ℕ) (last v n top k : ℕ) (t : Term) (o : Option Origin) → last < v → last ≤ top → Control_of c last k t o → Control_of (with_tail c v n) top k t o
+control_beside : (c : ℕ → ℕ) (last v n top k : ℕ) (t : Term) (o : Option Origin) → last < v → last ≤ top → ControlOf c last k t o → ControlOf (with_tail c v n) top k t o
 control_beside c last v n top k t None e l a = term_beside c last v n top t e l a
 control_beside c last v n top k t (Some o) e l a = record {
   tail = a.tail;
@@ -524,7 +524,7 @@ goals_sent c last v next n u (g ∷ gs) f e a =
     (subst (TaskFree (with_tail c next n) next) (sym (task_unchanged c last v u g.task f a.0)) (task_beside c last next n next g.task e (omega (arith, e)) a.0), goals_sent c last v next n u gs f e a.1)
 
 -- a control stream of another shoen
-control_aside : (c : ℕ → ℕ) (last v next n k : ℕ) (u t : Term) (o : Option Origin) → (c v ≡ 0 → ⊥) → (c v ≡ k → ⊥) → last < next → Control_of c last k t o → Control_of (with_tail c next n) next k (replace v u t) (option_map (replace_in_origin v u) o)
+control_aside : (c : ℕ → ℕ) (last v next n k : ℕ) (u t : Term) (o : Option Origin) → (c v ≡ 0 → ⊥) → (c v ≡ k → ⊥) → last < next → ControlOf c last k t o → ControlOf (with_tail c next n) next k (replace v u t) (option_map (replace_in_origin v u) o)
 control_aside c last v next n k u t None f g e a =
     subst (IsFree (with_tail c next n) next) (sym (holds_unchanged (Free c last) v u (λ x. f x.0) t a)) (term_beside c last next n next t e (omega (arith, e)) a)
 control_aside c last v next n k u t (Some o) f g e a =
@@ -560,10 +560,10 @@ shoen_sent true c last v next n m k h o e only at there is owner some l a =
     let u = cell (message_term m) (variable next) in
     let number = eqb-true k.number n e in
     let origin : k.origin ≡ Some o = ap (λ (x : Shoen). x.origin) (only number) ∙ there in
-    let own : Console c last n k.control o = subst (λ (j : ℕ). Console c last j k.control o) number (subst (Control_of c last k.number k.control) origin a.control) in
+    let own : Console c last n k.control o = subst (λ (j : ℕ). Console c last j k.control o) number (subst (ControlOf c last k.number k.control) origin a.control) in
     record {
       tail = subst (IsFree (with_tail c next n) next) (sym (holds_unchanged (Free c last) v u (λ x. let y = x.0 in omega (arith, y, owner, some)) k.tail a.tail)) (term_beside c last next n next k.tail l (omega (arith, l)) a.tail);
-      control = subst (λ (x : Option Origin). Control_of (with_tail c next n) next k.number (replace v u k.control) (option_map (origin_with (variable next)) (option_map (replace_in_origin v u) x))) (sym origin)
+      control = subst (λ (x : Option Origin). ControlOf (with_tail c next n) next k.number (replace v u k.control) (option_map (origin_with (variable next)) (option_map (replace_in_origin v u) x))) (sym origin)
           (subst (λ (j : ℕ). Console (with_tail c next n) next j (replace v u k.control) (origin_with (variable next) (replace_in_origin v u o))) (sym number) (control_sent c last v next n m k.control o is l own));
     }
 shoen_sent false c last v next n m k h o e only at there is owner some l a =
@@ -583,7 +583,7 @@ found_number_if : (b : Bool) (n : ℕ) (k h : Shoen) (o : Option Shoen) → k.nu
 found_number_if true n k h o e f g = ap (λ (x : Shoen). x.number) (sym (same_Some k h f)) ∙ eqb-true k.number n e
 found_number_if false n k h o e f g = g f
 
-found_number : (n : ℕ) (hs : List Shoen) (h : Shoen) → shoen_at n hs ≡ Some h → h.number ≡ n
+pub found_number : (n : ℕ) (hs : List Shoen) (h : Shoen) → shoen_at n hs ≡ Some h → h.number ≡ n
 found_number n [] h e = absurd (none-some h e)
 found_number n (k ∷ hs) h e = found_number_if (k.number == n) n k h (shoen_at n hs) refl e (λ f. found_number n hs h f)
 
@@ -592,7 +592,7 @@ abbrev Tails : State → Type 0
 Tails s = (c : ℕ → ℕ) × Of c s
 
 the_console : (c : ℕ → ℕ) (last n : ℕ) (hs : List Shoen) (h : Shoen) (o : Origin) → shoen_at n hs ≡ Some h → h.origin ≡ Some o → AllByRecursion (Owned c last) hs → Console c last h.number h.control o
-the_console c last n hs h o there e a = subst (Control_of c last h.number h.control) e (found_shoen (Owned c last) n hs h there a).control
+the_console c last n hs h o there e a = subst (ControlOf c last h.number h.control) e (found_shoen (Owned c last) n hs h there a).control
 
 own_sent : (s : State) (n : ℕ) (m : Message) (h : Shoen) (o : Origin) → IsTree s → shoen_at n s.shoens ≡ Some h → h.origin ≡ Some o → Tails s → Tails (sent_on n m o.control s)
 own_sent s n m h o tree there e p =
@@ -670,16 +670,18 @@ own_reading s g h x tree there e p =
     let k = kept_tree s t (with_entry_keeps s) tree in
     (c, own_settle c g.shoen (heard g.shoen x t) (subst (λ y. Of c (heard g.shoen y t)) e (own_heard c g.shoen h t k there b)))
 
+entered : (s : State) → Tails s → Tails (with_entry s)
+entered s p = let a = p.1 in (p.0, record { goals = a.goals; shoens = a.shoens; above = a.above })
+
 keeping : Keeping Tails
 keeping = record {
   fresh = λ name names sessions. (λ v. 0, record { goals = tt; shoens = tt; above = λ v e. refl });
-  enters = λ s p. let a = p.1 in (p.0, record { goals = a.goals; shoens = a.shoens; above = a.above });
   seats = λ s n p. let a = p.1 in (p.0, record { goals = a.goals; shoens = a.shoens; above = a.above });
-  loads = λ s source m is p. let a = p.1 in (p.0, record { goals = a.goals; shoens = a.shoens; above = a.above });
-  starts = λ s allowance low high t tree may room p. own_start s allowance low high t may p;
-  sends = λ s n m h o tree there is p. own_sent s n m h o tree there is p;
-  moving = λ s n clause g t m tree there task is p. own_moving s n clause g t m there task is p;
-  reading = λ s n g h c tree there found is p. own_reading s g h c tree found is p;
+  loads = λ s source m is free p. let a = p.1 in (p.0, record { goals = a.goals; shoens = a.shoens; above = a.above });
+  starts = λ s allowance low high t tree may room free p. entered (start_goal s allowance low high t) (own_start s allowance low high t may p);
+  sends = λ s n m h o tree there is free p. entered (sent_on n m o.control s) (own_sent s n m h o tree there is p);
+  moving = λ s n clause g t m tree there task is enabled free p. own_moving s n clause g t m there task is p;
+  reading = λ s n g h c tree there found is free p. own_reading s g h c tree found is p;
 }
 
 pub control_tails_are_unbound : ControlTailsAreUnbound

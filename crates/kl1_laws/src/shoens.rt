@@ -1,6 +1,6 @@
 //! Laws of shoens: of their tree, of what they are charged, of how they end, and of their control streams.
 ghost use Rattle.kl1_model.specs.TreeLaws.{PathsGoOn, PathsFollowParents, FreshIsTree, TreesStay, HeldBackBelow, ChargesPath, ReductionsCharge, MonitorsChargeNobody, OthersChargeNobody, FreshIsOfLiving, EndedHaveNoGoals, RefusalsChangeNothing, AbortEndsAllBelow, AbortRemovesAllBelow, TerminationsEnd, TerminationsEndAlone, EndingHaveNoGoals, ReachedGoOn};
-ghost use Rattle.kl1_laws.specs.AllowanceLaws.{ReductionsHaveAllowance, ReductionsStayWithin};
+ghost use Rattle.kl1_laws.specs.AllowanceLaws.{ReductionsHaveAllowance, ReductionsStayWithin, NoneIsChargedMore};
 ghost use Rattle.kl1_laws.specs.ControlLaws.{ControlTailsAreUnbound, ControlStreamsAreMessages};
 ghost use Rattle.kl1_laws.specs.EndingLaws.{EndingAreDue, DueTerminate, DueTerminateAlone, NoneIsLeftDue, NoneIsLeftDueAlone, LivingHaveGoals};
 ghost use Rattle.kl1_laws.specs.GoalLaws.{GoalsAreFew};
@@ -29,10 +29,12 @@ pub fn reductions_charge_their_path()
 {}
 
 /// A goal is reduced only if each shoen on its path was charged less than its allowance, and if shoens are a tree, as
-/// `paths_go_on` says of each account, none of them is charged more than its allowance then.
+/// `paths_go_on` says of each account, none of them is charged more than its allowance then. So no shoen of an account was charged
+/// more than its allowance, whatever was done to the account since it was fresh.
 pub fn reductions_stay_within_allowances()
     ensures before { ReductionsHaveAllowance }
     ensures after { ReductionsStayWithin }
+    ensures most { NoneIsChargedMore }
 {}
 
 /// An account has at most 8,192 goals alive, whatever was done to it since it was fresh.
