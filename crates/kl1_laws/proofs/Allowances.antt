@@ -14,7 +14,7 @@ use Rattle.kl1_model.proofs.TreeSteps.{reductions_charge}
 use Rattle.kl1_laws.specs.AllowanceLaws.{ReductionsHaveAllowance, ReductionsStayWithin}
 
 -- a shoen that is found has the number
-found_number : (n : ℕ) (hs : List Shoen) (h : Shoen) → shoen_at n hs ≡ Some h → h.number ≡ n
+pub found_number : (n : ℕ) (hs : List Shoen) (h : Shoen) → shoen_at n hs ≡ Some h → h.number ≡ n
 found_number n [] h e = absurd (none-some h e)
 found_number n (k ∷ hs) h e = by_first (k.number == n) refl e (found_number n hs h)
   where

@@ -26,11 +26,11 @@ use Rattle.kl1_model.proofs.TreeKeeps.{kept_tree}
 use Rattle.kl1_model.proofs.TreeGrows.{opening_follows, acted_move, acted_reading, charged_among, charged_kept, with_entry_keeps, found_within}
 use Rattle.kl1_laws.specs.Reached.{reached}
 use Rattle.kl1_laws.specs.AllowanceLaws.{NoneIsChargedMore}
-use Rattle.kl1_laws.proofs.Allowances.{enabled_has_allowance}
+use Rattle.kl1_laws.proofs.Allowances.{found_number, enabled_has_allowance}
 use Rattle.kl1_laws.proofs.Reaching.{Keeping, holds_reached}
 use Rattle.kl1_laws.proofs.Alike.{Node, nodes_of, Alike, begun, begun_shoen, alike_start, alike_sent}
 use Rattle.kl1_laws.proofs.Modules.{move_has, reading_has}
-use Rattle.kl1_laws.proofs.Tails.{all_map, all_append, all_weaker, found_shoen, found_number}
+use Rattle.kl1_laws.proofs.Each.{all_map, all_append, all_weaker, found_shoen}
 
 -- charges are within the allowances of shoens
 abbrev Capped : (ℕ → ℕ) → List Shoen → Type 0

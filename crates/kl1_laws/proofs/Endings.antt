@@ -128,6 +128,10 @@ stays_at n m s none = record {
   children = λ e. child_by m (ended_at n s) ∙ ap (λ ms. has_child ms m) (ended_nodes n s.shoens) ∙ child_stays n m (nodes_of s.shoens) none ∙ sym (child_by m s) ∙ e;
 }
 
+-- no shoen is due
+abbrev pub Idle : State → Type 0
+Idle s = (m : ℕ) → ends_now m s ≡ false
+
 -- ---- what terminations come to
 
 -- shoens ended one after another, and nothing else

@@ -18,7 +18,10 @@ pub mod Modules
 pub mod Duties
 pub mod Counts
 pub mod Endings
+pub mod Aborts
 pub mod Idle
 pub mod Holds
+pub mod Each
+pub mod Owners
 pub mod Tails
 pub mod Charged
