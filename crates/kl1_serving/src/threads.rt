@@ -7,8 +7,8 @@ use kl1_keys::Key;
 use kl1_pool::{CellNaming, Gate, Pool, Share, worker};
 use std::alloc::{AllocError, Global};
 use std::net::{Net, TcpListener, TcpStream};
-use std::sync::{Mutex, Wait};
 use std::sync::atomic::{AtomicU64, Ordering};
+use std::sync::{Mutex, Wait};
 use std::thread;
 use std::thread::Threads;
 
