@@ -1,6 +1,6 @@
 // Loads that are refused memory, over the shared table of names.
 
-ghost use Rattle.std.specs.Prelude.{◌≡◌};
+ghost use Rattle.std.specs.Prelude.{◌≡◌, []};
 ghost use Rattle.kl1_atoms.specs.Seats.{IsSharedSeat, face_in};
 ghost use Rattle.kl1_modules.specs.Numbered.{ArePlaced};
 
@@ -42,7 +42,25 @@ fn entries_after<'t, C: CodeSource>(
     None
 }
 
-/// How many entries of the table the load of a source publishes in an account in which nothing has happened, as `entries_after`.
+/// `entries_after` of an account of this name in which nothing has happened, with a seat that knows the built-in names alone.
+fn entries_in(
+    alloc: Global,
+    table: &AtomTable,
+    seat: AtomSeat,
+    name: AccountName,
+    load: &Event,
+) -> Result<Option<u64>, AllocError>
+    requires of { IsSharedSeat table.now.table.shared.table_id seat.badge.table_id table.now.accounts (face_in seat.badge.views) seat.account }
+    requires nothing { (face_in seat.badge.views).knows ≡ [] }
+{
+    let mut names = SharedAtoms { table };
+    let mut seat = seat;
+    let mut codes = PlainCodes::new(alloc);
+    let mut user = UserState::fresh(alloc, name)?;
+    Ok(entries_after(&mut names, &mut seat, &mut user, &mut codes, load))
+}
+
+/// How many entries of the table the load of a source publishes, as `entries_after`.
 fn entries_of(alloc: Global, source: &[u8]) -> Result<Option<u64>, AllocError> {
     let Some(name) = AccountName::read(b"alice") else {
         return Ok(None);
@@ -50,12 +68,9 @@ fn entries_of(alloc: Global, source: &[u8]) -> Result<Option<u64>, AllocError> {
     let load = Event::Load {
         source: Vec::from_slice(alloc, source)?,
     };
-    let mut codes = PlainCodes::new(alloc);
-    let mut user = UserState::fresh(alloc, name)?;
     let (table, mut seats) = AtomTable::new(alloc, 1)?;
-    let mut seat = seats.swap_remove(0);
-    let mut names = SharedAtoms { table: &table };
-    Ok(entries_after(&mut names, &mut seat, &mut user, &mut codes, &load))
+    let seat = seats.swap_remove(0);
+    entries_in(alloc, &table, seat, name, &load)
 }
 
 /// Whether the load of a source, however often it is refused memory, publishes this number of names, and a load that is refused none;
