@@ -1,5 +1,5 @@
 -- What is told of work while it goes on.
-use Rattle.std.proofs.Common.{◌≡◌, ℕ, ◌+◌, ◌-◌, ◌≤◌, List, [], ◌∷◌, ◌++◌, All, Option, Some, None, option_map, ap, sym, ◌∙◌, append_assoc, refl, arith}
+use Rattle.std.proofs.Common.{◌≡◌, ℕ, ◌+◌, ◌-◌, ◌≤◌, List, [], ◌∷◌, ◌++◌, Option, Some, None, option_map, ap, sym, ◌∙◌, append_assoc, refl, arith}
 use Rattle.std.proofs.lemmas.List.{append-nil}
 use Rattle.std.proofs.lemmas.List.Elements.{All-nil, All-cons, All-append}
 use Rattle.kl1_model.specs.Limits.{most_priority}
@@ -8,7 +8,7 @@ use Rattle.kl1_model.specs.Event.{start, status, Reply}
 use Rattle.kl1_model.specs.Asking.{answer}
 use Rattle.kl1_history.specs.Journal.{Kept, Done, done}
 use Rattle.kl1_history.specs.Command.{run_from}
-use Rattle.kl1_shell.specs.Works.{Loaded, all_loaded, loaded_from, Worked, worked, opened_in, started, start_on, worked_of}
+use Rattle.kl1_shell.specs.Works.{all_loaded, loaded_from, Worked, worked, opened_in, started, start_on, worked_of}
 use Rattle.kl1_shell.specs.Watching.{progress_in, progress_of, IsProgress, Follows}
 use Rattle.kl1_shell.proofs.RunLaws.{runs_both}
 use Rattle.kl1_shell.proofs.StartLaws.{run_over}
