@@ -8,7 +8,7 @@ use Rattle.kl1_history.specs.Journal.{Kept, fresh_kept}
 use Rattle.kl1_lines.proofs.DeviceLaws.{appends_none}
 use Rattle.kl1_atoms.specs.Names.{AreNames}
 use Rattle.kl1_journal.specs.Keeping.{Reading, Fits, Held, kept_of}
-use Rattle.kl1_journal.proofs.Readings.{reading_of, reading_fits}
+use Rattle.kl1_user.specs.Readings.{reading_of, reading_fits}
 use Rattle.kl1_world.specs.Worlds.{account_in, AreFresh}
 use Rattle.kl1_shell.specs.declared.ending.Ending.{Ending}
 use Rattle.kl1_shell.specs.declared.stop.Stop.{Stop}

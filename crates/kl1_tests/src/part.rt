@@ -21,8 +21,6 @@ pub enum Part {
     One,
     /// An account, to which an event is done again where memory was refused.
     Again,
-    /// An account, and a slow one beside it.
-    Both,
     /// Events of many accounts, together by at most so many calls and each alone.
     World(u8),
     /// Journals and their texts.
@@ -36,7 +34,7 @@ pub enum Part {
 }
 
 /// The parts by the two words that name them at the front of a heading.
-const PARTS: [(&[u8], Part); 62] = [
+const PARTS: [(&[u8], Part); 61] = [
     (b"store numbers ", Part::Numbers),
     (b"store texts ", Part::Texts),
     (b"read name ", Part::Read(kl1_read_tests::Kind::Name)),
@@ -91,7 +89,6 @@ const PARTS: [(&[u8], Part); 62] = [
     (b"shoen tree ", Part::Tree),
     (b"user one ", Part::One),
     (b"user again ", Part::Again),
-    (b"user both ", Part::Both),
     (b"world once ", Part::World(1)),
     (b"world both ", Part::World(2)),
     (b"journal read ", Part::Journal),
