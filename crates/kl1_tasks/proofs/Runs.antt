@@ -1,10 +1,12 @@
 -- Runs from an account in which nothing has happened.
-use Rattle.std.proofs.Common.{◌≡◌, ℕ, List, [], ◌∷◌, Err, ap, sym, ◌∙◌, refl, subst, arith}
+use Rattle.std.proofs.Common.{◌≡◌, ℕ, List, [], ◌∷◌, Ok, Err, ap, sym, ◌∙◌, refl, subst, arith}
 use Rattle.std.specs.Prelude.{None, Some}
 use Rattle.std.specs.declared.option.Option.{Option}
 use Rattle.std.specs.declared.result.Result.{Result}
 use Rattle.kl1_model.specs.Term.{Term}
-use Rattle.kl1_history.specs.Journal.{Kept, fresh_kept}
+use Rattle.kl1_history.specs.Journal.{Journal, Kept, fresh_kept}
+use Rattle.kl1_history.specs.JournalText.{journal_lines}
+use Rattle.kl1_history.specs.Command.{written_lines}
 use Rattle.kl1_lines.proofs.DeviceLaws.{appends_none}
 use Rattle.kl1_atoms.specs.Names.{AreNames}
 use Rattle.kl1_journal.specs.Keeping.{Reading, Fits, Held, kept_of}
@@ -15,12 +17,12 @@ use Rattle.kl1_shell.specs.declared.stop.Stop.{Stop}
 use Rattle.kl1_shell.specs.declared.stop.Stop.TheVariants as stop
 use Rattle.kl1_shell.specs.declared.wanted.Wanted.{Wanted}
 use Rattle.kl1_shell.specs.Works.{worked_of}
-use Rattle.kl1_shell.specs.Streams.{Stream, IsTold}
+use Rattle.kl1_shell.specs.Streams.{Stream, WritesAll, IsTold}
 use Rattle.kl1_shell.specs.Watching.{Follows}
 use Rattle.kl1_shell.specs.Answers.{IsRun}
 use Rattle.kl1_shell.proofs.Followed.{follows_none}
 use Rattle.kl1_tasks.specs.declared.alone.Outcome.{Outcome}
-use Rattle.kl1_tasks.specs.Alone.{account_name, alone_of, RunsAlone}
+use Rattle.kl1_tasks.specs.Alone.{account_name, seen_if, alone_of, RunsAlone}
 
 -- a run from an account that is the fresh one
 runs_alone : (k after : Kept) (texts : List (List ℕ)) (goal : Term) (allowance steps : ℕ) (q : Wanted) (out out' err err' book book' : Stream) (r : Result Ending Stop) (told : Result (Unit {0}) Stop) →
@@ -74,3 +76,10 @@ refused_alone texts goal allowance steps q out err book outcome e =
 -- nothing was told
 pub none_followed : (texts : List (List ℕ)) (goal : Term) (allowance steps : ℕ) (heard : Option (List (ℕ × ℕ))) → Follows (alone_of texts goal allowance) steps heard heard
 none_followed texts goal allowance steps heard = follows_none (alone_of texts goal allowance) steps heard heard refl
+
+-- a journal that is written to no stream
+pub told_nowhere : {S : Type 0} (contents : S → Option (List ℕ)) (failures : S → ℕ) (j : Journal) (o p : Option S) (x : Unit {0}) → o ≡ None → p ≡ None → IsTold {T = Unit {0}} j (seen_if contents failures o) (seen_if contents failures p) (Ok x)
+told_nowhere {S} contents failures j o p x e h =
+    let P : Option S → Type 0 = λ q. WritesAll (seen_if contents failures q) (seen_if contents failures p) (written_lines (journal_lines j)) in
+    let Q : Option S → Type 0 = λ q. WritesAll (seen_if contents failures None) (seen_if contents failures q) (written_lines (journal_lines j)) in
+    subst P (sym e) (subst Q (sym h) (record { written = tt; kept = refl }))

@@ -23,6 +23,7 @@ pub struct Outcome {
 }
 
 /// Writes the journal of the host's account to the stream, if there is one.
+#[tactic(auto, using(crate::proofs::Runs::told_nowhere))]
 fn write_journal<H: Host, J: Sink>(
     alloc: Global,
     host: &H,
