@@ -1,0 +1,3 @@
+pub mod Renamed
+pub mod PlainTests
+pub mod PlainVerdicts

@@ -1,0 +1,3 @@
+pub mod PlainGuard
+pub mod PlainMatch
+pub mod PlainLaws
