@@ -19,6 +19,9 @@ pub mod ScanFinds
 pub mod ScanStays
 pub mod LookStays
 pub mod GuardStays
+pub mod Renamed
+pub mod OutcomeAnswers
+pub mod VerdictAnswers
 pub mod Beside
 pub mod VerdictStays
 pub mod RejectsNever

@@ -4,8 +4,7 @@ use Rattle.std.specs.Prelude.{bytes_eq, Option, Some, None}
 use Rattle.std.proofs.lemmas.List.{map-append}
 use Rattle.kl1_model.specs.Term.{Term, variable, integer, atom, structure, Terms, none, more, count_of, substituted, each_substituted, Replacement}
 use Rattle.kl1_model.specs.Module.{Clause}
-use Rattle.kl1_model.specs.Guard.{Outcome, agrees, clashes, waits, both}
-use Rattle.kl1_model.specs.Match.{Matched, with_outcome, match_both, match_term, match_terms, each_alike, guard_outcome, awaited_in, Verdict, accepts, rejects, suspends, verdict_with, verdict_of, verdict}
+use Rattle.kl1_model.specs.Outcome.{Outcome, agrees, clashes, waits, both, Matched, with_outcome, match_both, match_term, match_terms, each_alike, guard_outcome, awaited_in, Verdict, accepts, rejects, suspends, verdict_with, verdict_of, named_verdict}
 use Rattle.kl1_model.specs.Waits.{LeavesEach, least_by, least_within, least_from, awaited_after, awaited_within, awaited_by_clauses}
 use Rattle.kl1_model.specs.WaitsLaws.{place_substituted, places_substituted, RejectsStays, AcceptsStays, SuspendsStays, ClausesStay}
 use Rattle.kl1_model.proofs.Substitutions.{count-each_substituted}
@@ -128,7 +127,7 @@ whole_stays s tests m =
 
 -- the verdict where the match stays and the whole outcome is this
 stays_with : (s : ℕ → Term) (c : Clause) (ts : Terms) (o : Outcome) → whole c.tests (match_terms c.patterns ts) ≡ o → Left s (match_terms c.patterns ts).outcome → LeavesEach s (awaited_in o) →
-    verdict c (each_substituted s ts) ≡ verdict_with (after s (match_terms c.patterns ts)) o
+    named_verdict c (each_substituted s ts) ≡ verdict_with (after s (match_terms c.patterns ts)) o
 stays_with s c ts o e left l =
     let m = match_terms c.patterns ts in
     ap (verdict_of c.tests) (match_all_stays s c.patterns ts left)
@@ -150,7 +149,7 @@ was_waiting m clashes vs e = absurd (cc)
 was_waiting m (waits ws) vs e = cc
 
 -- a match that doesn't clash stays where the variables for which it waits are left, and so does what it names
-open_stays : (s : ℕ → Term) (c : Clause) (ts : Terms) (o : Outcome) → (match_terms c.patterns ts).outcome ≡ o → whole c.tests (match_terms c.patterns ts) ≡ clashes → LeavesEach s (awaited_in o) → verdict c (each_substituted s ts) ≡ rejects (awaited_in o)
+open_stays : (s : ℕ → Term) (c : Clause) (ts : Terms) (o : Outcome) → (match_terms c.patterns ts).outcome ≡ o → whole c.tests (match_terms c.patterns ts) ≡ clashes → LeavesEach s (awaited_in o) → named_verdict c (each_substituted s ts) ≡ rejects (awaited_in o)
 open_stays s c ts agrees e w l = stays_with s c ts clashes w (subst (λ o. Left s o) (sym e) tt) tt ∙ ap (λ o. rejects (awaited_in o)) e
 open_stays s c ts clashes e w l =
     let k : (match_terms c.patterns (each_substituted s ts)).outcome ≡ clashes = clashes_stay s c.patterns ts e in
@@ -199,7 +198,7 @@ SameVerdict s (rejects vs) w = w ≡ rejects vs
 SameVerdict s (suspends vs) w = w ≡ suspends vs
 
 -- a verdict, and what later clauses lead to where it rejects and where it suspends
-verdict_stays : (s : ℕ → Term) (c : Clause) (ts : Terms) (v : Verdict) (rs ws : List ℕ) → verdict c ts ≡ v → LeavesEach s (awaited_after v rs ws) → SameVerdict s v (verdict c (each_substituted s ts))
+verdict_stays : (s : ℕ → Term) (c : Clause) (ts : Terms) (v : Verdict) (rs ws : List ℕ) → named_verdict c ts ≡ v → LeavesEach s (awaited_after v rs ws) → SameVerdict s v (named_verdict c (each_substituted s ts))
 verdict_stays s c ts (accepts ps) rs ws e l = accepts_stays s c ts ps e
 verdict_stays s c ts (rejects vs) rs ws e l = rejects_stays s c ts vs e (left_front s vs rs l)
 verdict_stays s c ts (suspends vs) rs ws e l = suspends_stays s c ts vs e (left_front s vs ws l)
@@ -214,19 +213,19 @@ awaited_same s (accepts ps) w rs ws qs ys e l f g = ap (λ u. awaited_after u qs
 awaited_same s (rejects vs) w rs ws qs ys e l f g = ap (λ u. awaited_after u qs ys) e ∙ ap (λ x. vs ++ x) (f (left_back s vs rs l))
 awaited_same s (suspends vs) w rs ws qs ys e l f g = ap (λ u. awaited_after u qs ys) e ∙ ap (λ x. vs ++ x) (g (left_back s vs ws l))
 
-within_if : (s : ℕ → Term) (section : ℕ) (c : Clause) (cs : List Clause) (ts : Terms) (b : Bool) → LeavesEach s (if b then awaited_after (verdict c ts) (awaited_within section cs ts) (awaited_within section cs ts) else []) → (LeavesEach s (awaited_within section cs ts) → SameWithin s section cs ts) →
+within_if : (s : ℕ → Term) (section : ℕ) (c : Clause) (cs : List Clause) (ts : Terms) (b : Bool) → LeavesEach s (if b then awaited_after (named_verdict c ts) (awaited_within section cs ts) (awaited_within section cs ts) else []) → (LeavesEach s (awaited_within section cs ts) → SameWithin s section cs ts) →
     ((n : ℕ) →
-    (if b then least_by (Some n) (least_within section (suc n) cs (each_substituted s ts)) (least_within section (suc n) cs (each_substituted s ts)) (verdict c (each_substituted s ts)) else None)
-    ≡ (if b then least_by (Some n) (least_within section (suc n) cs ts) (least_within section (suc n) cs ts) (verdict c ts) else None))
-    × ((if b then awaited_after (verdict c (each_substituted s ts)) (awaited_within section cs (each_substituted s ts)) (awaited_within section cs (each_substituted s ts)) else [])
-    ≡ (if b then awaited_after (verdict c ts) (awaited_within section cs ts) (awaited_within section cs ts) else []))
+    (if b then least_by (Some n) (least_within section (suc n) cs (each_substituted s ts)) (least_within section (suc n) cs (each_substituted s ts)) (named_verdict c (each_substituted s ts)) else None)
+    ≡ (if b then least_by (Some n) (least_within section (suc n) cs ts) (least_within section (suc n) cs ts) (named_verdict c ts) else None))
+    × ((if b then awaited_after (named_verdict c (each_substituted s ts)) (awaited_within section cs (each_substituted s ts)) (awaited_within section cs (each_substituted s ts)) else [])
+    ≡ (if b then awaited_after (named_verdict c ts) (awaited_within section cs ts) (awaited_within section cs ts) else []))
 within_if s section c cs ts true l f =
     let us = each_substituted s ts in
     let ws = awaited_within section cs ts in
-    let v = verdict_stays s c ts (verdict c ts) ws ws refl l in (
+    let v = verdict_stays s c ts (named_verdict c ts) ws ws refl l in (
       λ n.
-          least_same s (verdict c ts) (verdict c us) (Some n) (least_within section (suc n) cs ts) (least_within section (suc n) cs ts) (least_within section (suc n) cs us) (least_within section (suc n) cs us) ws ws v l (λ k. (f k).0 (suc n)) (λ k. (f k).0 (suc n)),
-      awaited_same s (verdict c ts) (verdict c us) ws ws (awaited_within section cs us) (awaited_within section cs us) v l (λ k. (f k).1) (λ k. (f k).1),
+          least_same s (named_verdict c ts) (named_verdict c us) (Some n) (least_within section (suc n) cs ts) (least_within section (suc n) cs ts) (least_within section (suc n) cs us) (least_within section (suc n) cs us) ws ws v l (λ k. (f k).0 (suc n)) (λ k. (f k).0 (suc n)),
+      awaited_same s (named_verdict c ts) (named_verdict c us) ws ws (awaited_within section cs us) (awaited_within section cs us) v l (λ k. (f k).1) (λ k. (f k).1),
     )
 within_if s section c cs ts false l f = (λ n. refl, refl)
 
@@ -240,10 +239,10 @@ clauses_same s (c ∷ cs) ts l =
     let us = each_substituted s ts in
     let rs = awaited_by_clauses cs ts in
     let ws = awaited_within c.section cs ts in
-    let v = verdict_stays s c ts (verdict c ts) rs ws refl l in (
+    let v = verdict_stays s c ts (named_verdict c ts) rs ws refl l in (
       λ n.
-          least_same s (verdict c ts) (verdict c us) (Some n) (least_from (suc n) cs ts) (least_within c.section (suc n) cs ts) (least_from (suc n) cs us) (least_within c.section (suc n) cs us) rs ws v l (λ k. (clauses_same s cs ts k).0 (suc n)) (λ k. (within_same s c.section cs ts k).0 (suc n)),
-      awaited_same s (verdict c ts) (verdict c us) rs ws (awaited_by_clauses cs us) (awaited_within c.section cs us) v l (λ k. (clauses_same s cs ts k).1) (λ k. (within_same s c.section cs ts k).1),
+          least_same s (named_verdict c ts) (named_verdict c us) (Some n) (least_from (suc n) cs ts) (least_within c.section (suc n) cs ts) (least_from (suc n) cs us) (least_within c.section (suc n) cs us) rs ws v l (λ k. (clauses_same s cs ts k).0 (suc n)) (λ k. (within_same s c.section cs ts k).0 (suc n)),
+      awaited_same s (named_verdict c ts) (named_verdict c us) rs ws (awaited_by_clauses cs us) (awaited_within c.section cs us) v l (λ k. (clauses_same s cs ts k).1) (λ k. (within_same s c.section cs ts k).1),
     )
 
 pub clauses_stay : ClausesStay

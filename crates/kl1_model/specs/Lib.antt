@@ -16,6 +16,7 @@ pub mod Meaning
 pub mod Goal
 pub mod Module
 pub mod Match
+pub mod Outcome
 pub mod Instance
 pub mod State
 pub mod Tree
@@ -35,6 +36,7 @@ pub mod Waits
 pub mod Line
 pub mod Record
 pub mod SameLaws
+pub mod OutcomeLaws
 pub mod WaitsLaws
 pub mod ScanLaws
 pub mod AccountName

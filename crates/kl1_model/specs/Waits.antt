@@ -3,7 +3,8 @@ use Rattle.std.specs.Prelude.{◌≡◌, ℕ, suc, ◌==◌, if◌then◌else◌
 use Rattle.std.specs.List.{AllByRecursion}
 use Rattle.kl1_model.specs.Term.{Term, variable, atom, structure, Terms, none, more}
 use Rattle.kl1_model.specs.Module.{Clause, Module}
-use Rattle.kl1_model.specs.Match.{Verdict, accepts, rejects, suspends, verdict, Call, call_of, clauses_of}
+use Rattle.kl1_model.specs.Match.{Call, call_of, clauses_of}
+use Rattle.kl1_model.specs.Outcome.{Verdict, accepts, rejects, suspends, named_verdict}
 use Rattle.kl1_model.specs.Arithmetic.{Evaluated, comes_to, awaits, is_no_expression, evaluated}
 use Rattle.kl1_model.specs.Goal.{is_execute}
 use Rattle.kl1_model.specs.Look.{Spelling, spelled, awaits_code, misspelled, spelling, most_spelled, Look, right, waits_on, wrong, Order, order_look}
@@ -30,13 +31,13 @@ abbrev pub least_within : ℕ → ℕ → List Clause → Terms → Option ℕ
 least_within section n [] ts = None
 least_within section n (c ∷ cs) ts =
     let later = least_within section (suc n) cs ts in
-    if c.section == section then least_by (Some n) later later (verdict c ts) else None
+    if c.section == section then least_by (Some n) later later (named_verdict c ts) else None
 
 -- the least number of a clause that accepts, the first having this number, or 0 where each rejects; a clause that waits ends
 -- the search with its section
 abbrev pub least_from : ℕ → List Clause → Terms → Option ℕ
 least_from n [] ts = Some 0
-least_from n (c ∷ cs) ts = least_by (Some n) (least_from (suc n) cs ts) (least_within c.section (suc n) cs ts) (verdict c ts)
+least_from n (c ∷ cs) ts = least_by (Some n) (least_from (suc n) cs ts) (least_within c.section (suc n) cs ts) (named_verdict c ts)
 
 -- the least number of a clause that accepts, from 1, or 0 where each rejects or there is none, or nothing
 abbrev pub least_clause : List Clause → Terms → Option ℕ
@@ -54,12 +55,12 @@ abbrev pub awaited_within : ℕ → List Clause → Terms → List ℕ
 awaited_within section [] ts = []
 awaited_within section (c ∷ cs) ts =
     let later = awaited_within section cs ts in
-    if c.section == section then awaited_after (verdict c ts) later later else []
+    if c.section == section then awaited_after (named_verdict c ts) later later else []
 
 -- the variables that clauses wait for, up to the first that accepts or the end of the section of the first that waits
 abbrev pub awaited_by_clauses : List Clause → Terms → List ℕ
 awaited_by_clauses [] ts = []
-awaited_by_clauses (c ∷ cs) ts = awaited_after (verdict c ts) (awaited_by_clauses cs ts) (awaited_within c.section cs ts)
+awaited_by_clauses (c ∷ cs) ts = awaited_after (named_verdict c ts) (awaited_by_clauses cs ts) (awaited_within c.section cs ts)
 
 -- the variables that a call waits for
 abbrev pub awaited_by_call : List Module → Option Call → List ℕ
