@@ -7,8 +7,8 @@ use Rattle.std.proofs.lemmas.List.{drop_all}
 use Rattle.kl1_model.specs.declared.built_in.BuiltIn.{BuiltIn}
 use Rattle.kl1_model.specs.Term.{Terms}
 use Rattle.kl1_model.specs.Module.{Clause}
-use Rattle.kl1_model.specs.Match as model
-use Rattle.kl1_model.specs.Match.{verdict}
+use Rattle.kl1_model.specs.Outcome as model
+use Rattle.kl1_model.specs.Outcome.{named_verdict}
 use Rattle.kl1_model.specs.Waits.{least_by, least_within, least_from, least_clause, awaited_after, awaited_within, awaited_by_clauses}
 use Rattle.kl1_text.specs.Reading.{Reads}
 use Rattle.kl1_store.specs.declared.cell.Cell.{Cell}
@@ -90,16 +90,16 @@ none_tried built names clauses h goal before = record {
 -- ---- a clause of the section
 
 here_within : (s n : ℕ) (d : Clause) (rest : List Clause) (ts : Terms) → d.section ≡ s → (d.section == s) ≡ true →
-    least_within s n (d ∷ rest) ts ≡ least_by (Some n) (least_within s (suc n) rest ts) (least_within d.section (suc n) rest ts) (verdict d ts)
+    least_within s n (d ∷ rest) ts ≡ least_by (Some n) (least_within s (suc n) rest ts) (least_within d.section (suc n) rest ts) (named_verdict d ts)
 here_within s n d rest ts e is =
-    ap (λ b. if b then least_by (Some n) (least_within s (suc n) rest ts) (least_within s (suc n) rest ts) (verdict d ts) else None) is
-    ∙ ap (λ k. least_by (Some n) (least_within s (suc n) rest ts) (least_within k (suc n) rest ts) (verdict d ts)) (sym e)
+    ap (λ b. if b then least_by (Some n) (least_within s (suc n) rest ts) (least_within s (suc n) rest ts) (named_verdict d ts) else None) is
+    ∙ ap (λ k. least_by (Some n) (least_within s (suc n) rest ts) (least_within k (suc n) rest ts) (named_verdict d ts)) (sym e)
 
 awaited_here : (s : ℕ) (d : Clause) (rest : List Clause) (ts : Terms) → d.section ≡ s → (d.section == s) ≡ true →
-    awaited_within s (d ∷ rest) ts ≡ awaited_after (verdict d ts) (awaited_within s rest ts) (awaited_within d.section rest ts)
+    awaited_within s (d ∷ rest) ts ≡ awaited_after (named_verdict d ts) (awaited_within s rest ts) (awaited_within d.section rest ts)
 awaited_here s d rest ts e is =
-    ap (λ b. if b then awaited_after (verdict d ts) (awaited_within s rest ts) (awaited_within s rest ts) else []) is
-    ∙ ap (λ k. awaited_after (verdict d ts) (awaited_within s rest ts) (awaited_within k rest ts)) (sym e)
+    ap (λ b. if b then awaited_after (named_verdict d ts) (awaited_within s rest ts) (awaited_within s rest ts) else []) is
+    ∙ ap (λ k. awaited_after (named_verdict d ts) (awaited_within s rest ts) (awaited_within k rest ts)) (sym e)
 
 not_other : (b : Bool) → not b ≡ false → b ≡ true
 not_other true e = refl
@@ -110,12 +110,12 @@ other true e = absurd (cc)
 other false e = refl
 
 least_here : (waiting : Option ℕ) (n : ℕ) (d : Clause) (rest : List Clause) (ts : Terms) → is_past waiting d.section ≡ false →
-    least_left waiting n (d ∷ rest) ts ≡ least_by (Some n) (least_left waiting (suc n) rest ts) (least_within d.section (suc n) rest ts) (verdict d ts)
+    least_left waiting n (d ∷ rest) ts ≡ least_by (Some n) (least_left waiting (suc n) rest ts) (least_within d.section (suc n) rest ts) (named_verdict d ts)
 least_here None n d rest ts e = refl
 least_here (Some s) n d rest ts e = let is = not_other (d.section == s) e in here_within s n d rest ts (eqb-true d.section s is) is
 
 waits_here : (waiting : Option ℕ) (d : Clause) (rest : List Clause) (ts : Terms) → is_past waiting d.section ≡ false →
-    awaited_left waiting (d ∷ rest) ts ≡ awaited_after (verdict d ts) (awaited_left waiting rest ts) (awaited_within d.section rest ts)
+    awaited_left waiting (d ∷ rest) ts ≡ awaited_after (named_verdict d ts) (awaited_left waiting rest ts) (awaited_within d.section rest ts)
 waits_here None d rest ts e = refl
 waits_here (Some s) d rest ts e = let is = not_other (d.section == s) e in awaited_here s d rest ts (eqb-true d.section s is) is
 
@@ -123,11 +123,11 @@ waits_here (Some s) d rest ts e = let is = not_other (d.section == s) e in await
 
 none_past : (waiting : Option ℕ) (n : ℕ) (d : Clause) (rest : List Clause) (ts : Terms) → is_past waiting d.section ≡ true → least_left waiting n (d ∷ rest) ts ≡ None
 none_past None n d rest ts e = absurd (cc)
-none_past (Some s) n d rest ts e = ap (λ b. if b then least_by (Some n) (least_within s (suc n) rest ts) (least_within s (suc n) rest ts) (verdict d ts) else None) (other (d.section == s) e)
+none_past (Some s) n d rest ts e = ap (λ b. if b then least_by (Some n) (least_within s (suc n) rest ts) (least_within s (suc n) rest ts) (named_verdict d ts) else None) (other (d.section == s) e)
 
 nothing_past : (waiting : Option ℕ) (d : Clause) (rest : List Clause) (ts : Terms) → is_past waiting d.section ≡ true → awaited_left waiting (d ∷ rest) ts ≡ []
 nothing_past None d rest ts e = absurd (cc)
-nothing_past (Some s) d rest ts e = ap (λ b. if b then awaited_after (verdict d ts) (awaited_within s rest ts) (awaited_within s rest ts) else []) (other (d.section == s) e)
+nothing_past (Some s) d rest ts e = ap (λ b. if b then awaited_after (named_verdict d ts) (awaited_within s rest ts) (awaited_within s rest ts) else []) (other (d.section == s) e)
 
 -- ---- a verdict more
 
@@ -136,7 +136,7 @@ record LeadsTo (cs : List Clause) (ts : Terms) (defined : List ℕ) (tried secti
   pub answer : least_by (Some (suc tried)) (least_left waiting (suc (suc tried)) (drop (suc tried) cs) ts) (least_within section (suc (suc tried)) (drop (suc tried) cs) ts) v ≡ least_clause cs ts
   pub awaited : awaited_by_clauses cs ts ≡ defined ++ awaited_after v (awaited_left waiting (drop (suc tried) cs) ts) (awaited_within section (drop (suc tried) cs) ts)
 
-leads_to : (cs : List Clause) (ts : Terms) (named : List ℕ) (tried : ℕ) (waiting : Option ℕ) (d : Clause) (v : model.Verdict) → drop tried cs ≡ d ∷ drop (suc tried) cs → is_past waiting d.section ≡ false → verdict d ts ≡ v →
+leads_to : (cs : List Clause) (ts : Terms) (named : List ℕ) (tried : ℕ) (waiting : Option ℕ) (d : Clause) (v : model.Verdict) → drop tried cs ≡ d ∷ drop (suc tried) cs → is_past waiting d.section ≡ false → named_verdict d ts ≡ v →
     (l : IsLeftOf cs ts named tried waiting) → LeadsTo cs ts l.defined tried d.section waiting v
 leads_to cs ts named tried waiting d v e near is l =
     let rest = drop (suc tried) cs in
