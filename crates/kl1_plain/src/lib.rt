@@ -1,13 +1,11 @@
-//! Match and verdict in three answers: the definitions, and that verdicts that name variables say what these say.
+//! That verdicts which name the variables for which they wait have the answers of those which don't.
 #![tactic(auto)]
-ghost use Rattle.kl1_plain.specs.PlainLaws.{TestsArePlain, VerdictsArePlain, PlacesArePlain, CandidatesArePlain, FailuresArePlain};
+ghost use Rattle.kl1_model.specs.OutcomeLaws.{OutcomesAnswer, VerdictsAnswer, AcceptsPlaces};
 
-/// A verdict that names the variables for which it waits is, without these, the plain verdict: for every clause and every goal.
-/// So the candidates of each call are the plain ones, and so is what fails.
-pub fn verdicts_are_plain()
-    ensures tests { TestsArePlain }
-    ensures verdicts { VerdictsArePlain }
-    ensures places { PlacesArePlain }
-    ensures candidates { CandidatesArePlain }
-    ensures failures { FailuresArePlain }
+/// The outcome of each test has the test's answer. The verdict that names variables, and in whose tests they have other numbers, has
+/// the answer of the plain verdict, for every clause and every goal; if it accepts, then with the terms at the same places.
+pub fn outcomes_have_answers()
+    ensures tests { OutcomesAnswer }
+    ensures verdicts { VerdictsAnswer }
+    ensures places { AcceptsPlaces }
 {}

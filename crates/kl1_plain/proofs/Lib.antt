@@ -1,3 +1,0 @@
-pub mod Renamed
-pub mod PlainTests
-pub mod PlainVerdicts

@@ -1,3 +1,0 @@
-pub mod PlainGuard
-pub mod PlainMatch
-pub mod PlainLaws
