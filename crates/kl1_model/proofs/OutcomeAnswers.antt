@@ -1,5 +1,5 @@
 -- The outcomes of tests without what they wait for are their answers, whatever the numbers of their variables.
-use Rattle.std.proofs.Common.{◌≡◌, ℕ, suc, ◌≤◌, Bool, true, false, if◌then◌else◌, List, refl, sym, ap, ap₂, ◌∙◌, arith}
+use Rattle.std.proofs.Common.{◌≡◌, ℕ, ◌≤◌, Bool, true, false, if◌then◌else◌, List, refl, sym, ap, ap₂, ◌∙◌, arith}
 use Rattle.std.specs.Prelude.{bytes_eq, codes, Option, Some, None, option_map}
 use Rattle.kl1_model.specs.declared.comparison.Comparison.{Comparison}
 use Rattle.kl1_model.specs.declared.inspection.Inspection.{Inspection}
@@ -9,8 +9,8 @@ use Rattle.kl1_model.specs.Term.{Term, variable, integer, atom, structure, Terms
 use Rattle.kl1_model.specs.Meaning.{highest, highest_in}
 use Rattle.kl1_model.specs.Same.{Passive, same, differs, unknown, passive, awaited}
 use Rattle.kl1_model.specs.Arithmetic.{Evaluated, comes_to, awaits, is_no_expression, evaluated}
-use Rattle.kl1_model.specs.Guard.{Test, holds, looks, is_same, is_other, compares, test_of, inspection_named, comparison_named, test_substituted, is_found, compared, Answer, yes, no, wait, together, known, same_answer, other_answer, numbers_answer, sides_answer, test_answer, answer_by}
-use Rattle.kl1_model.specs.Outcome.{Outcome, agrees, clashes, waits, both, decided, alike, same_outcome, other_outcome, compared_numbers, compared_sides, outcome_of, outcome_by, answer_of}
+use Rattle.kl1_model.specs.Guard.{Test, holds, looks, is_same, is_other, compares, test_of, inspection_named, comparison_named, test_substituted, is_found, compared, together, known, same_answer, other_answer, numbers_answer, sides_answer, test_answer, answer_by}
+use Rattle.kl1_model.specs.Outcome.{Outcome, agrees, clashes, waits, both, decided, alike, same_outcome, other_outcome, compared_numbers, compared_sides, outcome_by, answer_of}
 use Rattle.kl1_model.specs.OutcomeLaws.{OutcomesAnswer}
 use Rattle.kl1_model.proofs.Renamed.{renamed, each_renamed, IsOneToOne, passive_renamed, evaluated_renamed, comes_renamed, found_renamed}
 

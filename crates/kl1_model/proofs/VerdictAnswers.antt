@@ -7,9 +7,9 @@ use Rattle.std.proofs.lemmas.Bool.Decides.{leb_tells}
 use Rattle.kl1_model.specs.Term.{Term, variable, integer, atom, structure, Terms, none, more, terms_of, count_of, substituted, each_substituted, Replacement}
 use Rattle.kl1_model.specs.Meaning.{highest, highest_in}
 use Rattle.kl1_model.specs.Same.{passive}
-use Rattle.kl1_model.specs.Guard.{test_of, Answer, yes, no, wait, together, known, same_answer, answer_by}
+use Rattle.kl1_model.specs.Guard.{test_of, Answer, yes, no, together, same_answer}
 use Rattle.kl1_model.specs.Module.{Clause}
-use Rattle.kl1_model.specs.Match.{Match, with_answer, match_parts, match_pattern, match_patterns, two_answer, one_answer, each_answer, term_at, guard_term, tests_answer, places_of, head_answer, guard_answer, verdict, is_no, Candidate, candidate_by}
+use Rattle.kl1_model.specs.Match.{Match, with_answer, match_parts, match_pattern, match_patterns, one_answer, each_answer, guard_term, tests_answer, places_of, verdict, candidate_by}
 use Rattle.kl1_model.specs.Outcome.{Outcome, agrees, clashes, waits, both, alike, outcome_by, answer_of, Matched, with_outcome, match_both, match_term, match_terms, places_alike, alike_with, each_alike, beside, test_variable, own_outcome, test_outcome, tests_outcome, guard_outcome, Verdict, accepts, rejects, suspends, verdict_with, named_verdict, answer_in}
 use Rattle.kl1_model.specs.OutcomeLaws.{VerdictsAnswer, AcceptsPlaces}
 use Rattle.kl1_model.proofs.GuardStays.{then_substituted}
@@ -87,15 +87,15 @@ number_once : (last top : ℕ) → IsOneToOne (guard_number last top) (suc (last
 number_once last top v w few less e =
     elim (leb_tells v last) [
       | inl a ↦
-        elim (leb_tells w last) [
-          | inl b ↦ let k : suc (top + v) ≡ suc (top + w) = sym (own_number last top v a.1) ∙ e ∙ own_number last top w b.1 in omega (arith, k)
-          | inr b ↦ let k : suc (top + v) ≡ w - suc last = sym (own_number last top v a.1) ∙ e ∙ goal_number last top w b.1 in let over = b.1 in absurd (omega (arith, k, over, less))
-        ]
+          elim (leb_tells w last) [
+            | inl b ↦ let k : suc (top + v) ≡ suc (top + w) = sym (own_number last top v a.1) ∙ e ∙ own_number last top w b.1 in omega (arith, k)
+            | inr b ↦ let k : suc (top + v) ≡ w - suc last = sym (own_number last top v a.1) ∙ e ∙ goal_number last top w b.1 in let over = b.1 in absurd (omega (arith, k, over, less))
+          ]
       | inr a ↦
-        elim (leb_tells w last) [
-          | inl b ↦ let k : v - suc last ≡ suc (top + w) = sym (goal_number last top v a.1) ∙ e ∙ own_number last top w b.1 in let over = a.1 in absurd (omega (arith, k, over, few))
-          | inr b ↦ let k : v - suc last ≡ w - suc last = sym (goal_number last top v a.1) ∙ e ∙ goal_number last top w b.1 in let over = a.1 in let past = b.1 in omega (arith, k, over, past)
-        ]
+          elim (leb_tells w last) [
+            | inl b ↦ let k : v - suc last ≡ suc (top + w) = sym (goal_number last top v a.1) ∙ e ∙ own_number last top w b.1 in let over = a.1 in absurd (omega (arith, k, over, few))
+            | inr b ↦ let k : v - suc last ≡ w - suc last = sym (goal_number last top v a.1) ∙ e ∙ goal_number last top w b.1 in let over = a.1 in let past = b.1 in omega (arith, k, over, past)
+          ]
     ]
 
 mutual
@@ -114,7 +114,7 @@ back_in_goal : (last top : ℕ) (t : Term) → renamed (guard_number last top) (
 back_in_goal last top t =
     then_substituted (λ v. variable (guard_number last top v)) (λ v. variable (suc (last + v))) t
     ∙ unchanged (λ v. variable (guard_number last top (suc (last + v))))
-      (λ v. let back : suc (last + v) - suc last ≡ v = omega arith in ap variable (goal_number last top (suc (last + v)) (omega arith) ∙ back)) t
+    (λ v. let back : suc (last + v) - suc last ≡ v = omega arith in ap variable (goal_number last top (suc (last + v)) (omega arith) ∙ back)) t
 
 variable_made_by : (last top : ℕ) (c : Bool) (t u x : Term) → u ≡ renamed (guard_number last top) x → (if c then t else u) ≡ renamed (guard_number last top) (if c then beside last t else x)
 variable_made_by last top true t u x e = sym (back_in_goal last top t)
@@ -202,10 +202,10 @@ tests_answered last top places a [] few = refl
 tests_answered last top places a (t ∷ ts) few =
     answer_both (test_outcome last places t) (tests_outcome last places ts)
     ∙ ap₂ together
-      (own_answer last (outcome_by (test_variable last places) (test_of t))
-      ∙ answer_outcome (test_variable last places) (test_of t)
-      ∙ same_answer_made (guard_number last top) last (suc (last + top)) (test_variable last places) (guard_term top places) (renames last top places a) t (omega (arith, few)))
-      (tests_answered last top places a ts (omega (arith, few)))
+    (own_answer last (outcome_by (test_variable last places) (test_of t))
+    ∙ answer_outcome (test_variable last places) (test_of t)
+    ∙ same_answer_made (guard_number last top) last (suc (last + top)) (test_variable last places) (guard_term top places) (renames last top places a) t (omega (arith, few)))
+    (tests_answered last top places a ts (omega (arith, few)))
 
 -- ---- verdicts
 
@@ -221,8 +221,8 @@ whole_answered : (tests : List Term) (top : ℕ) (m : Matched) → AreUpTo top m
 whole_answered tests top m a =
     answer_both (both m.outcome (each_alike m.places)) (guard_outcome m.places tests)
     ∙ ap₂ together
-      (answer_both m.outcome (each_alike m.places) ∙ ap (together (answer_of m.outcome)) (each_answers m.places))
-      (tests_answered (highest_in (terms_of tests)) top m.places a tests (omega arith))
+    (answer_both m.outcome (each_alike m.places) ∙ ap (together (answer_of m.outcome)) (each_answers m.places))
+    (tests_answered (highest_in (terms_of tests)) top m.places a tests (omega arith))
 
 outcome_in : (m : Matched) (o : Outcome) → answer_in (verdict_with m o) ≡ answer_of o
 outcome_in m agrees = refl

@@ -19,12 +19,12 @@ pub record Match : Type 0 where
 abbrev pub with_answer : Answer → Match
 with_answer a = record { answer = a; places = [] }
 
--- two parts of a match
+-- two parts of a match together
 abbrev pub match_parts : Match → Match → Match
 match_parts a b = record { answer = together a.answer b.answer; places = a.places ++ b.places }
 
--- a pattern beside a term: a variable takes the term; a constant or a structure beside an unbound variable waits, and agrees with
--- the same constant alone, or a structure of the same name and number of arguments whose arguments agree
+-- a pattern beside a term: a variable takes the term; beside an unbound variable a constant or a structure waits; else it is yes
+-- beside the same constant alone, or beside a structure of its name and number of arguments if each argument is
 abbrev mutual
   pub match_pattern : Term → Term → Match
   match_pattern (variable v) t = record { answer = yes; places = record { number = v; by = t } ∷ [] }
@@ -43,7 +43,7 @@ abbrev mutual
 abbrev pub two_answer : Replacement → Replacement → Answer
 two_answer p q = if p.number == q.number then same_answer (passive p.by q.by) else yes
 
--- a place beside each of these
+-- a place beside each of the others
 abbrev pub one_answer : Replacement → List Replacement → Answer
 one_answer p [] = yes
 one_answer p (q ∷ qs) = together (two_answer p q) (one_answer p qs)
@@ -76,11 +76,12 @@ places_of c ts = (match_patterns c.patterns ts).places
 abbrev pub head_answer : Clause → Terms → Answer
 head_answer c ts = together (match_patterns c.patterns ts).answer (each_answer (places_of c ts))
 
--- the answer of a guard
+-- the answer of a guard: of its tests, in which the terms of the goal stand for the variables of the head
 abbrev pub guard_answer : Clause → Terms → Answer
 guard_answer c ts = tests_answer (guard_term (highest_in ts) (places_of c ts)) c.tests
 
--- the verdict of a clause on a goal's arguments
+-- the verdict of a clause on a goal's arguments: no if any part of the head or any test is no, or else wait if any is wait, or
+-- else yes
 abbrev pub verdict : Clause → Terms → Answer
 verdict c ts = together (head_answer c ts) (guard_answer c ts)
 
