@@ -1,5 +1,6 @@
 //! That verdicts which name the variables for which they wait have the answers of those which don't.
 #![tactic(auto)]
+
 ghost use Rattle.kl1_model.specs.OutcomeLaws.{OutcomesAnswer, VerdictsAnswer, AcceptsPlaces};
 
 /// The outcome of each test has the test's answer. The verdict that names variables, and in whose tests they have other numbers, has
