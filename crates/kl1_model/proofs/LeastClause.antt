@@ -6,11 +6,9 @@ use Rattle.std.proofs.lemmas.Bool.{cond-true, cond-false, eq-eqb, ne_eqb}
 use Rattle.kl1_model.specs.Term.{Term, Terms, Replacement}
 use Rattle.kl1_model.specs.Module.{Clause, Module}
 use Rattle.kl1_model.specs.Match.{Answer, yes, no, wait, Call, call_of, clauses_of, Candidate, candidate_by, candidates_within, candidates_from, candidates_of, fails, is_no, places_of, verdict}
-use Rattle.kl1_model.specs.Outcome.{Verdict, accepts, rejects, suspends, named_verdict, answer_in}
 use Rattle.kl1_model.specs.Reduction.{Move, commits, raises, failure, term_move, built_in_move}
 use Rattle.kl1_model.specs.Choice.{call_clauses}
 use Rattle.kl1_model.specs.Waits.{term_clause, least_by, least_within, least_from, least_clause}
-use Rattle.kl1_model.proofs.VerdictAnswers.{verdicts_answer}
 
 -- the number of the first candidate
 abbrev pub first_number : List Candidate → Option ℕ
@@ -24,14 +22,10 @@ all_no cs ts = list_all (λ c. is_no (verdict c ts)) cs
 abbrev chosen_from : Bool → List Candidate → Option ℕ
 chosen_from rejected ks = if rejected then Some 0 else first_number ks
 
-by_named_within : (n : ℕ) (c : Clause) (ps : List Replacement) (ks : List Candidate) (r : Option ℕ) (v : Verdict) → r ≡ first_number ks → least_by (Some n) r r v ≡ first_number (candidate_by n c ps (answer_in v) ++ ks)
-by_named_within n c ps ks r (accepts places) e = refl
-by_named_within n c ps ks r (rejects vs) e = e
-by_named_within n c ps ks r (suspends vs) e = e
-
-by_verdict_within : (n : ℕ) (c : Clause) (ts : Terms) (ks : List Candidate) (r : Option ℕ) → r ≡ first_number ks → least_by (Some n) r r (named_verdict c ts) ≡ first_number (candidate_by n c (places_of c ts) (verdict c ts) ++ ks)
-by_verdict_within n c ts ks r e =
-    by_named_within n c (places_of c ts) ks r (named_verdict c ts) e ∙ ap (λ a. first_number (candidate_by n c (places_of c ts) a ++ ks)) (verdicts_answer c ts)
+by_verdict_within : (n : ℕ) (c : Clause) (ps : List Replacement) (ks : List Candidate) (r : Option ℕ) (v : Answer) → r ≡ first_number ks → least_by (Some n) r r v ≡ first_number (candidate_by n c ps v ++ ks)
+by_verdict_within n c ps ks r yes e = refl
+by_verdict_within n c ps ks r no e = e
+by_verdict_within n c ps ks r wait e = e
 
 within_if : (b : Bool) (m : Option ℕ) (ks : List Candidate) → m ≡ first_number ks → (if b then m else None) ≡ first_number (if b then ks else [])
 within_if true m ks e = e
@@ -42,28 +36,22 @@ least-within section n [] ts = refl
 least-within section n (c ∷ cs) ts =
     let later = least_within section (suc n) cs ts in
     let ks = candidates_within section (suc n) cs ts in
-    within_if (c.section == section) (least_by (Some n) later later (named_verdict c ts)) (candidate_by n c (places_of c ts) (verdict c ts) ++ ks) (by_verdict_within n c ts ks later (least-within section (suc n) cs ts))
+    within_if (c.section == section) (least_by (Some n) later later (verdict c ts)) (candidate_by n c (places_of c ts) (verdict c ts) ++ ks) (by_verdict_within n c (places_of c ts) ks later (verdict c ts) (least-within section (suc n) cs ts))
 
 -- the first clause whose verdict isn't no is of its own section
 within_first : (n : ℕ) (c : Clause) (cs : List Clause) (ts : Terms) → candidates_within c.section n (c ∷ cs) ts ≡ candidate_by n c (places_of c ts) (verdict c ts) ++ candidates_within c.section (suc n) cs ts
 within_first n c cs ts = cond-true (c.section == c.section) (candidate_by n c (places_of c ts) (verdict c ts) ++ candidates_within c.section (suc n) cs ts) [] (eq-eqb c.section c.section refl)
 
-by_named : (rest : Bool) (n : ℕ) (c : Clause) (ps : List Replacement) (ks js : List Candidate) (r w : Option ℕ) (v : Verdict) → r ≡ chosen_from rest ks → w ≡ first_number js →
-    least_by (Some n) r w v ≡ chosen_from (is_no (answer_in v) && rest) (if is_no (answer_in v) then ks else candidate_by n c ps (answer_in v) ++ js)
-by_named rest n c ps ks js r w (accepts places) e f = refl
-by_named rest n c ps ks js r w (rejects vs) e f = e
-by_named rest n c ps ks js r w (suspends vs) e f = f
-
-by_verdict : (rest : Bool) (n : ℕ) (c : Clause) (ts : Terms) (ks js : List Candidate) (r w : Option ℕ) → r ≡ chosen_from rest ks → w ≡ first_number js →
-    least_by (Some n) r w (named_verdict c ts) ≡ chosen_from (is_no (verdict c ts) && rest) (if is_no (verdict c ts) then ks else candidate_by n c (places_of c ts) (verdict c ts) ++ js)
-by_verdict rest n c ts ks js r w e f =
-    by_named rest n c (places_of c ts) ks js r w (named_verdict c ts) e f
-    ∙ ap (λ a. chosen_from (is_no a && rest) (if is_no a then ks else candidate_by n c (places_of c ts) a ++ js)) (verdicts_answer c ts)
+by_verdict : (rest : Bool) (n : ℕ) (c : Clause) (ps : List Replacement) (ks js : List Candidate) (r w : Option ℕ) (v : Answer) → r ≡ chosen_from rest ks → w ≡ first_number js →
+    least_by (Some n) r w v ≡ chosen_from (is_no v && rest) (if is_no v then ks else candidate_by n c ps v ++ js)
+by_verdict rest n c ps ks js r w yes e f = refl
+by_verdict rest n c ps ks js r w no e f = e
+by_verdict rest n c ps ks js r w wait e f = f
 
 pub least-chosen : (n : ℕ) (cs : List Clause) (ts : Terms) → least_from n cs ts ≡ chosen_from (all_no cs ts) (candidates_from n cs ts)
 least-chosen n [] ts = refl
 least-chosen n (c ∷ cs) ts =
-    by_verdict (all_no cs ts) n c ts (candidates_from (suc n) cs ts) (candidates_within c.section (suc n) cs ts) (least_from (suc n) cs ts) (least_within c.section (suc n) cs ts) (least-chosen (suc n) cs ts) (least-within c.section (suc n) cs ts)
+    by_verdict (all_no cs ts) n c (places_of c ts) (candidates_from (suc n) cs ts) (candidates_within c.section (suc n) cs ts) (least_from (suc n) cs ts) (least_within c.section (suc n) cs ts) (verdict c ts) (least-chosen (suc n) cs ts) (least-within c.section (suc n) cs ts)
     ∙ ap (λ ks. chosen_from (is_no (verdict c ts) && all_no cs ts) (if is_no (verdict c ts) then candidates_from (suc n) cs ts else ks)) (sym (within_first n c cs ts))
 
 -- the numbers of candidates are not below that of the first clause

@@ -22,6 +22,9 @@ pub mod GuardStays
 pub mod Renamed
 pub mod OutcomeAnswers
 pub mod VerdictAnswers
+pub mod OutcomeNames
+pub mod VerdictNames
+pub mod NamedWaits
 pub mod Beside
 pub mod VerdictStays
 pub mod RejectsNever

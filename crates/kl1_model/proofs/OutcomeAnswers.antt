@@ -72,7 +72,7 @@ answer_outcome s (Some test) = outcomes_answer (test_substituted s test)
 -- ---- the answer of a test with other numbers for its variables
 
 -- the variables of a test are numbered up to the greatest
-abbrev IsUpTo : ℕ → Test → Type 0
+abbrev pub IsUpTo : ℕ → Test → Type 0
 IsUpTo most holds = Unit {0}
 IsUpTo most (looks i t) = highest t ≤ most
 IsUpTo most (is_same t u) = (highest t ≤ most) × (highest u ≤ most)
@@ -86,7 +86,7 @@ sides_renamed r c (comes_to x) (awaits v) = refl
 sides_renamed r c (comes_to x) is_no_expression = refl
 sides_renamed r c (comes_to x) (comes_to y) = refl
 
-answer_renamed : (r : ℕ → ℕ) (most : ℕ) (test : Test) → IsOneToOne r most → IsUpTo most test → test_answer (test_substituted (λ v. variable (r v)) test) ≡ test_answer test
+pub answer_renamed : (r : ℕ → ℕ) (most : ℕ) (test : Test) → IsOneToOne r most → IsUpTo most test → test_answer (test_substituted (λ v. variable (r v)) test) ≡ test_answer test
 answer_renamed r most holds once few = refl
 answer_renamed r most (looks i (variable v)) once few = refl
 answer_renamed r most (looks i (integer n)) once few = refl
@@ -132,14 +132,14 @@ mutual
       let rest : highest_in (each_substituted first ts) ≤ most = terms_up_to last most first all ts (omega (arith, few)) in
       omega (arith, one, rest)
 
-test_made : (r : ℕ → ℕ) (last most : ℕ) (first second : ℕ → Term) → Renames r last most first second → (test : Test) → IsUpTo last test → test_substituted second test ≡ test_substituted (λ v. variable (r v)) (test_substituted first test)
+pub test_made : (r : ℕ → ℕ) (last most : ℕ) (first second : ℕ → Term) → Renames r last most first second → (test : Test) → IsUpTo last test → test_substituted second test ≡ test_substituted (λ v. variable (r v)) (test_substituted first test)
 test_made r last most first second is holds few = refl
 test_made r last most first second is (looks i t) few = ap (looks i) (term_made r last most first second is t few)
 test_made r last most first second is (is_same t u) few = ap₂ is_same (term_made r last most first second is t few.0) (term_made r last most first second is u few.1)
 test_made r last most first second is (is_other t u) few = ap₂ is_other (term_made r last most first second is t few.0) (term_made r last most first second is u few.1)
 test_made r last most first second is (compares c t u) few = ap₂ (compares c) (term_made r last most first second is t few.0) (term_made r last most first second is u few.1)
 
-test_up_to : (last most : ℕ) (first : ℕ → Term) → ((v : ℕ) → v ≤ last → highest (first v) ≤ most) → (test : Test) → IsUpTo last test → IsUpTo most (test_substituted first test)
+pub test_up_to : (last most : ℕ) (first : ℕ → Term) → ((v : ℕ) → v ≤ last → highest (first v) ≤ most) → (test : Test) → IsUpTo last test → IsUpTo most (test_substituted first test)
 test_up_to last most first all holds few = tt
 test_up_to last most first all (looks i t) few = term_up_to last most first all t few
 test_up_to last most first all (is_same t u) few = (term_up_to last most first all t few.0, term_up_to last most first all u few.1)
@@ -147,7 +147,7 @@ test_up_to last most first all (is_other t u) few = (term_up_to last most first 
 test_up_to last most first all (compares c t u) few = (term_up_to last most first all t few.0, term_up_to last most first all u few.1)
 
 -- the variables of what may be a test
-abbrev MayBeUpTo : ℕ → Option Test → Type 0
+abbrev pub MayBeUpTo : ℕ → Option Test → Type 0
 MayBeUpTo last None = Unit {0}
 MayBeUpTo last (Some test) = IsUpTo last test
 
@@ -174,7 +174,7 @@ two_up_to last false true o a b few less = (few, less)
 two_up_to last false false None a b few less = tt
 two_up_to last false false (Some k) a b few less = (few, less)
 
-read_up_to : (last : ℕ) (t : Term) → highest t ≤ last → MayBeUpTo last (test_of t)
+pub read_up_to : (last : ℕ) (t : Term) → highest t ≤ last → MayBeUpTo last (test_of t)
 read_up_to last (variable v) few = tt
 read_up_to last (integer i) few = tt
 read_up_to last (atom a) few = true_up_to last (bytes_eq a (codes "true"))

@@ -28,7 +28,7 @@ number_by : (r : ℕ → ℕ) (most v w : ℕ) (c : Bool) → v == w ≡ c → I
 number_by r most v w true e once few less = eq-eqb (r v) (r w) (ap r (eqb-true v w e))
 number_by r most v w false e once few less = ne_eqb (r v) (r w) (λ is. eqb-false v w e (once v w few less is))
 
-number_renamed : (r : ℕ → ℕ) (most v w : ℕ) → IsOneToOne r most → v ≤ most → w ≤ most → (r v == r w) ≡ (v == w)
+pub number_renamed : (r : ℕ → ℕ) (most v w : ℕ) → IsOneToOne r most → v ≤ most → w ≤ most → (r v == r w) ≡ (v == w)
 number_renamed r most v w once few less = number_by r most v w (v == w) refl once few less
 
 mutual

@@ -71,16 +71,16 @@ each_answers (p ∷ ps) = answer_both (alike_with p ps) (each_alike ps) ∙ ap�
 
 -- the numbers that variables have in the guard, where a test's own go up to the last: the goal's are what they are in
 -- the goal, and the test's own are above the goal's
-abbrev guard_number : ℕ → ℕ → ℕ → ℕ
+abbrev pub guard_number : ℕ → ℕ → ℕ → ℕ
 guard_number last top v = if nat_le v last then suc (top + v) else v - suc last
 
-own_number : (last top v : ℕ) → v ≤ last → guard_number last top v ≡ suc (top + v)
+pub own_number : (last top v : ℕ) → v ≤ last → guard_number last top v ≡ suc (top + v)
 own_number last top v few = cond-true (nat_le v last) (suc (top + v)) (v - suc last) (le-leb v last few)
 
 above_last : (last v : ℕ) → suc last ≤ v → nat_le v last ≡ false
 above_last last v over = false_from_ne_true (nat_le v last) (λ e. let less = leb-true v last e in omega (arith, less, over))
 
-goal_number : (last top v : ℕ) → suc last ≤ v → guard_number last top v ≡ v - suc last
+pub goal_number : (last top v : ℕ) → suc last ≤ v → guard_number last top v ≡ v - suc last
 goal_number last top v over = cond-false (nat_le v last) (suc (top + v)) (v - suc last) (above_last last v over)
 
 number_once : (last top : ℕ) → IsOneToOne (guard_number last top) (suc (last + top))
@@ -128,7 +128,7 @@ variable_made last top (p ∷ places) v few =
 -- ---- the greatest variable
 
 -- the terms at places have variables up to the greatest
-abbrev AreUpTo : ℕ → List Replacement → Type 0
+abbrev pub AreUpTo : ℕ → List Replacement → Type 0
 AreUpTo top [] = Unit {0}
 AreUpTo top (p ∷ ps) = (highest p.by ≤ top) × AreUpTo top ps
 
@@ -186,7 +186,7 @@ variable_up_to last top [] v a few = omega (arith, few)
 variable_up_to last top (p ∷ places) v a few = variable_up_to_by last top (p.number == v) p.by (test_variable last places v) a.0 (variable_up_to last top places v a.1 few)
 
 -- what stands for the variables of tests differs by their numbers alone
-renames : (last top : ℕ) (places : List Replacement) → AreUpTo top places → Renames (guard_number last top) last (suc (last + top)) (test_variable last places) (guard_term top places)
+pub renames : (last top : ℕ) (places : List Replacement) → AreUpTo top places → Renames (guard_number last top) last (suc (last + top)) (test_variable last places) (guard_term top places)
 renames last top places a =
     record { makes = variable_made last top places; up_to = λ v few. variable_up_to last top places v a few; once = number_once last top }
 
@@ -210,7 +210,7 @@ tests_answered last top places a (t ∷ ts) few =
 -- ---- verdicts
 
 -- the whole outcome of a match and a guard
-abbrev whole : List Term → Matched → Outcome
+abbrev pub whole : List Term → Matched → Outcome
 whole tests m = both (both m.outcome (each_alike m.places)) (guard_outcome m.places tests)
 
 -- and the whole answer
@@ -230,11 +230,17 @@ outcome_in m clashes = refl
 outcome_in m (waits vs) = refl
 
 -- the places that a match reaches
-same_places : (c : Clause) (ts : Terms) → (match_terms c.patterns ts).places ≡ places_of c ts
+pub same_places : (c : Clause) (ts : Terms) → (match_terms c.patterns ts).places ≡ places_of c ts
 same_places c ts = ap (λ (m : Match). m.places) (patterns_answer c.patterns ts)
 
-places_up_to : (c : Clause) (ts : Terms) → AreUpTo (highest_in ts) (match_terms c.patterns ts).places
+pub places_up_to : (c : Clause) (ts : Terms) → AreUpTo (highest_in ts) (match_terms c.patterns ts).places
 places_up_to c ts = subst (λ (ps : List Replacement). AreUpTo (highest_in ts) ps) (sym (same_places c ts)) (matches_up_to (highest_in ts) c.patterns ts (omega arith))
+
+-- the verdict is the answer of the whole outcome
+pub verdict_is_whole : (c : Clause) (ts : Terms) → verdict c ts ≡ answer_of (whole c.tests (match_terms c.patterns ts))
+verdict_is_whole c ts =
+    let m = match_terms c.patterns ts in
+    sym (whole_answered c.tests (highest_in ts) m (places_up_to c ts) ∙ ap (whole_answer c.tests (highest_in ts)) (patterns_answer c.patterns ts))
 
 -- the verdict that names variables has the answer of the one that doesn't
 pub verdicts_answer : VerdictsAnswer
