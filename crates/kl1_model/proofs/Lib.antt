@@ -29,6 +29,7 @@ pub mod Beside
 pub mod VerdictStays
 pub mod RejectsNever
 pub mod VerdictWaits
+pub mod ClauseStays
 pub mod OpenSections
 pub mod TermStays
 pub mod ReadClauses

@@ -1,6 +1,6 @@
 -- The variables that a verdict names are those that its clause waits for, though in its tests they have other numbers.
-use Rattle.std.proofs.Common.{◌≡◌, ℕ, zero, suc, ◌+◌, ◌-◌, ◌≤◌, ◌==◌, ◌&&◌, Bool, true, false, if◌then◌else◌, List, [], ◌∷◌, ◌++◌, map, refl, sym, ap, ap₂, ◌∙◌, subst, arith, append_assoc, inl, inr}
-use Rattle.std.specs.Prelude.{nat_le, filter, Option, Some, None}
+use Rattle.std.proofs.Common.{◌≡◌, ℕ, zero, suc, ◌+◌, ◌-◌, ◌≤◌, ◌==◌, Bool, true, false, if◌then◌else◌, List, [], ◌∷◌, ◌++◌, map, refl, sym, ap, ap₂, ◌∙◌, subst, arith, append_assoc, inl, inr}
+use Rattle.std.specs.Prelude.{nat_le, Option, Some, None}
 use Rattle.std.proofs.lemmas.Bool.{cond-true, cond-false, le-leb, leb-true, false_from_ne_true}
 use Rattle.std.proofs.lemmas.Bool.Decides.{leb_tells}
 use Rattle.std.proofs.lemmas.List.{map-append}
@@ -11,11 +11,10 @@ use Rattle.kl1_model.specs.Meaning.{highest, highest_in}
 use Rattle.kl1_model.specs.Same.{awaited, all_awaited}
 use Rattle.kl1_model.specs.Arithmetic.{Formula, Scan, found, waits_for, wrong_type, with_left, with_right, operator_named, scan, scan_operation, Evaluated, comes_to, awaits, is_no_expression, computed, evaluated}
 use Rattle.kl1_model.specs.Guard.{Answer, yes, no, wait, Test, holds, looks, is_same, is_other, compares, test_of, test_substituted, test_answer}
-use Rattle.kl1_model.specs.Module.{Clause}
-use Rattle.kl1_model.specs.Match.{Match, match_patterns, guard_term, places_of, verdict}
-use Rattle.kl1_model.specs.Outcome.{Outcome, agrees, clashes, waits, both, outcome_by, answer_of, Matched, match_terms, each_alike, test_variable, own_variables, own_outcome, test_outcome, tests_outcome, guard_outcome, awaited_in, Verdict, accepts, rejects, suspends, verdict_with, named_verdict}
+use Rattle.kl1_model.specs.Match.{Match, match_patterns, guard_term, places_of}
+use Rattle.kl1_model.specs.Outcome.{Outcome, agrees, clashes, waits, both, outcome_by, answer_of, Matched, match_terms, each_alike, test_variable, own_variables, own_outcome, test_outcome, tests_outcome, guard_outcome, awaited_in, verdict_with}
 use Rattle.kl1_model.specs.OutcomeLaws.{named_in, VerdictsName}
-use Rattle.kl1_model.specs.Waits.{while_waiting, awaited_by_patterns, awaited_by_each, awaited_by_evaluated, awaited_by_sides, awaited_in_test, awaited_by_test, awaited_by_option, own_of, awaited_by_tests, awaited_by_match, awaited_by_rest, awaited_by_verdict, awaited_by_clause}
+use Rattle.kl1_model.specs.Waits.{while_waiting, awaited_by_patterns, awaited_by_each, awaited_by_evaluated, awaited_by_sides, awaited_in_test, awaited_by_test, awaited_by_option, own_of, awaited_by_tests, awaited_by_match, awaited_by_verdict}
 use Rattle.kl1_model.proofs.Renamed.{renamed, each_renamed, IsOneToOne, number_renamed, evaluated_renamed, comes_renamed}
 use Rattle.kl1_model.proofs.OutcomeAnswers.{IsUpTo, MayBeUpTo, Renames, answer_renamed, test_made, test_up_to, read_up_to}
 use Rattle.kl1_model.proofs.OutcomeNames.{Carries, carries_both, carries_patterns, carries_each, carries_option}
@@ -204,17 +203,17 @@ own_by : (last top v : ℕ) (vs ws : List ℕ) → v ≤ suc (last + top) → vs
 own_by last top v vs ws few e =
     elim (leb_tells v last) [
       | inl a ↦
-        let low = a.1 in
-        let out : nat_le (guard_number last top v) top ≡ false =
-            ap (λ n. nat_le n top) (own_number last top v low) ∙ false_from_ne_true (nat_le (suc (top + v)) top) (λ q. let less = leb-true (suc (top + v)) top q in omega (arith, less)) in
-        ap (λ b. (if b then guard_number last top v ∷ [] else []) ++ vs) out ∙ e ∙ sym (cond-true (nat_le v last) ws ((v - suc last) ∷ ws) a.0)
+          let low = a.1 in
+          let out : nat_le (guard_number last top v) top ≡ false =
+          ap (λ n. nat_le n top) (own_number last top v low) ∙ false_from_ne_true (nat_le (suc (top + v)) top) (λ q. let less = leb-true (suc (top + v)) top q in omega (arith, less)) in
+          ap (λ b. (if b then guard_number last top v ∷ [] else []) ++ vs) out ∙ e ∙ sym (cond-true (nat_le v last) ws ((v - suc last) ∷ ws) a.0)
       | inr b ↦
-        let over = b.1 in
-        let back = goal_number last top v over in
-        let in_goal : nat_le (guard_number last top v) top ≡ true = ap (λ n. nat_le n top) back ∙ le-leb (v - suc last) top (omega (arith, few, over)) in
-        ap (λ b. (if b then guard_number last top v ∷ [] else []) ++ vs) in_goal
-        ∙ ap₂ (λ (n : ℕ) (l : List ℕ). n ∷ l) back e
-        ∙ sym (cond-false (nat_le v last) ws ((v - suc last) ∷ ws) b.0)
+          let over = b.1 in
+          let back = goal_number last top v over in
+          let in_goal : nat_le (guard_number last top v) top ≡ true = ap (λ n. nat_le n top) back ∙ le-leb (v - suc last) top (omega (arith, few, over)) in
+          ap (λ b. (if b then guard_number last top v ∷ [] else []) ++ vs) in_goal
+          ∙ ap₂ (λ (n : ℕ) (l : List ℕ). n ∷ l) back e
+          ∙ sym (cond-false (nat_le v last) ws ((v - suc last) ∷ ws) b.0)
     ]
 
 own_cons : (top v : ℕ) (vs : List ℕ) (c : Bool) → nat_le v top ≡ c → own_of top (v ∷ vs) ≡ own_of top (v ∷ []) ++ own_of top vs
@@ -242,8 +241,8 @@ carries_tests last top places a (t ∷ ts) few =
     let is = renames last top places a in
     let low = read_up_to last t (omega (arith, few)) in
     let own : own_variables last (awaited_by_option first (test_of t)) ≡ own_of top (awaited_by_option (guard_term top places) (test_of t)) =
-        sym (ap (own_of top) (option_renamed (guard_number last top) last (suc (last + top)) first (guard_term top places) is (test_of t) low)
-        ∙ own_same last top (awaited_by_option first (test_of t)) (option_up_to last (suc (last + top)) first is.up_to (test_of t) low)) in
+    sym (ap (own_of top) (option_renamed (guard_number last top) last (suc (last + top)) first (guard_term top places) is (test_of t) low)
+    ∙ own_same last top (awaited_by_option first (test_of t)) (option_up_to last (suc (last + top)) first is.up_to (test_of t) low)) in
     carries_both (test_outcome last places t) (tests_outcome last places ts) (own_of top (awaited_by_option (guard_term top places) (test_of t))) (awaited_by_tests top (guard_term top places) ts)
     (subst (λ (l : List ℕ). Carries (test_outcome last places t) l) own (carries_own last (outcome_by first (test_of t)) (awaited_by_option first (test_of t)) (carries_option first (test_of t))))
     (carries_tests last top places a ts (omega (arith, few)))
@@ -280,10 +279,10 @@ verdicts_name c ts =
     let in_match : Carries m.outcome vm = subst (λ (l : List ℕ). Carries m.outcome l) (sym match_is) (while_carried m.outcome (awaited_by_patterns c.patterns ts) carried) in
     let in_each : Carries (each_alike m.places) each = subst (λ (ps : List Replacement). Carries (each_alike m.places) (awaited_by_each ps)) (same_places c ts) (carries_each m.places) in
     let in_tests : Carries (guard_outcome m.places c.tests) tests =
-        subst (λ (ps : List Replacement). Carries (guard_outcome m.places c.tests) (awaited_by_tests top (guard_term top ps) c.tests)) (same_places c ts)
-        (carries_tests (highest_in (terms_of c.tests)) top m.places (places_up_to c ts) c.tests (omega arith)) in
+    subst (λ (ps : List Replacement). Carries (guard_outcome m.places c.tests) (awaited_by_tests top (guard_term top ps) c.tests)) (same_places c ts)
+    (carries_tests (highest_in (terms_of c.tests)) top m.places (places_up_to c ts) c.tests (omega arith)) in
     let all : Carries (whole c.tests m) (vm ++ (each ++ tests)) =
-        subst (λ (l : List ℕ). Carries (whole c.tests m) l) (append_assoc vm each tests)
-        (carries_both (both m.outcome (each_alike m.places)) (guard_outcome m.places c.tests) (vm ++ each) tests
-        (carries_both m.outcome (each_alike m.places) vm each in_match in_each) in_tests) in
+    subst (λ (l : List ℕ). Carries (whole c.tests m) l) (append_assoc vm each tests)
+    (carries_both (both m.outcome (each_alike m.places)) (guard_outcome m.places c.tests) (vm ++ each) tests
+    (carries_both m.outcome (each_alike m.places) vm each in_match in_each) in_tests) in
     ap (λ a. awaited_by_verdict a vm (each ++ tests)) (verdict_is_whole c ts) ∙ named_by m (whole c.tests m) vm (each ++ tests) first all

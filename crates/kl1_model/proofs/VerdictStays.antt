@@ -5,8 +5,9 @@ use Rattle.std.proofs.lemmas.List.{map-append}
 use Rattle.kl1_model.specs.Term.{Term, variable, integer, atom, structure, Terms, none, more, count_of, substituted, each_substituted, Replacement}
 use Rattle.kl1_model.specs.Module.{Clause}
 use Rattle.kl1_model.specs.Outcome.{Outcome, agrees, clashes, waits, both, Matched, with_outcome, match_both, match_term, match_terms, each_alike, guard_outcome, awaited_in, Verdict, accepts, rejects, suspends, verdict_with, verdict_of, named_verdict}
-use Rattle.kl1_model.specs.Waits.{LeavesEach, least_clause, awaited_by_clauses}
-use Rattle.kl1_model.specs.WaitsLaws.{place_substituted, places_substituted, RejectsStays, AcceptsStays, SuspendsStays, ClausesStay}
+use Rattle.kl1_model.specs.Waits.{LeavesEach}
+use Rattle.kl1_model.specs.WaitsLaws.{place_substituted, places_substituted, ClausesStay}
+use Rattle.kl1_model.specs.OutcomeLaws.{NamedRejectsStays, NamedAcceptsStays, NamedSuspendsStays}
 use Rattle.kl1_model.proofs.Substitutions.{count-each_substituted}
 use Rattle.kl1_model.proofs.SameStays.{left_front, left_back}
 use Rattle.kl1_model.proofs.NamedWaits.{named_least_by, named_least_within, named_least_from, named_after, named_within, named_by_clauses, least_from_named, clauses_named}
@@ -158,8 +159,8 @@ open_stays s c ts clashes e w l =
     ap (verdict_with n) (ap (λ o. both (both o (each_alike n.places)) (guard_outcome n.places c.tests)) k) ∙ ap (λ o. rejects (awaited_in o)) k
 open_stays s c ts (waits vs) e w l = stays_with s c ts clashes w (subst (λ o. Left s o) (sym e) l) tt ∙ ap (λ o. rejects (awaited_in o)) e
 
-pub rejects_stays : RejectsStays
-rejects_stays s c ts vs e l =
+pub named_rejects_stays : NamedRejectsStays
+named_rejects_stays s c ts vs e l =
     let m = match_terms c.patterns ts in
     let w = was_clash m (whole c.tests m) vs e in
     open_stays s c ts m.outcome refl w.0 (subst (λ (x : List ℕ). LeavesEach s x) (sym w.1) l) ∙ ap (λ x. rejects x) w.1
@@ -168,15 +169,15 @@ rejects_stays s c ts vs e l =
 match_left : (s : ℕ → Term) (tests : List Term) (m : Matched) → Left s (whole tests m) → Left s m.outcome
 match_left s tests m l = (left_both s m.outcome (each_alike m.places) (left_both s (both m.outcome (each_alike m.places)) (guard_outcome m.places tests) l).0).0
 
-pub accepts_stays : AcceptsStays
-accepts_stays s c ts places e =
+pub named_accepts_stays : NamedAcceptsStays
+named_accepts_stays s c ts places e =
     let m = match_terms c.patterns ts in
     let w = was_agreed m (whole c.tests m) places e in
     stays_with s c ts agrees w.0 (match_left s c.tests m (subst (λ o. Left s o) (sym w.0) tt)) tt
     ∙ ap (λ (ps : List Replacement). accepts (places_substituted s ps)) w.1
 
-pub suspends_stays : SuspendsStays
-suspends_stays s c ts vs e l =
+pub named_suspends_stays : NamedSuspendsStays
+named_suspends_stays s c ts vs e l =
     let m = match_terms c.patterns ts in
     let w : whole c.tests m ≡ waits vs = was_waiting m (whole c.tests m) vs e in
     stays_with s c ts (waits vs) w (match_left s c.tests m (subst (λ o. Left s o) (sym w) l)) l
@@ -200,9 +201,9 @@ SameVerdict s (suspends vs) w = w ≡ suspends vs
 
 -- a verdict, and what later clauses lead to where it rejects and where it suspends
 verdict_stays : (s : ℕ → Term) (c : Clause) (ts : Terms) (v : Verdict) (rs ws : List ℕ) → named_verdict c ts ≡ v → LeavesEach s (named_after v rs ws) → SameVerdict s v (named_verdict c (each_substituted s ts))
-verdict_stays s c ts (accepts ps) rs ws e l = accepts_stays s c ts ps e
-verdict_stays s c ts (rejects vs) rs ws e l = rejects_stays s c ts vs e (left_front s vs rs l)
-verdict_stays s c ts (suspends vs) rs ws e l = suspends_stays s c ts vs e (left_front s vs ws l)
+verdict_stays s c ts (accepts ps) rs ws e l = named_accepts_stays s c ts ps e
+verdict_stays s c ts (rejects vs) rs ws e l = named_rejects_stays s c ts vs e (left_front s vs rs l)
+verdict_stays s c ts (suspends vs) rs ws e l = named_suspends_stays s c ts vs e (left_front s vs ws l)
 
 least_same : (s : ℕ → Term) (v w : Verdict) (a r x q y : Option ℕ) (rs ws : List ℕ) → SameVerdict s v w → LeavesEach s (named_after v rs ws) → (LeavesEach s rs → q ≡ r) → (LeavesEach s ws → y ≡ x) → named_least_by a q y w ≡ named_least_by a r x v
 least_same s (accepts ps) w a r x q y rs ws e l f g = ap (named_least_by a q y) e

@@ -36,8 +36,8 @@ pub mod Waits
 pub mod Line
 pub mod Record
 pub mod SameLaws
-pub mod OutcomeLaws
 pub mod WaitsLaws
+pub mod OutcomeLaws
 pub mod ScanLaws
 pub mod AccountName
 pub mod TreeLaws

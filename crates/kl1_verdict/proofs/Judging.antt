@@ -9,7 +9,7 @@ use Rattle.kl1_model.specs.Meaning.{highest_in}
 use Rattle.kl1_model.specs.Module.{Clause}
 use Rattle.kl1_model.specs.WaitsLaws.{is_guarded}
 use Rattle.kl1_model.specs.Outcome.{Outcome, agrees, clashes, waits, both, Matched, match_terms, each_alike, tests_outcome, guard_outcome, awaited_in, accepts, suspends, named_verdict, verdict_with}
-use Rattle.kl1_model.proofs.VerdictWaits.{suspends_waits}
+use Rattle.kl1_model.proofs.VerdictWaits.{named_suspends_waits}
 use Rattle.kl1_text.specs.Reading.{Reads}
 use Rattle.kl1_store.specs.declared.cell.Cell.{Cell}
 use Rattle.kl1_store.specs.Held.{Held}
@@ -61,7 +61,7 @@ by_rest c ts = let m = match_terms c.patterns ts in ap (verdict_with m) (both-gr
 accepted_by : (c : Clause) (ts : Terms) (m : Matched) (o : Outcome) → IsTrue (is_guarded c) → named_verdict c ts ≡ verdict_with m o → WaitsFor [] o → named_verdict c ts ≡ accepts m.places
 accepted_by c ts m agrees g v w = v
 accepted_by c ts m clashes g v w = absurd w
-accepted_by c ts m (waits vs) g v w = absurd (suspends_waits c ts g (v ∙ ap suspends (none_same vs w)))
+accepted_by c ts m (waits vs) g v w = absurd (named_suspends_waits c ts g (v ∙ ap suspends (none_same vs w)))
 
 -- and what waits for some is suspended
 suspended_by : (c : Clause) (ts : Terms) (m : Matched) (o : Outcome) (named : List ℕ) → named_verdict c ts ≡ verdict_with m o → (named ≡ [] → ⊥) → WaitsFor named o → (vs : List ℕ) × (AreSame named vs × (named_verdict c ts ≡ suspends vs))
