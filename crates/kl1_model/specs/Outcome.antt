@@ -1,5 +1,5 @@
--- Verdicts that name the variables for which they wait. Match, tests and verdict are those of `Match.antt` and `Guard.antt` once
--- more, with an answer that carries these variables: what a goal waits for is told by them alone.
+-- Verdicts that carry the variables for which they wait: match, tests and verdict once more, as clauses of code and proofs speak of
+-- them. `OutcomeLaws.antt` says that they have the answers of `Match.antt` and the variables of `Waits.antt`.
 use Rattle.std.specs.Prelude.{ℕ, suc, ◌+◌, ◌-◌, ◌==◌, nat_le, ◌&&◌, Bool, if◌then◌else◌, List, [], ◌∷◌, ◌++◌, bytes_eq, Option, Some, None}
 use Rattle.std.specs.Ordering.{int_eq}
 use Rattle.kl1_model.specs.declared.comparison.Comparison.{Comparison}

@@ -27,7 +27,7 @@ least_by accepted rejected suspended yes = accepted
 least_by accepted rejected suspended no = rejected
 least_by accepted rejected suspended wait = suspended
 
--- the least number of a clause whose verdict is yes, among clauses as far as they are of this section, in which one before them waits;
+-- the least number of a clause whose verdict is yes, among clauses as far as they are of this section, in which one before waits;
 -- the first has this number
 abbrev pub least_within : ℕ → ℕ → List Clause → Terms → Option ℕ
 least_within section n [] ts = None
