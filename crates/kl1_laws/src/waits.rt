@@ -1,5 +1,6 @@
 //! Laws of verdicts and of what goals wait for.
 ghost use Rattle.kl1_model.specs.WaitsLaws.{RejectsStays, RejectsNeverAccepts, AcceptsStays, SuspendsStays, SuspendsWaits, CandidatesAreOpen, ClausesStay, HeadStays, TermStays, ControlStays};
+ghost use Rattle.kl1_laws.specs.SectionLaws.{SectionsAreInOrder, CandidatesOfModulesAreOpen, CandidatesOfCallsAreOpen};
 
 /// What a clause says of a goal stays until a variable that it names is replaced. It accepts a goal for good, and rejects it for
 /// good where it names none: while the match waits, a test may reject the goal by a place that isn't the first of its variable,
@@ -13,9 +14,14 @@ pub fn verdicts_wait_for_named_variables()
     ensures waits { SuspendsWaits }
 {}
 
-/// The candidates of a goal are the clauses that accept it and above whose nearest `otherwise` each clause rejects it.
+/// The candidates of a goal are the clauses that accept it and above whose nearest `otherwise` each clause rejects it: of clauses
+/// whose sections are in order; of the clauses of each predicate of a module that was read; and so of each call in each account,
+/// whatever was done to it since it was fresh.
 pub fn candidates_stand_in_an_open_section()
-    ensures { CandidatesAreOpen }
+    ensures clauses { CandidatesAreOpen }
+    ensures sections { SectionsAreInOrder }
+    ensures modules { CandidatesOfModulesAreOpen }
+    ensures calls { CandidatesOfCallsAreOpen }
 {}
 
 /// The clause by which a goal can step, and the variables that it waits for, stay until one of these is replaced; and so does
