@@ -12,9 +12,7 @@ use Rattle.kl1_model.specs.Arithmetic.{Evaluated, comes_to, awaits, is_no_expres
 use Rattle.kl1_model.specs.Unify.{Equation, argument_equations, replace_in_all, solve}
 use Rattle.kl1_model.specs.Goal.{is_execute}
 use Rattle.kl1_model.specs.Module.{Clause, Module}
-use Rattle.kl1_model.specs.Guard.{Outcome, agrees, clashes, waits, both}
-use Rattle.kl1_model.specs.Match.{Matched, with_outcome, match_term, match_terms, each_alike, guard_outcome, Verdict, accepts, rejects, suspends, verdict_with, verdict, Call, call_of, clauses_of, is_rejected, Candidate, candidate_by, candidates_within, candidates_from, candidates_of, fails}
-use Rattle.kl1_model.specs.Instance.{term_at}
+use Rattle.kl1_model.specs.Match.{Answer, yes, no, wait, Match, with_answer, match_pattern, match_patterns, term_at, places_of, verdict, Call, call_of, clauses_of, is_no, Candidate, candidate_by, candidates_within, candidates_from, candidates_of, fails}
 use Rattle.kl1_model.specs.Look.{Spelling, spelled, awaits_code, misspelled, spelling, most_spelled, Look, right, waits_on, wrong, Order, order_look}
 use Rattle.kl1_model.specs.Reduction.{Move, commits, raises, unifies, names, opens, goes, failure, call_move, becomes, assigned, spells, ordered, order_of, order_move, execute_move, pair_move, built_in_move, term_move, equation}
 use Rattle.kl1_laws.proofs.UnifySound.{HoldsInEachCase, holds_of_solution}
@@ -173,12 +171,12 @@ both_places : (P : ℕ → Type 0) (ps qs : List Replacement) → Places P ps �
 both_places P [] qs a b = b
 both_places P (p ∷ ps) qs a b = (a.0, both_places P ps qs a.1 b)
 
-if_places : (c : Bool) (P : ℕ → Type 0) (m n : Matched) → Places P m.places → Places P n.places → Places P (if c then m else n).places
+if_places : (c : Bool) (P : ℕ → Type 0) (m n : Match) → Places P m.places → Places P n.places → Places P (if c then m else n).places
 if_places true P m n a b = a
 if_places false P m n a b = b
 
 mutual
-  matched : (P : ℕ → Type 0) (p t : Term) → Holds P t → Places P (match_term p t).places
+  matched : (P : ℕ → Type 0) (p t : Term) → Holds P t → Places P (match_pattern p t).places
   matched P (variable v) t h = (h, tt)
   matched P (integer i) (variable w) h = tt
   matched P (integer i) (integer j) h = tt
@@ -191,37 +189,22 @@ mutual
   matched P (structure f ps) (variable w) h = tt
   matched P (structure f ps) (integer j) h = tt
   matched P (structure f ps) (atom b) h = tt
-  matched P (structure f ps) (structure g ts) h = if_places (bytes_eq f g && count_of ps == count_of ts) P (match_terms ps ts) (with_outcome clashes) (each_matched P ps ts h) tt
+  matched P (structure f ps) (structure g ts) h = if_places (bytes_eq f g && count_of ps == count_of ts) P (match_patterns ps ts) (with_answer no) (each_matched P ps ts h) tt
 
-  each_matched : (P : ℕ → Type 0) (ps ts : Terms) → HoldsEach P ts → Places P (match_terms ps ts).places
+  each_matched : (P : ℕ → Type 0) (ps ts : Terms) → HoldsEach P ts → Places P (match_patterns ps ts).places
   each_matched P none none h = tt
   each_matched P none (more t ts) h = tt
   each_matched P (more p ps) none h = tt
-  each_matched P (more p ps) (more t ts) h = both_places P (match_term p t).places (match_terms ps ts).places (matched P p t h.0) (each_matched P ps ts h.1)
-
--- a fact holds of the terms at the places of a verdict that accepts
-abbrev IfAccepts : (ℕ → Type 0) → Verdict → Type 0
-IfAccepts P (accepts ps) = Places P ps
-IfAccepts P (rejects vs) = Unit {0}
-IfAccepts P (suspends vs) = Unit {0}
-
-judged : (P : ℕ → Type 0) (m : Matched) (o : Outcome) → Places P m.places → IfAccepts P (verdict_with m o)
-judged P m agrees a = a
-judged P m clashes a = tt
-judged P m (waits vs) a = tt
-
-by_clause : (P : ℕ → Type 0) (c : Clause) (ts : Terms) → HoldsEach P ts → IfAccepts P (verdict c ts)
-by_clause P c ts h =
-    let m = match_terms c.patterns ts in judged P m (both (both m.outcome (each_alike m.places)) (guard_outcome m.places c.tests)) (each_matched P c.patterns ts h)
+  each_matched P (more p ps) (more t ts) h = both_places P (match_pattern p t).places (match_patterns ps ts).places (matched P p t h.0) (each_matched P ps ts h.1)
 
 -- a fact holds of the terms at the places of candidates
 abbrev Candidates : (ℕ → Type 0) → List Candidate → Type 0
 Candidates P ks = AllByRecursion (λ k. Places P k.places) ks
 
-one_candidate : (P : ℕ → Type 0) (n : ℕ) (c : Clause) (v : Verdict) → IfAccepts P v → Candidates P (candidate_by n c v)
-one_candidate P n c (accepts ps) a = (a, tt)
-one_candidate P n c (rejects vs) a = tt
-one_candidate P n c (suspends vs) a = tt
+one_candidate : (P : ℕ → Type 0) (n : ℕ) (c : Clause) (ps : List Replacement) (a : Answer) → Places P ps → Candidates P (candidate_by n c ps a)
+one_candidate P n c ps yes h = (h, tt)
+one_candidate P n c ps no h = tt
+one_candidate P n c ps wait h = tt
 
 both_candidates : (P : ℕ → Type 0) (ks ls : List Candidate) → Candidates P ks → Candidates P ls → Candidates P (ks ++ ls)
 both_candidates P [] ls a b = b
@@ -234,14 +217,14 @@ if_candidates false P ks ls a b = b
 within : (P : ℕ → Type 0) (section n : ℕ) (cs : List Clause) (ts : Terms) → HoldsEach P ts → Candidates P (candidates_within section n cs ts)
 within P section n [] ts h = tt
 within P section n (c ∷ cs) ts h =
-    let here = candidate_by n c (verdict c ts) in
+    let here = candidate_by n c (places_of c ts) (verdict c ts) in
     let later = candidates_within section (suc n) cs ts in
-    if_candidates (c.section == section) P (here ++ later) [] (both_candidates P here later (one_candidate P n c (verdict c ts) (by_clause P c ts h)) (within P section (suc n) cs ts h)) tt
+    if_candidates (c.section == section) P (here ++ later) [] (both_candidates P here later (one_candidate P n c (places_of c ts) (verdict c ts) (each_matched P c.patterns ts h)) (within P section (suc n) cs ts h)) tt
 
 from : (P : ℕ → Type 0) (n : ℕ) (cs : List Clause) (ts : Terms) → HoldsEach P ts → Candidates P (candidates_from n cs ts)
 from P n [] ts h = tt
 from P n (c ∷ cs) ts h =
-    if_candidates (is_rejected (verdict c ts)) P (candidates_from (suc n) cs ts) (candidates_within c.section n (c ∷ cs) ts) (from P (suc n) cs ts h) (within P c.section n (c ∷ cs) ts h)
+    if_candidates (is_no (verdict c ts)) P (candidates_from (suc n) cs ts) (candidates_within c.section n (c ∷ cs) ts) (from P (suc n) cs ts h) (within P c.section n (c ∷ cs) ts h)
 
 -- ---- moves
 

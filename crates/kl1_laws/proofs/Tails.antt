@@ -11,8 +11,8 @@ use Rattle.kl1_model.specs.Meaning.{nil, cell, highest, highest_in, is_numbered,
 use Rattle.kl1_model.specs.Goal.{is_goal}
 use Rattle.kl1_model.specs.Unify.{solve}
 use Rattle.kl1_model.specs.Module.{goals_of}
-use Rattle.kl1_model.specs.Match.{Candidate, call_of}
-use Rattle.kl1_model.specs.Instance.{head_variables, fresh_variables, term_at, body_variable, body_instance, body_priorities}
+use Rattle.kl1_model.specs.Match.{Candidate, call_of, term_at}
+use Rattle.kl1_model.specs.Instance.{head_variables, fresh_variables, body_variable, body_instance, body_priorities}
 use Rattle.kl1_model.specs.Control.{message_term, Control, control_of}
 use Rattle.kl1_model.specs.State.{Task, monitor, reduces, Goal, Origin, Shoen, State, goal_at, shoen_at, replace_in_task, replace_in_goal, replace_in_origin, replace_in_shoen, without_goal, with_name}
 use Rattle.kl1_model.specs.Tree.{charge}
