@@ -33,7 +33,7 @@ pub data Move : Type 0 where
   opens : Order → Move
   goes : Move
 
--- what a call can do by the clause of a number: commit to a candidate, or by 0 fail where each clause rejects it
+-- what a call can do by the clause numbered `clause`: commit to a candidate, or by 0 fail if each clause rejects it
 abbrev pub call_move : List Module → Call → ℕ → Option Move
 call_move modules call clause =
     if clause == 0 then (if fails modules call then Some (raises failure) else None)
@@ -73,7 +73,7 @@ abbrev pub order_move : Option Order → Option Move
 order_move None = None
 order_move (Some o) = ordered o (order_look o)
 
--- what a goal of the module of a name does, where it is `shoen:execute` with six arguments
+-- what a goal does after the name of a module, if the goal is `shoen:execute` with six arguments
 abbrev pub execute_move : Term → Term → Option Move
 execute_move (atom m) b = if is_execute m b then order_move (order_of b) else None
 execute_move a b = None
@@ -93,7 +93,7 @@ built_in_move (atom a) = if bytes_eq a (codes "true") then Some goes else None
 built_in_move (structure f (more a (more b none))) = pair_move f a b
 built_in_move t = None
 
--- what a term can do by the clause of a number; a built-in goal takes 0 alone
+-- what a term can do by the clause numbered `clause`; a built-in goal takes 0 alone
 abbrev pub term_move : List Module → Term → ℕ → Option Call → Option Move
 term_move modules t clause None = if clause == 0 then built_in_move t else None
 term_move modules t clause (Some call) = call_move modules call clause
@@ -103,7 +103,7 @@ pub data Action : Type 0 where
   moves : Term → Move → Action
   reads : Control → Action
 
--- what a monitor reads, where it doesn't wait
+-- what a monitor reads, if it doesn't wait
 abbrev pub read_action : Control → Option Action
 read_action (awaits_message v) = None
 read_action (tells m rest) = Some (reads (tells m rest))
@@ -116,12 +116,12 @@ abbrev pub monitor_action : Option Shoen → ℕ → Option Action
 monitor_action None clause = None
 monitor_action (Some h) clause = if clause == 0 then read_action (control_of h.control) else None
 
--- what a goal of a shoen can do by its task and the clause of a number
+-- what a goal of shoen `shoen` can do by its task and the clause numbered `clause`
 abbrev pub task_action : State → ℕ → Task → ℕ → Option Action
 task_action s shoen monitor clause = monitor_action (shoen_at shoen s.shoens) clause
 task_action s shoen (reduces t) clause = option_map (moves t) (term_move s.modules t clause (call_of t))
 
--- what a goal can do by the clause of a number, or nothing where that isn't allowed
+-- what a goal can do by the clause numbered `clause`, or nothing if that isn't allowed
 abbrev pub action_of : State → Goal → ℕ → Option Action
 action_of s g clause = if is_enabled s g then task_action s g.shoen g.task clause else None
 
@@ -168,7 +168,7 @@ abbrev pub or_exhaustion : Bool → ℕ → Term → State → State → State
 or_exhaustion true n goal after s = after
 or_exhaustion false n goal after s = report n (exception exhaustion goal) s
 
--- a text used as a name, which stays used where the unification with a term fails
+-- a text used as a name, which stays used even if the unification with a term fails
 abbrev pub named_by : ℕ → Term → List ℕ → Term → State → State
 named_by n goal text a s = unified n goal (solve (equation a (atom text))) (record s { names = with_name s.names text })
 
@@ -181,12 +181,12 @@ moved g t (names text a) s = or_exhaustion (nat_le (length (with_name s.names te
 moved g t (opens o) s = or_exhaustion (has_room_for_child s g.shoen) g.shoen t (open_child s g.shoen o) s
 moved g t goes s = s
 
--- a shoen stopped, and a report of it where it wasn't
+-- a shoen stopped, and a report of it if it wasn't
 abbrev pub stopped_of : Option Shoen → ℕ → State → State
 stopped_of None n s = s
 stopped_of (Some h) n s = if h.is_stopped then s else report n stopped_report (change_shoen n (λ h. record h { is_stopped = true }) s)
 
--- a shoen stopped no longer, and a report of it where it was
+-- a shoen stopped no longer, and a report of it if it was
 abbrev pub resumed_of : Option Shoen → ℕ → State → State
 resumed_of None n s = s
 resumed_of (Some h) n s = if h.is_stopped then report n resumed_report (change_shoen n (λ h. record h { is_stopped = false }) s) else s
@@ -220,7 +220,7 @@ abbrev pub acted : Goal → Action → State → State
 acted g (moves t m) s = settle_charged g.shoen (moved g t m (charge g.shoen (without_goal g.number s)))
 acted g (reads c) s = settle g.shoen (heard g.shoen c s)
 
--- a reduction, where it is allowed
+-- a reduction, if it is allowed
 abbrev pub reduced_by : State → Goal → Option Action → Stepped
 reduced_by s g None = refuse s step_refused
 reduced_by s g (Some a) = recorded s (record { state = acted g a (with_entry s); reply = reduced })
