@@ -107,7 +107,7 @@ exhausted_or false k goal after s e = report_has k (exception exhaustion goal) s
 abbrev pub IsNamed : State → Type 0
 IsNamed s = AreNames s.names
 
--- the same names
+-- an account with the names of one that is named is named
 pub same_names : (s t : State) → t.names ≡ s.names → IsNamed s → IsNamed t
 same_names s t e h = subst AreNames (sym e) h
 
@@ -115,7 +115,7 @@ named_or : (c : Bool) (k : ℕ) (goal : Term) (after s : State) → (c ≡ true 
 named_or true k goal after s go h = go refl
 named_or false k goal after s go h = same_names s (report k (exception exhaustion goal) s) (report_has k (exception exhaustion goal) s) h
 
--- a name more, where there is room for it
+-- a name more, if there is room for it
 text_named : (g : Goal) (t : Term) (text : List ℕ) (a : Term) (s : State) → is_text text ≡ true → IsNamed s → nat_le (length (with_name s.names text)) most_names ≡ true → IsNamed (named_by g.shoen t text a s)
 text_named g t text a s fine h room =
     let u = record s { names = with_name s.names text } in

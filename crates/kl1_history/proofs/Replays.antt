@@ -71,7 +71,7 @@ names_stay s login = named_or (nat_lt s.sessions most_sessions) s s sessions_ref
 names_stay s logout = named_or (nat_lt 0 s.sessions) s s sessions_refused (record { state = record s { sessions = s.sessions - 1 }; reply = bye }) refl
 names_stay s reset = refl
 
--- an account by its journal, where the name is told apart
+-- an account by its journal, with the name told apart
 record Replays (name : List ℕ) (j : Journal) (s : State) : Type 0 where
   is : replay name j ≡ s
   sessions : j.sessions ≡ s.sessions

@@ -66,7 +66,7 @@ NamesText (unifies a b) = Unit {0}
 NamesText (opens o) = Unit {0}
 NamesText goes = Unit {0}
 
--- the same of a move that may be there
+-- what a move names is a text, if there is a move
 abbrev MayName : Option Move → Type 0
 MayName None = Unit {0}
 MayName (Some m) = NamesText m
@@ -138,12 +138,12 @@ term_names : (modules : List Module) (t : Term) (clause : ℕ) (o : Option Call)
 term_names modules t clause None = either_names (clause == 0) (built_in_move t) None (built_in_names t) tt
 term_names modules t clause (Some call) = call_names modules call clause
 
--- the same of an action
+-- what an action names is a text
 abbrev pub ActionText : Action → Type 0
 ActionText (moves t m) = NamesText m
 ActionText (reads c) = Unit {0}
 
--- the same of an action that may be there
+-- what an action names is a text, if there is an action
 abbrev pub MayAct : Option Action → Type 0
 MayAct None = Unit {0}
 MayAct (Some a) = ActionText a

@@ -37,7 +37,7 @@ pub fn journals_stay_written()
 {}
 
 /// For the text of an account's journal there are written the replies to its entries, and then how many they are: the entries of such a
-/// journal are all accepted where it is replayed, and stay so through each event.
+/// journal are all accepted if it is replayed, and stay so through each event.
 pub fn replays_tell_replies()
     ensures replies { RepliesOfReplays }
     ensures fresh { FreshIsReplayable }
