@@ -2,7 +2,7 @@
 ghost use Rattle.kl1_laws.specs.ArithmeticLaws.{RemaindersAreLeft, RemaindersAreSmall, RemaindersKeepSigns};
 ghost use Rattle.kl1_model.specs.ScanLaws.{ScanFinds};
 
-/// A scan finds an expression in a term exactly where the term writes it, with one operator fewer left for each that it has.
+/// A scan finds an expression in a term exactly if the term writes it, with one operator fewer left for each that it has.
 pub fn scans_find_expressions()
     ensures { ScanFinds }
 {}

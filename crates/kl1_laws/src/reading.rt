@@ -16,7 +16,7 @@ pub fn reader_reads_the_grammar()
 {}
 
 /// The tokens of a text need no count of steps: each front leaves less of the text, more steps than bytes give the same
-/// tokens, and so the tokens are what the front makes of those behind it.
+/// tokens, and so the tokens are what the front makes of those after it.
 pub fn tokens_go_on()
     ensures less { FrontsLeaveLess }
     ensures enough { StepsAreEnough }
@@ -47,7 +47,7 @@ pub fn printed_goal_reads_back()
 {}
 
 /// A goal that was read has its variables numbered by first occurrence, so it can be read from its print; a text is of the
-/// strict form exactly where it is such a print.
+/// strict form exactly if it is such a print.
 pub fn strict_texts_are_prints()
     ensures read { GoalsReadArePrintable }
     ensures strict { StrictTextsArePrints }

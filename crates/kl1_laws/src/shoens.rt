@@ -5,8 +5,8 @@ ghost use Rattle.kl1_laws.specs.ControlLaws.{ControlTailsAreUnbound, ControlStre
 ghost use Rattle.kl1_laws.specs.EndingLaws.{EndingAreDue, DueTerminate, DueTerminateAlone, NoneIsLeftDue, NoneIsLeftDueAlone, LivingHaveGoals};
 ghost use Rattle.kl1_laws.specs.GoalLaws.{GoalsAreFew};
 
-/// The path of a shoen is that shoen and then the path of its parent: by its place, where parents have lesser numbers, and by its
-/// number, where shoens are a tree. They are one in a fresh account, and after each event.
+/// The path of a shoen is that shoen and then the path of its parent: by its place, if parents have lesser numbers, and by its
+/// number, if shoens are a tree. They are one in a fresh account, and after each event.
 pub fn paths_go_on()
     ensures paths { PathsGoOn }
     ensures parents { PathsFollowParents }

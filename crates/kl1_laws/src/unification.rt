@@ -44,7 +44,7 @@ pub fn replacements_are_orderly()
     ensures numbers { SolutionsKeepNumbers }
 {}
 
-/// There is no solution just where no terms in place of the variables make both sides of each equation equal.
+/// There is no solution just if no terms in place of the variables make both sides of each equation equal.
 pub fn failures_have_no_unifier()
     ensures substitutions { FailureLeavesNone }
     ensures replacements { FailureLeavesNoReplacements }

@@ -3,9 +3,9 @@ ghost use Rattle.kl1_model.specs.WaitsLaws.{RejectsStays, RejectsNeverAccepts, A
 ghost use Rattle.kl1_laws.specs.SectionLaws.{SectionsAreInOrder, CandidatesOfModulesAreOpen, CandidatesOfCallsAreOpen};
 
 /// What a clause says of a goal stays until a variable that it names is replaced. It accepts a goal for good, and rejects it for
-/// good where it names none: while the match waits, a test may reject the goal by a place that isn't the first of its variable,
+/// good if it names none: while the match waits, a test may reject the goal by a place that isn't the first of its variable,
 /// and then the match's variables are named, since the clause may come to suspend. One that rejects never comes to accept. A
-/// clause that suspends names a variable, where its guard has variables of the head alone.
+/// clause that suspends names a variable, if its guard has variables of the head alone.
 pub fn verdicts_wait_for_named_variables()
     ensures rejects { RejectsStays }
     ensures never { RejectsNeverAccepts }
