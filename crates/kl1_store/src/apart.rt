@@ -70,7 +70,7 @@ pub fn is_apart<N: NameValue>(
     }
 }
 
-/// The same of a structure: it lies above the variable, or beside it with few plain arguments.
+/// Whether a structure is apart from a variable: it lies above it, or beside it with few plain arguments.
 fn is_apart_from<N: NameValue>(
     cells: &Cells<N>,
     levels: &Levels,

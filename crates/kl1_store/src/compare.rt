@@ -27,7 +27,7 @@ fn wait_for(waits: &mut Vec<u32>, variable: u32) -> Result<bool, AllocError>
     Ok(true)
 }
 
-/// Looks at two cells that stand for themselves: false where they clash at once.
+/// Looks at two cells that stand for themselves: false if they clash at once.
 fn compare_sides<N: NameValue>(
     cells: &Cells<N>,
     frames: &mut Vec<Frame>,
@@ -82,7 +82,7 @@ fn is_known<N: Copy>(pairs: &HashSet<[u32; 2]>, left: Cell<N>, right: Cell<N>) -
     false
 }
 
-/// Compares two cells: false where they clash; `waits` gets the variables for which they wait, and `frames` is scratch.
+/// Compares two cells: false if they clash; `waits` gets the variables for which they wait, and `frames` is scratch.
 pub fn compare<N: NameValue>(
     cells: &Cells<N>,
     frames: &mut Vec<Frame>,
