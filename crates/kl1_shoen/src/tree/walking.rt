@@ -10,7 +10,7 @@ use kl1_text::NameValue;
 use std::alloc::AllocError;
 
 impl<N: NameValue> ShoenTree<N> {
-    /// How deep a shoen is: 1 where the console started it, and 0 at the number 0.
+    /// How deep a shoen is: 1 if the console started it, and 0 at the number 0.
     pub fn depth(&self, number: u64) -> u64
         ensures value { result ≡ length (path_in self.now.shoens number) }
     {
@@ -41,7 +41,7 @@ impl<N: NameValue> ShoenTree<N> {
         self.shoens.has_living_child(number)
     }
 
-    /// Whether each shoen is that of a number, or below it, in order of number.
+    /// Whether each shoen is shoen `number`, or below it, in order of number.
     pub fn below(&self, number: u64, out: &mut Vec<bool>) -> Result<(), AllocError>
         ensures { OnOk result (out.new.items ≡ map (λ h. is_on_path_in self.now.shoens number h.number) self.now.shoens) }
     {
