@@ -40,7 +40,7 @@ pub(crate) fn span_of<N: NameValue>(store: &Store<N>, goal: Cell<N>) -> Span
     }
 }
 
-/// Whether a cell is left; where one is, it is the next of `span` then.
+/// Whether a cell is left; if one is, it is the next of `span` then.
 #[inline]
 pub(crate) fn is_left<N: NameValue>(
     store: &Store<N>,
