@@ -35,7 +35,7 @@ pub fn next_share(tally: &Tally, shares: &mut Vec<ShareSeat>) -> ShareSeat
     share
 }
 
-/// Puts a book of a tally behind others.
+/// Puts a book of a tally after others.
 pub fn give_book(tally: &Tally, books: &mut Vec<BookSeat>, book: BookSeat) -> Result<(), AllocError>
     requires all { All (λ book. book.tally ≡ tally.now.id) books.old.items }
     requires of { book.tally ≡ tally.now.id }
@@ -47,7 +47,7 @@ pub fn give_book(tally: &Tally, books: &mut Vec<BookSeat>, book: BookSeat) -> Re
     Ok(())
 }
 
-/// Puts a share of a tally behind others.
+/// Puts a share of a tally after others.
 pub fn give_share(
     tally: &Tally,
     shares: &mut Vec<ShareSeat>,
@@ -63,7 +63,7 @@ pub fn give_share(
     Ok(())
 }
 
-/// Counts so many events of a book's account; every second is a step, from the first on.
+/// Counts `events` events of a book's account; every second is a step, from the first on.
 pub fn count(tally: &Tally, book: &mut BookSeat, share: &mut ShareSeat, events: u32)
     requires book { book.old.tally ≡ tally.now.id }
     requires share { share.old.tally ≡ tally.now.id }
