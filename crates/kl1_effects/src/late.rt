@@ -27,7 +27,7 @@ use kl1_store::{Cell, Store};
 use kl1_text::CellName;
 use std::alloc::AllocError;
 
-/// Whether the shoen of a number has an unbroken report stream whose tail is the variable of a number.
+/// Whether shoen `number` has an unbroken report stream whose tail is the variable `variable`.
 fn is_tail(
     store: &Store<CellName>,
     shoens: &ShoenTree<CellName>,
@@ -52,7 +52,7 @@ fn is_tail(
     }
 }
 
-/// Breaks the report stream of the shoen of a number, where its tail is the variable that becomes a name.
+/// Breaks the report stream of shoen `number`, if its tail is the variable that becomes a name.
 fn break_late(
     store: &Store<CellName>,
     shoens: &mut ShoenTree<CellName>,
@@ -73,7 +73,7 @@ fn break_late(
     Ok(())
 }
 
-/// A report, which is a name of the language, of the shoen of a number, where a variable becomes a name at the end. Where memory is
+/// A report, which is a name of the language, of shoen `number`, if a variable becomes a name at the end. If memory is
 /// refused, the store may have grown.
 fn report_name_late(
     store: &mut Store<CellName>,
@@ -100,7 +100,8 @@ fn report_name_late(
     report_name(store, shoens, draft, number, name)
 }
 
-/// The same report of each of these shoens, in order. Where memory is refused, the store may have grown.
+/// A report of each of these shoens, in order, if a variable becomes a name at the end. If memory is refused, the store may have
+/// grown.
 fn report_each_late(
     store: &mut Store<CellName>,
     shoens: &mut ShoenTree<CellName>,
@@ -128,7 +129,7 @@ fn report_each_late(
     Ok(())
 }
 
-/// Ends the report stream of the shoen of a number, where a variable becomes a name at the end. Where memory is refused, the store
+/// Ends the report stream of shoen `number`, if a variable becomes a name at the end. If memory is refused, the store
 /// holds what it held.
 fn close_late(
     store: &mut Store<CellName>,
@@ -151,7 +152,7 @@ fn close_late(
     close(store, shoens, number)
 }
 
-/// Does what is left of a termination where the shoen's life has ended, where a variable becomes a name at the end. Where memory is
+/// Does what is left of a termination after the shoen's life has ended, if a variable becomes a name at the end. If memory is
 /// refused, the store may have grown.
 fn finish_late(
     store: &mut Store<CellName>,
@@ -179,7 +180,7 @@ fn finish_late(
     close_late(store, shoens, number, variable)
 }
 
-/// The same of each of these shoens, in order.
+/// Does what is left of the terminations of these shoens, in order, if a variable becomes a name at the end.
 fn finish_each_late(
     store: &mut Store<CellName>,
     shoens: &mut ShoenTree<CellName>,
@@ -207,8 +208,8 @@ fn finish_each_late(
     Ok(())
 }
 
-/// What comes after the effects of a reduction in a shoen, where a variable becomes a name at the end: reports of shoens that were
-/// charged what they may be, and terminations. Where memory is refused, the store may have grown.
+/// What comes after the effects of a reduction in a shoen, if a variable becomes a name at the end: reports of shoens that were
+/// charged what they may be, and terminations. If memory is refused, the store may have grown.
 pub fn settle_late(
     store: &mut Store<CellName>,
     goals: &GoalTable<CellName>,

@@ -29,9 +29,9 @@ pub fn has_room(names: &AccountNames, text: &AtomText) -> bool
     }
 }
 
-/// Uses a text as a name, and unifies a term with it, for a goal of the shoen of a number, which is this cell. Where this would be
-/// a name too many, the goal raises an exception. Where the name is new to the account, the draft has it, and the term is none that
-/// can become it. Where memory is refused, the store may have grown, and the draft is of no use.
+/// Uses a text as a name, and unifies a term with it, for a goal of shoen `number`, which is this cell. If this would be
+/// a name too many, the goal raises an exception. If the name is new to the account, the draft has it, and the term is none that
+/// can become it. If memory is refused, the store may have grown, and the draft is of no use.
 pub fn name_term(
     store: &mut Store<CellName>,
     shoens: &mut ShoenTree<CellName>,

@@ -21,7 +21,7 @@ use kl1_stream::Control;
 use kl1_text::CellName;
 use std::alloc::AllocError;
 
-/// Stops a shoen, and reports that, where it wasn't stopped. Where memory is refused, the store may have grown.
+/// Stops a shoen, and reports that, if it wasn't stopped. If memory is refused, the store may have grown.
 fn stop(
     store: &mut Store<CellName>,
     shoens: &mut ShoenTree<CellName>,
@@ -52,7 +52,7 @@ fn stop(
     report_name(store, shoens, draft, number, BuiltIn::Stopped)
 }
 
-/// Lets a shoen go on, and reports that, where it was stopped. Where memory is refused, the store may have grown.
+/// Lets a shoen go on, and reports that, if it was stopped. If memory is refused, the store may have grown.
 fn resume(
     store: &mut Store<CellName>,
     shoens: &mut ShoenTree<CellName>,
@@ -84,7 +84,7 @@ fn resume(
 }
 
 /// Ends a shoen and all below it as aborted; it alone reports that, and its stream is closed. No shoen of the draft may have ended
-/// before. Where memory is refused, the store may have grown.
+/// before. If memory is refused, the store may have grown.
 fn abort(
     store: &mut Store<CellName>,
     shoens: &mut ShoenTree<CellName>,
@@ -134,7 +134,7 @@ fn allow(
     shoens.allow(number, extra)
 }
 
-/// Does what a message says to a shoen. No shoen of the draft may have ended before. Where memory is refused, the store may have
+/// Does what a message says to a shoen. No shoen of the draft may have ended before. If memory is refused, the store may have
 /// grown.
 pub fn obey(
     store: &mut Store<CellName>,
@@ -175,7 +175,7 @@ fn let_go(draft: &mut Draft, number: u64) -> Result<(), AllocError>
     Ok(())
 }
 
-/// Does what the monitor of a shoen reads. No shoen of the draft may have ended before. Where memory is refused, the store may have
+/// Does what the monitor of a shoen reads. No shoen of the draft may have ended before. If memory is refused, the store may have
 /// grown.
 pub fn hear(
     store: &mut Store<CellName>,

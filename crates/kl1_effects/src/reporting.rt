@@ -25,7 +25,7 @@ use kl1_stream::{Told, append_report, close_report, exception_of};
 use kl1_text::{CellName, NameValue};
 use std::alloc::AllocError;
 
-/// A report of the shoen of a number. Where memory is refused, the store may have grown.
+/// A report of shoen `number`. If memory is refused, the store may have grown.
 pub fn report(
     store: &mut Store<CellName>,
     shoens: &mut ShoenTree<CellName>,
@@ -61,7 +61,7 @@ pub fn report(
     }
 }
 
-/// The same report, of a name of the language, of each of these shoens, in order. Where memory is refused, the store may have grown.
+/// A report, which is a name of the language, of each of these shoens, in order. If memory is refused, the store may have grown.
 pub fn report_each(
     store: &mut Store<CellName>,
     shoens: &mut ShoenTree<CellName>,
@@ -86,7 +86,7 @@ pub fn report_each(
     Ok(())
 }
 
-/// A report, which is a name of the language, of the shoen of a number. Where memory is refused, the store may have grown.
+/// A report, which is a name of the language, of shoen `number`. If memory is refused, the store may have grown.
 pub fn report_name(
     store: &mut Store<CellName>,
     shoens: &mut ShoenTree<CellName>,
@@ -108,7 +108,7 @@ pub fn report_name(
     report(store, shoens, draft, number, Cell::Atom(CellName::of(name)))
 }
 
-/// The cell of a whole goal. Where memory is refused, the store holds what it held.
+/// The cell of a whole goal. If memory is refused, the store holds what it held.
 fn whole(
     store: &mut Store<CellName>,
     goal: Qualified<CellName>,
@@ -129,7 +129,7 @@ fn whole(
     }
 }
 
-/// Reports that a goal of the shoen of a number raised an exception of the kind of a name. Where memory is refused, the store may
+/// Reports that a goal of shoen `number` raised an exception of the kind of a name. If memory is refused, the store may
 /// have grown.
 pub fn raise(
     store: &mut Store<CellName>,
@@ -154,7 +154,7 @@ pub fn raise(
     raise_whole(store, shoens, draft, number, kind, cell)
 }
 
-/// The same of a whole goal, or of any term.
+/// Reports an exception as `raise` does, of a whole goal or of any term.
 pub fn raise_whole(
     store: &mut Store<CellName>,
     shoens: &mut ShoenTree<CellName>,
@@ -178,7 +178,7 @@ pub fn raise_whole(
     report(store, shoens, draft, number, message)
 }
 
-/// Unifies two terms for a goal of the shoen of a number, or reports that it failed. Where memory is refused, the store may have grown.
+/// Unifies two terms for a goal of shoen `number`, or reports that it failed. If memory is refused, the store may have grown.
 pub fn unify(
     store: &mut Store<CellName>,
     shoens: &mut ShoenTree<CellName>,
@@ -207,7 +207,7 @@ pub fn unify(
     }
 }
 
-/// Ends the report stream of the shoen of a number. Where memory is refused, the store holds what it held.
+/// Ends the report stream of shoen `number`. If memory is refused, the store holds what it held.
 pub fn close(
     store: &mut Store<CellName>,
     shoens: &ShoenTree<CellName>,
