@@ -27,7 +27,7 @@ use kl1_text::CellName;
 use std::alloc::AllocError;
 
 /// A goal that a draft removes, which is this cell, makes a move: its shoen is charged, the move is done, and after that
-/// shoens report that they are exhausted, and terminate. So many goals are there without it. Where memory is refused, the store and the
+/// shoens report that they are exhausted, and terminate. `alive` counts the goals without it. If memory is refused, the store and the
 /// tree may have changed, and the draft is of no use.
 pub fn act(
     store: &mut Store<CellName>,
@@ -75,7 +75,7 @@ pub fn act(
     settle_charged(store, goals, shoens, draft, walk, goal.shoen)
 }
 
-/// The monitor of a shoen reads this, and after that shoens terminate; nobody is charged. Where memory is refused, the store and the tree
+/// The monitor of a shoen reads this, and after that shoens terminate; nobody is charged. If memory is refused, the store and the tree
 /// may have changed, and the draft is of no use.
 pub fn read(
     store: &mut Store<CellName>,
