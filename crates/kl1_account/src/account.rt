@@ -122,7 +122,7 @@ impl<C: CodeSource> Account<C> {
         }
     }
 
-    /// Reduces the goal of a number by the clause of a number, or says why it is refused.
+    /// Reduces goal `number` by the clause numbered `clause`, or says why it is refused.
     pub fn reduce<A: AtomSource>(
         &mut self,
         names: &mut A,
@@ -194,7 +194,7 @@ impl<C: CodeSource> Account<C> {
         Ok(None)
     }
 
-    /// Sends a message to the shoen of a number, which the console started.
+    /// Sends a message to shoen `number`, which the console started.
     pub fn send(&mut self, codes: &C, number: u64, message: Message) -> Result<Reply, AllocError>
         requires { ArePlaced (C.has codes.now) self.old.modules }
         ensures step { IfOk result (λ reply. (f : Reading) → Fits self.old.names f → step (state_of f self.old) (control number message) ≡ record { state = state_of f self.new; reply = reply_of reply }) }
@@ -369,14 +369,14 @@ impl<C: CodeSource> Account<C> {
         Ok(Reply::Opened(ShoenNo(shoen)))
     }
 
-    /// The state of the shoen of a number, with what it was charged, its allowance, and how many goals there are in it and below it.
+    /// The state of shoen `number`, with what it was charged, its allowance, and how many goals there are in it and below it.
     pub fn status(&self, number: u64) -> Result<Reply, AllocError>
         ensures step { IfOk result (λ reply. (f : Reading) → Fits self.now.names f → step (state_of f self.now) (read (status number)) ≡ record { state = state_of f self.now; reply = reply_of reply }) }
     {
         status_of(self.alloc, &self.shoens, &self.goals, number)
     }
 
-    /// The reports of the shoen of a number, which the console started, from one on, the first being 1: at most 64, each printed and cut.
+    /// The reports of shoen `number`, which the console started, from one on, the first being 1: at most 64, each printed and cut.
     pub fn reports<A: AtomSource>(
         &self,
         names: &mut A,
@@ -409,7 +409,7 @@ impl<C: CodeSource> Account<C> {
         modules_of(self.alloc, &CodedModules::over(&self.modules, codes))
     }
 
-    /// The goal of the shoen of a number, as started, with what is bound now.
+    /// The goal of shoen `number`, as started, with what is bound now.
     pub fn value<A: AtomSource>(
         &self,
         names: &mut A,
@@ -441,7 +441,7 @@ impl<C: CodeSource> Account<C> {
         }
     }
 
-    /// The goal of the shoen of a number, as started, with what is bound now, without the cut of a reply; `None` where the
+    /// The goal of shoen `number`, as started, with what is bound now, without the cut of a reply; `None` if the
     /// console started no shoen of this number.
     pub fn whole_value<A: AtomSource>(
         &self,

@@ -47,9 +47,9 @@ fn link(
     Ok(Cell::Structure(structure))
 }
 
-/// The streams of a shoen that opens, in an account that made so many reports, and that reports that it has started, and, where its
+/// The streams of a shoen that opens, in an account that made `made` reports, and that reports that it has started, and, if its
 /// allowance is 0, that it is exhausted. Of their variables some take only a number: the cells of what is reported are there at
-/// once. Where memory is refused, the store may have grown.
+/// once. If memory is refused, the store may have grown.
 pub(crate) fn open_streams(
     store: &mut Store<CellName>,
     allowance: u64,
