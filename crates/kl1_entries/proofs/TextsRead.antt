@@ -57,7 +57,7 @@ pub no_name : (sessions : ℕ) (names : List (List ℕ)) (m n : ℕ) (text line 
 unfolding after_by
 no_name sessions names m n text line after count is read = name_line_read sessions names m n text line after None count is read ∙ neither (length (lines_of after).rest == 0)
 
--- no line, where names follow
+-- no line, if names follow
 pub no_line : (sessions : ℕ) (names : List (List ℕ)) (m n : ℕ) (text : List ℕ) → m ≡ suc n → lines_of text ≡ record { whole = []; rest = text } → read_after sessions names m text ≡ None
 no_line sessions names m n text count is =
     ap (λ (k : ℕ). read_after sessions names k text) count

@@ -17,7 +17,7 @@ pub struct Heading {
     pub names: u64,
 }
 
-/// Puts bytes behind others.
+/// Puts bytes after others.
 fn put_short(out: &mut ShortBytes, bytes: &[u8])
     requires { length out.old + length bytes.now ≤ 128 }
     ensures { out.new ≡ out.old ++ bytes.now }
