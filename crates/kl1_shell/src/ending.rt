@@ -7,7 +7,7 @@ pub enum Ending {
     Terminated,
     /// It terminated, and reported exceptions.
     Raised,
-    /// No goal can step, and so many in it and below it wait for ever.
+    /// No goal can step, and this many in it and below it wait for ever.
     Waits(u64),
     /// It was charged all of its allowance.
     Exhausted,
