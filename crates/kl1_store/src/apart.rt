@@ -58,6 +58,7 @@ pub fn is_apart<N: NameValue>(
     requires levels { AreLevels cells.now.held levels.now }
     ensures { IsTrue result → FindsAs cells.now.held levels.now variable value false }
 {
+    // Only for the proof: what the cells hold is formed.
     let _ = cells.mark();
     match value {
         Cell::Variable(other) => {
@@ -81,6 +82,7 @@ fn is_apart_from<N: NameValue>(
     requires levels { AreLevels cells.now.held levels.now }
     ensures { IsTrue result → FindsAs cells.now.held levels.now variable (Structure structure) false }
 {
+    // Only for the proof: what the cells hold is formed.
     let _ = cells.mark();
     let own = level_of(&levels.variables, variable);
     let there = level_of(&levels.structures, structure);

@@ -96,6 +96,7 @@ pub fn compare<N: NameValue>(
     ensures compared { IfOk result (ComparedAs N.built cells.now.held left right waits.old.items waits.new.items) }
     ensures unbound { OnOk result (AreUnbound cells.now.held waits.old.items → AreUnbound cells.now.held waits.new.items) }
 {
+    // Only for the proof: what the cells hold is formed.
     let _ = cells.mark();
     frames.clear();
     // The structures, by number, that were compared. To empty a set that was large would cost what it once held.

@@ -213,6 +213,7 @@ impl<N: NameValue> Store<N> {
         ensures hooks { self.new.hooks ≡ self.old.hooks }
         ensures hook_room { self.new.hook_room ≡ self.old.hook_room }
     {
+        // Only for the proof: what the cells hold is formed.
         let _ = self.cells.mark();
         if unify_cells(
             &mut self.cells,
