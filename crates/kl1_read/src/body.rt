@@ -52,6 +52,7 @@ fn goal_of(
     ensures { IfOk result (λ parts. option_map goal_of_parts parts ≡ fit_named module_name (goal_of_term goal)) }
 {
     let GoalTerm { term, priority } = goal;
+    // Only for the proof: a text can write it.
     term.is_written();
     let term = term.into_term(alloc)?;
     if !may_have(priority, &term) {

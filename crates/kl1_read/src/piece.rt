@@ -99,7 +99,7 @@ impl Piece {
         Ok(Some(Piece { nodes, whole, rest }))
     }
 
-    /// A text can write the term.
+    /// Tells a caller's proof that a text can write the term. It does nothing.
     pub(crate) fn is_written(&self)
         ensures { IsTrue (is_writable self.now) }
     {
@@ -167,6 +167,7 @@ impl Piece {
                 Some(longer) => list = longer,
             }
         }
+        // Only for the proof: a text can write the list.
         let _nodes = &list.nodes;
         Ok(Some(list))
     }

@@ -180,6 +180,7 @@ fn step_last<'a>(
     ensures value { IfOk result (λ s. fit (step_answer [] done.new.items no_left s) ≡ fit (after_last done.old.items piece (map numbered_token rest.now))) }
     ensures less { IfOk result (StepLess (length rest.now)) }
 {
+    // Only for the proof: a text can write it.
     piece.is_written();
     done.push(piece)?;
     match behind_mark(Mark::Comma, rest) {
