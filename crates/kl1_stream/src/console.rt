@@ -23,6 +23,7 @@ fn message_cell<N: NameValue>(store: &mut Store<N>, message: Message) -> Result<
     ensures hooks { store.new.hooks ≡ store.old.hooks }
     ensures hook_room { store.new.hook_room ≡ store.old.hook_room }
 {
+    // Only for the proof: what the store holds is formed.
     let _formed = store.mark();
     match message {
         Message::Stop => Ok(Cell::Atom(N::of(BuiltIn::Stop))),
@@ -52,6 +53,7 @@ pub fn send_message<N: NameValue>(
     ensures hooks { store.new.hooks ≡ store.old.hooks }
     ensures hook_room { store.old.hook_room ≤ store.new.hook_room }
 {
+    // Only for the proof: what the store holds is formed.
     let _formed = store.mark();
     match store.walk(tail) {
         Cell::Variable(variable) => {

@@ -37,6 +37,7 @@ pub fn append_report<N: NameValue>(
     if is_last {
         return Ok(Told::Broken);
     }
+    // Only for the proof: what the store holds is formed.
     let _formed = store.mark();
     match store.walk(tail) {
         Cell::Variable(variable) => match send(store, variable, message)? {
@@ -67,6 +68,7 @@ pub fn close_report<N: NameValue>(
     if is_broken {
         return Ok(());
     }
+    // Only for the proof: what the store holds is formed.
     let _formed = store.mark();
     match store.walk(tail) {
         Cell::Variable(variable) => end(store, variable),
