@@ -107,6 +107,7 @@ impl<N: NameValue> ShoenTree<N> {
         ensures value { option_copied result ≡ find (has_number number) self.now.shoens }
         ensures number { IfSome result (λ shoen. shoen.now.number ≡ number) }
     {
+        // Only for the proof: the shoens are numbered in order.
         let _numbered = self.len();
         lent(self.shoens.items(), number)
     }
@@ -120,6 +121,7 @@ impl<N: NameValue> ShoenTree<N> {
         ensures path { IfSome result (λ shoen. path_in self.now.shoens number ≡ number ∷ path_in self.now.shoens shoen.now.parent) }
         ensures end { result ≡ None → path_in self.now.shoens number ≡ number ∷ [] }
     {
+        // Only for the proof: parents have lower numbers.
         let _lower = self.len();
         climbed(self.shoens.items(), number)
     }
@@ -167,6 +169,7 @@ impl<N: NameValue> ShoenTree<N> {
         ensures path { 0 < number → path_in self.now.shoens number ≡ number ∷ path_in self.now.shoens result }
         ensures end { number ≡ 0 → path_in self.now.shoens number ≡ [] }
     {
+        // Only for the proof: parents have lower numbers.
         let _lower = self.len();
         parent_of(self.shoens.items(), number)
     }

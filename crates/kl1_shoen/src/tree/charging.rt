@@ -102,6 +102,7 @@ impl<N: NameValue> ShoenTree<N> {
     pub fn flags(&self, out: &mut Vec<bool>) -> Result<(), AllocError>
         ensures { OnOk result (out.new.items ≡ map (λ h. is_enabled_at self.now.shoens self.now.work h.number) self.now.shoens) }
     {
+        // Only for the proof: parents have lower numbers.
         let _lower = self.len();
         out.clear();
         for shoen in self.shoens.items() {

@@ -30,6 +30,7 @@ impl<N: NameValue> ShoenTree<N> {
     pub fn is_on_path(&self, ancestor: u64, number: u64) -> bool
         ensures { result ≡ is_on_path_in self.now.shoens ancestor number }
     {
+        // Only for the proof: parents have lower numbers.
         let _lower = self.len();
         is_on_path_of(self.shoens.items(), ancestor, number)
     }
@@ -45,6 +46,7 @@ impl<N: NameValue> ShoenTree<N> {
     pub fn below(&self, number: u64, out: &mut Vec<bool>) -> Result<(), AllocError>
         ensures { OnOk result (out.new.items ≡ map (λ h. is_on_path_in self.now.shoens number h.number) self.now.shoens) }
     {
+        // Only for the proof: parents have lower numbers.
         let _lower = self.len();
         tell_below(self.shoens.items(), number, out)
     }
