@@ -45,6 +45,7 @@ pub(crate) fn join_top<N: NameValue>(
     ensures uses { OnOk result (UsesRoom 1 count store.old.room store.new.room stack.old stack.new) }
     ensures hook_room { store.new.hook_room ≡ store.old.hook_room }
 {
+    // Only for the proof: what the store holds is formed.
     let _ = store.mark();
     let structure = store.build_top(name, stack, missing, count)?;
     stack.push_reserved(Cell::Structure(structure));

@@ -34,6 +34,7 @@ pub fn put_goal_variables<N: NameValue>(
     ensures held { OnOk result (store.new.held ≡ with_variables store.old.held count) }
     ensures variables { OnOk result (AreGoalVariables store.new.held (store.old.held.variables - 1) count (goal_variables scratch.new)) }
 {
+    // Only for the proof: what the store holds is formed.
     let _ = store.mark();
     let variables = &mut scratch.variables;
     let all = (count as usize).checked_add(1).ok_or(AllocError)?;

@@ -122,6 +122,7 @@ fn put_variables<N: NameValue>(
     ensures bindings { store.new.held.bindings ≡ store.old.held.bindings }
     ensures variables { OnOk result (AreVariables N.built clause.now.head_variables clause.now.fresh_variables places.now store.old.held store.new.held cells.new.items) }
 {
+    // Only for the proof: what the store holds is formed.
     let _ = store.mark();
     let none = Cell::Atom(N::of(BuiltIn::EmptyList));
     let count = (clause.head_variables as usize)
@@ -221,6 +222,7 @@ fn fill_variables<N: NameValue>(
     ensures bindings { store.new.held.bindings ≡ store.old.held.bindings }
     ensures variables { OnOk result (AreVariables N.built clause.now.head_variables clause.now.fresh_variables (places_behind cells.old.items) store.old.held store.new.held cells.new.items) }
 {
+    // Only for the proof: what the store holds is formed.
     let _ = store.mark();
     let none = Cell::Atom(N::of(BuiltIn::EmptyList));
     let count = (clause.head_variables as usize)

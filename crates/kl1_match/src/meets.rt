@@ -25,6 +25,7 @@ fn meet_integer<N: NameValue>(store: &Store<N>, integer: i64, cell: Cell<N>) -> 
     ensures meets { IntegerMeets N.built store.now.held integer cell result }
     ensures waits { WaitsAt cell result }
 {
+    // Only for the proof: what the store holds is formed.
     let _ = store.mark();
     match cell {
         Cell::Variable(variable) => Met::Waits(variable),
@@ -46,6 +47,7 @@ fn meet_atom<N: NameValue>(store: &Store<N>, name: N, cell: Cell<N>) -> Met
     ensures meets { AtomMeets N.built store.now.held name cell result }
     ensures waits { WaitsAt cell result }
 {
+    // Only for the proof: what the store holds is formed.
     let _ = store.mark();
     match cell {
         Cell::Variable(variable) => Met::Waits(variable),
@@ -81,6 +83,7 @@ fn meet_structure<N: NameValue>(
     ensures behind_len { vec_len behind.new ≤ vec_len behind.old + 1 }
     ensures waits { WaitsAt cell result }
 {
+    // Only for the proof: what the store holds is formed.
     let _ = store.mark();
     match cell {
         Cell::Variable(variable) => Met::Waits(variable),
