@@ -37,6 +37,7 @@ pub fn order_at<N: NameValue>(store: &Store<N>, structure: u32) -> Order<N>
     ensures inside { IsOrderIn store.now.held result }
     ensures order { IsOrder store.now.held structure result }
 {
+    // Only for the proof: what the store holds is formed.
     let _ = store.mark();
     Order {
         goal: store.argument(structure, 0),
