@@ -28,6 +28,7 @@ pub fn put_forms(answer: &mut Text, bytes: &[u8]) {
 
 /// Puts the number of the built-in name of these bytes, or `none`.
 pub fn put_place(answer: &mut Text, bytes: &[u8]) {
+    // It does nothing: its contract is a law of the built-in names.
     built_ins_differ();
     let Some(name) = AtomText::read(bytes) else {
         answer.fail();
