@@ -13,6 +13,7 @@ pub fn next_book(tally: &Tally, books: &mut Vec<BookSeat>) -> BookSeat
     ensures fewer { vec_len books.new + 1 ≡ vec_len books.old }
     ensures of { result.tally ≡ tally.now.id }
 {
+    // Only contracts speak of the tally.
     let _ = tally;
     let Some(book) = books.pop() else {
         unreachable!()
@@ -28,6 +29,7 @@ pub fn next_share(tally: &Tally, shares: &mut Vec<ShareSeat>) -> ShareSeat
     ensures fewer { vec_len shares.new + 1 ≡ vec_len shares.old }
     ensures of { result.tally ≡ tally.now.id }
 {
+    // Only contracts speak of the tally.
     let _ = tally;
     let Some(share) = shares.pop() else {
         unreachable!()
@@ -42,6 +44,7 @@ pub fn give_book(tally: &Tally, books: &mut Vec<BookSeat>, book: BookSeat) -> Re
     ensures all { OnOk result (All (λ book. book.tally ≡ tally.now.id) books.new.items) }
     ensures more { OnOk result (vec_len books.new ≡ vec_len books.old + 1) }
 {
+    // Only contracts speak of the tally.
     let _ = tally;
     books.push(book)?;
     Ok(())
@@ -58,6 +61,7 @@ pub fn give_share(
     ensures all { OnOk result (All (λ share. share.tally ≡ tally.now.id) shares.new.items) }
     ensures more { OnOk result (vec_len shares.new ≡ vec_len shares.old + 1) }
 {
+    // Only contracts speak of the tally.
     let _ = tally;
     shares.push(share)?;
     Ok(())
