@@ -82,6 +82,7 @@ pub fn open_shoen(
     ensures grown { Grown store.old.held store.new.held }
     ensures hooks { store.new.hooks ≡ store.old.hooks }
 {
+    // Only for the proof: what the store holds is formed.
     let _formed = store.mark();
     shoens.reserve(1)?;
     shoens.open(shoen);

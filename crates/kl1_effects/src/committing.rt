@@ -142,6 +142,7 @@ pub fn commit(
     if !has_room(draft, alive, needs) {
         return raise(store, shoens, draft, goal.shoen, BuiltIn::Exhaustion, cell);
     }
+    // Only for the proof: the shoens are numbered in order.
     let _numbered = shoens.len();
     let Some(shoen) = shoens.lend(goal.shoen) else {
         unreachable!()

@@ -43,6 +43,7 @@ fn is_tail(
     if shoen.is_broken {
         return false;
     }
+    // Only for the proof: what the store holds is formed.
     let _formed = store.mark();
     match store.walk(shoen.tail) {
         Cell::Variable(other) => other == variable,
@@ -95,6 +96,7 @@ fn report_name_late(
     ensures grown { Grown store.old.held store.new.held }
     ensures hooks { store.new.hooks ≡ store.old.hooks }
 {
+    // Only for the proof: what the store holds is formed.
     let _formed = store.mark();
     break_late(store, shoens, number, variable)?;
     report_name(store, shoens, draft, number, name)
@@ -122,6 +124,7 @@ fn report_each_late(
     ensures grown { Grown store.old.held store.new.held }
     ensures hooks { store.new.hooks ≡ store.old.hooks }
 {
+    // Only for the proof: what the store holds is formed.
     let _formed = store.mark();
     for number in numbers {
         report_name_late(store, shoens, draft, *number, variable, name)?;
@@ -145,6 +148,7 @@ fn close_late(
     ensures grown { Grown store.old.held store.new.held }
     ensures hooks { store.new.hooks ≡ store.old.hooks }
 {
+    // Only for the proof: what the store holds is formed.
     let _formed = store.mark();
     if is_tail(store, shoens, number, variable) {
         return Ok(());
@@ -174,6 +178,7 @@ fn finish_late(
     ensures grown { Grown store.old.held store.new.held }
     ensures hooks { store.new.hooks ≡ store.old.hooks }
 {
+    // Only for the proof: what the store holds is formed.
     let _formed = store.mark();
     draft.ended.push(number)?;
     report_name_late(store, shoens, draft, number, variable, BuiltIn::Terminated)?;
@@ -201,6 +206,7 @@ fn finish_each_late(
     ensures grown { Grown store.old.held store.new.held }
     ensures hooks { store.new.hooks ≡ store.old.hooks }
 {
+    // Only for the proof: what the store holds is formed.
     let _formed = store.mark();
     for number in numbers {
         finish_late(store, shoens, draft, *number, variable)?;
@@ -235,6 +241,7 @@ pub fn settle_late(
     ensures grown { Grown store.old.held store.new.held }
     ensures hooks { store.new.hooks ≡ store.old.hooks }
 {
+    // Only for the proof: what the store holds is formed.
     let _formed = store.mark();
     end_lives(goals, shoens, draft, number, &mut walk.ending)?;
     let ending = walk.ending.as_slice();
@@ -242,11 +249,13 @@ pub fn settle_late(
     let reached = walk.reached.as_slice();
     report_each_late(store, shoens, draft, reached, variable, BuiltIn::Exhausted)?;
     finish_each_late(store, shoens, draft, ending, variable)?;
+    // Only for the proof: what the store holds is formed.
     let _left = store.mark();
     Ok(())
 }
 
-/// What comes after the effects of a reduction leaves the same, whether a variable becomes a name before it or after it.
+/// What comes after the effects of a reduction leaves the same, whether a variable becomes a name before it or after it. It does
+/// nothing: its contract is this law.
 pub fn late_law()
     ensures law { (n v : ℕ) → (a : List ℕ) → (s : State) → v ≤ s.last_variable → settle_charged n (replace_in_state v (atom a) s) ≡ replace_in_state v (atom a) (settle_charged_late v n s) }
 {}

@@ -66,6 +66,7 @@ pub fn do_move(
     ensures grown { Grown store.old.held store.new.held }
     ensures hooks { store.new.hooks ≡ store.old.hooks }
 {
+    // Only for the proof: what the store holds is formed.
     let _formed = store.mark();
     match made {
         Move::Commits(place) => commit(
@@ -78,6 +79,7 @@ pub fn do_move(
             name_term(store, shoens, draft, names, goal.shoen, text, target, cell)
         }
         Move::Opens(structure) => {
+            // Only for the proof: which order the structure is.
             let _order = order_at(store, structure);
             open_child(store, shoens, draft, structure, goal, cell)
         }

@@ -56,6 +56,7 @@ pub fn name_term(
     ensures grown { Grown store.old.held store.new.held }
     ensures hooks { store.new.hooks ≡ store.old.hooks }
 {
+    // Only for the proof: what the store holds is formed.
     let _formed = store.mark();
     if !has_room(names, &text) {
         return raise(store, shoens, draft, number, BuiltIn::Exhaustion, goal);

@@ -40,6 +40,7 @@ fn stop(
     ensures grown { Grown store.old.held store.new.held }
     ensures hooks { store.new.hooks ≡ store.old.hooks }
 {
+    // Only for the proof: what the store holds is formed.
     let _formed = store.mark();
     let Some(shoen) = shoens.lend(number).copied() else {
         return Ok(());
@@ -71,6 +72,7 @@ fn resume(
     ensures grown { Grown store.old.held store.new.held }
     ensures hooks { store.new.hooks ≡ store.old.hooks }
 {
+    // Only for the proof: what the store holds is formed.
     let _formed = store.mark();
     let Some(shoen) = shoens.lend(number).copied() else {
         return Ok(());
@@ -105,7 +107,9 @@ fn abort(
     ensures grown { Grown store.old.held store.new.held }
     ensures hooks { store.new.hooks ≡ store.old.hooks }
 {
+    // Only for the proof: what the store holds is formed.
     let _formed = store.mark();
+    // Only for the proof: the shoens are numbered in order.
     let _numbered = shoens.len();
     shoens.below(number, &mut draft.aborted)?;
     shoens.abort(number)?;
@@ -157,6 +161,7 @@ pub fn obey(
     ensures grown { Grown store.old.held store.new.held }
     ensures hooks { store.new.hooks ≡ store.old.hooks }
 {
+    // Only for the proof: what the store holds is formed.
     let _formed = store.mark();
     match message {
         Message::Stop => stop(store, shoens, draft, number),
@@ -199,6 +204,7 @@ pub fn hear(
     ensures grown { Grown store.old.held store.new.held }
     ensures hooks { store.new.hooks ≡ store.old.hooks }
 {
+    // Only for the proof: what the store holds is formed.
     let _formed = store.mark();
     match control {
         Control::Awaits(_variable) => Ok(()),

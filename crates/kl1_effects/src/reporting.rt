@@ -46,6 +46,7 @@ pub fn report(
     ensures hooks { store.new.hooks ≡ store.old.hooks }
 {
     let Some(shoen) = shoens.lend(number).copied() else {
+        // Only for the proof: what the store holds is formed.
         let _formed = store.mark();
         return Ok(());
     };
@@ -79,6 +80,7 @@ pub fn report_each(
     ensures grown { Grown store.old.held store.new.held }
     ensures hooks { store.new.hooks ≡ store.old.hooks }
 {
+    // Only for the proof: what the store holds is formed.
     let _formed = store.mark();
     for number in numbers {
         report_name(store, shoens, draft, *number, name)?;
@@ -118,6 +120,7 @@ fn whole(
     ensures grown { Grown store.old.held store.new.held }
     ensures hooks { store.new.hooks ≡ store.old.hooks }
 {
+    // Only for the proof: what the store holds is formed.
     let _formed = store.mark();
     match goal.module_name {
         None => Ok(goal.cell),
@@ -220,6 +223,7 @@ pub fn close(
     ensures grown { Grown store.old.held store.new.held }
     ensures hooks { store.new.hooks ≡ store.old.hooks }
 {
+    // Only for the proof: what the store holds is formed.
     let _formed = store.mark();
     let Some(shoen) = shoens.lend(number) else {
         return Ok(());

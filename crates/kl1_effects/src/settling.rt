@@ -264,6 +264,7 @@ fn finish(
     ensures grown { Grown store.old.held store.new.held }
     ensures hooks { store.new.hooks ≡ store.old.hooks }
 {
+    // Only for the proof: what the store holds is formed.
     let _formed = store.mark();
     draft.ended.push(number)?;
     report_name(store, shoens, draft, number, BuiltIn::Terminated)?;
@@ -289,6 +290,7 @@ fn finish_each(
     ensures grown { Grown store.old.held store.new.held }
     ensures hooks { store.new.hooks ≡ store.old.hooks }
 {
+    // Only for the proof: what the store holds is formed.
     let _formed = store.mark();
     for number in numbers {
         finish(store, shoens, draft, *number)?;
@@ -315,6 +317,7 @@ fn finish_found(
     ensures grown { Grown store.old.held store.new.held }
     ensures hooks { store.new.hooks ≡ store.old.hooks }
 {
+    // Only for the proof: what the store holds is formed.
     let _formed = store.mark();
     if numbers.is_empty() {
         return Ok(());
@@ -344,6 +347,7 @@ pub fn settle(
     ensures grown { Grown store.old.held store.new.held }
     ensures hooks { store.new.hooks ≡ store.old.hooks }
 {
+    // Only for the proof: what the store holds is formed.
     let _formed = store.mark();
     end_lives(goals, shoens, draft, number, &mut walk.ending)?;
     let ending = walk.ending.as_slice();
@@ -373,6 +377,7 @@ fn settle_path(
     ensures grown { Grown store.old.held store.new.held }
     ensures hooks { store.new.hooks ≡ store.old.hooks }
 {
+    // Only for the proof: what the store holds is formed.
     let _formed = store.mark();
     end_lives(goals, shoens, draft, number, &mut walk.ending)?;
     let ending = walk.ending.as_slice();
@@ -406,6 +411,7 @@ pub fn settle_charged(
     ensures grown { Grown store.old.held store.new.held }
     ensures hooks { store.new.hooks ≡ store.old.hooks }
 {
+    // Only for the proof: what the store holds is formed.
     let _formed = store.mark();
     if is_calm(goals, shoens, draft, number) {
         walk.ending.clear();
