@@ -66,7 +66,9 @@ pub fn act(
     ensures grown { Grown store.old.held store.new.held }
     ensures hooks { store.new.hooks ≡ store.old.hooks }
 {
+    // Only for the proof: what the store holds is formed.
     let _formed = store.mark();
+    // Only for the proof: the shoens are numbered in order.
     let _numbered = shoens.len();
     shoens.charge(goal.shoen)?;
     do_move(
@@ -99,7 +101,9 @@ pub fn read(
     ensures grown { Grown store.old.held store.new.held }
     ensures hooks { store.new.hooks ≡ store.old.hooks }
 {
+    // Only for the proof: what the store holds is formed.
     let _formed = store.mark();
+    // Only for the proof: the shoens are numbered in order.
     let _numbered = shoens.len();
     hear(store, shoens, draft, number, control)?;
     settle(store, goals, shoens, draft, walk, number)

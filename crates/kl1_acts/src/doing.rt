@@ -86,6 +86,7 @@ pub fn do_or_spell(
     ensures grown { Grown store.old.held store.new.held }
     ensures hooks { store.new.hooks ≡ store.old.hooks }
 {
+    // Only for the proof: what the store holds is formed.
     let _formed = store.mark();
     let Some(variable) = name_to_spell(store, names, made, trial) else {
         make_room(names, made)?;

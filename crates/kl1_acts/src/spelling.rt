@@ -38,6 +38,7 @@ fn variable_to_spell(
     if names.number_of(&text).is_some() || !has_room(names, &text) {
         return None;
     }
+    // Only for the proof: what the store holds is formed.
     let _formed = store.mark();
     match store.walk(target) {
         Cell::Variable(variable) => Some(variable),
@@ -100,7 +101,9 @@ pub fn spell(
     ensures grown { Grown store.old.held store.new.held }
     ensures hooks { store.new.hooks ≡ store.old.hooks }
 {
+    // Only for the proof: what the store holds is formed.
     let _formed = store.mark();
+    // Only for the proof: the shoens are numbered in order.
     let _numbered = shoens.len();
     shoens.charge(number)?;
     draft.name = Some(text);
