@@ -141,6 +141,7 @@ impl<C: CodeSource> Account<C> {
         ensures modules { self.new.modules ≡ self.old.modules }
     {
         let mark = self.store.mark();
+        // Only for the proof: the goals are in order of number.
         let _ordered = self.goals.shoens();
         self.shoens.begin();
         begin_draft(
@@ -203,6 +204,7 @@ impl<C: CodeSource> Account<C> {
         ensures err { OnErr result (self.new ≡ self.old) }
     {
         let mark = self.store.mark();
+        // Only for the proof: the goals are in order of number.
         let _ordered = self.goals.shoens();
         self.shoens.begin();
         let drafted = draft_message(

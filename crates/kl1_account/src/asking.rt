@@ -66,6 +66,7 @@ pub(crate) fn status_of(
     if !is_number(number) {
         return Ok(Reply::Refused(Refusal::Syntax));
     }
+    // Only for the proof: the shoens are numbered in order.
     let _numbered = shoens.len();
     let Some(shoen) = shoens.lend(number) else {
         return Ok(Reply::Refused(Refusal::NoShoen));

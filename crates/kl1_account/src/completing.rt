@@ -89,6 +89,7 @@ fn look_again<C: CodeSource>(
     ensures held { store.new.held ≡ store.old.held }
     ensures grown { HasGrown store.old store.new }
 {
+    // Only for the proof: the goals are in order of number.
     let _order = goals.shoens();
     tell_bound(store, mark, &mut draft.told)?;
     wake_any(
@@ -136,6 +137,7 @@ fn still_lets(shoens: &ShoenTree<CellName>, draft: &Draft, walk: &Walk, running:
     requires { LetsStill shoens.now walk.now.reached.items running draft.now }
     ensures { is_enabled_at shoens.now.shoens shoens.now.work result ≡ true }
 {
+    // Only for the proof: the shoens are numbered in order.
     let _numbered = shoens.len();
     if draft.shifts {
         return 0;
@@ -183,6 +185,7 @@ pub(crate) fn finish<C: CodeSource>(
     ensures goals { goals.new.goals ≡ goals.old.goals }
     ensures count { goals.new.shoens ≡ goals.old.shoens }
 {
+    // Only for the proof: the shoens are numbered in order.
     let _numbered = shoens.len();
     let letting = still_lets(shoens, draft, walk, running);
     look_again(

@@ -41,6 +41,7 @@ fn link(
     ensures grown { HasGrown store.old store.new }
     ensures hooks { store.new.hooks ≡ store.old.hooks }
 {
+    // Only for the proof: what the store holds is formed.
     let _formed = store.mark();
     let list = CellName::of(BuiltIn::ListCell);
     let structure = store.build_pair(list, Cell::Atom(CellName::of(name)), rest)?;
@@ -60,6 +61,7 @@ pub(crate) fn open_streams(
     ensures grown { HasGrown store.old store.new }
     ensures hooks { store.new.hooks ≡ store.old.hooks }
 {
+    // Only for the proof: what the store holds is formed.
     let _formed = store.mark();
     let control = store.fresh()?;
     let first = store.fresh()?;

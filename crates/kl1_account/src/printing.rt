@@ -47,6 +47,7 @@ fn top_of(
     requires stack { AreIn store.now.held stack.old.items }
     ensures { IfOk result (λ top. IsNext store.now.held cell top stack.old.items stack.new.items) }
 {
+    // Only for the proof: what the store holds is formed.
     let _ = store.mark();
     match store.walk(cell) {
         Cell::Variable(number) => Ok(Top::Variable(u64::from(number))),

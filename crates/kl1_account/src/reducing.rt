@@ -167,7 +167,9 @@ fn draft_reading<C: CodeSource>(
         Err(refusal) => return Ok(Some(refusal)),
         Ok(control) => control,
     };
+    // Only for the proof: no shoen has two monitors.
     let _single = goals.shoens();
+    // Only for the proof: reductions were done in shoens that are there.
     let _worked = shoens.len();
     let mark = store.mark();
     walk.reached.clear();
@@ -228,7 +230,9 @@ fn draft_move<C: CodeSource>(
         Err(refusal) => return Ok(Some(refusal)),
         Ok(made) => made,
     };
+    // Only for the proof: the goals are in order of number.
     let _ordered = goals.shoens();
+    // Only for the proof: reductions were done in shoens that are there.
     let _worked = shoens.len();
     let mark = store.mark();
     draft.removed = goal.number;
