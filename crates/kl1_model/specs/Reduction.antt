@@ -73,7 +73,7 @@ abbrev pub order_move : Option Order → Option Move
 order_move None = None
 order_move (Some o) = ordered o (order_look o)
 
--- what a goal does after the name of a module, if the goal is `shoen:execute` with six arguments
+-- what a goal `a:b` does, if it is `shoen:execute` with six arguments
 abbrev pub execute_move : Term → Term → Option Move
 execute_move (atom m) b = if is_execute m b then order_move (order_of b) else None
 execute_move a b = None

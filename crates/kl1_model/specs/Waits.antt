@@ -188,7 +188,7 @@ abbrev pub awaited_by_order : Option Order → List ℕ
 awaited_by_order None = []
 awaited_by_order (Some o) = awaited_by_look (order_look o)
 
--- the variable that a goal waits for after the name of a module, if the goal is `shoen:execute` with six arguments
+-- the variable that a goal `a:b` waits for, if it is `shoen:execute` with six arguments
 abbrev pub awaited_by_execute : Term → Term → List ℕ
 awaited_by_execute (atom m) b = if is_execute m b then awaited_by_order (order_of b) else []
 awaited_by_execute a b = []
