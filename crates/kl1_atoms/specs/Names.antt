@@ -68,7 +68,7 @@ text_or_mark mark n None = mark ∷ n ∷ []
 abbrev pub reading : ℕ → List Known → AtomNo → List ℕ
 reading mark ks a = text_or_mark mark a.number (text_by ks a.number)
 
--- each pair that is known stands in the table, if `at n t` says that the number n has the text t there
+-- each pair that is known stands in the table; `at n t` says that the number n has the text t there
 pub record StandIn (at : ℕ → List ℕ → Type 0) (ks : List Known) : Type 0 where
   pub by_text : (t : List ℕ) (n : ℕ) → number_in ks t ≡ Some n → at n t
   pub by_number : (t : List ℕ) (n : ℕ) → text_in ks n ≡ Some t → at n t
