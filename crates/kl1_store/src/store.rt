@@ -255,8 +255,8 @@ impl<N: NameValue> Store<N> {
         Ok(Same::Wait(waits))
     }
 
-    /// Whether two cells may mean the same term: false if they clash. Else `waits` gets the variables that this waits for after
-    /// its own, and none if they mean the same term already.
+    /// Whether two cells may mean the same term: false if they clash. Else `waits` gets the variables that this waits for, after
+    /// those in it, and none if they mean the same term already.
     pub fn may_be_same(
         &self,
         left: Cell<N>,
