@@ -134,7 +134,7 @@ fn otherwise_on(line: u64, before: &[ClauseParts], pending: Option<u64>) -> Opti
     }
 }
 
-/// Puts the clause that the tokens of an item are after the others, if they are one that may follow them in a module of
+/// Puts after the others the clause that the tokens of an item are, if they are one that may follow them in a module of
 /// this name, directly after an `otherwise` or not. Answers whether it did.
 fn put_clause(
     alloc: Global,
