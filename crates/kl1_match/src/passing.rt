@@ -53,7 +53,7 @@ fn put_goal_variables<N: NameValue>(
     Ok(())
 }
 
-/// Compares two cells: false if they clash. `awaited` gets the variables that they wait for after its own.
+/// Compares two cells: false if they clash. `awaited` gets the variables that they wait for, after those in it.
 fn compare_pair<N: NameValue>(
     view: &TestView<N>,
     pair: Pair<TestAt<N>>,
@@ -74,7 +74,7 @@ fn compare_pair<N: NameValue>(
     }
 }
 
-/// Compares the two cells of each of some pairs, as `compare_two` does.
+/// Compares the two cells of each of some pairs, as `compare_pair` does: false if those of one clash.
 fn compare_pairs<N: NameValue>(
     view: &TestView<N>,
     pairs: &[Pair<TestAt<N>>],
@@ -106,7 +106,7 @@ fn is_settled(waits: &[TestVariable], before: usize, after: usize) -> bool
     after == before
 }
 
-/// What passive equality answers of two terms. `awaited` gets the variables of the goal that they wait for after its own; if
+/// What passive equality answers of two terms. `awaited` gets the variables of the goal that they wait for, after those in it; if
 /// they differ, it may have got some too.
 pub(crate) fn compare_terms<N: NameValue>(
     view: &TestView<N>,

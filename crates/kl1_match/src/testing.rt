@@ -178,7 +178,7 @@ fn is_variable(instruction: Instruction) -> bool
 }
 
 /// Whether the test at a place of the row may hold: false if it clashes. Else `awaited` gets the variables of the goal that it
-/// waits for after its own.
+/// waits for, after those in it.
 fn run_test<N: NameValue>(
     view: &TestView<N>,
     place: usize,
@@ -200,7 +200,7 @@ fn run_test<N: NameValue>(
 }
 
 /// Whether all tests of the row may hold: false if one clashes. Else `awaited` gets the variables of the goal that they wait
-/// for after its own. If memory is refused, nothing is said of what it got.
+/// for, after those in it. If memory is refused, nothing is said of what it got.
 pub fn run_tests<N: NameValue>(
     view: &TestView<N>,
     scratch: &mut TestScratch<N>,
