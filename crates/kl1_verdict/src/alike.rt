@@ -12,7 +12,7 @@ use kl1_text::NameValue;
 use std::alloc::AllocError;
 
 /// Whether two places may be alike: false if they are of one variable, and their terms clash. Else `awaited` gets the variables
-/// that this waits for after its own.
+/// that this waits for, after those in it.
 #[inline]
 fn compare_two<N: NameValue>(
     store: &Store<N>,

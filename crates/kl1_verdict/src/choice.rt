@@ -43,7 +43,7 @@ fn without_clause(waiting: Option<u64>) -> Option<u64>
 
 /// The least number of a clause that accepts a goal, from 1, or 0 if each rejects it or there is none, or nothing if
 /// none accepts and some wait: a clause that waits ends the search with its section. `awaited` gets the variables that the
-/// clauses before the one that accepts wait for after its own.
+/// clauses before the one that accepts wait for, after those in it.
 /// If memory is refused, nothing is said of what it got.
 #[inline(always)]
 pub fn choose<N: NameValue>(

@@ -21,7 +21,7 @@ use std::alloc::AllocError;
 
 /// The verdict of a clause on a goal, if the names of the clause's code are these. `places` gets the terms at
 /// the places of the head's variables, in order, if the clause accepts; otherwise nothing is said of it. `awaited` gets the
-/// variables that the verdict waits for after its own. If memory is refused, nothing is said of what it got.
+/// variables that the verdict waits for, after those in it. If memory is refused, nothing is said of what it got.
 pub fn verdict_on<N: NameValue>(
     store: &Store<N>,
     names: &[N],
@@ -98,7 +98,7 @@ fn run_row<N: NameValue>(
 }
 
 /// What comes of a clause beside its match: passive equality of each two places of a variable that were reached, and its tests, one
-/// after another. False if something clashes; else `awaited` gets the variables that it waits for after its own.
+/// after another. False if something clashes; else `awaited` gets the variables that it waits for, after those in it.
 #[inline(never)]
 fn compare_and_run<N: NameValue>(
     store: &Store<N>,
