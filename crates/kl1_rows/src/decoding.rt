@@ -79,7 +79,7 @@ fn put_part<'a>(whole: &mut Text, rest: &'a [u8]) -> &'a [u8] {
     behind
 }
 
-/// Puts what a text stands for after another.
+/// Puts what a text stands for, after another.
 fn put_decoded(whole: &mut Text, text: &[u8]) {
     let mut left = text;
     for _ in 0..text.len() {
