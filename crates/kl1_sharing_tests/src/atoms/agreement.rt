@@ -123,7 +123,7 @@ fn agree_on_what_is_known(table: &AtomTable, alice: &mut AtomSeat, bob: &mut Ato
     built_in & !early & late & !other & (number.number == 64 + 1024) & (its.number == 64 + 1024)
 }
 
-/// Whether seats of a new table agree on what one knows: on no name until one looks it up.
+/// Whether two seats of a new table agree on the built-in names and on no other, and on a name that one looks up from then on.
 pub fn agree_on_what_one_knows(alloc: Global) -> Result<bool, AllocError> {
     let (table, mut seats) = AtomTable::new(alloc, 2)?;
     let mut bob = next_seat(&table, &mut seats);
