@@ -27,7 +27,7 @@ fn tells_modules<C: CodeSource>(alloc: Global, codes: &mut C) -> bool {
     !seen.has_failed & (seen.bytes.as_slice() == MODULES)
 }
 
-/// Whether a source of codes tells of bad sources what it has to.
+/// Whether a source of codes tells of bad sources what it has to, at the second try if memory is refused at the first.
 fn tells_faults<C: CodeSource>(alloc: Global, codes: &mut C) -> bool {
     let mut seen = Text::new(alloc);
     see_faults(&mut seen, codes);
