@@ -233,7 +233,7 @@ next_new ks texts i row spare t o c list within is name e found number d =
     subst (λ (seen : List (List ℕ)). Drafted ks seen (row ++ c ∷ []) (spare + 1)) (sym (next_take texts i t within is))
     (drafted_new ks (take i texts) row spare t c name (sym e ∙ ap (λ (p : Option CellName). option_map (λ (x : CellName). x.number) p) found) (not_before texts i t list within is) number d)
 
--- the same row and the same spare number, otherwise written
+-- a row and a spare number that are the same, otherwise written
 pub same_draft : (ks : List Known) (seen : List (List ℕ)) (row now : List CellName) (spare next : ℕ) → now ≡ row → next ≡ spare → Drafted ks seen row spare → Drafted ks seen now next
 same_draft ks seen row now spare next e f d = subst (λ (r : List CellName). Drafted ks seen r next) (sym e) (subst (λ n. Drafted ks seen row n) (sym f) d)
 
