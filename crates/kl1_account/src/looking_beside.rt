@@ -150,7 +150,7 @@ fn look_at_first<C: CodeSource>(
     }
 }
 
-/// Looks at all goals, if a module that is drafted is there too. If memory is refused, more may hang.
+/// Looks at all goals, with a module that is drafted beside the others. If memory is refused, more may hang.
 pub(crate) fn look_at_all<C: CodeSource>(
     store: &mut Store<CellName>,
     goals: &GoalTable<CellName>,
