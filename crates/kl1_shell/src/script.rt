@@ -91,7 +91,7 @@ fn put_questions(with_reports: bool, out: &mut Vec<u8>) -> Result<(), AllocError
     Ok(())
 }
 
-/// Puts the line that asks for the first reports if they are wanted after the bytes. After an `Err` some of it may be there.
+/// Puts the line that asks for the first reports, if they are wanted, after the bytes. After an `Err` some of it may be there.
 fn put_reports_line(with_reports: bool, out: &mut Vec<u8>) -> Result<(), AllocError>
     ensures { OnOk result (out.new.items ≡ out.old.items ++ (if with_reports then written_line (codes "me reports 1 1") else [])) }
 {
