@@ -20,7 +20,7 @@ use std::rt::Clock;
 use std::sync::Wait;
 use std::thread::Threads;
 
-/// The line with which rows end after which checks follow.
+/// The line with which rows end, and after which checks follow.
 const CHECKS: &[u8] = b"== checks\n";
 
 /// Rows, of which some are tried on accounts, with the handle by which a script may wait.
