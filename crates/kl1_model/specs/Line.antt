@@ -66,7 +66,7 @@ is_blank_line line = list_all is_space line
 abbrev pub number_in : List ℕ → Option ℕ
 number_in w = if nat_le 1 (length w) && nat_le (length w) most_digits && list_all is_digit w && nat_lt (number_of w) number_limit then Some (number_of w) else None
 
--- a number of at most so much
+-- a number, if it is at most `most`
 abbrev pub up_to : ℕ → Option ℕ → Option ℕ
 up_to most None = None
 up_to most (Some n) = if nat_le n most then Some n else None

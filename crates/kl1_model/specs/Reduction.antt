@@ -191,7 +191,7 @@ abbrev pub resumed_of : Option Shoen → ℕ → State → State
 resumed_of None n s = s
 resumed_of (Some h) n s = if h.is_stopped then report n resumed_report (change_shoen n (λ h. record h { is_stopped = false }) s) else s
 
--- a shoen whose allowance grows by so much, up to the greatest there is
+-- a shoen whose allowance grows by `extra`, up to the greatest there is
 abbrev pub allowed_more : ℕ → Shoen → Shoen
 allowed_more extra h = record h { allowance = min (h.allowance + extra) most_allowance }
 
