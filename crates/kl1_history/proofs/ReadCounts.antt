@@ -29,7 +29,7 @@ few_numbers [] = omega arith
 few_numbers (variable_token v ∷ ts) = omega (arith, few_numbers ts)
 few_numbers (t ∷ ts) = omega (arith, few_numbers ts)
 
--- whether each number is at most so much
+-- whether each number is at most `most`
 abbrev pub are_upto : ℕ → List ℕ → Bool
 are_upto most vs = list_all (λ v. nat_le v most) vs
 
