@@ -46,7 +46,7 @@ pub record HasRoomFor (structures arguments : ℕ) (room : Room) : Type 0 where
   pub structures_fit : structures ≤ room.structures
   pub arguments_fit : arguments ≤ room.arguments
 
--- at most so much of the room was used, and one cell more put on the stack
+-- at most `structures` and `arguments` of the room were used, and at most one cell more was put on the stack
 pub record UsesRoom {N : Type 0} (structures arguments : ℕ) (old new : Room) (stack after : Vec (Cell N) Global) : Type 0 where
   pub spends : Spends old new 0 structures arguments 0
   pub height : length after.items ≤ length stack.items + 1
