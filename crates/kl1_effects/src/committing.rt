@@ -28,7 +28,7 @@ use kl1_store::{Qualified, Store};
 use kl1_text::CellName;
 use std::alloc::AllocError;
 
-/// Whether so much and so much more isn't over the most.
+/// Whether `have` and `more` together are at most `most`.
 fn keeps(most: u64, have: u64, more: u64) -> bool
     ensures { result ≡ nat_le (have + more) most }
 {
