@@ -10,7 +10,7 @@ use Rattle.kl1_goals.specs.Tables.{Ascend}
 use Rattle.kl1_effects.specs.Kept.{AreUpTo}
 use Rattle.kl1_account.proofs.Restood.{each_is}
 
--- this is the first goal with a number of at least so much, as far as another one is concerned
+-- this is the first goal with a number of at least `from`, as far as another one is concerned
 abbrev pub IsNext : ℕ → Goal CellName → Goal CellName → Type 0
 IsNext from goal g = (from ≤ g.number → goal.number ≤ g.number) × (g.number ≡ goal.number → (g.shoen ≡ goal.shoen) × (g.task ≡ goal.task))
 

@@ -46,7 +46,7 @@ use Rattle.kl1_effects.specs.Account.{meaning, texts_of, whole}
 use Rattle.kl1_effects.specs.Naming.{AreSmall}
 use Rattle.kl1_effects.specs.Works.{Knows}
 
--- a state with these names, and so much of what is limited
+-- a state with these names, and with what is limited counted so
 pub record HasNames (s : State) (names : List Known) (counted : Counted) : Type 0 where
   pub names_are : s.names ≡ texts_of names
   pub goals_are : goals_alive s ≡ counted.goals
