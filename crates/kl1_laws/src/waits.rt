@@ -1,5 +1,6 @@
 //! Laws of verdicts and of what goals wait for.
 ghost use Rattle.kl1_model.specs.WaitsLaws.{RejectsStays, RejectsNeverAccepts, AcceptsStays, SuspendsStays, SuspendsWaits, CandidatesAreOpen, ClausesStay, HeadStays, TermStays, ControlStays};
+ghost use Rattle.kl1_model.specs.OutcomeLaws.{OutcomesAnswer, VerdictsAnswer, AcceptsPlaces, VerdictsName};
 ghost use Rattle.kl1_laws.specs.SectionLaws.{SectionsAreInOrder, CandidatesOfModulesAreOpen, CandidatesOfCallsAreOpen};
 
 /// What a clause says of a goal stays until a variable that it names is replaced. It accepts a goal for good, and rejects it for
@@ -12,6 +13,16 @@ pub fn verdicts_wait_for_named_variables()
     ensures accepts { AcceptsStays }
     ensures suspends { SuspendsStays }
     ensures waits { SuspendsWaits }
+{}
+
+/// The outcome of each test has the test's answer. The verdict that names variables, and in whose tests they have other numbers, has
+/// the answer of the plain verdict, for every clause and every goal; if it accepts, then with the terms at the same places; and it names the
+/// variables that the clause waits for.
+pub fn outcomes_have_answers()
+    ensures tests { OutcomesAnswer }
+    ensures verdicts { VerdictsAnswer }
+    ensures places { AcceptsPlaces }
+    ensures names { VerdictsName }
 {}
 
 /// The candidates of a goal are the clauses that accept it and above whose nearest `otherwise` each clause rejects it: of clauses
