@@ -3,7 +3,7 @@ use Rattle.std.proofs.Common.{◌≡◌, ℕ, List, [], ◌∷◌, ◌++◌, len
 use Rattle.std.specs.Prelude.{Option, Some, None}
 use Rattle.std.proofs.lemmas.List.{map-append, take_more}
 use Rattle.kl1_model.specs.Term.{Term, terms_of}
-use Rattle.kl1_model.specs.TermCode.{nodes_of, nodes_of_all}
+use Rattle.kl1_model.specs.code.TermCode.{nodes_of, nodes_of_all}
 use Rattle.kl1_model.specs.State.{names_of, names_in}
 use Rattle.kl1_model.specs.Module.{goals_of}
 use Rattle.kl1_read.specs.declared.clause_parts.GoalParts.{GoalParts}

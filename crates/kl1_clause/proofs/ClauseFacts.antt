@@ -2,12 +2,12 @@
 use Rattle.std.proofs.Common.{◌≡◌, ℕ, List, [], ◌∷◌, ◌++◌, length, map, refl, sym, ap, subst, ◌∙◌}
 use Rattle.std.specs.Prelude.{IsTrue}
 use Rattle.kl1_model.specs.Term.{Terms, terms_of, list_of, count_of}
-use Rattle.kl1_model.specs.TermCode.{NodeCode, nodes_of_all}
+use Rattle.kl1_model.specs.code.TermCode.{NodeCode, nodes_of_all}
 use Rattle.kl1_model.specs.Module.{BodyGoal, Clause, goals_of}
 use Rattle.kl1_model.specs.Instance.{head_variables, fresh_variables}
 use Rattle.kl1_model.specs.State.{names_in, names_of_clause}
 use Rattle.kl1_model.specs.Nodes.{goals_nodes}
-use Rattle.kl1_model.specs.WaitsLaws.{is_guarded}
+use Rattle.kl1_model.specs.laws.WaitsLaws.{is_guarded}
 use Rattle.kl1_term.proofs.Lent.{row_is, list_of-terms_of, terms_of-list_of}
 use Rattle.kl1_clause.specs.declared.compiled_clause.CompiledClause.{CompiledClause}
 use Rattle.kl1_clause.specs.declared.instruction.Instruction.{Instruction}

@@ -1,7 +1,7 @@
 -- Codes mean the goals that they are made of.
 use Rattle.std.proofs.Common.{◌≡◌, ℕ, List, [], sym, ap, subst, ◌∙◌}
 use Rattle.kl1_model.specs.Term.{Term}
-use Rattle.kl1_model.specs.TermCode.{nodes_of, term_from, term_from-nodes_of}
+use Rattle.kl1_model.specs.code.TermCode.{nodes_of, term_from, term_from-nodes_of}
 use Rattle.kl1_model.specs.Nodes.{goal_nodes}
 use Rattle.kl1_model.specs.State.{names_of, with_names}
 use Rattle.kl1_clause.specs.declared.goal_code.GoalCode.TheInside.{Inside}

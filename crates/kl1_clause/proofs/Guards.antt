@@ -2,7 +2,7 @@
 use Rattle.std.proofs.Common.{◌≡◌, ℕ, zero, suc, ◌<◌, true, List, [], ◌∷◌, length, map, get_or, arith}
 use Rattle.std.specs.List.{list_all}
 use Rattle.std.proofs.lemmas.Bool.{and_parts}
-use Rattle.kl1_model.specs.WaitsLaws.{is_guarded}
+use Rattle.kl1_model.specs.laws.WaitsLaws.{is_guarded}
 use Rattle.kl1_read.specs.declared.clause_parts.ClauseParts.{ClauseParts}
 use Rattle.kl1_read.specs.Sources.{clause_of_parts}
 

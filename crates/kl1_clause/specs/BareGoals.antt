@@ -2,7 +2,7 @@
 use Rattle.std.specs.Prelude.{◌≡◌, ℕ, ◌==◌, ◌&&◌, Bool, false, if◌then◌else◌, List, [], ◌∷◌, length, map, codes, bytes_eq, Option, Some, None}
 use Rattle.std.proofs.Common.{inl, inr}
 use Rattle.kl1_model.specs.Term.{Term, atom, structure, none, more}
-use Rattle.kl1_model.specs.TermCode.{NodeCode}
+use Rattle.kl1_model.specs.code.TermCode.{NodeCode}
 use Rattle.kl1_clause.specs.declared.name.Name.{Name}
 use Rattle.kl1_clause.specs.Instructions.{text_in, IsPlaced}
 

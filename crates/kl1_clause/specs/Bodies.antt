@@ -1,7 +1,7 @@
 -- Bodies of clauses as rows.
 use Rattle.std.specs.Prelude.{◌≡◌, ℕ, List, [], ◌∷◌, ◌++◌, length, map, Option}
 use Rattle.kl1_model.specs.Term.{Term, terms_of}
-use Rattle.kl1_model.specs.TermCode.{nodes_of, nodes_of_all}
+use Rattle.kl1_model.specs.code.TermCode.{nodes_of, nodes_of_all}
 use Rattle.kl1_model.specs.State.{names_of, names_in}
 use Rattle.kl1_clause.specs.declared.name.Name.{Name}
 use Rattle.kl1_clause.specs.declared.instruction.Instruction.{Instruction}

@@ -1,11 +1,11 @@
 -- What compiled clauses mean.
 use Rattle.std.specs.Prelude.{◌≡◌, ℕ, List, [], ◌∷◌, length, map, Option, IsTrue}
 use Rattle.kl1_model.specs.Term.{Term, terms_of, count_of}
-use Rattle.kl1_model.specs.TermCode.{nodes_of_all, read_nodes}
+use Rattle.kl1_model.specs.code.TermCode.{nodes_of_all, read_nodes}
 use Rattle.kl1_model.specs.Module.{BodyGoal, Clause, goals_of}
 use Rattle.kl1_model.specs.Instance.{head_variables, fresh_variables}
 use Rattle.kl1_model.specs.Nodes.{goals_nodes}
-use Rattle.kl1_model.specs.WaitsLaws.{is_guarded}
+use Rattle.kl1_model.specs.laws.WaitsLaws.{is_guarded}
 use Rattle.kl1_clause.specs.declared.compiled_clause.CompiledClause.{CompiledClause}
 use Rattle.kl1_clause.specs.declared.instruction.Instruction.{Instruction}
 use Rattle.kl1_clause.specs.Instructions.{text_in, IsPlaced, IsRowOf, code_in}

@@ -1,7 +1,7 @@
 -- The fields of a goal's code as the goal.
 use Rattle.std.specs.Prelude.{◌≡◌, [], map}
 use Rattle.kl1_model.specs.Term.{Term}
-use Rattle.kl1_model.specs.TermCode.{nodes_of, term_from}
+use Rattle.kl1_model.specs.code.TermCode.{nodes_of, term_from}
 use Rattle.kl1_model.specs.Nodes.{goal_nodes}
 use Rattle.kl1_model.specs.State.{names_of}
 use Rattle.kl1_clause.specs.declared.goal_code.GoalCode.TheInside.{Inside}

@@ -2,7 +2,7 @@
 use Rattle.std.specs.Prelude.{◌≡◌, ℕ, ◌<◌, List, [], ◌∷◌, length, map, slice_index_or}
 use Rattle.std.proofs.Common.{inl, inr}
 use Rattle.kl1_model.specs.Text.{text_of}
-use Rattle.kl1_model.specs.TermCode.{NodeCode}
+use Rattle.kl1_model.specs.code.TermCode.{NodeCode}
 use Rattle.kl1_clause.specs.declared.name.Name.{Name}
 use Rattle.kl1_clause.specs.declared.name.Name.TheVariants.{Language, Place}
 use Rattle.kl1_clause.specs.declared.instruction.Instruction.{Instruction}

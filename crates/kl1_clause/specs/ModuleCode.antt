@@ -3,7 +3,7 @@ use Rattle.std.specs.Prelude.{◌≡◌, ℕ, List, Option, refl}
 use Rattle.std.proofs.Common.{ap}
 use Rattle.std.specs.Coded.{Coded, code_by, coded×, coded_list, coded_option, coded_ℕ}
 use Rattle.kl1_model.specs.Term.{Term, Terms, none, more, list_of, terms_of}
-use Rattle.kl1_model.specs.TermCode.{term_code}
+use Rattle.kl1_model.specs.code.TermCode.{term_code}
 use Rattle.kl1_model.specs.Module.{BodyGoal, Clause, Module}
 
 -- terms as a list, and back

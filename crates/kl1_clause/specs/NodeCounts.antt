@@ -1,7 +1,7 @@
 -- How many structures stand in the arguments of goals, by the nodes of these.
 use Rattle.std.specs.Prelude.{ℕ, zero, suc, ◌+◌, List, [], ◌∷◌, if◌then◌else◌}
 use Rattle.std.proofs.Common.{inl, inr}
-use Rattle.kl1_model.specs.TermCode.{NodeCode}
+use Rattle.kl1_model.specs.code.TermCode.{NodeCode}
 use Rattle.kl1_term.specs.Nodes.{count_of_code}
 use Rattle.kl1_clause.specs.BareGoals.{is_colon}
 

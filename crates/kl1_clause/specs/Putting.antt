@@ -1,6 +1,6 @@
 -- Nodes put after a row while names are added.
 use Rattle.std.specs.Prelude.{◌≡◌, ℕ, List, ◌++◌, length, map}
-use Rattle.kl1_model.specs.TermCode.{NodeCode}
+use Rattle.kl1_model.specs.code.TermCode.{NodeCode}
 use Rattle.kl1_clause.specs.declared.instruction.Instruction.{Instruction}
 use Rattle.kl1_clause.specs.NameList.{with_texts}
 use Rattle.kl1_clause.specs.Instructions.{code_in, AreNamed, names_of_nodes}

@@ -7,7 +7,7 @@ ghost use Rattle.kl1_clause.specs.NameList.{with_text, with_texts, IsNameList};
 ghost use Rattle.kl1_clause.specs.Clauses.{AreCompiled};
 ghost use Rattle.kl1_read.specs.Sources.{clause_of_parts, module_of_parts};
 ghost use Rattle.kl1_model.specs.Module.{good, is_of, read_module};
-ghost use Rattle.kl1_model.specs.WaitsLaws.{is_guarded};
+ghost use Rattle.kl1_model.specs.laws.WaitsLaws.{is_guarded};
 ghost use Rattle.kl1_clause.specs.Modules.{IsMeant, IsFaultOf};
 
 use crate::code_fault::CodeFault;

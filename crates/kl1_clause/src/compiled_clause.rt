@@ -2,13 +2,13 @@
 
 ghost use Rattle.std.specs.Prelude.{◌≡◌, ◌-◌, map, IfOk, OnOk, IsTrue};
 ghost use Rattle.kl1_model.specs.Term.{terms_of};
-ghost use Rattle.kl1_model.specs.TermCode.{nodes_of_all};
+ghost use Rattle.kl1_model.specs.code.TermCode.{nodes_of_all};
 ghost use Rattle.kl1_model.specs.Meaning.{highest_in};
 ghost use Rattle.kl1_clause.specs.Instructions.{IsRowOf};
 ghost use Rattle.kl1_model.specs.State.{names_in, names_of_clause};
 ghost use Rattle.kl1_clause.specs.NameList.{with_texts};
 ghost use Rattle.kl1_model.specs.Module.{goals_of};
-ghost use Rattle.kl1_model.specs.WaitsLaws.{is_guarded};
+ghost use Rattle.kl1_model.specs.laws.WaitsLaws.{is_guarded};
 ghost use Rattle.kl1_read.specs.Sources.{clause_of_parts, goal_of_parts};
 ghost use Rattle.kl1_clause.specs.Clauses.{IsCompiled, priorities_of};
 

@@ -1,7 +1,7 @@
 // Goals that are compiled.
 
 ghost use Rattle.std.specs.Prelude.{◌≡◌, [], IfOk};
-ghost use Rattle.kl1_model.specs.TermCode.{nodes_of};
+ghost use Rattle.kl1_model.specs.code.TermCode.{nodes_of};
 ghost use Rattle.kl1_model.specs.Nodes.{goal_nodes};
 ghost use Rattle.kl1_model.specs.State.{names_of, with_names};
 ghost use Rattle.kl1_clause.specs.NameList.{IsNameList};
@@ -27,7 +27,7 @@ pub struct GoalCode {
 
 impl Model for GoalCode {
     ghost use Rattle.kl1_model.specs.Term.{Term};
-    ghost use Rattle.kl1_model.specs.TermCode.{term_code};
+    ghost use Rattle.kl1_model.specs.code.TermCode.{term_code};
 
     ghost Value = { Term };
 

@@ -1,7 +1,7 @@
 // How many structures goals have in their arguments.
 
 ghost use Rattle.std.specs.Prelude.{◌≡◌, ◌<◌, ◌^◌, List, ◌∷◌, length, map};
-ghost use Rattle.kl1_model.specs.TermCode.{NodeCode};
+ghost use Rattle.kl1_model.specs.code.TermCode.{NodeCode};
 ghost use Rattle.kl1_term.specs.Nodes.{code_of, count_in};
 ghost use Rattle.kl1_model.specs.Module.{goals_of};
 ghost use Rattle.kl1_model.specs.Nodes.{goal_nodes, goals_nodes};

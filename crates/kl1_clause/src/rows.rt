@@ -2,7 +2,7 @@
 
 ghost use Rattle.std.specs.Prelude.{◌≡◌, ◌∷◌, [], ◌++◌, length, map, IfOk, OnOk};
 ghost use Rattle.kl1_model.specs.Term.{terms_of};
-ghost use Rattle.kl1_model.specs.TermCode.{nodes_of_all};
+ghost use Rattle.kl1_model.specs.code.TermCode.{nodes_of_all};
 ghost use Rattle.kl1_model.specs.State.{names_in};
 ghost use Rattle.kl1_term.specs.Nodes.{code_of};
 ghost use Rattle.kl1_clause.specs.NameList.{with_texts};

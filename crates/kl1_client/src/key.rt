@@ -2,7 +2,7 @@
 
 use crate::trouble::Trouble;
 use crate::words::Asked;
-use kl1_talk::Fault;
+use kl1_client_talk::Fault;
 use std::env::VarError;
 use std::fs::File;
 use std::io::Read;

@@ -9,7 +9,7 @@ mod words;
 
 use crate::started::status_by;
 use crate::words::{asked_in, tell};
-use kl1_talk::{BAD_WORDS, TROUBLE};
+use kl1_client_talk::{BAD_WORDS, TROUBLE};
 use std::process::ExitCode;
 use std::{env, io};
 

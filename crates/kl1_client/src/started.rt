@@ -4,7 +4,9 @@ use crate::key::{is_word, key_of};
 use crate::terminal::Terminal;
 use crate::trouble::Trouble;
 use crate::words::Asked;
-use kl1_talk::{Caller, Connection, Counted, LineReader, Outcome, Sink, Source, status_of, talk};
+use kl1_client_talk::{
+    Caller, Connection, Counted, LineReader, Outcome, Sink, Source, status_of, talk,
+};
 use std::alloc::{AllocError, Global};
 use std::io::IsTerminal;
 use std::net::TcpStream;

@@ -1,6 +1,6 @@
 // Who gives the commands: words of the program, or standard input.
 
-use kl1_talk::{Caller, Fault, LineReader, MOST_SOURCE_BYTES, Source};
+use kl1_client_talk::{Caller, Fault, LineReader, MOST_SOURCE_BYTES, Source};
 use std::fs::File;
 use std::io::Read;
 use std::time::Duration;

@@ -1,6 +1,6 @@
 // Why nothing could be asked, or not all.
 
-use kl1_talk::{BAD_WORDS, Fault, TROUBLE};
+use kl1_client_talk::{BAD_WORDS, Fault, TROUBLE};
 use std::alloc::{AllocError, AllocFailed};
 use std::io;
 

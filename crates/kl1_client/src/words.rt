@@ -1,7 +1,7 @@
 // The words that the program knows, and what they ask for.
 
 use clap::{Arg, ArgAction, Command, Error};
-use kl1_talk::{BAD_WORDS, TROUBLE};
+use kl1_client_talk::{BAD_WORDS, TROUBLE};
 use std::alloc::{AllocError, Global};
 
 /// How the program is called.

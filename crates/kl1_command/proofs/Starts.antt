@@ -4,7 +4,7 @@ use Rattle.std.proofs.lemmas.Bool.{lt-leb, and_left, and_right}
 use Rattle.kl1_model.specs.Limits.{most_priority}
 use Rattle.kl1_model.specs.Term.{Term}
 use Rattle.kl1_model.specs.Module.{Reading, good, bad}
-use Rattle.kl1_history.specs.Command.{start_with}
+use Rattle.kl1_model_history.specs.Command.{start_with}
 
 pub out_of_order : (allowance low high : ℕ) (r : Reading Term) → high < low → None ≡ start_with allowance low high r
 out_of_order allowance low high (good t) h = rw (and_left (nat_le low high) (nat_le high most_priority) (lt-leb low high h)) refl

@@ -1,6 +1,6 @@
 // Commands.
 
-use kl1_event::Event;
+use kl1_user_events::Event;
 
 /// What an account is asked to do.
 #[derive(Drop)]

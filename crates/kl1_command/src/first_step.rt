@@ -1,11 +1,11 @@
 // What becomes of the first goal that can step.
 
 ghost use Rattle.std.specs.Prelude.{◌≡◌};
-ghost use Rattle.kl1_event.specs.Views.{reduced_or};
+ghost use Rattle.kl1_user_events.specs.Views.{reduced_or};
 ghost use Rattle.kl1_command.specs.Performing.{IsFirstStep, IsStepUntouched, IsTold};
 
 use crate::host::Host;
-use kl1_event::Refusal;
+use kl1_user_events::Refusal;
 
 /// What became of the first goal that can step.
 pub(crate) enum FirstStep {

@@ -3,12 +3,12 @@
 ghost use Rattle.std.specs.Prelude.{◌≡◌, IfOk, OnErr, option_map};
 ghost use Rattle.kl1_model.specs.Choice.{first};
 ghost use Rattle.kl1_model.specs.Event.{reduce as reduce_event};
-ghost use Rattle.kl1_history.specs.Journal.{Kept, done};
-ghost use Rattle.kl1_history.specs.JournalText.{page_of};
-ghost use Rattle.kl1_event.specs.Views.{event_of, reply_of, reduced_or, chosen_of};
-ghost use Rattle.kl1_event.specs.Whole.{whole_value};
+ghost use Rattle.kl1_model_history.specs.Journal.{Kept, done};
+ghost use Rattle.kl1_model_history.specs.JournalText.{page_of};
+ghost use Rattle.kl1_user_events.specs.Views.{event_of, reply_of, reduced_or, chosen_of};
+ghost use Rattle.kl1_user_events.specs.Whole.{whole_value};
 
-use kl1_event::{ClauseNo, Event, GoalNo, Listed, Refusal, Reply, ShoenNo};
+use kl1_user_events::{ClauseNo, Event, GoalNo, Listed, Refusal, Reply, ShoenNo};
 use std::alloc::AllocError;
 
 /// What has one account, with its journal, to which commands are done.

@@ -1,18 +1,20 @@
 // The commands of lines and records.
 
 ghost use Rattle.std.specs.Prelude.{◌≡◌, IfOk, Some};
-ghost use Rattle.kl1_history.specs.Command.{parse, command_by, command_of, does, runs, asks_value, asks_status, start_command, start_with, reduce_command, allow_command, send_command, reports_command, journal_command, alone_command};
+ghost use Rattle.kl1_model_history.specs.Command.{parse, command_by, command_of, does, runs, asks_value, asks_status, start_command, start_with, reduce_command, allow_command, send_command, reports_command, journal_command, alone_command};
 ghost use Rattle.kl1_model.specs.Module.{read_goal};
-ghost use Rattle.kl1_lines.specs.Records.{request_of};
-ghost use Rattle.kl1_event.specs.Views.{event_of};
+ghost use Rattle.kl1_command_lines.specs.Records.{request_of};
+ghost use Rattle.kl1_user_events.specs.Views.{event_of};
 ghost use Rattle.kl1_command.specs.Commands.{parsed_view};
 
 use crate::command::Command;
-use kl1_event::{ClauseNo, Event, GoalNo, Query, ShoenNo};
-use kl1_lines::{Request, is_blank_line, is_same, number_in, only_number, split_word, up_to};
+use kl1_command_lines::{
+    Request, is_blank_line, is_same, number_in, only_number, split_word, up_to,
+};
 use kl1_model::Message;
 use kl1_model::limits::{MOST_COMMAND_BYTES, MOST_LISTED, MOST_PRIORITY, MOST_STEPS};
 use kl1_read::{ReadFault, read_goal};
+use kl1_user_events::{ClauseNo, Event, GoalNo, Query, ShoenNo};
 use std::alloc::{AllocError, Global};
 
 /// What a line or a record asks for.

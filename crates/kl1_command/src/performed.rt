@@ -1,16 +1,16 @@
 // What a command does to an account.
 
 ghost use Rattle.std.specs.Prelude.{◌≡◌};
-ghost use Rattle.kl1_history.specs.Command as model;
-ghost use Rattle.kl1_history.specs.Journal.{Kept};
-ghost use Rattle.kl1_event.specs.Views.{refusal_of, reply_of};
+ghost use Rattle.kl1_model_history.specs.Command as model;
+ghost use Rattle.kl1_model_history.specs.Journal.{Kept};
+ghost use Rattle.kl1_user_events.specs.Views.{refusal_of, reply_of};
 ghost use Rattle.kl1_command.specs.Commands.{command_view};
 ghost use Rattle.kl1_command.specs.Performing.{IsUntouched, Performs};
 
 use crate::command::Command;
 use crate::first_step::{FirstStep, reduce_first};
 use crate::host::Host;
-use kl1_event::{Refusal, Reply};
+use kl1_user_events::{Refusal, Reply};
 
 /// What became of a command.
 #[derive(Drop)]

@@ -5,12 +5,12 @@ use Rattle.std.proofs.lemmas.Bool.{ltb-true}
 use Rattle.kl1_model.specs.Limits.{most_sessions}
 use Rattle.kl1_model.specs.State.{State}
 use Rattle.kl1_model.specs.Event as model
-use Rattle.kl1_model.specs.Event.{Stepped, refuse, sessions_refused}
+use Rattle.kl1_model.specs.Event.{Transition, refuse, sessions_refused}
 use Rattle.kl1_model.specs.Step.{log_in, log_out, step}
-use Rattle.kl1_model.specs.TreeLaws.{is_refused}
-use Rattle.kl1_history.specs.Journal.{Entry, Journal, new_journal, with_event, noted}
-use Rattle.kl1_entries.specs.Lined.{entry_of, lined_entry, with_prepared}
-use Rattle.kl1_entries.proofs.Accepted.{accepted_entries}
+use Rattle.kl1_model.specs.laws.TreeLaws.{is_refused}
+use Rattle.kl1_model_history.specs.Journal.{Entry, Journal, new_journal, with_event, noted}
+use Rattle.kl1_journal_entries.specs.Lined.{entry_of, lined_entry, with_prepared}
+use Rattle.kl1_journal_entries.proofs.Accepted.{accepted_entries}
 use Rattle.kl1_journal.specs.declared.change.Change.{Change}
 use Rattle.kl1_journal.specs.declared.change.Change.TheVariants as change
 use Rattle.kl1_journal.specs.Changes.{IsEntered, IsChange, ReplyFits, SessionsFit, sessions_after, changed}
@@ -30,12 +30,12 @@ sized : Journal → ℕ → Journal
 sized j n = record j { sessions = n }
 
 login_is : (c : Bool) (s : State) (j : Journal) → j.sessions ≡ s.sessions →
-    (let x : Stepped = if c then record { state = record s { sessions = suc s.sessions }; reply = model.welcome s.own_name } else refuse s sessions_refused in is_refused x.reply ≡ false → record j { sessions = x.state.sessions } ≡ sessions_after j x.reply)
+    (let x : Transition = if c then record { state = record s { sessions = suc s.sessions }; reply = model.welcome s.own_name } else refuse s sessions_refused in is_refused x.reply ≡ false → record j { sessions = x.state.sessions } ≡ sessions_after j x.reply)
 login_is true s j same a = ap (λ (n : ℕ). let z : Journal = record j { sessions = suc n } in z) (sym same)
 login_is false s j same a = cc
 
 logout_is : (c : Bool) (s : State) (j : Journal) → j.sessions ≡ s.sessions →
-    (let x : Stepped = if c then record { state = record s { sessions = s.sessions - 1 }; reply = model.bye } else refuse s sessions_refused in is_refused x.reply ≡ false → record j { sessions = x.state.sessions } ≡ sessions_after j x.reply)
+    (let x : Transition = if c then record { state = record s { sessions = s.sessions - 1 }; reply = model.bye } else refuse s sessions_refused in is_refused x.reply ≡ false → record j { sessions = x.state.sessions } ≡ sessions_after j x.reply)
 logout_is true s j same a = ap (λ (n : ℕ). let z : Journal = record j { sessions = n - 1 } in z) (sym same)
 logout_is false s j same a = cc
 

@@ -3,25 +3,25 @@ use Rattle.std.proofs.Common.{◌≡◌, ℕ, Bool, true, false, if◌then◌els
 use Rattle.std.specs.Prelude.{Option, Some, None, is_some}
 use Rattle.kl1_model.specs.State.{State, fresh}
 use Rattle.kl1_model.specs.Event as model
-use Rattle.kl1_model.specs.Event.{Stepped}
+use Rattle.kl1_model.specs.Event.{Transition}
 use Rattle.kl1_model.specs.Step.{step}
-use Rattle.kl1_model.specs.TreeLaws.{is_refused}
-use Rattle.kl1_history.specs.Journal.{Journal, steps, noted, Kept, Done, fresh_kept, kept_after, done}
-use Rattle.kl1_history.specs.HistoryLaws.{IsReplay}
-use Rattle.kl1_history.specs.TextLaws as texts
-use Rattle.kl1_history.proofs.Replays.{fresh_is_replay, replays_stay}
-use Rattle.kl1_history.proofs.NewNames.{no_names}
-use Rattle.kl1_history.proofs.WrittenStays.{step_named}
+use Rattle.kl1_model.specs.laws.TreeLaws.{is_refused}
+use Rattle.kl1_model_history.specs.Journal.{Journal, steps, noted, Kept, Done, fresh_kept, kept_after, done}
+use Rattle.kl1_model_history.specs.laws.HistoryLaws.{IsReplay}
+use Rattle.kl1_model_history.specs.laws.TextLaws as texts
+use Rattle.kl1_model_history.proofs.Replays.{fresh_is_replay, replays_stay}
+use Rattle.kl1_model_history.proofs.NewNames.{no_names}
+use Rattle.kl1_model_history.proofs.WrittenStays.{step_named}
 use Rattle.kl1_atoms.specs.declared.known.Known.{Known}
 use Rattle.std.proofs.lemmas.Option.{none-some}
 use Rattle.kl1_atoms.specs.Names.{AreNames}
 use Rattle.kl1_atoms.specs.Knowing.{are_names}
 use Rattle.kl1_user.specs.Accounts.{Reading, Fits}
 use Rattle.kl1_user.specs.Accounts.{Account, state_of, texts_of}
-use Rattle.kl1_entries.specs.Lined.{if_lined, with_prepared}
-use Rattle.kl1_entries.proofs.Accepted.{accepted_entries}
-use Rattle.kl1_event.specs.declared.refusal.Refusal.{Refusal}
-use Rattle.kl1_event.specs.Views.{reduced_or}
+use Rattle.kl1_journal_entries.specs.Lined.{if_lined, with_prepared}
+use Rattle.kl1_journal_entries.proofs.Accepted.{accepted_entries}
+use Rattle.kl1_user_events.specs.declared.refusal.Refusal.{Refusal}
+use Rattle.kl1_user_events.specs.Views.{reduced_or}
 use Rattle.kl1_journal.specs.declared.change.Change.{Change}
 use Rattle.kl1_journal.specs.Changes.{IsChange, SessionsFit, changed}
 use Rattle.kl1_journal.specs.Keeping.{kept_of, IsKept}
@@ -37,14 +37,14 @@ done_by : (f : Reading) (old new : Account) (j k : Journal) (e : model.Event) (r
     done (kept_of f (old, j)) e ≡ record { kept = kept_of f (new, k); reply = reply }
 done_by f old new j k e reply is noted_as =
     ap (λ (i : Journal). let z : Done = record { kept = record { state = (step (state_of f old) e).state; journal = i }; reply = (step (state_of f old) e).reply } in z) noted_as
-    ∙ ap (λ (x : Stepped). let z : Done = record { kept = record { state = x.state; journal = k }; reply = x.reply } in z) is
+    ∙ ap (λ (x : Transition). let z : Done = record { kept = record { state = x.state; journal = k }; reply = x.reply } in z) is
 
 -- the change of an event was noted
 pub done_change : (f : Reading) (old new : Account) (j k : Journal) (e : model.Event) (reply : model.Reply) (c : Change) → IsReplay (kept_of f (old, j)) → step (state_of f old) e ≡ record { state = state_of f new; reply = reply } → IsChange (texts_of old.names) j e c →
     k ≡ (if is_refused reply then j else changed j c reply) → done (kept_of f (old, j)) e ≡ record { kept = kept_of f (new, k); reply = reply }
 done_change f old new j k e reply c was is h k_is =
     done_by f old new j k e reply is
-    (noted_is (state_of f old) (texts_of old.names) j e c h refl was.sessions ∙ ap (λ (x : Stepped). if is_refused x.reply then j else changed j c x.reply) is ∙ sym k_is)
+    (noted_is (state_of f old) (texts_of old.names) j e c h refl was.sessions ∙ ap (λ (x : Transition). if is_refused x.reply then j else changed j c x.reply) is ∙ sym k_is)
 
 -- an account is the replay of its journal after an event
 kept_by : (old new : Account) (j k : Journal) (e : model.Event) (reply : model.Reply) → IsKept (old, j) → AreNames new.names → Does old e new reply → ((f : Reading) → Fits new.names f → Fits old.names f) →
@@ -53,7 +53,7 @@ kept_by old new j k e reply was names does before is = record {
   replay = λ f fits. subst IsReplay (ap (λ (x : Done). x.kept) (is f fits)) (replays_stay (kept_of f (old, j)) e (was.replay f (before f fits)));
   names =
       let f = reading_of new.names in
-      subst texts.AreNames (ap (λ (x : Stepped). x.state.names) (does f (reading_fits new.names names))) (step_named (state_of f old) e was.names);
+      subst texts.AreNames (ap (λ (x : Transition). x.state.names) (does f (reading_fits new.names names))) (step_named (state_of f old) e was.names);
 }
 
 -- so by its change
@@ -67,7 +67,7 @@ pub fits_change : (old new : Account) (j : Journal) (e : model.Event) (reply : m
 fits_change old new j e reply c was names does before h =
     let f = reading_of new.names in
     let fits = reading_fits new.names names in
-    subst (SessionsFit j c) (ap (λ (x : Stepped). x.reply) (does f fits)) (sessions_fit (state_of f old) (texts_of old.names) j e c h (was.replay f (before f fits)).sessions)
+    subst (SessionsFit j c) (ap (λ (x : Transition). x.reply) (does f fits)) (sessions_fit (state_of f old) (texts_of old.names) j e c h (was.replay f (before f fits)).sessions)
 
 step_noted : (s : State) (j k : Journal) (goal clause : ℕ) (o : Option Refusal) → (step s (model.reduce goal clause)).reply ≡ reduced_or o → k ≡ (if is_some o then j else with_prepared j (if_lined (steps goal clause))) → noted j (model.reduce goal clause) (step s (model.reduce goal clause)) ≡ k
 step_noted s j k goal clause None told is =
@@ -79,7 +79,7 @@ step_noted s j k goal clause (Some r) told is = ap (λ (x : model.Reply). if is_
 pub done_step : (f : Reading) (old new : Account) (j k : Journal) (goal clause : ℕ) (o : Option Refusal) → step (state_of f old) (model.reduce goal clause) ≡ record { state = state_of f new; reply = reduced_or o } →
     k ≡ (if is_some o then j else with_prepared j (if_lined (steps goal clause))) → done (kept_of f (old, j)) (model.reduce goal clause) ≡ record { kept = kept_of f (new, k); reply = reduced_or o }
 done_step f old new j k goal clause o is k_is =
-    done_by f old new j k (model.reduce goal clause) (reduced_or o) is (step_noted (state_of f old) j k goal clause o (ap (λ (x : Stepped). x.reply) is) k_is)
+    done_by f old new j k (model.reduce goal clause) (reduced_or o) is (step_noted (state_of f old) j k goal clause o (ap (λ (x : Transition). x.reply) is) k_is)
 
 pub kept_step : (old new : Account) (j k : Journal) (goal clause : ℕ) (o : Option Refusal) → IsKept (old, j) → AreNames new.names → Does old (model.reduce goal clause) new (reduced_or o) → ((f : Reading) → Fits new.names f → Fits old.names f) →
     k ≡ (if is_some o then j else with_prepared j (if_lined (steps goal clause))) → IsKept (new, k)

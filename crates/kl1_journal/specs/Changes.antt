@@ -2,8 +2,8 @@
 use Rattle.std.specs.Prelude.{⊤, ◌≡◌, ℕ, suc, ◌-◌, ◌<◌, ◌⊎◌, List, IfSome}
 use Rattle.kl1_model.specs.Limits.{most_sessions}
 use Rattle.kl1_model.specs.Event as model
-use Rattle.kl1_history.specs.Journal.{Journal, new_journal}
-use Rattle.kl1_entries.specs.Lined.{Rows, lined_entry, with_prepared}
+use Rattle.kl1_model_history.specs.Journal.{Journal, new_journal}
+use Rattle.kl1_journal_entries.specs.Lined.{Rows, lined_entry, with_prepared}
 use Rattle.kl1_journal.specs.declared.change.Change.{Change}
 use Rattle.kl1_journal.specs.declared.change.Change.TheVariants as change
 

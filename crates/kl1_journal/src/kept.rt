@@ -3,23 +3,23 @@
 ghost use Rattle.std.specs.Prelude.{◌≡◌, ◌↔◌, ℕ, [], IfOk, IsOk, IsTrue, OnErr, option_map};
 ghost use Rattle.kl1_model.specs.Event.{reduce as reduce_event};
 ghost use Rattle.kl1_model.specs.Choice.{first, quiet};
-ghost use Rattle.kl1_history.specs.Journal.{fresh_kept, done};
-ghost use Rattle.kl1_history.specs.JournalText.{page_of};
-ghost use Rattle.kl1_history.specs.TextLaws.{AreNames as MayBeNames};
+ghost use Rattle.kl1_model_history.specs.Journal.{fresh_kept, done};
+ghost use Rattle.kl1_model_history.specs.JournalText.{page_of};
+ghost use Rattle.kl1_model_history.specs.laws.TextLaws.{AreNames as MayBeNames};
 ghost use Rattle.kl1_atoms.specs.Names.{AreNames};
-ghost use Rattle.kl1_modules.specs.Numbered.{ArePlaced};
+ghost use Rattle.kl1_codes_modules.specs.Numbered.{ArePlaced};
 ghost use Rattle.kl1_user.specs.Accounts.{Reading, Fits};
 ghost use Rattle.kl1_user.specs.Accounts.{texts_of};
-ghost use Rattle.kl1_event.specs.Views.{event_of, is_logout, reply_of, reduced_or, chosen_of};
-ghost use Rattle.kl1_event.specs.Whole.{whole_value};
+ghost use Rattle.kl1_user_events.specs.Views.{event_of, is_logout, reply_of, reduced_or, chosen_of};
+ghost use Rattle.kl1_user_events.specs.Whole.{whole_value};
 ghost use Rattle.kl1_journal.specs.Keeping.{kept_of, IsKept};
 
 use crate::change::{note, note_step, prepare};
 use kl1_atoms::AtomSource;
 use kl1_codes::CodeSource;
-use kl1_entries::Journal;
-use kl1_event::{ClauseNo, Event, GoalNo, Listed, Refusal, Reply, ShoenNo};
+use kl1_journal_entries::Journal;
 use kl1_user::{AccountName, UserState};
+use kl1_user_events::{ClauseNo, Event, GoalNo, Listed, Refusal, Reply, ShoenNo};
 use std::alloc::{AllocError, Global};
 use std::marker::{Model, PhantomData};
 
@@ -36,11 +36,11 @@ pub struct Kept<A: AtomSource, C: CodeSource> {
 impl<A: AtomSource, C: CodeSource> Model for Kept<A, C> {
     ghost use Rattle.std.specs.Prelude.{◌≡◌};
     ghost use Rattle.std.specs.Coded.{codes};
-    ghost use Rattle.kl1_modules.specs.Numbered.{numbered_code};
+    ghost use Rattle.kl1_codes_modules.specs.Numbered.{numbered_code};
     ghost use Rattle.kl1_atoms.specs.Names.{AreNames};
     ghost use Rattle.kl1_user.specs.Accounts.{Account};
-    ghost use Rattle.kl1_history.specs.Journal.{Journal as Entered};
-    ghost use Rattle.kl1_entries.specs.Codes.{journal_code};
+    ghost use Rattle.kl1_model_history.specs.Journal.{Journal as Entered};
+    ghost use Rattle.kl1_journal_entries.specs.Codes.{journal_code};
     ghost use Rattle.kl1_journal.specs.Keeping.{IsKept};
 
     ghost Value = { A.Seat × (Account × Entered) };

@@ -5,5 +5,5 @@ mod change;
 mod kept;
 
 pub use kept::Kept;
-pub use kl1_entries::Journal;
+pub use kl1_journal_entries::Journal;
 pub use kl1_user::AccountName;

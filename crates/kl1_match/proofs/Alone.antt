@@ -3,11 +3,11 @@ use Rattle.std.proofs.Common.{◌≡◌, ℕ, ◌<◌, ◌≤◌, ◌==◌, ◌&
 use Rattle.std.specs.Prelude.{bytes_eq, codes}
 use Rattle.std.proofs.lemmas.Bool.{ne_eqb}
 use Rattle.kl1_model.specs.Term.{Term, variable, integer, atom, structure, Terms, none, more, terms_of, count_of, Replacement}
-use Rattle.kl1_model.specs.TermCode.{NodeCode, nodes_of_all}
+use Rattle.kl1_model.specs.code.TermCode.{NodeCode, nodes_of_all}
 use Rattle.kl1_model.specs.declared.built_in.BuiltIn.TheVariants.{True}
 use Rattle.kl1_model.specs.Meaning.{variables_of, variables_in as variables_of_all, highest_in}
 use Rattle.kl1_model.specs.Module.{Clause}
-use Rattle.kl1_model.specs.Outcome.{agrees, clashes, both, Matched, with_outcome, match_term, match_terms, alike_with, each_alike, test_outcome, tests_outcome, guard_outcome, named_verdict, verdict_with, alike}
+use Rattle.kl1_model.specs.code.Outcome.{agrees, clashes, both, Matched, with_outcome, match_term, match_terms, alike_with, each_alike, test_outcome, tests_outcome, guard_outcome, named_verdict, verdict_with, alike}
 use Rattle.kl1_term.specs.Variables.{variables_in}
 use Rattle.kl1_term.proofs.VariableFacts.{variables_all}
 use Rattle.kl1_clause.specs.declared.compiled_clause.CompiledClause.{CompiledClause}

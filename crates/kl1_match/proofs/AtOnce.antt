@@ -4,17 +4,17 @@ use Rattle.std.specs.Prelude.{Some, option_map}
 use Rattle.kl1_model.specs.declared.built_in.BuiltIn.{BuiltIn}
 use Rattle.kl1_model.specs.declared.comparison.Comparison.{Comparison}
 use Rattle.kl1_model.specs.Term.{Term, integer}
-use Rattle.kl1_model.specs.TermCode.{behind_first}
+use Rattle.kl1_model.specs.code.TermCode.{behind_first}
 use Rattle.kl1_model.specs.Guard.{compares, compared, test_of, test_of_two}
-use Rattle.kl1_model.specs.Outcome.{beside}
+use Rattle.kl1_model.specs.code.Outcome.{beside}
 use Rattle.kl1_text.specs.Reading.{Reads}
 use Rattle.kl1_store.specs.Held.{Held}
 use Rattle.kl1_clause.specs.declared.name.Name.{Name}
 use Rattle.kl1_clause.specs.declared.name.Name.TheVariants.{Language}
 use Rattle.kl1_clause.specs.declared.instruction.Instruction.{Instruction}
 use Rattle.kl1_clause.specs.declared.instruction.Instruction.TheVariants as instruction
-use Rattle.kl1_guard.specs.declared.test.Test.TheVariants.{Compares}
-use Rattle.kl1_guard.specs.Tests.{test_in}
+use Rattle.kl1_match_guard.specs.declared.test.Test.TheVariants.{Compares}
+use Rattle.kl1_match_guard.specs.Tests.{test_in}
 use Rattle.kl1_match.specs.declared.place.Place.{Place}
 use Rattle.kl1_match.specs.declared.test_view.TestAt.TheVariants as at
 use Rattle.kl1_match.specs.TestTerms.{Tests, tests_with, last_of, terms_from, instruction_in, test_term}

@@ -3,7 +3,7 @@ use Rattle.std.proofs.Common.{◌≡◌, ℕ, ◌+◌, ◌-◌, ◌<◌, List, [
 use Rattle.kl1_model.specs.declared.built_in.BuiltIn.{BuiltIn}
 use Rattle.std.specs.Prelude.{codes, Option, Some, None}
 use Rattle.kl1_model.specs.Term.{Term, atom, structure, Terms, none, more, terms_of, list_of, substituted}
-use Rattle.kl1_model.specs.TermCode.{NodeCode, nodes_of_all, read_nodes, all-read-back}
+use Rattle.kl1_model.specs.code.TermCode.{NodeCode, nodes_of_all, read_nodes, all-read-back}
 use Rattle.kl1_model.specs.Meaning.{highest_in as highest_of_all}
 use Rattle.kl1_model.specs.Module.{goals_of}
 use Rattle.kl1_model.specs.Instance.{body_variable}

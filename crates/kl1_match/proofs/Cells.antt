@@ -8,7 +8,7 @@ use Rattle.std.proofs.lemmas.Bool.{ne_eqb, eq-eqb, cond-true, cond-false, false_
 use Rattle.std.proofs.lemmas.Bool.Decides.{Decides-int_eq}
 use Rattle.kl1_model.specs.declared.built_in.BuiltIn.{BuiltIn}
 use Rattle.kl1_model.specs.Term.{Term, variable, integer, atom, structure, Terms, none, more, count_of}
-use Rattle.kl1_model.specs.Outcome.{Outcome, agrees, clashes, decided, with_outcome, match_term, match_terms}
+use Rattle.kl1_model.specs.code.Outcome.{Outcome, agrees, clashes, decided, with_outcome, match_term, match_terms}
 use Rattle.kl1_text.specs.Reading.{Reads}
 use Rattle.kl1_store.specs.declared.cell.Cell.{Cell}
 use Rattle.kl1_store.specs.declared.cell.Cell.TheVariants.{Variable, Integer, Atom, Structure}
@@ -18,7 +18,7 @@ use Rattle.kl1_store.specs.Places.{all_arguments}
 use Rattle.kl1_store.specs.Sound.{IsFormed}
 use Rattle.kl1_store.proofs.Terms.{term_of-Integer, term_of-Atom, term_of-Structure, term_of-unbound}
 use Rattle.kl1_store.proofs.Meetings.{named, count_of-terms_of}
-use Rattle.kl1_model.specs.TermCode.{NodeCode, nodes_of, nodes_of_all}
+use Rattle.kl1_model.specs.code.TermCode.{NodeCode, nodes_of, nodes_of_all}
 use Rattle.kl1_match.specs.declared.place.Place.{Place}
 use Rattle.kl1_match.specs.Instances.{AreThere, replacement_of, replacements_of}
 use Rattle.kl1_match.specs.declared.span.Span.{Span}

@@ -3,7 +3,7 @@ use Rattle.std.proofs.Common.{◌≡◌, ℕ, zero, suc, ◌+◌, ◌-◌, ◌<�
 use Rattle.std.proofs.lemmas.Bool.{and_parts, leb-true}
 use Rattle.kl1_model.specs.declared.built_in.BuiltIn.{BuiltIn}
 use Rattle.kl1_model.specs.Term.{Term, Terms, variable, integer, atom, structure, none, more, substituted, each_substituted}
-use Rattle.kl1_model.specs.TermCode.{NodeCode, nodes_of, read_nodes, reads-back}
+use Rattle.kl1_model.specs.code.TermCode.{NodeCode, nodes_of, read_nodes, reads-back}
 use Rattle.kl1_model.specs.Meaning.{highest, highest_in, variables_of, variables_in, numbered_after}
 use Rattle.kl1_term.proofs.VariableFacts.{highest_is}
 use Rattle.kl1_store.specs.declared.cell.Cell.{Cell}

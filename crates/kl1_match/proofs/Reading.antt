@@ -4,7 +4,7 @@ use Rattle.std.proofs.Common.{◌≡◌, ℕ, zero, suc, Bool, true, false, ◌+
 use Rattle.std.proofs.lemmas.List.{drop_all}
 use Rattle.std.proofs.lemmas.Bool.{leb-true, leb-false}
 use Rattle.kl1_model.specs.Term.{Term, variable, integer, atom, structure}
-use Rattle.kl1_model.specs.TermCode.{first_term, behind_first, front_of, behind, read_node}
+use Rattle.kl1_model.specs.code.TermCode.{first_term, behind_first, front_of, behind, read_node}
 use Rattle.kl1_clause.specs.declared.name.Name.{Name}
 use Rattle.kl1_clause.specs.declared.instruction.Instruction.{Instruction}
 use Rattle.kl1_clause.specs.declared.instruction.Instruction.TheVariants.{Variable, Integer, Atom, Structure}

@@ -3,7 +3,7 @@ use Rattle.std.proofs.Common.{◌≡◌, ℕ, zero, suc, ◌+◌, List, [], ◌�
 use Rattle.std.specs.Prelude.{Some, slice_get}
 use Rattle.std.proofs.lemmas.List.{reverse-append}
 use Rattle.kl1_model.specs.Term.{more, structure}
-use Rattle.kl1_model.specs.TermCode.{behind_first, behind}
+use Rattle.kl1_model.specs.code.TermCode.{behind_first, behind}
 use Rattle.kl1_store.specs.declared.cell.Cell.{Cell}
 use Rattle.kl1_store.specs.declared.cell.Cell.TheVariants.{Structure}
 use Rattle.kl1_store.specs.Held.{Shape, Held, with_structure, IsIn, AreIn, arguments_of, shape_arguments}

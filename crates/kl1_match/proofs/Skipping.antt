@@ -3,7 +3,7 @@ use Rattle.std.specs.Prelude.{◌^◌, min}
 use Rattle.std.proofs.Common.{◌≡◌, ℕ, suc, ◌+◌, ◌-◌, ◌<◌, ◌≤◌, List, [], ◌∷◌, ◌++◌, length, map, refl, sym, ap, ◌∙◌, arith, inl, inr, length-append, append_assoc, get_or, drop, length-drop, drop-cons, subst}
 use Rattle.std.proofs.lemmas.List.{length-map, drop_all}
 use Rattle.kl1_model.specs.Term.{Term, variable, integer, atom, structure, Terms, none, more, count_of}
-use Rattle.kl1_model.specs.TermCode.{NodeCode, nodes_of, nodes_of_all}
+use Rattle.kl1_model.specs.code.TermCode.{NodeCode, nodes_of, nodes_of_all}
 use Rattle.kl1_clause.specs.declared.instruction.Instruction.{Instruction}
 use Rattle.kl1_clause.specs.declared.instruction.Instruction.TheVariants.{Variable, Integer, Atom, Structure}
 use Rattle.kl1_clause.specs.Instructions.{code_in}

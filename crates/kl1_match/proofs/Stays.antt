@@ -2,7 +2,7 @@
 use Rattle.std.proofs.Common.{◌≡◌, ℕ, List, [], ◌∷◌, refl, sym, ap, ap₂, ◌∙◌}
 use Rattle.kl1_model.specs.Term.{Term, variable, integer, atom, structure, Terms, none, more, substituted, each_substituted, Replacement, replaced}
 use Rattle.kl1_model.specs.Module.{Module}
-use Rattle.kl1_model.specs.Waits.{LeavesEach, term_clause, awaited_by_term}
+use Rattle.kl1_model.specs.code.Waits.{LeavesEach, term_clause, awaited_by_term}
 use Rattle.kl1_model.proofs.Substitutions.{values_of, replaced_is}
 use Rattle.kl1_model.proofs.TermStays.{term_stays}
 use Rattle.kl1_store.specs.declared.cell.Cell.{Cell}

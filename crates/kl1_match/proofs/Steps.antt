@@ -2,7 +2,7 @@
 use Rattle.std.proofs.Common.{◌≡◌, ℕ, zero, suc, ◌<◌, List, [], ◌∷◌, ◌++◌, length, map, reverse, refl, ap, sym, ◌∙◌, subst, slice_index_or, ℤ, arith}
 use Rattle.std.proofs.lemmas.List.{reverse-append}
 use Rattle.kl1_model.specs.Term.{Term, more, structure, substituted, each_substituted}
-use Rattle.kl1_model.specs.TermCode.{first_term, behind_first, front_of, behind, read_node}
+use Rattle.kl1_model.specs.code.TermCode.{first_term, behind_first, front_of, behind, read_node}
 use Rattle.kl1_store.specs.declared.cell.Cell.{Cell}
 use Rattle.kl1_store.specs.declared.cell.Cell.TheVariants as cell
 use Rattle.kl1_store.specs.Held.{Held, IsWithin, AreWithin, IsIn, AreIn}

@@ -8,7 +8,7 @@ use Rattle.std.proofs.lemmas.Bool.{or_parts, or_from, or_left, false≢true, fal
 use Rattle.kl1_model.specs.declared.built_in.BuiltIn.{BuiltIn}
 use Rattle.kl1_model.specs.Term.{Term, same_term}
 use Rattle.kl1_model.specs.Same.{same, differs, unknown, passive, clash, awaited}
-use Rattle.kl1_model.specs.Outcome.{own_variables}
+use Rattle.kl1_model.specs.code.Outcome.{own_variables}
 use Rattle.kl1_model.proofs.TermFacts.{same_term_decides}
 use Rattle.kl1_model.proofs.Clashes.{no_clash}
 use Rattle.kl1_model.proofs.SameEach.{awaited_self, same_from}
@@ -17,8 +17,8 @@ use Rattle.kl1_text.specs.Reading.{Reads}
 use Rattle.kl1_store.specs.declared.cell.Cell.{Cell}
 use Rattle.kl1_store.specs.Meaning.{term_of}
 use Rattle.kl1_store.specs.Sameness.{AlikeAs}
-use Rattle.kl1_guard.specs.declared.pair.Pair.{Pair}
-use Rattle.kl1_guard.specs.Alike.{is_among, wait_for, some_pair, IsPairOf, PartsAs, Parts}
+use Rattle.kl1_match_guard.specs.declared.pair.Pair.{Pair}
+use Rattle.kl1_match_guard.specs.Alike.{is_among, wait_for, some_pair, IsPairOf, PartsAs, Parts}
 use Rattle.kl1_match.specs.declared.test_view.TestAt.{TestAt}
 use Rattle.kl1_match.specs.declared.test_view.TestAt.TheVariants as at
 use Rattle.kl1_match.specs.declared.test_view.TestVariable.{TestVariable}

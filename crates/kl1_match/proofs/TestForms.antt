@@ -3,18 +3,18 @@ use Rattle.std.proofs.Common.{◌≡◌, ℕ, zero, suc, ◌+◌, ◌<◌, ◌�
 use Rattle.std.specs.Prelude.{Option, Some, None, option_map}
 use Rattle.kl1_model.specs.declared.built_in.BuiltIn.{BuiltIn}
 use Rattle.kl1_model.specs.Term.{Term, variable, structure, substituted, Terms, none, more, each_substituted, count_of}
-use Rattle.kl1_model.specs.TermCode.{first_term, behind_first, front_of, behind}
+use Rattle.kl1_model.specs.code.TermCode.{first_term, behind_first, front_of, behind}
 use Rattle.kl1_model.specs.Same.{argument_at}
-use Rattle.kl1_model.specs.Outcome.{beside, test_variable}
+use Rattle.kl1_model.specs.code.Outcome.{beside, test_variable}
 use Rattle.kl1_model.proofs.Substitutions.{count-each_substituted}
 use Rattle.kl1_store.specs.declared.cell.Cell.{Cell}
 use Rattle.kl1_store.specs.Held.{Held, IsIn, arguments_of}
 use Rattle.kl1_store.specs.Meaning.{term_of, terms_of}
 use Rattle.kl1_clause.specs.declared.instruction.Instruction.{Instruction}
 use Rattle.kl1_clause.specs.declared.instruction.Instruction.TheVariants as instruction
-use Rattle.kl1_guard.specs.declared.form.Form.{Form}
-use Rattle.kl1_guard.specs.declared.form.Form.TheVariants.{Variable, Integer, Atom, Structure}
-use Rattle.kl1_guard.specs.Forms.{IsForm, IsFormIn, IsStructure}
+use Rattle.kl1_match_guard.specs.declared.form.Form.{Form}
+use Rattle.kl1_match_guard.specs.declared.form.Form.TheVariants.{Variable, Integer, Atom, Structure}
+use Rattle.kl1_match_guard.specs.Forms.{IsForm, IsFormIn, IsStructure}
 use Rattle.kl1_clause.specs.declared.name.Name.{Name}
 use Rattle.kl1_clause.specs.Instructions.{IsNamed, AreNamed}
 use Rattle.kl1_match.specs.declared.place.Place.{Place}

@@ -3,7 +3,7 @@ use Rattle.std.proofs.Common.{◌≡◌, ℕ, zero, suc, ◌<◌, List, [], ◌�
 use Rattle.std.specs.Prelude.{max}
 use Rattle.kl1_model.specs.declared.built_in.BuiltIn.{BuiltIn}
 use Rattle.kl1_model.specs.Term.{Term, terms_of}
-use Rattle.kl1_model.specs.TermCode.{NodeCode, front_of, behind, read_node, read_nodes, nodes_of_all}
+use Rattle.kl1_model.specs.code.TermCode.{NodeCode, front_of, behind, read_node, read_nodes, nodes_of_all}
 use Rattle.kl1_model.specs.Meaning.{highest_in}
 use Rattle.kl1_text.specs.Reading.{Reads}
 use Rattle.kl1_term.proofs.Lent.{list_of-terms_of}

@@ -5,25 +5,25 @@ use Rattle.std.proofs.Math.Seq.{take-append_seam}
 use Rattle.std.proofs.lemmas.List.{drop_all}
 use Rattle.kl1_model.specs.declared.built_in.BuiltIn.{BuiltIn}
 use Rattle.kl1_model.specs.declared.comparison.Comparison.{Comparison}
-use Rattle.kl1_model.specs.declared.inspection.Inspection.{Inspection}
+use Rattle.kl1_model.specs.declared.type_test.TypeTest.{TypeTest}
 use Rattle.kl1_model.specs.Term.{Term, variable, integer, atom, structure, none, more, substituted}
-use Rattle.kl1_model.specs.TermCode.{first_term, behind_first}
+use Rattle.kl1_model.specs.code.TermCode.{first_term, behind_first}
 use Rattle.kl1_model.specs.Same.{awaited}
 use Rattle.kl1_model.specs.Guard as guard
-use Rattle.kl1_model.specs.Outcome as model
-use Rattle.kl1_model.specs.Guard.{inspection_named, comparison_named, holds, looks, is_same, is_other, compares, test_of, test_substituted}
-use Rattle.kl1_model.specs.Outcome.{Outcome, agrees, clashes, both, same_outcome, other_outcome, outcome_by, own_outcome, test_outcome, tests_outcome}
+use Rattle.kl1_model.specs.code.Outcome as model
+use Rattle.kl1_model.specs.Guard.{type_test_named, comparison_named, holds, looks, is_same, is_other, compares, test_of, test_substituted}
+use Rattle.kl1_model.specs.code.Outcome.{Outcome, agrees, clashes, both, same_outcome, other_outcome, outcome_by, own_outcome, test_outcome, tests_outcome}
 use Rattle.kl1_text.specs.Reading.{Reads}
 use Rattle.kl1_store.specs.Held.{Held}
 use Rattle.kl1_clause.specs.declared.name.Name.{Name}
 use Rattle.kl1_clause.specs.declared.instruction.Instruction.{Instruction}
 use Rattle.kl1_clause.specs.declared.instruction.Instruction.TheVariants as instruction
-use Rattle.kl1_guard.specs.declared.outcome.Outcome as found
-use Rattle.kl1_guard.specs.declared.outcome.Outcome.TheVariants.{Agrees, Clashes, Waits}
-use Rattle.kl1_guard.specs.declared.test.Test.{Test}
-use Rattle.kl1_guard.specs.declared.test.Test.TheVariants.{Holds, Looks, IsSame, IsOther, Compares}
-use Rattle.kl1_guard.specs.Outcomes.{outcome_of, LooksAs}
-use Rattle.kl1_guard.specs.Tests.{test_in, IsTestAt}
+use Rattle.kl1_match_guard.specs.declared.outcome.Outcome as found
+use Rattle.kl1_match_guard.specs.declared.outcome.Outcome.TheVariants.{Agrees, Clashes, Waits}
+use Rattle.kl1_match_guard.specs.declared.test.Test.{Test}
+use Rattle.kl1_match_guard.specs.declared.test.Test.TheVariants.{Holds, Looks, IsSame, IsOther, Compares}
+use Rattle.kl1_match_guard.specs.Outcomes.{outcome_of, LooksAs}
+use Rattle.kl1_match_guard.specs.Tests.{test_in, IsTestAt}
 use Rattle.kl1_match.specs.declared.passing.Passed.TheVariants.{Same, Differs, Unknown}
 use Rattle.kl1_match.specs.declared.test_view.TestAt.{TestAt}
 use Rattle.kl1_match.specs.declared.test_view.TestAt.TheVariants as at
@@ -166,7 +166,7 @@ module _ {N : Type 0} (built : BuiltIn → N) (t : Tests N) where
   pub found_holds : (test : Test (TestAt N)) (before : List ℕ) → test ≡ Holds → FoundAs built t test before before true
   found_holds test before e = it_agrees built t.held _ before before refl (λ f reads. ap (λ k. own_outcome (last_of t) (model.outcome_of (test_in (test_term built f t) k))) e)
 
-  pub found_looks : (test : Test (TestAt N)) (i : Inspection) (x : TestAt N) (o : found.Outcome TestVariable) (before after : List ℕ) (b : Bool) → test ≡ Looks i x → LooksAs built (test_number t) i (λ f. test_term built f t x) o → SettledAs built t o before after b → FoundAs built t test before after b
+  pub found_looks : (test : Test (TestAt N)) (i : TypeTest) (x : TestAt N) (o : found.Outcome TestVariable) (before after : List ℕ) (b : Bool) → test ≡ Looks i x → LooksAs built (test_number t) i (λ f. test_term built f t x) o → SettledAs built t o before after b → FoundAs built t test before after b
   found_looks test i x o before after b e looked c =
       comes_as built t.held _ _ before after b (λ f reads. ap (own_outcome (last_of t)) (looked f reads) ∙ sym (ap (λ k. own_outcome (last_of t) (model.outcome_of (test_in (test_term built f t) k))) e)) c
 
@@ -188,7 +188,7 @@ true_again : (s : ℕ → Term) (b : Bool) → (if b then Some holds else None) 
 true_again s true = refl
 true_again s false = refl
 
-one_again : (s : ℕ → Term) (a : Term) (o : Option Inspection) → option_map (λ i. looks i (substituted s a)) o ≡ option_map (test_substituted s) (option_map (λ i. looks i a) o)
+one_again : (s : ℕ → Term) (a : Term) (o : Option TypeTest) → option_map (λ i. looks i (substituted s a)) o ≡ option_map (test_substituted s) (option_map (λ i. looks i a) o)
 one_again s a None = refl
 one_again s a (Some i) = refl
 
@@ -212,7 +212,7 @@ test_again s (variable v) no_one = absurd no_one
 test_again s (integer i) no_one = refl
 test_again s (atom a) no_one = true_again s (bytes_eq a (codes "true"))
 test_again s (structure g none) no_one = refl
-test_again s (structure g (more a none)) no_one = one_again s a (inspection_named g)
+test_again s (structure g (more a none)) no_one = one_again s a (type_test_named g)
 test_again s (structure g (more a (more b none))) no_one = two_again s a b (bytes_eq g (codes "=")) (bytes_eq g (codes "\\=")) (comparison_named g)
 test_again s (structure g (more a (more b (more c ts)))) no_one = refl
 

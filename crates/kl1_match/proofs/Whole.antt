@@ -4,9 +4,9 @@ use Rattle.std.proofs.Math.Seq.{take-append_seam}
 use Rattle.std.proofs.lemmas.List.{drop_all}
 use Rattle.kl1_model.specs.declared.built_in.BuiltIn.{BuiltIn}
 use Rattle.kl1_model.specs.Term.{Term, Terms, more}
-use Rattle.kl1_model.specs.TermCode.{nodes_of_all}
+use Rattle.kl1_model.specs.code.TermCode.{nodes_of_all}
 use Rattle.kl1_model.specs.Module.{Clause}
-use Rattle.kl1_model.specs.Outcome.{clashes, waits, both, Matched, match_terms, each_alike, guard_outcome, awaited_in, accepts, rejects, named_verdict, verdict_with}
+use Rattle.kl1_model.specs.code.Outcome.{clashes, waits, both, Matched, match_terms, each_alike, guard_outcome, awaited_in, accepts, rejects, named_verdict, verdict_with}
 use Rattle.kl1_text.specs.Reading.{Reads}
 use Rattle.kl1_store.specs.declared.cell.Cell.{Cell}
 use Rattle.kl1_store.specs.Held.{Held}

@@ -2,7 +2,7 @@
 use Rattle.std.specs.Prelude.{◌≡◌, ℕ, ◌<◌, List, [], ◌∷◌, map, reverse}
 use Rattle.kl1_model.specs.declared.built_in.BuiltIn.{BuiltIn}
 use Rattle.kl1_model.specs.Term.{Term, substituted}
-use Rattle.kl1_model.specs.TermCode.{NodeCode, read_nodes}
+use Rattle.kl1_model.specs.code.TermCode.{NodeCode, read_nodes}
 use Rattle.kl1_text.specs.Reading.{Reads}
 use Rattle.kl1_store.specs.declared.cell.Cell.{Cell}
 use Rattle.kl1_store.specs.Held.{Held, AreIn}

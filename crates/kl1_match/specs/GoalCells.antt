@@ -2,7 +2,7 @@
 use Rattle.std.specs.Prelude.{◌≡◌, ℕ, ◌+◌, ◌≤◌, false, List, length, map, slice_index_or, IsTrue, vec_capacity}
 use Rattle.kl1_model.specs.declared.built_in.BuiltIn.{BuiltIn}
 use Rattle.kl1_model.specs.Term.{Term, substituted}
-use Rattle.kl1_model.specs.TermCode.{nodes_of}
+use Rattle.kl1_model.specs.code.TermCode.{nodes_of}
 use Rattle.kl1_model.specs.Meaning.{highest, is_numbered}
 use Rattle.kl1_model.specs.Opening.{with_next_variables}
 use Rattle.kl1_text.specs.Reading.{Reads}

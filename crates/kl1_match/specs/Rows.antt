@@ -1,7 +1,7 @@
 -- Cells that stand one after another, and structures that are built of them.
 use Rattle.std.specs.Prelude.{◌≡◌, ℕ, zero, suc, List, ◌∷◌}
 use Rattle.kl1_model.specs.Term.{Term, Terms, none, more, structure}
-use Rattle.kl1_model.specs.TermCode.{behind_first, behind}
+use Rattle.kl1_model.specs.code.TermCode.{behind_first, behind}
 use Rattle.kl1_store.specs.declared.cell.Cell.{Cell}
 use Rattle.kl1_store.specs.Held.{Held}
 use Rattle.kl1_store.specs.Meaning.{term_of}

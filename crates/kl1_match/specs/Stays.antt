@@ -2,7 +2,7 @@
 use Rattle.std.specs.Prelude.{◌≡◌, ℕ, List}
 use Rattle.kl1_model.specs.Term.{Term, substituted}
 use Rattle.kl1_model.specs.Module.{Module}
-use Rattle.kl1_model.specs.Waits.{term_clause, awaited_by_term}
+use Rattle.kl1_model.specs.code.Waits.{term_clause, awaited_by_term}
 use Rattle.kl1_store.specs.declared.cell.Cell.{Cell}
 use Rattle.kl1_store.specs.Held.{Held, IsIn}
 use Rattle.kl1_store.specs.Meaning.{term_of}

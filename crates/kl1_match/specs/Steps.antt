@@ -2,7 +2,7 @@
 use Rattle.std.specs.Prelude.{◌≡◌, ℕ, ◌<◌, List, length, map, reverse, slice_index_or}
 use Rattle.std.proofs.Common.{inl, inr}
 use Rattle.kl1_model.specs.Term.{Term, substituted}
-use Rattle.kl1_model.specs.TermCode.{NodeCode, read_node}
+use Rattle.kl1_model.specs.code.TermCode.{NodeCode, read_node}
 use Rattle.kl1_store.specs.declared.cell.Cell.{Cell}
 use Rattle.kl1_store.specs.declared.cell.Cell.TheVariants as cell
 use Rattle.kl1_store.specs.Held.{Held, AreIn}

@@ -4,8 +4,8 @@ use Rattle.std.proofs.Common.{inl, inr}
 use Rattle.kl1_model.specs.declared.built_in.BuiltIn.{BuiltIn}
 use Rattle.kl1_model.specs.declared.built_in.BuiltIn.TheVariants.{EmptyList}
 use Rattle.kl1_model.specs.Term.{Term, variable, substituted, Terms, each_substituted}
-use Rattle.kl1_model.specs.TermCode.{NodeCode, first_term, front_of, read_nodes}
-use Rattle.kl1_model.specs.Outcome.{beside, test_variable}
+use Rattle.kl1_model.specs.code.TermCode.{NodeCode, first_term, front_of, read_nodes}
+use Rattle.kl1_model.specs.code.Outcome.{beside, test_variable}
 use Rattle.kl1_store.specs.declared.cell.Cell.{Cell}
 use Rattle.kl1_store.specs.Held.{Held, IsIn, arguments_of}
 use Rattle.kl1_store.specs.Meaning.{term_of, terms_of}
@@ -14,8 +14,8 @@ use Rattle.kl1_clause.specs.declared.name.Name.TheVariants as name
 use Rattle.kl1_clause.specs.declared.instruction.Instruction.{Instruction}
 use Rattle.kl1_clause.specs.declared.instruction.Instruction.TheVariants as instruction
 use Rattle.kl1_clause.specs.Instructions.{AreNamed}
-use Rattle.kl1_guard.specs.declared.form.Form.{Form}
-use Rattle.kl1_guard.specs.declared.form.Form.TheVariants as form
+use Rattle.kl1_match_guard.specs.declared.form.Form.{Form}
+use Rattle.kl1_match_guard.specs.declared.form.Form.TheVariants as form
 use Rattle.kl1_match.specs.declared.place.Place.{Place}
 use Rattle.kl1_match.specs.declared.test_view.TestAt.{TestAt}
 use Rattle.kl1_match.specs.declared.test_view.TestAt.TheVariants as at

@@ -3,16 +3,16 @@ use Rattle.std.specs.Prelude.{ℕ, Bool, true, false, List, drop}
 use Rattle.kl1_model.specs.declared.built_in.BuiltIn.{BuiltIn}
 use Rattle.kl1_model.specs.declared.comparison.Comparison.{Comparison}
 use Rattle.kl1_model.specs.Term.{Term}
-use Rattle.kl1_model.specs.TermCode.{first_term}
+use Rattle.kl1_model.specs.code.TermCode.{first_term}
 use Rattle.kl1_model.specs.Same.{passive, awaited}
-use Rattle.kl1_model.specs.Outcome as model
-use Rattle.kl1_model.specs.Outcome.{other_outcome, own_outcome, test_outcome, tests_outcome}
+use Rattle.kl1_model.specs.code.Outcome as model
+use Rattle.kl1_model.specs.code.Outcome.{other_outcome, own_outcome, test_outcome, tests_outcome}
 use Rattle.kl1_clause.specs.declared.instruction.Instruction.{Instruction}
 use Rattle.kl1_clause.specs.declared.instruction.Instruction.TheVariants.{Variable, Integer, Atom, Structure}
-use Rattle.kl1_guard.specs.declared.outcome.Outcome.{Outcome}
-use Rattle.kl1_guard.specs.declared.test.Test.{Test}
-use Rattle.kl1_guard.specs.Outcomes.{outcome_of}
-use Rattle.kl1_guard.specs.Tests.{test_in}
+use Rattle.kl1_match_guard.specs.declared.outcome.Outcome.{Outcome}
+use Rattle.kl1_match_guard.specs.declared.test.Test.{Test}
+use Rattle.kl1_match_guard.specs.Outcomes.{outcome_of}
+use Rattle.kl1_match_guard.specs.Tests.{test_in}
 use Rattle.kl1_match.specs.declared.test_view.TestAt.{TestAt}
 use Rattle.kl1_match.specs.declared.test_view.TestVariable.{TestVariable}
 use Rattle.kl1_match.specs.Instances.{replacements_of}

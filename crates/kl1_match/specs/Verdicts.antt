@@ -3,8 +3,8 @@ use Rattle.std.specs.Prelude.{◌≡◌, ℕ, Bool, true, false, List, [], ◌++
 use Rattle.kl1_model.specs.declared.built_in.BuiltIn.{BuiltIn}
 use Rattle.kl1_model.specs.Term.{Term, variable, integer, atom, structure, Terms, none}
 use Rattle.kl1_model.specs.Module.{Clause}
-use Rattle.kl1_model.specs.Outcome as model
-use Rattle.kl1_model.specs.Outcome.{Matched, agrees, clashes, waits, match_terms, named_verdict, accepts, rejects, suspends}
+use Rattle.kl1_model.specs.code.Outcome as model
+use Rattle.kl1_model.specs.code.Outcome.{Matched, agrees, clashes, waits, match_terms, named_verdict, accepts, rejects, suspends}
 use Rattle.kl1_text.specs.Reading.{Reads}
 use Rattle.kl1_store.specs.declared.cell.Cell.{Cell}
 use Rattle.kl1_store.specs.Held.{Held}

@@ -2,14 +2,14 @@
 
 ghost use Rattle.std.specs.Prelude.{◌≡◌, ◌∷◌, ◌++◌, [], map, false, IfOk, OnOk, IsTrue};
 ghost use Rattle.std.specs.List.{All};
-ghost use Rattle.kl1_model.specs.Outcome.{own_variables};
-ghost use Rattle.kl1_guard.specs.Alike.{IsPairOf};
+ghost use Rattle.kl1_model.specs.code.Outcome.{own_variables};
+ghost use Rattle.kl1_match_guard.specs.Alike.{IsPairOf};
 ghost use Rattle.kl1_match.specs.TestTerms.{tests_of, last_of, goal_of, test_number, IsFreeIn, IsTermAt, IsCellAt};
 ghost use Rattle.kl1_match.specs.Passing.{PairsCome, Passes};
 
 use crate::test_scratch::TestScratch;
 use crate::test_view::{TestAt, TestVariable, TestView};
-use kl1_guard::{Pair, alike};
+use kl1_match_guard::{Pair, alike};
 use kl1_store::SameScratch;
 use kl1_text::NameValue;
 use std::alloc::AllocError;

@@ -2,7 +2,7 @@
 
 ghost use Rattle.std.specs.Prelude.{◌≡◌, ℕ, ◌<◌, ◌≤◌, List, length, map, drop};
 ghost use Rattle.kl1_model.specs.Term.{Term, Terms, more, count_of};
-ghost use Rattle.kl1_model.specs.TermCode.{nodes_of_all, behind, behind_first};
+ghost use Rattle.kl1_model.specs.code.TermCode.{nodes_of_all, behind, behind_first};
 ghost use Rattle.kl1_clause.specs.declared.name.Name.{Name};
 ghost use Rattle.kl1_clause.specs.Instructions.{code_in};
 ghost use Rattle.kl1_match.specs.Matching.{arguments_after, joined};

@@ -7,7 +7,7 @@ use crate::name_in::name_at;
 use crate::place::Place;
 use crate::skips::behind_terms;
 use kl1_clause::Instruction;
-use kl1_guard::{Form, View};
+use kl1_match_guard::{Form, View};
 use kl1_store::{Cell, Store};
 use kl1_text::NameValue;
 

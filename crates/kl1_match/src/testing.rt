@@ -2,8 +2,8 @@
 
 ghost use Rattle.std.specs.Prelude.{◌≡◌, IfOk};
 ghost use Rattle.kl1_model.specs.Guard.{compared};
-ghost use Rattle.kl1_guard.specs.Outcomes.{IsWaiting};
-ghost use Rattle.kl1_guard.specs.Tests.{IsTestAt};
+ghost use Rattle.kl1_match_guard.specs.Outcomes.{IsWaiting};
+ghost use Rattle.kl1_match_guard.specs.Tests.{IsTestAt};
 ghost use Rattle.kl1_match.specs.TestTerms.{tests_of, AreSound, IsFreeIn, IsTermAt};
 ghost use Rattle.kl1_match.specs.Testing.{is_variable, SettledAs, SameAs, OtherAs, ComparedAs, FoundAs, TestComes, TestsCome};
 
@@ -12,7 +12,7 @@ use crate::skips::behind_term;
 use crate::test_scratch::TestScratch;
 use crate::test_view::{TestAt, TestVariable, TestView, instruction_at};
 use kl1_clause::Instruction;
-use kl1_guard::{Form, Outcome, Test, View, compare, look_at, test_at};
+use kl1_match_guard::{Form, Outcome, Test, View, compare, look_at, test_at};
 use kl1_model::Comparison;
 use kl1_store::SameScratch;
 use kl1_text::NameValue;
@@ -155,7 +155,7 @@ fn may_hold<N: NameValue>(
 {
     match test {
         Test::Holds => Ok(true),
-        Test::Looks(inspection, at) => settle(view, look_at(view, inspection, at), awaited),
+        Test::Looks(type_test, at) => settle(view, look_at(view, type_test, at), awaited),
         Test::IsSame(left, right) => may_be_same(view, left, right, scratch, same, awaited),
         Test::IsOther(left, right) => may_differ(view, left, right, scratch, same, awaited),
         Test::Compares(comparison, left, right) => {

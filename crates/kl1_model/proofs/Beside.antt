@@ -6,8 +6,8 @@ use Rattle.std.proofs.lemmas.List.{map-append}
 use Rattle.kl1_model.specs.declared.operator.Operator.{Operator}
 use Rattle.kl1_model.specs.Term.{Term, variable, integer, atom, structure, Terms, none, more, count_of, same_term, same_terms, each_substituted}
 use Rattle.kl1_model.specs.Same.{clash, any_clash, same, differs, unknown, passive, awaited, all_awaited}
-use Rattle.kl1_model.specs.Arithmetic.{Formula, Scan, found, waits_for, wrong_type, with_left, with_right, operator_named, scan, scan_operation}
-use Rattle.kl1_model.specs.Outcome.{beside, own_variables}
+use Rattle.kl1_model.specs.Arithmetic.{ArithmeticExpression, Scan, found, waits_for, wrong_type, with_left, with_right, operator_named, scan, scan_operation}
+use Rattle.kl1_model.specs.code.Outcome.{beside, own_variables}
 use Rattle.kl1_model.proofs.Substitutions.{count-each_substituted}
 
 -- the number of a variable of the goal there
@@ -123,7 +123,7 @@ scan_moved last (found e left) = found e left
 scan_moved last (waits_for v) = waits_for (moved last v)
 scan_moved last wrong_type = wrong_type
 
-right_moved : (last : ℕ) (o : Operator) (e : Formula) (y : Scan) → with_right o e (scan_moved last y) ≡ scan_moved last (with_right o e y)
+right_moved : (last : ℕ) (o : Operator) (e : ArithmeticExpression) (y : Scan) → with_right o e (scan_moved last y) ≡ scan_moved last (with_right o e y)
 right_moved last o e (found b left) = refl
 right_moved last o e (waits_for v) = refl
 right_moved last o e wrong_type = refl

@@ -3,10 +3,10 @@ use Rattle.std.proofs.Common.{◌≡◌, refl, sym, ap, ◌∙◌}
 use Rattle.kl1_model.specs.Term.{Terms, each_substituted}
 use Rattle.kl1_model.specs.Module.{Clause}
 use Rattle.kl1_model.specs.Match.{Answer, yes, no, wait, places_of, verdict}
-use Rattle.kl1_model.specs.Outcome.{Verdict, accepts, rejects, suspends, named_verdict, answer_in}
-use Rattle.kl1_model.specs.OutcomeLaws.{named_in}
-use Rattle.kl1_model.specs.Waits.{awaited_by_clause}
-use Rattle.kl1_model.specs.WaitsLaws.{places_substituted, RejectsStays, RejectsNeverAccepts, AcceptsStays, SuspendsStays, SuspendsWaits}
+use Rattle.kl1_model.specs.code.Outcome.{Verdict, accepts, rejects, suspends, named_verdict, answer_in}
+use Rattle.kl1_model.specs.laws.OutcomeLaws.{named_in}
+use Rattle.kl1_model.specs.code.Waits.{awaited_by_clause}
+use Rattle.kl1_model.specs.laws.WaitsLaws.{places_substituted, RejectsStays, RejectsNeverAccepts, AcceptsStays, SuspendsStays, SuspendsWaits}
 use Rattle.kl1_model.proofs.VerdictAnswers.{verdicts_answer, accepts_places}
 use Rattle.kl1_model.proofs.VerdictNames.{verdicts_name}
 use Rattle.kl1_model.proofs.VerdictStays.{named_rejects_stays, named_accepts_stays, named_suspends_stays}

@@ -4,16 +4,16 @@ use Rattle.std.specs.Prelude.{nat_le, bytes_eq, codes, Option, Some, None, optio
 use Rattle.std.proofs.lemmas.Bool.{cond-true, cond-false, eqb-true, leb-true, le-leb, false_from_ne_true, false≢true}
 use Rattle.std.proofs.lemmas.Bool.Decides.{leb_tells}
 use Rattle.kl1_model.specs.declared.comparison.Comparison.{Comparison}
-use Rattle.kl1_model.specs.declared.inspection.Inspection.{Inspection}
-use Rattle.kl1_model.specs.declared.inspection.Inspection.TheVariants as look_for
+use Rattle.kl1_model.specs.declared.type_test.TypeTest.{TypeTest}
+use Rattle.kl1_model.specs.declared.type_test.TypeTest.TheVariants as look_for
 use Rattle.kl1_model.specs.Term.{Term, variable, integer, atom, structure, Terms, none, more, terms_of, substituted, each_substituted, Replacement}
 use Rattle.kl1_model.specs.Meaning.{highest, highest_in}
 use Rattle.kl1_model.specs.Same.{Passive, same, differs, unknown, passive, awaited, all_awaited}
 use Rattle.kl1_model.specs.Arithmetic.{Evaluated, comes_to, awaits, is_no_expression, evaluated}
-use Rattle.kl1_model.specs.Guard.{Test, holds, looks, is_same, is_other, compares, test_of, inspection_named, comparison_named, test_substituted, is_found}
-use Rattle.kl1_model.specs.Outcome.{Outcome, agrees, clashes, waits, both, decided, look, same_outcome, other_outcome, alike, compared_sides, outcome_of, outcome_by, awaited_in, places_alike, alike_with, each_alike, beside, test_variable, own_variables, own_outcome, test_outcome, tests_outcome, guard_outcome}
-use Rattle.kl1_model.specs.Waits.{LeavesEach, awaited_by_evaluated}
-use Rattle.kl1_model.specs.WaitsLaws.{place_substituted, places_substituted}
+use Rattle.kl1_model.specs.Guard.{Test, holds, looks, is_same, is_other, compares, test_of, type_test_named, comparison_named, test_substituted, is_found}
+use Rattle.kl1_model.specs.code.Outcome.{Outcome, agrees, clashes, waits, both, decided, look, same_outcome, other_outcome, alike, compared_sides, outcome_of, outcome_by, awaited_in, places_alike, alike_with, each_alike, beside, test_variable, own_variables, own_outcome, test_outcome, tests_outcome, guard_outcome}
+use Rattle.kl1_model.specs.code.Waits.{LeavesEach, awaited_by_evaluated}
+use Rattle.kl1_model.specs.laws.WaitsLaws.{place_substituted, places_substituted}
 use Rattle.kl1_model.proofs.SameEach.{awaited_self}
 use Rattle.kl1_model.proofs.SameStays.{left_front, left_back, same_stays, differs_stays, unknown_stays}
 use Rattle.kl1_model.proofs.ScanStays.{evaluated_stays}
@@ -82,7 +82,7 @@ other_by s t u unknown e l = ap (λ p. other_outcome p (awaited (substituted s t
 
 -- ---- looks and comparisons
 
-found_stays : (s : ℕ → Term) (i : Inspection) (f : List ℕ) (ts : Terms) → is_found i (structure f (each_substituted s ts)) ≡ is_found i (structure f ts)
+found_stays : (s : ℕ → Term) (i : TypeTest) (f : List ℕ) (ts : Terms) → is_found i (structure f (each_substituted s ts)) ≡ is_found i (structure f ts)
 found_stays s look_for.Bound f ts = refl
 found_stays s look_for.Integer f ts = refl
 found_stays s look_for.Atom f ts = refl
@@ -91,7 +91,7 @@ found_stays s look_for.Cell f (more a none) = refl
 found_stays s look_for.Cell f (more a (more b none)) = refl
 found_stays s look_for.Cell f (more a (more b (more c ts))) = refl
 
-look_stays : (s : ℕ → Term) (i : Inspection) (t : Term) → Stays s (look i t) (look i (substituted s t))
+look_stays : (s : ℕ → Term) (i : TypeTest) (t : Term) → Stays s (look i t) (look i (substituted s t))
 look_stays s i (variable v) l = ap (look i) l.0
 look_stays s i (integer n) l = refl
 look_stays s i (atom a) l = refl
@@ -199,7 +199,7 @@ module _ (last : ℕ) (s before later : ℕ → Term) (again : (v : ℕ) → v �
   few_true true = tt
   few_true false = tt
 
-  few_one : (o : Option Inspection) (a : Term) → highest a ≤ last → FewOption (option_map (λ i. looks i a) o)
+  few_one : (o : Option TypeTest) (a : Term) → highest a ≤ last → FewOption (option_map (λ i. looks i a) o)
   few_one None a few = tt
   few_one (Some i) a few = few
 
@@ -214,7 +214,7 @@ module _ (last : ℕ) (s before later : ℕ → Term) (again : (v : ℕ) → v �
   few_test (integer i) few = tt
   few_test (atom a) few = few_true (bytes_eq a (codes "true"))
   few_test (structure f none) few = tt
-  few_test (structure f (more a none)) few = few_one (inspection_named f) a (omega (arith, few))
+  few_test (structure f (more a none)) few = few_one (type_test_named f) a (omega (arith, few))
   few_test (structure f (more a (more b none))) few = few_two (bytes_eq f (codes "=")) (bytes_eq f (codes "\\=")) (comparison_named f) a b (omega (arith, few)) (omega (arith, few))
   few_test (structure f (more a (more b (more c ts)))) few = tt
 

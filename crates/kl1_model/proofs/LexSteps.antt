@@ -7,7 +7,7 @@ use Rattle.kl1_model.specs.declared.sign.Sign.TheVariants.{Neck}
 use Rattle.kl1_model.specs.Text.{is_name_byte}
 use Rattle.kl1_model.specs.Name.{is_word_byte}
 use Rattle.kl1_model.specs.Token.{Token, Front, finished, broken, line_end, blank, token, Start, ends_line, blanks, comments, names, variables, numbers, quotes, dots, subtracts, signs_or_nothing, is_digit, is_source_byte, behind_word, behind_digits, quoted_from, quoted_front, behind_comment, comment_front, dot_front, sign_at, sign_front, spelling_of, start_of, front_by, front_of, Tokens, token_first, tokens_by, tokens_within}
-use Rattle.kl1_model.specs.ReadLaws.{tokens_at, LeavesLess}
+use Rattle.kl1_model.specs.laws.ReadLaws.{tokens_at, LeavesLess}
 
 -- a token under a condition leaves less if what is after it is less
 if_leaves : (x : Bool) (most : ℕ) (t : Token (List ℕ)) (rest : List ℕ) → length rest < most → LeavesLess most (if x then token t rest else broken)

@@ -4,7 +4,7 @@ use Rattle.std.specs.Prelude.{codes, bytes_eq, pos, negsuc, nat_le, ◌||◌}
 use Rattle.kl1_model.specs.Text.{is_name_byte}
 use Rattle.kl1_model.specs.Term.{Term, variable, integer, atom, structure, none, more, substituted}
 use Rattle.kl1_model.specs.Look.{Spelling, spelled, awaits_code, misspelled, spelled_before, spelled_by, spelling, Look, right, waits_on, wrong, right_if, then_look, callee_look, goal_look, priority_look, allowance_look, number_of_term, Order, order_look}
-use Rattle.kl1_model.specs.Waits.{LeavesEach, awaited_by_spelling, awaited_by_look}
+use Rattle.kl1_model.specs.code.Waits.{LeavesEach, awaited_by_spelling, awaited_by_look}
 
 -- ---- lists of codes
 

@@ -4,9 +4,9 @@ use Rattle.std.specs.Prelude.{Option, Some, None}
 use Rattle.kl1_model.specs.Term.{Terms}
 use Rattle.kl1_model.specs.Module.{Clause}
 use Rattle.kl1_model.specs.Match.{verdict}
-use Rattle.kl1_model.specs.Outcome.{Verdict, named_verdict, answer_in}
-use Rattle.kl1_model.specs.OutcomeLaws.{named_in}
-use Rattle.kl1_model.specs.Waits.{least_by, least_within, least_from, awaited_after, awaited_within, awaited_by_clause, awaited_by_clauses}
+use Rattle.kl1_model.specs.code.Outcome.{Verdict, named_verdict, answer_in}
+use Rattle.kl1_model.specs.laws.OutcomeLaws.{named_in}
+use Rattle.kl1_model.specs.code.Waits.{least_by, least_within, least_from, awaited_after, awaited_within, awaited_by_clause, awaited_by_clauses}
 use Rattle.kl1_model.proofs.VerdictAnswers.{verdicts_answer}
 use Rattle.kl1_model.proofs.VerdictNames.{verdicts_name}
 

@@ -6,7 +6,7 @@ use Rattle.std.specs.List.{AllByRecursion}
 use Rattle.kl1_model.specs.Term.{Term, variable, integer, atom, structure, Terms, none, more, occurs, occurs_in, replace, replace_each}
 use Rattle.kl1_model.specs.Unify.{Equation, argument_equations, replace_in_all, highest_among}
 use Rattle.kl1_model.specs.Meaning.{highest, highest_in}
-use Rattle.kl1_model.specs.UnifyLaws.{NumberedTo, EachNumberedTo, AllNumberedTo}
+use Rattle.kl1_model.specs.laws.UnifyLaws.{NumberedTo, EachNumberedTo, AllNumberedTo}
 use Rattle.kl1_model.proofs.TermFacts.{occurs-replace, occurs-replaced}
 
 -- ---- numbers up to the last

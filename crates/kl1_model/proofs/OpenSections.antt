@@ -6,7 +6,7 @@ use Rattle.std.proofs.lemmas.Bool.Decides.{leb_tells}
 use Rattle.kl1_model.specs.Term.{Terms, Replacement}
 use Rattle.kl1_model.specs.Module.{Clause}
 use Rattle.kl1_model.specs.Match.{Answer, yes, no, wait, Candidate, candidate_by, candidates_within, candidates_from, is_no, places_of, verdict}
-use Rattle.kl1_model.specs.WaitsLaws.{are_in_order, accepting_from, is_open, CandidatesAreOpen}
+use Rattle.kl1_model.specs.laws.WaitsLaws.{are_in_order, accepting_from, is_open, CandidatesAreOpen}
 
 -- each clause stands in this section or a later one
 abbrev AreBehind : ℕ → List Clause → Type 0

@@ -2,16 +2,16 @@
 use Rattle.std.proofs.Common.{◌≡◌, ℕ, ◌≤◌, Bool, true, false, if◌then◌else◌, List, refl, sym, ap, ap₂, ◌∙◌, arith}
 use Rattle.std.specs.Prelude.{bytes_eq, codes, Option, Some, None, option_map}
 use Rattle.kl1_model.specs.declared.comparison.Comparison.{Comparison}
-use Rattle.kl1_model.specs.declared.inspection.Inspection.{Inspection}
+use Rattle.kl1_model.specs.declared.type_test.TypeTest.{TypeTest}
 use Rattle.kl1_model.specs.declared.number.Number.{Number}
 use Rattle.kl1_model.specs.declared.number.Number.TheVariants.{Value, Overflow, ZeroDivisor}
 use Rattle.kl1_model.specs.Term.{Term, variable, integer, atom, structure, Terms, none, more, substituted, each_substituted}
 use Rattle.kl1_model.specs.Meaning.{highest, highest_in}
 use Rattle.kl1_model.specs.Same.{Passive, same, differs, unknown, passive, awaited}
 use Rattle.kl1_model.specs.Arithmetic.{Evaluated, comes_to, awaits, is_no_expression, evaluated}
-use Rattle.kl1_model.specs.Guard.{Test, holds, looks, is_same, is_other, compares, test_of, inspection_named, comparison_named, test_substituted, is_found, compared, together, known, same_answer, other_answer, numbers_answer, sides_answer, test_answer, answer_by}
-use Rattle.kl1_model.specs.Outcome.{Outcome, agrees, clashes, waits, both, decided, alike, same_outcome, other_outcome, compared_numbers, compared_sides, outcome_by, answer_of}
-use Rattle.kl1_model.specs.OutcomeLaws.{OutcomesAnswer}
+use Rattle.kl1_model.specs.Guard.{Test, holds, looks, is_same, is_other, compares, test_of, type_test_named, comparison_named, test_substituted, is_found, compared, together, known, same_answer, other_answer, numbers_answer, sides_answer, test_answer, answer_by}
+use Rattle.kl1_model.specs.code.Outcome.{Outcome, agrees, clashes, waits, both, decided, alike, same_outcome, other_outcome, compared_numbers, compared_sides, outcome_by, answer_of}
+use Rattle.kl1_model.specs.laws.OutcomeLaws.{OutcomesAnswer}
 use Rattle.kl1_model.proofs.Renamed.{renamed, each_renamed, IsOneToOne, passive_renamed, evaluated_renamed, comes_renamed, found_renamed}
 
 -- ---- an outcome without what it waits for
@@ -164,7 +164,7 @@ true_up_to : (last : ℕ) (c : Bool) → MayBeUpTo last (if c then Some holds el
 true_up_to last true = tt
 true_up_to last false = tt
 
-one_up_to : (last : ℕ) (o : Option Inspection) (a : Term) → highest a ≤ last → MayBeUpTo last (option_map (λ i. looks i a) o)
+one_up_to : (last : ℕ) (o : Option TypeTest) (a : Term) → highest a ≤ last → MayBeUpTo last (option_map (λ i. looks i a) o)
 one_up_to last None a few = tt
 one_up_to last (Some i) a few = few
 
@@ -179,7 +179,7 @@ read_up_to last (variable v) few = tt
 read_up_to last (integer i) few = tt
 read_up_to last (atom a) few = true_up_to last (bytes_eq a (codes "true"))
 read_up_to last (structure f none) few = tt
-read_up_to last (structure f (more a none)) few = one_up_to last (inspection_named f) a (omega (arith, few))
+read_up_to last (structure f (more a none)) few = one_up_to last (type_test_named f) a (omega (arith, few))
 read_up_to last (structure f (more a (more b none))) few = two_up_to last (bytes_eq f (codes "=")) (bytes_eq f (codes "\\=")) (comparison_named f) a b (omega (arith, few)) (omega (arith, few))
 read_up_to last (structure f (more a (more b (more c ts)))) few = tt
 

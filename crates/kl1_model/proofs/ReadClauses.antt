@@ -15,8 +15,8 @@ use Rattle.kl1_model.specs.Numbering.{numbered_tokens}
 use Rattle.kl1_model.specs.Meaning.{pair, expression_term, series_terms, is_writable, variables_of, variables_in, numbered_after}
 use Rattle.kl1_model.specs.Goal.{is_test, is_goal, is_unqualified_goal, body_goal}
 use Rattle.kl1_model.specs.Module.{BodyGoal, Clause, goals_of, Module, Reading, good, bad, Item, items_of, named_module, each_of, head_patterns, is_fit_head, has_only, fit_test, without_priority, with_priority, may_name, fit_goal, fit_body, clause_with, true_goal, clause_of_tree, clause_of, section_after, may_follow, with_clause, is_otherwise, if_good, clauses_ended, otherwise_on, clauses_from, module_with, module_named, module_of_items, read_module}
-use Rattle.kl1_model.specs.ReadLaws.{variables_of_each, clause_variables, is_numbered_clause}
-use Rattle.kl1_model.specs.WaitsLaws.{is_guarded}
+use Rattle.kl1_model.specs.laws.ReadLaws.{variables_of_each, clause_variables, is_numbered_clause}
+use Rattle.kl1_model.specs.laws.WaitsLaws.{is_guarded}
 use Rattle.kl1_model.proofs.ReadSound.{clause_trees_sound}
 use Rattle.kl1_model.proofs.ReadMeans.{numbers_of, series_variables, tree_term, body_terms, body_variables, head_variables}
 use Rattle.kl1_model.proofs.ReadOrder.{numbered_in_order}

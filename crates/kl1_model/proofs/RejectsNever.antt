@@ -7,10 +7,10 @@ use Rattle.kl1_model.specs.Term.{Term, variable, integer, atom, structure, Terms
 use Rattle.kl1_model.specs.Meaning.{highest_in}
 use Rattle.kl1_model.specs.Same.{Passive, same, differs, unknown, passive, awaited}
 use Rattle.kl1_model.specs.Guard.{test_of}
-use Rattle.kl1_model.specs.Outcome.{Outcome, agrees, clashes, waits, both, same_outcome, alike, outcome_by, Matched, with_outcome, match_term, match_terms, places_alike, alike_with, each_alike, beside, test_variable, own_outcome, test_outcome, tests_outcome, guard_outcome, awaited_in}
-use Rattle.kl1_model.specs.Waits.{LeavesEach}
-use Rattle.kl1_model.specs.WaitsLaws.{place_substituted, places_substituted}
-use Rattle.kl1_model.specs.OutcomeLaws.{NamedRejectsNeverAccepts}
+use Rattle.kl1_model.specs.code.Outcome.{Outcome, agrees, clashes, waits, both, same_outcome, alike, outcome_by, Matched, with_outcome, match_term, match_terms, places_alike, alike_with, each_alike, beside, test_variable, own_outcome, test_outcome, tests_outcome, guard_outcome, awaited_in}
+use Rattle.kl1_model.specs.code.Waits.{LeavesEach}
+use Rattle.kl1_model.specs.laws.WaitsLaws.{place_substituted, places_substituted}
+use Rattle.kl1_model.specs.laws.OutcomeLaws.{NamedRejectsNeverAccepts}
 use Rattle.kl1_model.proofs.Clashes.{same_is_equal}
 use Rattle.kl1_model.proofs.Substitutions.{count-each_substituted}
 use Rattle.kl1_model.proofs.GuardStays.{then_substituted, everywhere, behind_last, few_test, by_test, guard_stays, each_alike_stays}

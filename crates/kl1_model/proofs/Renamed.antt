@@ -2,14 +2,14 @@
 use Rattle.std.proofs.Common.{◌≡◌, ℕ, zero, suc, ◌≤◌, ◌==◌, ◌&&◌, ◌||◌, Bool, true, false, if◌then◌else◌, List, refl, ap, ap₂, ◌∙◌, arith}
 use Rattle.std.specs.Prelude.{bytes_eq, Option, Some, None}
 use Rattle.std.proofs.lemmas.Bool.{eqb-true, eqb-false, eq-eqb, ne_eqb}
-use Rattle.kl1_model.specs.declared.inspection.Inspection.{Inspection}
-use Rattle.kl1_model.specs.declared.inspection.Inspection.TheVariants as look_for
+use Rattle.kl1_model.specs.declared.type_test.TypeTest.{TypeTest}
+use Rattle.kl1_model.specs.declared.type_test.TypeTest.TheVariants as look_for
 use Rattle.kl1_model.specs.declared.operator.Operator.{Operator}
 use Rattle.kl1_model.specs.Limits.{most_operators}
 use Rattle.kl1_model.specs.Term.{Term, variable, integer, atom, structure, Terms, none, more, count_of, same_term, same_terms, substituted, each_substituted}
 use Rattle.kl1_model.specs.Meaning.{highest, highest_in}
 use Rattle.kl1_model.specs.Same.{clash, any_clash, same, differs, unknown, passive}
-use Rattle.kl1_model.specs.Arithmetic.{Formula, Scan, found, waits_for, wrong_type, with_left, with_right, operator_named, scan, scan_operation, Evaluated, comes_to, awaits, is_no_expression, computed, evaluated}
+use Rattle.kl1_model.specs.Arithmetic.{ArithmeticExpression, Scan, found, waits_for, wrong_type, with_left, with_right, operator_named, scan, scan_operation, Evaluated, comes_to, awaits, is_no_expression, computed, evaluated}
 use Rattle.kl1_model.specs.Guard.{is_found}
 use Rattle.kl1_model.proofs.Substitutions.{count-each_substituted}
 
@@ -96,7 +96,7 @@ scan_renamed r (found e left) = found e left
 scan_renamed r (waits_for v) = waits_for (r v)
 scan_renamed r wrong_type = wrong_type
 
-right_renamed : (r : ℕ → ℕ) (o : Operator) (e : Formula) (y : Scan) → with_right o e (scan_renamed r y) ≡ scan_renamed r (with_right o e y)
+right_renamed : (r : ℕ → ℕ) (o : Operator) (e : ArithmeticExpression) (y : Scan) → with_right o e (scan_renamed r y) ≡ scan_renamed r (with_right o e y)
 right_renamed r o e (found b left) = refl
 right_renamed r o e (waits_for v) = refl
 right_renamed r o e wrong_type = refl
@@ -138,7 +138,7 @@ comes_renamed r t = ap computed (scanned r most_operators t) ∙ computed_rename
 
 -- ---- looks at a structure
 
-pub found_renamed : (r : ℕ → ℕ) (i : Inspection) (f : List ℕ) (ts : Terms) → is_found i (structure f (each_renamed r ts)) ≡ is_found i (structure f ts)
+pub found_renamed : (r : ℕ → ℕ) (i : TypeTest) (f : List ℕ) (ts : Terms) → is_found i (structure f (each_renamed r ts)) ≡ is_found i (structure f ts)
 found_renamed r look_for.Bound f ts = refl
 found_renamed r look_for.Integer f ts = refl
 found_renamed r look_for.Atom f ts = refl

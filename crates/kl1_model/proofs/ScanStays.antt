@@ -4,8 +4,8 @@ use Rattle.std.specs.Prelude.{Option, Some, None}
 use Rattle.kl1_model.specs.declared.operator.Operator.{Operator}
 use Rattle.kl1_model.specs.Limits.{most_operators}
 use Rattle.kl1_model.specs.Term.{Term, variable, integer, atom, structure, Terms, none, more, substituted, each_substituted}
-use Rattle.kl1_model.specs.Arithmetic.{Scan, Formula, found, waits_for, wrong_type, operator_named, with_left, with_right, scan, scan_operation, computed, evaluated}
-use Rattle.kl1_model.specs.Waits.{LeavesEach, awaited_by_evaluated}
+use Rattle.kl1_model.specs.Arithmetic.{Scan, ArithmeticExpression, found, waits_for, wrong_type, operator_named, with_left, with_right, scan, scan_operation, computed, evaluated}
+use Rattle.kl1_model.specs.code.Waits.{LeavesEach, awaited_by_evaluated}
 
 -- the variable for which a scan waits is left
 abbrev LeftScan : (ℕ → Term) → Scan → Type 0
@@ -13,7 +13,7 @@ LeftScan s (found e left) = Unit {0}
 LeftScan s (waits_for v) = s v ≡ variable v
 LeftScan s wrong_type = Unit {0}
 
-right_left : (s : ℕ → Term) (o : Operator) (e : Formula) (y : Scan) → LeftScan s (with_right o e y) → LeftScan s y
+right_left : (s : ℕ → Term) (o : Operator) (e : ArithmeticExpression) (y : Scan) → LeftScan s (with_right o e y) → LeftScan s y
 right_left s o e (found b left) l = tt
 right_left s o e (waits_for v) l = l
 right_left s o e wrong_type l = tt

@@ -3,7 +3,7 @@ use Rattle.std.proofs.Common.{[], ◌∷◌, ℤ, ◌≡◌, ℕ, suc, ◌<◌, 
 use Rattle.std.proofs.lemmas.Bool.{or_cases, cond_both}
 use Rattle.kl1_model.specs.Term.{Term, variable, integer, atom, structure, Terms, none, more, size, sizes, count_of, occurs, occurs_in, replace, replace_each, Replacement, replaced, substituted, each_substituted}
 use Rattle.kl1_model.specs.Unify.{Equation, argument_equations, replace_in_all}
-use Rattle.kl1_model.specs.UnifyLaws.{MakesEqual}
+use Rattle.kl1_model.specs.laws.UnifyLaws.{MakesEqual}
 
 mutual
   -- a replacement in front of a substitution that makes both sides of it equal changes nothing

@@ -10,8 +10,8 @@ use Rattle.kl1_model.specs.Match.{Call, call_of, module_of, clauses_in, clauses_
 use Rattle.kl1_model.specs.Arithmetic.{Evaluated, comes_to, awaits, is_no_expression, evaluated}
 use Rattle.kl1_model.specs.Reduction.{Move, unifies, assigned, spells, ordered, order_move, execute_move, built_in_move, term_move}
 use Rattle.kl1_model.specs.Choice.{call_clauses}
-use Rattle.kl1_model.specs.Waits.{LeavesEach, least_clause, term_clause, awaited_by_clauses, awaited_by_evaluated, awaited_by_spelling, awaited_by_look, awaited_by_order, awaited_by_execute, awaited_by_built_in, awaited_by_call, awaited_in_call, awaited_at_head}
-use Rattle.kl1_model.specs.WaitsLaws.{call_substituted, HeadStays, TermStays}
+use Rattle.kl1_model.specs.code.Waits.{LeavesEach, least_clause, term_clause, awaited_by_clauses, awaited_by_evaluated, awaited_by_spelling, awaited_by_look, awaited_by_order, awaited_by_execute, awaited_by_built_in, awaited_by_call, awaited_in_call, awaited_at_head}
+use Rattle.kl1_model.specs.laws.WaitsLaws.{call_substituted, HeadStays, TermStays}
 use Rattle.kl1_model.proofs.Substitutions.{count-each_substituted}
 use Rattle.kl1_model.proofs.LeastClause.{term_clause-call}
 use Rattle.kl1_model.proofs.SameStays.{left_front, left_back}

@@ -9,7 +9,7 @@ use Rattle.std.proofs.lemmas.List.Sums.{sum_by-cons}
 use Rattle.std.proofs.lemmas.Option.{none-some, same_Some}
 use Rattle.kl1_model.specs.Limits.{most_names}
 use Rattle.kl1_model.specs.Term.{Term, atom, Replacement}
-use Rattle.kl1_model.specs.Unify.{solve}
+use Rattle.kl1_model.specs.Unify.{mgu}
 use Rattle.kl1_model.specs.Module.{is_among}
 use Rattle.kl1_model.specs.Match.{Candidate}
 use Rattle.kl1_model.specs.State.{Goal, Shoen, State, shoen_at, goal_at, without_goal, with_name}
@@ -20,7 +20,7 @@ use Rattle.kl1_model.specs.Report.{report, exception, failure, exhaustion, start
 use Rattle.kl1_model.specs.Ending.{settle, settle_charged}
 use Rattle.kl1_model.specs.Opening.{opening_goals, with_shoen, open_shoen, has_room_for_child, child_shoen, open_child}
 use Rattle.kl1_model.specs.Reduction.{Move, commits, raises, unifies, names, opens, goes, moves, reads, goals_from, has_room_for, committed, unified, equation, or_exhaustion, moved, heard, acted}
-use Rattle.kl1_model.specs.TreeLaws.{AreNumbered, PathsFollowParents, ParentsAreLower, PathsGoOn, AreWithin, IsTree, ChargesPath, HeldBackBelow}
+use Rattle.kl1_model.specs.laws.TreeLaws.{AreNumbered, PathsFollowParents, ParentsAreLower, PathsGoOn, AreWithin, IsTree, ChargesPath, HeldBackBelow}
 use Rattle.kl1_model.proofs.TreeKeeps.{Keeps, keeps_same, keeps_both, kept_tree, keeps_if, keeps_all, keeps_report, keeps_fewer, keeps_settle, keeps_settle_charged, keeps_heard}
 
 -- ---- paths
@@ -214,12 +214,12 @@ unified_keeps n goal (Some rs) s = keeps_all rs s
 move_follows : (g : Goal) (t : Term) (m : Move) (s : State) → Follows g.shoen s (moved g t m s)
 move_follows g t (commits k) s = follows_or (has_room_for s k.clause) g.shoen g.shoen t s (committed g k s) (commit_follows g k s)
 move_follows g t (raises kind) s = follows_kept g.shoen s (report g.shoen (exception kind t) s) (keeps_report g.shoen (exception kind t) s)
-move_follows g t (unifies a b) s = follows_kept g.shoen s (unified g.shoen t (solve (equation a b)) s) (unified_keeps g.shoen t (solve (equation a b)) s)
+move_follows g t (unifies a b) s = follows_kept g.shoen s (unified g.shoen t (mgu (equation a b)) s) (unified_keeps g.shoen t (mgu (equation a b)) s)
 move_follows g t (names text a) s =
     let u = record s { names = with_name s.names text } in
     let k : Keeps s u = record { parents = refl; work = refl; last = refl; owners = λ n w. w; numbered = λ n w. w } in
-    let v = unified g.shoen t (solve (equation a (atom text))) u in
-    follows_or (nat_le (length (with_name s.names text)) most_names) g.shoen g.shoen t s v (follows_kept g.shoen s v (keeps_both s u v k (unified_keeps g.shoen t (solve (equation a (atom text))) u)))
+    let v = unified g.shoen t (mgu (equation a (atom text))) u in
+    follows_or (nat_le (length (with_name s.names text)) most_names) g.shoen g.shoen t s v (follows_kept g.shoen s v (keeps_both s u v k (unified_keeps g.shoen t (mgu (equation a (atom text))) u)))
 move_follows g t (opens o) s =
     follows_or (has_room_for_child s g.shoen) g.shoen g.shoen t s (open_child s g.shoen o) (opening_follows g.shoen (child_shoen s g.shoen o) o.goal s refl (λ few. few))
 move_follows g t goes s = follows_kept g.shoen s s (keeps_same s)

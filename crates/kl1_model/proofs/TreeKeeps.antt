@@ -14,7 +14,7 @@ use Rattle.kl1_model.specs.Control.{Control, awaits_message, tells, tells_other,
 use Rattle.kl1_model.specs.Report.{broken_at, reported_at, report_of, report, report_each, closed_at, close_of, close, exception, illegal_input, exhausted_report, terminated_report, aborted_report, stopped_report, resumed_report}
 use Rattle.kl1_model.specs.Ending.{without_monitor, ended_at, terminate, terminate_each, ending_of, settle, reached_of, settle_charged, aborted_below, ended_below, abort}
 use Rattle.kl1_model.specs.Reduction.{stopped_of, resumed_of, allowed_more, obeyed, with_control, heard}
-use Rattle.kl1_model.specs.TreeLaws.{AreNumbered, AreWithin, IsTree}
+use Rattle.kl1_model.specs.laws.TreeLaws.{AreNumbered, AreWithin, IsTree}
 
 -- an effect leaves parents, charged reductions and the last number as they are, each goal's shoen, and each shoen's number
 pub record Keeps (s t : State) : Type 0 where

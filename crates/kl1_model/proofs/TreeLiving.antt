@@ -8,7 +8,7 @@ use Rattle.kl1_model.specs.Limits.{most_names, most_modules, most_sessions}
 use Rattle.kl1_model.specs.declared.message.Message.{Message}
 use Rattle.kl1_model.specs.declared.message.Message.TheVariants.{Stop, Start, Abort, Allow}
 use Rattle.kl1_model.specs.Term.{Term, variable, integer, atom, structure, Replacement}
-use Rattle.kl1_model.specs.Unify.{solve}
+use Rattle.kl1_model.specs.Unify.{mgu}
 use Rattle.kl1_model.specs.Meaning.{cell, highest}
 use Rattle.kl1_model.specs.Nodes.{goal_nodes}
 use Rattle.kl1_model.specs.Module.{Module, Reading, good, bad, read_module}
@@ -16,7 +16,7 @@ use Rattle.kl1_model.specs.Match.{Candidate, module_of}
 use Rattle.kl1_model.specs.State.{Goal, Origin, Shoen, State, goal_at, shoen_at, names_of, names_of_module, with_name, with_names, replace_in_state, replace_all, change_shoen, without_goal, is_living}
 use Rattle.kl1_model.specs.Tree.{parents_of, charge}
 use Rattle.kl1_model.specs.Control.{Control, awaits_message, tells, tells_other, ends, breaks_off, message_term, message_nodes}
-use Rattle.kl1_model.specs.Event.{exists, shoen_ended, syntax, too_many_names, limit_passed, journal_full, sessions_refused, Query, value, status, reports, modules, is_quiet, Event, load, start, control, reduce, read, login, logout, reset, loaded, opened, sent, reduced, welcome, bye, Stepped, refuse, is_number, most_source_bytes, most_entries, with_entry, recorded, named, limited}
+use Rattle.kl1_model.specs.Event.{exists, shoen_ended, syntax, too_many_names, limit_passed, journal_full, sessions_refused, Query, value, status, reports, modules, is_quiet, Event, load, start, control, reduce, read, login, logout, reset, loaded, opened, sent, reduced, welcome, bye, Transition, refuse, is_number, most_source_bytes, most_entries, with_entry, recorded, named, limited}
 use Rattle.kl1_model.specs.Report.{report, exception, failure, illegal_input, exhaustion, started_report, exhausted_report, stopped_report, resumed_report}
 use Rattle.kl1_model.specs.Ending.{without_monitor}
 use Rattle.kl1_model.specs.Opening.{may_start, has_room_to_start, opening_goals, with_shoen, open_shoen, with_next_variables, started_shoen, start_goal, has_room_for_child, child_shoen, open_child}
@@ -24,7 +24,7 @@ use Rattle.kl1_model.specs.Reduction.{Move, commits, raises, unifies, names, ope
 use Rattle.kl1_model.specs.Sending.{may_send, has_room_to_send, with_control_tail, sent_on, send_by, send_to}
 use Rattle.kl1_model.specs.Asking.{origin_at, value_of, status_of, reports_of, answer}
 use Rattle.kl1_model.specs.Step.{with_module, load_module, step}
-use Rattle.kl1_model.specs.TreeLaws.{AreNumbered, IsTree, FreshIsOfLiving, EndedHaveNoGoals}
+use Rattle.kl1_model.specs.laws.TreeLaws.{AreNumbered, IsTree, FreshIsOfLiving, EndedHaveNoGoals}
 use Rattle.kl1_model.proofs.TreeKeeps.{Keeps, kept_tree, keeps_fewer}
 use Rattle.kl1_model.proofs.TreeGrows.{found_within}
 use Rattle.kl1_model.proofs.TreeEndings.{marks_of, Post, posts_of, Leaves, leaves_same, leaves_both, leaves_if, leaves_change, leaves_replace, leaves_report}
@@ -131,10 +131,10 @@ commit_posted g k s l a =
 moved_posted : (g : Goal) (t : Term) (m : Move) (s : State) → lives_in (marks_of s.shoens) g.shoen ≡ true → IsTree s → IsPosted s → IsPosted (moved g t m s)
 moved_posted g t (commits k) s l tree a = posted_or (has_room_for s k.clause) g.shoen t (committed g k s) s (commit_posted g k s l a) a
 moved_posted g t (raises kind) s l tree a = report_posted g.shoen (exception kind t) s a
-moved_posted g t (unifies x y) s l tree a = unified_posted g.shoen t (solve (equation x y)) s a
+moved_posted g t (unifies x y) s l tree a = unified_posted g.shoen t (mgu (equation x y)) s a
 moved_posted g t (names text x) s l tree a =
     let u = record s { names = with_name s.names text } in
-    posted_or (nat_le (length (with_name s.names text)) most_names) g.shoen t (unified g.shoen t (solve (equation x (atom text))) u) s (unified_posted g.shoen t (solve (equation x (atom text))) u a) a
+    posted_or (nat_le (length (with_name s.names text)) most_names) g.shoen t (unified g.shoen t (mgu (equation x (atom text))) u) s (unified_posted g.shoen t (mgu (equation x (atom text))) u a) a
 moved_posted g t (opens o) s l tree a =
     posted_or (has_room_for_child s g.shoen) g.shoen t (open_child s g.shoen o) s (open_posted (child_shoen s g.shoen o) o.goal s refl refl tree a) a
 moved_posted g t goes s l tree a = a
@@ -151,10 +151,10 @@ acted_posted g (reads c) s l few tree a = settle_posted g.shoen (heard g.shoen c
 -- ---- events
 
 -- an outcome of an account whose goals are of living shoens
-abbrev Posts : Stepped → Type 0
+abbrev Posts : Transition → Type 0
 Posts x = IsPosted x.state
 
-posts_if : (c : Bool) (x y : Stepped) → Posts x → Posts y → Posts (if c then x else y)
+posts_if : (c : Bool) (x y : Transition) → Posts x → Posts y → Posts (if c then x else y)
 posts_if true x y p q = p
 posts_if false x y p q = q
 
@@ -180,7 +180,7 @@ goal_posts s goal clause (Some g) e tree a =
 load_posts : (s : State) (r : Reading Module) → IsPosted s → Posts (load_module s r)
 load_posts s (bad line) a = a
 load_posts s (good m) a =
-    let x : Stepped = record { state = with_entry (with_module s m); reply = loaded m.name } in
+    let x : Transition = record { state = with_entry (with_module s m); reply = loaded m.name } in
     let b = recorded s x in
     let c = limited s (nat_lt (length s.modules) most_modules) b in
     posts_if (is_some (module_of s.modules m.name)) (refuse s exists) (named s (with_names s.names (names_of_module m)) c) a
@@ -198,7 +198,7 @@ started_posted s allowance low high t tree a =
 
 start_posts : (s : State) (allowance low high : ℕ) (t : Term) → IsTree s → IsPosted s → Posts (step s (start allowance low high t))
 start_posts s allowance low high t tree a =
-    let x : Stepped = record { state = with_entry (start_goal s allowance low high t); reply = opened (suc s.last_shoen) } in
+    let x : Transition = record { state = with_entry (start_goal s allowance low high t); reply = opened (suc s.last_shoen) } in
     let b = recorded s x in
     let c = limited s (has_room_to_start s t) b in
     posts_if (may_start allowance low high t) (named s (with_names s.names (names_of t)) c) (refuse s syntax)
@@ -220,7 +220,7 @@ sent_leaves n m (structure f ts) s = leaves_same s
 send_by_posts : (s : State) (n : ℕ) (m : Message) (h : Shoen) (o : Option Origin) → IsPosted s → Posts (send_by s n m h o)
 send_by_posts s n m h None a = a
 send_by_posts s n m h (Some o) a =
-    let x : Stepped = record { state = with_entry (sent_on n m o.control s); reply = sent } in
+    let x : Transition = record { state = with_entry (sent_on n m o.control s); reply = sent } in
     let b = recorded s x in
     posts_if (is_living h.life) (limited s (has_room_to_send s m) b) (refuse s shoen_ended)
     (posts_if (has_room_to_send s m) b (refuse s limit_passed) (posts_if (nat_lt s.entries most_entries) x (refuse s journal_full) (posted_left s (sent_on n m o.control s) (sent_leaves n m o.control s) a) a) a) a

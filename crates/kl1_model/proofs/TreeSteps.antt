@@ -13,13 +13,13 @@ use Rattle.kl1_model.specs.Match.{call_of, module_of}
 use Rattle.kl1_model.specs.State.{Task, monitor, reduces, Goal, Origin, Shoen, State, fresh_with, goal_at, shoen_at, names_of, names_of_module, with_names, replace_in_state, change_shoen, is_monitor, is_living}
 use Rattle.kl1_model.specs.Tree.{is_on_path, charged_of, is_enabled}
 use Rattle.kl1_model.specs.Control.{Control, awaits_message, tells, tells_other, ends, breaks_off, control_of, message_term, message_nodes}
-use Rattle.kl1_model.specs.Event.{Refusal, syntax, source, exists, no_shoen, shoen_ended, step_refused, too_many_names, limit_passed, journal_full, sessions_refused, Query, value, status, reports, modules, is_quiet, load, start, control, reduce, read, login, logout, reset, Reply, loaded, opened, sent, reduced, welcome, bye, Stepped, refuse, is_number, most_source_bytes, most_names, most_entries, with_entry, recorded, named, limited}
+use Rattle.kl1_model.specs.Event.{Refusal, syntax, source, exists, no_shoen, shoen_ended, step_refused, too_many_names, limit_passed, journal_full, sessions_refused, Query, value, status, reports, modules, is_quiet, load, start, control, reduce, read, login, logout, reset, Reply, loaded, opened, sent, reduced, welcome, bye, Transition, refuse, is_number, most_source_bytes, most_names, most_entries, with_entry, recorded, named, limited}
 use Rattle.kl1_model.specs.Reduction.{Move, Action, moves, reads, term_move, read_action, monitor_action, task_action, action_of, acted, reduced_by, reduce_goal}
 use Rattle.kl1_model.specs.Opening.{may_start, has_room_to_start, with_next_variables, started_shoen, start_goal}
 use Rattle.kl1_model.specs.Sending.{may_send, has_room_to_send, with_control_tail, sent_on, send_by, send_to}
 use Rattle.kl1_model.specs.Asking.{origin_at, value_of, status_of, reports_of, answer}
 use Rattle.kl1_model.specs.Step.{with_module, load_module, log_in, log_out, step}
-use Rattle.kl1_model.specs.TreeLaws.{IsTree, FreshIsTree, TreesStay, ReductionsCharge, MonitorsChargeNobody, OthersChargeNobody, is_refused, RefusalsChangeNothing}
+use Rattle.kl1_model.specs.laws.TreeLaws.{IsTree, FreshIsTree, TreesStay, ReductionsCharge, MonitorsChargeNobody, OthersChargeNobody, is_refused, RefusalsChangeNothing}
 use Rattle.kl1_model.proofs.TreeKeeps.{Keeps, keeps_same, keeps_both, kept_tree, keeps_change, keeps_replace}
 use Rattle.kl1_model.proofs.TreeGrows.{Follows, follows_kept, follows_then, opening_follows, acted_move, acted_reading, charged_among, charged_kept, with_entry_keeps, found_within}
 
@@ -29,7 +29,7 @@ fresh_is_tree name = record { numbered = tt; lower = λ k. omega arith; count = 
 -- ---- what is refused changes nothing, and what follows an event that is no reduction
 
 -- an event's outcome: what follows the account, and no change if it is refused
-record Comes (s : State) (x : Stepped) : Type 0 where
+record Comes (s : State) (x : Transition) : Type 0 where
   follows : Follows 0 s x.state
   kept : is_refused x.reply ≡ true → x.state ≡ s
 
@@ -39,11 +39,11 @@ comes_refused s r = record { follows = follows_kept 0 s s (keeps_same s); kept =
 comes_said : (s : State) (r : Reply) → Comes s (record { state = s; reply = r })
 comes_said s r = record { follows = follows_kept 0 s s (keeps_same s); kept = λ e. refl }
 
-comes_if : (c : Bool) (s : State) (x y : Stepped) → Comes s x → Comes s y → Comes s (if c then x else y)
+comes_if : (c : Bool) (s : State) (x y : Transition) → Comes s x → Comes s y → Comes s (if c then x else y)
 comes_if true s x y p q = p
 comes_if false s x y p q = q
 
-comes_or : (c : Bool) (s : State) (x : Stepped) (r : Refusal) → Comes s x → Comes s (if c then x else refuse s r)
+comes_or : (c : Bool) (s : State) (x : Transition) (r : Refusal) → Comes s x → Comes s (if c then x else refuse s r)
 comes_or c s x r p = comes_if c s x (refuse s r) p (comes_refused s r)
 
 comes_loaded : (s : State) (m : Module) → Comes s (record { state = with_entry (with_module s m); reply = loaded m.name })
@@ -55,7 +55,7 @@ comes_loaded s m = record {
 comes_load : (s : State) (r : Reading Module) → Comes s (load_module s r)
 comes_load s (bad line) = comes_refused s (source line)
 comes_load s (good m) =
-    let x : Stepped = record { state = with_entry (with_module s m); reply = loaded m.name } in
+    let x : Transition = record { state = with_entry (with_module s m); reply = loaded m.name } in
     let a = recorded s x in
     let b = limited s (nat_lt (length s.modules) most_modules) a in
     let c = named s (with_names s.names (names_of_module m)) b in
@@ -82,7 +82,7 @@ comes_started s allowance low high t = record {
 
 comes_start : (s : State) (allowance low high : ℕ) (t : Term) → Comes s (step s (start allowance low high t))
 comes_start s allowance low high t =
-    let x : Stepped = record { state = with_entry (start_goal s allowance low high t); reply = opened (suc s.last_shoen) } in
+    let x : Transition = record { state = with_entry (start_goal s allowance low high t); reply = opened (suc s.last_shoen) } in
     let a = recorded s x in
     let b = limited s (has_room_to_start s t) a in
     let c = named s (with_names s.names (names_of t)) b in
@@ -112,7 +112,7 @@ comes_sent s n m t = record {
 comes_send_by : (s : State) (n : ℕ) (m : Message) (h : Shoen) (o : Option Origin) → Comes s (send_by s n m h o)
 comes_send_by s n m h None = comes_refused s no_shoen
 comes_send_by s n m h (Some o) =
-    let x : Stepped = record { state = with_entry (sent_on n m o.control s); reply = sent } in
+    let x : Transition = record { state = with_entry (sent_on n m o.control s); reply = sent } in
     let a = recorded s x in
     comes_or (is_living h.life) s (limited s (has_room_to_send s m) a) shoen_ended
     (comes_or (has_room_to_send s m) s a limit_passed (comes_or (nat_lt s.entries most_entries) s x journal_full (comes_sent s n m o.control)))
@@ -143,7 +143,7 @@ comes_answer s is_quiet = comes_said s _
 -- ---- reductions
 
 -- what comes of a reduction of a goal, with what it charges
-record Reduces (s : State) (g : Goal) (x : Stepped) : Type 0 where
+record Reduces (s : State) (g : Goal) (x : Transition) : Type 0 where
   tree : IsTree s → g.shoen ≤ s.last_shoen → IsTree x.state
   kept : is_refused x.reply ≡ true → x.state ≡ s
   charges : IsTree s → g.shoen ≤ s.last_shoen → is_monitor g.task ≡ false → x.reply ≡ reduced → (a : ℕ) → charged_of x.state a ≡ (if is_on_path s.shoens a g.shoen then 1 else 0) + charged_of s a
@@ -152,7 +152,7 @@ record Reduces (s : State) (g : Goal) (x : Stepped) : Type 0 where
 reduces_refused : (s : State) (g : Goal) (r : Refusal) → Reduces s g (refuse s r)
 reduces_refused s g r = record { tree = λ tree few. tree; kept = λ e. refl; charges = λ tree few m e a. absurd (false≢true (sym (ap is_refused e))); spares = λ m a. refl }
 
-reduces_or : (c : Bool) (s : State) (g : Goal) (x : Stepped) (r : Refusal) → Reduces s g x → Reduces s g (if c then x else refuse s r)
+reduces_or : (c : Bool) (s : State) (g : Goal) (x : Transition) (r : Refusal) → Reduces s g x → Reduces s g (if c then x else refuse s r)
 reduces_or true s g x r p = p
 reduces_or false s g x r p = reduces_refused s g r
 
@@ -195,7 +195,7 @@ task_reads s n (reduces u) clause c e h = no_reading c (term_move s.modules u cl
 reduces_by : (s : State) (g : Goal) (clause : ℕ) (o : Option Action) → action_of s g clause ≡ o → Reduces s g (reduced_by s g o)
 reduces_by s g clause None e = reduces_refused s g step_refused
 reduces_by s g clause (Some (moves t m)) e =
-    let x : Stepped = record { state = acted g (moves t m) (with_entry s); reply = reduced } in
+    let x : Transition = record { state = acted g (moves t m) (with_entry s); reply = reduced } in
     let k = with_entry_keeps s in
     reduces_or (nat_lt s.entries most_entries) s g x journal_full (record {
       tree = λ tree few. (acted_move g t m (with_entry s) few (kept_tree s (with_entry s) k tree)).0;
@@ -205,7 +205,7 @@ reduces_by s g clause (Some (moves t m)) e =
     })
 reduces_by s g clause (Some (reads c)) e =
     let t = acted g (reads c) (with_entry s) in
-    let x : Stepped = record { state = t; reply = reduced } in
+    let x : Transition = record { state = t; reply = reduced } in
     let k = keeps_both s (with_entry s) t (with_entry_keeps s) (acted_reading g c (with_entry s)) in
     reduces_or (nat_lt s.entries most_entries) s g x journal_full (record {
       tree = λ tree few. kept_tree s t k tree;
@@ -267,7 +267,7 @@ comes_logout s = comes_or (nat_lt 0 s.sessions) s (record { state = record s { s
 reset_tree : (s : State) → IsTree (fresh_with s.own_name s.names s.sessions)
 reset_tree s = record { numbered = tt; lower = λ k. omega arith; count = refl; owners = tt; worked = tt }
 
-tree_from : (s : State) (x : Stepped) → Comes s x → IsTree s → IsTree x.state
+tree_from : (s : State) (x : Transition) → Comes s x → IsTree s → IsTree x.state
 tree_from s x c tree = c.follows.tree (omega arith) tree
 
 pub trees_stay : TreesStay
@@ -280,7 +280,7 @@ trees_stay s login tree = tree_from s (log_in s) (comes_login s) tree
 trees_stay s logout tree = tree_from s (log_out s) (comes_logout s) tree
 trees_stay s reset tree = reset_tree s
 
-charged_from : (s : State) (x : Stepped) (a : ℕ) → Comes s x → IsTree s → charged_of x.state a ≡ charged_of s a
+charged_from : (s : State) (x : Transition) (a : ℕ) → Comes s x → IsTree s → charged_of x.state a ≡ charged_of s a
 charged_from s x a c tree = charged_among s x.state c.follows.more a tree c.follows.parents c.follows.work
 
 pub others_charge_nobody : OthersChargeNobody

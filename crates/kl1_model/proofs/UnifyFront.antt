@@ -7,7 +7,7 @@ use Rattle.std.specs.Prelude.{bytes_eq}
 use Rattle.std.specs.Ordering.{int_eq}
 use Rattle.kl1_model.specs.Term.{Term, variable, integer, atom, structure, Terms, count_of, occurs, occurs_in, substituted, each_substituted}
 use Rattle.kl1_model.specs.Unify.{Equation, argument_equations, Front, goes_on, fails, binds, front}
-use Rattle.kl1_model.specs.UnifyLaws.{IsLower}
+use Rattle.kl1_model.specs.laws.UnifyLaws.{IsLower}
 use Rattle.kl1_model.proofs.Substitutions.{no_cycle, count-each_substituted}
 
 -- no terms in place of variables make two terms equal

@@ -2,8 +2,8 @@
 use Rattle.std.proofs.Common.{◌≡◌, ℕ, zero, suc, ◌+◌, ◌<◌, ◌≤◌, ◌||◌, Bool, true, false, List, [], ◌∷◌, Option, Some, option_map, refl, sym, ◌∙◌, ap, arith, eq-eqb, le_refl, le_trans, lt_of_lt_of_le, ⊎_elim}
 use Rattle.std.proofs.lemmas.Bool.{or_parts, or_from, or_left, or_right, cases_eq, cases_lt}
 use Rattle.kl1_model.specs.Term.{Term, variable, structure, Terms, more, sizes, occurs, Replacement}
-use Rattle.kl1_model.specs.Unify.{Equation, Front, argument_equations, front, replace_in_all, after, equations_size, walk, solve_within, solve_to, highest_among, solve}
-use Rattle.kl1_model.specs.UnifyLaws.{equate, NumberedTo, AllNumberedTo, FrontNumberedTo, FrontDecides, FrontKeepsNumbers, HighestIsABound, AnyBoundServes, NothingIsSolved}
+use Rattle.kl1_model.specs.Unify.{Equation, Front, argument_equations, front, replace_in_all, after, equations_size, walk, mgu_within, mgu_to, highest_among, mgu}
+use Rattle.kl1_model.specs.laws.UnifyLaws.{equate, NumberedTo, AllNumberedTo, FrontNumberedTo, FrontDecides, FrontKeepsNumbers, HighestIsABound, AnyBoundServes, NothingIsSolved}
 use Rattle.kl1_model.proofs.UnifyFront.{front_cases}
 use Rattle.kl1_model.proofs.Occurrences.{numbered_to_highest, numbered-replace_in_all, numbered-arguments, Absent, absent-replace_in_all, absent-replaced, absent-arguments}
 
@@ -172,32 +172,32 @@ walk_agrees last most next next' agree (suc n) (e ∷ es) h l =
     (λ to s. agree to s.numbered (lt_of_lt_of_le s.variables l))
 
 -- a solution is the same whatever its fuel, if it is more than the variables that occur
-pub solve_enough : (last m n : ℕ) (es : List Equation) → AllNumberedTo last es → variables_in last es < m → variables_in last es < n → solve_within m es ≡ solve_within n es
-unfolding solve_within
+pub solve_enough : (last m n : ℕ) (es : List Equation) → AllNumberedTo last es → variables_in last es < m → variables_in last es < n → mgu_within m es ≡ mgu_within n es
+unfolding mgu_within
 solve_enough last zero n es h l k = absurd (omega arith)
 solve_enough last (suc m) zero es h l k = absurd (omega arith)
 solve_enough last (suc m) (suc n) es h l k =
-    walk_agrees last (variables_in last es) (solve_within m) (solve_within n) (λ to t s. solve_enough last m n to t (omega arith) (omega arith)) (suc (equations_size es)) es h (le_refl (variables_in last es))
+    walk_agrees last (variables_in last es) (mgu_within m) (mgu_within n) (λ to t s. solve_enough last m n to t (omega arith) (omega arith)) (suc (equations_size es)) es h (le_refl (variables_in last es))
 
 -- no equations are solved by no replacements
-pub nothing_solved_to : (last : ℕ) → solve_to last [] ≡ Some []
-unfolding solve_within walk
+pub nothing_solved_to : (last : ℕ) → mgu_to last [] ≡ Some []
+unfolding mgu_within walk
 nothing_solved_to last = refl
 
 pub nothing_solved : NothingIsSolved
 nothing_solved = nothing_solved_to 0
 
 -- equations are solved by what their front equation leads to, by one bound on the numbers
-pub front_decides_to : (last : ℕ) (e : Equation) (es : List Equation) → AllNumberedTo last (e ∷ es) → solve_to last (e ∷ es) ≡ after (solve_to last) (solve_to last) (front e.left e.right es)
-unfolding solve_within walk
+pub front_decides_to : (last : ℕ) (e : Equation) (es : List Equation) → AllNumberedTo last (e ∷ es) → mgu_to last (e ∷ es) ≡ after (mgu_to last) (mgu_to last) (front e.left e.right es)
+unfolding mgu_within walk
 front_decides_to last e es h =
     let most = variables_most last (e ∷ es) in
-    after_agrees last e es (walk (solve_within (suc last)) (equations_size (e ∷ es))) (solve_to last) (solve_within (suc last)) (solve_to last) h
-    (λ to s. walk_enough last (solve_within (suc last)) (equations_size (e ∷ es)) (suc (equations_size to)) to s.numbered s.smaller (omega arith))
+    after_agrees last e es (walk (mgu_within (suc last)) (equations_size (e ∷ es))) (mgu_to last) (mgu_within (suc last)) (mgu_to last) h
+    (λ to s. walk_enough last (mgu_within (suc last)) (equations_size (e ∷ es)) (suc (equations_size to)) to s.numbered s.smaller (omega arith))
     (λ to s. solve_enough last (suc last) (suc (suc last)) to s.numbered (let q = s.variables in omega arith) (let q = s.variables in omega arith))
 
 -- two bounds on the numbers give the same solution
-bounds_agree : (last other : ℕ) (es : List Equation) → AllNumberedTo last es → AllNumberedTo other es → solve_to last es ≡ solve_to other es
+bounds_agree : (last other : ℕ) (es : List Equation) → AllNumberedTo last es → AllNumberedTo other es → mgu_to last es ≡ mgu_to other es
 bounds_agree last other es h k =
     let l = variables_most last es in
     let o = variables_most other es in
@@ -220,11 +220,11 @@ front_decides e es =
     let last = highest_among (e ∷ es) in
     let h = numbered_to_highest (e ∷ es) in
     front_decides_to last e es h
-    ∙ after_agrees last e es (solve_to last) solve (solve_to last) solve h (λ to s. any_bound_serves last to s.numbered) (λ to s. any_bound_serves last to s.numbered)
+    ∙ after_agrees last e es (mgu_to last) mgu (mgu_to last) mgu h (λ to s. any_bound_serves last to s.numbered) (λ to s. any_bound_serves last to s.numbered)
 
 -- a step, if it is known what the front equation leads to
-pub stepped : (t u : Term) (es : List Equation) (to : Front) → front t u es ≡ to → solve (equate t u ∷ es) ≡ after solve solve to
-stepped t u es to e = front_decides (equate t u) es ∙ ap (after solve solve) e
+pub stepped : (t u : Term) (es : List Equation) (to : Front) → front t u es ≡ to → mgu (equate t u ∷ es) ≡ after mgu mgu to
+stepped t u es to e = front_decides (equate t u) es ∙ ap (after mgu mgu) e
 
 -- what the front equation leads to brings in no higher numbers
 pub front_numbered : FrontKeepsNumbers

@@ -5,7 +5,7 @@ use Rattle.std.proofs.lemmas.Slice.Eq.{bytes_eq-Decides}
 use Rattle.std.specs.Prelude.{bytes_eq}
 use Rattle.kl1_model.specs.Term.{Term, variable, integer, atom, structure, count_of, occurs, occurs_in}
 use Rattle.kl1_model.specs.Unify.{Equation, argument_equations, goes_on, binds, front}
-use Rattle.kl1_model.specs.UnifyLaws.{IsLower, ArgumentsDecide, LeftTakesRight, RightTakesLeft}
+use Rattle.kl1_model.specs.laws.UnifyLaws.{IsLower, ArgumentsDecide, LeftTakesRight, RightTakesLeft}
 use Rattle.kl1_model.proofs.UnifyRule.{stepped}
 
 -- structures of one name and length give way to their arguments

@@ -10,8 +10,8 @@ use Rattle.kl1_model.specs.Same.{passive}
 use Rattle.kl1_model.specs.Guard.{test_of, Answer, yes, no, together, same_answer}
 use Rattle.kl1_model.specs.Module.{Clause}
 use Rattle.kl1_model.specs.Match.{Match, with_answer, match_parts, match_pattern, match_patterns, one_answer, each_answer, guard_term, tests_answer, places_of, verdict, candidate_by}
-use Rattle.kl1_model.specs.Outcome.{Outcome, agrees, clashes, waits, both, alike, outcome_by, answer_of, Matched, with_outcome, match_both, match_term, match_terms, places_alike, alike_with, each_alike, beside, test_variable, own_outcome, test_outcome, tests_outcome, guard_outcome, Verdict, accepts, rejects, suspends, verdict_with, named_verdict, answer_in}
-use Rattle.kl1_model.specs.OutcomeLaws.{VerdictsAnswer, AcceptsPlaces}
+use Rattle.kl1_model.specs.code.Outcome.{Outcome, agrees, clashes, waits, both, alike, outcome_by, answer_of, Matched, with_outcome, match_both, match_term, match_terms, places_alike, alike_with, each_alike, beside, test_variable, own_outcome, test_outcome, tests_outcome, guard_outcome, Verdict, accepts, rejects, suspends, verdict_with, named_verdict, answer_in}
+use Rattle.kl1_model.specs.laws.OutcomeLaws.{VerdictsAnswer, AcceptsPlaces}
 use Rattle.kl1_model.proofs.GuardStays.{then_substituted}
 use Rattle.kl1_model.proofs.Renamed.{renamed, IsOneToOne}
 use Rattle.kl1_model.proofs.OutcomeAnswers.{answer_both, answer_decided, answer_alike, answer_outcome, Renames, same_answer_made}

@@ -9,12 +9,12 @@ use Rattle.kl1_model.specs.Limits.{most_operators}
 use Rattle.kl1_model.specs.Term.{Term, variable, integer, atom, structure, Terms, none, more, terms_of, Replacement}
 use Rattle.kl1_model.specs.Meaning.{highest, highest_in}
 use Rattle.kl1_model.specs.Same.{awaited, all_awaited}
-use Rattle.kl1_model.specs.Arithmetic.{Formula, Scan, found, waits_for, wrong_type, with_left, with_right, operator_named, scan, scan_operation, Evaluated, comes_to, awaits, is_no_expression, computed, evaluated}
+use Rattle.kl1_model.specs.Arithmetic.{ArithmeticExpression, Scan, found, waits_for, wrong_type, with_left, with_right, operator_named, scan, scan_operation, Evaluated, comes_to, awaits, is_no_expression, computed, evaluated}
 use Rattle.kl1_model.specs.Guard.{Answer, yes, no, wait, Test, holds, looks, is_same, is_other, compares, test_of, test_substituted, test_answer}
 use Rattle.kl1_model.specs.Match.{Match, match_patterns, guard_term, places_of}
-use Rattle.kl1_model.specs.Outcome.{Outcome, agrees, clashes, waits, both, outcome_by, answer_of, Matched, match_terms, each_alike, test_variable, own_variables, own_outcome, test_outcome, tests_outcome, guard_outcome, awaited_in, verdict_with}
-use Rattle.kl1_model.specs.OutcomeLaws.{named_in, VerdictsName}
-use Rattle.kl1_model.specs.Waits.{while_waiting, awaited_by_patterns, awaited_by_each, awaited_by_evaluated, awaited_by_sides, awaited_in_test, awaited_by_test, awaited_by_option, own_of, awaited_by_tests, awaited_by_match, awaited_by_verdict}
+use Rattle.kl1_model.specs.code.Outcome.{Outcome, agrees, clashes, waits, both, outcome_by, answer_of, Matched, match_terms, each_alike, test_variable, own_variables, own_outcome, test_outcome, tests_outcome, guard_outcome, awaited_in, verdict_with}
+use Rattle.kl1_model.specs.laws.OutcomeLaws.{named_in, VerdictsName}
+use Rattle.kl1_model.specs.code.Waits.{while_waiting, awaited_by_patterns, awaited_by_each, awaited_by_evaluated, awaited_by_sides, awaited_in_test, awaited_by_test, awaited_by_option, own_of, awaited_by_tests, awaited_by_match, awaited_by_verdict}
 use Rattle.kl1_model.proofs.Renamed.{renamed, each_renamed, IsOneToOne, number_renamed, evaluated_renamed, comes_renamed}
 use Rattle.kl1_model.proofs.OutcomeAnswers.{IsUpTo, MayBeUpTo, Renames, answer_renamed, test_made, test_up_to, read_up_to}
 use Rattle.kl1_model.proofs.OutcomeNames.{Carries, carries_both, carries_patterns, carries_each, carries_option}
@@ -137,7 +137,7 @@ ScanUpTo most (found e left) = Unit {0}
 ScanUpTo most (waits_for v) = v ≤ most
 ScanUpTo most wrong_type = Unit {0}
 
-right_up_to : (most : ℕ) (o : Operator) (e : Formula) (y : Scan) → ScanUpTo most y → ScanUpTo most (with_right o e y)
+right_up_to : (most : ℕ) (o : Operator) (e : ArithmeticExpression) (y : Scan) → ScanUpTo most y → ScanUpTo most (with_right o e y)
 right_up_to most o e (found b left) a = tt
 right_up_to most o e (waits_for v) a = a
 right_up_to most o e wrong_type a = tt

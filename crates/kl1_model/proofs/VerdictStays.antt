@@ -4,10 +4,10 @@ use Rattle.std.specs.Prelude.{bytes_eq, Option, Some, None}
 use Rattle.std.proofs.lemmas.List.{map-append}
 use Rattle.kl1_model.specs.Term.{Term, variable, integer, atom, structure, Terms, none, more, count_of, substituted, each_substituted, Replacement}
 use Rattle.kl1_model.specs.Module.{Clause}
-use Rattle.kl1_model.specs.Outcome.{Outcome, agrees, clashes, waits, both, Matched, with_outcome, match_both, match_term, match_terms, each_alike, guard_outcome, awaited_in, Verdict, accepts, rejects, suspends, verdict_with, verdict_of, named_verdict}
-use Rattle.kl1_model.specs.Waits.{LeavesEach}
-use Rattle.kl1_model.specs.WaitsLaws.{place_substituted, places_substituted, ClausesStay}
-use Rattle.kl1_model.specs.OutcomeLaws.{NamedRejectsStays, NamedAcceptsStays, NamedSuspendsStays}
+use Rattle.kl1_model.specs.code.Outcome.{Outcome, agrees, clashes, waits, both, Matched, with_outcome, match_both, match_term, match_terms, each_alike, guard_outcome, awaited_in, Verdict, accepts, rejects, suspends, verdict_with, verdict_of, named_verdict}
+use Rattle.kl1_model.specs.code.Waits.{LeavesEach}
+use Rattle.kl1_model.specs.laws.WaitsLaws.{place_substituted, places_substituted, ClausesStay}
+use Rattle.kl1_model.specs.laws.OutcomeLaws.{NamedRejectsStays, NamedAcceptsStays, NamedSuspendsStays}
 use Rattle.kl1_model.proofs.Substitutions.{count-each_substituted}
 use Rattle.kl1_model.proofs.SameStays.{left_front, left_back}
 use Rattle.kl1_model.proofs.NamedWaits.{named_least_by, named_least_within, named_least_from, named_after, named_within, named_by_clauses, least_from_named, clauses_named}

@@ -7,7 +7,7 @@ use Rattle.std.proofs.lemmas.Bool.{cond-false, leb-true, false_from_ne_true, fal
 use Rattle.std.proofs.lemmas.List.Folds.{list_all-append, list_any-append}
 use Rattle.kl1_model.specs.declared.operator.Operator.{Operator}
 use Rattle.kl1_model.specs.declared.comparison.Comparison.{Comparison}
-use Rattle.kl1_model.specs.declared.inspection.Inspection.{Inspection}
+use Rattle.kl1_model.specs.declared.type_test.TypeTest.{TypeTest}
 use Rattle.kl1_model.specs.declared.number.Number.{Number}
 use Rattle.kl1_model.specs.declared.number.Number.TheVariants.{Value, Overflow, ZeroDivisor}
 use Rattle.kl1_model.specs.Limits.{most_operators}
@@ -15,10 +15,10 @@ use Rattle.kl1_model.specs.Term.{Term, variable, integer, atom, structure, Terms
 use Rattle.kl1_model.specs.Meaning.{variables_of, variables_in, highest_in}
 use Rattle.kl1_model.specs.Module.{is_among, has_only}
 use Rattle.kl1_model.specs.Same.{Passive, same, differs, unknown, passive, awaited, all_awaited}
-use Rattle.kl1_model.specs.Arithmetic.{Formula, Scan, found, waits_for, wrong_type, with_left, with_right, operator_named, scan, scan_operation, Evaluated, comes_to, awaits, is_no_expression, computed, evaluated}
-use Rattle.kl1_model.specs.Guard.{inspection_named, comparison_named, Test, holds, looks, is_same, is_other, compares, test_of, test_substituted, is_found, compared}
-use Rattle.kl1_model.specs.Outcome.{Outcome, agrees, clashes, waits, both, decided, look, same_outcome, other_outcome, alike, compared_numbers, compared_sides, outcome_of, outcome_by, Matched, with_outcome, match_term, match_terms, places_alike, alike_with, each_alike, beside, test_variable, own_variables, own_outcome, test_outcome, tests_outcome, guard_outcome, suspends, verdict_with}
-use Rattle.kl1_model.specs.OutcomeLaws.{NamedSuspendsWaits}
+use Rattle.kl1_model.specs.Arithmetic.{ArithmeticExpression, Scan, found, waits_for, wrong_type, with_left, with_right, operator_named, scan, scan_operation, Evaluated, comes_to, awaits, is_no_expression, computed, evaluated}
+use Rattle.kl1_model.specs.Guard.{type_test_named, comparison_named, Test, holds, looks, is_same, is_other, compares, test_of, test_substituted, is_found, compared}
+use Rattle.kl1_model.specs.code.Outcome.{Outcome, agrees, clashes, waits, both, decided, look, same_outcome, other_outcome, alike, compared_numbers, compared_sides, outcome_of, outcome_by, Matched, with_outcome, match_term, match_terms, places_alike, alike_with, each_alike, beside, test_variable, own_variables, own_outcome, test_outcome, tests_outcome, guard_outcome, suspends, verdict_with}
+use Rattle.kl1_model.specs.laws.OutcomeLaws.{NamedSuspendsWaits}
 use Rattle.kl1_model.proofs.SameStays.{unknown_waits}
 
 -- ---- who waits names a variable
@@ -177,7 +177,7 @@ decided_own : (last : ℕ) (b : Bool) → Own last (decided b)
 decided_own last true = tt
 decided_own last false = tt
 
-look_own : (last : ℕ) (i : Inspection) (t : Term) → Above last t → Own last (look i t)
+look_own : (last : ℕ) (i : TypeTest) (t : Term) → Above last t → Own last (look i t)
 look_own last i (variable v) a = a
 look_own last i (integer n) a = decided_own last (is_found i (integer n))
 look_own last i (atom x) a = decided_own last (is_found i (atom x))
@@ -188,7 +188,7 @@ ScanAbove last (found e left) = Unit {0}
 ScanAbove last (waits_for v) = suc last ≤ v
 ScanAbove last wrong_type = Unit {0}
 
-right_above : (last : ℕ) (o : Operator) (e : Formula) (y : Scan) → ScanAbove last y → ScanAbove last (with_right o e y)
+right_above : (last : ℕ) (o : Operator) (e : ArithmeticExpression) (y : Scan) → ScanAbove last y → ScanAbove last (with_right o e y)
 right_above last o e (found b left) a = tt
 right_above last o e (waits_for v) a = a
 right_above last o e wrong_type a = tt
@@ -301,7 +301,7 @@ module _ (last : ℕ) (places : List Replacement) where
   true_above true = tt
   true_above false = tt
 
-  one_above : (o : Option Inspection) (a : Term) → Above last (placed a) → OptionAbove (option_map (λ i. looks i a) o)
+  one_above : (o : Option TypeTest) (a : Term) → Above last (placed a) → OptionAbove (option_map (λ i. looks i a) o)
   one_above None a h = tt
   one_above (Some i) a h = h
 
@@ -316,7 +316,7 @@ module _ (last : ℕ) (places : List Replacement) where
   test_above (integer i) h = tt
   test_above (atom a) h = true_above (bytes_eq a (codes "true"))
   test_above (structure f none) h = tt
-  test_above (structure f (more a none)) h = one_above (inspection_named f) a (terms_above (more a none) h).0
+  test_above (structure f (more a none)) h = one_above (type_test_named f) a (terms_above (more a none) h).0
   test_above (structure f (more a (more b none))) h =
       let k = terms_above (more a (more b none)) h in
       pair_above (bytes_eq f (codes "=")) (bytes_eq f (codes "\\=")) (comparison_named f) a b k.0 k.1.0

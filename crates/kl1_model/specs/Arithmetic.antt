@@ -26,19 +26,19 @@ abbrev pub operator_named : List ℕ → Option Operator
 operator_named f = find (λ o. bytes_eq f (operator_name o)) operators
 
 -- an expression of arithmetic: an integer, or an operator with two operands
-pub data Formula : Type 0 where
-  number : ℤ → Formula
-  operation : Operator → Formula → Formula → Formula
+pub data ArithmeticExpression : Type 0 where
+  number : ℤ → ArithmeticExpression
+  operation : Operator → ArithmeticExpression → ArithmeticExpression → ArithmeticExpression
 
 -- what is found in a term, each operator before its operands and the left before the right: an expression, and how many
 -- operators more there might have been; or an unbound variable; or else something that belongs in no expression
 pub data Scan : Type 0 where
-  found : Formula → ℕ → Scan
+  found : ArithmeticExpression → ℕ → Scan
   waits_for : ℕ → Scan
   wrong_type : Scan
 
 -- an operation, if its right operand is found
-abbrev pub with_right : Operator → Formula → Scan → Scan
+abbrev pub with_right : Operator → ArithmeticExpression → Scan → Scan
 with_right o a (found b left) = found (operation o a b) left
 with_right o a (waits_for v) = waits_for v
 with_right o a wrong_type = wrong_type
@@ -92,7 +92,7 @@ applied o Overflow right = Overflow
 applied o ZeroDivisor right = ZeroDivisor
 
 -- what an expression comes to
-abbrev pub compute : Formula → Number
+abbrev pub compute : ArithmeticExpression → Number
 compute (number i) = Value i
 compute (operation o a b) = applied o (compute a) (compute b)
 

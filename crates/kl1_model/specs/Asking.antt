@@ -11,11 +11,11 @@ use Rattle.kl1_model.specs.Print.{cut_print}
 use Rattle.kl1_model.specs.Module.{Module}
 use Rattle.kl1_model.specs.State.{Origin, Shoen, State, shoen_at}
 use Rattle.kl1_model.specs.Tree.{charged_of, is_exhausted, goals_below}
-use Rattle.kl1_model.specs.Event.{syntax, no_shoen, Query, value, status, reports, modules, is_quiet, shown, status_is, listed, quiet_is, Stepped, refuse, is_number}
+use Rattle.kl1_model.specs.Event.{syntax, no_shoen, Query, value, status, reports, modules, is_quiet, shown, status_is, listed, quiet_is, Transition, refuse, is_number}
 use Rattle.kl1_model.specs.Choice.{quiet}
 
 -- the goal that the console started, printed and cut
-abbrev pub value_of : State → Option Origin → Stepped
+abbrev pub value_of : State → Option Origin → Transition
 value_of s None = refuse s no_shoen
 value_of s (Some o) = record { state = s; reply = shown (cut_print o.goal) }
 
@@ -34,7 +34,7 @@ abbrev pub condition_of : State → Shoen → Condition
 condition_of s h = condition_by s h h.life
 
 -- the state of a shoen that may be there, with what it was charged, its allowance, and how many goals there are in it and below it
-abbrev pub status_of : State → Option Shoen → Stepped
+abbrev pub status_of : State → Option Shoen → Transition
 status_of s None = refuse s no_shoen
 status_of s (Some h) = record { state = s; reply = status_is (condition_of s h) (charged_of s h.number) h.allowance (goals_below s h.number) }
 
@@ -49,7 +49,7 @@ abbrev mutual
   elements_in f _ = []
 
 -- the reports of a shoen that the console started from one on, the first being 1, each printed and cut: at most 64
-abbrev pub reports_of : State → ℕ → Option Origin → Stepped
+abbrev pub reports_of : State → ℕ → Option Origin → Transition
 reports_of s from None = refuse s no_shoen
 reports_of s from (Some o) = record { state = s; reply = listed (map cut_print (take most_listed (drop (from - 1) (elements_of o.reports)))) }
 
@@ -58,7 +58,7 @@ abbrev pub module_line : Module → List ℕ
 module_line m = atom_text m.name ++ codes " " ++ decimal (length m.source) ++ codes " " ++ decimal (length m.clauses)
 
 -- the answer to a query, which changes nothing
-abbrev pub answer : State → Query → Stepped
+abbrev pub answer : State → Query → Transition
 answer s (value n) = if is_number n then value_of s (origin_at n s.shoens) else refuse s syntax
 answer s (status n) = if is_number n then status_of s (shoen_at n s.shoens) else refuse s syntax
 answer s (reports n from) = if is_number n && is_number from && nat_le 1 from then reports_of s from (origin_at n s.shoens) else refuse s syntax

@@ -61,12 +61,12 @@ pub data Reply : Type 0 where
   refused : Refusal → Reply
 
 -- the account after an event, and the reply
-pub record Stepped : Type 0 where
+pub record Transition : Type 0 where
   pub state : State
   pub reply : Reply
 
 -- a refusal leaves the account as it was
-abbrev pub refuse : State → Refusal → Stepped
+abbrev pub refuse : State → Refusal → Transition
 refuse s r = record { state = s; reply = refused r }
 
 -- a number that a command may have: below 2 ^ 63
@@ -78,15 +78,15 @@ abbrev pub with_entry : State → State
 with_entry s = record s { entries = suc s.entries }
 
 -- a change that is an entry of the journal: refused if the journal is full
-abbrev pub recorded : State → Stepped → Stepped
+abbrev pub recorded : State → Transition → Transition
 recorded s after = if nat_lt s.entries most_entries then after else refuse s journal_full
 
 -- a change after which these names are used: refused if they are too many
-abbrev pub named : State → List (List ℕ) → Stepped → Stepped
+abbrev pub named : State → List (List ℕ) → Transition → Transition
 named s names after = if nat_le (length names) most_names then after else refuse s too_many_names
 
 -- a change that keeps to the limits of an account, as a test tells: refused if it doesn't
-abbrev pub limited : State → Bool → Stepped → Stepped
+abbrev pub limited : State → Bool → Transition → Transition
 limited s keeps after = if keeps then after else refuse s limit_passed
 
 -- whether priorities from low to high are a range

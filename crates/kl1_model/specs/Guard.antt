@@ -3,8 +3,8 @@ use Rattle.std.specs.Prelude.{ℕ, not, Bool, true, false, if◌then◌else◌, 
 use Rattle.std.specs.Ordering.{int_eq}
 use Rattle.kl1_model.specs.declared.comparison.Comparison.{Comparison}
 use Rattle.kl1_model.specs.declared.comparison.Comparison.TheVariants.{Less, Greater, AtMost, AtLeast, SameNumber, OtherNumber}
-use Rattle.kl1_model.specs.declared.inspection.Inspection.{Inspection}
-use Rattle.kl1_model.specs.declared.inspection.Inspection.TheVariants.{Bound, Integer, Atom, Cell}
+use Rattle.kl1_model.specs.declared.type_test.TypeTest.{TypeTest}
+use Rattle.kl1_model.specs.declared.type_test.TypeTest.TheVariants.{Bound, Integer, Atom, Cell}
 use Rattle.kl1_model.specs.declared.number.Number.{Number}
 use Rattle.kl1_model.specs.declared.number.Number.TheVariants.{Value}
 use Rattle.kl1_model.specs.Term.{Term, variable, integer, atom, structure, none, more, substituted}
@@ -30,19 +30,19 @@ abbrev pub known : Bool → Answer
 known b = if b then yes else no
 
 -- the name of a test that looks at one term
-abbrev pub inspection_name : Inspection → List ℕ
-inspection_name Bound = codes "wait"
-inspection_name Integer = codes "integer"
-inspection_name Atom = codes "atom"
-inspection_name Cell = codes "list"
+abbrev pub type_test_name : TypeTest → List ℕ
+type_test_name Bound = codes "wait"
+type_test_name Integer = codes "integer"
+type_test_name Atom = codes "atom"
+type_test_name Cell = codes "list"
 
 -- all tests that look at one term
-abbrev pub inspections : List Inspection
-inspections = Bound ∷ Integer ∷ Atom ∷ Cell ∷ []
+abbrev pub type_tests : List TypeTest
+type_tests = Bound ∷ Integer ∷ Atom ∷ Cell ∷ []
 
 -- the test of one term that has this name
-abbrev pub inspection_named : List ℕ → Option Inspection
-inspection_named f = find (λ i. bytes_eq f (inspection_name i)) inspections
+abbrev pub type_test_named : List ℕ → Option TypeTest
+type_test_named f = find (λ i. bytes_eq f (type_test_name i)) type_tests
 
 -- the name of a comparison
 abbrev pub comparison_name : Comparison → List ℕ
@@ -64,7 +64,7 @@ comparison_named f = find (λ c. bytes_eq f (comparison_name c)) comparisons
 -- a test: `true`, a look at a term, `=`, `\=`, or a comparison
 pub data Test : Type 0 where
   holds : Test
-  looks : Inspection → Term → Test
+  looks : TypeTest → Term → Test
   is_same : Term → Term → Test
   is_other : Term → Term → Test
   compares : Comparison → Term → Term → Test
@@ -79,7 +79,7 @@ test_of_two f a b =
 -- the test that a term is, if it is one
 abbrev pub test_of : Term → Option Test
 test_of (atom a) = if bytes_eq a (codes "true") then Some holds else None
-test_of (structure f (more a none)) = option_map (λ i. looks i a) (inspection_named f)
+test_of (structure f (more a none)) = option_map (λ i. looks i a) (type_test_named f)
 test_of (structure f (more a (more b none))) = test_of_two f a b
 test_of _ = None
 
@@ -97,7 +97,7 @@ is_cell (structure f (more a (more b none))) = bytes_eq f (codes ".")
 is_cell _ = false
 
 -- whether a bound term is what a test looks for
-abbrev pub is_found : Inspection → Term → Bool
+abbrev pub is_found : TypeTest → Term → Bool
 is_found Bound t = true
 is_found Integer (integer i) = true
 is_found Integer _ = false

@@ -2,7 +2,6 @@ pub mod Limits
 pub mod Text
 pub mod Name
 pub mod Term
-pub mod TermCode
 pub mod Unify
 pub mod Print
 pub mod Same
@@ -16,7 +15,6 @@ pub mod Meaning
 pub mod Goal
 pub mod Module
 pub mod Match
-pub mod Outcome
 pub mod Instance
 pub mod State
 pub mod Tree
@@ -32,14 +30,8 @@ pub mod Choice
 pub mod Sending
 pub mod Asking
 pub mod Step
-pub mod Waits
 pub mod Line
 pub mod Record
-pub mod SameLaws
-pub mod WaitsLaws
-pub mod OutcomeLaws
-pub mod ScanLaws
 pub mod AccountName
-pub mod TreeLaws
-pub mod UnifyLaws
-pub mod ReadLaws
+pub mod code
+pub mod laws

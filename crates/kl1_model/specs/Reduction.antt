@@ -7,7 +7,7 @@ use Rattle.kl1_model.specs.declared.number.Number.TheVariants.{Value, Overflow, 
 use Rattle.kl1_model.specs.declared.message.Message.{Message}
 use Rattle.kl1_model.specs.declared.message.Message.TheVariants.{Stop, Start, Abort, Allow}
 use Rattle.kl1_model.specs.Arithmetic.{Evaluated, comes_to, awaits, is_no_expression, evaluated}
-use Rattle.kl1_model.specs.Unify.{Equation, solve}
+use Rattle.kl1_model.specs.Unify.{Equation, mgu}
 use Rattle.kl1_model.specs.Goal.{is_execute}
 use Rattle.kl1_model.specs.Nodes.{goals_nodes}
 use Rattle.kl1_model.specs.Module.{Clause, goals_of, Module}
@@ -17,7 +17,7 @@ use Rattle.kl1_model.specs.Look.{Spelling, spelled, awaits_code, misspelled, spe
 use Rattle.kl1_model.specs.Control.{Control, awaits_message, tells, tells_other, ends, breaks_off, control_of}
 use Rattle.kl1_model.specs.State.{Task, monitor, reduces, Goal, Shoen, State, shoen_at, replace_all, change_shoen, without_goal, with_name}
 use Rattle.kl1_model.specs.Tree.{goals_alive, charge, is_enabled}
-use Rattle.kl1_model.specs.Event.{step_refused, reduced, Stepped, refuse, with_entry, recorded}
+use Rattle.kl1_model.specs.Event.{step_refused, reduced, Transition, refuse, with_entry, recorded}
 pub use Rattle.kl1_model.specs.Report.{failure, overflow, illegal_input, exhaustion}
 use Rattle.kl1_model.specs.Report.{report, exception, stopped_report, resumed_report}
 use Rattle.kl1_model.specs.Ending.{without_monitor, settle, settle_charged, abort}
@@ -170,13 +170,13 @@ or_exhaustion false n goal after s = report n (exception exhaustion goal) s
 
 -- a text used as a name, which stays used even if the unification with a term fails
 abbrev pub named_by : ℕ → Term → List ℕ → Term → State → State
-named_by n goal text a s = unified n goal (solve (equation a (atom text))) (record s { names = with_name s.names text })
+named_by n goal text a s = unified n goal (mgu (equation a (atom text))) (record s { names = with_name s.names text })
 
 -- the effect of a move of a goal that has been removed
 abbrev pub moved : Goal → Term → Move → State → State
 moved g t (commits k) s = or_exhaustion (has_room_for s k.clause) g.shoen t (committed g k s) s
 moved g t (raises kind) s = report g.shoen (exception kind t) s
-moved g t (unifies a b) s = unified g.shoen t (solve (equation a b)) s
+moved g t (unifies a b) s = unified g.shoen t (mgu (equation a b)) s
 moved g t (names text a) s = or_exhaustion (nat_le (length (with_name s.names text)) most_names) g.shoen t (named_by g.shoen t text a s) s
 moved g t (opens o) s = or_exhaustion (has_room_for_child s g.shoen) g.shoen t (open_child s g.shoen o) s
 moved g t goes s = s
@@ -221,11 +221,11 @@ acted g (moves t m) s = settle_charged g.shoen (moved g t m (charge g.shoen (wit
 acted g (reads c) s = settle g.shoen (heard g.shoen c s)
 
 -- a reduction, if it is allowed
-abbrev pub reduced_by : State → Goal → Option Action → Stepped
+abbrev pub reduced_by : State → Goal → Option Action → Transition
 reduced_by s g None = refuse s step_refused
 reduced_by s g (Some a) = recorded s (record { state = acted g a (with_entry s); reply = reduced })
 
 -- a reduction of a goal that may be there
-abbrev pub reduce_goal : State → ℕ → Option Goal → Stepped
+abbrev pub reduce_goal : State → ℕ → Option Goal → Transition
 reduce_goal s clause None = refuse s step_refused
 reduce_goal s clause (Some g) = reduced_by s g (action_of s g clause)

@@ -7,7 +7,7 @@ use Rattle.kl1_model.specs.Term.{Term, variable}
 use Rattle.kl1_model.specs.Meaning.{cell}
 use Rattle.kl1_model.specs.Control.{message_term, message_nodes}
 use Rattle.kl1_model.specs.State.{Origin, Shoen, State, replace_in_state, change_shoen, is_living}
-use Rattle.kl1_model.specs.Event.{no_shoen, shoen_ended, sent, Stepped, refuse, is_number, with_entry, recorded, limited}
+use Rattle.kl1_model.specs.Event.{no_shoen, shoen_ended, sent, Transition, refuse, is_number, with_entry, recorded, limited}
 
 -- whether a message has numbers in range
 abbrev pub is_message : Message → Bool
@@ -45,7 +45,7 @@ sent_on n m (variable v) s =
 sent_on n m t s = s
 
 -- a message to a shoen with what the console keeps of it, if it started it
-abbrev pub send_by : State → ℕ → Message → Shoen → Option Origin → Stepped
+abbrev pub send_by : State → ℕ → Message → Shoen → Option Origin → Transition
 send_by s n m h None = refuse s no_shoen
 send_by s n m h (Some o) =
     if is_living h.life
@@ -53,6 +53,6 @@ send_by s n m h (Some o) =
     else refuse s shoen_ended
 
 -- a message to a shoen that may be there
-abbrev pub send_to : State → ℕ → Message → Option Shoen → Stepped
+abbrev pub send_to : State → ℕ → Message → Option Shoen → Transition
 send_to s n m None = refuse s no_shoen
 send_to s n m (Some h) = send_by s n m h h.origin

@@ -4,7 +4,7 @@ use Rattle.kl1_model.specs.Limits.{most_modules, most_sessions}
 use Rattle.kl1_model.specs.Module.{Module, Reading, good, bad, read_module}
 use Rattle.kl1_model.specs.Match.{module_of}
 use Rattle.kl1_model.specs.State.{State, fresh_with, goal_at, shoen_at, names_of, names_of_module, with_names}
-use Rattle.kl1_model.specs.Event.{syntax, source, exists, sessions_refused, Event, load, start, control, reduce, read, login, logout, reset, loaded, opened, welcome, bye, was_reset, Stepped, refuse, is_number, most_source_bytes, with_entry, recorded, named, limited}
+use Rattle.kl1_model.specs.Event.{syntax, source, exists, sessions_refused, Event, load, start, control, reduce, read, login, logout, reset, loaded, opened, welcome, bye, was_reset, Transition, refuse, is_number, most_source_bytes, with_entry, recorded, named, limited}
 use Rattle.kl1_model.specs.Reduction.{reduce_goal}
 use Rattle.kl1_model.specs.Opening.{may_start, has_room_to_start, start_goal}
 use Rattle.kl1_model.specs.Sending.{may_send, send_to}
@@ -16,7 +16,7 @@ abbrev pub with_module : State → Module → State
 with_module s m = record s { modules = s.modules ++ m ∷ []; names = with_names s.names (names_of_module m) }
 
 -- a load of what a source was read as; a module of its name may not be there
-abbrev pub load_module : State → Reading Module → Stepped
+abbrev pub load_module : State → Reading Module → Transition
 load_module s (bad line) = refuse s (source line)
 load_module s (good m) =
     if is_some (module_of s.modules m.name) then refuse s exists
@@ -24,15 +24,15 @@ load_module s (good m) =
     (record { state = with_entry (with_module s m); reply = loaded m.name })))
 
 -- a session more, if not too many are open
-abbrev pub log_in : State → Stepped
+abbrev pub log_in : State → Transition
 log_in s = if nat_lt s.sessions most_sessions then record { state = record s { sessions = suc s.sessions }; reply = welcome s.own_name } else refuse s sessions_refused
 
 -- a session less, if one is open
-abbrev pub log_out : State → Stepped
+abbrev pub log_out : State → Transition
 log_out s = if nat_lt 0 s.sessions then record { state = record s { sessions = s.sessions - 1 }; reply = bye } else refuse s sessions_refused
 
 -- what an event does, and the reply; of several refusals the one of least number
-abbrev pub step : State → Event → Stepped
+abbrev pub step : State → Event → Transition
 step s (load text) = if nat_le (length text) most_source_bytes then load_module s (read_module text) else refuse s syntax
 step s (start allowance low high t) =
     if may_start allowance low high t

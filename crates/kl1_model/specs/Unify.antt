@@ -58,14 +58,14 @@ walk next (suc n) [] = Some []
 walk next (suc n) (e ∷ es) = after (walk next n) next (front e.left e.right es)
 
 -- the replacements that make both sides of all equations equal, fewer than `n`
-unfoldable pub solve_within : ℕ → List Equation → Option (List Replacement)
-solve_within zero es = None
-solve_within (suc n) es = walk (solve_within n) (suc (equations_size es)) es
+unfoldable pub mgu_within : ℕ → List Equation → Option (List Replacement)
+mgu_within zero es = None
+mgu_within (suc n) es = walk (mgu_within n) (suc (equations_size es)) es
 
 -- the replacements for equations whose variables are numbered up to the last, or none if nothing unifies them;
 -- each replacement is of another variable, so these are enough
-abbrev pub solve_to : ℕ → List Equation → Option (List Replacement)
-solve_to last es = solve_within (suc (suc last)) es
+abbrev pub mgu_to : ℕ → List Equation → Option (List Replacement)
+mgu_to last es = mgu_within (suc (suc last)) es
 
 -- the greatest number of a variable in equations, 0 if they have none
 abbrev pub highest_among : List Equation → ℕ
@@ -73,5 +73,5 @@ highest_among [] = 0
 highest_among (e ∷ es) = max (max (highest e.left) (highest e.right)) (highest_among es)
 
 -- the replacements that make both sides of all equations equal, or none if nothing unifies them
-abbrev pub solve : List Equation → Option (List Replacement)
-solve es = solve_to (highest_among es) es
+abbrev pub mgu : List Equation → Option (List Replacement)
+mgu es = mgu_to (highest_among es) es

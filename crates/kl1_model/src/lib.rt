@@ -4,7 +4,6 @@
 mod built_in;
 mod comparison;
 mod condition;
-mod inspection;
 mod life;
 pub mod limits;
 mod message;
@@ -13,11 +12,11 @@ mod operator;
 mod pair_form;
 mod relation;
 mod sign;
+mod type_test;
 
 pub use built_in::BuiltIn;
 pub use comparison::Comparison;
 pub use condition::Condition;
-pub use inspection::Inspection;
 pub use life::Life;
 pub use message::Message;
 pub use number::Number;
@@ -25,3 +24,4 @@ pub use operator::Operator;
 pub use pair_form::PairForm;
 pub use relation::Relation;
 pub use sign::Sign;
+pub use type_test::TypeTest;

@@ -1,11 +1,11 @@
 // Adding up what all shares of a pool counted, put and took.
 
 ghost use Rattle.std.specs.Prelude.{◌≡◌, vec_len};
-ghost use Rattle.kl1_tickets.specs.Totals.{Gathered};
+ghost use Rattle.kl1_pool_tickets.specs.Totals.{Gathered};
 
 use crate::pool::Pool;
-use kl1_cell::CellNaming;
-use kl1_tickets::{Share, Totals};
+use kl1_pool_cell::CellNaming;
+use kl1_pool_tickets::{Share, Totals};
 use std::sync::Wait;
 
 /// What all shares of a pool counted, put and took, and the tickets that are left in its queue.
@@ -24,5 +24,5 @@ pub fn gather<'t, R: Wait, K: CellNaming, W: Wait>(
         common,
         places,
     } = pool;
-    kl1_tickets::gather(rt, common, places, shares)
+    kl1_pool_tickets::gather(rt, common, places, shares)
 }

@@ -6,9 +6,9 @@ ghost use Rattle.kl1_atoms.specs.declared.atom_seat.AtomSeat.{AtomSeat};
 ghost use Rattle.kl1_tally.specs.declared.amounts.TheConstants.{MOST_ACCOUNTS};
 
 use kl1_atoms::{AtomSeat, AtomTable};
-use kl1_cell::AccountName;
 use kl1_codes::CodeTable;
-use kl1_tickets::Parts;
+use kl1_pool_cell::AccountName;
+use kl1_pool_tickets::Parts;
 use std::alloc::{AllocError, Global};
 use std::marker::Model;
 

@@ -2,15 +2,15 @@
 
 ghost use Rattle.std.specs.Prelude.{◌≡◌, ℕ};
 ghost use Rattle.atomic_table.specs.Seated.{TableId};
-ghost use Rattle.kl1_tickets.specs.Parts.{IsNewBook};
+ghost use Rattle.kl1_pool_tickets.specs.Parts.{IsNewBook};
 ghost use Rattle.kl1_pool.specs.Parts.{IsFreshSeat};
 
 use crossbeam_utils::CachePadded;
 use kl1_atoms::AtomSeat;
-use kl1_cell::{AccountName, Cell, CellNaming};
 use kl1_journal::Kept;
+use kl1_pool_cell::{AccountName, Cell, CellNaming};
+use kl1_pool_tickets::Booked;
 use kl1_tally::BookSeat;
-use kl1_tickets::Booked;
 use std::alloc::{AllocError, Global};
 use std::sync::Wait;
 

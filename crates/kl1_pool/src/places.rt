@@ -1,12 +1,12 @@
 // Accounts in which nothing has happened, each under its lock.
 
 ghost use Rattle.std.specs.Prelude.{◌≡◌, ◌<◌, ◌++◌, ◌∷◌, [], IfOk, All, vec_len};
-ghost use Rattle.kl1_tickets.specs.Parts.{IsNewBook};
+ghost use Rattle.kl1_pool_tickets.specs.Parts.{IsNewBook};
 ghost use Rattle.kl1_pool.specs.Parts.{AreFreshSeats};
 
 use crate::place::Fresh;
 use kl1_atoms::AtomSeat;
-use kl1_cell::AccountName;
+use kl1_pool_cell::AccountName;
 use kl1_tally::BookSeat;
 use std::alloc::{AllocError, Global};
 use std::sync::Mutex;

@@ -2,19 +2,19 @@
 
 ghost use Rattle.std.specs.Prelude.{◌≡◌, ◌<◌, ◌≤◌, IfOk, All, vec_len};
 ghost use Rattle.kl1_tally.specs.declared.amounts.TheConstants.{MOST_ACCOUNTS};
-ghost use Rattle.kl1_tickets.specs.Counts.{Moved, Acts, new_counts};
-ghost use Rattle.kl1_tickets.specs.declared.serving.TheConstants.{MOST_STEPS};
-ghost use Rattle.kl1_cell.specs.Told.{events_told, steps_told};
+ghost use Rattle.kl1_pool_tickets.specs.Counts.{Moved, Acts, new_counts};
+ghost use Rattle.kl1_pool_tickets.specs.declared.serving.TheConstants.{MOST_STEPS};
+ghost use Rattle.kl1_pool_cell.specs.Told.{events_told, steps_told};
 
 use crate::gate::Gate;
 use crate::parts::PoolParts;
 use crate::place::Place;
 use crate::places::{drop_all, places_of};
 use kl1_atoms::AtomTable;
-use kl1_cell::{CellNaming, NamedAtoms};
 use kl1_codes::{CodeTable, SharedCodes};
 use kl1_command::{Command, Performed};
-use kl1_tickets::{Common, Opened, Share, Turn};
+use kl1_pool_cell::{CellNaming, NamedAtoms};
+use kl1_pool_tickets::{Common, Opened, Share, Turn};
 use std::alloc::{AllocError, Global};
 use std::marker::PhantomData;
 use std::sync::{Mutex, Wait};

@@ -2,13 +2,13 @@
 
 ghost use Rattle.std.specs.Prelude.{◌≡◌, ◌<◌, ◌≤◌};
 ghost use Rattle.kl1_tally.specs.declared.amounts.TheConstants.{MOST_ACCOUNTS};
-ghost use Rattle.kl1_tickets.specs.Counts.{Moved, Worked};
-ghost use Rattle.kl1_tickets.specs.declared.serving.TheConstants.{MOST_STEPS};
+ghost use Rattle.kl1_pool_tickets.specs.Counts.{Moved, Worked};
+ghost use Rattle.kl1_pool_tickets.specs.declared.serving.TheConstants.{MOST_STEPS};
 
 use crate::gate::Gate;
 use crate::pool::Pool;
-use kl1_cell::CellNaming;
-use kl1_tickets::{Accounts, Share, Turn};
+use kl1_pool_cell::CellNaming;
+use kl1_pool_tickets::{Accounts, Share, Turn};
 use std::sync::Wait;
 
 /// A worker with its gate and its number, in a pool.
@@ -40,5 +40,5 @@ pub fn worker<'t, G: Gate, R: Wait, K: CellNaming, W: Wait>(
 )
     ensures { Worked share.old share.new }
 {
-    kl1_tickets::worker(rt, &pool.common, &AtWork { pool, gate, number }, share)
+    kl1_pool_tickets::worker(rt, &pool.common, &AtWork { pool, gate, number }, share)
 }

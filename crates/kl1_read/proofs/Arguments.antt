@@ -6,7 +6,7 @@ use Rattle.std.proofs.lemmas.List.{reverse-append, append-nil}
 use Rattle.kl1_model.specs.Limits.{most_arguments, most_depth}
 use Rattle.kl1_model.specs.Term.{Term, structure, none, terms_of, count_of}
 use Rattle.kl1_model.specs.Text.{is_text}
-use Rattle.kl1_model.specs.TermCode.{NodeCode, nodes_of, nodes_of_all}
+use Rattle.kl1_model.specs.code.TermCode.{NodeCode, nodes_of, nodes_of_all}
 use Rattle.kl1_model.specs.Meaning.{cell, cells, Depth, depths, depth, deepest, flat, is_narrow, are_narrow, is_writable}
 use Rattle.kl1_term.specs.declared.node.Node.{Node}
 use Rattle.kl1_term.specs.declared.node.Node.TheVariants.{Structure}

@@ -3,7 +3,7 @@ use Rattle.std.proofs.Common.{◌≡◌, ℕ, if◌then◌else◌, Bool, true, L
 use Rattle.std.specs.declared.alloc.AllocError.{AllocError}
 use Rattle.std.proofs.lemmas.List.{reverse-append, map-append}
 use Rattle.kl1_model.specs.Term.{Term, atom}
-use Rattle.kl1_model.specs.TermCode.{nodes_of}
+use Rattle.kl1_model.specs.code.TermCode.{nodes_of}
 use Rattle.kl1_term.specs.Nodes.{code_of}
 use Rattle.kl1_term.specs.declared.node.Node.{Node}
 use Rattle.kl1_term.specs.declared.node.Node.TheVariants.{Atom, Structure}

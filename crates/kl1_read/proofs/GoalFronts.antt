@@ -2,7 +2,7 @@
 use Rattle.std.proofs.Common.{◌≡◌, ℕ, zero, suc, ◌==◌, ◌&&◌, ◌||◌, not, Bool, true, false, List, [], ◌∷◌, map, codes, bytes_eq, refl, ap, sym, ◌∙◌}
 use Rattle.std.proofs.lemmas.Bool.{eqb-true, eqb-false}
 use Rattle.kl1_model.specs.Term.{Term, Terms, variable, integer, atom, structure, none, more, count_of}
-use Rattle.kl1_model.specs.TermCode.{nodes_of, front_of, first_term, behind_first}
+use Rattle.kl1_model.specs.code.TermCode.{nodes_of, front_of, first_term, behind_first}
 use Rattle.kl1_model.specs.Goal.{is_called, is_pair_goal, is_execute_goal, is_built_in_goal, is_qualified_goal, is_goal}
 use Rattle.kl1_term.specs.Nodes.{code_of, term_in, terms_in}
 use Rattle.kl1_term.specs.declared.node.Node.{Node}

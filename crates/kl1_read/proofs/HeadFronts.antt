@@ -1,7 +1,7 @@
 -- The nodes of heads begin as the definitions say.
 use Rattle.std.proofs.Common.{◌≡◌, ℕ, zero, suc, List, [], ◌∷◌, map, refl, ap, sym, ◌∙◌}
 use Rattle.kl1_model.specs.Term.{Term, count_of}
-use Rattle.kl1_model.specs.TermCode.{nodes_of, front_of, behind_first}
+use Rattle.kl1_model.specs.code.TermCode.{nodes_of, front_of, behind_first}
 use Rattle.kl1_model.specs.Goal.{is_head}
 use Rattle.kl1_term.specs.Nodes.{code_of, term_in, terms_in}
 use Rattle.kl1_term.specs.declared.node.Node.{Node}

@@ -2,7 +2,7 @@
 use Rattle.std.proofs.Common.{◌≡◌, ℕ, true, false, List, [], ◌∷◌, ◌++◌, Option, Some, None, unwrap_or, refl, ap, sym, ◌∙◌}
 use Rattle.std.proofs.lemmas.Bool.{true≢false, false≢true}
 use Rattle.kl1_model.specs.Token.{Token, end_token, Front, broken, token, front_of, tokens_by}
-use Rattle.kl1_model.specs.ReadLaws.{tokens_at}
+use Rattle.kl1_model.specs.laws.ReadLaws.{tokens_at}
 use Rattle.kl1_model.specs.Module.{Item, is_end}
 use Rattle.kl1_model.proofs.LexSteps.{tokens_go_on}
 use Rattle.kl1_read.specs.Items.{items_among, items_left}

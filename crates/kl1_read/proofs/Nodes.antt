@@ -5,7 +5,7 @@ use Rattle.std.proofs.lemmas.Bool.{and_parts, and_from, leb-true, le-leb, lt-leb
 use Rattle.kl1_model.specs.Limits.{most_depth}
 use Rattle.kl1_model.specs.Term.{Term}
 use Rattle.kl1_model.specs.Text.{is_text}
-use Rattle.kl1_model.specs.TermCode.{nodes_of, term_from, term_from-nodes_of}
+use Rattle.kl1_model.specs.code.TermCode.{nodes_of, term_from, term_from-nodes_of}
 use Rattle.kl1_model.specs.Meaning.{pair, Depth, depths, depth, pair_depth, is_narrow, is_writable}
 use Rattle.kl1_term.specs.declared.node.Node.{Node}
 use Rattle.kl1_term.specs.declared.node.Node.TheVariants.{Structure}

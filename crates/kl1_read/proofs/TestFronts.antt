@@ -3,8 +3,8 @@ use Rattle.std.proofs.Common.{◌≡◌, ℕ, zero, suc, ◌==◌, ◌&&◌, ◌
 use Rattle.std.specs.List.{list_any}
 use Rattle.std.proofs.lemmas.Bool.Decides.{nat_tests}
 use Rattle.kl1_model.specs.Term.{Term, structure}
-use Rattle.kl1_model.specs.TermCode.{nodes_of, front_of, first_term, behind_first}
-use Rattle.kl1_model.specs.Guard.{Test, holds, is_same, is_other, inspection_name, inspections, comparison_name, comparisons, comparison_named, compares}
+use Rattle.kl1_model.specs.code.TermCode.{nodes_of, front_of, first_term, behind_first}
+use Rattle.kl1_model.specs.Guard.{Test, holds, is_same, is_other, type_test_name, type_tests, comparison_name, comparisons, comparison_named, compares}
 use Rattle.kl1_model.specs.Goal.{is_test}
 use Rattle.kl1_term.specs.Nodes.{code_of, term_in, terms_in}
 use Rattle.kl1_term.specs.declared.node.Node.{Node}
@@ -36,7 +36,7 @@ three_more n a b = grind (arith, nat_tests)
 -- a structure by its name and the number of its arguments
 structure_tests : (f : List ℕ) (n : ℕ) (ts : List Term) → is_structure_test f n ≡ is_test (structure f (front_of n ts))
 structure_tests f zero ts = refl
-structure_tests f (suc zero) ts = or_none (is_named f look_names) ∙ found _ (λ i. bytes_eq f (inspection_name i)) inspections
+structure_tests f (suc zero) ts = or_none (is_named f look_names) ∙ found _ (λ i. bytes_eq f (type_test_name i)) type_tests
 structure_tests f (suc (suc zero)) ts =
     let a = first_term ts in
     let b = first_term (behind_first ts) in

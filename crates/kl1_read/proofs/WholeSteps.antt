@@ -2,7 +2,7 @@
 use Rattle.std.proofs.Common.{◌≡◌, ℕ, List, [], ◌∷◌, ◌++◌, Option, Some, unwrap_or, ap, sym, ◌∙◌, append_assoc}
 use Rattle.std.proofs.lemmas.List.{append-nil}
 use Rattle.kl1_model.specs.Token.{Token, Front, finished, token, front_of, Tokens, tokens_by}
-use Rattle.kl1_model.specs.ReadLaws.{tokens_at}
+use Rattle.kl1_model.specs.laws.ReadLaws.{tokens_at}
 use Rattle.kl1_model.specs.Module.{bare_tokens}
 use Rattle.kl1_model.proofs.LexSteps.{tokens_go_on}
 use Rattle.kl1_read.specs.WholeTexts.{Whole, whole_from, unbroken}

@@ -1,7 +1,7 @@
 -- What reading the next item of a text gives.
 use Rattle.std.specs.Prelude.{ℕ, ◌+◌, ◌<◌, ◌≤◌, List, [], ◌∷◌, length, Option, Some, None, map}
 use Rattle.kl1_model.specs.Token.{Token, Tokens}
-use Rattle.kl1_model.specs.ReadLaws.{tokens_at}
+use Rattle.kl1_model.specs.laws.ReadLaws.{tokens_at}
 use Rattle.kl1_model.specs.Module.{Item, items_from}
 use Rattle.kl1_read.specs.declared.item.Next.{Next}
 use Rattle.kl1_read.specs.declared.item.Next.TheVariants.{Nothing, Bad, Whole}

@@ -2,7 +2,7 @@
 
 ghost use Rattle.std.specs.Prelude.{◌≡◌, ◌∷◌, [], map, codes, option_map, IfOk, OnOk};
 ghost use Rattle.kl1_model.specs.Term.{atom};
-ghost use Rattle.kl1_model.specs.TermCode.{nodes_of};
+ghost use Rattle.kl1_model.specs.code.TermCode.{nodes_of};
 ghost use Rattle.kl1_model.specs.Meaning.{pair};
 ghost use Rattle.kl1_model.specs.Goal.{body_goal};
 ghost use Rattle.kl1_model.specs.Module.{each_of};

@@ -3,7 +3,7 @@
 ghost use Rattle.std.specs.Prelude.{◌≡◌, ◌≢◌, ℕ, ◌≤◌, ◌<◌, true, false, List, [], ◌∷◌, ◌++◌, map, reverse, vec_len, IfOk, OnOk, IsTrue};
 ghost use Rattle.kl1_model.specs.Term.{atom, structure, terms_of};
 ghost use Rattle.kl1_model.specs.Text.{is_text};
-ghost use Rattle.kl1_model.specs.TermCode.{nodes_of, nodes_of_all};
+ghost use Rattle.kl1_model.specs.code.TermCode.{nodes_of, nodes_of_all};
 ghost use Rattle.kl1_model.specs.Meaning.{Depth, pair, cells, deepest, depth, are_narrow, is_narrow, is_writable, pair_depth};
 ghost use Rattle.kl1_model.specs.Limits.{most_arguments, most_depth};
 ghost use Rattle.kl1_term.specs.declared.node.Node.TheVariants.{Structure};
@@ -33,7 +33,7 @@ impl Model for Piece {
     ghost use Rattle.std.specs.Prelude.{map, reverse};
     ghost use Rattle.kl1_read.specs.SmallNodes.{node_of};
     ghost use Rattle.kl1_model.specs.Term.{Term as TermSpec};
-    ghost use Rattle.kl1_model.specs.TermCode.{term_code};
+    ghost use Rattle.kl1_model.specs.code.TermCode.{term_code};
     ghost use Rattle.kl1_term.specs.Nodes.{term_in};
 
     ghost Value = { TermSpec };

@@ -1,7 +1,7 @@
 // The tokens of a whole text.
 
 ghost use Rattle.std.specs.Prelude.{◌≡◌, ◌+◌, ◌^◌, ◌<◌, length, IfOk};
-ghost use Rattle.kl1_model.specs.ReadLaws.{tokens_at};
+ghost use Rattle.kl1_model.specs.laws.ReadLaws.{tokens_at};
 ghost use Rattle.kl1_read.specs.WholeTexts.{whole_view, whole_of};
 
 use crate::front::{Front, front_of};

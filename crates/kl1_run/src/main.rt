@@ -4,7 +4,7 @@
 mod words;
 
 use crate::words::{asked_in, tell};
-use kl1_tasks::{Fault, do_task, words_in};
+use kl1_run_tasks::{Fault, do_task, words_in};
 use std::process::ExitCode;
 
 fn main(rt: HostRuntime) -> ExitCode {

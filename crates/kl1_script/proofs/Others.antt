@@ -6,9 +6,9 @@ use Rattle.std.proofs.lemmas.List.Folds.{list_any_at}
 use Rattle.std.proofs.lemmas.Slice.Eq.{bytes_eq-Decides}
 use Rattle.std.proofs.lemmas.Bool.{and_parts}
 use Rattle.kl1_model.specs.Record.{Record}
-use Rattle.kl1_history.specs.Journal.{Kept, fresh_kept}
-use Rattle.kl1_history.specs.Command.{Command, command_of}
-use Rattle.kl1_history.specs.Script.{are_distinct, is_account, commands_of, done_by, after_all, alone_after}
+use Rattle.kl1_model_history.specs.Journal.{Kept, fresh_kept}
+use Rattle.kl1_model_history.specs.Command.{Command, command_of}
+use Rattle.kl1_model_history.specs.Script.{are_distinct, is_account, commands_of, done_by, after_all, alone_after}
 
 after_more : (k : Kept) (cs : List (Option Command)) (c : Option Command) → after_all k (cs ++ c ∷ []) ≡ (done_by (after_all k cs) c).kept
 after_more k [] c = refl

@@ -9,5 +9,5 @@ pub use accounts::accounts_in;
 pub use kl1_command::{
     Command, Parsed, Performed, command_in, parse, perform, put_lines, put_reply,
 };
-pub use kl1_lines::{Counted, DeviceFailed, Request, ScriptFault, Sink, Source};
+pub use kl1_command_lines::{Counted, DeviceFailed, Request, ScriptFault, Sink, Source};
 pub use scripts::{answer_over, run_script};

@@ -1,7 +1,7 @@
 //! The server: accounts behind a socket, for those who know their keys.
 #![tactic(auto)]
 
-use kl1_serving::{Counted, Halt, run_server, stop};
+use kl1_server_work::{Counted, Halt, run_server, stop};
 use std::process::ExitCode;
 use std::{env, io};
 

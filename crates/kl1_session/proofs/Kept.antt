@@ -6,11 +6,11 @@ use Rattle.std.proofs.lemmas.Bool.{true≢false}
 use Rattle.kl1_model.specs.Limits.{most_command_bytes, most_source_bytes}
 use Rattle.kl1_model.specs.Line.{behind_feed, without_return, line_in}
 use Rattle.kl1_model.specs.Record.{source_bytes_in}
-use Rattle.kl1_lines.specs.Places.{IsSplit}
-use Rattle.kl1_history.specs.Cut.{has_feed, line_cut, cut_of, pending_source, pending_in}
-use Rattle.kl1_history.proofs.Feeds.{feed_front}
-use Rattle.kl1_history.proofs.Loads.{source_of_load, load_line, load_behind, load_feed}
-use Rattle.kl1_history.proofs.Cuts.{cut_at}
+use Rattle.kl1_command_lines.specs.Places.{IsSplit}
+use Rattle.kl1_model_history.specs.Cut.{has_feed, line_cut, cut_of, pending_source, pending_in}
+use Rattle.kl1_model_history.proofs.Feeds.{feed_front}
+use Rattle.kl1_model_history.proofs.Loads.{source_of_load, load_line, load_behind, load_feed}
+use Rattle.kl1_model_history.proofs.Cuts.{cut_at}
 use Rattle.kl1_session.specs.Going.{rest_of, IsKept, pending_kept}
 
 -- bytes after others, as far as there is room

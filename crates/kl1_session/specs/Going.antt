@@ -3,8 +3,8 @@ use Rattle.std.specs.Prelude.{◌≡◌, ℕ, ◌+◌, ◌≤◌, ◌<◌, false
 use Rattle.kl1_model.specs.Limits.{most_command_bytes, most_source_bytes}
 use Rattle.kl1_model.specs.Line.{without_return}
 use Rattle.kl1_model.specs.Record.{source_bytes_in}
-use Rattle.kl1_lines.specs.Records.{request_of}
-use Rattle.kl1_history.specs.Cut.{has_feed, Cut, request_first, only_rest, load_request, load_cut, line_cut, cut_of}
+use Rattle.kl1_command_lines.specs.Records.{request_of}
+use Rattle.kl1_model_history.specs.Cut.{has_feed, Cut, request_first, only_rest, load_request, load_cut, line_cut, cut_of}
 use Rattle.kl1_session.specs.declared.next.Next.{Next}
 use Rattle.kl1_session.specs.declared.next.Next.TheVariants as next
 use Rattle.kl1_session.specs.declared.ended.Ended.{Ended}

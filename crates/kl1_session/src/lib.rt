@@ -1,7 +1,7 @@
 //! What a session is asked, from the bytes that come in, in whatever pieces.
 #![tactic(auto)]
 
-ghost use Rattle.kl1_history.specs.InputLaws.{CutsAnywhere, CutsInPieces, InputsCutAnywhere};
+ghost use Rattle.kl1_model_history.specs.laws.InputLaws.{CutsAnywhere, CutsInPieces, InputsCutAnywhere};
 
 mod ended;
 mod input;

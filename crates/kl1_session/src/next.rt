@@ -2,12 +2,12 @@
 
 ghost use Rattle.std.specs.Prelude.{◌≡◌, ◌≤◌, ◌<◌, length, Some};
 ghost use Rattle.kl1_model.specs.Limits.{most_source_bytes};
-ghost use Rattle.kl1_history.specs.Cut.{cut_of, load_cut, load_request};
+ghost use Rattle.kl1_model_history.specs.Cut.{cut_of, load_cut, load_request};
 ghost use Rattle.kl1_session.specs.Going.{going, cut_from, IsNext, IsFew};
-ghost use Rattle.kl1_lines.specs.Records.{request_of};
+ghost use Rattle.kl1_command_lines.specs.Records.{request_of};
 
 use crate::texts::front;
-use kl1_lines::{Request, source_bytes_in, split_feed, without_return};
+use kl1_command_lines::{Request, source_bytes_in, split_feed, without_return};
 use kl1_model::limits::MOST_COMMAND_BYTES;
 
 /// The next request of a stream.

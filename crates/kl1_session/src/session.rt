@@ -2,8 +2,8 @@
 
 ghost use Rattle.std.specs.Prelude.{◌≡◌, ◌++◌, ◌+◌, ◌≤◌, false, [], length, take, map, IfOk, OnOk, OnErr};
 ghost use Rattle.kl1_model.specs.Limits.{most_command_bytes, most_source_bytes};
-ghost use Rattle.kl1_history.specs.Cut.{has_feed, pending_in};
-ghost use Rattle.kl1_history.specs.Inputs.{inputs, rest};
+ghost use Rattle.kl1_model_history.specs.Cut.{has_feed, pending_in};
+ghost use Rattle.kl1_model_history.specs.Inputs.{inputs, rest};
 ghost use Rattle.kl1_session.specs.Going.{going, IsFew, IsKept, passed_by, most_kept, ending};
 ghost use Rattle.kl1_session.specs.Asking.{input_view, Begins, Collects};
 

@@ -6,13 +6,13 @@ use Rattle.std.proofs.lemmas.Option.{none-some, same_Some}
 use Rattle.std.proofs.lemmas.List.Edits.{map_over_more}
 use Rattle.kl1_model.specs.declared.life.Life.TheVariants.{Aborted}
 use Rattle.kl1_model.specs.State.{is_living}
-use Rattle.kl1_ancestors.specs.declared.shoen.Shoen.{Shoen}
+use Rattle.kl1_shoen_paths.specs.declared.shoen.Shoen.{Shoen}
 use Rattle.kl1_shoen.specs.declared.change.Change.{Change}
 use Rattle.kl1_shoen.specs.declared.change.Change.TheVariants.{Tail, Control, OriginControl, Breaks, Stopped, Allows, Ends}
 use Rattle.kl1_shoen.specs.Changes.{changed_by}
 use Rattle.kl1_shoen.specs.Shoens.{has_number, changed, AreNumbered, parents_in, is_on_path_in, aborted_below_in}
-use Rattle.kl1_ancestors.proofs.Numbered.{found_none, found_at, numbered_get}
-use Rattle.kl1_ancestors.proofs.Charges.{length_set}
+use Rattle.kl1_shoen_paths.proofs.Numbered.{found_none, found_at, numbered_get}
+use Rattle.kl1_shoen_paths.proofs.Charges.{length_set}
 use Rattle.kl1_shoen.proofs.Numbered.{number_is, numbered_set}
 
 pub number_kept : {N : Type 0} (c : Change N) (s : Shoen N) → (changed_by c s).number ≡ s.number

@@ -5,8 +5,8 @@ use Rattle.std.specs.List.{AllByRecursion}
 use Rattle.std.proofs.lemmas.List.Sums.{sum_by-cons, count_by-le-length}
 use Rattle.kl1_model.specs.Module.{is_among}
 use Rattle.kl1_model.specs.Tree.{path_within}
-use Rattle.kl1_model.specs.TreeLaws.{ParentsAreLower}
-use Rattle.kl1_ancestors.specs.declared.shoen.Shoen.{Shoen}
+use Rattle.kl1_model.specs.laws.TreeLaws.{ParentsAreLower}
+use Rattle.kl1_shoen_paths.specs.declared.shoen.Shoen.{Shoen}
 use Rattle.kl1_shoen.specs.Shoens.{AreNumbered, AreLower, AreCharged, parents_in, is_on_path_in, charged_in}
 use Rattle.kl1_shoen.proofs.Numbered.{numbered_push}
 use Rattle.kl1_shoen.proofs.Paths.{zero_off_path, path_among}

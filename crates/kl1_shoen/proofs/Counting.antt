@@ -5,11 +5,11 @@ use Rattle.std.specs.List.{list_any}
 use Rattle.std.proofs.lemmas.List.{set-get_or}
 use Rattle.std.proofs.lemmas.List.Sums.{sum_by-cons, sum_by-set, count_by-le-length}
 use Rattle.kl1_model.specs.declared.life.Life.TheVariants.{Aborted}
-use Rattle.kl1_model.specs.TreeLaws.{ParentsAreLower}
-use Rattle.kl1_ancestors.specs.declared.shoen.Shoen.{Shoen}
+use Rattle.kl1_model.specs.laws.TreeLaws.{ParentsAreLower}
+use Rattle.kl1_shoen_paths.specs.declared.shoen.Shoen.{Shoen}
 use Rattle.kl1_shoen.specs.Shoens.{AreCounted, counted_under, is_living_child_of}
-use Rattle.kl1_ancestors.proofs.Paths.{parent_few}
-use Rattle.kl1_ancestors.proofs.Charges.{length_set}
+use Rattle.kl1_shoen_paths.proofs.Paths.{parent_few}
+use Rattle.kl1_shoen_paths.proofs.Charges.{length_set}
 use Rattle.kl1_shoen.proofs.Charges.{length_more, zero_more, lower_open, get_beyond}
 use Rattle.kl1_shoen.proofs.Changing.{parents_put}
 

@@ -3,11 +3,11 @@ use Rattle.std.proofs.Common.{◌≡◌, ℕ, zero, suc, ◌+◌, ◌-◌, ◌<�
 use Rattle.std.specs.Prelude.{Option, Some, find, slice_get, option_map, unwrap_or}
 use Rattle.std.specs.List.{list_any}
 use Rattle.std.proofs.lemmas.Option.{slice_get_read}
-use Rattle.kl1_ancestors.specs.declared.shoen.Shoen.{Shoen}
+use Rattle.kl1_shoen_paths.specs.declared.shoen.Shoen.{Shoen}
 use Rattle.kl1_shoen.specs.Shoens.{has_number, AreNumbered, AreLower, path_in, is_blocking_in, is_blocking_at, is_enabled_at}
-use Rattle.kl1_ancestors.proofs.Numbered.{found_at, numbered_get}
-use Rattle.kl1_ancestors.proofs.Paths.{path_zero, parent_few}
-use Rattle.kl1_ancestors.proofs.Flags.{path_at, flag_is, flag_more}
+use Rattle.kl1_shoen_paths.proofs.Numbered.{found_at, numbered_get}
+use Rattle.kl1_shoen_paths.proofs.Paths.{path_zero, parent_few}
+use Rattle.kl1_shoen_paths.proofs.Flags.{path_at, flag_is, flag_more}
 
 none_blocks : {N : Type 0} (ss : List (Shoen N)) (work : List ℕ) → is_enabled_at ss work 0 ≡ true
 none_blocks ss work = ap (λ ns. not (list_any (is_blocking_at ss work) ns)) (path_zero 0 ss refl)

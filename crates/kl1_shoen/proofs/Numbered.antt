@@ -2,9 +2,9 @@
 use Rattle.std.proofs.Common.{◌≡◌, ℕ, zero, suc, ◌+◌, ◌-◌, ◌<◌, List, [], ◌∷◌, ◌++◌, length, sym, ap, ◌∙◌, arith}
 use Rattle.std.specs.Prelude.{Option, Some, None, find, slice_get, slice_set, IfSome}
 use Rattle.std.proofs.lemmas.Option.{none-some, same_Some}
-use Rattle.kl1_ancestors.specs.declared.shoen.Shoen.{Shoen}
+use Rattle.kl1_shoen_paths.specs.declared.shoen.Shoen.{Shoen}
 use Rattle.kl1_shoen.specs.Shoens.{has_number, AreNumbered}
-use Rattle.kl1_ancestors.proofs.Numbered.{found_at, number_from}
+use Rattle.kl1_shoen_paths.proofs.Numbered.{found_at, number_from}
 
 pub numbered_push : {N : Type 0} (last : ℕ) (ss : List (Shoen N)) (s : Shoen N) → AreNumbered last ss → s.number ≡ suc (last + length ss) → AreNumbered last (ss ++ s ∷ [])
 numbered_push last [] s a e = (omega arith, tt)

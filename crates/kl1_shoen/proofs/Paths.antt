@@ -6,10 +6,10 @@ use Rattle.std.proofs.lemmas.Bool.{ne_eqb}
 use Rattle.std.proofs.lemmas.List.{get_or_append_left}
 use Rattle.kl1_model.specs.Module.{is_among}
 use Rattle.kl1_model.specs.Tree.{path_within}
-use Rattle.kl1_model.specs.TreeLaws.{ParentsAreLower}
-use Rattle.kl1_ancestors.specs.declared.shoen.Shoen.{Shoen}
+use Rattle.kl1_model.specs.laws.TreeLaws.{ParentsAreLower}
+use Rattle.kl1_shoen_paths.specs.declared.shoen.Shoen.{Shoen}
 use Rattle.kl1_shoen.specs.Shoens.{has_number, AreNumbered, AreLower, path_in}
-use Rattle.kl1_ancestors.proofs.Paths.{path_zero, parent_below, path_parent}
+use Rattle.kl1_shoen_paths.proofs.Paths.{path_zero, parent_below, path_parent}
 
 -- the parent that is found, 0 if there is no shoen
 abbrev parent_found : {N : Type 0} → Option (Shoen N) → ℕ

@@ -2,8 +2,8 @@
 use Rattle.std.specs.Prelude.{◌+◌, min, true, option_map}
 use Rattle.kl1_model.specs.Limits.{most_allowance}
 use Rattle.kl1_store.specs.declared.cell.Cell.{Cell}
-use Rattle.kl1_ancestors.specs.declared.shoen.Shoen.{Shoen}
-use Rattle.kl1_ancestors.specs.declared.shoen.Origin.{Origin}
+use Rattle.kl1_shoen_paths.specs.declared.shoen.Shoen.{Shoen}
+use Rattle.kl1_shoen_paths.specs.declared.shoen.Origin.{Origin}
 use Rattle.kl1_shoen.specs.declared.change.Change.{Change}
 use Rattle.kl1_shoen.specs.declared.change.Change.TheVariants.{Tail, Control, OriginControl, Breaks, Stopped, Allows, Ends}
 

@@ -4,8 +4,8 @@ use Rattle.std.specs.List.{AllByRecursion}
 use Rattle.kl1_model.specs.State as model
 use Rattle.kl1_store.specs.Held.{Held, IsIn}
 use Rattle.kl1_store.specs.Meaning.{term_of}
-use Rattle.kl1_ancestors.specs.declared.shoen.Origin.{Origin}
-use Rattle.kl1_ancestors.specs.declared.shoen.Shoen.{Shoen}
+use Rattle.kl1_shoen_paths.specs.declared.shoen.Origin.{Origin}
+use Rattle.kl1_shoen_paths.specs.declared.shoen.Shoen.{Shoen}
 
 -- what the console keeps, with the cells of a store, names read by f
 abbrev pub origin_of : {N : Type 0} → (N → List ℕ) → Held N → Origin N → model.Origin

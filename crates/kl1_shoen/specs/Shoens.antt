@@ -4,9 +4,9 @@ use Rattle.std.specs.List.{AllByRecursion, list_any}
 use Rattle.kl1_model.specs.declared.life.Life.{Life}
 use Rattle.kl1_model.specs.declared.life.Life.TheVariants.{Aborted}
 use Rattle.kl1_model.specs.State.{is_living}
-use Rattle.kl1_ancestors.specs.declared.shoen.Shoen.{Shoen}
-use Rattle.kl1_ancestors.specs.Tracked.{Tracked}
-pub use Rattle.kl1_ancestors.specs.Paths.{has_number, AreNumbered, parents_in, AreLower, path_in, is_on_path_in}
+use Rattle.kl1_shoen_paths.specs.declared.shoen.Shoen.{Shoen}
+use Rattle.kl1_shoen_paths.specs.Tracked.{Tracked}
+pub use Rattle.kl1_shoen_paths.specs.Paths.{has_number, AreNumbered, parents_in, AreLower, path_in, is_on_path_in}
 
 -- the shoens of an account in order of number, from 1; for each charged reduction the number of its shoen, the newest first; both as
 -- they were when the event began; and how many more shoens can be opened without asking for memory

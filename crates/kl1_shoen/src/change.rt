@@ -4,9 +4,9 @@ ghost use Rattle.std.specs.Prelude.{◌≡◌, ◌+◌, min, option_map};
 ghost use Rattle.kl1_model.specs.Limits.{most_allowance};
 ghost use Rattle.kl1_shoen.specs.Changes.{changed_by, with_control as kept_with};
 
-use kl1_ancestors::{Origin, Shoen};
 use kl1_model::Life;
 use kl1_model::limits::MOST_ALLOWANCE;
+use kl1_shoen_paths::{Origin, Shoen};
 use kl1_store::Cell;
 use kl1_text::NameValue;
 

@@ -5,8 +5,8 @@ ghost use Rattle.std.specs.List.{list_any};
 ghost use Rattle.kl1_model.specs.State.{is_living as living};
 ghost use Rattle.kl1_shoen.specs.Shoens.{counted_under, is_living_child_of, AreLower};
 
-use kl1_ancestors::{Shoen, TrackedList, item_at};
 use kl1_model::Life;
+use kl1_shoen_paths::{Shoen, TrackedList, item_at};
 use kl1_text::NameValue;
 use std::alloc::{AllocError, Global};
 use std::marker::Model;
@@ -22,8 +22,8 @@ pub struct CountedShoens<N: NameValue> {
 
 impl<N: NameValue> Model for CountedShoens<N> {
     ghost use Rattle.std.specs.Prelude.{◌-◌, min};
-    ghost use Rattle.kl1_ancestors.specs.declared.shoen.Shoen.{Shoen};
-    ghost use Rattle.kl1_ancestors.specs.Tracked.{Tracked};
+    ghost use Rattle.kl1_shoen_paths.specs.declared.shoen.Shoen.{Shoen};
+    ghost use Rattle.kl1_shoen_paths.specs.Tracked.{Tracked};
     ghost use Rattle.kl1_shoen.specs.Shoens.{IsCounted};
 
     ghost Value = { Tracked (Shoen N) };

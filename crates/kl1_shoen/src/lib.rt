@@ -6,5 +6,5 @@ mod counted;
 mod tree;
 mod work;
 
-pub use kl1_ancestors::{Origin, Shoen};
+pub use kl1_shoen_paths::{Origin, Shoen};
 pub use tree::{ShoenTree, Step};

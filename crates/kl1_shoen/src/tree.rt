@@ -11,7 +11,7 @@ ghost use Rattle.kl1_shoen.specs.Shoens.{has_number, shoen_in, path_in, lives_in
 
 use crate::counted::{CountedShoens, is_living};
 use crate::work::Work;
-use kl1_ancestors::{Origin, Shoen, TrackedList, lent, parent_of};
+use kl1_shoen_paths::{Origin, Shoen, TrackedList, lent, parent_of};
 use kl1_text::NameValue;
 use std::alloc::{AllocError, Global};
 use std::marker::Model;

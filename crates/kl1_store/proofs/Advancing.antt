@@ -5,7 +5,7 @@ use Rattle.std.proofs.lemmas.List.{drop_all}
 use Rattle.std.proofs.lemmas.Option.{get_or_from_slice_get, slice_get_within}
 use Rattle.kl1_model.specs.declared.built_in.BuiltIn.{BuiltIn}
 use Rattle.kl1_model.specs.Term.{Term, Terms, none, more, size, sizes}
-use Rattle.kl1_model.specs.Unify.{Equation, front, after, bound_to, solve, argument_equations, equations_size}
+use Rattle.kl1_model.specs.Unify.{Equation, front, after, bound_to, mgu, argument_equations, equations_size}
 use Rattle.kl1_model.proofs.UnifyRule.{front_decides}
 use Rattle.kl1_model.proofs.EqualSides.{equal_sides_dropped}
 use Rattle.kl1_model.proofs.TermFacts.{same_term_decides}
@@ -79,9 +79,9 @@ turn_waiting f h ps p l r x y turn =
 
 -- what a turn comes to, by its front equation
 turn_decides : {N : Type 0} (f : N → List ℕ) (h : Held N) (ps : List Frame) (p : Frame) (l r x y : Cell N) → Turn h p l r x y →
-    solve (waiting f h [] (ps ++ p ∷ [])) ≡ after solve solve (front (term_of f h x) (term_of f h y) (waiting f h [] (ps ++ onward p ∷ [])))
+    mgu (waiting f h [] (ps ++ p ∷ [])) ≡ after mgu mgu (front (term_of f h x) (term_of f h y) (waiting f h [] (ps ++ onward p ∷ [])))
 turn_decides f h ps p l r x y turn =
-    ap solve (turn_waiting f h ps p l r x y turn)
+    ap mgu (turn_waiting f h ps p l r x y turn)
     ∙ front_decides (record { left = term_of f h x; right = term_of f h y }) (waiting f h [] (ps ++ onward p ∷ []))
 
 -- how much work waits
@@ -91,7 +91,7 @@ work h ps = equations_size (waiting unread h [] ps) + length ps
 -- other equations in place of these, with less work
 pub record Reaches {N : Type 0} (built : BuiltIn → N) (h : Held N) (before now : List Frame) : Type 0 where
   pub pairs : ArePairs h now
-  pub same : ForEachReading built (λ f. solve (waiting f h [] before) ≡ solve (waiting f h [] now))
+  pub same : ForEachReading built (λ f. mgu (waiting f h [] before) ≡ mgu (waiting f h [] now))
   pub less : work h now < work h before
 
 pub closed : {N : Type 0} (built : BuiltIn → N) (h : Held N) (ps : List Frame) (p : Frame) → ArePairs h (ps ++ p ∷ []) → p.next ≡ p.count → Reaches built h (ps ++ p ∷ []) ps
@@ -100,7 +100,7 @@ closed {N = N} built h ps p pairs e =
     let same : (f : N → List ℕ) → waiting f h [] (ps ++ p ∷ []) ≡ waiting f h [] ps = λ f. waiting-push f h [] ps p ∙ rest_done f h p (waiting f h [] ps) r.1 e in
     record {
       pairs = r.0;
-      same = λ f reads. ap solve (same f);
+      same = λ f reads. ap mgu (same f);
       less = let s = ap equations_size (same unread) in omega (arith, s, length-append ps (p ∷ []));
     }
 
@@ -116,7 +116,7 @@ pub dropped : {N : Type 0} (built : BuiltIn → N) (h : Held N) (ps : List Frame
 dropped built h ps p l r x y pairs turn equal = record {
   pairs = ArePairs-push h ps (onward p) pairs (onward_pair h p turn.pair (turn_more turn));
   same = λ f reads.
-      ap solve (turn_waiting f h ps p l r x y turn)
+      ap mgu (turn_waiting f h ps p l r x y turn)
       ∙ equal_sides_dropped (record { left = term_of f h x; right = term_of f h y }) (waiting f h [] (ps ++ onward p ∷ []))
       ((same_term_decides (term_of f h x) (term_of f h y)).1 (equal f));
   less = omega (arith, turn_size unread h ps p l r x y turn, length-append ps (p ∷ []), length-append ps (onward p ∷ []));
@@ -144,20 +144,20 @@ opened {N = N} built h ps p q l r x y pairs turn opens =
       pairs = ArePairs-push h (ps ++ onward p ∷ []) q (ArePairs-push h ps (onward p) pairs (onward_pair h p turn.pair (turn_more turn))) opens.is;
       same = λ f reads.
           turn_decides f h ps p l r x y turn
-          ∙ ap (after solve solve) (opens.leads f (rest f))
-          ∙ ap solve (sym (waiting-push f h [] (ps ++ onward p ∷ []) q));
+          ∙ ap (after mgu mgu) (opens.leads f (rest f))
+          ∙ ap mgu (sym (waiting-push f h [] (ps ++ onward p ∷ []) q));
       less = omega (arith, turn_size unread h ps p l r x y turn, big, small, now, length-append ps (p ∷ []), length-append ps (onward p ∷ []), length-append (ps ++ onward p ∷ []) (q ∷ []));
     }
 
 pub never : {N : Type 0} (built : BuiltIn → N) (h : Held N) (ps : List Frame) (p : Frame) (l r x y : Cell N) → Turn h p l r x y → MeetsAs built h x y Clash →
-    ForEachReading built (λ f. solve (waiting f h [] (ps ++ p ∷ [])) ≡ None)
+    ForEachReading built (λ f. mgu (waiting f h [] (ps ++ p ∷ [])) ≡ None)
 never built h ps p l r x y turn clash = λ f reads.
-    turn_decides f h ps p l r x y turn ∙ ap (after solve solve) (clash f reads (waiting f h [] (ps ++ onward p ∷ [])))
+    turn_decides f h ps p l r x y turn ∙ ap (after mgu mgu) (clash f reads (waiting f h [] (ps ++ onward p ∷ [])))
 
 pub taken : {N : Type 0} (built : BuiltIn → N) (h : Held N) (ps : List Frame) (p : Frame) (l r x y : Cell N) (v : ℕ) (z : Cell N) → Turn h p l r x y → Takes h x y v z →
-    ForEachReading built (λ f. solve (waiting f h [] (ps ++ p ∷ [])) ≡ after solve solve (bound_to v (term_of f h z) (waiting f h [] (ps ++ onward p ∷ []))))
+    ForEachReading built (λ f. mgu (waiting f h [] (ps ++ p ∷ [])) ≡ after mgu mgu (bound_to v (term_of f h z) (waiting f h [] (ps ++ onward p ∷ []))))
 taken built h ps p l r x y v z turn takes = λ f reads.
-    turn_decides f h ps p l r x y turn ∙ ap (after solve solve) (takes.leads f (waiting f h [] (ps ++ onward p ∷ [])))
+    turn_decides f h ps p l r x y turn ∙ ap (after mgu mgu) (takes.leads f (waiting f h [] (ps ++ onward p ∷ [])))
 
 pub nothing_waits : {N : Type 0} (f : N → List ℕ) (h : Held N) → waiting f h [] [] ≡ []
 unfolding waiting
@@ -198,21 +198,21 @@ opened_at built h before ps between now p q o x y pairs e are is further turn op
     subst R (sym e) (subst S (sym (further ∙ ap (λ l. l ++ o ∷ []) (pushed ps between p q are is))) (opened built h ps p o turn.left turn.right x y (popped h before ps p pairs e).0 turn.turn opens))
 
 pub never_at : {N : Type 0} (built : BuiltIn → N) (h : Held N) (before ps : List Frame) (p : Frame) (x y : Cell N) →
-    before ≡ ps ++ p ∷ [] → IsTurn h p x y → MeetsAs built h x y Clash → ForEachReading built (λ f. solve (waiting f h [] before) ≡ None)
+    before ≡ ps ++ p ∷ [] → IsTurn h p x y → MeetsAs built h x y Clash → ForEachReading built (λ f. mgu (waiting f h [] before) ≡ None)
 never_at built h before ps p x y e turn clash = λ f reads.
-    ap (λ l. solve (waiting f h [] l)) e ∙ never built h ps p turn.left turn.right x y turn.turn clash f reads
+    ap (λ l. mgu (waiting f h [] l)) e ∙ never built h ps p turn.left turn.right x y turn.turn clash f reads
 
 pub taken_at : {N : Type 0} (built : BuiltIn → N) (h : Held N) (before ps now : List Frame) (p q : Frame) (x y : Cell N) (v : ℕ) (z : Cell N) →
     ArePairs h before → before ≡ ps ++ p ∷ [] → now ≡ ps ++ q ∷ [] → q ≡ onward p → IsTurn h p x y → Takes h x y v z →
-    ArePairs h now × ForEachReading built (λ f. solve (waiting f h [] before) ≡ after solve solve (bound_to v (term_of f h z) (waiting f h [] now)))
+    ArePairs h now × ForEachReading built (λ f. mgu (waiting f h [] before) ≡ after mgu mgu (bound_to v (term_of f h z) (waiting f h [] now)))
 taken_at built h before ps now p q x y v z pairs e are is turn takes =
     let same = pushed ps now p q are is in
     let P : List Frame → Type 0 = λ l. ArePairs h l in
     let r = popped h before ps p pairs e in (
       subst P (sym same) (ArePairs-push h ps (onward p) r.0 (onward_pair h p r.1 (turn_more turn.turn))),
       λ f reads.
-          ap (λ l. solve (waiting f h [] l)) e ∙ taken built h ps p turn.left turn.right x y v z turn.turn takes f reads
-          ∙ ap (λ l. after solve solve (bound_to v (term_of f h z) (waiting f h [] l))) (sym same),
+          ap (λ l. mgu (waiting f h [] l)) e ∙ taken built h ps p turn.left turn.right x y v z turn.turn takes f reads
+          ∙ ap (λ l. after mgu mgu (bound_to v (term_of f h z) (waiting f h [] l))) (sym same),
     )
 
 -- nothing of a pair at its end waits

@@ -4,7 +4,7 @@ use Rattle.std.specs.Prelude.{Some, Result, Ok, Err, OnOk, OnErr}
 use Rattle.std.proofs.lemmas.List.{take_all, take_at}
 use Rattle.kl1_model.specs.declared.built_in.BuiltIn.{BuiltIn}
 use Rattle.kl1_model.specs.Term.{Term, variable, integer, atom, occurs, Replacement}
-use Rattle.kl1_model.specs.Unify.{Equation, walk, solve_within, solve}
+use Rattle.kl1_model.specs.Unify.{Equation, walk, mgu_within, mgu}
 use Rattle.kl1_store.specs.declared.cell.Cell.{Cell}
 use Rattle.kl1_store.specs.declared.cell.Cell.TheVariants.{Variable, Integer, Atom, Structure}
 use Rattle.kl1_store.specs.declared.unified.Unified.TheVariants.{Bound}
@@ -25,25 +25,25 @@ use Rattle.kl1_store.proofs.Levelling.{levels-binding}
 abbrev pub one_by : ℕ → Term → List Replacement
 one_by v t = record { number = v; by = t } ∷ []
 
-solve_integer : (v : ℕ) (i : ℤ) → solve (record { left = variable v; right = integer i } ∷ []) ≡ Some (one_by v (integer i))
-unfolding solve_within walk
+solve_integer : (v : ℕ) (i : ℤ) → mgu (record { left = variable v; right = integer i } ∷ []) ≡ Some (one_by v (integer i))
+unfolding mgu_within walk
 solve_integer v i = refl
 
-solve_atom : (v : ℕ) (a : List ℕ) → solve (record { left = variable v; right = atom a } ∷ []) ≡ Some (one_by v (atom a))
-unfolding solve_within walk
+solve_atom : (v : ℕ) (a : List ℕ) → mgu (record { left = variable v; right = atom a } ∷ []) ≡ Some (one_by v (atom a))
+unfolding mgu_within walk
 solve_atom v a = refl
 
 -- an equation of a variable and a constant has one solution
-solves : {N : Type 0} (f : N → List ℕ) (h : Held N) (v : ℕ) (x : Cell N) → is_bound v h.bindings ≡ false → IsConstant x → solve (equation_of f h (Variable v) x) ≡ Some (one_by v (term_of f h x))
+solves : {N : Type 0} (f : N → List ℕ) (h : Held N) (v : ℕ) (x : Cell N) → is_bound v h.bindings ≡ false → IsConstant x → mgu (equation_of f h (Variable v) x) ≡ Some (one_by v (term_of f h x))
 solves f h v (Variable w) u c = absurd c
 solves f h v (Integer i) u c =
-    ap (λ l. let q : Equation = record { left = l; right = term_of f h (Integer i) } in solve (q ∷ [])) (term_of-unbound f h v u)
-    ∙ ap (λ r. let q : Equation = record { left = variable v; right = r } in solve (q ∷ [])) (term_of-Integer f h i)
+    ap (λ l. let q : Equation = record { left = l; right = term_of f h (Integer i) } in mgu (q ∷ [])) (term_of-unbound f h v u)
+    ∙ ap (λ r. let q : Equation = record { left = variable v; right = r } in mgu (q ∷ [])) (term_of-Integer f h i)
     ∙ solve_integer v i
     ∙ ap (λ t. Some (one_by v t)) (sym (term_of-Integer f h i))
 solves f h v (Atom a) u c =
-    ap (λ l. let q : Equation = record { left = l; right = term_of f h (Atom a) } in solve (q ∷ [])) (term_of-unbound f h v u)
-    ∙ ap (λ r. let q : Equation = record { left = variable v; right = r } in solve (q ∷ [])) (term_of-Atom f h a)
+    ap (λ l. let q : Equation = record { left = l; right = term_of f h (Atom a) } in mgu (q ∷ [])) (term_of-unbound f h v u)
+    ∙ ap (λ r. let q : Equation = record { left = variable v; right = r } in mgu (q ∷ [])) (term_of-Atom f h a)
     ∙ solve_atom v (f a)
     ∙ ap (λ t. Some (one_by v t)) (sym (term_of-Atom f h a))
 solves f h v (Structure s) u c = absurd c

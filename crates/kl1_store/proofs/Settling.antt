@@ -5,7 +5,7 @@ use Rattle.std.proofs.lemmas.List.{append-nil}
 use Rattle.std.proofs.lemmas.Bool.{cases_eq, eq-eqb, cond-true, cond-false}
 use Rattle.kl1_model.specs.declared.built_in.BuiltIn.{BuiltIn}
 use Rattle.kl1_model.specs.Term.{Term, Terms, none, more, occurs, replace, replace_each, Replacement}
-use Rattle.kl1_model.specs.Unify.{Equation, fails, binds, front, after, bound_to, solve, argument_equations, replace_in_all}
+use Rattle.kl1_model.specs.Unify.{Equation, fails, binds, front, after, bound_to, mgu, argument_equations, replace_in_all}
 use Rattle.kl1_model.proofs.UnifyRule.{front_decides, nothing_solved}
 use Rattle.kl1_model.proofs.EqualSides.{equal_sides_dropped}
 use Rattle.kl1_model.proofs.TermFacts.{same_term_decides}
@@ -132,10 +132,10 @@ bound_binds v t es e = cond-false (occurs v t) fails (binds v t es) e
 
 -- one binding more
 pub leads_on : {N : Type 0} (f : N → List ℕ) (old now : Held N) (start : Option (List Replacement)) (v : ℕ) (x : Cell N) (before ps : List Frame) →
-    Leads f old now start (solve (waiting f now [] before)) →
-    solve (waiting f now [] before) ≡ after solve solve (bound_to v (term_of f now x) (waiting f now [] ps)) →
+    Leads f old now start (mgu (waiting f now [] before)) →
+    mgu (waiting f now [] before) ≡ after mgu mgu (bound_to v (term_of f now x) (waiting f now [] ps)) →
     occurs v (term_of f now x) ≡ false →
-    Leads f old (with_binding now v x) start (solve (waiting f (with_binding now v x) [] ps))
+    Leads f old (with_binding now v x) start (mgu (waiting f (with_binding now v x) [] ps))
 leads_on f old now start v x before ps l next free =
     let r : Replacement = record { number = v; by = term_of f now x } in
     record {
@@ -143,17 +143,17 @@ leads_on f old now start v x before ps l next free =
       replacements = replacements-binding f now v x ∙ ap (λ rs. rs ++ r ∷ []) l.replacements ∙ append_assoc (replacements f old) l.made (r ∷ []);
       leads =
           l.leads
-          ∙ ap (λ o. option_map (λ rest. l.made ++ rest) o) (next ∙ ap (after solve solve) (bound_binds v (term_of f now x) (waiting f now [] ps) free))
-          ∙ mapped_twice l.made r (solve (replace_in_all v (term_of f now x) (waiting f now [] ps)))
-          ∙ ap (λ es. option_map (λ rest. (l.made ++ r ∷ []) ++ rest) (solve es)) (sym (waiting-binding f now v x [] ps));
+          ∙ ap (λ o. option_map (λ rest. l.made ++ rest) o) (next ∙ ap (after mgu mgu) (bound_binds v (term_of f now x) (waiting f now [] ps) free))
+          ∙ mapped_twice l.made r (mgu (replace_in_all v (term_of f now x) (waiting f now [] ps)))
+          ∙ ap (λ es. option_map (λ rest. (l.made ++ r ∷ []) ++ rest) (mgu es)) (sym (waiting-binding f now v x [] ps));
     }
 
 pub leads_nowhere : {N : Type 0} (f : N → List ℕ) (old now : Held N) (start : Option (List Replacement)) (v : ℕ) (x : Cell N) (before ps : List Frame) →
-    Leads f old now start (solve (waiting f now [] before)) →
-    solve (waiting f now [] before) ≡ after solve solve (bound_to v (term_of f now x) (waiting f now [] ps)) →
+    Leads f old now start (mgu (waiting f now [] before)) →
+    mgu (waiting f now [] before) ≡ after mgu mgu (bound_to v (term_of f now x) (waiting f now [] ps)) →
     occurs v (term_of f now x) ≡ true → start ≡ None
 leads_nowhere f old now start v x before ps l next there =
-    l.leads ∙ ap (λ o. option_map (λ rest. l.made ++ rest) o) (next ∙ ap (after solve solve) (bound_fails v (term_of f now x) (waiting f now [] ps) there))
+    l.leads ∙ ap (λ o. option_map (λ rest. l.made ++ rest) o) (next ∙ ap (after mgu mgu) (bound_fails v (term_of f now x) (waiting f now [] ps) there))
 
 pub leads_end : {N : Type 0} (f : N → List ℕ) (old now : Held N) (start current : Option (List Replacement)) → Leads f old now start current → current ≡ Some [] → Made f old now start
 leads_end f old now start current l e = record {
@@ -185,15 +185,15 @@ OnlyBound-binding {N = N} old now v x p =
 pub record Settling {N : Type 0} (built : BuiltIn → N) (old now : Held N) (start ps : List Frame) : Type 0 where
   pub pairs : ArePairs now ps
   pub bound : OnlyBound old now
-  pub leads : (f : N → List ℕ) → Reads built f → Leads f old now (solve (waiting f old [] start)) (solve (waiting f now [] ps))
+  pub leads : (f : N → List ℕ) → Reads built f → Leads f old now (mgu (waiting f old [] start)) (mgu (waiting f now [] ps))
 
 pub settling_start : {N : Type 0} (built : BuiltIn → N) (h : Held N) (ps : List Frame) → ArePairs h ps → Settling built h h ps ps
-settling_start built h ps p = record { pairs = p; bound = OnlyBound-same h; leads = λ f reads. leads_start f h (solve (waiting f h [] ps)) }
+settling_start built h ps p = record { pairs = p; bound = OnlyBound-same h; leads = λ f reads. leads_start f h (mgu (waiting f h [] ps)) }
 
 pub record NextBinding {N : Type 0} (built : BuiltIn → N) (h : Held N) (before ps : List Frame) (v : ℕ) (x : Cell N) : Type 0 where
   pub can : CanTake h v x
   pub pairs : ArePairs h ps
-  pub next : ForEachReading built (λ f. solve (waiting f h [] before) ≡ after solve solve (bound_to v (term_of f h x) (waiting f h [] ps)))
+  pub next : ForEachReading built (λ f. mgu (waiting f h [] before) ≡ after mgu mgu (bound_to v (term_of f h x) (waiting f h [] ps)))
 
 pub settling_on : {N : Type 0} (built : BuiltIn → N) (old now new : Held N) (start before ps : List Frame) (v : ℕ) (x : Cell N) → Settling built old now start before →
     NextBinding built now before ps v x → BindsAs now new v x true →
@@ -204,7 +204,7 @@ settling_on {N = N} built old now new start before ps v x s n b =
       record {
         pairs = ArePairs-binding now v x ps n.pairs;
         bound = OnlyBound-binding old now v x s.bound;
-        leads = λ f reads. leads_on f old now (solve (waiting f old [] start)) v x before ps (s.leads f reads) (n.next f reads) (b.1 f);
+        leads = λ f reads. leads_on f old now (mgu (waiting f old [] start)) v x before ps (s.leads f reads) (n.next f reads) (b.1 f);
       },
       fewer_unbound now.variables now.bindings (record { variable = v; value = x }) n.can.inside n.can.unbound,
     )
@@ -212,17 +212,17 @@ settling_on {N = N} built old now new start before ps v x s n b =
 pub settling_stops : {N : Type 0} (built : BuiltIn → N) (old now new : Held N) (start before ps : List Frame) (v : ℕ) (x : Cell N) → Settling built old now start before →
     NextBinding built now before ps v x → BindsAs now new v x false → SettlesAs built old new (λ f. waiting f old [] start) false
 settling_stops built old now new start before ps v x s n b = λ f reads.
-    leads_nowhere f old now (solve (waiting f old [] start)) v x before ps (s.leads f reads) (n.next f reads) (b.1 f)
+    leads_nowhere f old now (mgu (waiting f old [] start)) v x before ps (s.leads f reads) (n.next f reads) (b.1 f)
 
 pub settling_ends : {N : Type 0} (built : BuiltIn → N) (old now : Held N) (start ps : List Frame) → Settling built old now start ps →
-    ForEachReading built (λ f. solve (waiting f now [] ps) ≡ Some []) → SettlesAs built old now (λ f. waiting f old [] start) true
+    ForEachReading built (λ f. mgu (waiting f now [] ps) ≡ Some []) → SettlesAs built old now (λ f. waiting f old [] start) true
 settling_ends built old now start ps s e = λ f reads.
-    leads_end f old now (solve (waiting f old [] start)) (solve (waiting f now [] ps)) (s.leads f reads) (e f reads)
+    leads_end f old now (mgu (waiting f old [] start)) (mgu (waiting f now [] ps)) (s.leads f reads) (e f reads)
 
 pub settling_fails : {N : Type 0} (built : BuiltIn → N) (old now : Held N) (start ps : List Frame) → Settling built old now start ps →
-    ForEachReading built (λ f. solve (waiting f now [] ps) ≡ None) → SettlesAs built old now (λ f. waiting f old [] start) false
+    ForEachReading built (λ f. mgu (waiting f now [] ps) ≡ None) → SettlesAs built old now (λ f. waiting f old [] start) false
 settling_fails built old now start ps s e = λ f reads.
-    leads_none f old now (solve (waiting f old [] start)) (solve (waiting f now [] ps)) (s.leads f reads) (e f reads)
+    leads_none f old now (mgu (waiting f old [] start)) (mgu (waiting f now [] ps)) (s.leads f reads) (e f reads)
 
 -- ---- a single equation
 
@@ -243,23 +243,23 @@ pub record OneEquation {N : Type 0} (h : Held N) (l r x y : Cell N) : Type 0 whe
   pub right_means : Stands h y r
 
 one_decides : {N : Type 0} (f : N → List ℕ) (h : Held N) (l r x y : Cell N) → OneEquation h l r x y →
-    solve (equation_of f h l r) ≡ after solve solve (front (term_of f h x) (term_of f h y) [])
+    mgu (equation_of f h l r) ≡ after mgu mgu (front (term_of f h x) (term_of f h y) [])
 one_decides f h l r x y one =
-    ap solve (sym (same_equation f h l r x y one.left_means one.right_means))
+    ap mgu (sym (same_equation f h l r x y one.left_means one.right_means))
     ∙ front_decides (record { left = term_of f h x; right = term_of f h y }) []
 
 pub one_same : {N : Type 0} (built : BuiltIn → N) (h : Held N) (l r x y : Cell N) → OneEquation h l r x y → Stands h x y → SettlesAs built h h (λ f. equation_of f h l r) true
 one_same built h l r x y one same = λ f reads. record {
   made = [];
   solves =
-      ap solve (sym (same_equation f h l r x y one.left_means one.right_means))
+      ap mgu (sym (same_equation f h l r x y one.left_means one.right_means))
       ∙ equal_sides_dropped (record { left = term_of f h x; right = term_of f h y }) [] ((same_term_decides (term_of f h x) (term_of f h y)).1 (same f))
       ∙ nothing_solved;
   replacements = sym (append-nil (replacements f h));
 }
 
 pub one_clash : {N : Type 0} (built : BuiltIn → N) (h : Held N) (l r x y : Cell N) → OneEquation h l r x y → MeetsAs built h x y Clash → SettlesAs built h h (λ f. equation_of f h l r) false
-one_clash built h l r x y one clash = λ f reads. one_decides f h l r x y one ∙ ap (after solve solve) (clash f reads [])
+one_clash built h l r x y one clash = λ f reads. one_decides f h l r x y one ∙ ap (after mgu mgu) (clash f reads [])
 
 pub one_binds : {N : Type 0} (built : BuiltIn → N) (h new : Held N) (l r x y : Cell N) (v : ℕ) (z : Cell N) → OneEquation h l r x y → Takes h x y v z → BindsAs h new v z true →
     SettlesAs built h new (λ f. equation_of f h l r) true × OnlyBound h new
@@ -269,7 +269,7 @@ one_binds {N = N} built h new l r x y v z one takes b =
       (λ f reads. record {
         made = record { number = v; by = term_of f h z } ∷ [];
         solves =
-            one_decides f h l r x y one ∙ ap (after solve solve) (takes.leads f [] ∙ bound_binds v (term_of f h z) [] (b.1 f))
+            one_decides f h l r x y one ∙ ap (after mgu mgu) (takes.leads f [] ∙ bound_binds v (term_of f h z) [] (b.1 f))
             ∙ ap (option_map (λ rest. record { number = v; by = term_of f h z } ∷ rest)) (nothing_solved);
         replacements = replacements-binding f h v z;
       }),
@@ -279,7 +279,7 @@ one_binds {N = N} built h new l r x y v z one takes b =
 pub one_cycle : {N : Type 0} (built : BuiltIn → N) (h new : Held N) (l r x y : Cell N) (v : ℕ) (z : Cell N) → OneEquation h l r x y → Takes h x y v z → BindsAs h new v z false →
     SettlesAs built h new (λ f. equation_of f h l r) false
 one_cycle built h new l r x y v z one takes b = λ f reads.
-    one_decides f h l r x y one ∙ ap (after solve solve) (takes.leads f [] ∙ bound_fails v (term_of f h z) [] (b.1 f))
+    one_decides f h l r x y one ∙ ap (after mgu mgu) (takes.leads f [] ∙ bound_fails v (term_of f h z) [] (b.1 f))
 
 -- what the binding comes to, if it is made and if it isn't
 pub one_taken : {N : Type 0} (built : BuiltIn → N) (h new : Held N) (l r x y : Cell N) (v : ℕ) (z : Cell N) (b : Bool) → OneEquation h l r x y → Takes h x y v z → BindsAs h new v z b →
@@ -293,15 +293,15 @@ grown_taken {N = N} h new v z (Ok false) b e = let P : Held N → Type 0 = λ k.
 grown_taken {N = N} h new v z (Err x) b e = let P : Held N → Type 0 = λ k. OnlyBound h k in subst P (sym e) (OnlyBound-same h)
 
 pub one_opens : {N : Type 0} (h : Held N) (l r x y : Cell N) (p : Frame) → OneEquation h l r x y → Opens h x y p → (f : N → List ℕ) →
-    solve (equation_of f h l r) ≡ solve (waiting f h [] (p ∷ []))
+    mgu (equation_of f h l r) ≡ mgu (waiting f h [] (p ∷ []))
 unfolding waiting
-one_opens h l r x y p one opens f = one_decides f h l r x y one ∙ ap (after solve solve) (opens.leads f [])
+one_opens h l r x y p one opens f = one_decides f h l r x y one ∙ ap (after mgu mgu) (opens.leads f [])
 
 -- the answer for what waits is the answer for the equation
 pub settled_at : {N : Type 0} (built : BuiltIn → N) (h new : Held N) (l r x y : Cell N) (p : Frame) (ps : List Frame) (b : Bool) → OneEquation h l r x y → Opens h x y p → ps ≡ p ∷ [] →
     SettlesAs built h new (λ f. waiting f h [] ps) b → SettlesAs built h new (λ f. equation_of f h l r) b
 settled_at {N = N} built h new l r x y p ps true one opens e s = λ f reads.
     let m = s f reads in
-    record { made = m.made; solves = one_opens h l r x y p one opens f ∙ ap (λ k. solve (waiting f h [] k)) (sym e) ∙ m.solves; replacements = m.replacements }
+    record { made = m.made; solves = one_opens h l r x y p one opens f ∙ ap (λ k. mgu (waiting f h [] k)) (sym e) ∙ m.solves; replacements = m.replacements }
 settled_at built h new l r x y p ps false one opens e s = λ f reads.
-    one_opens h l r x y p one opens f ∙ ap (λ k. solve (waiting f h [] k)) (sym e) ∙ s f reads
+    one_opens h l r x y p one opens f ∙ ap (λ k. mgu (waiting f h [] k)) (sym e) ∙ s f reads

@@ -2,7 +2,7 @@
 use Rattle.std.specs.Prelude.{◌≡◌, ℕ, Bool, true, false, List, [], ◌∷◌, ◌++◌, Option, Some, None}
 use Rattle.kl1_model.specs.declared.built_in.BuiltIn.{BuiltIn}
 use Rattle.kl1_model.specs.Term.{Replacement, occurs}
-use Rattle.kl1_model.specs.Unify.{Equation, solve, bound_to, after}
+use Rattle.kl1_model.specs.Unify.{Equation, mgu, bound_to, after}
 use Rattle.kl1_text.specs.Reading.{Reads}
 use Rattle.kl1_store.specs.declared.cell.Cell.{Cell}
 use Rattle.kl1_store.specs.declared.frame.Frame.{Frame}
@@ -20,11 +20,11 @@ ForEachReading built P = (f : _) → Reads built f → P f
 
 -- what the waiting equations come to before the next binding
 abbrev pub ComesTo : {N : Type 0} → (BuiltIn → N) → Held N → List Frame → List Frame → Next N → Type 0
-ComesTo built h before ps Finished = ForEachReading built (λ f. solve (waiting f h [] before) ≡ Some [])
-ComesTo built h before ps Never = ForEachReading built (λ f. solve (waiting f h [] before) ≡ None)
+ComesTo built h before ps Finished = ForEachReading built (λ f. mgu (waiting f h [] before) ≡ Some [])
+ComesTo built h before ps Never = ForEachReading built (λ f. mgu (waiting f h [] before) ≡ None)
 ComesTo built h before ps (Binds v x) =
     CanTake h v x × ArePairs h ps
-    × ForEachReading built (λ f. solve (waiting f h [] before) ≡ after solve solve (bound_to v (term_of f h x) (waiting f h [] ps)))
+    × ForEachReading built (λ f. mgu (waiting f h [] before) ≡ after mgu mgu (bound_to v (term_of f h x) (waiting f h [] ps)))
 
 -- contents with more bindings, and nothing else new
 pub record OnlyBound {N : Type 0} (old new : Held N) : Type 0 where
@@ -41,8 +41,8 @@ pub record Made {N : Type 0} (f : N → List ℕ) (old new : Held N) (answer : O
 
 -- whether equations that wait were solved
 abbrev pub SettlesAs : {N : Type 0} → (BuiltIn → N) → Held N → Held N → ((N → List ℕ) → List Equation) → Bool → Type 0
-SettlesAs built old new es true = ForEachReading built (λ f. Made f old new (solve (es f)))
-SettlesAs built old new es false = ForEachReading built (λ f. solve (es f) ≡ None)
+SettlesAs built old new es true = ForEachReading built (λ f. Made f old new (mgu (es f)))
+SettlesAs built old new es false = ForEachReading built (λ f. mgu (es f) ≡ None)
 
 -- a variable that takes a cell, or that is in it
 abbrev pub BindsAs : {N : Type 0} → Held N → Held N → ℕ → Cell N → Bool → Type 0

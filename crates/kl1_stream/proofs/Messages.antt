@@ -7,7 +7,7 @@ use Rattle.kl1_model.specs.declared.built_in.BuiltIn.{BuiltIn}
 use Rattle.kl1_model.specs.declared.built_in.BuiltIn.TheVariants.{ListCell, EmptyList}
 use Rattle.kl1_model.specs.Term.{Term, variable, atom, structure, none, more, occurs, replace, Replacement, replaced}
 use Rattle.kl1_model.specs.Meaning.{cell, nil}
-use Rattle.kl1_model.specs.Unify.{Equation, fails, binds, after, walk, solve_within, highest_among, solve}
+use Rattle.kl1_model.specs.Unify.{Equation, fails, binds, after, walk, mgu_within, highest_among, mgu}
 use Rattle.kl1_text.specs.Reading.{Reads}
 use Rattle.kl1_store.specs.declared.cell.Cell.{Cell}
 use Rattle.kl1_store.specs.declared.cell.Cell.TheVariants.{Variable, Integer, Atom, Structure}
@@ -34,17 +34,17 @@ solved_by v t b = if b then None else Some (record { number = v; by = t } ∷ []
 abbrev pub one_equation : ℕ → Term → List Equation
 one_equation v t = record { left = variable v; right = t } ∷ []
 
-front_solves : (last v : ℕ) (t : Term) (b : Bool) → after (walk (solve_within (suc last)) 2) (solve_within (suc last)) (if b then fails else binds v t []) ≡ solved_by v t b
-unfolding solve_within walk
+front_solves : (last v : ℕ) (t : Term) (b : Bool) → after (walk (mgu_within (suc last)) 2) (mgu_within (suc last)) (if b then fails else binds v t []) ≡ solved_by v t b
+unfolding mgu_within walk
 front_solves last v t true = refl
 front_solves last v t false = refl
 
-solve_cell : (v : ℕ) (h t : Term) → solve (one_equation v (cell h t)) ≡ solved_by v (cell h t) (occurs v (cell h t))
-unfolding solve_within walk
+solve_cell : (v : ℕ) (h t : Term) → mgu (one_equation v (cell h t)) ≡ solved_by v (cell h t) (occurs v (cell h t))
+unfolding mgu_within walk
 solve_cell v h t = front_solves (highest_among (one_equation v (cell h t))) v (cell h t) (occurs v (cell h t))
 
-solve_nil : (v : ℕ) → solve (one_equation v nil) ≡ solved_by v nil false
-unfolding solve_within walk
+solve_nil : (v : ℕ) → mgu (one_equation v nil) ≡ solved_by v nil false
+unfolding mgu_within walk
 solve_nil v = refl
 
 -- a variable beyond all others is unbound
@@ -110,10 +110,10 @@ sides f h v x t u e =
 
 -- the answer of unification, from whether the variable is in the message
 solves : {N : Type 0} (built : BuiltIn → N) (f : N → List ℕ) (h : Held N) (v : ℕ) (m : Cell N) → is_bound v h.bindings ≡ false → HasMessage built f h m → v < h.variables →
-    solve (equation_of f (with_message built h m) (Variable v) (Structure (length h.structures))) ≡ solved_by v (cell (term_of f h m) (variable h.variables)) (occurs v (term_of f h m))
+    mgu (equation_of f (with_message built h m) (Variable v) (Structure (length h.structures))) ≡ solved_by v (cell (term_of f h m) (variable h.variables)) (occurs v (term_of f h m))
 solves built f h v m u k lt =
     let t = cell (term_of f h m) (variable h.variables) in
-    ap solve (sides f (with_message built h m) v (Structure (length h.structures)) t u k.cell_is)
+    ap mgu (sides f (with_message built h m) v (Structure (length h.structures)) t u k.cell_is)
     ∙ solve_cell v (term_of f h m) (variable h.variables)
     ∙ ap (solved_by v t) (occurs_cell v h.variables (term_of f h m) lt)
 
@@ -209,7 +209,7 @@ ends {N = N} built h k v a Bound free e told = record {
   each = λ f reads x.
       let solved = told.0 f reads in
       let is : term_of f h (Atom a) ≡ nil = term_of-Atom f h a ∙ ap (λ n. atom (f n)) e ∙ ap atom (reads.texts EmptyList) in
-      let one : solved_by v nil false ≡ Some solved.replacements = sym (solve_nil v) ∙ ap solve (sym (sides f h v (Atom a) nil free is)) ∙ solved.solves in
+      let one : solved_by v nil false ≡ Some solved.replacements = sym (solve_nil v) ∙ ap mgu (sym (sides f h v (Atom a) nil free is)) ∙ solved.solves in
       let rs : solved.replacements ≡ record { number = v; by = nil } ∷ [] = cc in
       solved.everywhere x ∙ ap (λ l. replaced l (term_of f h x)) rs;
 }
@@ -218,6 +218,6 @@ ends {N = N} built h k v a Clash free e told = record {
   each = λ f reads x.
       let never = told.0 f reads in
       let is : term_of f h (Atom a) ≡ nil = term_of-Atom f h a ∙ ap (λ n. atom (f n)) e ∙ ap atom (reads.texts EmptyList) in
-      let one : solved_by v nil false ≡ None = sym (solve_nil v) ∙ ap solve (sym (sides f h v (Atom a) nil free is)) ∙ never in
+      let one : solved_by v nil false ≡ None = sym (solve_nil v) ∙ ap mgu (sym (sides f h v (Atom a) nil free is)) ∙ never in
       absurd (cc);
 }

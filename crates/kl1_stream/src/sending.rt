@@ -9,8 +9,8 @@ ghost use Rattle.kl1_stream.specs.Spending.{SpendsOnMessage};
 
 use kl1_model::BuiltIn;
 use kl1_store::{Cell, Store, Unified};
+use kl1_store_unify::unify;
 use kl1_text::NameValue;
-use kl1_unify::unify;
 use std::alloc::AllocError;
 
 /// Puts a list cell of a message and a new variable where an unbound variable stands, and gives the new variable's number;

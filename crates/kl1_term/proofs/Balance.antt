@@ -1,7 +1,7 @@
 -- The nodes of a term are as many as it takes, and no more.
 use Rattle.std.proofs.Common.{◌≡◌, ℕ, suc, zero, ◌+◌, ◌<◌, List, [], ◌∷◌, ◌++◌, append_assoc, append-nil, refl, ap, sym, ◌∙◌, arith}
 use Rattle.kl1_model.specs.Term.{Term, variable, integer, structure, atom, Terms, none, more, count_of}
-use Rattle.kl1_model.specs.TermCode.{NodeCode, nodes_of, nodes_of_all}
+use Rattle.kl1_model.specs.code.TermCode.{NodeCode, nodes_of, nodes_of_all}
 use Rattle.kl1_term.specs.Nodes.{code_of, count_in, count_of_code, left_after}
 use Rattle.kl1_term.specs.declared.mode.Mode.{Mode}
 use Rattle.kl1_term.specs.declared.mode.Mode.TheVariants.{Whole, Rest, Colon, Behind, Done}

@@ -5,7 +5,7 @@ use Rattle.std.proofs.Math.Seq.{drop-cons}
 use Rattle.kl1_model.specs.Limits.{most_arguments, most_depth}
 use Rattle.kl1_model.specs.Text.{is_text}
 use Rattle.kl1_model.specs.Term.{Term, variable, integer, atom, structure, Terms, none, more, count_of}
-use Rattle.kl1_model.specs.TermCode.{NodeCode, nodes_of, nodes_of_all, read_nodes, first_term, behind_first, front_of, behind, reads-back}
+use Rattle.kl1_model.specs.code.TermCode.{NodeCode, nodes_of, nodes_of_all, read_nodes, first_term, behind_first, front_of, behind, reads-back}
 use Rattle.kl1_model.specs.Meaning.{Depth, flat, depths, depth, deepest, pair_depth, cell_depth, is_narrow, are_narrow, is_writable}
 use Rattle.kl1_term.specs.Nodes.{code_of}
 use Rattle.kl1_term.specs.Depths.{depth_of, depths_on, first_depth, behind_depth, deepest_of, depths_behind, structure_depth, with_depth, depths_in, AreLow}

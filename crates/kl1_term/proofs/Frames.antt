@@ -1,7 +1,7 @@
 -- What frames leave to print.
 use Rattle.std.proofs.Common.{◌≡◌, ℕ, suc, zero, ◌-◌, List, ◌∷◌, ◌++◌, codes, append_assoc, ◌<◌, arith}
 use Rattle.kl1_model.specs.Term.{Term}
-use Rattle.kl1_model.specs.TermCode.{first_term, behind_first}
+use Rattle.kl1_model.specs.code.TermCode.{first_term, behind_first}
 use Rattle.kl1_model.specs.Print.{printed}
 use Rattle.kl1_term.specs.Printing.{behind_text}
 use Rattle.kl1_term.specs.declared.frame.Frame.{Frame}

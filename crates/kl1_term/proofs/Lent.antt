@@ -1,7 +1,7 @@
 -- Terms side by side in rows of nodes.
 use Rattle.std.proofs.Common.{◌≡◌, List, [], ◌∷◌, append-nil, refl, ap, ◌∙◌}
 use Rattle.kl1_model.specs.Term.{Term, Terms, none, more, terms_of, list_of}
-use Rattle.kl1_model.specs.TermCode.{NodeCode, nodes_of_all, read_nodes, all-read-back}
+use Rattle.kl1_model.specs.code.TermCode.{NodeCode, nodes_of_all, read_nodes, all-read-back}
 
 -- terms as arguments and back
 pub terms_of-list_of : (ts : Terms) → terms_of (list_of ts) ≡ ts

@@ -5,7 +5,7 @@ use Rattle.std.proofs.lemmas.Slice.Eq.{bytes_eq-Decides}
 use Rattle.kl1_model.specs.declared.pair_form.PairForm.TheVariants.{Cell as Pair, Qualified, Call as Plain}
 use Rattle.kl1_model.specs.Name.{atom_text}
 use Rattle.kl1_model.specs.Term.{Term, structure}
-use Rattle.kl1_model.specs.TermCode.{first_term, behind_first, front_of, behind}
+use Rattle.kl1_model.specs.code.TermCode.{first_term, behind_first, front_of, behind}
 use Rattle.kl1_model.specs.Print.{Printed, printed, printed_each, printed_cell, printed_pair, plain, call_text, is_before_colon, is_behind_colon}
 use Rattle.kl1_term.specs.Nodes.{with_node, count_in}
 use Rattle.kl1_term.specs.declared.node.Node.{Node}

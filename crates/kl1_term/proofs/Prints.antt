@@ -1,7 +1,7 @@
 -- A printer that got the nodes of a term has made its text.
 use Rattle.std.proofs.Common.{◌≡◌, ℕ, List, [], map, append-nil, ap, ◌∙◌, Option}
 use Rattle.kl1_model.specs.Term.{Term}
-use Rattle.kl1_model.specs.TermCode.{NodeCode, read_nodes, nodes_of, reads-back}
+use Rattle.kl1_model.specs.code.TermCode.{NodeCode, read_nodes, nodes_of, reads-back}
 use Rattle.kl1_model.specs.Print.{print}
 use Rattle.kl1_term.specs.Nodes.{code_of, with_nodes}
 use Rattle.kl1_term.specs.Page.{limited}

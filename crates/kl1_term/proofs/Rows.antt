@@ -2,7 +2,7 @@
 use Rattle.std.proofs.Common.{◌≡◌, ℕ, suc, List, [], ◌∷◌, ◌++◌, map, length, codes, append_assoc, append-nil, refl, ap, sym, ◌∙◌, inr}
 use Rattle.std.proofs.lemmas.List.{map-append}
 use Rattle.kl1_model.specs.Term.{Term, structure, Terms, none, more, count_of, terms_of}
-use Rattle.kl1_model.specs.TermCode.{NodeCode, nodes_of, nodes_of_all, term_from, term_from-nodes_of}
+use Rattle.kl1_model.specs.code.TermCode.{NodeCode, nodes_of, nodes_of_all, term_from, term_from-nodes_of}
 use Rattle.kl1_model.specs.Meaning.{cells}
 use Rattle.kl1_term.specs.Nodes.{code_of, term_in, IsTerm, cell_nodes}
 use Rattle.kl1_term.specs.declared.node.Node.{Node}

@@ -3,7 +3,7 @@ use Rattle.std.proofs.Common.{◌≡◌, ℕ, suc, zero, ◌-◌, ◌<◌, Bool,
 use Rattle.std.proofs.lemmas.Slice.Eq.{bytes_eq-Decides}
 use Rattle.kl1_model.specs.Name.{name_text, atom_text}
 use Rattle.kl1_model.specs.Term.{Term, atom}
-use Rattle.kl1_model.specs.TermCode.{first_term, behind_first, front_of, behind}
+use Rattle.kl1_model.specs.code.TermCode.{first_term, behind_first, front_of, behind}
 use Rattle.kl1_model.specs.Print.{Printed, printed, printed_each, printed_atom, printed_cell, printed_pair, plain, call_text, commas, is_before_colon, is_behind_colon}
 use Rattle.kl1_term.specs.Nodes.{with_node}
 use Rattle.kl1_term.specs.Printing.{text_in, behind_text, after_commas}

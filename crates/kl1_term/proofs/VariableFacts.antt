@@ -1,7 +1,7 @@
 -- The variables of a term are those of its nodes.
 use Rattle.std.proofs.Common.{◌≡◌, ℕ, max, List, [], ◌++◌, append_assoc, append-nil, refl, ap, sym, ◌∙◌, arith}
 use Rattle.kl1_model.specs.Term.{Term, variable, integer, atom, structure, Terms, none, more}
-use Rattle.kl1_model.specs.TermCode.{NodeCode, nodes_of, nodes_of_all}
+use Rattle.kl1_model.specs.code.TermCode.{NodeCode, nodes_of, nodes_of_all}
 use Rattle.kl1_model.specs.Meaning.{highest, highest_in as highest_of_all, variables_of, variables_in as variables_of_all, numbered_after, is_numbered}
 use Rattle.kl1_term.specs.Variables.{highest_in, variables_in}
 

@@ -1,7 +1,7 @@
 -- The depths of terms as their nodes are read from the last to the first.
 use Rattle.std.specs.Prelude.{ℕ, zero, suc, max, ◌≤◌, List, [], ◌∷◌, map, reverse}
 use Rattle.std.proofs.Common.{inl, inr}
-use Rattle.kl1_model.specs.TermCode.{NodeCode}
+use Rattle.kl1_model.specs.code.TermCode.{NodeCode}
 use Rattle.kl1_model.specs.Meaning.{Depth, flat, pair_depth}
 use Rattle.kl1_term.specs.declared.depth.Depth.{Depth as Kept}
 

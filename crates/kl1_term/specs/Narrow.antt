@@ -2,7 +2,7 @@
 use Rattle.std.specs.Prelude.{nat_le, ◌&&◌, Bool, true}
 use Rattle.std.proofs.Common.{inl, inr}
 use Rattle.kl1_model.specs.Text.{is_text}
-use Rattle.kl1_model.specs.TermCode.{NodeCode}
+use Rattle.kl1_model.specs.code.TermCode.{NodeCode}
 use Rattle.kl1_model.specs.Meaning.{is_word, most_arguments}
 
 -- whether a node has a name of at most 63 bytes, an integer of 64 bits, and 1 to 8 arguments if it is a structure's

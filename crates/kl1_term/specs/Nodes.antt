@@ -2,7 +2,7 @@
 use Rattle.std.specs.Prelude.{◌≡◌, ℕ, zero, suc, ◌+◌, List, [], ◌∷◌, ◌++◌, map, codes}
 use Rattle.std.proofs.Common.{inl, inr}
 use Rattle.kl1_model.specs.Term.{Term, Terms, none, more}
-use Rattle.kl1_model.specs.TermCode.{NodeCode, read_node, read_nodes, nodes_of, term_from}
+use Rattle.kl1_model.specs.code.TermCode.{NodeCode, read_node, read_nodes, nodes_of, term_from}
 use Rattle.kl1_term.specs.declared.node.Node.{Node}
 use Rattle.kl1_term.specs.declared.node.Node.TheVariants.{Variable, Integer, Atom, Structure}
 

@@ -1,7 +1,7 @@
 -- What a printer has still to print.
 use Rattle.std.specs.Prelude.{◌≡◌, ℕ, zero, suc, ◌+◌, List, [], ◌∷◌, ◌++◌, codes, reverse}
 use Rattle.kl1_model.specs.Term.{Term, atom}
-use Rattle.kl1_model.specs.TermCode.{first_term, behind_first, behind}
+use Rattle.kl1_model.specs.code.TermCode.{first_term, behind_first, behind}
 use Rattle.kl1_model.specs.Print.{printed, printed_pair, form_of}
 use Rattle.kl1_term.specs.declared.mode.Mode.{Mode}
 use Rattle.kl1_term.specs.declared.mode.Mode.TheVariants.{Whole, Rest, Colon, Behind, Done}

@@ -1,7 +1,7 @@
 -- The variables of rows of nodes.
 use Rattle.std.specs.Prelude.{ℕ, max, List, [], ◌∷◌}
 use Rattle.std.proofs.Common.{inl, inr}
-use Rattle.kl1_model.specs.TermCode.{NodeCode}
+use Rattle.kl1_model.specs.code.TermCode.{NodeCode}
 
 -- the variables of nodes, in their order
 abbrev pub variables_in : List NodeCode → List ℕ

@@ -2,7 +2,7 @@
 
 ghost use Rattle.std.specs.Prelude.{◌≡◌, List, IfSome, IsNone, false};
 ghost use Rattle.kl1_model.specs.Term.{Term as TermSpec};
-ghost use Rattle.kl1_model.specs.TermCode.{first_term};
+ghost use Rattle.kl1_model.specs.code.TermCode.{first_term};
 ghost use Rattle.kl1_model.specs.Print.{is_before_colon, is_behind_colon};
 ghost use Rattle.kl1_term.specs.Nodes.{with_node};
 ghost use Rattle.kl1_term.specs.declared.node.Node.TheVariants.{Atom};

@@ -2,7 +2,7 @@
 
 ghost use Rattle.std.specs.Prelude.{◌≡◌, ℕ, ◌≤◌, List, ◌++◌, length, map, IfOk, OnOk};
 ghost use Rattle.kl1_model.specs.Term.{Term as TermSpec, variable, integer, atom, structure, terms_of};
-ghost use Rattle.kl1_model.specs.TermCode.{nodes_of, nodes_of_all};
+ghost use Rattle.kl1_model.specs.code.TermCode.{nodes_of, nodes_of_all};
 ghost use Rattle.kl1_model.specs.Meaning.{cells};
 ghost use Rattle.kl1_model.specs.Limits.{most_arguments};
 ghost use Rattle.kl1_term.specs.Nodes.{code_of, term_in, IsTerm, cell_nodes};
@@ -20,7 +20,7 @@ pub struct Term {
 
 impl Model for Term {
     ghost use Rattle.kl1_model.specs.Term.{Term as TermSpec};
-    ghost use Rattle.kl1_model.specs.TermCode.{term_code};
+    ghost use Rattle.kl1_model.specs.code.TermCode.{term_code};
 
     ghost Value = { TermSpec };
 

@@ -3,15 +3,15 @@
 use crate::script::{
     crowded_names_leave_room, refused_load_puts_no_code_in, two_accounts_answer_over_each_word,
 };
-use kl1_rows::{Text, put_check};
+use kl1_tests_rows::{Text, put_check};
 use std::rt::Clock;
 use std::sync::Wait;
 use std::thread::Threads;
 
 /// Puts a line on each check after a report.
 pub fn put_checks<R: Threads + Wait + Clock + Sync>(rt: &R, out: &mut Text) {
-    kl1_sharing_tests::put_checks(rt, out);
-    kl1_goals_tests::put_checks(rt, out);
+    kl1_tests_sharing::put_checks(rt, out);
+    kl1_tests_goals::put_checks(rt, out);
     let done = two_accounts_answer_over_each_word(rt, out.alloc);
     put_check(
         out,

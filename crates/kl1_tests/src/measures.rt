@@ -1,6 +1,6 @@
 // What the program measures.
 
-use kl1_rows::Text;
+use kl1_tests_rows::Text;
 use std::rt::Clock;
 use std::sync::Wait;
 use std::thread::Threads;
@@ -39,9 +39,9 @@ pub fn measure_of(input: &[u8]) -> Option<Measure> {
 /// Measures, and puts what comes of it.
 pub fn put_measured<R: Threads + Wait + Clock + Sync>(rt: &R, out: &mut Text, measure: Measure) {
     match measure {
-        Measure::Loads => kl1_goals_tests::put_code_times(rt, out),
-        Measure::Store => kl1_goals_tests::put_store_times(rt, out),
-        Measure::Names => kl1_sharing_tests::put_atom_times(rt, out),
-        Measure::Tally => kl1_sharing_tests::put_tally_times(rt, out),
+        Measure::Loads => kl1_tests_goals::put_code_times(rt, out),
+        Measure::Store => kl1_tests_goals::put_store_times(rt, out),
+        Measure::Names => kl1_tests_sharing::put_atom_times(rt, out),
+        Measure::Tally => kl1_tests_sharing::put_tally_times(rt, out),
     }
 }

@@ -12,9 +12,9 @@ pub enum Part {
     /// A store with names that are texts.
     Texts,
     /// Names, terms, texts and code, by what is asked of them.
-    Read(kl1_read_tests::Kind),
+    Read(kl1_tests_read::Kind),
     /// Clauses on goals, by what is asked of them.
-    Match(kl1_read_tests::MatchKind),
+    Match(kl1_tests_read::MatchKind),
     /// A tree of shoens.
     Tree,
     /// An account.
@@ -32,61 +32,61 @@ pub enum Part {
     /// Scripts and what they are made of, by what is asked of them.
     Script(script::Kind),
     /// Sessions, files of accounts and conversations, by what is asked of them.
-    Session(kl1_session_tests::Kind),
+    Session(kl1_tests_session::Kind),
 }
 
 /// The parts by the two words that name them at the front of a heading.
 const PARTS: [(&[u8], Part); 62] = [
     (b"store numbers ", Part::Numbers),
     (b"store texts ", Part::Texts),
-    (b"read name ", Part::Read(kl1_read_tests::Kind::Name)),
-    (b"read place ", Part::Read(kl1_read_tests::Kind::Place)),
-    (b"read built_in ", Part::Read(kl1_read_tests::Kind::BuiltIn)),
-    (b"read text_is ", Part::Read(kl1_read_tests::Kind::TextIs)),
+    (b"read name ", Part::Read(kl1_tests_read::Kind::Name)),
+    (b"read place ", Part::Read(kl1_tests_read::Kind::Place)),
+    (b"read built_in ", Part::Read(kl1_tests_read::Kind::BuiltIn)),
+    (b"read text_is ", Part::Read(kl1_tests_read::Kind::TextIs)),
     (
         b"read number_is ",
-        Part::Read(kl1_read_tests::Kind::NumberIs),
+        Part::Read(kl1_tests_read::Kind::NumberIs),
     ),
-    (b"read integer ", Part::Read(kl1_read_tests::Kind::Integer)),
-    (b"read print ", Part::Read(kl1_read_tests::Kind::Print)),
-    (b"read put ", Part::Read(kl1_read_tests::Kind::Put)),
-    (b"read copy ", Part::Read(kl1_read_tests::Kind::Copy)),
+    (b"read integer ", Part::Read(kl1_tests_read::Kind::Integer)),
+    (b"read print ", Part::Read(kl1_tests_read::Kind::Print)),
+    (b"read put ", Part::Read(kl1_tests_read::Kind::Put)),
+    (b"read copy ", Part::Read(kl1_tests_read::Kind::Copy)),
     (
         b"read variables ",
-        Part::Read(kl1_read_tests::Kind::Variables),
+        Part::Read(kl1_tests_read::Kind::Variables),
     ),
-    (b"read depth ", Part::Read(kl1_read_tests::Kind::Depth)),
-    (b"read of_nodes ", Part::Read(kl1_read_tests::Kind::OfNodes)),
-    (b"read nodes ", Part::Read(kl1_read_tests::Kind::Nodes)),
-    (b"read goal ", Part::Read(kl1_read_tests::Kind::Goal)),
-    (b"read module ", Part::Read(kl1_read_tests::Kind::Module)),
-    (b"read items ", Part::Read(kl1_read_tests::Kind::Items)),
-    (b"read clauses ", Part::Read(kl1_read_tests::Kind::Clauses)),
-    (b"read code ", Part::Read(kl1_read_tests::Kind::Code)),
+    (b"read depth ", Part::Read(kl1_tests_read::Kind::Depth)),
+    (b"read of_nodes ", Part::Read(kl1_tests_read::Kind::OfNodes)),
+    (b"read nodes ", Part::Read(kl1_tests_read::Kind::Nodes)),
+    (b"read goal ", Part::Read(kl1_tests_read::Kind::Goal)),
+    (b"read module ", Part::Read(kl1_tests_read::Kind::Module)),
+    (b"read items ", Part::Read(kl1_tests_read::Kind::Items)),
+    (b"read clauses ", Part::Read(kl1_tests_read::Kind::Clauses)),
+    (b"read code ", Part::Read(kl1_tests_read::Kind::Code)),
     (
         b"read predicate ",
-        Part::Read(kl1_read_tests::Kind::Predicate),
+        Part::Read(kl1_tests_read::Kind::Predicate),
     ),
-    (b"read sizes ", Part::Read(kl1_read_tests::Kind::Sizes)),
+    (b"read sizes ", Part::Read(kl1_tests_read::Kind::Sizes)),
     (
         b"read verdict ",
-        Part::Match(kl1_read_tests::MatchKind::Verdict),
+        Part::Match(kl1_tests_read::MatchKind::Verdict),
     ),
     (
         b"read bound ",
-        Part::Match(kl1_read_tests::MatchKind::Bound),
+        Part::Match(kl1_tests_read::MatchKind::Bound),
     ),
     (
         b"read places ",
-        Part::Match(kl1_read_tests::MatchKind::Places),
+        Part::Match(kl1_tests_read::MatchKind::Places),
     ),
     (
         b"read moves ",
-        Part::Match(kl1_read_tests::MatchKind::Moves),
+        Part::Match(kl1_tests_read::MatchKind::Moves),
     ),
     (
         b"read built ",
-        Part::Match(kl1_read_tests::MatchKind::Built),
+        Part::Match(kl1_tests_read::MatchKind::Built),
     ),
     (b"shoen tree ", Part::Tree),
     (b"user one ", Part::One),
@@ -118,31 +118,31 @@ const PARTS: [(&[u8], Part); 62] = [
     (b"script run ", Part::Script(script::Kind::Run)),
     (
         b"session stream ",
-        Part::Session(kl1_session_tests::Kind::Stream),
+        Part::Session(kl1_tests_session::Kind::Stream),
     ),
     (
         b"session file ",
-        Part::Session(kl1_session_tests::Kind::File),
+        Part::Session(kl1_tests_session::Kind::File),
     ),
     (
         b"session talk ",
-        Part::Session(kl1_session_tests::Kind::Talk),
+        Part::Session(kl1_tests_session::Kind::Talk),
     ),
     (
         b"session faults ",
-        Part::Session(kl1_session_tests::Kind::Faults),
+        Part::Session(kl1_tests_session::Kind::Faults),
     ),
     (
         b"session first ",
-        Part::Session(kl1_session_tests::Kind::First),
+        Part::Session(kl1_tests_session::Kind::First),
     ),
     (
         b"session client ",
-        Part::Session(kl1_session_tests::Kind::Client),
+        Part::Session(kl1_tests_session::Kind::Client),
     ),
     (
         b"session pages ",
-        Part::Session(kl1_session_tests::Kind::Pages),
+        Part::Session(kl1_tests_session::Kind::Pages),
     ),
 ];
 

@@ -5,11 +5,11 @@ use Rattle.std.specs.declared.result.Result.{Result}
 use Rattle.kl1_model.specs.Event as model
 use Rattle.kl1_model.specs.Step.{step}
 use Rattle.kl1_atoms.specs.declared.known.Known.{Known}
-use Rattle.kl1_event.specs.declared.refusal.Refusal.{Refusal}
-use Rattle.kl1_event.specs.declared.reply.Reply.{Reply}
-use Rattle.kl1_effects.specs.Account.{Account, state_of}
-use Rattle.kl1_effects.specs.Fitting.{Reading, Fits}
-use Rattle.kl1_event.specs.Views.{reply_of, reduced_or}
+use Rattle.kl1_user_events.specs.declared.refusal.Refusal.{Refusal}
+use Rattle.kl1_user_events.specs.declared.reply.Reply.{Reply}
+use Rattle.kl1_user_effects.specs.Account.{Account, state_of}
+use Rattle.kl1_user_effects.specs.Fitting.{Reading, Fits}
+use Rattle.kl1_user_events.specs.Views.{reply_of, reduced_or}
 
 -- an event did this to an account, if it was answered
 abbrev pub DoesTo : {E : Type 0} → Result Reply E → Account → model.Event → Account → Type 0

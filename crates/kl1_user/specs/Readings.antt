@@ -1,8 +1,8 @@
 -- Readings that fit the names of an account.
 use Rattle.std.proofs.Common.{◌≡◌, List, subst}
 use Rattle.kl1_atoms.specs.declared.known.Known.{Known}
-use Rattle.kl1_effects.specs.Naming.{Grows}
-pub use Rattle.kl1_effects.specs.Fitting.{Reading, Fits, reading_of, reading_fits}
+use Rattle.kl1_user_effects.specs.Naming.{Grows}
+pub use Rattle.kl1_user_effects.specs.Fitting.{Reading, Fits, reading_of, reading_fits}
 
 -- what fits more names fits those before
 pub fits_before : (old new : List Known) (f : Reading) → Grows old new → Fits new f → Fits old f

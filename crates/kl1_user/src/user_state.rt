@@ -6,17 +6,17 @@ ghost use Rattle.kl1_model.specs.State.{fresh, fresh_with};
 ghost use Rattle.kl1_model.specs.Event.{reduce as reduce_event, read};
 ghost use Rattle.kl1_model.specs.Step.{step};
 ghost use Rattle.kl1_model.specs.Choice.{first, quiet};
-ghost use Rattle.kl1_modules.specs.Numbered.{ArePlaced};
-ghost use Rattle.kl1_effects.specs.Fitting.{Reading, Fits};
-ghost use Rattle.kl1_effects.specs.Account.{state_of, texts_of};
-ghost use Rattle.kl1_effects.specs.Naming.{IsNameList, Keeps};
-ghost use Rattle.kl1_event.specs.Views.{event_of, is_logout, query_of, reply_of, reduced_or, chosen_of};
-ghost use Rattle.kl1_event.specs.Whole.{whole_value};
+ghost use Rattle.kl1_codes_modules.specs.Numbered.{ArePlaced};
+ghost use Rattle.kl1_user_effects.specs.Fitting.{Reading, Fits};
+ghost use Rattle.kl1_user_effects.specs.Account.{state_of, texts_of};
+ghost use Rattle.kl1_user_effects.specs.Naming.{IsNameList, Keeps};
+ghost use Rattle.kl1_user_events.specs.Views.{event_of, is_logout, query_of, reply_of, reduced_or, chosen_of};
+ghost use Rattle.kl1_user_events.specs.Whole.{whole_value};
 
-use kl1_account::{Account, AccountName, ClauseNo, Event, GoalNo, Query, Refusal, Reply};
 use kl1_atoms::AtomSource;
 use kl1_codes::CodeSource;
 use kl1_text::AtomText;
+use kl1_user_account::{Account, AccountName, ClauseNo, Event, GoalNo, Query, Refusal, Reply};
 use std::alloc::{AllocError, Global};
 use std::marker::{Model, PhantomData};
 
@@ -31,9 +31,9 @@ pub struct UserState<A: AtomSource, C: CodeSource> {
 
 impl<A: AtomSource, C: CodeSource> Model for UserState<A, C> {
     ghost use Rattle.std.specs.Coded.{codes};
-    ghost use Rattle.kl1_modules.specs.Numbered.{numbered_code};
+    ghost use Rattle.kl1_codes_modules.specs.Numbered.{numbered_code};
     ghost use Rattle.kl1_atoms.specs.Names.{AreNames};
-    ghost use Rattle.kl1_effects.specs.Account.{Account as Kept};
+    ghost use Rattle.kl1_user_effects.specs.Account.{Account as Kept};
 
     ghost Value = { Kept };
 

@@ -5,8 +5,8 @@ use Rattle.std.proofs.lemmas.Option.{same_Some, none-some}
 use Rattle.std.proofs.lemmas.List.{length-append, length-map, map-append}
 use Rattle.std.proofs.lemmas.Bool.{cases_lt}
 use Rattle.kl1_atoms.specs.declared.known.Known.{Known}
-use Rattle.kl1_modules.specs.Numbered.{Numbered, ArePlaced}
-use Rattle.kl1_history.specs.Journal.{fresh_kept}
+use Rattle.kl1_codes_modules.specs.Numbered.{Numbered, ArePlaced}
+use Rattle.kl1_model_history.specs.Journal.{fresh_kept}
 use Rattle.kl1_journal.specs.Keeping.{Reading, Held, nobody, kept_of}
 use Rattle.kl1_world.specs.Lodging.{AreLodged, AreNewSeats}
 use Rattle.kl1_world.specs.Worlds.{account_in, AreFresh}

@@ -2,11 +2,11 @@
 use Rattle.std.specs.Prelude.{◌≡◌, ℕ, ◌<◌, List, [], ◌∷◌, ◌++◌, map, length, get_or, slice_set}
 use Rattle.std.specs.List.{AllByRecursion}
 use Rattle.kl1_model.specs.Event as model
-use Rattle.kl1_history.specs.Journal.{done, fresh_kept}
-use Rattle.kl1_history.specs.Alone.{Deed, Told, only, replies_at, alone}
-use Rattle.kl1_event.specs.declared.event.Event.{Event}
-use Rattle.kl1_event.specs.declared.reply.Reply.{Reply}
-use Rattle.kl1_event.specs.Views.{event_of, reply_of}
+use Rattle.kl1_model_history.specs.Journal.{done, fresh_kept}
+use Rattle.kl1_model_history.specs.Alone.{Deed, Told, only, replies_at, alone}
+use Rattle.kl1_user_events.specs.declared.event.Event.{Event}
+use Rattle.kl1_user_events.specs.declared.reply.Reply.{Reply}
+use Rattle.kl1_user_events.specs.Views.{event_of, reply_of}
 use Rattle.kl1_journal.specs.Keeping.{Reading, Fits}
 use Rattle.kl1_journal.specs.Keeping.{Held, nobody, kept_of}
 

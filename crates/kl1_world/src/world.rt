@@ -3,12 +3,12 @@
 ghost use Rattle.std.specs.Prelude.{◌≡◌, ℕ, ◌<◌, [], List, IfOk, IfErr, IsOk, IsTrue, OnOk, OnErr, length, take, slice_set, option_map};
 ghost use Rattle.kl1_model.specs.Event.{reduce as reduce_event};
 ghost use Rattle.kl1_model.specs.Choice.{first, quiet};
-ghost use Rattle.kl1_history.specs.Journal.{done};
-ghost use Rattle.kl1_history.specs.JournalText.{page_of};
+ghost use Rattle.kl1_model_history.specs.Journal.{done};
+ghost use Rattle.kl1_model_history.specs.JournalText.{page_of};
 ghost use Rattle.kl1_atoms.specs.Names.{AreNames};
 ghost use Rattle.kl1_journal.specs.Keeping.{Reading, Fits};
-ghost use Rattle.kl1_event.specs.Views.{event_of, is_logout, reply_of, reduced_or, chosen_of};
-ghost use Rattle.kl1_event.specs.Whole.{whole_value};
+ghost use Rattle.kl1_user_events.specs.Views.{event_of, is_logout, reply_of, reduced_or, chosen_of};
+ghost use Rattle.kl1_user_events.specs.Whole.{whole_value};
 ghost use Rattle.kl1_command.specs.Commands.{command_view};
 ghost use Rattle.kl1_command.specs.Performing.{IsUntouched, Performs};
 ghost use Rattle.kl1_journal.specs.Keeping.{IsKept, kept_of};
@@ -19,8 +19,8 @@ use crate::stopped::Stopped;
 use kl1_atoms::AtomSource;
 use kl1_codes::CodeSource;
 use kl1_command::{Command, Host, Performed, perform};
-use kl1_event::{ClauseNo, Event, GoalNo, Listed, Refusal, Reply, ShoenNo};
 use kl1_journal::{AccountName, Kept};
+use kl1_user_events::{ClauseNo, Event, GoalNo, Listed, Refusal, Reply, ShoenNo};
 use std::alloc::{AllocError, Global};
 use std::marker::Model;
 
@@ -37,8 +37,8 @@ pub struct World<A: AtomSource + Drop, C: CodeSource + Drop> {
 impl<A: AtomSource + Drop, C: CodeSource + Drop> Model for World<A, C> {
     ghost use Rattle.std.specs.Prelude.{List, ℕ, map, ◌<◌, length};
     ghost use Rattle.std.specs.Coded.{codes};
-    ghost use Rattle.kl1_modules.specs.Numbered.{numbered_code};
-    ghost use Rattle.kl1_entries.specs.Codes.{journal_code};
+    ghost use Rattle.kl1_codes_modules.specs.Numbered.{numbered_code};
+    ghost use Rattle.kl1_journal_entries.specs.Codes.{journal_code};
     ghost use Rattle.kl1_journal.specs.Keeping.{Held};
     ghost use Rattle.kl1_world.specs.Lodging.{AreLodged};
 

@@ -5,7 +5,7 @@ ghost use Rattle.kl1_shoen.specs.Shoens.{path_in, charged_in, has_reached_in, is
 
 use crate::counted::is_living;
 use crate::tree::{ShoenTree, Step};
-use kl1_ancestors::{Shoen, flag_of, raise};
+use kl1_shoen_paths::{Shoen, flag_of, raise};
 use kl1_text::NameValue;
 use std::alloc::AllocError;
 

@@ -5,7 +5,7 @@ ghost use Rattle.std.specs.List.{list_any};
 ghost use Rattle.kl1_shoen.specs.Shoens.{path_in, is_on_path_in, is_living_child_of, AreNumbered, AreLower};
 
 use crate::tree::ShoenTree;
-use kl1_ancestors::{Shoen, parent_of, tell_below};
+use kl1_shoen_paths::{Shoen, parent_of, tell_below};
 use kl1_text::NameValue;
 use std::alloc::AllocError;
 

@@ -1,11 +1,11 @@
 // What commands do to an account.
 
 ghost use Rattle.std.specs.Prelude.{◌≡◌, ℕ, [], OnErr};
-ghost use Rattle.kl1_history.specs.Journal.{fresh_kept};
+ghost use Rattle.kl1_model_history.specs.Journal.{fresh_kept};
 
 use kl1_command::{Host, Parsed, Performed, parse, perform, put_reply};
-use kl1_event::{ClauseNo, Event, GoalNo, Listed, Refusal, Reply, ShoenNo};
-use kl1_rows::{Text, cut};
+use kl1_tests_rows::{Text, cut};
+use kl1_user_events::{ClauseNo, Event, GoalNo, Listed, Refusal, Reply, ShoenNo};
 use std::alloc::{AllocError, Global};
 
 /// What stands in the place of an account: it does as each letter says. By `d` it does what it is asked for, by `r` it refuses

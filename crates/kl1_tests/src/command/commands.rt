@@ -1,11 +1,11 @@
 // The commands of lines and records.
 
 use kl1_command::{Command, Parsed, command_in, parse};
-use kl1_event::{Event, Query};
-use kl1_lines::{NextRecord, next_record};
+use kl1_command_lines::{NextRecord, next_record};
 use kl1_model::Message;
-use kl1_rows::Text;
 use kl1_term::{Term, put_whole};
+use kl1_tests_rows::Text;
+use kl1_user_events::{Event, Query};
 use std::alloc::{AllocError, Global};
 
 /// Puts a word, and each number after a space.

@@ -1,11 +1,11 @@
 // What is put for replies.
 
 use kl1_command::{put_lines, put_reply};
-use kl1_event::{Listed, Refusal, Reply, ShoenNo};
-use kl1_lines::is_same;
+use kl1_command_lines::is_same;
 use kl1_model::Condition;
-use kl1_rows::{Text, cut, is_joined, number_of};
+use kl1_tests_rows::{Text, cut, is_joined, number_of};
 use kl1_text::AtomText;
+use kl1_user_events::{Listed, Refusal, Reply, ShoenNo};
 use std::alloc::{AllocError, Global};
 
 /// The name after which the lines of a reply are put.

@@ -3,7 +3,7 @@
 use crate::script::kind::Kind;
 use crate::script::scripts::is_whole;
 use kl1_atoms::AtomTable;
-use kl1_rows::Text;
+use kl1_tests_rows::Text;
 use kl1_text::AtomText;
 use std::alloc::{AllocError, Global};
 use std::sync::Wait;

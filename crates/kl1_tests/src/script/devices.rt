@@ -2,8 +2,8 @@
 
 use crate::script::streams::{Faulty, cause_of};
 use crate::script::told::{end_of, is_told};
-use kl1_lines::{Counted, Sink, read_all, write_all};
-use kl1_rows::{cut, number_of};
+use kl1_command_lines::{Counted, Sink, read_all, write_all};
+use kl1_tests_rows::{cut, number_of};
 use std::alloc::Global;
 
 /// How many reads failed, and how many bytes are left.

@@ -1,9 +1,9 @@
 // Lines, names, words and numbers.
 
-use kl1_lines::{
+use kl1_command_lines::{
     is_blank_line, is_same, number_in, source_bytes_in, split_line, split_name, split_word,
 };
-use kl1_rows::{cut, is_counted};
+use kl1_tests_rows::{cut, is_counted};
 
 /// Whether a text is cut into the two that stand before and after the first bar of what is wanted.
 fn is_cut(pieces: (&[u8], &[u8]), wanted: &[u8]) -> bool {

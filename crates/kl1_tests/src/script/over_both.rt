@@ -4,7 +4,7 @@ use crate::script::kind::Kind;
 use crate::script::scripts::is_whole;
 use kl1_atoms::PlainTable;
 use kl1_codes::PlainCodes;
-use kl1_lines::split_line;
+use kl1_command_lines::split_line;
 use kl1_script::{Counted, accounts_in, answer_over};
 use std::alloc::Global;
 use std::sync::Wait;

@@ -2,9 +2,9 @@
 
 use kl1_atoms::{AtomTable, SharedAtoms};
 use kl1_codes::{CodeTable, SharedCodes};
-use kl1_goals_tests::{found, table_with};
-use kl1_lines::split_line;
+use kl1_command_lines::split_line;
 use kl1_script::{Counted, accounts_in, answer_over};
+use kl1_tests_goals::{found, table_with};
 use std::alloc::{AllocError, Global};
 use std::sync::Wait;
 

@@ -1,7 +1,7 @@
 use Rattle.std.proofs.Common.{ℕ, List, subst, ap, ◌≡◌, ◌∙◌, map}
 use Rattle.std.specs.Prelude.{Option}
 use Rattle.std.proofs.lemmas.Result.{on_ok_weaker}
-use Rattle.kl1_model.specs.TermCode.{NodeCode, nodes_of}
+use Rattle.kl1_model.specs.code.TermCode.{NodeCode, nodes_of}
 use Rattle.kl1_term.specs.Nodes.{code_of}
 use Rattle.kl1_clause.specs.BareGoals.{module_of, bare, module_in, bare_nodes}
 use Rattle.kl1_clause.specs.Bodies.{PutsModule}

@@ -1,5 +1,5 @@
 use Rattle.std.proofs.Common.{◌≡◌, true, sym, subst}
-use Rattle.kl1_model.specs.WaitsLaws.{is_guarded}
+use Rattle.kl1_model.specs.laws.WaitsLaws.{is_guarded}
 use Rattle.kl1_read.specs.declared.clause_parts.ClauseParts.{ClauseParts}
 use Rattle.kl1_read.specs.Sources.{clause_of_parts}
 use Rattle.kl1_clause.proofs.CodeFacts.{made_none, made_next}

@@ -1,7 +1,7 @@
 use Rattle.std.proofs.Common.{◌≡◌, [], take, subst, arith, List}
 use Rattle.std.proofs.lemmas.List.{take_all}
 use Rattle.kl1_model.specs.Term.{Term, terms_of}
-use Rattle.kl1_model.specs.TermCode.{nodes_of_all}
+use Rattle.kl1_model.specs.code.TermCode.{nodes_of_all}
 use Rattle.kl1_clause.specs.Putting.{Puts}
 use Rattle.kl1_clause.proofs.PutNodes.{put_none, put_next_term, row_done}
 use Rattle.kl1_clause.proofs.rows.row_of.Goals as goal

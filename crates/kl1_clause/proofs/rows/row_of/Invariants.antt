@@ -1,7 +1,7 @@
 -- the nodes of the terms so far are put
 use Rattle.std.proofs.Common.{[], take}
 use Rattle.kl1_model.specs.Term.{terms_of}
-use Rattle.kl1_model.specs.TermCode.{nodes_of_all}
+use Rattle.kl1_model.specs.code.TermCode.{nodes_of_all}
 use Rattle.kl1_clause.specs.Putting.{Puts}
 use Rattle.kl1_clause.proofs.rows.row_of.Given as goal
 

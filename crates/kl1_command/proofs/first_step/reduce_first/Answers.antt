@@ -1,4 +1,4 @@
-use Rattle.kl1_event.specs.Views.{reduced_or}
+use Rattle.kl1_user_events.specs.Views.{reduced_or}
 use Rattle.kl1_command.proofs.Reductions.{first_told}
 use Rattle.kl1_command.proofs.first_step.reduce_first.Goals as goal
 

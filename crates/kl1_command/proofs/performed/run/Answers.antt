@@ -1,5 +1,5 @@
 use Rattle.std.proofs.Common.{◌≡◌, ◌∙◌, arith}
-use Rattle.kl1_event.specs.Views.{refusal_of}
+use Rattle.kl1_user_events.specs.Views.{refusal_of}
 use Rattle.kl1_command.proofs.Runs.{goes_further, all_done, left_quiet, left_refused, left_short}
 use Rattle.kl1_command.proofs.performed.run.Goals as goal
 

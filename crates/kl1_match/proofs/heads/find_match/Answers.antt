@@ -1,6 +1,6 @@
 use Rattle.std.proofs.Common.{◌≡◌, ◌<◌, ◌≤◌, List, length, drop, map, get_or, arith, ap, sym, ◌∙◌, subst}
 use Rattle.kl1_model.specs.Term.{Term, Terms, more}
-use Rattle.kl1_model.specs.TermCode.{nodes_of_all}
+use Rattle.kl1_model.specs.code.TermCode.{nodes_of_all}
 use Rattle.kl1_clause.specs.Instructions.{IsNamed, code_in}
 use Rattle.kl1_clause.specs.declared.instruction.Instruction.{Instruction}
 use Rattle.kl1_clause.specs.declared.instruction.Instruction.TheVariants.{Variable}

@@ -1,5 +1,5 @@
 use Rattle.std.proofs.Common.{◌+◌, drop, ap, ◌∙◌, sym}
-use Rattle.kl1_model.specs.TermCode.{behind}
+use Rattle.kl1_model.specs.code.TermCode.{behind}
 use Rattle.kl1_match.specs.TestTerms.{terms_from}
 use Rattle.kl1_match.proofs.Reading.{behind_one}
 use Rattle.kl1_clause.specs.declared.instruction.Instruction.TheVariants.{Variable}

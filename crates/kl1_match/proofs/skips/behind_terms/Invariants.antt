@@ -1,7 +1,7 @@
 use Rattle.std.proofs.Common.{◌≡◌, ℕ, ◌≤◌, ◌-◌, List, length, map, drop}
 use Rattle.kl1_model.specs.Term.{Terms, count_of}
-use Rattle.kl1_model.specs.TermCode.{nodes_of_all}
-use Rattle.kl1_model.specs.TermCode as code
+use Rattle.kl1_model.specs.code.TermCode.{nodes_of_all}
+use Rattle.kl1_model.specs.code.TermCode as code
 use Rattle.kl1_clause.specs.declared.name.Name.{Name}
 use Rattle.kl1_clause.specs.Instructions.{code_in}
 use Rattle.kl1_match.specs.Matching.{joined}

@@ -1,5 +1,5 @@
 use Rattle.std.proofs.lemmas.Result.{IfOk-weaker}
-use Rattle.kl1_guard.specs.declared.test.Test.TheVariants.{Looks, IsSame, IsOther, Compares}
+use Rattle.kl1_match_guard.specs.declared.test.Test.TheVariants.{Looks, IsSame, IsOther, Compares}
 use Rattle.kl1_match.specs.TestTerms.{tests_of}
 use Rattle.kl1_match.specs.Testing.{SettledAs, SameAs, OtherAs, ComparedAs, FoundAs}
 use Rattle.kl1_match.proofs.TestSteps.{found_holds, found_looks, found_same, found_other, found_compares, test_there}
@@ -9,7 +9,7 @@ pub returns-in-Holds : goal.returns-in-Holds
 returns-in-Holds g c = found_holds g.N.NameValue.built (tests_of c.args.view.now) c.args.test c.args.awaited.now.items c.in-Holds.is
 
 pub look_at-requires : goal.look_at-requires
-look_at-requires g c = test_there g.N.NameValue.built (tests_of c.args.view.now) c.args.test (Looks c.in-Looks.inspection c.in-Looks.at) c.in-Looks.is c.requires
+look_at-requires g c = test_there g.N.NameValue.built (tests_of c.args.view.now) c.args.test (Looks c.in-Looks.type_test c.in-Looks.at) c.in-Looks.is c.requires
 
 pub returns-in-Looks : goal.returns-in-Looks
 returns-in-Looks g c =
@@ -18,7 +18,7 @@ returns-in-Looks g c =
     let before = c.args.awaited.now.items in
     let after = c.settle.new.awaited.items in
     IfOk-weaker c.settle.result (SettledAs built t c.look_at.result before after) (FoundAs built t c.args.test before after)
-    (λ b k. found_looks built t c.args.test c.in-Looks.inspection c.in-Looks.at c.look_at.result before after b c.in-Looks.is c.look_at.ensures.value k) c.settle.ensures
+    (λ b k. found_looks built t c.args.test c.in-Looks.type_test c.in-Looks.at c.look_at.result before after b c.in-Looks.is c.look_at.ensures.value k) c.settle.ensures
 
 pub may_be_same-requires-clause-left : goal.may_be_same-requires-clause-left
 may_be_same-requires-clause-left g c = (test_there g.N.NameValue.built (tests_of c.args.view.now) c.args.test (IsSame c.in-IsSame.left c.in-IsSame.right) c.in-IsSame.is c.requires).0

@@ -1,6 +1,6 @@
 use Rattle.std.proofs.Common.{subst}
-use Rattle.kl1_guard.specs.declared.outcome.Outcome.{Outcome}
-use Rattle.kl1_guard.specs.Outcomes.{IsWaiting}
+use Rattle.kl1_match_guard.specs.declared.outcome.Outcome.{Outcome}
+use Rattle.kl1_match_guard.specs.Outcomes.{IsWaiting}
 use Rattle.kl1_match.specs.declared.test_view.TestVariable.{TestVariable}
 use Rattle.kl1_match.specs.TestTerms.{tests_of, IsFreeIn}
 use Rattle.kl1_match.proofs.TestSteps.{settled_agrees, settled_clashes, settled_own}

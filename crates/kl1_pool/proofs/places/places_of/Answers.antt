@@ -1,6 +1,6 @@
 use Rattle.std.proofs.Common.{◌≡◌, ◌+◌, [], ◌∷◌, ap, ◌∙◌, length, length-append, rules, arith}
 use Rattle.std.proofs.lemmas.List.Elements.{All-pop}
-use Rattle.kl1_tickets.specs.Parts.{IsNewBook}
+use Rattle.kl1_pool_tickets.specs.Parts.{IsNewBook}
 use Rattle.kl1_pool.specs.Parts.{IsFreshSeat}
 use Rattle.kl1_pool.proofs.Seating.{but_last}
 use Rattle.kl1_pool.proofs.places.places_of.Goals as goal

@@ -1,6 +1,6 @@
 use Rattle.std.proofs.Common.{◌≡◌, ◌+◌, ◌≤◌, length, vec_capacity}
 use Rattle.std.specs.Prelude.{All}
-use Rattle.kl1_tickets.specs.Parts.{IsNewBook}
+use Rattle.kl1_pool_tickets.specs.Parts.{IsNewBook}
 use Rattle.kl1_pool.specs.Parts.{AreFreshSeats}
 use Rattle.kl1_pool.proofs.places.places_of.Given as goal
 

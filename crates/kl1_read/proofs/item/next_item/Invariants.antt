@@ -1,7 +1,7 @@
 use Rattle.std.proofs.Common.{◌≡◌, ◌+◌, ◌≤◌, length, map}
 use Rattle.kl1_read.specs.Views.{kept_token}
 use Rattle.kl1_read.specs.Items.{items_among, items_left}
-use Rattle.kl1_model.specs.ReadLaws.{tokens_at}
+use Rattle.kl1_model.specs.laws.ReadLaws.{tokens_at}
 use Rattle.kl1_read.proofs.item.next_item.Given as goal
 
 -- what is left, after the tokens so far, has the items of the whole

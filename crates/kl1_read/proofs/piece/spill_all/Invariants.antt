@@ -1,6 +1,6 @@
 use Rattle.std.proofs.Common.{◌≡◌, ◌++◌, max, map, reverse, vec_len}
 use Rattle.kl1_model.specs.Term.{terms_of}
-use Rattle.kl1_model.specs.TermCode.{nodes_of_all}
+use Rattle.kl1_model.specs.code.TermCode.{nodes_of_all}
 use Rattle.kl1_model.specs.Meaning.{deepest, are_narrow}
 use Rattle.kl1_term.specs.Nodes.{code_of}
 use Rattle.kl1_read.specs.SmallNodes.{node_of}

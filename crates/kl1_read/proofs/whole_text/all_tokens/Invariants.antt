@@ -1,5 +1,5 @@
 use Rattle.std.proofs.Common.{◌≡◌, ◌+◌, ◌≤◌, length, map}
-use Rattle.kl1_model.specs.ReadLaws.{tokens_at}
+use Rattle.kl1_model.specs.laws.ReadLaws.{tokens_at}
 use Rattle.kl1_read.specs.Views.{kept_token}
 use Rattle.kl1_read.specs.WholeTexts.{whole_from, whole_of}
 use Rattle.kl1_read.proofs.whole_text.all_tokens.Given as goal

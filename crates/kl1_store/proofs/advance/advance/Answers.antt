@@ -1,6 +1,6 @@
 use Rattle.std.proofs.Common.{◌≡◌, List, [], sym, ap, ◌∙◌, arith, subst}
 use Rattle.std.proofs.lemmas.List.{nil_from_length}
-use Rattle.kl1_model.specs.Unify.{solve}
+use Rattle.kl1_model.specs.Unify.{mgu}
 use Rattle.kl1_model.proofs.UnifyRule.{nothing_solved}
 use Rattle.kl1_store.specs.declared.merge.Merge.{Merge}
 use Rattle.kl1_store.specs.Waiting.{waiting}
@@ -54,7 +54,7 @@ returns-in-Bind-clause-next g c =
 pub returns-clause-next : goal.returns-clause-next
 returns-clause-next g c = λ f reads.
     let e : c.loop-frame.frames.items ≡ [] = nil_from_length c.loop-frame.frames.items (omega (arith, c.loop-frame.frames.ok.0, c.in_default.ensures.cases.0)) in
-    c.loop-frame.invariant.same f reads ∙ ap (λ l. solve (waiting f c.args.cells.now.held [] l)) e ∙ ap solve (nothing_waits f c.args.cells.now.held) ∙ nothing_solved
+    c.loop-frame.invariant.same f reads ∙ ap (λ l. mgu (waiting f c.args.cells.now.held [] l)) e ∙ ap mgu (nothing_waits f c.args.cells.now.held) ∙ nothing_solved
 
 pub returns-in-Clash-clause-merged : goal.returns-in-Clash-clause-merged
 returns-in-Clash-clause-merged g c =

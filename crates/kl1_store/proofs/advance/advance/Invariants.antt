@@ -1,5 +1,5 @@
 use Rattle.std.proofs.Common.{◌≡◌, []}
-use Rattle.kl1_model.specs.Unify.{solve}
+use Rattle.kl1_model.specs.Unify.{mgu}
 use Rattle.kl1_store.specs.Waiting.{waiting, ArePairs}
 use Rattle.kl1_store.specs.Nested.{IsNested}
 use Rattle.kl1_store.specs.Merged.{AreMerged}
@@ -13,7 +13,7 @@ invariant-loop-frame g l = record {
   nested : IsNested l.cells.held l.frames.items;
   merged : AreMerged l.cells.held l.merges;
   pairs : ArePairs l.cells.held l.frames.items;
-  same : ForEachReading g.N.NameValue.built (λ f. solve (waiting f l.cells.held [] l.fn.frames.items) ≡ solve (waiting f l.cells.held [] l.frames.items));
+  same : ForEachReading g.N.NameValue.built (λ f. mgu (waiting f l.cells.held [] l.fn.frames.items) ≡ mgu (waiting f l.cells.held [] l.frames.items));
 }
 
 abbrev pub decreases-loop-frame : goal.decreases-loop-frame

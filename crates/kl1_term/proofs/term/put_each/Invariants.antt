@@ -1,7 +1,7 @@
 -- the nodes put so far and those of the terms left are all
 use Rattle.std.proofs.Common.{◌≡◌, ◌++◌, map, length}
 use Rattle.kl1_model.specs.Term.{terms_of}
-use Rattle.kl1_model.specs.TermCode.{nodes_of_all}
+use Rattle.kl1_model.specs.code.TermCode.{nodes_of_all}
 use Rattle.kl1_term.specs.Nodes.{code_of}
 use Rattle.kl1_term.proofs.term.put_each.Given as goal
 

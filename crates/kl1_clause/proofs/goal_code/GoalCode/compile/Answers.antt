@@ -1,5 +1,5 @@
 use Rattle.std.proofs.Common.{ℕ, List, [], subst}
-use Rattle.kl1_model.specs.TermCode.{NodeCode, nodes_of}
+use Rattle.kl1_model.specs.code.TermCode.{NodeCode, nodes_of}
 use Rattle.kl1_clause.specs.declared.goal_code.GoalCode.TheInside.{Inside}
 use Rattle.kl1_clause.specs.declared.instruction.Instruction.{Instruction}
 use Rattle.kl1_clause.specs.Putting.{Puts}

@@ -1,6 +1,6 @@
 use Rattle.std.proofs.Common.{◌≡◌, ap, ◌∙◌, sym}
 use Rattle.kl1_model.specs.State.{State}
-use Rattle.kl1_history.specs.Journal.{Journal, Kept, fresh_kept}
+use Rattle.kl1_model_history.specs.Journal.{Journal, Kept, fresh_kept}
 use Rattle.kl1_user.specs.Accounts.{Reading}
 use Rattle.kl1_journal.specs.Keeping.{kept_of}
 use Rattle.kl1_journal.proofs.Keeps.{kept_fresh, fresh_names}

@@ -1,12 +1,12 @@
 use Rattle.std.proofs.Common.{◌≡◌, if◌then◌else◌, ap, sym, ◌∙◌, subst}
 use Rattle.std.specs.Prelude.{is_some}
 use Rattle.kl1_model.specs.Event as model
-use Rattle.kl1_history.specs.Journal.{Journal, steps, done}
+use Rattle.kl1_model_history.specs.Journal.{Journal, steps, done}
 use Rattle.kl1_atoms.specs.Names.{AreNames}
 use Rattle.kl1_user.specs.Accounts.{Reading, Fits}
 use Rattle.kl1_user.specs.Accounts.{Account}
-use Rattle.kl1_entries.specs.Lined.{if_lined, with_prepared}
-use Rattle.kl1_event.specs.Views.{reduced_or}
+use Rattle.kl1_journal_entries.specs.Lined.{if_lined, with_prepared}
+use Rattle.kl1_user_events.specs.Views.{reduced_or}
 use Rattle.kl1_journal.specs.Keeping.{kept_of}
 use Rattle.kl1_user.specs.Readings.{fits_before, grows_as}
 use Rattle.kl1_journal.proofs.Keeps.{done_step, kept_step}

@@ -1,5 +1,5 @@
 use Rattle.std.proofs.Common.{suc, ◌+◌, drop, ap, ◌∙◌, arith, ◌≡◌}
-use Rattle.kl1_model.specs.TermCode.{behind}
+use Rattle.kl1_model.specs.code.TermCode.{behind}
 use Rattle.kl1_match.specs.TestTerms.{tests_of, named_in, terms_from}
 use Rattle.kl1_match.proofs.TestForms.{argument_is, argument_is_row}
 use Rattle.kl1_match.proofs.test_view.TestViewView.argument.Goals as goal

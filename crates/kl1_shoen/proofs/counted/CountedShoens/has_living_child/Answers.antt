@@ -1,7 +1,7 @@
 use Rattle.std.proofs.Common.{ℕ, List, length, get_or, ap, ◌∙◌, arith}
 use Rattle.std.specs.List.{list_any}
-use Rattle.kl1_ancestors.specs.declared.shoen.Shoen.{Shoen}
-use Rattle.kl1_ancestors.specs.Tracked.{Tracked}
+use Rattle.kl1_shoen_paths.specs.declared.shoen.Shoen.{Shoen}
+use Rattle.kl1_shoen_paths.specs.Tracked.{Tracked}
 use Rattle.kl1_shoen.specs.Shoens.{is_living_child_of}
 use Rattle.kl1_shoen.proofs.Counting.{any_beyond, any_none, any_some}
 use Rattle.kl1_shoen.proofs.counted.CountedShoens.has_living_child.Goals as goal

@@ -1,6 +1,6 @@
 use Rattle.std.proofs.Common.{◌+◌, ℕ, List, length, get_or, sym, ap, ◌∙◌, arith, subst}
-use Rattle.kl1_ancestors.specs.declared.shoen.Shoen.{Shoen}
-use Rattle.kl1_ancestors.specs.Tracked.{Tracked}
+use Rattle.kl1_shoen_paths.specs.declared.shoen.Shoen.{Shoen}
+use Rattle.kl1_shoen_paths.specs.Tracked.{Tracked}
 use Rattle.kl1_shoen.specs.Shoens.{AreCounted, counted_under}
 use Rattle.kl1_shoen.proofs.Counting.{counted_open}
 use Rattle.kl1_shoen.proofs.counted.CountedShoens.push.Goals as goal

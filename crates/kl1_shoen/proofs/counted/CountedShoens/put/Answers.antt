@@ -1,6 +1,6 @@
 use Rattle.std.proofs.Common.{◌≡◌, ◌<◌, ℕ, List, length, get_or, sym, ap, ◌∙◌, arith, subst}
-use Rattle.kl1_ancestors.specs.declared.shoen.Shoen.{Shoen}
-use Rattle.kl1_ancestors.specs.Tracked.{Tracked}
+use Rattle.kl1_shoen_paths.specs.declared.shoen.Shoen.{Shoen}
+use Rattle.kl1_shoen_paths.specs.Tracked.{Tracked}
 use Rattle.kl1_shoen.specs.Shoens.{AreCounted}
 use Rattle.kl1_shoen.proofs.Counting.{counted_put, counted_few, counted_some, parent_counted, got_any}
 use Rattle.kl1_shoen.proofs.counted.CountedShoens.put.Goals as goal

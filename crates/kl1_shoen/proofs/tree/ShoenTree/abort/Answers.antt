@@ -1,6 +1,6 @@
 use Rattle.std.proofs.Common.{List, sym, subst}
 use Rattle.kl1_shoen.specs.Shoens.{AreCharged}
-use Rattle.kl1_ancestors.specs.declared.shoen.Shoen.{Shoen}
+use Rattle.kl1_shoen_paths.specs.declared.shoen.Shoen.{Shoen}
 use Rattle.kl1_shoen.proofs.Charges.{charged_with}
 use Rattle.kl1_shoen.proofs.tree.ShoenTree.abort.Goals as goal
 

@@ -1,5 +1,5 @@
 use Rattle.std.proofs.Common.{◌≡◌, ℕ, suc, ◌+◌, if◌then◌else◌, List, length, get_or, sym, ap, ◌∙◌, arith, subst}
-use Rattle.kl1_ancestors.specs.declared.shoen.Shoen.{Shoen}
+use Rattle.kl1_shoen_paths.specs.declared.shoen.Shoen.{Shoen}
 use Rattle.kl1_shoen.specs.Shoens.{Tree, AreCharged, is_on_path_in}
 use Rattle.kl1_shoen.proofs.Charges.{charged_more}
 use Rattle.kl1_shoen.proofs.tree.ShoenTree.charge.Goals as goal

@@ -1,8 +1,8 @@
 use Rattle.std.proofs.Common.{◌≡◌, Bool, List, map, get_or, ap, ◌∙◌, ◌-◌, arith}
 use Rattle.std.proofs.lemmas.List.{take_all}
-use Rattle.kl1_ancestors.specs.declared.shoen.Shoen.{Shoen}
+use Rattle.kl1_shoen_paths.specs.declared.shoen.Shoen.{Shoen}
 use Rattle.kl1_shoen.specs.Shoens.{Tree, is_enabled_at}
-use Rattle.kl1_ancestors.proofs.Flags.{flags_few}
+use Rattle.kl1_shoen_paths.proofs.Flags.{flags_few}
 use Rattle.kl1_shoen.proofs.Flags.{flags_step}
 use Rattle.kl1_shoen.proofs.tree.ShoenTree.flags.Goals as goal
 

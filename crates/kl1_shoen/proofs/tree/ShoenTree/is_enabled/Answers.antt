@@ -1,7 +1,7 @@
 use Rattle.std.proofs.Common.{not, List, ℕ, sym, ap, ◌∙◌, arith}
 use Rattle.std.specs.List.{list_any}
 use Rattle.kl1_shoen.specs.Shoens.{is_blocking_at}
-use Rattle.kl1_ancestors.proofs.Paths.{path_zero}
+use Rattle.kl1_shoen_paths.proofs.Paths.{path_zero}
 use Rattle.kl1_shoen.proofs.tree.ShoenTree.is_enabled.Goals as goal
 
 pub returns : goal.returns

@@ -1,5 +1,5 @@
 use Rattle.std.proofs.Common.{ℕ, List, [], ◌∷◌, ◌++◌, length, sym, ap, arith, subst}
-use Rattle.kl1_ancestors.specs.declared.shoen.Shoen.{Shoen}
+use Rattle.kl1_shoen_paths.specs.declared.shoen.Shoen.{Shoen}
 use Rattle.kl1_shoen.specs.Shoens.{Tree, AreCharged}
 use Rattle.kl1_shoen.proofs.Charges.{charged_open}
 use Rattle.kl1_shoen.proofs.tree.ShoenTree.open.Goals as goal

@@ -1,5 +1,5 @@
 use Rattle.std.proofs.Common.{◌∷◌, ℕ, List, refl, sym, ap, ◌∙◌}
-use Rattle.kl1_ancestors.proofs.Paths.{path_zero}
+use Rattle.kl1_shoen_paths.proofs.Paths.{path_zero}
 use Rattle.kl1_shoen.proofs.tree.ShoenTree.reached_step.Goals as goal
 
 pub returns-in_default-clause-path : goal.returns-in_default-clause-path

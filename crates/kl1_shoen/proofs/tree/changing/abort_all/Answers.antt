@@ -1,7 +1,7 @@
 use Rattle.std.proofs.Common.{◌≡◌, ◌<◌, suc, Bool, List, map, length, get_or, refl, sym, ap, ◌∙◌, arith}
-use Rattle.kl1_ancestors.specs.declared.shoen.Shoen.{Shoen}
+use Rattle.kl1_shoen_paths.specs.declared.shoen.Shoen.{Shoen}
 use Rattle.kl1_shoen.specs.Shoens.{is_on_path_in}
-use Rattle.kl1_ancestors.proofs.Numbered.{numbered_get}
+use Rattle.kl1_shoen_paths.proofs.Numbered.{numbered_get}
 use Rattle.kl1_shoen.proofs.Changing.{abort_step}
 use Rattle.kl1_shoen.proofs.Flags.{flag_at}
 use Rattle.kl1_shoen.proofs.tree.changing.abort_all.Goals as goal

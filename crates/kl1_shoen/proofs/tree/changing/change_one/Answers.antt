@@ -1,6 +1,6 @@
 use Rattle.std.proofs.Common.{◌≡◌, ◌-◌, List, length, get_or, set, sym, ap, ◌∙◌, arith, subst}
 use Rattle.std.specs.Prelude.{Some, None, find}
-use Rattle.kl1_ancestors.specs.declared.shoen.Shoen.{Shoen}
+use Rattle.kl1_shoen_paths.specs.declared.shoen.Shoen.{Shoen}
 use Rattle.kl1_shoen.specs.Changes.{changed_by}
 use Rattle.kl1_shoen.specs.Shoens.{has_number, AreNumbered, parents_in}
 use Rattle.kl1_shoen.proofs.Changing.{number_some, place_within, changed_parent, changed_none, changed_at, parents_changed, numbered_changed}

@@ -1,7 +1,7 @@
 use Rattle.std.proofs.Common.{◌≡◌, map}
 use Rattle.std.proofs.lemmas.List.{map-append}
 use Rattle.kl1_model.specs.Term.{terms_of}
-use Rattle.kl1_model.specs.TermCode.{nodes_of}
+use Rattle.kl1_model.specs.code.TermCode.{nodes_of}
 use Rattle.kl1_model.specs.Meaning.{cells}
 use Rattle.kl1_term.specs.Nodes.{code_of}
 use Rattle.kl1_term.proofs.Rows.{list_nodes}

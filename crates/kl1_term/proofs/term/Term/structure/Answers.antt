@@ -1,6 +1,6 @@
 use Rattle.std.proofs.Common.{◌≡◌, ◌∙◌, ◌++◌, List, ap, map}
 use Rattle.kl1_model.specs.Term.{structure, terms_of}
-use Rattle.kl1_model.specs.TermCode.{nodes_of, nodes_of_all}
+use Rattle.kl1_model.specs.code.TermCode.{nodes_of, nodes_of_all}
 use Rattle.kl1_term.specs.Nodes.{code_of}
 use Rattle.kl1_term.specs.declared.node.Node.{Node}
 use Rattle.kl1_term.proofs.Rows.{structure_nodes}

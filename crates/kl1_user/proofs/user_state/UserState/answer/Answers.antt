@@ -1,6 +1,6 @@
 use Rattle.std.proofs.Common.{sym, ap}
 use Rattle.kl1_model.specs.Event as model
-use Rattle.kl1_event.specs.Views.{query_of}
+use Rattle.kl1_user_events.specs.Views.{query_of}
 use Rattle.kl1_user.proofs.Steps.{asks_same}
 use Rattle.kl1_user.proofs.user_state.UserState.answer.Goals as goal
 

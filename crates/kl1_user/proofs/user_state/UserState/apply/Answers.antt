@@ -1,6 +1,6 @@
 use Rattle.std.proofs.Common.{◌∙◌, sym, ap}
 use Rattle.kl1_model.specs.Event as model
-use Rattle.kl1_event.specs.Views.{event_of}
+use Rattle.kl1_user_events.specs.Views.{event_of}
 use Rattle.kl1_user.proofs.Steps.{does_same, reduces_same, leaves_names}
 use Rattle.kl1_user.proofs.user_state.UserState.apply.Goals as goal
 

@@ -1,7 +1,7 @@
 use Rattle.std.proofs.Common.{◌≡◌, sym, ap, subst}
 use Rattle.kl1_atoms.specs.Names.{AreNames}
-use Rattle.kl1_effects.specs.Account.{Account}
-use Rattle.kl1_effects.specs.Fitting.{reading_of, reading_fits}
+use Rattle.kl1_user_effects.specs.Account.{Account}
+use Rattle.kl1_user_effects.specs.Fitting.{reading_of, reading_fits}
 use Rattle.kl1_user.proofs.user_state.UserState.pick.Goals as goal
 
 pub returns-clause-picks : goal.returns-clause-picks

@@ -1,6 +1,6 @@
 use Rattle.std.proofs.Common.{◌≡◌, ℕ, List, ap, sym, ◌∙◌, subst, refl}
 use Rattle.std.specs.Prelude.{IfOk, OnErr, option_map, slice_set}
-use Rattle.kl1_history.specs.JournalText.{page_of}
+use Rattle.kl1_model_history.specs.JournalText.{page_of}
 use Rattle.kl1_journal.specs.Keeping.{Reading, Fits}
 use Rattle.kl1_journal.specs.Keeping.{Held, kept_of}
 use Rattle.kl1_world.specs.Worlds.{account_in}

@@ -1,9 +1,9 @@
 use Rattle.std.proofs.Common.{◌≡◌, ℕ, List, ap, sym, ◌∙◌, subst, refl}
 use Rattle.std.specs.Prelude.{IfOk, OnErr, option_map, slice_set}
 use Rattle.kl1_model.specs.Event as model
-use Rattle.kl1_history.specs.Journal.{done}
-use Rattle.kl1_event.specs.Views.{reduced_or}
-use Rattle.kl1_modules.specs.Numbered.{ArePlaced}
+use Rattle.kl1_model_history.specs.Journal.{done}
+use Rattle.kl1_user_events.specs.Views.{reduced_or}
+use Rattle.kl1_codes_modules.specs.Numbered.{ArePlaced}
 use Rattle.kl1_journal.specs.Keeping.{Reading, Fits}
 use Rattle.kl1_journal.specs.Keeping.{Held, kept_of}
 use Rattle.kl1_world.specs.Worlds.{account_in}

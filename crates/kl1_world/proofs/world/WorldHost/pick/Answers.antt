@@ -1,7 +1,7 @@
 use Rattle.std.proofs.Common.{◌≡◌, ℕ, ap, subst}
 use Rattle.std.specs.Prelude.{option_map}
 use Rattle.kl1_model.specs.Choice.{first}
-use Rattle.kl1_event.specs.Views.{chosen_of}
+use Rattle.kl1_user_events.specs.Views.{chosen_of}
 use Rattle.kl1_journal.specs.Keeping.{Reading, Fits, kept_of}
 use Rattle.kl1_world.specs.Worlds.{account_in}
 use Rattle.kl1_world.proofs.world.WorldHost.pick.Goals as goal

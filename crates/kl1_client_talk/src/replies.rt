@@ -1,0 +1,35 @@
+// The first lines of replies.
+
+ghost use Rattle.std.specs.Prelude.{◌≡◌};
+ghost use Rattle.kl1_client_talk.specs.Replies.{count_in, has_ended, is_refusal};
+
+use kl1_command_lines::{is_same, only_number, split_word};
+
+/// Whether a reply is a refusal, by its first line.
+pub fn is_refusal(line: &[u8]) -> bool
+    ensures { result ≡ is_refusal line.now }
+{
+    let (word, _) = split_word(line);
+    is_same(word, b"-")
+}
+
+/// How many lines come after the first one of a reply that lists lines; `None` if it lists none.
+pub fn count_in(line: &[u8]) -> Option<u64>
+    ensures { result ≡ count_in line.now }
+{
+    let (word, rest) = split_word(line);
+    if is_same(word, b"+") {
+        only_number(rest)
+    } else {
+        None
+    }
+}
+
+/// Whether a shoen has ended, by the reply to a question for its status.
+pub fn has_ended(line: &[u8]) -> bool
+    ensures { result ≡ has_ended line.now }
+{
+    let (_, rest) = split_word(line);
+    let (state, _) = split_word(rest);
+    is_same(state, b"terminated") || is_same(state, b"aborted")
+}

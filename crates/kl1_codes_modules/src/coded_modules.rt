@@ -1,0 +1,93 @@
+// The modules of an account with their codes at hand.
+
+ghost use Rattle.std.specs.Prelude.{◌≡◌, false, [], ◌∷◌, ◌++◌, length, slice_get, IfSome};
+ghost use Rattle.kl1_codes_modules.specs.Numbered.{number_of, ArePlaced};
+ghost use Rattle.kl1_clause.specs.Predicates.{AreSome};
+ghost use Rattle.kl1_codes_modules.specs.Finding.{Finds, is_numbered};
+
+use crate::coded_module::CodedModule;
+use crate::modules::Modules;
+use kl1_clause::Predicate;
+use kl1_codes::CodeSource;
+use kl1_text::CellName;
+use std::marker::Model;
+
+/// The modules of an account, lent with the source where their codes stand: to contracts they are just the modules.
+#[derive(Drop)]
+pub struct CodedModules<'a, C: CodeSource> {
+    modules: &'a Modules<C>,
+    codes: &'a C,
+}
+
+impl<'a, C: CodeSource> Model for CodedModules<'a, C> {
+    ghost use Rattle.kl1_codes_modules.specs.Shelves.{Shelf, shelf_code};
+
+    ghost Value = { Shelf };
+
+    ghost coded = { shelf_code };
+
+    ghost use Rattle.kl1_codes_modules.specs.Numbered.{ArePlaced};
+
+    ghost view = { λ m. m.modules.now };
+
+    ghost invariant = { λ m. ArePlaced (C.has m.codes.now) m.modules.now.loaded };
+}
+
+impl<'a, C: CodeSource> CodedModules<'a, C> {
+    /// Modules with the source where their codes stand.
+    pub fn over(modules: &'a Modules<C>, codes: &'a C) -> Self
+        requires { ArePlaced (C.has codes.now) modules.now.loaded }
+        ensures { result ≡ modules.now }
+    {
+        CodedModules { modules, codes }
+    }
+
+    /// How many there are.
+    pub fn len(&self) -> usize
+        ensures { result ≡ length self.now.loaded }
+    {
+        self.modules.len()
+    }
+
+    /// The module at a place in order of loading, from 0, with its code.
+    pub fn get(&self, place: usize) -> Option<CodedModule<'_, C>>
+        ensures { result ≡ slice_get self.now.loaded place }
+    {
+        match self.modules.get(place) {
+            None => None,
+            Some(loaded) => Some(CodedModule::over(loaded, self.codes)),
+        }
+    }
+
+    /// The clauses of the predicate with name `name` and `count` arguments in a module, or nothing if there is none.
+    #[inline(always)]
+    pub fn find(
+        &self,
+        module_name: CellName,
+        name: CellName,
+        count: usize,
+    ) -> Option<Predicate<'_, CellName>>
+        ensures finds { Finds self.now.loaded module_name name count result }
+        ensures some { IfSome result (λ p. AreSome p.names.now p.clauses.now) }
+    {
+        self.modules.find(self.codes, module_name, name, count)
+    }
+
+    /// Like `find`, with one module more, which is drafted and none of these.
+    pub fn find_beside<'b>(
+        &'b self,
+        draft: &'b CodedModule<'_, C>,
+        module_name: CellName,
+        name: CellName,
+        count: usize,
+    ) -> Option<Predicate<'b, CellName>>
+        requires { is_numbered self.now.loaded (number_of draft.now) ≡ false }
+        ensures finds { Finds (self.now.loaded ++ draft.now ∷ []) module_name name count result }
+        ensures some { IfSome result (λ p. AreSome p.names.now p.clauses.now) }
+    {
+        if draft.number().number == module_name.number {
+            return draft.find(name, count);
+        }
+        self.find(module_name, name, count)
+    }
+}

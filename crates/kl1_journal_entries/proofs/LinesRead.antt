@@ -1,0 +1,208 @@
+-- The entry whose line a line is.
+use Rattle.std.proofs.Common.{◌≡◌, ℕ, suc, ◌<◌, ◌≤◌, ◌+◌, ◌*◌, ◌==◌, ◌&&◌, ◌⊎◌, inl, inr, Bool, true, false, if◌then◌else◌, List, [], ◌∷◌, length, codes, bytes_eq, refl, sym, ap, subst, ◌∙◌, arith}
+use Rattle.std.specs.Prelude.{nat_le, nat_lt, Option, Some, None, option_map, option_and_then}
+use Rattle.std.specs.List.{list_all}
+use Rattle.std.proofs.lemmas.Bool.{and_from, and_parts, le-leb}
+use Rattle.std.proofs.lemmas.Option.{option_and_then_some, same_Some}
+use Rattle.std.proofs.lemmas.Slice.Eq.{bytes_eq-Decides}
+use Rattle.kl1_model.specs.Limits.{number_limit, most_digits, most_line_bytes}
+use Rattle.kl1_model.specs.declared.message.Message.{Message}
+use Rattle.kl1_model.specs.declared.message.Message.TheVariants.{Stop, Start, Abort, Allow}
+use Rattle.kl1_model.specs.Term.{Term}
+use Rattle.kl1_model.specs.Goal.{is_goal}
+use Rattle.kl1_model.specs.Meaning.{highest, is_writable, is_numbered}
+use Rattle.kl1_model.specs.Token.{is_digit, number_of}
+use Rattle.kl1_model.specs.Line.{before_space, behind_space, number_in}
+use Rattle.kl1_model.specs.Event.{Event, is_number}
+use Rattle.kl1_model.specs.Module.{Reading, good, bad, read_goal}
+use Rattle.kl1_model.specs.Opening.{start_line}
+use Rattle.kl1_model.specs.Sending.{may_send}
+use Rattle.kl1_model_history.specs.Journal.{Entry, loads, starts, sends, steps, event_in}
+use Rattle.kl1_model_history.specs.JournalText.{is_hex_digit, hex_bytes, load_in, of_two, start_of, start_in, entry_by, entry_line, if_line, entry_in}
+use Rattle.kl1_model_history.proofs.ReadStrict.{goals_read_are_printable}
+use Rattle.kl1_model_history.proofs.TextEntries.{length_hex}
+use Rattle.kl1_journal_entries.specs.Lined.{is_lined, if_lined, lined_entry}
+use Rattle.kl1_journal_entries.specs.Reading.{is_line_of}
+use Rattle.kl1_journal_entries.proofs.Sound.{if_true}
+
+if_false : (b : Bool) (e : Entry) → b ≡ false → (if b then Some e else None) ≡ None
+if_false true e h = cc
+if_false false e h = refl
+
+-- ---- an entry that is read is lined
+
+either : (b : Bool) (x y : Option Entry) (e : Entry) → (if b then x else y) ≡ Some e → (x ≡ Some e) ⊎ (y ≡ Some e)
+either true x y e h = inl h
+either false x y e h = inr h
+
+map_some : {A B : Type 0} {P : Type 0} (f : A → B) (o : Option A) (y : B) → option_map f o ≡ Some y → ((x : A) → o ≡ Some x → f x ≡ y → P) → P
+map_some f None y h go = absurd (let e : ⊥ = cc in e)
+map_some f (Some x) y h go = go x refl (same_Some (f x) y h)
+
+number_by : (b : Bool) (m n : ℕ) → (if b then Some m else None) ≡ Some n → (b ≡ true) × (m ≡ n)
+number_by true m n h = (refl, same_Some m n h)
+number_by false m n h = absurd (let e : ⊥ = cc in e)
+
+-- a number that is read may stand in a line
+number_read : (w : List ℕ) (n : ℕ) → number_in w ≡ Some n → is_number n ≡ true
+number_read w n h =
+    let both = number_by (nat_le 1 (length w) && nat_le (length w) most_digits && list_all is_digit w && nat_lt (number_of w) number_limit) (number_of w) n h in
+    let last = and_parts (nat_le 1 (length w) && nat_le (length w) most_digits && list_all is_digit w) (nat_lt (number_of w) number_limit) both.0 in
+    ap is_number (sym both.1) ∙ last.1
+
+two_lined : (make : ℕ → ℕ → Entry) → ((a b : ℕ) → is_number a ≡ true → is_number b ≡ true → is_lined (make a b) ≡ true) → (rest : List ℕ) (e : Entry) → of_two make rest ≡ Some e → is_lined e ≡ true
+two_lined make lined rest e h =
+    option_and_then_some (λ a. option_map (make a) (number_in (behind_space rest))) (number_in (before_space rest)) e h
+    (λ a first more. map_some (make a) (number_in (behind_space rest)) e more (λ b second is. ap is_lined (sym is) ∙ lined a b (number_read (before_space rest) a first) (number_read (behind_space rest) b second)))
+
+one_lined : (make : ℕ → Entry) → ((a : ℕ) → is_number a ≡ true → is_lined (make a) ≡ true) → (rest : List ℕ) (e : Entry) → option_map make (number_in rest) ≡ Some e → is_lined e ≡ true
+one_lined make lined rest e h = map_some make (number_in rest) e h (λ a first is. ap is_lined (sym is) ∙ lined a (number_read rest a first))
+
+-- a load whose line isn't too long
+load_by : (b : Bool) (text : List ℕ) (e : Entry) → (if b then Some (loads text) else None) ≡ Some e → loads text ≡ e
+load_by true text e h = same_Some (loads text) e h
+load_by false text e h = absurd (let e : ⊥ = cc in e)
+
+load_lined : (rest : List ℕ) (e : Entry) → load_in rest ≡ Some e → length (entry_line e) ≤ most_line_bytes → is_lined e ≡ true
+load_lined rest e h few =
+    let text = hex_bytes rest in
+    let is : loads text ≡ e = load_by (list_all is_hex_digit rest) text e h in
+    let short : length (entry_line (loads text)) ≤ most_line_bytes = subst (λ (d : Entry). length (entry_line d) ≤ most_line_bytes) (sym is) few in
+    ap is_lined (sym is) ∙ le-leb (5 + 2 * length text) most_line_bytes (omega (arith, short, length_hex text))
+
+start_by : {P : Type 0} (a l h : ℕ) (r : Reading Term) (e : Entry) → start_of a l h r ≡ Some e → ((t : Term) → r ≡ good t → starts a l h t ≡ e → P) → P
+start_by a l h (bad line) e is go = absurd (let e : ⊥ = cc in e)
+start_by a l h (good t) e is go = go t refl (same_Some (starts a l h t) e is)
+
+start_from : (a l h : ℕ) (t : Term) → is_number a ≡ true → is_number l ≡ true → is_number h ≡ true → is_goal t ≡ true → is_writable t && is_numbered t && nat_lt (highest t) number_limit ≡ true → length (start_line a l h t) ≤ most_line_bytes → is_lined (starts a l h t) ≡ true
+start_from a l h t p q r goal printable few =
+    let parts = and_parts (is_writable t) (is_numbered t) (and_parts (is_writable t && is_numbered t) (nat_lt (highest t) number_limit) printable).0 in
+    and_from (is_number a && is_number l && is_number h && is_goal t && is_writable t && is_numbered t) (nat_le (length (start_line a l h t)) most_line_bytes)
+    (and_from (is_number a && is_number l && is_number h && is_goal t && is_writable t) (is_numbered t)
+    (and_from (is_number a && is_number l && is_number h && is_goal t) (is_writable t)
+    (and_from (is_number a && is_number l && is_number h) (is_goal t) (and_from (is_number a && is_number l) (is_number h) (and_from (is_number a) (is_number l) p q) r) goal) parts.0) parts.1)
+    (le-leb (length (start_line a l h t)) most_line_bytes few)
+
+behind_by : (b : Bool) (bs : List ℕ) → length (behind_space bs) ≤ length bs → length {A = ℕ} (elim b [ true ↦ bs | false ↦ behind_space bs ]) ≤ suc (length bs)
+behind_by true bs less = omega arith
+behind_by false bs less = omega (arith, less)
+
+behind_short : (bs : List ℕ) → length (behind_space bs) ≤ length bs
+behind_short [] = omega arith
+behind_short (b ∷ bs) = behind_by (b == 32) bs (behind_short bs)
+
+start_lined : (rest : List ℕ) (e : Entry) → start_in rest ≡ Some e → length rest < number_limit → length (entry_line e) ≤ most_line_bytes → is_lined e ≡ true
+start_lined rest e h small few =
+    let b = behind_space rest in
+    let c = behind_space b in
+    let text = behind_space c in
+    let less : length text < number_limit = omega (arith, small, behind_short rest, behind_short b, behind_short c) in
+    option_and_then_some (λ a. option_and_then (λ low. option_and_then (λ high. start_of a low high (read_goal text)) (number_in (before_space c))) (number_in (before_space b))) (number_in (before_space rest)) e h
+    (λ a first m. option_and_then_some (λ low. option_and_then (λ high. start_of a low high (read_goal text)) (number_in (before_space c))) (number_in (before_space b)) e m
+    (λ low second n. option_and_then_some (λ high. start_of a low high (read_goal text)) (number_in (before_space c)) e n
+    (λ high third o. start_by a low high (read_goal text) e o
+    (λ t read is.
+    let facts = goals_read_are_printable text t less read in
+    ap is_lined (sym is) ∙ start_from a low high t (number_read (before_space rest) a first) (number_read (before_space b) low second) (number_read (before_space c) high third) facts.1 facts.0 (subst (λ (d : Entry). length (entry_line d) ≤ most_line_bytes) (sym is) few)))))
+
+sent_lined : (m : Message) → (n : ℕ) → may_send n m ≡ true → is_lined (sends n m) ≡ true
+sent_lined m n h = h
+
+with_true : (b : Bool) → b ≡ true → b && true ≡ true
+with_true b h = and_from b true h refl
+
+-- what is read by the first word of a line is lined, if its own line isn't too long
+by_word : (w rest : List ℕ) (e : Entry) → entry_by w rest ≡ Some e → length rest < number_limit → length (entry_line e) ≤ most_line_bytes → is_lined e ≡ true
+by_word w rest e h small few =
+    elim (either (bytes_eq w (codes "reduce")) _ _ e h) [
+      | inl p ↦ two_lined steps (λ a b x y. and_from (is_number a) (is_number b) x y) rest e p
+      | inr h1 ↦ elim (either (bytes_eq w (codes "load")) _ _ e h1) [
+        | inl p ↦ load_lined rest e p few
+        | inr h2 ↦ elim (either (bytes_eq w (codes "start")) _ _ e h2) [
+          | inl p ↦ start_lined rest e p small few
+          | inr h3 ↦ elim (either (bytes_eq w (codes "stop")) _ _ e h3) [
+            | inl p ↦ one_lined (λ n. sends n Stop) (λ n x. with_true (is_number n) x) rest e p
+            | inr h4 ↦ elim (either (bytes_eq w (codes "resume")) _ _ e h4) [
+              | inl p ↦ one_lined (λ n. sends n Start) (λ n x. with_true (is_number n) x) rest e p
+              | inr h5 ↦ elim (either (bytes_eq w (codes "abort")) _ _ e h5) [
+                | inl p ↦ one_lined (λ n. sends n Abort) (λ n x. with_true (is_number n) x) rest e p
+                | inr h6 ↦ elim (either (bytes_eq w (codes "allow")) _ _ e h6) [
+                  | inl p ↦ two_lined (λ n k. sends n (Allow k)) (λ a b x y. and_from (is_number a) (is_number b) x y) rest e p
+                  | inr q ↦ absurd (let f : ⊥ = cc in f)
+                ]
+              ]
+            ]
+          ]
+        ]
+      ]
+    ]
+
+-- ---- what is found
+
+-- an entry that is found by its event and what is prepared of it
+pub record IsFound (line : List ℕ) (v : Event) (p : Option Entry) : Type 0 where
+  pub event : Some v ≡ option_map event_in (entry_in line)
+  pub entry : Some p ≡ option_map (λ e. Some e) (entry_in line)
+
+short_in : (b : Bool) (o : Option Entry) → b ≡ true → (if b then o else None) ≡ o
+short_in true o h = refl
+short_in false o h = cc
+
+in_short : (line : List ℕ) → length line ≤ most_line_bytes → entry_in line ≡ option_and_then (if_line line) (entry_by (before_space line) (behind_space line))
+in_short line few = short_in (nat_le (length line) most_line_bytes) (option_and_then (if_line line) (entry_by (before_space line) (behind_space line))) (le-leb (length line) most_line_bytes few)
+
+none_map : (o : Option Entry) → None ≡ option_map event_in o → o ≡ None
+none_map None h = refl
+none_map (Some e) h = absurd (let f : ⊥ = cc in f)
+
+-- no entry is read of a line that has none by its first word
+pub none_found : (line : List ℕ) → length line ≤ most_line_bytes → None ≡ option_map event_in (entry_by (before_space line) (behind_space line)) → entry_in line ≡ None
+none_found line few h = in_short line few ∙ ap (option_and_then (if_line line)) (none_map (entry_by (before_space line) (behind_space line)) h)
+
+same_entry : (e : Entry) → lined_entry (event_in e) ≡ if_lined e
+same_entry (loads text) = refl
+same_entry (starts a l h t) = refl
+same_entry (sends n m) = refl
+same_entry (steps g c) = refl
+
+-- what is known of an entry by its line
+record Known (line : List ℕ) (e : Entry) (p : Option Entry) : Type 0 where
+  same : bytes_eq (entry_line e) line ≡ true
+  entry : p ≡ Some e
+
+known_by : (x y : Bool) (line : List ℕ) (e : Entry) (p : Option Entry) → is_lined e ≡ x → bytes_eq (entry_line e) line ≡ y → p ≡ (if x then Some e else None) → is_line_of p line ≡ true → Known line e p
+known_by true true line e p lined same is h = record { same = same; entry = is }
+known_by true false line e p lined same is h = absurd (let f : ⊥ = (let g : is_line_of (Some e) line ≡ true = ap (λ o. is_line_of o line) (sym is) ∙ h in cc) in f)
+known_by false y line e p lined same is h = absurd (let f : ⊥ = (let g : is_line_of None line ≡ true = ap (λ o. is_line_of o line) (sym is) ∙ h in cc) in f)
+
+unknown_by : (x y : Bool) (line : List ℕ) (e : Entry) (p : Option Entry) → is_lined e ≡ x → bytes_eq (entry_line e) line ≡ y → (y ≡ true → x ≡ true) → p ≡ (if x then Some e else None) → is_line_of p line ≡ false → bytes_eq (entry_line e) line ≡ false
+unknown_by x false line e p lined same needs is h = same
+unknown_by true true line e p lined same needs is h = absurd (let f : ⊥ = (let g : is_line_of (Some e) line ≡ false = ap (λ o. is_line_of o line) (sym is) ∙ h in cc) in f)
+unknown_by false true line e p lined same needs is h = absurd (let f : ⊥ = (let g = needs refl in cc) in f)
+
+entry_known : (line : List ℕ) (o : Option Entry) (v : Event) (p : Option Entry) → o ≡ entry_by (before_space line) (behind_space line) → length line ≤ most_line_bytes → Some v ≡ option_map event_in o → p ≡ lined_entry v → is_line_of p line ≡ true → IsFound line v p
+entry_known line None v p is few h q same = absurd (let f : ⊥ = cc in f)
+entry_known line (Some e) v p is few h q same =
+    let event : v ≡ event_in e = same_Some v (event_in e) h in
+    let prepared : p ≡ if_lined e = q ∙ ap lined_entry event ∙ same_entry e in
+    let known = known_by (is_lined e) (bytes_eq (entry_line e) line) line e p refl refl prepared same in
+    let read : entry_in line ≡ Some e = in_short line few ∙ ap (option_and_then (if_line line)) (sym is) ∙ if_true (bytes_eq (entry_line e) line) e known.same in
+    record { event = ap (λ (w : Event). Some w) event ∙ ap (option_map event_in) (sym read); entry = ap (λ (w : Option Entry). Some w) known.entry ∙ ap (option_map (λ (d : Entry). Some d)) (sym read) }
+
+-- an entry whose line this is
+pub found : (line : List ℕ) (v : Event) (p : Option Entry) → length line ≤ most_line_bytes → Some v ≡ option_map event_in (entry_by (before_space line) (behind_space line)) → p ≡ lined_entry v → is_line_of p line ≡ true → IsFound line v p
+found line v p few h q same = entry_known line (entry_by (before_space line) (behind_space line)) v p refl few h q same
+
+entry_unknown : (line : List ℕ) (o : Option Entry) (v : Event) (p : Option Entry) → o ≡ entry_by (before_space line) (behind_space line) → length line ≤ most_line_bytes → Some v ≡ option_map event_in o → p ≡ lined_entry v → is_line_of p line ≡ false → entry_in line ≡ None
+entry_unknown line None v p is few h q other = absurd (let f : ⊥ = cc in f)
+entry_unknown line (Some e) v p is few h q other =
+    let event : v ≡ event_in e = same_Some v (event_in e) h in
+    let prepared : p ≡ if_lined e = q ∙ ap lined_entry event ∙ same_entry e in
+    let small : length (behind_space line) < number_limit = omega (arith, few, behind_short line) in
+    let needs : bytes_eq (entry_line e) line ≡ true → is_lined e ≡ true = λ same. by_word (before_space line) (behind_space line) e (sym is) small (subst (λ (bs : List ℕ). length bs ≤ most_line_bytes) (sym ((bytes_eq-Decides (entry_line e) line).0 same)) few) in
+    let differs = unknown_by (is_lined e) (bytes_eq (entry_line e) line) line e p refl refl needs prepared other in
+    in_short line few ∙ ap (option_and_then (if_line line)) (sym is) ∙ if_false (bytes_eq (entry_line e) line) e differs
+
+-- a line that isn't that of its entry
+pub not_found : (line : List ℕ) (v : Event) (p : Option Entry) → length line ≤ most_line_bytes → Some v ≡ option_map event_in (entry_by (before_space line) (behind_space line)) → p ≡ lined_entry v → is_line_of p line ≡ false → entry_in line ≡ None
+not_found line v p few h q other = entry_unknown line (entry_by (before_space line) (behind_space line)) v p refl few h q other

@@ -1,0 +1,147 @@
+-- The journal that a text is, line by line.
+use Rattle.std.proofs.Common.{◌≡◌, ℕ, suc, ◌==◌, ◌&&◌, Bool, true, false, if◌then◌else◌, List, [], ◌∷◌, ◌++◌, length, refl, sym, ap, ◌∙◌, append_assoc}
+use Rattle.std.specs.Prelude.{Option, Some, None, option_map, option_and_then}
+use Rattle.std.proofs.lemmas.List.{append-nil}
+use Rattle.std.proofs.lemmas.Bool.{and_from, and_parts}
+use Rattle.std.proofs.lemmas.Option.{same_Some}
+use Rattle.kl1_model.specs.Text.{is_text}
+use Rattle.kl1_model_history.specs.Journal.{Entry, Journal, new_journal, with_entry}
+use Rattle.kl1_model_history.specs.JournalText.{Lines, lines_of, entry_in, name_in, is_new_name, entry_first, journal_with, journal_after}
+use Rattle.kl1_model_history.specs.laws.TextLaws.{are_new_names}
+use Rattle.kl1_model_history.proofs.TextNames.{strict_lines_are_names}
+use Rattle.kl1_journal_entries.specs.Lined.{with_prepared}
+use Rattle.kl1_journal_entries.specs.Reading.{with_line, read_on, read_text, read_after}
+
+neither : {A : Type 0} (x : Bool) → (if◌then◌else◌ {A = Option A} x None None) ≡ None
+neither true = refl
+neither false = refl
+
+-- ---- entries
+
+none_entry : (o : Option Entry) → None ≡ option_map (λ (e : Entry). let x : Option Entry = Some e in x) o → o ≡ None
+none_entry None h = refl
+none_entry (Some e) h = absurd (let f : ⊥ = cc in f)
+
+-- a line that is no entry's
+pub no_entry : (j : Journal) (text line after : List ℕ) → lines_of text ≡ with_line line (lines_of after) → None ≡ option_map (λ (e : Entry). let x : Option Entry = Some e in x) (entry_in line) → read_text j text ≡ None
+no_entry j text line after is h =
+    ap (λ (ls : Lines). if length ls.rest == 0 then read_on j ls.whole else None) is
+    ∙ ap (λ (o : Option Entry). if length (lines_of after).rest == 0 then option_and_then (λ e. read_on (with_entry j e) (lines_of after).whole) o else None) (none_entry (entry_in line) h)
+    ∙ neither (length (lines_of after).rest == 0)
+
+entry_put : (j k : Journal) (text line after : List ℕ) (o p : Option Entry) → entry_in line ≡ o → lines_of text ≡ with_line line (lines_of after) → Some p ≡ option_map (λ (e : Entry). let x : Option Entry = Some e in x) o → k ≡ with_prepared j p → read_text k after ≡ read_text j text
+entry_put j k text line after None p read is h put = absurd (let f : ⊥ = cc in f)
+entry_put j k text line after (Some e) p read is h put =
+    ap (λ (i : Journal). read_text i after) (put ∙ ap (with_prepared j) (same_Some p (Some e) h))
+    ∙ sym (ap (λ (ls : Lines). if length ls.rest == 0 then read_on j ls.whole else None) is
+    ∙ ap (λ (o : Option Entry). if length (lines_of after).rest == 0 then option_and_then (λ e. read_on (with_entry j e) (lines_of after).whole) o else None) read)
+
+-- a line of an entry, which is put
+pub entry_more : (j k : Journal) (text line after : List ℕ) (p : Option Entry) → lines_of text ≡ with_line line (lines_of after) → Some p ≡ option_map (λ (e : Entry). let x : Option Entry = Some e in x) (entry_in line) → k ≡ with_prepared j p → read_text k after ≡ read_text j text
+entry_more j k text line after p is h put = entry_put j k text line after (entry_in line) p refl is h put
+
+-- ---- names
+
+after_by : (sessions : ℕ) (names : List (List ℕ)) (n : ℕ) (after line : List ℕ) (o : Option (List ℕ)) → Option Journal
+after_by sessions names n after line o = if length (lines_of after).rest == 0 then option_and_then (λ t. if is_new_name names t then journal_after sessions (names ++ t ∷ []) n (lines_of after).whole else None) o else None
+
+name_line_read : (sessions : ℕ) (names : List (List ℕ)) (m n : ℕ) (text line after : List ℕ) (o : Option (List ℕ)) → m ≡ suc n → lines_of text ≡ with_line line (lines_of after) → name_in line ≡ o → read_after sessions names m text ≡ after_by sessions names n after line o
+unfolding after_by
+name_line_read sessions names m n text line after o count is read =
+    ap (λ (k : ℕ). read_after sessions names k text) count
+    ∙ ap (λ (ls : Lines). if length ls.rest == 0 then journal_after sessions names (suc n) ls.whole else None) is
+    ∙ ap (after_by sessions names n after line) read
+
+-- a line of no name
+pub no_name : (sessions : ℕ) (names : List (List ℕ)) (m n : ℕ) (text line after : List ℕ) → m ≡ suc n → lines_of text ≡ with_line line (lines_of after) → name_in line ≡ None → read_after sessions names m text ≡ None
+unfolding after_by
+no_name sessions names m n text line after count is read = name_line_read sessions names m n text line after None count is read ∙ neither (length (lines_of after).rest == 0)
+
+-- no line, if names follow
+pub no_line : (sessions : ℕ) (names : List (List ℕ)) (m n : ℕ) (text : List ℕ) → m ≡ suc n → lines_of text ≡ record { whole = []; rest = text } → read_after sessions names m text ≡ None
+no_line sessions names m n text count is =
+    ap (λ (k : ℕ). read_after sessions names k text) count
+    ∙ ap (λ (ls : Lines). if length ls.rest == 0 then journal_after sessions names (suc n) ls.whole else None) is
+    ∙ neither (length text == 0)
+
+new_by : (x : Bool) (a b : Option Journal) → x ≡ false → (if x then a else b) ≡ b
+new_by true a b h = cc
+new_by false a b h = refl
+
+old_by : (x : Bool) (a b : Option Journal) → x ≡ true → (if x then a else b) ≡ a
+old_by true a b h = refl
+old_by false a b h = cc
+
+-- a name that may not follow
+pub no_new_name : (sessions : ℕ) (names : List (List ℕ)) (m n : ℕ) (text line after t : List ℕ) → m ≡ suc n → lines_of text ≡ with_line line (lines_of after) → name_in line ≡ Some t → is_new_name names t ≡ false → read_after sessions names m text ≡ None
+unfolding after_by
+no_new_name sessions names m n text line after t count is read other =
+    name_line_read sessions names m n text line after (Some t) count is read
+    ∙ ap (λ (o : Option Journal). if length (lines_of after).rest == 0 then o else None) (new_by (is_new_name names t) (journal_after sessions (names ++ t ∷ []) n (lines_of after).whole) None other)
+    ∙ neither (length (lines_of after).rest == 0)
+
+-- a name that may follow
+pub name_more : (sessions : ℕ) (names : List (List ℕ)) (m n : ℕ) (text line after t : List ℕ) → m ≡ suc n → lines_of text ≡ with_line line (lines_of after) → name_in line ≡ Some t → is_new_name names t ≡ true → read_after sessions (names ++ t ∷ []) n after ≡ read_after sessions names m text
+unfolding after_by
+name_more sessions names m n text line after t count is read new =
+    sym (name_line_read sessions names m n text line after (Some t) count is read
+    ∙ ap (λ (o : Option Journal). if length (lines_of after).rest == 0 then o else None) (old_by (is_new_name names t) (journal_after sessions (names ++ t ∷ []) n (lines_of after).whole) None new))
+
+one_more : (before names : List (List ℕ)) (t : List ℕ) → are_new_names before names ≡ true → is_text t ≡ true → is_new_name (before ++ names) t ≡ true → are_new_names before (names ++ t ∷ []) ≡ true
+one_more before [] t h text new = and_from (is_text t && is_new_name before t) true (and_from (is_text t) (is_new_name before t) text (ap (λ (ns : List (List ℕ)). is_new_name ns t) (sym (append-nil before)) ∙ new)) refl
+one_more before (u ∷ us) t h text new =
+    let both = and_parts (is_text u && is_new_name before u) (are_new_names (before ++ u ∷ []) us) h in
+    and_from (is_text u && is_new_name before u) (are_new_names (before ++ u ∷ []) (us ++ t ∷ [])) both.0
+    (one_more (before ++ u ∷ []) us t both.1 text (ap (λ (ns : List (List ℕ)). is_new_name ns t) (append_assoc before (u ∷ []) us) ∙ new))
+
+-- names stay names that may follow one another
+pub names_more : (names : List (List ℕ)) (line t : List ℕ) → are_new_names [] names ≡ true → name_in line ≡ Some t → is_new_name names t ≡ true → are_new_names [] (names ++ t ∷ []) ≡ true
+names_more names line t h read new = one_more [] names t h (strict_lines_are_names line t read).0 new
+
+-- ---- the journal after its names
+
+entries_read : List (List ℕ) → Option (List Entry)
+entries_read [] = Some []
+entries_read (line ∷ lines) = option_and_then (λ e. option_map (λ es. e ∷ es) (entries_read lines)) (entry_in line)
+
+journal_from : ℕ → List (List ℕ) → List Entry → Journal
+journal_from sessions names es = record { sessions = sessions; names = names; entries = es }
+
+with_by : (sessions : ℕ) (names : List (List ℕ)) (o : Option Entry) (w : Option Journal) (x : Option (List Entry)) → w ≡ option_map (journal_from sessions names) x →
+    option_and_then (λ e. option_map (entry_first e) w) o ≡ option_map (journal_from sessions names) (option_and_then (λ e. option_map (λ es. e ∷ es) x) o)
+unfolding journal_from
+with_by sessions names None w x is = refl
+with_by sessions names (Some e) w None is = ap (option_map (entry_first e)) is
+with_by sessions names (Some e) w (Some es) is = ap (option_map (entry_first e)) is
+
+with_read : (sessions : ℕ) (names lines : List (List ℕ)) → journal_with sessions names lines ≡ option_map (journal_from sessions names) (entries_read lines)
+unfolding entries_read journal_from
+with_read sessions names [] = refl
+with_read sessions names (line ∷ lines) = with_by sessions names (entry_in line) (journal_with sessions names lines) (entries_read lines) (with_read sessions names lines)
+
+joined : Journal → List Entry → Journal
+joined j es = record j { entries = j.entries ++ es }
+
+on_by : (j : Journal) (o : Option Entry) (w : Entry → Option Journal) (x : Option (List Entry)) → ((e : Entry) → w e ≡ option_map (joined (with_entry j e)) x) →
+    option_and_then w o ≡ option_map (joined j) (option_and_then (λ e. option_map (λ es. e ∷ es) x) o)
+unfolding joined
+on_by j None w x is = refl
+on_by j (Some e) w None is = is e
+on_by j (Some e) w (Some es) is = is e ∙ ap (λ (ds : List Entry). let r : Option Journal = Some (record j { entries = ds }) in r) (append_assoc j.entries (e ∷ []) es)
+
+on_read : (j : Journal) (lines : List (List ℕ)) → read_on j lines ≡ option_map (joined j) (entries_read lines)
+unfolding entries_read joined
+on_read j [] = ap (λ (ds : List Entry). let r : Option Journal = Some (record j { entries = ds }) in r) (sym (append-nil j.entries))
+on_read j (line ∷ lines) = on_by j (entry_in line) (λ e. read_on (with_entry j e) lines) (entries_read lines) (λ e. on_read (with_entry j e) lines)
+
+same_from : (sessions : ℕ) (names : List (List ℕ)) (x : Option (List Entry)) → option_map (joined (new_journal names sessions)) x ≡ option_map (journal_from sessions names) x
+unfolding journal_from joined
+same_from sessions names None = refl
+same_from sessions names (Some es) = refl
+
+-- the journal that begins with these names and goes on with a text's entries
+pub names_done : (sessions : ℕ) (names : List (List ℕ)) (n : ℕ) (text : List ℕ) (j : Journal) → j ≡ new_journal names sessions → n ≡ 0 → read_text j text ≡ read_after sessions names n text
+names_done sessions names n text j is none =
+    ap (λ (i : Journal). read_text i text) is
+    ∙ ap (λ (o : Option Journal). if length (lines_of text).rest == 0 then o else None) (on_read (new_journal names sessions) (lines_of text).whole ∙ same_from sessions names (entries_read (lines_of text).whole) ∙ sym (with_read sessions names (lines_of text).whole))
+    ∙ ap (λ (k : ℕ). read_after sessions names k text) (sym none)

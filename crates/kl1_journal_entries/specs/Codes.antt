@@ -1,0 +1,74 @@
+-- How entries and journals are told apart.
+use Rattle.std.specs.Prelude.{◌≡◌, ℕ, zero, suc, ◌⊎◌, List}
+use Rattle.std.proofs.Common.{refl, inl, inr}
+use Rattle.std.specs.Coded.{Coded, code_by, coded×, coded⊎, coded_list, coded_ℕ}
+use Rattle.kl1_model.specs.declared.message.Message.{Message}
+use Rattle.kl1_model.specs.declared.message.Message.TheVariants.{Stop, Start, Abort, Allow}
+use Rattle.kl1_model.specs.Term.{Term}
+use Rattle.kl1_model.specs.code.TermCode.{term_code}
+use Rattle.kl1_model_history.specs.Journal.{Entry, loads, starts, sends, steps, Journal}
+use Rattle.kl1_journal_entries.specs.Lined.{Rows}
+
+-- a message as the number of `allow`, or a number for each other
+abbrev pub message_parts : Message → ℕ ⊎ ℕ
+message_parts (Allow n) = inl n
+message_parts Stop = inr 0
+message_parts Start = inr 1
+message_parts Abort = inr 2
+
+-- the message of these parts
+abbrev pub message_of : ℕ ⊎ ℕ → Message
+message_of (inl n) = Allow n
+message_of (inr zero) = Stop
+message_of (inr (suc zero)) = Start
+message_of (inr (suc (suc n))) = Abort
+
+-- a message is that of its parts
+pub message_same : (m : Message) → message_of (message_parts m) ≡ m
+message_same (Allow n) = refl
+message_same Stop = refl
+message_same Start = refl
+message_same Abort = refl
+
+-- a message is stored as its parts
+abbrev pub message_code : Coded Message
+message_code = code_by (ℕ ⊎ ℕ) (coded⊎ coded_ℕ coded_ℕ) message_parts message_of message_same
+
+-- the parts of an entry
+abbrev pub Parts : Type 0
+Parts = (List ℕ ⊎ (ℕ × (ℕ × (ℕ × Term)))) ⊎ ((ℕ × Message) ⊎ (ℕ × ℕ))
+
+-- an entry as its parts
+abbrev pub parts_of : Entry → Parts
+parts_of (loads text) = inl (inl text)
+parts_of (starts a l h t) = inl (inr (a, (l, (h, t))))
+parts_of (sends n m) = inr (inl (n, m))
+parts_of (steps g c) = inr (inr (g, c))
+
+-- the entry of these parts
+abbrev pub entry_of_parts : Parts → Entry
+entry_of_parts (inl (inl text)) = loads text
+entry_of_parts (inl (inr p)) = starts p.0 p.1.0 p.1.1.0 p.1.1.1
+entry_of_parts (inr (inl p)) = sends p.0 p.1
+entry_of_parts (inr (inr p)) = steps p.0 p.1
+
+-- an entry is that of its parts
+pub parts_same : (e : Entry) → entry_of_parts (parts_of e) ≡ e
+parts_same (loads text) = refl
+parts_same (starts a l h t) = refl
+parts_same (sends n m) = refl
+parts_same (steps g c) = refl
+
+-- an entry is stored as its parts
+abbrev pub entry_code : Coded Entry
+entry_code = code_by Parts (coded⊎ (coded⊎ (coded_list coded_ℕ) (coded× coded_ℕ (coded× coded_ℕ (coded× coded_ℕ term_code)))) (coded⊎ (coded× coded_ℕ message_code) (coded× coded_ℕ coded_ℕ))) parts_of entry_of_parts parts_same
+
+-- a journal is stored as its sessions, names and entries
+abbrev pub journal_code : Coded Journal
+journal_code =
+    code_by (ℕ × (List (List ℕ) × List Entry)) (coded× coded_ℕ (coded× (coded_list (coded_list coded_ℕ)) (coded_list entry_code)))
+    (λ j. (j.sessions, (j.names, j.entries))) (λ p. record { sessions = p.0; names = p.1.0; entries = p.1.1 }) (λ j. refl)
+
+-- a journal with room is stored as the journal and the room
+abbrev pub rows_code : Coded Rows
+rows_code = code_by (Journal × ℕ) (coded× journal_code coded_ℕ) (λ s. (s.journal, s.room)) (λ p. record { journal = p.0; room = p.1 }) (λ s. refl)

@@ -1,0 +1,44 @@
+-- Entries that have lines, and journals with room for more of them.
+use Rattle.std.specs.Prelude.{ℕ, ◌+◌, ◌*◌, nat_le, ◌&&◌, Bool, if◌then◌else◌, length, Option, Some, None, option_and_then}
+use Rattle.kl1_model.specs.Goal.{is_goal}
+use Rattle.kl1_model.specs.Meaning.{is_writable, is_numbered}
+use Rattle.kl1_model.specs.Event.{Event, load, start, control, reduce, read, login, logout, reset, is_number, most_line_bytes}
+use Rattle.kl1_model.specs.Opening.{start_line}
+use Rattle.kl1_model.specs.Sending.{may_send}
+use Rattle.kl1_model_history.specs.Journal.{Entry, loads, starts, sends, steps, Journal, with_entry}
+
+-- whether an entry has numbers below 2 ^ 63, a goal that can be written and read back, and a line that isn't too long
+abbrev pub is_lined : Entry → Bool
+is_lined (loads text) = nat_le (5 + 2 * length text) most_line_bytes
+is_lined (starts allowance low high t) = is_number allowance && is_number low && is_number high && is_goal t && is_writable t && is_numbered t && nat_le (length (start_line allowance low high t)) most_line_bytes
+is_lined (sends n m) = may_send n m
+is_lined (steps goal clause) = is_number goal && is_number clause
+
+-- the entry that an event is, if it is one
+abbrev pub entry_of : Event → Option Entry
+entry_of (load text) = Some (loads text)
+entry_of (start allowance low high t) = Some (starts allowance low high t)
+entry_of (control n m) = Some (sends n m)
+entry_of (reduce goal clause) = Some (steps goal clause)
+entry_of (read q) = None
+entry_of login = None
+entry_of logout = None
+entry_of reset = None
+
+-- an entry, if it is lined
+abbrev pub if_lined : Entry → Option Entry
+if_lined e = if is_lined e then Some e else None
+
+-- the entry that an event is, if it is one and is lined
+abbrev pub lined_entry : Event → Option Entry
+lined_entry e = option_and_then if_lined (entry_of e)
+
+-- a journal with one entry more, if there is one
+abbrev pub with_prepared : Journal → Option Entry → Journal
+with_prepared j None = j
+with_prepared j (Some e) = with_entry j e
+
+-- a journal, and for how many entries more there is room
+pub record Rows : Type 0 where
+  pub journal : Journal
+  pub room : ℕ

@@ -1,0 +1,95 @@
+// Entries of a journal, lent.
+
+ghost use Rattle.std.specs.Prelude.{◌≡◌, ◌<◌, length};
+ghost use Rattle.std.specs.List.{AllByRecursion};
+ghost use Rattle.kl1_model_history.specs.Journal.{sends};
+ghost use Rattle.kl1_journal_entries.specs.Slots.{entry_of_whole, entry_at, IsPlace, IsPrinted, IsSound};
+ghost use Rattle.kl1_journal_entries.specs.Shown.{entry_shown, HasPrint};
+
+use crate::slot::Slot;
+use crate::whole::Whole;
+use kl1_model::Message;
+use kl1_user_events::{ClauseNo, GoalNo, ShoenNo};
+
+/// An entry of a journal.
+#[derive(Clone, Copy)]
+pub enum Entry<'a> {
+    /// A module loaded from this source.
+    Load(&'a [u8]),
+    /// A goal started, which is given as its print.
+    Start {
+        allowance: u64,
+        low: u64,
+        high: u64,
+        goal: &'a [u8],
+    },
+    /// A message sent to a shoen.
+    Control {
+        shoen: ShoenNo,
+        message: Message,
+    },
+    /// A goal reduced by a clause's number, or by 0.
+    Reduce {
+        goal: GoalNo,
+        clause: ClauseNo,
+    },
+}
+
+/// An entry that is kept whole.
+pub(crate) fn shown_whole(whole: &Whole) -> Entry<'_>
+    ensures entry { entry_shown result ≡ entry_of_whole whole.now }
+    ensures printed { IsPrinted whole.now → HasPrint result }
+{
+    match whole {
+        Whole::Load { source } => Entry::Load(source.as_slice()),
+        Whole::Start {
+            allowance,
+            low,
+            high,
+            goal,
+        } => Entry::Start {
+            allowance: *allowance,
+            low: *low,
+            high: *high,
+            goal: goal.as_slice(),
+        },
+        Whole::Control { shoen, message } => Entry::Control {
+            shoen: ShoenNo(*shoen),
+            message: *message,
+        },
+        Whole::Step { goal, clause } => Entry::Reduce {
+            goal: GoalNo(*goal),
+            clause: ClauseNo(*clause),
+        },
+    }
+}
+
+/// A message to a shoen whose number has 32 bits.
+fn sent(shoen: u32, message: Message) -> Entry<'static>
+    ensures entry { entry_shown result ≡ sends shoen message }
+    ensures printed { HasPrint result }
+{
+    Entry::Control {
+        shoen: ShoenNo(u64::from(shoen)),
+        message,
+    }
+}
+
+/// The entry of a place in the row.
+pub(crate) fn shown_at<'a>(wholes: &'a [Whole], slot: Slot) -> Entry<'a>
+    requires place { IsPlace (length wholes.now) slot }
+    requires sound { AllByRecursion IsSound wholes.now }
+    ensures entry { entry_shown result ≡ entry_at wholes.now slot }
+    ensures printed { HasPrint result }
+{
+    match slot {
+        Slot::Step { goal, clause } => Entry::Reduce {
+            goal: GoalNo(u64::from(goal)),
+            clause: ClauseNo(u64::from(clause)),
+        },
+        Slot::Stop(shoen) => sent(shoen, Message::Stop),
+        Slot::Resume(shoen) => sent(shoen, Message::Start),
+        Slot::Abort(shoen) => sent(shoen, Message::Abort),
+        Slot::Kept(place) => shown_whole(&wholes[place as usize]),
+    }
+}

@@ -1,0 +1,138 @@
+// The journal of an account.
+
+ghost use Rattle.std.specs.Prelude.{◌≡◌, ◌<◌, ◌≤◌, ◌==◌, [], length, IfOk, OnOk, IfSome};
+ghost use Rattle.kl1_model.specs.Limits.{most_sessions};
+ghost use Rattle.kl1_model_history.specs.Journal.{new_journal};
+ghost use Rattle.kl1_model_history.specs.laws.TextLaws.{AreNames, IsWritten};
+ghost use Rattle.kl1_journal_entries.specs.Lined.{with_prepared};
+
+use crate::prepared::{Form, Prepared};
+use crate::slot::Slot;
+use crate::whole::Whole;
+use kl1_text::AtomText;
+use std::alloc::{AllocError, Global};
+use std::marker::Model;
+
+/// The journal of an account: how many sessions are open, the names that were used at the last reset, and the entries since.
+#[derive(Drop)]
+pub struct Journal {
+    pub(crate) sessions: u64,
+    pub(crate) names: Vec<AtomText>,
+    pub(crate) slots: Vec<Slot>,
+    pub(crate) wholes: Vec<Whole>,
+}
+
+impl Model for Journal {
+    ghost use Rattle.std.specs.Prelude.{map, min, ◌-◌, ◌^◌, vec_len, vec_capacity};
+    ghost use Rattle.kl1_journal_entries.specs.Lined.{Rows};
+    ghost use Rattle.kl1_journal_entries.specs.Codes.{rows_code};
+    ghost use Rattle.kl1_journal_entries.specs.Slots.{entry_at, IsHeld};
+
+    ghost Value = { Rows };
+
+    ghost coded = { rows_code };
+
+    ghost view = { λ j. record {
+      journal = record { sessions = j.sessions; names = j.names.items; entries = map (entry_at j.wholes.items) j.slots.items };
+      room = min (min (vec_capacity j.slots - vec_len j.slots) (vec_capacity j.wholes - vec_len j.wholes)) (2 ^ 32 - vec_len j.wholes);
+    } };
+
+    ghost invariant = { λ j. IsHeld j.sessions j.names.items j.slots.items j.wholes.items };
+}
+
+impl Journal {
+    /// A journal without sessions, names and entries.
+    pub fn new(alloc: Global) -> Self
+        ensures { result.journal ≡ new_journal [] 0 }
+    {
+        Journal {
+            sessions: 0,
+            names: Vec::new(alloc),
+            slots: Vec::new(alloc),
+            wholes: Vec::new(alloc),
+        }
+    }
+
+    /// A journal of these names and this number of open sessions, without entries.
+    pub fn with_names(alloc: Global, names: &[AtomText], sessions: u64) -> Result<Self, AllocError>
+        requires names { AreNames names.now }
+        requires sessions { sessions ≤ most_sessions }
+        ensures { IfOk result (λ j. j.journal ≡ new_journal names.now sessions) }
+    {
+        let names = Vec::from_slice(alloc, names)?;
+        Ok(Journal {
+            sessions,
+            names,
+            slots: Vec::new(alloc),
+            wholes: Vec::new(alloc),
+        })
+    }
+
+    /// Makes room for one entry more.
+    pub fn reserve(&mut self) -> Result<(), AllocError>
+        ensures same { self.new.journal ≡ self.old.journal }
+        ensures room { OnOk result (0 < self.new.room) }
+    {
+        if self.wholes.len() >= u32::MAX as usize {
+            return Err(AllocError);
+        }
+        self.slots.reserve(1)?;
+        self.wholes.reserve(1)?;
+        Ok(())
+    }
+
+    /// Puts what is prepared after the entries. It takes no memory.
+    pub fn put(&mut self, prepared: Prepared)
+        requires { IfSome prepared (λ _. 0 < self.old.room) }
+        ensures { self.new.journal ≡ with_prepared self.old.journal prepared }
+    {
+        let Prepared { form } = prepared;
+        match form {
+            Form::Nothing => {}
+            Form::Short(slot) => self.slots.push_reserved(slot),
+            Form::Long(whole) => {
+                let place = self.wholes.len() as u32;
+                self.wholes.push_reserved(whole);
+                self.slots.push_reserved(Slot::Kept(place));
+            }
+        }
+    }
+
+    /// Sets how many sessions are open.
+    pub fn set_sessions(&mut self, sessions: u64)
+        requires { sessions ≤ most_sessions }
+        ensures journal { self.new.journal ≡ record self.old.journal { sessions = sessions } }
+        ensures room { self.new.room ≡ self.old.room }
+    {
+        self.sessions = sessions;
+    }
+
+    /// How many sessions are open.
+    pub fn sessions(&self) -> u64
+        ensures { result ≡ self.now.journal.sessions }
+    {
+        self.sessions
+    }
+
+    /// How many entries there are.
+    pub fn len(&self) -> u64
+        ensures { result ≡ length self.now.journal.entries }
+    {
+        self.slots.len() as u64
+    }
+
+    /// Whether there are no entries.
+    pub fn is_empty(&self) -> bool
+        ensures { result ≡ (length self.now.journal.entries == 0) }
+    {
+        self.slots.is_empty()
+    }
+
+    /// Tells a caller's proof that each journal has a text that reads back: at most 4 sessions are open, its names are at most 1,024
+    /// names, none built in and no two the same, and each entry has a line. It does nothing.
+    pub fn shows_written(&self)
+        ensures { IsWritten self.now.journal }
+    {
+        let _slots = &self.slots;
+    }
+}

@@ -1,0 +1,136 @@
+// The lines of a journal.
+
+ghost use Rattle.std.specs.Prelude.{◌≡◌, ◌<◌, ◌+◌, ◌*◌, ◌/◌, ◌%◌, ◌++◌, ◌∷◌, [], codes, decimal, OnOk};
+ghost use Rattle.kl1_model_history.specs.Journal.{sends};
+ghost use Rattle.kl1_model_history.specs.JournalText.{hex_digit, hex_text, message_line, name_line, first_line, entry_line};
+ghost use Rattle.kl1_journal_entries.specs.Shown.{entry_shown, HasPrint};
+
+use crate::entry::Entry;
+use itoa::Buffer;
+use kl1_model::Message;
+use kl1_text::{AtomText, put_atom};
+use std::alloc::AllocError;
+
+/// Puts a number in decimal.
+fn put_number(out: &mut Vec<u8>, number: u64) -> Result<(), AllocError>
+    ensures { OnOk result (out.new.items ≡ out.old.items ++ decimal number) }
+{
+    let mut buffer = Buffer::new();
+    out.extend_from_slice(buffer.format(number).as_bytes())
+}
+
+/// Puts two numbers in decimal, with a space between them.
+fn put_two(out: &mut Vec<u8>, first: u64, second: u64) -> Result<(), AllocError>
+    ensures { OnOk result (out.new.items ≡ out.old.items ++ (decimal first ++ codes " " ++ decimal second)) }
+{
+    put_number(out, first)?;
+    out.extend_from_slice(b" ")?;
+    put_number(out, second)
+}
+
+/// A hexadecimal digit as a byte: 0 to 9, and a to f.
+fn hex_digit(digit: u8) -> u8
+    requires { digit < 16 }
+    ensures { result ≡ hex_digit digit }
+{
+    if digit < 10 {
+        b'0' + digit
+    } else {
+        b'a' + (digit - 10)
+    }
+}
+
+/// Puts bytes as two hexadecimal digits each.
+fn put_hex(out: &mut Vec<u8>, bytes: &[u8]) -> Result<(), AllocError>
+    ensures { OnOk result (out.new.items ≡ out.old.items ++ hex_text bytes.now) }
+{
+    let mut rest = bytes;
+    while let [first, others @ ..] = rest {
+        out.push(hex_digit(*first / 16))?;
+        out.push(hex_digit(*first % 16))?;
+        rest = others;
+    }
+    Ok(())
+}
+
+/// Puts the line of a message to a shoen.
+fn put_message(out: &mut Vec<u8>, shoen: u64, message: Message) -> Result<(), AllocError>
+    ensures { OnOk result (out.new.items ≡ out.old.items ++ message_line shoen message) }
+{
+    match message {
+        Message::Stop => {
+            out.extend_from_slice(b"stop ")?;
+            put_number(out, shoen)
+        }
+        Message::Start => {
+            out.extend_from_slice(b"resume ")?;
+            put_number(out, shoen)
+        }
+        Message::Abort => {
+            out.extend_from_slice(b"abort ")?;
+            put_number(out, shoen)
+        }
+        Message::Allow(more) => {
+            out.extend_from_slice(b"allow ")?;
+            put_two(out, shoen, more)
+        }
+    }
+}
+
+/// Puts the line of a start whose goal has this print.
+fn put_start(
+    out: &mut Vec<u8>,
+    allowance: u64,
+    low: u64,
+    high: u64,
+    print: &[u8],
+) -> Result<(), AllocError>
+    ensures { OnOk result (out.new.items ≡ out.old.items ++ (codes "start " ++ decimal allowance ++ codes " " ++ decimal low ++ codes " " ++ decimal high ++ codes " " ++ print.now)) }
+{
+    out.extend_from_slice(b"start ")?;
+    put_two(out, allowance, low)?;
+    out.extend_from_slice(b" ")?;
+    put_number(out, high)?;
+    out.extend_from_slice(b" ")?;
+    out.extend_from_slice(print)
+}
+
+/// Puts the line of an entry.
+pub(crate) fn put_entry(out: &mut Vec<u8>, entry: Entry<'_>) -> Result<(), AllocError>
+    requires { HasPrint entry }
+    ensures { OnOk result (out.new.items ≡ out.old.items ++ entry_line (entry_shown entry.entry)) }
+{
+    match entry {
+        Entry::Load(source) => {
+            out.extend_from_slice(b"load ")?;
+            put_hex(out, source)
+        }
+        Entry::Start {
+            allowance,
+            low,
+            high,
+            goal,
+        } => put_start(out, allowance, low, high, goal),
+        Entry::Control { shoen, message } => put_message(out, shoen.0, message),
+        Entry::Reduce { goal, clause } => {
+            out.extend_from_slice(b"reduce ")?;
+            put_two(out, goal.0, clause.0)
+        }
+    }
+}
+
+/// Puts the line of a name that was used at the last reset.
+pub(crate) fn put_name(out: &mut Vec<u8>, name: &AtomText) -> Result<(), AllocError>
+    ensures { OnOk result (out.new.items ≡ out.old.items ++ name_line name.now) }
+{
+    out.extend_from_slice(b"name ")?;
+    put_atom(out, name)
+}
+
+/// Puts the first line of a journal.
+pub(crate) fn put_first(out: &mut Vec<u8>, sessions: u64, names: u64) -> Result<(), AllocError>
+    ensures { OnOk result (out.new.items ≡ out.old.items ++ first_line sessions names) }
+{
+    out.extend_from_slice(b"journal 1 ")?;
+    put_two(out, sessions, names)
+}

@@ -1,0 +1,157 @@
+// The reader of a journal's text.
+
+ghost use Rattle.std.specs.Prelude.{◌≡◌, ◌≤◌, [], Some, IfOk, bytes_eq, option_map, option_and_then};
+ghost use Rattle.std.specs.List.{list_any};
+ghost use Rattle.kl1_model.specs.Limits.{most_sessions, most_names};
+ghost use Rattle.kl1_model.specs.Text.{is_built_in};
+ghost use Rattle.kl1_model_history.specs.Journal.{event_in};
+ghost use Rattle.kl1_model_history.specs.JournalText.{is_new_name, entry_in, journal_in};
+ghost use Rattle.kl1_user_events.specs.Views.{event_of};
+ghost use Rattle.kl1_journal_entries.specs.Reading.{read_text, read_after};
+ghost use Rattle.kl1_journal_entries.specs.Found.{found_event, found_entry, begun_at};
+
+use crate::heading::{Heading, heading_of};
+use crate::journal::Journal;
+use crate::loose::loose_event;
+use crate::name::name_of;
+use crate::prepared::{Prepared, entry_for};
+use crate::text::next_line;
+use kl1_model::limits::MOST_LINE_BYTES;
+use kl1_text::AtomText;
+use kl1_user_events::Event;
+use std::alloc::{AllocError, Global};
+
+/// An entry that was read from its line.
+#[derive(Drop)]
+pub(crate) struct Found {
+    event: Event,
+    prepared: Prepared,
+}
+
+/// The entry whose line this is, if there is one.
+fn found_in(alloc: Global, line: &[u8]) -> Result<Option<Found>, AllocError>
+    ensures event { IfOk result (λ found. option_map found_event found ≡ option_map event_in (entry_in line.now)) }
+    ensures entry { IfOk result (λ found. option_map found_entry found ≡ option_map (λ e. Some e) (entry_in line.now)) }
+{
+    if line.len() > MOST_LINE_BYTES {
+        return Ok(None);
+    }
+    let Some(event) = loose_event(alloc, line)? else {
+        return Ok(None);
+    };
+    let prepared = entry_for(alloc, &event)?;
+    if !prepared.has_line(alloc, line)? {
+        return Ok(None);
+    }
+    Ok(Some(Found { event, prepared }))
+}
+
+/// The event of the entry whose line this is, if there is one. A line that isn't written as the journal's own is none.
+pub fn entry_of(alloc: Global, line: &[u8]) -> Result<Option<Event>, AllocError>
+    ensures { IfOk result (λ event. option_map event_of event ≡ option_map event_in (entry_in line.now)) }
+{
+    match found_in(alloc, line)? {
+        None => Ok(None),
+        Some(Found { event, .. }) => Ok(Some(event)),
+    }
+}
+
+/// Whether a name is built in.
+#[tactic(auto, using(crate::proofs::BuiltIns::built_in_found))]
+fn is_built_in(name: &AtomText) -> bool
+    ensures { result ≡ is_built_in name.now }
+{
+    name.built_in().is_some()
+}
+
+/// Whether a name is among others.
+fn is_among(names: &[AtomText], name: &AtomText) -> bool
+    ensures { result ≡ list_any (bytes_eq name.now) names.now }
+{
+    names.iter().any(|other| name.is(other))
+}
+
+/// Whether a name may follow these in a journal: it isn't built in, and isn't among them.
+pub fn may_follow(names: &[AtomText], name: &AtomText) -> bool
+    ensures { result ≡ is_new_name names.now name.now }
+{
+    !is_built_in(name) && !is_among(names, name)
+}
+
+/// A journal whose heading and names were read, and the text after them.
+#[derive(Drop)]
+pub(crate) struct Begun<'a> {
+    journal: Journal,
+    rest: &'a [u8],
+}
+
+/// The journal that begins with a heading and, in this text, with its names, if these are names that may follow one another.
+fn read_names<'a>(
+    alloc: Global,
+    heading: Heading,
+    text: &'a [u8],
+) -> Result<Option<Begun<'a>>, AllocError>
+    requires sessions { heading.sessions ≤ most_sessions }
+    requires names { heading.names ≤ most_names }
+    ensures { IfOk result (λ begun. option_and_then begun_at begun ≡ read_after heading.sessions [] heading.names text.now) }
+{
+    let mut names: Vec<AtomText> = Vec::new(alloc);
+    let mut rest = text;
+    while (names.len() as u64) < heading.names {
+        let Some((line, after)) = next_line(rest) else {
+            return Ok(None);
+        };
+        let Some(name) = name_of(line) else {
+            return Ok(None);
+        };
+        if !may_follow(names.as_slice(), &name) {
+            return Ok(None);
+        }
+        names.push(name)?;
+        rest = after;
+    }
+    let journal = Journal::with_names(alloc, names.as_slice(), heading.sessions)?;
+    Ok(Some(Begun { journal, rest }))
+}
+
+/// A journal with the entries after its own whose lines this text is, if it is.
+fn read_entries(
+    alloc: Global,
+    mut journal: Journal,
+    text: &[u8],
+) -> Result<Option<Journal>, AllocError>
+    ensures { IfOk result (λ read. option_map (λ j. j.journal) read ≡ read_text journal.journal text.now) }
+{
+    let mut rest = text;
+    while let Some((line, after)) = next_line(rest) {
+        let Some(Found { prepared, .. }) = found_in(alloc, line)? else {
+            return Ok(None);
+        };
+        journal.reserve()?;
+        journal.put(prepared);
+        rest = after;
+    }
+    if rest.is_empty() {
+        Ok(Some(journal))
+    } else {
+        Ok(None)
+    }
+}
+
+impl Journal {
+    /// The journal that a text is, if it is one: each line is written as the journal's own, and ends with a line feed.
+    pub fn read(alloc: Global, text: &[u8]) -> Result<Option<Journal>, AllocError>
+        ensures { IfOk result (λ read. option_map (λ j. j.journal) read ≡ journal_in text.now) }
+    {
+        let Some((line, rest)) = next_line(text) else {
+            return Ok(None);
+        };
+        let Some(heading) = heading_of(line) else {
+            return Ok(None);
+        };
+        let Some(Begun { journal, rest }) = read_names(alloc, heading, rest)? else {
+            return Ok(None);
+        };
+        read_entries(alloc, journal, rest)
+    }
+}

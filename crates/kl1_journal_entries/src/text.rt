@@ -1,0 +1,45 @@
+// The lines of a text.
+
+ghost use Rattle.std.specs.Prelude.{◌≡◌, ◌<◌, ◌≤◌, [], length, drop, IsNone, IfSome};
+ghost use Rattle.kl1_command_lines.specs.Places.{place_of};
+ghost use Rattle.kl1_model_history.specs.JournalText.{lines_of};
+ghost use Rattle.kl1_journal_entries.specs.Reading.{with_line};
+
+/// The place of the first line feed, or how many bytes there are.
+fn feed_place(text: &[u8]) -> usize
+    ensures value { result ≡ place_of 10 text.now }
+    ensures within { result ≤ length text.now }
+{
+    let mut place = 0;
+    let mut rest = text;
+    while let [first, others @ ..] = rest {
+        if *first == b'\n' {
+            return place;
+        }
+        place += 1;
+        rest = others;
+    }
+    place
+}
+
+/// The bytes of a text from a place on.
+pub(crate) fn bytes_from(text: &[u8], place: usize) -> &[u8]
+    requires { place ≤ length text.now }
+    ensures { result.now ≡ drop place text.now }
+{
+    &text[place..]
+}
+
+/// The first line of a text, without its line feed, and what is after that; `None` if there is no line feed.
+pub fn next_line(text: &[u8]) -> Option<(&[u8], &[u8])>
+    ensures none { IsNone result → lines_of text.now ≡ record { whole = []; rest = text.now } }
+    ensures some { IfSome result (λ p. lines_of text.now ≡ with_line p.0.now (lines_of p.1.now)) }
+    ensures less { IfSome result (λ p. length p.1.now < length text.now) }
+{
+    let place = feed_place(text);
+    if place < text.len() {
+        Some((&text[..place], bytes_from(text, place + 1)))
+    } else {
+        None
+    }
+}

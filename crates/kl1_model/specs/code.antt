@@ -1,0 +1,4 @@
+-- Words of contracts of code; no promise speaks of them.
+pub mod Outcome
+pub mod Waits
+pub mod TermCode

@@ -1,0 +1,109 @@
+-- The lines of names and the first lines of journals read back.
+use Rattle.std.specs.Prelude.{◌≡◌, ℕ, ◌≤◌, ◌<◌, ◌==◌, nat_le, ◌&&◌, Bool, true, false, if◌then◌else◌, List, [], ◌∷◌, ◌++◌, codes, bytes_eq, decimal, Option, Some, None, option_and_then}
+use Rattle.std.proofs.Common.{refl, sym, ap, ◌∙◌, subst, arith}
+use Rattle.std.proofs.lemmas.Bool.{and_parts, and_from, leb-true, le-leb, ne_eqb, eqb-true}
+use Rattle.std.proofs.lemmas.List.{append_assoc}
+use Rattle.std.specs.List.{list_all}
+use Rattle.std.proofs.lemmas.Option.{none-some, same_Some}
+use Rattle.std.proofs.lemmas.Slice.Eq.{bytes_eq-Decides}
+use Rattle.kl1_model.specs.Limits.{number_limit, most_names, most_sessions}
+use Rattle.kl1_model.specs.Text.{is_text}
+use Rattle.kl1_model.specs.Name.{is_small_letter, is_word_byte, is_bare, doubled, quoted, name_text}
+use Rattle.kl1_model.specs.Line.{before_space, behind_space, number_in}
+use Rattle.kl1_model_history.specs.JournalText.{name_line, unquoted, name_by, if_name_line, first_line, Heading, if_first_line}
+use Rattle.kl1_model_history.specs.laws.TextLaws.{NamesReadBack, StrictLinesAreNames, HeadingsReadBack, StrictLinesAreHeadings}
+use Rattle.kl1_model_history.proofs.Words.{number_back, before_front, behind_front, decimal_no_space}
+
+plain_byte : (b : ℕ) (bs : List ℕ) → (b == 39) ≡ false → unquoted (b ∷ (doubled bs ++ 39 ∷ [])) ≡ b ∷ unquoted (doubled bs ++ 39 ∷ [])
+plain_byte b bs is = by_text (doubled bs)
+  where
+    by_text : (ds : List ℕ) → unquoted (b ∷ (ds ++ 39 ∷ [])) ≡ b ∷ unquoted (ds ++ 39 ∷ [])
+    by_text [] = rw (is, unquoted)
+    by_text (d ∷ ds) = rw (is, unquoted)
+
+-- one byte of the text between quotes
+byte_back : (x : Bool) (b : ℕ) (bs : List ℕ) → (b == 39) ≡ x → unquoted (doubled (b ∷ bs) ++ 39 ∷ []) ≡ b ∷ unquoted (doubled bs ++ 39 ∷ [])
+byte_back true b bs is = let same : b ≡ 39 = eqb-true b 39 is in rw same
+byte_back false b bs is = rw is (plain_byte b bs is)
+
+-- the text between quotes, in which each quote stands twice
+unquoted_back : (bs : List ℕ) → unquoted (doubled bs ++ 39 ∷ []) ≡ bs
+unquoted_back [] = refl
+unquoted_back (b ∷ bs) = byte_back (b == 39) b bs refl ∙ ap (λ x. b ∷ x) (unquoted_back bs)
+
+letter_no_quote : (b : ℕ) → is_small_letter b ≡ true → (b == 39) ≡ false
+letter_no_quote b h = ne_eqb b 39 (λ e. omega (arith, e, leb-true 97 b (and_parts (nat_le 97 b) (nat_le b 122) h).0))
+
+bare_back : (t : List ℕ) → is_bare t ≡ true → name_by t ≡ t
+bare_back [] h = cc
+bare_back (b ∷ bs) h = ap (λ x. if x then unquoted bs else b ∷ bs) (letter_no_quote b (and_parts (is_small_letter b) (list_all is_word_byte bs) h).0)
+
+name_back : (x : Bool) (t : List ℕ) → is_bare t ≡ x → name_by (if x then t else quoted t) ≡ t
+name_back true t is = bare_back t is
+name_back false t is = unquoted_back t
+
+atom_back : (x : Bool) (t : List ℕ) → bytes_eq t (codes "[]") ≡ x → name_by (if x then t else name_text t) ≡ t
+atom_back true t is = let same = (bytes_eq-Decides t (codes "[]")).0 is in ap name_by same ∙ sym same
+atom_back false t is = name_back (is_bare t) t refl
+
+name_same : (t : List ℕ) → is_text t ≡ true → if_name_line (name_line t) t ≡ Some t
+name_same t h = ap (λ x. if◌then◌else◌ {A = Option (List ℕ)} x (Some t) None) (and_from (is_text t) (bytes_eq (name_line t) (name_line t)) h ((bytes_eq-Decides (name_line t) (name_line t)).1 refl))
+
+pub names_read_back : NamesReadBack
+names_read_back t h = ap (if_name_line (name_line t)) (atom_back (bytes_eq t (codes "[]")) t refl) ∙ name_same t h
+
+name_strict : (b : Bool) (line t u : List ℕ) → is_text t && bytes_eq (name_line t) line ≡ b → if◌then◌else◌ {A = Option (List ℕ)} b (Some t) None ≡ Some u → (is_text u ≡ true) × (name_line u ≡ line)
+name_strict true line t u is h =
+    let both = and_parts (is_text t) (bytes_eq (name_line t) line) is in
+    let same = same_Some t u h in
+    (ap is_text (sym same) ∙ both.0, ap name_line (sym same) ∙ (bytes_eq-Decides (name_line t) line).0 both.1)
+name_strict false line t u is h = absurd (none-some u h)
+
+pub strict_lines_are_names : StrictLinesAreNames
+strict_lines_are_names line t h =
+    let u = name_by (behind_space line) in
+    name_strict (is_text u && bytes_eq (name_line u) line) line u t refl h
+
+heading_by : (line : List ℕ) (x y : Option ℕ) (m n : ℕ) → x ≡ Some m → y ≡ Some n → option_and_then (λ sessions. option_and_then (λ names. if_first_line line sessions names) y) x ≡ if_first_line line m n
+heading_by line x y m n p q = rw (p, q) refl
+
+-- a heading whose numbers are small
+heading_same : (m n : ℕ) → m ≤ most_sessions → n ≤ most_names → if_first_line (first_line m n) m n ≡ Some (record { sessions = m; names = n })
+heading_same m n p q =
+    let line = first_line m n in
+    ap (λ x. if◌then◌else◌ {A = Option Heading} x (Some (record { sessions = m; names = n })) None)
+    (and_from (nat_le m most_sessions && nat_le n most_names) (bytes_eq line line) (and_from (nat_le m most_sessions) (nat_le n most_names) (le-leb m most_sessions p) (le-leb n most_names q)) ((bytes_eq-Decides line line).1 refl))
+
+pub headings_read_back : HeadingsReadBack
+headings_read_back m n p q =
+    let few : m < number_limit = omega arith in
+    let less : n < number_limit = omega arith in
+    let rest = decimal m ++ 32 ∷ decimal n in
+    let line = first_line m n in
+    let is_rest : behind_space (behind_space line) ≡ rest = append_assoc (decimal m) (32 ∷ []) (decimal n) in
+    heading_by line (number_in (before_space (behind_space (behind_space line)))) (number_in (behind_space (behind_space (behind_space line)))) m n
+    (ap (λ x. number_in (before_space x)) is_rest ∙ ap number_in (before_front (decimal m) (decimal n) (decimal_no_space m few)) ∙ number_back m few)
+    (ap (λ x. number_in (behind_space x)) is_rest ∙ ap number_in (behind_front (decimal m) (decimal n) (decimal_no_space m few)) ∙ number_back n less)
+    ∙ heading_same m n p q
+
+-- what is known of a heading that was read
+abbrev IsHeading : List ℕ → Heading → Type 0
+IsHeading line h = (h.sessions ≤ most_sessions) × (h.names ≤ most_names) × (first_line h.sessions h.names ≡ line)
+
+heading_strict : (b : Bool) (line : List ℕ) (m n : ℕ) (h : Heading) → nat_le m most_sessions && nat_le n most_names && bytes_eq (first_line m n) line ≡ b → if◌then◌else◌ {A = Option Heading} b (Some (record { sessions = m; names = n })) None ≡ Some h → IsHeading line h
+heading_strict true line m n h is e =
+    let all = and_parts (nat_le m most_sessions && nat_le n most_names) (bytes_eq (first_line m n) line) is in
+    let both = and_parts (nat_le m most_sessions) (nat_le n most_names) all.0 in
+    let same = same_Some (record { sessions = m; names = n }) h e in
+    subst (IsHeading line) same (leb-true m most_sessions both.0, leb-true n most_names both.1, (bytes_eq-Decides (first_line m n) line).0 all.1)
+heading_strict false line m n h is e = absurd (none-some h e)
+
+heading_from : (line : List ℕ) (x y : Option ℕ) (h : Heading) → option_and_then (λ sessions. option_and_then (λ names. if_first_line line sessions names) y) x ≡ Some h → IsHeading line h
+heading_from line None y h e = absurd (none-some h e)
+heading_from line (Some m) None h e = absurd (none-some h e)
+heading_from line (Some m) (Some n) h e = heading_strict (nat_le m most_sessions && nat_le n most_names && bytes_eq (first_line m n) line) line m n h refl e
+
+pub strict_lines_are_headings : StrictLinesAreHeadings
+strict_lines_are_headings line h e =
+    let rest = behind_space (behind_space line) in
+    heading_from line (number_in (before_space rest)) (number_in (behind_space rest)) h e

@@ -1,0 +1,216 @@
+-- Commands and replies as texts, and what a command does.
+use Rattle.std.specs.Prelude.{ℕ, zero, suc, nat_le, ◌&&◌, true, false, if◌then◌else◌, List, [], ◌∷◌, ◌++◌, length, codes, bytes_eq, decimal, Option, Some, None, option_map, option_and_then}
+use Rattle.kl1_model.specs.declared.message.Message.{Message}
+use Rattle.kl1_model.specs.declared.message.Message.TheVariants.{Stop, Start, Abort, Allow}
+use Rattle.kl1_model.specs.declared.condition.Condition.{Condition}
+use Rattle.kl1_model.specs.declared.condition.Condition.TheVariants.{Terminated, Aborted, Stopped, Exhausted, Running}
+use Rattle.kl1_model.specs.Term.{Term}
+use Rattle.kl1_model.specs.Name.{atom_text}
+use Rattle.kl1_model.specs.Limits.{most_command_bytes, most_listed, most_steps}
+use Rattle.kl1_model.specs.Line.{word_in, behind_word_in, number_in, up_to, only_number, is_blank_line}
+use Rattle.kl1_model.specs.Module.{Reading, good, bad, read_goal}
+use Rattle.kl1_model.specs.Event.{Refusal, syntax, source, exists, no_shoen, shoen_ended, step_refused, too_many_names, limit_passed, journal_full, sessions_refused, value, status, reports, modules, is_quiet, Event, load, start, control, reduce, read, login, logout, reset, Reply, loaded, opened, sent, reduced, ran, shown, status_is, listed, quiet_is, welcome, bye, was_reset, refused, is_range}
+use Rattle.kl1_model.specs.Choice.{Chosen, first}
+use Rattle.kl1_model.specs.Record.{Request, load_of, spoiled_load, other_line}
+use Rattle.kl1_model_history.specs.Journal.{Kept, Done, done}
+use Rattle.kl1_model_history.specs.JournalText.{page_of}
+
+-- a command: an event; a run of at most a number of steps; or a page of the journal, from a line on, the first being 1, with at most a
+-- number of lines
+pub data Command : Type 0 where
+  does : Event → Command
+  run : ℕ → Command
+  shows : ℕ → ℕ → Command
+
+-- a start with its goal as it was read
+abbrev pub start_with : ℕ → ℕ → ℕ → Reading Term → Option Command
+start_with allowance low high (bad line) = None
+start_with allowance low high (good t) = if is_range low high then Some (does (start allowance low high t)) else None
+
+-- three numbers, and then a goal
+abbrev pub start_command : List ℕ → Option Command
+start_command line =
+    let b = behind_word_in line in
+    let c = behind_word_in b in
+    option_and_then (λ allowance. option_and_then (λ low. option_and_then (λ high. start_with allowance low high (read_goal (behind_word_in c))) (number_in (word_in c))) (number_in (word_in b))) (number_in (word_in line))
+
+-- a goal's number and a clause's, and nothing else
+abbrev pub reduce_command : List ℕ → Option Command
+reduce_command line = option_and_then (λ goal. option_map (λ clause. does (reduce goal clause)) (only_number (behind_word_in line))) (number_in (word_in line))
+
+-- a shoen's number and how much more it may be charged, and nothing else
+abbrev pub allow_command : List ℕ → Option Command
+allow_command line = option_and_then (λ n. option_map (λ more. does (control n (Allow more))) (only_number (behind_word_in line))) (number_in (word_in line))
+
+-- a message to a shoen by its number, and nothing else
+abbrev pub send_command : Message → List ℕ → Option Command
+send_command m line = option_map (λ n. does (control n m)) (only_number line)
+
+-- the reports of shoen `n` from number `from` on, if that is at least 1
+abbrev pub reports_from : ℕ → ℕ → Option Command
+reports_from n from = if nat_le 1 from then Some (does (read (reports n from))) else None
+
+-- a shoen's number and a report's, from 1, and nothing else
+abbrev pub reports_command : List ℕ → Option Command
+reports_command line = option_and_then (λ n. option_and_then (reports_from n) (only_number (behind_word_in line))) (number_in (word_in line))
+
+-- a page of the journal from one line on, if that is at least 1, and with at least one line and not too many
+abbrev pub journal_from : ℕ → ℕ → Option Command
+journal_from from count = if nat_le 1 from && nat_le 1 count && nat_le count most_listed then Some (shows from count) else None
+
+-- a line's number, from 1, and how many lines at most, and nothing else
+abbrev pub journal_command : List ℕ → Option Command
+journal_command line = option_and_then (λ from. option_and_then (journal_from from) (only_number (behind_word_in line))) (number_in (word_in line))
+
+-- an event of a line that says nothing else
+abbrev pub alone_command : Event → List ℕ → Option Command
+alone_command e line = if is_blank_line line then Some (does e) else None
+
+-- the first word of a command, but for a load
+pub data Verb : Type 0 where
+  starts : Verb
+  sends : Message → Verb
+  allows : Verb
+  runs : Verb
+  asks_value : Verb
+  asks_status : Verb
+  asks_reports : Verb
+  asks_modules : Verb
+  asks_quiet : Verb
+  reduces_goal : Verb
+  shows_journal : Verb
+  logs_in : Verb
+  logs_out : Verb
+  resets : Verb
+  unknown : Verb
+
+-- the verb that a word is
+abbrev pub verb_of : List ℕ → Verb
+verb_of w =
+    if bytes_eq w (codes "start") then starts
+    else if bytes_eq w (codes "run") then runs
+    else if bytes_eq w (codes "stop") then sends Stop
+    else if bytes_eq w (codes "resume") then sends Start
+    else if bytes_eq w (codes "abort") then sends Abort
+    else if bytes_eq w (codes "allow") then allows
+    else if bytes_eq w (codes "value") then asks_value
+    else if bytes_eq w (codes "status") then asks_status
+    else if bytes_eq w (codes "reports") then asks_reports
+    else if bytes_eq w (codes "modules") then asks_modules
+    else if bytes_eq w (codes "quiet") then asks_quiet
+    else if bytes_eq w (codes "reduce") then reduces_goal
+    else if bytes_eq w (codes "journal") then shows_journal
+    else if bytes_eq w (codes "login") then logs_in
+    else if bytes_eq w (codes "logout") then logs_out
+    else if bytes_eq w (codes "reset") then resets
+    else unknown
+
+-- the command of a line by its first word and what is after it
+abbrev pub command_by : Verb → List ℕ → Option Command
+command_by starts rest = start_command rest
+command_by (sends m) rest = send_command m rest
+command_by allows rest = allow_command rest
+command_by runs rest = option_map run (up_to most_steps (only_number rest))
+command_by asks_value rest = option_map (λ n. does (read (value n))) (only_number rest)
+command_by asks_status rest = option_map (λ n. does (read (status n))) (only_number rest)
+command_by asks_reports rest = reports_command rest
+command_by asks_modules rest = alone_command (read modules) rest
+command_by asks_quiet rest = alone_command (read is_quiet) rest
+command_by reduces_goal rest = reduce_command rest
+command_by shows_journal rest = journal_command rest
+command_by logs_in rest = alone_command login rest
+command_by logs_out rest = alone_command logout rest
+command_by resets rest = alone_command reset rest
+command_by unknown rest = None
+
+-- the command that a line is, without its end, if it is one; one of too many bytes is none, and neither is a load alone
+abbrev pub parse : List ℕ → Option Command
+parse line = if nat_le (length line) most_command_bytes then command_by (verb_of (word_in line)) (behind_word_in line) else None
+
+-- the command that is asked for, if there is one
+abbrev pub command_of : Request → Option Command
+command_of (load_of text) = Some (does (load text))
+command_of spoiled_load = None
+command_of (other_line line) = parse line
+
+-- how a run goes on, from the steps done and the account
+abbrev pub Going : Type 0
+Going = ℕ → Kept → Done
+
+-- a reply that leaves an account as it is
+abbrev pub said : Kept → Reply → Done
+said k r = record { kept = k; reply = r }
+
+-- a run that stops: with its steps, or with the refusal if no step was done
+abbrev pub stopped_by : Kept → ℕ → Refusal → Done
+stopped_by k zero r = said k (refused r)
+stopped_by k (suc n) r = said k (ran (suc n))
+
+-- goes on after a step, unless it was refused
+abbrev pub run_on : Going → Kept → ℕ → Kept → Reply → Done
+run_on next before n after (refused r) = stopped_by before n r
+run_on next before n after reply = next (suc n) after
+
+-- the first goal's step, if one can step, and how the run goes on
+abbrev pub run_choice : Going → Kept → ℕ → Option Chosen → Done
+run_choice next k n None = said k (ran n)
+run_choice next k n (Some c) = let x = done k (reduce c.goal c.clause) in run_on next k n x.kept x.reply
+
+-- first steps, one after another, at most this number of them and until none can step or one is refused, after n that are done
+abbrev pub run_from : ℕ → ℕ → Kept → Done
+run_from zero n k = said k (ran n)
+run_from (suc most) n k = run_choice (run_from most) k n (first k.state)
+
+-- what a command does to an account with its journal, and the reply
+abbrev pub act : Kept → Command → Done
+act k (does e) = done k e
+act k (run most) = run_from most 0 k
+act k (shows from count) = said k (listed (page_of k.journal from count))
+
+-- the text of a refusal: its number and its word, and for a source the line
+abbrev pub refusal_text : Refusal → List ℕ
+refusal_text syntax = codes "1 syntax"
+refusal_text (source line) = codes "2 source " ++ decimal line
+refusal_text exists = codes "3 exists"
+refusal_text no_shoen = codes "4 noshoen"
+refusal_text shoen_ended = codes "5 ended"
+refusal_text step_refused = codes "6 step"
+refusal_text too_many_names = codes "7 names"
+refusal_text limit_passed = codes "8 limit"
+refusal_text journal_full = codes "9 journal"
+refusal_text sessions_refused = codes "12 sessions"
+
+-- the word for the state of a shoen
+abbrev pub condition_word : Condition → List ℕ
+condition_word Terminated = codes "terminated"
+condition_word Aborted = codes "aborted"
+condition_word Stopped = codes "stopped"
+condition_word Exhausted = codes "exhausted"
+condition_word Running = codes "running"
+
+-- the lines of a reply
+abbrev pub reply_lines : Reply → List (List ℕ)
+reply_lines (loaded name) = (codes "+ loaded " ++ atom_text name) ∷ []
+reply_lines (opened n) = (codes "+ shoen " ++ decimal n) ∷ []
+reply_lines sent = codes "+ sent" ∷ []
+reply_lines reduced = codes "+ reduced" ∷ []
+reply_lines (ran n) = (codes "+ " ++ decimal n) ∷ []
+reply_lines (shown text) = (codes "+ " ++ text) ∷ []
+reply_lines (status_is c charged allowance alive) =
+    (codes "+ " ++ condition_word c ++ codes " " ++ decimal charged ++ codes " " ++ decimal allowance ++ codes " " ++ decimal alive) ∷ []
+reply_lines (listed texts) = (codes "+ " ++ decimal (length texts)) ∷ texts
+reply_lines (quiet_is true) = codes "+ yes" ∷ []
+reply_lines (quiet_is false) = codes "+ no" ∷ []
+reply_lines (welcome name) = (codes "+ welcome " ++ name) ∷ []
+reply_lines bye = codes "+ bye" ∷ []
+reply_lines was_reset = codes "+ reset" ∷ []
+reply_lines (refused r) = (codes "- " ++ refusal_text r) ∷ []
+
+-- a line as it is written
+abbrev pub written_line : List ℕ → List ℕ
+written_line line = line ++ 10 ∷ []
+
+-- lines as they are written
+abbrev pub written_lines : List (List ℕ) → List ℕ
+written_lines [] = []
+written_lines (line ∷ lines) = written_line line ++ written_lines lines

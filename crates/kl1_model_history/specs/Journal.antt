@@ -1,0 +1,85 @@
+-- The journal of an account, and what it says of the account.
+use Rattle.std.specs.Prelude.{ℕ, if◌then◌else◌, List, [], ◌∷◌, ◌++◌}
+use Rattle.kl1_model.specs.declared.message.Message.{Message}
+use Rattle.kl1_model.specs.Term.{Term}
+use Rattle.kl1_model.specs.State.{State, fresh, fresh_with}
+use Rattle.kl1_model.specs.Event.{Event, load, start, control, reduce, read, login, logout, reset, Reply, Transition}
+use Rattle.kl1_model.specs.Step.{step}
+use Rattle.kl1_model.specs.laws.TreeLaws.{is_refused}
+
+-- an entry of a journal: a module loaded from its source; a goal started with an allowance and priorities from low to high; a message
+-- sent to a shoen; a goal reduced by a clause's number, or by 0
+pub data Entry : Type 0 where
+  loads : List ℕ → Entry
+  starts : ℕ → ℕ → ℕ → Term → Entry
+  sends : ℕ → Message → Entry
+  steps : ℕ → ℕ → Entry
+
+-- the event of an entry
+abbrev pub event_in : Entry → Event
+event_in (loads text) = load text
+event_in (starts allowance low high t) = start allowance low high t
+event_in (sends n m) = control n m
+event_in (steps goal clause) = reduce goal clause
+
+-- a journal: how many sessions are open, the names that were used at the last reset, in order of first use, and the entries since
+pub record Journal : Type 0 where
+  pub sessions : ℕ
+  pub names : List (List ℕ)
+  pub entries : List Entry
+
+-- the journal of an account that has used these names and has this number of open sessions, and in which nothing has happened since
+abbrev pub new_journal : List (List ℕ) → ℕ → Journal
+new_journal names sessions = record { sessions = sessions; names = names; entries = [] }
+
+-- a journal with one entry more
+abbrev pub with_entry : Journal → Entry → Journal
+with_entry j e = record j { entries = j.entries ++ e ∷ [] }
+
+-- a journal after an event that is accepted and leaves this account: a load, a start, a message and a reduction are entries, a query is
+-- none; a session opened or closed changes the number of sessions; a reset begins the journal anew
+abbrev pub with_event : Journal → Event → State → Journal
+with_event j (load text) s = with_entry j (loads text)
+with_event j (start allowance low high t) s = with_entry j (starts allowance low high t)
+with_event j (control n m) s = with_entry j (sends n m)
+with_event j (reduce goal clause) s = with_entry j (steps goal clause)
+with_event j (read q) s = j
+with_event j login s = record j { sessions = s.sessions }
+with_event j logout s = record j { sessions = s.sessions }
+with_event j reset s = new_journal s.names s.sessions
+
+-- a journal after what became of an event: a refused event leaves it, and an accepted one is noted in it
+abbrev pub noted : Journal → Event → Transition → Journal
+noted j e x = if is_refused x.reply then j else with_event j e x.state
+
+-- an account after entries, in order
+abbrev pub after_entries : State → List Entry → State
+after_entries s [] = s
+after_entries s (e ∷ es) = after_entries (step s (event_in e)).state es
+
+-- the replay of a journal: the account of this name after the entries, from one in which nothing has happened but that it has used the
+-- journal's names and has its sessions
+abbrev pub replay : List ℕ → Journal → State
+replay name j = after_entries (fresh_with name j.names j.sessions) j.entries
+
+-- an account with its journal
+pub record Kept : Type 0 where
+  pub state : State
+  pub journal : Journal
+
+-- an account with its journal after what was done to it, and the reply
+pub record Done : Type 0 where
+  pub kept : Kept
+  pub reply : Reply
+
+-- an account of this name in which nothing has happened, with its journal
+abbrev pub fresh_kept : List ℕ → Kept
+fresh_kept name = record { state = fresh name; journal = new_journal [] 0 }
+
+-- an account with its journal after what became of an event
+abbrev pub kept_after : Kept → Event → Transition → Done
+kept_after k e x = record { kept = record { state = x.state; journal = noted k.journal e x }; reply = x.reply }
+
+-- what an event does to an account with its journal, and the reply
+abbrev pub done : Kept → Event → Done
+done k e = kept_after k e (step k.state e)

@@ -1,0 +1,201 @@
+-- The text of a journal: its lines, and the journal that a text is.
+use Rattle.std.specs.Prelude.{ℕ, zero, suc, ◌+◌, ◌*◌, ◌-◌, ◌/◌, ◌%◌, ◌==◌, nat_le, nat_lt, ◌&&◌, ◌||◌, not, Bool, true, false, if◌then◌else◌, List, [], ◌∷◌, ◌++◌, length, take, drop, map, codes, bytes_eq, decimal, Option, Some, None, option_map, option_and_then}
+use Rattle.std.specs.List.{list_all, list_any}
+use Rattle.kl1_model.specs.declared.message.Message.{Message}
+use Rattle.kl1_model.specs.declared.message.Message.TheVariants.{Stop, Start, Abort, Allow}
+use Rattle.kl1_model.specs.Limits.{most_line_bytes, most_names, most_sessions}
+use Rattle.kl1_model.specs.Text.{is_text, is_built_in}
+use Rattle.kl1_model.specs.Term.{Term}
+use Rattle.kl1_model.specs.Name.{atom_text}
+use Rattle.kl1_model.specs.Token.{is_digit}
+use Rattle.kl1_model.specs.Line.{before_space, behind_space, number_in}
+use Rattle.kl1_model.specs.Module.{Reading, good, bad, read_goal}
+use Rattle.kl1_model.specs.Opening.{start_line}
+use Rattle.kl1_model_history.specs.Journal.{Entry, loads, starts, sends, steps, Journal, new_journal}
+
+-- ---- the lines of a journal
+
+-- a hexadecimal digit as a byte: 0 to 9, and a to f
+abbrev pub hex_digit : ℕ → ℕ
+hex_digit d = if nat_lt d 10 then 48 + d else 87 + d
+
+-- bytes as two hexadecimal digits each
+abbrev pub hex_text : List ℕ → List ℕ
+hex_text [] = []
+hex_text (b ∷ bs) = hex_digit (b / 16) ∷ hex_digit (b % 16) ∷ hex_text bs
+
+-- the line of a message to a shoen
+abbrev pub message_line : ℕ → Message → List ℕ
+message_line n Stop = codes "stop " ++ decimal n
+message_line n Start = codes "resume " ++ decimal n
+message_line n Abort = codes "abort " ++ decimal n
+message_line n (Allow k) = codes "allow " ++ decimal n ++ codes " " ++ decimal k
+
+-- the line of an entry
+abbrev pub entry_line : Entry → List ℕ
+entry_line (loads text) = codes "load " ++ hex_text text
+entry_line (starts allowance low high t) = start_line allowance low high t
+entry_line (sends n m) = message_line n m
+entry_line (steps goal clause) = codes "reduce " ++ decimal goal ++ codes " " ++ decimal clause
+
+-- the line of a name that was used at the last reset
+abbrev pub name_line : List ℕ → List ℕ
+name_line t = codes "name " ++ atom_text t
+
+-- the first line of a journal: its version, how many sessions are open, and how many names follow
+abbrev pub first_line : ℕ → ℕ → List ℕ
+first_line sessions names = codes "journal 1 " ++ decimal sessions ++ codes " " ++ decimal names
+
+-- the lines of a journal
+abbrev pub journal_lines : Journal → List (List ℕ)
+journal_lines j = first_line j.sessions (length j.names) ∷ map name_line j.names ++ map entry_line j.entries
+
+-- at most this number of a journal's lines from one on, the first being 1
+abbrev pub page_of : Journal → ℕ → ℕ → List (List ℕ)
+page_of j from count = take count (drop (from - 1) (journal_lines j))
+
+-- ---- the entry that a line is
+
+-- whether a byte is a hexadecimal digit: 0 to 9, and a to f
+abbrev pub is_hex_digit : ℕ → Bool
+is_hex_digit c = is_digit c || nat_le 97 c && nat_le c 102
+
+-- the value of a hexadecimal digit
+abbrev pub hex_value : ℕ → ℕ
+hex_value c = if nat_le c 57 then c - 48 else c - 87
+
+-- the bytes that two hexadecimal digits each are; one that is left over is dropped
+abbrev pub hex_bytes : List ℕ → List ℕ
+hex_bytes [] = []
+hex_bytes (c ∷ []) = []
+hex_bytes (c ∷ d ∷ cs) = (16 * hex_value c + hex_value d) ∷ hex_bytes cs
+
+-- a load of the source whose hexadecimal digits these are
+abbrev pub load_in : List ℕ → Option Entry
+load_in rest = if list_all is_hex_digit rest then Some (loads (hex_bytes rest)) else None
+
+-- an entry of two numbers
+abbrev pub of_two : (ℕ → ℕ → Entry) → List ℕ → Option Entry
+of_two make rest = option_and_then (λ a. option_map (make a) (number_in (behind_space rest))) (number_in (before_space rest))
+
+-- a start with its goal as it was read
+abbrev pub start_of : ℕ → ℕ → ℕ → Reading Term → Option Entry
+start_of allowance low high (bad line) = None
+start_of allowance low high (good t) = Some (starts allowance low high t)
+
+-- a start of three numbers and a goal
+abbrev pub start_in : List ℕ → Option Entry
+start_in rest =
+    let b = behind_space rest in
+    let c = behind_space b in
+    option_and_then (λ allowance. option_and_then (λ low. option_and_then (λ high. start_of allowance low high (read_goal (behind_space c))) (number_in (before_space c))) (number_in (before_space b))) (number_in (before_space rest))
+
+-- the entry that a line may be, by its first word and what is after that
+abbrev pub entry_by : List ℕ → List ℕ → Option Entry
+entry_by w rest =
+    if bytes_eq w (codes "reduce") then of_two steps rest
+    else if bytes_eq w (codes "load") then load_in rest
+    else if bytes_eq w (codes "start") then start_in rest
+    else if bytes_eq w (codes "stop") then option_map (λ n. sends n Stop) (number_in rest)
+    else if bytes_eq w (codes "resume") then option_map (λ n. sends n Start) (number_in rest)
+    else if bytes_eq w (codes "abort") then option_map (λ n. sends n Abort) (number_in rest)
+    else if bytes_eq w (codes "allow") then of_two (λ n k. sends n (Allow k)) rest
+    else None
+
+-- an entry, if this is its line
+abbrev pub if_line : List ℕ → Entry → Option Entry
+if_line line e = if bytes_eq (entry_line e) line then Some e else None
+
+-- the entry whose line this is, if there is one; a line of too many bytes is none
+abbrev pub entry_in : List ℕ → Option Entry
+entry_in line = if nat_le (length line) most_line_bytes then option_and_then (if_line line) (entry_by (before_space line) (behind_space line)) else None
+
+-- ---- the name that a line has, and the first line
+
+-- what stands between quotes, as it would be without its doubled quotes, and without the quote at the end
+abbrev pub unquoted : List ℕ → List ℕ
+unquoted [] = []
+unquoted (b ∷ []) = []
+unquoted (b ∷ c ∷ bs) = elim (b == 39) [ true ↦ 39 ∷ unquoted bs | false ↦ b ∷ unquoted (c ∷ bs) ]
+
+-- the name that a printed atom may be
+abbrev pub name_by : List ℕ → List ℕ
+name_by [] = []
+name_by (b ∷ bs) = if b == 39 then unquoted bs else b ∷ bs
+
+-- a name, if this is its line
+abbrev pub if_name_line : List ℕ → List ℕ → Option (List ℕ)
+if_name_line line t = if is_text t && bytes_eq (name_line t) line then Some t else None
+
+-- the name whose line this is, if there is one
+abbrev pub name_in : List ℕ → Option (List ℕ)
+name_in line = if_name_line line (name_by (behind_space line))
+
+-- whether a name may follow these in a journal: it isn't built in, and isn't among them
+abbrev pub is_new_name : List (List ℕ) → List ℕ → Bool
+is_new_name names t = not (is_built_in t) && not (list_any (bytes_eq t) names)
+
+-- what the first line of a journal says: how many sessions are open, and how many names follow
+pub record Heading : Type 0 where
+  pub sessions : ℕ
+  pub names : ℕ
+
+-- a heading, if its numbers are allowed and this is its line
+abbrev pub if_first_line : List ℕ → ℕ → ℕ → Option Heading
+if_first_line line sessions names =
+    if nat_le sessions most_sessions && nat_le names most_names && bytes_eq (first_line sessions names) line
+    then Some (record { sessions = sessions; names = names })
+    else None
+
+-- the heading whose line this is, if there is one
+abbrev pub heading_in : List ℕ → Option Heading
+heading_in line =
+    let rest = behind_space (behind_space line) in
+    option_and_then (λ sessions. option_and_then (λ names. if_first_line line sessions names) (number_in (behind_space rest))) (number_in (before_space rest))
+
+-- ---- the lines of a text
+
+-- the lines of a text that each end with a line feed, without it, and the bytes after the last of them
+pub record Lines : Type 0 where
+  pub whole : List (List ℕ)
+  pub rest : List ℕ
+
+-- a byte in front of the first line, or of the rest if there is no line
+abbrev pub byte_first : ℕ → List (List ℕ) → List ℕ → Lines
+byte_first b [] rest = record { whole = []; rest = b ∷ rest }
+byte_first b (line ∷ lines) rest = record { whole = (b ∷ line) ∷ lines; rest = rest }
+
+-- an empty line in front of lines
+abbrev pub line_first : Lines → Lines
+line_first ls = record { whole = [] ∷ ls.whole; rest = ls.rest }
+
+-- the lines of a text
+abbrev pub lines_of : List ℕ → Lines
+lines_of [] = record { whole = []; rest = [] }
+lines_of (b ∷ bs) = elim (b == 10) [ true ↦ line_first (lines_of bs) | false ↦ byte_first b (lines_of bs).whole (lines_of bs).rest ]
+
+-- ---- the journal that a text is
+
+-- one entry in front of a journal's
+abbrev pub entry_first : Entry → Journal → Journal
+entry_first e j = record j { entries = e ∷ j.entries }
+
+-- the journal of this number of sessions and these names whose entries' lines these are, if there is one
+abbrev pub journal_with : ℕ → List (List ℕ) → List (List ℕ) → Option Journal
+journal_with sessions names [] = Some (new_journal names sessions)
+journal_with sessions names (line ∷ lines) = option_and_then (λ e. option_map (entry_first e) (journal_with sessions names lines)) (entry_in line)
+
+-- the journal of these sessions and names, after which this number of lines of names stands and then those of entries, if there is one
+abbrev pub journal_after : ℕ → List (List ℕ) → ℕ → List (List ℕ) → Option Journal
+journal_after sessions names zero lines = journal_with sessions names lines
+journal_after sessions names (suc n) [] = None
+journal_after sessions names (suc n) (line ∷ lines) = option_and_then (λ t. if is_new_name names t then journal_after sessions (names ++ t ∷ []) n lines else None) (name_in line)
+
+-- the journal whose lines these are, if there is one
+abbrev pub journal_of : List (List ℕ) → Option Journal
+journal_of [] = None
+journal_of (line ∷ lines) = option_and_then (λ h. journal_after h.sessions [] h.names lines) (heading_in line)
+
+-- the journal that a text is, if it is one: each line ends with a line feed
+abbrev pub journal_in : List ℕ → Option Journal
+journal_in text = if length (lines_of text).rest == 0 then journal_of (lines_of text).whole else None

@@ -1,0 +1,9 @@
+pub mod Journal
+pub mod JournalText
+pub mod Alone
+pub mod Command
+pub mod Script
+pub mod Replay
+pub mod Cut
+pub mod Inputs
+pub mod laws

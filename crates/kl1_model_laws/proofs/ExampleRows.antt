@@ -1,0 +1,575 @@
+-- What is written for each example script, computed from the definitions. Made by tools/examples_as_definitions.
+use Rattle.std.specs.Prelude.{◌≡◌, refl}
+use Rattle.std.specs.Fmt.{digits}
+use Rattle.kl1_model.specs.Unify.{mgu_within, walk}
+use Rattle.kl1_model.specs.Tree.{path_within}
+use Rattle.kl1_model.specs.Token.{tokens_within}
+use Rattle.kl1_model.specs.Reader.{expression_at, series_by, grouped_by, body_by}
+use Rattle.kl1_model.specs.Line.{words_within}
+use Rattle.kl1_model.specs.Record.{records_within}
+use Rattle.kl1_model_history.specs.Script.{output}
+use Rattle.kl1_model_laws.specs.Examples.{a_failure_stops_nothing_else_script, a_failure_stops_nothing_else_output, abort_ends_what_is_below_script, abort_ends_what_is_below_output, abort_tells_nothing_below_script, abort_tells_nothing_below_output, abort_with_two_children_script, abort_with_two_children_output, aborted_child_ends_its_parent_script, aborted_child_ends_its_parent_output, account_name_of_16_bytes_script, account_name_of_16_bytes_output, account_name_of_17_bytes_script, account_name_of_17_bytes_output, account_with_a_capital_script, account_with_a_capital_output, accounts_alone_script, accounts_alone_output, alice_beside_a_runaway_account_script, alice_beside_a_runaway_account_output, alice_by_herself_script, alice_by_herself_output, allow_of_a_variable_waits_script, allow_of_a_variable_waits_output, allow_raises_an_allowance_script, allow_raises_an_allowance_output, allowance_has_a_greatest_script, allowance_has_a_greatest_output, allowance_of_0_script, allowance_of_0_output, allowance_runs_out_script, allowance_runs_out_output, allowance_runs_out_twice_script, allowance_runs_out_twice_output, append_beside_another_account_script, append_beside_another_account_output, append_by_single_reductions_script, append_by_single_reductions_output, append_two_lists_script, append_two_lists_output, append_with_its_status_script, append_with_its_status_output, arithmetic_script, arithmetic_output, bad_load_lines_script, bad_load_lines_output, bad_source_script, bad_source_output, blank_first_line_script, blank_first_line_output, blank_lines_script, blank_lines_output, blanks_between_accounts_script, blanks_between_accounts_output, body_goals_inherit_priority_script, body_goals_inherit_priority_output, bytes_behind_a_load_script, bytes_behind_a_load_output, charges_go_up_the_tree_script, charges_go_up_the_tree_output, child_stopped_below_an_exhausted_shoen_script, child_stopped_below_an_exhausted_shoen_output, clash_outweighs_waiting_script, clash_outweighs_waiting_output, clause_below_otherwise_closes_script, clause_below_otherwise_closes_output, codes_cell_by_cell_script, codes_cell_by_cell_output, codes_that_are_wrong_script, codes_that_are_wrong_output, commands_that_are_none_script, commands_that_are_none_output, commands_to_shoens_that_are_none_script, commands_to_shoens_that_are_none_output, control_breaks_off_script, control_breaks_off_output, control_is_closed_script, control_is_closed_output, countdown_script, countdown_output, cyclic_term_is_reported_script, cyclic_term_is_reported_output, doubled_account_script, doubled_account_output, ended_or_exhausted_script, ended_or_exhausted_output, exhausted_innermost_first_script, exhausted_innermost_first_output, exhausted_parent_holds_back_script, exhausted_parent_holds_back_output, failed_goal_is_started_again_script, failed_goal_is_started_again_output, failure_is_reported_script, failure_is_reported_output, first_of_two_clauses_script, first_of_two_clauses_output, forms_that_are_faults_script, forms_that_are_faults_output, four_sessions_script, four_sessions_output, fresh_variables_script, fresh_variables_output, goal_of_a_child_has_its_greatest_priority_script, goal_of_a_child_has_its_greatest_priority_output, goal_waits_for_ever_script, goal_waits_for_ever_output, goals_of_a_start_script, goals_of_a_start_output, greater_priority_of_a_body_script, greater_priority_of_a_body_output, greater_priority_then_least_number_script, greater_priority_then_least_number_output, greatest_common_divisor_script, greatest_common_divisor_output, higher_variable_takes_the_lower_script, higher_variable_takes_the_lower_output, inner_shoen_stays_stopped_script, inner_shoen_stays_stopped_output, integers_are_no_atoms_script, integers_are_no_atoms_output, journal_by_pages_script, journal_by_pages_output, journal_names_in_quotes_script, journal_names_in_quotes_output, journal_of_a_start_script, journal_of_a_start_output, journal_of_each_event_script, journal_of_each_event_output, journal_of_reductions_script, journal_of_reductions_output, journal_prints_goals_script, journal_prints_goals_output, last_line_without_a_feed_script, last_line_without_a_feed_output, least_priority_of_a_child_is_clipped_script, least_priority_of_a_child_is_clipped_output, lines_of_4096_bytes_script, lines_of_4096_bytes_output, load_of_no_bytes_script, load_of_no_bytes_output, load_without_a_last_feed_script, load_without_a_last_feed_output, loaded_twice_script, loaded_twice_output, loads_of_other_names_script, loads_of_other_names_output, loads_of_others_are_skipped_script, loads_of_others_are_skipped_output, merged_by_priorities_script, merged_by_priorities_output, module_name_in_quotes_script, module_name_in_quotes_output, module_without_clauses_script, module_without_clauses_output, modules_are_listed_script, modules_are_listed_output, modules_loaded_at_that_moment_script, modules_loaded_at_that_moment_output, modules_of_two_accounts_script, modules_of_two_accounts_output, names_before_the_first_space_script, names_before_the_first_space_output, names_from_codes_script, names_from_codes_output, names_in_order_of_first_use_script, names_in_order_of_first_use_output, names_in_quotes_script, names_in_quotes_output, names_of_63_and_64_bytes_script, names_of_63_and_64_bytes_output, nested_patterns_script, nested_patterns_output, no_accounts_script, no_accounts_output, no_clause_for_a_goal_that_waits_script, no_clause_for_a_goal_that_waits_output, no_cyclic_terms_script, no_cyclic_terms_output, numbers_of_19_digits_script, numbers_of_19_digits_output, one_text_in_two_accounts_script, one_text_in_two_accounts_output, orders_of_each_kind_script, orders_of_each_kind_output, orders_that_are_wrong_script, orders_that_are_wrong_output, orders_that_wait_script, orders_that_wait_output, other_messages_are_skipped_script, other_messages_are_skipped_output, otherwise_takes_the_rest_script, otherwise_takes_the_rest_output, otherwise_waits_script, otherwise_waits_output, overflow_is_reported_script, overflow_is_reported_output, places_of_one_variable_script, places_of_one_variable_output, priorities_are_clipped_script, priorities_are_clipped_output, priorities_are_clipped_downwards_script, priorities_are_clipped_downwards_output, priorities_are_clipped_to_a_childs_range_script, priorities_are_clipped_to_a_childs_range_output, priorities_are_clipped_upwards_script, priorities_are_clipped_upwards_output, producer_and_consumer_script, producer_and_consumer_output, quiet_or_not_script, quiet_or_not_output, quiet_with_many_blanks_script, quiet_with_many_blanks_output, range_of_a_child_is_clipped_script, range_of_a_child_is_clipped_output, refused_reduction_leaves_the_journal_script, refused_reduction_leaves_the_journal_output, report_that_holds_its_tail_script, report_that_holds_its_tail_output, reset_after_each_event_script, reset_after_each_event_output, reset_keeps_names_script, reset_keeps_names_output, reset_of_another_account_script, reset_of_another_account_output, reversed_list_script, reversed_list_output, second_variable_wakes_script, second_variable_wakes_output, sessions_stay_through_a_reset_script, sessions_stay_through_a_reset_output, seventeen_accounts_script, seventeen_accounts_output, shoens_32_deep_script, shoens_32_deep_output, single_reductions_script, single_reductions_output, sixteen_accounts_script, sixteen_accounts_output, sixteen_accounts_interleaved_script, sixteen_accounts_interleaved_output, slices_by_allowances_script, slices_by_allowances_output, stopped_and_resumed_script, stopped_and_resumed_output, stopped_before_exhausted_script, stopped_before_exhausted_output, stopped_once_script, stopped_once_output, stopped_parent_holds_back_script, stopped_parent_holds_back_output, stopped_shoen_terminates_script, stopped_shoen_terminates_output, stopped_while_exhausted_script, stopped_while_exhausted_output, stream_bound_by_the_program_script, stream_bound_by_the_program_output, truncated_load_script, truncated_load_output, truncated_load_of_another_name_script, truncated_load_of_another_name_output, two_shoens_on_one_stream_script, two_shoens_on_one_stream_output, unification_fails_whole_script, unification_fails_whole_output, unknown_predicates_fail_script, unknown_predicates_fail_output, value_is_cut_script, value_is_cut_output, value_of_4000_bytes_script, value_of_4000_bytes_output, variables_of_a_second_start_script, variables_of_a_second_start_output, waiting_goal_is_alive_script, waiting_goal_is_alive_output, woken_by_a_binding_script, woken_by_a_binding_output, woken_by_a_second_variable_script, woken_by_a_second_variable_output, words_and_line_ends_script, words_and_line_ends_output, ExamplesHold}
+
+a_failure_stops_nothing_else_row : output a_failure_stops_nothing_else_script ≡ a_failure_stops_nothing_else_output
+unfolding digits tokens_within expression_at series_by grouped_by body_by mgu_within walk path_within records_within words_within
+a_failure_stops_nothing_else_row = refl
+
+abort_ends_what_is_below_row : output abort_ends_what_is_below_script ≡ abort_ends_what_is_below_output
+unfolding digits tokens_within expression_at series_by grouped_by body_by mgu_within walk path_within records_within words_within
+abort_ends_what_is_below_row = refl
+
+abort_tells_nothing_below_row : output abort_tells_nothing_below_script ≡ abort_tells_nothing_below_output
+unfolding digits tokens_within expression_at series_by grouped_by body_by mgu_within walk path_within records_within words_within
+abort_tells_nothing_below_row = refl
+
+abort_with_two_children_row : output abort_with_two_children_script ≡ abort_with_two_children_output
+unfolding digits tokens_within expression_at series_by grouped_by body_by mgu_within walk path_within records_within words_within
+abort_with_two_children_row = refl
+
+aborted_child_ends_its_parent_row : output aborted_child_ends_its_parent_script ≡ aborted_child_ends_its_parent_output
+unfolding digits tokens_within expression_at series_by grouped_by body_by mgu_within walk path_within records_within words_within
+aborted_child_ends_its_parent_row = refl
+
+account_name_of_16_bytes_row : output account_name_of_16_bytes_script ≡ account_name_of_16_bytes_output
+unfolding digits tokens_within expression_at series_by grouped_by body_by mgu_within walk path_within records_within words_within
+account_name_of_16_bytes_row = refl
+
+account_name_of_17_bytes_row : output account_name_of_17_bytes_script ≡ account_name_of_17_bytes_output
+unfolding digits tokens_within expression_at series_by grouped_by body_by mgu_within walk path_within records_within words_within
+account_name_of_17_bytes_row = refl
+
+account_with_a_capital_row : output account_with_a_capital_script ≡ account_with_a_capital_output
+unfolding digits tokens_within expression_at series_by grouped_by body_by mgu_within walk path_within records_within words_within
+account_with_a_capital_row = refl
+
+accounts_alone_row : output accounts_alone_script ≡ accounts_alone_output
+unfolding digits tokens_within expression_at series_by grouped_by body_by mgu_within walk path_within records_within words_within
+accounts_alone_row = refl
+
+alice_beside_a_runaway_account_row : output alice_beside_a_runaway_account_script ≡ alice_beside_a_runaway_account_output
+unfolding digits tokens_within expression_at series_by grouped_by body_by mgu_within walk path_within records_within words_within
+alice_beside_a_runaway_account_row = refl
+
+alice_by_herself_row : output alice_by_herself_script ≡ alice_by_herself_output
+unfolding digits tokens_within expression_at series_by grouped_by body_by mgu_within walk path_within records_within words_within
+alice_by_herself_row = refl
+
+allow_of_a_variable_waits_row : output allow_of_a_variable_waits_script ≡ allow_of_a_variable_waits_output
+unfolding digits tokens_within expression_at series_by grouped_by body_by mgu_within walk path_within records_within words_within
+allow_of_a_variable_waits_row = refl
+
+allow_raises_an_allowance_row : output allow_raises_an_allowance_script ≡ allow_raises_an_allowance_output
+unfolding digits tokens_within expression_at series_by grouped_by body_by mgu_within walk path_within records_within words_within
+allow_raises_an_allowance_row = refl
+
+allowance_has_a_greatest_row : output allowance_has_a_greatest_script ≡ allowance_has_a_greatest_output
+unfolding digits tokens_within expression_at series_by grouped_by body_by mgu_within walk path_within records_within words_within
+allowance_has_a_greatest_row = refl
+
+allowance_of_0_row : output allowance_of_0_script ≡ allowance_of_0_output
+unfolding digits tokens_within expression_at series_by grouped_by body_by mgu_within walk path_within records_within words_within
+allowance_of_0_row = refl
+
+allowance_runs_out_row : output allowance_runs_out_script ≡ allowance_runs_out_output
+unfolding digits tokens_within expression_at series_by grouped_by body_by mgu_within walk path_within records_within words_within
+allowance_runs_out_row = refl
+
+allowance_runs_out_twice_row : output allowance_runs_out_twice_script ≡ allowance_runs_out_twice_output
+unfolding digits tokens_within expression_at series_by grouped_by body_by mgu_within walk path_within records_within words_within
+allowance_runs_out_twice_row = refl
+
+append_beside_another_account_row : output append_beside_another_account_script ≡ append_beside_another_account_output
+unfolding digits tokens_within expression_at series_by grouped_by body_by mgu_within walk path_within records_within words_within
+append_beside_another_account_row = refl
+
+append_by_single_reductions_row : output append_by_single_reductions_script ≡ append_by_single_reductions_output
+unfolding digits tokens_within expression_at series_by grouped_by body_by mgu_within walk path_within records_within words_within
+append_by_single_reductions_row = refl
+
+append_two_lists_row : output append_two_lists_script ≡ append_two_lists_output
+unfolding digits tokens_within expression_at series_by grouped_by body_by mgu_within walk path_within records_within words_within
+append_two_lists_row = refl
+
+append_with_its_status_row : output append_with_its_status_script ≡ append_with_its_status_output
+unfolding digits tokens_within expression_at series_by grouped_by body_by mgu_within walk path_within records_within words_within
+append_with_its_status_row = refl
+
+arithmetic_row : output arithmetic_script ≡ arithmetic_output
+unfolding digits tokens_within expression_at series_by grouped_by body_by mgu_within walk path_within records_within words_within
+arithmetic_row = refl
+
+bad_load_lines_row : output bad_load_lines_script ≡ bad_load_lines_output
+unfolding digits tokens_within expression_at series_by grouped_by body_by mgu_within walk path_within records_within words_within
+bad_load_lines_row = refl
+
+bad_source_row : output bad_source_script ≡ bad_source_output
+unfolding digits tokens_within expression_at series_by grouped_by body_by mgu_within walk path_within records_within words_within
+bad_source_row = refl
+
+blank_first_line_row : output blank_first_line_script ≡ blank_first_line_output
+unfolding digits tokens_within expression_at series_by grouped_by body_by mgu_within walk path_within records_within words_within
+blank_first_line_row = refl
+
+blank_lines_row : output blank_lines_script ≡ blank_lines_output
+unfolding digits tokens_within expression_at series_by grouped_by body_by mgu_within walk path_within records_within words_within
+blank_lines_row = refl
+
+blanks_between_accounts_row : output blanks_between_accounts_script ≡ blanks_between_accounts_output
+unfolding digits tokens_within expression_at series_by grouped_by body_by mgu_within walk path_within records_within words_within
+blanks_between_accounts_row = refl
+
+body_goals_inherit_priority_row : output body_goals_inherit_priority_script ≡ body_goals_inherit_priority_output
+unfolding digits tokens_within expression_at series_by grouped_by body_by mgu_within walk path_within records_within words_within
+body_goals_inherit_priority_row = refl
+
+bytes_behind_a_load_row : output bytes_behind_a_load_script ≡ bytes_behind_a_load_output
+unfolding digits tokens_within expression_at series_by grouped_by body_by mgu_within walk path_within records_within words_within
+bytes_behind_a_load_row = refl
+
+charges_go_up_the_tree_row : output charges_go_up_the_tree_script ≡ charges_go_up_the_tree_output
+unfolding digits tokens_within expression_at series_by grouped_by body_by mgu_within walk path_within records_within words_within
+charges_go_up_the_tree_row = refl
+
+child_stopped_below_an_exhausted_shoen_row : output child_stopped_below_an_exhausted_shoen_script ≡ child_stopped_below_an_exhausted_shoen_output
+unfolding digits tokens_within expression_at series_by grouped_by body_by mgu_within walk path_within records_within words_within
+child_stopped_below_an_exhausted_shoen_row = refl
+
+clash_outweighs_waiting_row : output clash_outweighs_waiting_script ≡ clash_outweighs_waiting_output
+unfolding digits tokens_within expression_at series_by grouped_by body_by mgu_within walk path_within records_within words_within
+clash_outweighs_waiting_row = refl
+
+clause_below_otherwise_closes_row : output clause_below_otherwise_closes_script ≡ clause_below_otherwise_closes_output
+unfolding digits tokens_within expression_at series_by grouped_by body_by mgu_within walk path_within records_within words_within
+clause_below_otherwise_closes_row = refl
+
+codes_cell_by_cell_row : output codes_cell_by_cell_script ≡ codes_cell_by_cell_output
+unfolding digits tokens_within expression_at series_by grouped_by body_by mgu_within walk path_within records_within words_within
+codes_cell_by_cell_row = refl
+
+codes_that_are_wrong_row : output codes_that_are_wrong_script ≡ codes_that_are_wrong_output
+unfolding digits tokens_within expression_at series_by grouped_by body_by mgu_within walk path_within records_within words_within
+codes_that_are_wrong_row = refl
+
+commands_that_are_none_row : output commands_that_are_none_script ≡ commands_that_are_none_output
+unfolding digits tokens_within expression_at series_by grouped_by body_by mgu_within walk path_within records_within words_within
+commands_that_are_none_row = refl
+
+commands_to_shoens_that_are_none_row : output commands_to_shoens_that_are_none_script ≡ commands_to_shoens_that_are_none_output
+unfolding digits tokens_within expression_at series_by grouped_by body_by mgu_within walk path_within records_within words_within
+commands_to_shoens_that_are_none_row = refl
+
+control_breaks_off_row : output control_breaks_off_script ≡ control_breaks_off_output
+unfolding digits tokens_within expression_at series_by grouped_by body_by mgu_within walk path_within records_within words_within
+control_breaks_off_row = refl
+
+control_is_closed_row : output control_is_closed_script ≡ control_is_closed_output
+unfolding digits tokens_within expression_at series_by grouped_by body_by mgu_within walk path_within records_within words_within
+control_is_closed_row = refl
+
+countdown_row : output countdown_script ≡ countdown_output
+unfolding digits tokens_within expression_at series_by grouped_by body_by mgu_within walk path_within records_within words_within
+countdown_row = refl
+
+cyclic_term_is_reported_row : output cyclic_term_is_reported_script ≡ cyclic_term_is_reported_output
+unfolding digits tokens_within expression_at series_by grouped_by body_by mgu_within walk path_within records_within words_within
+cyclic_term_is_reported_row = refl
+
+doubled_account_row : output doubled_account_script ≡ doubled_account_output
+unfolding digits tokens_within expression_at series_by grouped_by body_by mgu_within walk path_within records_within words_within
+doubled_account_row = refl
+
+ended_or_exhausted_row : output ended_or_exhausted_script ≡ ended_or_exhausted_output
+unfolding digits tokens_within expression_at series_by grouped_by body_by mgu_within walk path_within records_within words_within
+ended_or_exhausted_row = refl
+
+exhausted_innermost_first_row : output exhausted_innermost_first_script ≡ exhausted_innermost_first_output
+unfolding digits tokens_within expression_at series_by grouped_by body_by mgu_within walk path_within records_within words_within
+exhausted_innermost_first_row = refl
+
+exhausted_parent_holds_back_row : output exhausted_parent_holds_back_script ≡ exhausted_parent_holds_back_output
+unfolding digits tokens_within expression_at series_by grouped_by body_by mgu_within walk path_within records_within words_within
+exhausted_parent_holds_back_row = refl
+
+failed_goal_is_started_again_row : output failed_goal_is_started_again_script ≡ failed_goal_is_started_again_output
+unfolding digits tokens_within expression_at series_by grouped_by body_by mgu_within walk path_within records_within words_within
+failed_goal_is_started_again_row = refl
+
+failure_is_reported_row : output failure_is_reported_script ≡ failure_is_reported_output
+unfolding digits tokens_within expression_at series_by grouped_by body_by mgu_within walk path_within records_within words_within
+failure_is_reported_row = refl
+
+first_of_two_clauses_row : output first_of_two_clauses_script ≡ first_of_two_clauses_output
+unfolding digits tokens_within expression_at series_by grouped_by body_by mgu_within walk path_within records_within words_within
+first_of_two_clauses_row = refl
+
+forms_that_are_faults_row : output forms_that_are_faults_script ≡ forms_that_are_faults_output
+unfolding digits tokens_within expression_at series_by grouped_by body_by mgu_within walk path_within records_within words_within
+forms_that_are_faults_row = refl
+
+four_sessions_row : output four_sessions_script ≡ four_sessions_output
+unfolding digits tokens_within expression_at series_by grouped_by body_by mgu_within walk path_within records_within words_within
+four_sessions_row = refl
+
+fresh_variables_row : output fresh_variables_script ≡ fresh_variables_output
+unfolding digits tokens_within expression_at series_by grouped_by body_by mgu_within walk path_within records_within words_within
+fresh_variables_row = refl
+
+goal_of_a_child_has_its_greatest_priority_row : output goal_of_a_child_has_its_greatest_priority_script ≡ goal_of_a_child_has_its_greatest_priority_output
+unfolding digits tokens_within expression_at series_by grouped_by body_by mgu_within walk path_within records_within words_within
+goal_of_a_child_has_its_greatest_priority_row = refl
+
+goal_waits_for_ever_row : output goal_waits_for_ever_script ≡ goal_waits_for_ever_output
+unfolding digits tokens_within expression_at series_by grouped_by body_by mgu_within walk path_within records_within words_within
+goal_waits_for_ever_row = refl
+
+goals_of_a_start_row : output goals_of_a_start_script ≡ goals_of_a_start_output
+unfolding digits tokens_within expression_at series_by grouped_by body_by mgu_within walk path_within records_within words_within
+goals_of_a_start_row = refl
+
+greater_priority_of_a_body_row : output greater_priority_of_a_body_script ≡ greater_priority_of_a_body_output
+unfolding digits tokens_within expression_at series_by grouped_by body_by mgu_within walk path_within records_within words_within
+greater_priority_of_a_body_row = refl
+
+greater_priority_then_least_number_row : output greater_priority_then_least_number_script ≡ greater_priority_then_least_number_output
+unfolding digits tokens_within expression_at series_by grouped_by body_by mgu_within walk path_within records_within words_within
+greater_priority_then_least_number_row = refl
+
+greatest_common_divisor_row : output greatest_common_divisor_script ≡ greatest_common_divisor_output
+unfolding digits tokens_within expression_at series_by grouped_by body_by mgu_within walk path_within records_within words_within
+greatest_common_divisor_row = refl
+
+higher_variable_takes_the_lower_row : output higher_variable_takes_the_lower_script ≡ higher_variable_takes_the_lower_output
+unfolding digits tokens_within expression_at series_by grouped_by body_by mgu_within walk path_within records_within words_within
+higher_variable_takes_the_lower_row = refl
+
+inner_shoen_stays_stopped_row : output inner_shoen_stays_stopped_script ≡ inner_shoen_stays_stopped_output
+unfolding digits tokens_within expression_at series_by grouped_by body_by mgu_within walk path_within records_within words_within
+inner_shoen_stays_stopped_row = refl
+
+integers_are_no_atoms_row : output integers_are_no_atoms_script ≡ integers_are_no_atoms_output
+unfolding digits tokens_within expression_at series_by grouped_by body_by mgu_within walk path_within records_within words_within
+integers_are_no_atoms_row = refl
+
+journal_by_pages_row : output journal_by_pages_script ≡ journal_by_pages_output
+unfolding digits tokens_within expression_at series_by grouped_by body_by mgu_within walk path_within records_within words_within
+journal_by_pages_row = refl
+
+journal_names_in_quotes_row : output journal_names_in_quotes_script ≡ journal_names_in_quotes_output
+unfolding digits tokens_within expression_at series_by grouped_by body_by mgu_within walk path_within records_within words_within
+journal_names_in_quotes_row = refl
+
+journal_of_a_start_row : output journal_of_a_start_script ≡ journal_of_a_start_output
+unfolding digits tokens_within expression_at series_by grouped_by body_by mgu_within walk path_within records_within words_within
+journal_of_a_start_row = refl
+
+journal_of_each_event_row : output journal_of_each_event_script ≡ journal_of_each_event_output
+unfolding digits tokens_within expression_at series_by grouped_by body_by mgu_within walk path_within records_within words_within
+journal_of_each_event_row = refl
+
+journal_of_reductions_row : output journal_of_reductions_script ≡ journal_of_reductions_output
+unfolding digits tokens_within expression_at series_by grouped_by body_by mgu_within walk path_within records_within words_within
+journal_of_reductions_row = refl
+
+journal_prints_goals_row : output journal_prints_goals_script ≡ journal_prints_goals_output
+unfolding digits tokens_within expression_at series_by grouped_by body_by mgu_within walk path_within records_within words_within
+journal_prints_goals_row = refl
+
+last_line_without_a_feed_row : output last_line_without_a_feed_script ≡ last_line_without_a_feed_output
+unfolding digits tokens_within expression_at series_by grouped_by body_by mgu_within walk path_within records_within words_within
+last_line_without_a_feed_row = refl
+
+least_priority_of_a_child_is_clipped_row : output least_priority_of_a_child_is_clipped_script ≡ least_priority_of_a_child_is_clipped_output
+unfolding digits tokens_within expression_at series_by grouped_by body_by mgu_within walk path_within records_within words_within
+least_priority_of_a_child_is_clipped_row = refl
+
+lines_of_4096_bytes_row : output lines_of_4096_bytes_script ≡ lines_of_4096_bytes_output
+unfolding digits tokens_within expression_at series_by grouped_by body_by mgu_within walk path_within records_within words_within
+lines_of_4096_bytes_row = refl
+
+load_of_no_bytes_row : output load_of_no_bytes_script ≡ load_of_no_bytes_output
+unfolding digits tokens_within expression_at series_by grouped_by body_by mgu_within walk path_within records_within words_within
+load_of_no_bytes_row = refl
+
+load_without_a_last_feed_row : output load_without_a_last_feed_script ≡ load_without_a_last_feed_output
+unfolding digits tokens_within expression_at series_by grouped_by body_by mgu_within walk path_within records_within words_within
+load_without_a_last_feed_row = refl
+
+loaded_twice_row : output loaded_twice_script ≡ loaded_twice_output
+unfolding digits tokens_within expression_at series_by grouped_by body_by mgu_within walk path_within records_within words_within
+loaded_twice_row = refl
+
+loads_of_other_names_row : output loads_of_other_names_script ≡ loads_of_other_names_output
+unfolding digits tokens_within expression_at series_by grouped_by body_by mgu_within walk path_within records_within words_within
+loads_of_other_names_row = refl
+
+loads_of_others_are_skipped_row : output loads_of_others_are_skipped_script ≡ loads_of_others_are_skipped_output
+unfolding digits tokens_within expression_at series_by grouped_by body_by mgu_within walk path_within records_within words_within
+loads_of_others_are_skipped_row = refl
+
+merged_by_priorities_row : output merged_by_priorities_script ≡ merged_by_priorities_output
+unfolding digits tokens_within expression_at series_by grouped_by body_by mgu_within walk path_within records_within words_within
+merged_by_priorities_row = refl
+
+module_name_in_quotes_row : output module_name_in_quotes_script ≡ module_name_in_quotes_output
+unfolding digits tokens_within expression_at series_by grouped_by body_by mgu_within walk path_within records_within words_within
+module_name_in_quotes_row = refl
+
+module_without_clauses_row : output module_without_clauses_script ≡ module_without_clauses_output
+unfolding digits tokens_within expression_at series_by grouped_by body_by mgu_within walk path_within records_within words_within
+module_without_clauses_row = refl
+
+modules_are_listed_row : output modules_are_listed_script ≡ modules_are_listed_output
+unfolding digits tokens_within expression_at series_by grouped_by body_by mgu_within walk path_within records_within words_within
+modules_are_listed_row = refl
+
+modules_loaded_at_that_moment_row : output modules_loaded_at_that_moment_script ≡ modules_loaded_at_that_moment_output
+unfolding digits tokens_within expression_at series_by grouped_by body_by mgu_within walk path_within records_within words_within
+modules_loaded_at_that_moment_row = refl
+
+modules_of_two_accounts_row : output modules_of_two_accounts_script ≡ modules_of_two_accounts_output
+unfolding digits tokens_within expression_at series_by grouped_by body_by mgu_within walk path_within records_within words_within
+modules_of_two_accounts_row = refl
+
+names_before_the_first_space_row : output names_before_the_first_space_script ≡ names_before_the_first_space_output
+unfolding digits tokens_within expression_at series_by grouped_by body_by mgu_within walk path_within records_within words_within
+names_before_the_first_space_row = refl
+
+names_from_codes_row : output names_from_codes_script ≡ names_from_codes_output
+unfolding digits tokens_within expression_at series_by grouped_by body_by mgu_within walk path_within records_within words_within
+names_from_codes_row = refl
+
+names_in_order_of_first_use_row : output names_in_order_of_first_use_script ≡ names_in_order_of_first_use_output
+unfolding digits tokens_within expression_at series_by grouped_by body_by mgu_within walk path_within records_within words_within
+names_in_order_of_first_use_row = refl
+
+names_in_quotes_row : output names_in_quotes_script ≡ names_in_quotes_output
+unfolding digits tokens_within expression_at series_by grouped_by body_by mgu_within walk path_within records_within words_within
+names_in_quotes_row = refl
+
+names_of_63_and_64_bytes_row : output names_of_63_and_64_bytes_script ≡ names_of_63_and_64_bytes_output
+unfolding digits tokens_within expression_at series_by grouped_by body_by mgu_within walk path_within records_within words_within
+names_of_63_and_64_bytes_row = refl
+
+nested_patterns_row : output nested_patterns_script ≡ nested_patterns_output
+unfolding digits tokens_within expression_at series_by grouped_by body_by mgu_within walk path_within records_within words_within
+nested_patterns_row = refl
+
+no_accounts_row : output no_accounts_script ≡ no_accounts_output
+unfolding digits tokens_within expression_at series_by grouped_by body_by mgu_within walk path_within records_within words_within
+no_accounts_row = refl
+
+no_clause_for_a_goal_that_waits_row : output no_clause_for_a_goal_that_waits_script ≡ no_clause_for_a_goal_that_waits_output
+unfolding digits tokens_within expression_at series_by grouped_by body_by mgu_within walk path_within records_within words_within
+no_clause_for_a_goal_that_waits_row = refl
+
+no_cyclic_terms_row : output no_cyclic_terms_script ≡ no_cyclic_terms_output
+unfolding digits tokens_within expression_at series_by grouped_by body_by mgu_within walk path_within records_within words_within
+no_cyclic_terms_row = refl
+
+numbers_of_19_digits_row : output numbers_of_19_digits_script ≡ numbers_of_19_digits_output
+unfolding digits tokens_within expression_at series_by grouped_by body_by mgu_within walk path_within records_within words_within
+numbers_of_19_digits_row = refl
+
+one_text_in_two_accounts_row : output one_text_in_two_accounts_script ≡ one_text_in_two_accounts_output
+unfolding digits tokens_within expression_at series_by grouped_by body_by mgu_within walk path_within records_within words_within
+one_text_in_two_accounts_row = refl
+
+orders_of_each_kind_row : output orders_of_each_kind_script ≡ orders_of_each_kind_output
+unfolding digits tokens_within expression_at series_by grouped_by body_by mgu_within walk path_within records_within words_within
+orders_of_each_kind_row = refl
+
+orders_that_are_wrong_row : output orders_that_are_wrong_script ≡ orders_that_are_wrong_output
+unfolding digits tokens_within expression_at series_by grouped_by body_by mgu_within walk path_within records_within words_within
+orders_that_are_wrong_row = refl
+
+orders_that_wait_row : output orders_that_wait_script ≡ orders_that_wait_output
+unfolding digits tokens_within expression_at series_by grouped_by body_by mgu_within walk path_within records_within words_within
+orders_that_wait_row = refl
+
+other_messages_are_skipped_row : output other_messages_are_skipped_script ≡ other_messages_are_skipped_output
+unfolding digits tokens_within expression_at series_by grouped_by body_by mgu_within walk path_within records_within words_within
+other_messages_are_skipped_row = refl
+
+otherwise_takes_the_rest_row : output otherwise_takes_the_rest_script ≡ otherwise_takes_the_rest_output
+unfolding digits tokens_within expression_at series_by grouped_by body_by mgu_within walk path_within records_within words_within
+otherwise_takes_the_rest_row = refl
+
+otherwise_waits_row : output otherwise_waits_script ≡ otherwise_waits_output
+unfolding digits tokens_within expression_at series_by grouped_by body_by mgu_within walk path_within records_within words_within
+otherwise_waits_row = refl
+
+overflow_is_reported_row : output overflow_is_reported_script ≡ overflow_is_reported_output
+unfolding digits tokens_within expression_at series_by grouped_by body_by mgu_within walk path_within records_within words_within
+overflow_is_reported_row = refl
+
+places_of_one_variable_row : output places_of_one_variable_script ≡ places_of_one_variable_output
+unfolding digits tokens_within expression_at series_by grouped_by body_by mgu_within walk path_within records_within words_within
+places_of_one_variable_row = refl
+
+priorities_are_clipped_row : output priorities_are_clipped_script ≡ priorities_are_clipped_output
+unfolding digits tokens_within expression_at series_by grouped_by body_by mgu_within walk path_within records_within words_within
+priorities_are_clipped_row = refl
+
+priorities_are_clipped_downwards_row : output priorities_are_clipped_downwards_script ≡ priorities_are_clipped_downwards_output
+unfolding digits tokens_within expression_at series_by grouped_by body_by mgu_within walk path_within records_within words_within
+priorities_are_clipped_downwards_row = refl
+
+priorities_are_clipped_to_a_childs_range_row : output priorities_are_clipped_to_a_childs_range_script ≡ priorities_are_clipped_to_a_childs_range_output
+unfolding digits tokens_within expression_at series_by grouped_by body_by mgu_within walk path_within records_within words_within
+priorities_are_clipped_to_a_childs_range_row = refl
+
+priorities_are_clipped_upwards_row : output priorities_are_clipped_upwards_script ≡ priorities_are_clipped_upwards_output
+unfolding digits tokens_within expression_at series_by grouped_by body_by mgu_within walk path_within records_within words_within
+priorities_are_clipped_upwards_row = refl
+
+producer_and_consumer_row : output producer_and_consumer_script ≡ producer_and_consumer_output
+unfolding digits tokens_within expression_at series_by grouped_by body_by mgu_within walk path_within records_within words_within
+producer_and_consumer_row = refl
+
+quiet_or_not_row : output quiet_or_not_script ≡ quiet_or_not_output
+unfolding digits tokens_within expression_at series_by grouped_by body_by mgu_within walk path_within records_within words_within
+quiet_or_not_row = refl
+
+quiet_with_many_blanks_row : output quiet_with_many_blanks_script ≡ quiet_with_many_blanks_output
+unfolding digits tokens_within expression_at series_by grouped_by body_by mgu_within walk path_within records_within words_within
+quiet_with_many_blanks_row = refl
+
+range_of_a_child_is_clipped_row : output range_of_a_child_is_clipped_script ≡ range_of_a_child_is_clipped_output
+unfolding digits tokens_within expression_at series_by grouped_by body_by mgu_within walk path_within records_within words_within
+range_of_a_child_is_clipped_row = refl
+
+refused_reduction_leaves_the_journal_row : output refused_reduction_leaves_the_journal_script ≡ refused_reduction_leaves_the_journal_output
+unfolding digits tokens_within expression_at series_by grouped_by body_by mgu_within walk path_within records_within words_within
+refused_reduction_leaves_the_journal_row = refl
+
+report_that_holds_its_tail_row : output report_that_holds_its_tail_script ≡ report_that_holds_its_tail_output
+unfolding digits tokens_within expression_at series_by grouped_by body_by mgu_within walk path_within records_within words_within
+report_that_holds_its_tail_row = refl
+
+reset_after_each_event_row : output reset_after_each_event_script ≡ reset_after_each_event_output
+unfolding digits tokens_within expression_at series_by grouped_by body_by mgu_within walk path_within records_within words_within
+reset_after_each_event_row = refl
+
+reset_keeps_names_row : output reset_keeps_names_script ≡ reset_keeps_names_output
+unfolding digits tokens_within expression_at series_by grouped_by body_by mgu_within walk path_within records_within words_within
+reset_keeps_names_row = refl
+
+reset_of_another_account_row : output reset_of_another_account_script ≡ reset_of_another_account_output
+unfolding digits tokens_within expression_at series_by grouped_by body_by mgu_within walk path_within records_within words_within
+reset_of_another_account_row = refl
+
+reversed_list_row : output reversed_list_script ≡ reversed_list_output
+unfolding digits tokens_within expression_at series_by grouped_by body_by mgu_within walk path_within records_within words_within
+reversed_list_row = refl
+
+second_variable_wakes_row : output second_variable_wakes_script ≡ second_variable_wakes_output
+unfolding digits tokens_within expression_at series_by grouped_by body_by mgu_within walk path_within records_within words_within
+second_variable_wakes_row = refl
+
+sessions_stay_through_a_reset_row : output sessions_stay_through_a_reset_script ≡ sessions_stay_through_a_reset_output
+unfolding digits tokens_within expression_at series_by grouped_by body_by mgu_within walk path_within records_within words_within
+sessions_stay_through_a_reset_row = refl
+
+seventeen_accounts_row : output seventeen_accounts_script ≡ seventeen_accounts_output
+unfolding digits tokens_within expression_at series_by grouped_by body_by mgu_within walk path_within records_within words_within
+seventeen_accounts_row = refl
+
+shoens_32_deep_row : output shoens_32_deep_script ≡ shoens_32_deep_output
+unfolding digits tokens_within expression_at series_by grouped_by body_by mgu_within walk path_within records_within words_within
+shoens_32_deep_row = refl
+
+single_reductions_row : output single_reductions_script ≡ single_reductions_output
+unfolding digits tokens_within expression_at series_by grouped_by body_by mgu_within walk path_within records_within words_within
+single_reductions_row = refl
+
+sixteen_accounts_row : output sixteen_accounts_script ≡ sixteen_accounts_output
+unfolding digits tokens_within expression_at series_by grouped_by body_by mgu_within walk path_within records_within words_within
+sixteen_accounts_row = refl
+
+sixteen_accounts_interleaved_row : output sixteen_accounts_interleaved_script ≡ sixteen_accounts_interleaved_output
+unfolding digits tokens_within expression_at series_by grouped_by body_by mgu_within walk path_within records_within words_within
+sixteen_accounts_interleaved_row = refl
+
+slices_by_allowances_row : output slices_by_allowances_script ≡ slices_by_allowances_output
+unfolding digits tokens_within expression_at series_by grouped_by body_by mgu_within walk path_within records_within words_within
+slices_by_allowances_row = refl
+
+stopped_and_resumed_row : output stopped_and_resumed_script ≡ stopped_and_resumed_output
+unfolding digits tokens_within expression_at series_by grouped_by body_by mgu_within walk path_within records_within words_within
+stopped_and_resumed_row = refl
+
+stopped_before_exhausted_row : output stopped_before_exhausted_script ≡ stopped_before_exhausted_output
+unfolding digits tokens_within expression_at series_by grouped_by body_by mgu_within walk path_within records_within words_within
+stopped_before_exhausted_row = refl
+
+stopped_once_row : output stopped_once_script ≡ stopped_once_output
+unfolding digits tokens_within expression_at series_by grouped_by body_by mgu_within walk path_within records_within words_within
+stopped_once_row = refl
+
+stopped_parent_holds_back_row : output stopped_parent_holds_back_script ≡ stopped_parent_holds_back_output
+unfolding digits tokens_within expression_at series_by grouped_by body_by mgu_within walk path_within records_within words_within
+stopped_parent_holds_back_row = refl
+
+stopped_shoen_terminates_row : output stopped_shoen_terminates_script ≡ stopped_shoen_terminates_output
+unfolding digits tokens_within expression_at series_by grouped_by body_by mgu_within walk path_within records_within words_within
+stopped_shoen_terminates_row = refl
+
+stopped_while_exhausted_row : output stopped_while_exhausted_script ≡ stopped_while_exhausted_output
+unfolding digits tokens_within expression_at series_by grouped_by body_by mgu_within walk path_within records_within words_within
+stopped_while_exhausted_row = refl
+
+stream_bound_by_the_program_row : output stream_bound_by_the_program_script ≡ stream_bound_by_the_program_output
+unfolding digits tokens_within expression_at series_by grouped_by body_by mgu_within walk path_within records_within words_within
+stream_bound_by_the_program_row = refl
+
+truncated_load_row : output truncated_load_script ≡ truncated_load_output
+unfolding digits tokens_within expression_at series_by grouped_by body_by mgu_within walk path_within records_within words_within
+truncated_load_row = refl
+
+truncated_load_of_another_name_row : output truncated_load_of_another_name_script ≡ truncated_load_of_another_name_output
+unfolding digits tokens_within expression_at series_by grouped_by body_by mgu_within walk path_within records_within words_within
+truncated_load_of_another_name_row = refl
+
+two_shoens_on_one_stream_row : output two_shoens_on_one_stream_script ≡ two_shoens_on_one_stream_output
+unfolding digits tokens_within expression_at series_by grouped_by body_by mgu_within walk path_within records_within words_within
+two_shoens_on_one_stream_row = refl
+
+unification_fails_whole_row : output unification_fails_whole_script ≡ unification_fails_whole_output
+unfolding digits tokens_within expression_at series_by grouped_by body_by mgu_within walk path_within records_within words_within
+unification_fails_whole_row = refl
+
+unknown_predicates_fail_row : output unknown_predicates_fail_script ≡ unknown_predicates_fail_output
+unfolding digits tokens_within expression_at series_by grouped_by body_by mgu_within walk path_within records_within words_within
+unknown_predicates_fail_row = refl
+
+value_is_cut_row : output value_is_cut_script ≡ value_is_cut_output
+unfolding digits tokens_within expression_at series_by grouped_by body_by mgu_within walk path_within records_within words_within
+value_is_cut_row = refl
+
+value_of_4000_bytes_row : output value_of_4000_bytes_script ≡ value_of_4000_bytes_output
+unfolding digits tokens_within expression_at series_by grouped_by body_by mgu_within walk path_within records_within words_within
+value_of_4000_bytes_row = refl
+
+variables_of_a_second_start_row : output variables_of_a_second_start_script ≡ variables_of_a_second_start_output
+unfolding digits tokens_within expression_at series_by grouped_by body_by mgu_within walk path_within records_within words_within
+variables_of_a_second_start_row = refl
+
+waiting_goal_is_alive_row : output waiting_goal_is_alive_script ≡ waiting_goal_is_alive_output
+unfolding digits tokens_within expression_at series_by grouped_by body_by mgu_within walk path_within records_within words_within
+waiting_goal_is_alive_row = refl
+
+woken_by_a_binding_row : output woken_by_a_binding_script ≡ woken_by_a_binding_output
+unfolding digits tokens_within expression_at series_by grouped_by body_by mgu_within walk path_within records_within words_within
+woken_by_a_binding_row = refl
+
+woken_by_a_second_variable_row : output woken_by_a_second_variable_script ≡ woken_by_a_second_variable_output
+unfolding digits tokens_within expression_at series_by grouped_by body_by mgu_within walk path_within records_within words_within
+woken_by_a_second_variable_row = refl
+
+words_and_line_ends_row : output words_and_line_ends_script ≡ words_and_line_ends_output
+unfolding digits tokens_within expression_at series_by grouped_by body_by mgu_within walk path_within records_within words_within
+words_and_line_ends_row = refl
+
+-- all of them
+pub examples_hold : ExamplesHold
+examples_hold = record { a_failure_stops_nothing_else = a_failure_stops_nothing_else_row; abort_ends_what_is_below = abort_ends_what_is_below_row; abort_tells_nothing_below = abort_tells_nothing_below_row; abort_with_two_children = abort_with_two_children_row; aborted_child_ends_its_parent = aborted_child_ends_its_parent_row; account_name_of_16_bytes = account_name_of_16_bytes_row; account_name_of_17_bytes = account_name_of_17_bytes_row; account_with_a_capital = account_with_a_capital_row; accounts_alone = accounts_alone_row; alice_beside_a_runaway_account = alice_beside_a_runaway_account_row; alice_by_herself = alice_by_herself_row; allow_of_a_variable_waits = allow_of_a_variable_waits_row; allow_raises_an_allowance = allow_raises_an_allowance_row; allowance_has_a_greatest = allowance_has_a_greatest_row; allowance_of_0 = allowance_of_0_row; allowance_runs_out = allowance_runs_out_row; allowance_runs_out_twice = allowance_runs_out_twice_row; append_beside_another_account = append_beside_another_account_row; append_by_single_reductions = append_by_single_reductions_row; append_two_lists = append_two_lists_row; append_with_its_status = append_with_its_status_row; arithmetic = arithmetic_row; bad_load_lines = bad_load_lines_row; bad_source = bad_source_row; blank_first_line = blank_first_line_row; blank_lines = blank_lines_row; blanks_between_accounts = blanks_between_accounts_row; body_goals_inherit_priority = body_goals_inherit_priority_row; bytes_behind_a_load = bytes_behind_a_load_row; charges_go_up_the_tree = charges_go_up_the_tree_row; child_stopped_below_an_exhausted_shoen = child_stopped_below_an_exhausted_shoen_row; clash_outweighs_waiting = clash_outweighs_waiting_row; clause_below_otherwise_closes = clause_below_otherwise_closes_row; codes_cell_by_cell = codes_cell_by_cell_row; codes_that_are_wrong = codes_that_are_wrong_row; commands_that_are_none = commands_that_are_none_row; commands_to_shoens_that_are_none = commands_to_shoens_that_are_none_row; control_breaks_off = control_breaks_off_row; control_is_closed = control_is_closed_row; countdown = countdown_row; cyclic_term_is_reported = cyclic_term_is_reported_row; doubled_account = doubled_account_row; ended_or_exhausted = ended_or_exhausted_row; exhausted_innermost_first = exhausted_innermost_first_row; exhausted_parent_holds_back = exhausted_parent_holds_back_row; failed_goal_is_started_again = failed_goal_is_started_again_row; failure_is_reported = failure_is_reported_row; first_of_two_clauses = first_of_two_clauses_row; forms_that_are_faults = forms_that_are_faults_row; four_sessions = four_sessions_row; fresh_variables = fresh_variables_row; goal_of_a_child_has_its_greatest_priority = goal_of_a_child_has_its_greatest_priority_row; goal_waits_for_ever = goal_waits_for_ever_row; goals_of_a_start = goals_of_a_start_row; greater_priority_of_a_body = greater_priority_of_a_body_row; greater_priority_then_least_number = greater_priority_then_least_number_row; greatest_common_divisor = greatest_common_divisor_row; higher_variable_takes_the_lower = higher_variable_takes_the_lower_row; inner_shoen_stays_stopped = inner_shoen_stays_stopped_row; integers_are_no_atoms = integers_are_no_atoms_row; journal_by_pages = journal_by_pages_row; journal_names_in_quotes = journal_names_in_quotes_row; journal_of_a_start = journal_of_a_start_row; journal_of_each_event = journal_of_each_event_row; journal_of_reductions = journal_of_reductions_row; journal_prints_goals = journal_prints_goals_row; last_line_without_a_feed = last_line_without_a_feed_row; least_priority_of_a_child_is_clipped = least_priority_of_a_child_is_clipped_row; lines_of_4096_bytes = lines_of_4096_bytes_row; load_of_no_bytes = load_of_no_bytes_row; load_without_a_last_feed = load_without_a_last_feed_row; loaded_twice = loaded_twice_row; loads_of_other_names = loads_of_other_names_row; loads_of_others_are_skipped = loads_of_others_are_skipped_row; merged_by_priorities = merged_by_priorities_row; module_name_in_quotes = module_name_in_quotes_row; module_without_clauses = module_without_clauses_row; modules_are_listed = modules_are_listed_row; modules_loaded_at_that_moment = modules_loaded_at_that_moment_row; modules_of_two_accounts = modules_of_two_accounts_row; names_before_the_first_space = names_before_the_first_space_row; names_from_codes = names_from_codes_row; names_in_order_of_first_use = names_in_order_of_first_use_row; names_in_quotes = names_in_quotes_row; names_of_63_and_64_bytes = names_of_63_and_64_bytes_row; nested_patterns = nested_patterns_row; no_accounts = no_accounts_row; no_clause_for_a_goal_that_waits = no_clause_for_a_goal_that_waits_row; no_cyclic_terms = no_cyclic_terms_row; numbers_of_19_digits = numbers_of_19_digits_row; one_text_in_two_accounts = one_text_in_two_accounts_row; orders_of_each_kind = orders_of_each_kind_row; orders_that_are_wrong = orders_that_are_wrong_row; orders_that_wait = orders_that_wait_row; other_messages_are_skipped = other_messages_are_skipped_row; otherwise_takes_the_rest = otherwise_takes_the_rest_row; otherwise_waits = otherwise_waits_row; overflow_is_reported = overflow_is_reported_row; places_of_one_variable = places_of_one_variable_row; priorities_are_clipped = priorities_are_clipped_row; priorities_are_clipped_downwards = priorities_are_clipped_downwards_row; priorities_are_clipped_to_a_childs_range = priorities_are_clipped_to_a_childs_range_row; priorities_are_clipped_upwards = priorities_are_clipped_upwards_row; producer_and_consumer = producer_and_consumer_row; quiet_or_not = quiet_or_not_row; quiet_with_many_blanks = quiet_with_many_blanks_row; range_of_a_child_is_clipped = range_of_a_child_is_clipped_row; refused_reduction_leaves_the_journal = refused_reduction_leaves_the_journal_row; report_that_holds_its_tail = report_that_holds_its_tail_row; reset_after_each_event = reset_after_each_event_row; reset_keeps_names = reset_keeps_names_row; reset_of_another_account = reset_of_another_account_row; reversed_list = reversed_list_row; second_variable_wakes = second_variable_wakes_row; sessions_stay_through_a_reset = sessions_stay_through_a_reset_row; seventeen_accounts = seventeen_accounts_row; shoens_32_deep = shoens_32_deep_row; single_reductions = single_reductions_row; sixteen_accounts = sixteen_accounts_row; sixteen_accounts_interleaved = sixteen_accounts_interleaved_row; slices_by_allowances = slices_by_allowances_row; stopped_and_resumed = stopped_and_resumed_row; stopped_before_exhausted = stopped_before_exhausted_row; stopped_once = stopped_once_row; stopped_parent_holds_back = stopped_parent_holds_back_row; stopped_shoen_terminates = stopped_shoen_terminates_row; stopped_while_exhausted = stopped_while_exhausted_row; stream_bound_by_the_program = stream_bound_by_the_program_row; truncated_load = truncated_load_row; truncated_load_of_another_name = truncated_load_of_another_name_row; two_shoens_on_one_stream = two_shoens_on_one_stream_row; unification_fails_whole = unification_fails_whole_row; unknown_predicates_fail = unknown_predicates_fail_row; value_is_cut = value_is_cut_row; value_of_4000_bytes = value_of_4000_bytes_row; variables_of_a_second_start = variables_of_a_second_start_row; waiting_goal_is_alive = waiting_goal_is_alive_row; woken_by_a_binding = woken_by_a_binding_row; woken_by_a_second_variable = woken_by_a_second_variable_row; words_and_line_ends = words_and_line_ends_row }

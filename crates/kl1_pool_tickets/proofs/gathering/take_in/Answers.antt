@@ -1,0 +1,31 @@
+use Rattle.std.proofs.Common.{◌≡◌, [], ◌∷◌, ◌++◌, refl, sym, ap, ◌∙◌, subst, rules}
+use Rattle.std.specs.Prelude.{All}
+use Rattle.std.proofs.lemmas.List.Elements.{All-push}
+use Rattle.crossbeam_queue.specs.Passes.{view}
+use Rattle.kl1_pool_tickets.specs.Counts.{Counts}
+use Rattle.kl1_pool_tickets.specs.Totals.{TookIn}
+use Rattle.kl1_pool_tickets.proofs.Moves.{merges}
+use Rattle.kl1_pool_tickets.proofs.Apart.{took_share}
+use Rattle.kl1_pool_tickets.proofs.gathering.take_in.Goals as goal
+
+pub absorb-requires-clause-rule : goal.absorb-requires-clause-rule
+absorb-requires-clause-rule g c = merges c.loop-share.joint.id (view c.loop-share.joint) c.share.inside.pass.id (view c.share.inside.pass) c.loop-share.invariant.some
+
+pub loop-share-preserved : goal.loop-share-preserved
+loop-share-preserved g c =
+    let i = c.share.inside in
+    let counts : Counts = record { events = i.seat.events; steps = i.seat.steps; puts = i.puts; takes = i.takes } in
+    let left = c.pop.new.self.items in
+    record {
+      of = search rules;
+      free = search rules;
+      seats_of = subst (All (λ seat. seat.tally ≡ g.K.Naming.tally)) (sym c.push_reserved.ensures.items) (All-push (λ seat. seat.tally ≡ g.K.Naming.tally) c.loop-share.seats.items i.seat c.loop-share.invariant.seats_of c.share.invariant.0);
+      room = search rules;
+      some = search rules;
+      took = subst (λ l. TookIn c.args.shares.items left l (view c.args.joint.now) (view c.absorb.new.pass) c.add.new.sums c.add-in-Some.new.sums) (sym c.push_reserved.ensures.items)
+          (took_share c.args.shares.items left c.loop-share.seats.items (view c.args.joint.now) (view c.loop-share.joint) (view i.pass) (view c.absorb.new.pass) c.loop-share.sums.puts c.loop-share.sums.takes
+          c.add.new.sums c.add-in-Some.new.sums counts i.seat
+          (subst (λ l. TookIn c.args.shares.items l c.loop-share.seats.items (view c.args.joint.now) (view c.loop-share.joint) c.loop-share.sums.puts c.loop-share.sums.takes)
+          (c.in-Some.ensures.items ∙ ap (λ b. left ++ b ∷ []) (sym c.share.view_is)) c.loop-share.invariant.took)
+          c.share.invariant.4 c.share.invariant.3 c.absorb.ensures.rule c.add.ensures c.add-in-Some.ensures refl refl);
+    }

@@ -1,0 +1,124 @@
+// Workers, which take tickets and serve them.
+
+ghost use Rattle.std.specs.Prelude.{◌≡◌, ℕ, ◌<◌, ◌≤◌};
+ghost use Rattle.kl1_tally.specs.declared.amounts.TheConstants.{MOST_ACCOUNTS};
+ghost use Rattle.kl1_pool_tickets.specs.declared.serving.TheConstants.{MOST_STEPS};
+ghost use Rattle.kl1_pool_tickets.specs.Counts.{Moved, Acts, Worked, CanTake};
+
+use crate::common::Common;
+use crate::naming::Naming;
+use crate::share::Share;
+use std::sync::Wait;
+
+/// The most steps of a turn.
+pub const MOST_STEPS: u64 = 64;
+
+/// What a turn of an account did: how many steps, and whether its ticket is to be put back.
+#[derive(Clone, Copy)]
+pub struct Turn {
+    pub steps: u64,
+    pub again: bool,
+}
+
+/// The accounts of a pool, each under its lock, with a note whether its ticket is out.
+pub trait Accounts<K: Naming> {
+    /// Does steps of an account and counts them in `share`. Unless the ticket is to be put back, it notes that none is out.
+    fn turn<R: Wait>(&self, rt: &R, account: usize, share: &mut Share<K>) -> Turn
+        requires within { account < MOST_ACCOUNTS }
+        ensures few { result.steps ≤ MOST_STEPS }
+        ensures counted { Moved account result.steps result.steps 0 0 share.old share.new };
+
+    /// Notes that no ticket of an account is out.
+    fn clear_ticket<R: Wait>(&self, rt: &R, account: usize)
+        requires within { account < MOST_ACCOUNTS };
+}
+
+/// Puts the ticket of an account back; if it can't be put, none is out.
+fn put_back<R: Wait, K: Naming, A: Accounts<K>>(
+    rt: &R,
+    common: &Common<K>,
+    accounts: &A,
+    account: usize,
+    share: &mut Share<K>,
+)
+    requires within { account < MOST_ACCOUNTS }
+    ensures { Acts account 0 0 share.old share.new }
+{
+    if !share.put(rt, common, account) {
+        accounts.clear_ticket(rt, account);
+    }
+}
+
+/// Serves the ticket of an account.
+fn serve<R: Wait, K: Naming, A: Accounts<K>>(
+    rt: &R,
+    common: &Common<K>,
+    accounts: &A,
+    account: usize,
+    share: &mut Share<K>,
+)
+    requires within { account < MOST_ACCOUNTS }
+    ensures { (n : ℕ) × (n ≤ MOST_STEPS) × Acts account n n share.old share.new }
+{
+    let turn = accounts.turn(rt, account, share);
+    if turn.again {
+        put_back(rt, common, accounts, account, share);
+    }
+}
+
+/// Takes a ticket and serves it; false tells that there was none.
+fn serve_next<R: Wait, K: Naming, A: Accounts<K>>(
+    rt: &R,
+    common: &Common<K>,
+    accounts: &A,
+    share: &mut Share<K>,
+) -> bool
+    requires can { CanTake share.old }
+    ensures { Worked share.old share.new }
+{
+    match share.take(rt, common) {
+        Some(account) => {
+            serve(rt, common, accounts, account, share);
+            true
+        }
+        None => false,
+    }
+}
+
+/// Looks for a ticket once more, and sleeps if there is none, until there may be one.
+fn serve_or_sleep<R: Wait, K: Naming, A: Accounts<K>>(
+    rt: &R,
+    common: &Common<K>,
+    accounts: &A,
+    share: &mut Share<K>,
+)
+    requires can { CanTake share.old }
+    ensures { Worked share.old share.new }
+{
+    let heard = common.bell.listen();
+    let served = serve_next(rt, common, accounts, share);
+    if !served && !common.is_closed() {
+        common.bell.sleep(rt, heard);
+    }
+    common.bell.rise();
+}
+
+/// Takes tickets and serves them until `close` was called, or the share can take no more.
+pub fn worker<R: Wait, K: Naming, A: Accounts<K>>(
+    rt: &R,
+    common: &Common<K>,
+    accounts: &A,
+    share: &mut Share<K>,
+)
+    ensures { Worked share.old share.new }
+{
+    for _ in rt.forever() {
+        if common.is_closed() || !share.can_take() {
+            return;
+        }
+        if !serve_next(rt, common, accounts, share) && share.can_take() {
+            serve_or_sleep(rt, common, accounts, share);
+        }
+    }
+    unreachable!()
+}

@@ -1,0 +1,37 @@
+use Rattle.std.proofs.Common.{◌≡◌, ◌+◌, ◌*◌, take, ◌∙◌, sym, subst, arith}
+use Rattle.std.specs.Prelude.{filter}
+use Rattle.kl1_model.specs.Limits.{most_listed, most_reports}
+use Rattle.kl1_model_history.specs.Journal.{Kept}
+use Rattle.kl1_model_history.specs.Command.{written_lines}
+use Rattle.kl1_run_work.specs.Answers.{is_exception, reports_in}
+use Rattle.kl1_run_work.proofs.Pages.{lines_more, exceptions_more, lines_all, exceptions_all}
+use Rattle.kl1_run_work.proofs.reports.reported_by.Goals as goal
+
+pub loop-page-preserved : goal.loop-page-preserved
+loop-page-preserved g c =
+    let sum : 64 * (c.loop-page.page + 1) ≡ 64 * c.loop-page.page + most_listed = omega arith in
+    record {
+      reports = λ f fits.
+          let s = (g.H.Host.kept f c.page_from.new.host).state in
+          let P : Kept → Type 0 = λ k. c.loop-page.reported.reports.items ≡ written_lines (take (64 * c.loop-page.page) (reports_in k.state c.args.shoen.0)) in
+          let was = subst P (sym (c.page_from.ensures.same f fits)) (c.loop-page.invariant.reports f (c.page_from.ensures.before f fits)) in
+          lines_more (reports_in s c.args.shoen.0) _ (64 * c.loop-page.page) (64 * (c.loop-page.page + 1)) c.loop-page.reported.reports.items c.put_page.new.reported.reports.items sum (c.texts.ensures ∙ c.in_ok-listed.ensures.page f fits) was c.in_ok-put_page.ensures.reports;
+      exceptions = λ f fits.
+          let s = (g.H.Host.kept f c.page_from.new.host).state in
+          let P : Kept → Type 0 = λ k. c.loop-page.reported.exceptions.items ≡ written_lines (filter is_exception (take (64 * c.loop-page.page) (reports_in k.state c.args.shoen.0))) in
+          let was = subst P (sym (c.page_from.ensures.same f fits)) (c.loop-page.invariant.exceptions f (c.page_from.ensures.before f fits)) in
+          exceptions_more (reports_in s c.args.shoen.0) _ (64 * c.loop-page.page) (64 * (c.loop-page.page + 1)) c.loop-page.reported.exceptions.items c.put_page.new.reported.exceptions.items sum (c.texts.ensures ∙ c.in_ok-listed.ensures.page f fits) was c.in_ok-put_page.ensures.exceptions;
+      same = λ f fits. c.page_from.ensures.same f fits ∙ c.loop-page.invariant.same f (c.page_from.ensures.before f fits);
+      before = λ f fits. c.loop-page.invariant.before f (c.page_from.ensures.before f fits);
+      beside = c.page_from.ensures.beside ∙ c.loop-page.invariant.beside;
+    }
+
+pub returns-clause-reports : goal.returns-clause-reports
+returns-clause-reports g c = λ f fits.
+    let all : 64 * c.loop-page.page ≡ most_reports = omega arith in
+    lines_all (g.H.Host.kept f c.loop-page.host).state c.args.shoen.0 (64 * c.loop-page.page) c.loop-page.reported.reports.items all (c.loop-page.invariant.reports f fits)
+
+pub returns-clause-exceptions : goal.returns-clause-exceptions
+returns-clause-exceptions g c = λ f fits.
+    let all : 64 * c.loop-page.page ≡ most_reports = omega arith in
+    exceptions_all (g.H.Host.kept f c.loop-page.host).state c.args.shoen.0 (64 * c.loop-page.page) c.loop-page.reported.exceptions.items all (c.loop-page.invariant.exceptions f fits)

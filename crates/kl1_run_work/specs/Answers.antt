@@ -1,0 +1,180 @@
+-- What is told of a shoen once its run is over.
+use Rattle.std.specs.Prelude.{◌≡◌, ℕ, nat_eq, Bool, true, false, if◌then◌else◌, List, [], ◌∷◌, ◌++◌, map, take, filter, codes, Option, Some, None, unwrap_or, is_none, Ok, Err}
+use Rattle.std.specs.List.{starts_with}
+use Rattle.std.specs.declared.result.Result.{Result}
+use Rattle.kl1_model.specs.declared.condition.Condition.{Condition}
+use Rattle.kl1_model.specs.declared.condition.Condition.TheVariants.{Terminated, Aborted, Stopped, Exhausted, Running}
+use Rattle.kl1_model.specs.Limits.{most_reports}
+use Rattle.kl1_model.specs.Print.{cut_print}
+use Rattle.kl1_model.specs.State.{Origin, State}
+use Rattle.kl1_model.specs.Event.{value, status, is_number, Reply, loaded, opened, sent, reduced, ran, shown, status_is, listed, quiet_is, welcome, bye, was_reset, refused}
+use Rattle.kl1_model.specs.Asking.{answer, origin_at, elements_of}
+use Rattle.kl1_model.specs.Choice.{first}
+use Rattle.kl1_model_history.specs.Journal.{Kept}
+use Rattle.kl1_model_history.specs.Command.{written_line, written_lines}
+use Rattle.kl1_user_events.specs.Views.{refusal_of}
+use Rattle.kl1_user_events.specs.Whole.{whole_value}
+use Rattle.kl1_run_work.specs.declared.answers.Answers.{Answers}
+use Rattle.kl1_run_work.specs.declared.ending.Ending.{Ending}
+use Rattle.kl1_run_work.specs.declared.ending.Ending.TheVariants as ending
+use Rattle.kl1_run_work.specs.declared.stop.Stop.{Stop}
+use Rattle.kl1_run_work.specs.declared.stop.Stop.TheVariants as stop
+use Rattle.kl1_run_work.specs.declared.wanted.Wanted.{Wanted}
+use Rattle.kl1_run_work.specs.Works.{Worked, worked, source_refused, goal_refused}
+use Rattle.kl1_run_work.specs.Streams.{Stream, WritesAll, OneBreaksOff}
+
+-- the goal that a reply shows
+abbrev pub shown_in : Reply → List ℕ
+shown_in (shown text) = text
+shown_in (loaded name) = []
+shown_in (opened n) = []
+shown_in sent = []
+shown_in reduced = []
+shown_in (ran n) = []
+shown_in (status_is c charged allowance alive) = []
+shown_in (listed texts) = []
+shown_in (quiet_is b) = []
+shown_in (welcome name) = []
+shown_in bye = []
+shown_in was_reset = []
+shown_in (refused r) = []
+
+-- the texts that a reply lists
+abbrev pub listed_in : Reply → List (List ℕ)
+listed_in (listed texts) = texts
+listed_in (loaded name) = []
+listed_in (opened n) = []
+listed_in sent = []
+listed_in reduced = []
+listed_in (ran n) = []
+listed_in (shown text) = []
+listed_in (status_is c charged allowance alive) = []
+listed_in (quiet_is b) = []
+listed_in (welcome name) = []
+listed_in bye = []
+listed_in was_reset = []
+listed_in (refused r) = []
+
+-- a shoen's goal as it was started, with what is bound now, as a reply shows it
+abbrev pub shown_text : State → ℕ → List ℕ
+shown_text s n = shown_in (answer s (value n)).reply
+
+-- that goal without the cut of a reply
+abbrev pub whole_text : State → ℕ → List ℕ
+whole_text s n = unwrap_or (whole_value s n) []
+
+-- that goal whole, or as a reply shows it
+abbrev pub value_text : Bool → State → ℕ → List ℕ
+value_text is_whole s n = if is_whole then whole_text s n else shown_text s n
+
+-- its line
+unfoldable pub value_line : Bool → State → ℕ → List ℕ
+value_line is_whole s n = written_line (value_text is_whole s n)
+
+-- the reports of a shoen that the console started, each printed and cut
+abbrev pub reports_by : Option Origin → List (List ℕ)
+reports_by None = []
+reports_by (Some o) = map cut_print (elements_of o.reports)
+
+-- the reports of shoen `n`
+unfoldable pub reports_in : State → ℕ → List (List ℕ)
+reports_in s n = if is_number n then reports_by (origin_at n s.shoens) else []
+
+-- as many of them as an account makes
+unfoldable pub all_reports : State → ℕ → List (List ℕ)
+all_reports s n = take most_reports (reports_in s n)
+
+-- whether a report tells an exception
+abbrev pub is_exception : List ℕ → Bool
+is_exception report = starts_with nat_eq report (codes "exception(")
+
+-- the lines of a shoen's reports
+abbrev pub report_lines : State → ℕ → List ℕ
+report_lines s n = written_lines (all_reports s n)
+
+-- the lines of its exceptions
+abbrev pub exception_lines : State → ℕ → List ℕ
+exception_lines s n = written_lines (filter is_exception (all_reports s n))
+
+-- whether there is a byte
+abbrev pub is_some_byte : List ℕ → Bool
+is_some_byte [] = false
+is_some_byte (b ∷ bs) = true
+
+-- how a shoen stands that lives and isn't exhausted, by whether no goal can step, and how many goals are alive
+abbrev pub ending_alive : Bool → ℕ → Ending
+ending_alive is_quiet alive = if is_quiet then ending.Waits alive else ending.Unfinished
+
+-- how a shoen stands, by its state, whether no goal can step, whether there were exceptions, and how many goals are alive
+abbrev pub ending_by : Condition → Bool → Bool → ℕ → Ending
+ending_by Terminated is_quiet raised alive = if raised then ending.Raised else ending.Terminated
+ending_by Exhausted is_quiet raised alive = ending.Exhausted
+ending_by Aborted is_quiet raised alive = ending_alive is_quiet alive
+ending_by Stopped is_quiet raised alive = ending_alive is_quiet alive
+ending_by Running is_quiet raised alive = ending_alive is_quiet alive
+
+-- so by the reply that tells its state
+abbrev pub ending_in : Bool → Bool → Reply → Ending
+ending_in is_quiet raised (status_is c charged allowance alive) = ending_by c is_quiet raised alive
+ending_in is_quiet raised (loaded name) = ending.Unfinished
+ending_in is_quiet raised (opened n) = ending.Unfinished
+ending_in is_quiet raised sent = ending.Unfinished
+ending_in is_quiet raised reduced = ending.Unfinished
+ending_in is_quiet raised (ran n) = ending.Unfinished
+ending_in is_quiet raised (shown text) = ending.Unfinished
+ending_in is_quiet raised (listed texts) = ending.Unfinished
+ending_in is_quiet raised (quiet_is b) = ending.Unfinished
+ending_in is_quiet raised (welcome name) = ending.Unfinished
+ending_in is_quiet raised bye = ending.Unfinished
+ending_in is_quiet raised was_reset = ending.Unfinished
+ending_in is_quiet raised (refused r) = ending.Unfinished
+
+-- how a shoen stands
+unfoldable pub ending_of : State → ℕ → Bool → Ending
+ending_of s n raised = ending_in (is_none (first s)) raised (answer s (status n)).reply
+
+-- what is told of a shoen, as it is wanted
+pub record Tells (wanted : Wanted) (s : State) (n : ℕ) (a : Answers) : Type 0 where
+  pub value : a.value.items ≡ value_line wanted.whole s n
+  pub reports : a.reports.items ≡ report_lines s n
+  pub exceptions : a.exceptions.items ≡ exception_lines s n
+  pub ending : a.ending ≡ ending_of s n (is_some_byte (exception_lines s n))
+
+-- what is written to the first stream: the goal, whole if that is wanted, and the reports if they are wanted
+abbrev pub out_text : Wanted → State → ℕ → List ℕ
+out_text wanted s n = value_line wanted.whole s n ++ (if wanted.reports then report_lines s n else [])
+
+-- the shoen's run is over, and what is told of it was written to two streams, and nothing else
+pub record Shows (w : Worked) (wanted : Wanted) (out out' err err' : Stream) (e : Ending) (k : Kept) : Type 0 where
+  pub shoen : ℕ
+  pub works : w ≡ worked shoen k
+  pub value : WritesAll out out' (out_text wanted k.state shoen)
+  pub exceptions : WritesAll err err' (exception_lines k.state shoen)
+  pub ending : e ≡ ending_of k.state shoen (is_some_byte (exception_lines k.state shoen))
+
+-- the shoen's run is over, and a write of what is told of it to one of two streams failed
+pub record Breaks (w : Worked) (wanted : Wanted) (out out' err err' : Stream) (k : Kept) : Type 0 where
+  pub shoen : ℕ
+  pub works : w ≡ worked shoen k
+  pub breaks : OneBreaksOff out out' (out_text wanted k.state shoen) err err' (exception_lines k.state shoen)
+
+-- how the answers of a shoen were written to two streams: all of them; or a write failed
+abbrev pub IsToldTo : Answers → Wanted → Stream → Stream → Stream → Stream → Result Ending Stop → Type 0
+IsToldTo a wanted out out' err err' (Ok e) = WritesAll out out' (a.value.items ++ (if wanted.reports then a.reports.items else [])) × WritesAll err err' a.exceptions.items × (e ≡ a.ending)
+IsToldTo a wanted out out' err err' (Err (stop.Source place r)) = ⊥
+IsToldTo a wanted out out' err err' (Err (stop.Goal r)) = ⊥
+IsToldTo a wanted out out' err err' (Err stop.Memory) = ⊥
+IsToldTo a wanted out out' err err' (Err stop.Write) = OneBreaksOff out out' (a.value.items ++ (if wanted.reports then a.reports.items else [])) err err' a.exceptions.items
+
+-- nothing was written to two streams, and none of their calls failed
+pub record WritesNone (out out' err err' : Stream) : Type 0 where
+  pub first : out' ≡ out
+  pub second : err' ≡ err
+
+-- what was written, by how the work ended
+abbrev pub IsRun : Worked → Wanted → Stream → Stream → Stream → Stream → Result Ending Stop → Kept → Type 0
+IsRun w wanted out out' err err' (Ok e) k = Shows w wanted out out' err err' e k
+IsRun w wanted out out' err err' (Err (stop.Source place r)) k = (w ≡ source_refused place (refusal_of r) k) × WritesNone out out' err err'
+IsRun w wanted out out' err err' (Err (stop.Goal r)) k = (w ≡ goal_refused (refusal_of r) k) × WritesNone out out' err err'
+IsRun w wanted out out' err err' (Err stop.Memory) k = WritesNone out out' err err'
+IsRun w wanted out out' err err' (Err stop.Write) k = Breaks w wanted out out' err err' k

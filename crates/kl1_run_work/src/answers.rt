@@ -1,0 +1,185 @@
+// What is told of a shoen once its run is over.
+
+ghost use Rattle.std.specs.Prelude.{◌≡◌, ◌∷◌, ◌++◌, IfOk, OnOk};
+ghost use Rattle.kl1_model.specs.Asking.{answer};
+ghost use Rattle.kl1_model.specs.Event as model;
+ghost use Rattle.kl1_user_events.specs.Views.{reply_of};
+ghost use Rattle.kl1_run_work.specs.Answers.{shown_in, shown_text, value_text, value_line, ending_by, ending_in, ending_of, Tells};
+
+use crate::asked::ask;
+use crate::ending::Ending;
+use crate::reports::{Reported, reported_by};
+use crate::wanted::Wanted;
+use kl1_command::Host;
+use kl1_model::Condition;
+use kl1_user_events::{Query, Reply, ShoenNo};
+use std::alloc::{AllocError, Global};
+
+/// What is told of a shoen, as lines.
+#[derive(Drop)]
+pub struct Answers {
+    /// Its goal as started, with what is bound now.
+    pub value: Vec<u8>,
+    /// Its reports.
+    pub reports: Vec<u8>,
+    /// The exceptions among them.
+    pub exceptions: Vec<u8>,
+    /// How it stands.
+    pub ending: Ending,
+}
+
+/// The goal that a reply shows.
+fn shown_in(alloc: Global, reply: Reply) -> Vec<u8>
+    ensures { result.items ≡ shown_in (reply_of reply) }
+{
+    match reply {
+        Reply::Shown(text) => text,
+        Reply::Loaded(_name) => Vec::new(alloc),
+        Reply::Opened(_shoen) => Vec::new(alloc),
+        Reply::Sent => Vec::new(alloc),
+        Reply::Reduced => Vec::new(alloc),
+        Reply::Ran(_steps) => Vec::new(alloc),
+        Reply::Status { .. } => Vec::new(alloc),
+        Reply::Listed(_texts) => Vec::new(alloc),
+        Reply::Quiet(_is_quiet) => Vec::new(alloc),
+        Reply::Welcome(_name) => Vec::new(alloc),
+        Reply::Bye => Vec::new(alloc),
+        Reply::Reset => Vec::new(alloc),
+        Reply::Refused(_refusal) => Vec::new(alloc),
+    }
+}
+
+/// A shoen's goal as started, with what is bound now, as a reply shows it.
+fn shown_text<H: Host>(alloc: Global, host: &mut H, shoen: ShoenNo) -> Result<Vec<u8>, AllocError>
+    ensures text { IfOk result (λ text. (f : H.Reading) → H.fits host.new f → text.items ≡ shown_text (H.kept f host.new).state shoen.0) }
+    ensures same { (f : H.Reading) → H.fits host.new f → H.kept f host.new ≡ H.kept f host.old }
+    ensures before { (f : H.Reading) → H.fits host.new f → H.fits host.old f }
+    ensures beside { H.beside host.new ≡ H.beside host.old }
+{
+    let reply = ask(host, Query::Value(shoen))?;
+    Ok(shown_in(alloc, reply))
+}
+
+/// That goal whole, or as a reply shows it.
+fn value_text<H: Host>(
+    alloc: Global,
+    host: &mut H,
+    shoen: ShoenNo,
+    is_whole: bool,
+) -> Result<Vec<u8>, AllocError>
+    ensures text { IfOk result (λ text. (f : H.Reading) → H.fits host.new f → text.items ≡ value_text is_whole (H.kept f host.new).state shoen.0) }
+    ensures same { (f : H.Reading) → H.fits host.new f → H.kept f host.new ≡ H.kept f host.old }
+    ensures before { (f : H.Reading) → H.fits host.new f → H.fits host.old f }
+    ensures beside { H.beside host.new ≡ H.beside host.old }
+{
+    if !is_whole {
+        return shown_text(alloc, host, shoen);
+    }
+    match host.whole_value(shoen)? {
+        Some(text) => Ok(text),
+        None => Ok(Vec::new(alloc)),
+    }
+}
+
+/// Its line.
+fn value_line<H: Host>(
+    alloc: Global,
+    host: &mut H,
+    shoen: ShoenNo,
+    is_whole: bool,
+) -> Result<Vec<u8>, AllocError>
+    ensures value { IfOk result (λ line. (f : H.Reading) → H.fits host.new f → line.items ≡ value_line is_whole (H.kept f host.new).state shoen.0) }
+    ensures same { (f : H.Reading) → H.fits host.new f → H.kept f host.new ≡ H.kept f host.old }
+    ensures before { (f : H.Reading) → H.fits host.new f → H.fits host.old f }
+    ensures beside { H.beside host.new ≡ H.beside host.old }
+{
+    let mut line = value_text(alloc, host, shoen, is_whole)?;
+    line.push(b'\n')?;
+    Ok(line)
+}
+
+/// How a shoen of this state stands, by whether no goal can step, whether there were exceptions, and the goals alive.
+fn ending_by(condition: Condition, is_quiet: bool, raised: bool, alive: u64) -> Ending
+    ensures { result ≡ ending_by condition is_quiet raised alive }
+{
+    match condition {
+        Condition::Terminated => {
+            if raised {
+                Ending::Raised
+            } else {
+                Ending::Terminated
+            }
+        }
+        Condition::Exhausted => Ending::Exhausted,
+        Condition::Aborted | Condition::Stopped | Condition::Running => {
+            if is_quiet {
+                Ending::Waits(alive)
+            } else {
+                Ending::Unfinished
+            }
+        }
+    }
+}
+
+/// How a shoen stands whose state this reply tells.
+fn ending_in(is_quiet: bool, raised: bool, reply: &Reply) -> Ending
+    ensures { result ≡ ending_in is_quiet raised (reply_of reply.now) }
+{
+    match reply {
+        Reply::Status {
+            condition,
+            alive,
+            ..
+        } => ending_by(*condition, is_quiet, raised, *alive),
+        Reply::Loaded(_name) => Ending::Unfinished,
+        Reply::Opened(_shoen) => Ending::Unfinished,
+        Reply::Sent => Ending::Unfinished,
+        Reply::Reduced => Ending::Unfinished,
+        Reply::Ran(_steps) => Ending::Unfinished,
+        Reply::Shown(_text) => Ending::Unfinished,
+        Reply::Listed(_texts) => Ending::Unfinished,
+        Reply::Quiet(_is_quiet) => Ending::Unfinished,
+        Reply::Welcome(_name) => Ending::Unfinished,
+        Reply::Bye => Ending::Unfinished,
+        Reply::Reset => Ending::Unfinished,
+        Reply::Refused(_refusal) => Ending::Unfinished,
+    }
+}
+
+/// How a shoen stands, by whether there were exceptions.
+fn ending_of<H: Host>(host: &mut H, shoen: ShoenNo, raised: bool) -> Result<Ending, AllocError>
+    ensures ending { IfOk result (λ ending. (f : H.Reading) → H.fits host.new f → ending ≡ ending_of (H.kept f host.new).state shoen.0 raised) }
+    ensures same { (f : H.Reading) → H.fits host.new f → H.kept f host.new ≡ H.kept f host.old }
+    ensures before { (f : H.Reading) → H.fits host.new f → H.fits host.old f }
+    ensures beside { H.beside host.new ≡ H.beside host.old }
+{
+    let reply = ask(host, Query::Status(shoen))?;
+    let is_quiet = host.pick().is_none();
+    Ok(ending_in(is_quiet, raised, &reply))
+}
+
+/// What is told of a shoen, as it is wanted. Nothing changes.
+pub fn answers_of<H: Host>(
+    alloc: Global,
+    host: &mut H,
+    shoen: ShoenNo,
+    wanted: Wanted,
+) -> Result<Answers, AllocError>
+    ensures tells { IfOk result (λ answers. (f : H.Reading) → H.fits host.new f → Tells wanted (H.kept f host.new).state shoen.0 answers) }
+    ensures same { (f : H.Reading) → H.fits host.new f → H.kept f host.new ≡ H.kept f host.old }
+    ensures before { (f : H.Reading) → H.fits host.new f → H.fits host.old f }
+    ensures beside { H.beside host.new ≡ H.beside host.old }
+{
+    let value = value_line(alloc, host, shoen, wanted.whole)?;
+    let Reported {
+        reports,
+        exceptions,
+    } = reported_by(alloc, host, shoen)?;
+    let ending = ending_of(host, shoen, !exceptions.is_empty())?;
+    Ok(Answers {
+        value,
+        reports,
+        exceptions,
+        ending,
+    })
+}

@@ -1,0 +1,22 @@
+// What is asked of an account.
+
+ghost use Rattle.std.specs.Prelude.{◌≡◌, IfOk};
+ghost use Rattle.kl1_model.specs.Asking.{answer};
+ghost use Rattle.kl1_user_events.specs.Views.{query_of, reply_of};
+
+use kl1_command::Host;
+use kl1_user_events::{Event, Query, Reply};
+use std::alloc::AllocError;
+
+/// What is answered to a query, which changes nothing.
+pub(crate) fn ask<H: Host>(host: &mut H, query: Query) -> Result<Reply, AllocError>
+    ensures reply { IfOk result (λ reply. (f : H.Reading) → H.fits host.new f → (answer (H.kept f host.new).state (query_of query)).reply ≡ reply_of reply) }
+    ensures same { (f : H.Reading) → H.fits host.new f → H.kept f host.new ≡ H.kept f host.old }
+    ensures before { (f : H.Reading) → H.fits host.new f → H.fits host.old f }
+    ensures beside { H.beside host.new ≡ H.beside host.old }
+{
+    match host.apply(&Event::Read(query)) {
+        Ok(reply) => Ok(reply),
+        Err(error) => Err(error),
+    }
+}

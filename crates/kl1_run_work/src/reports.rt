@@ -1,0 +1,118 @@
+// The reports of a shoen, and the exceptions among them.
+
+ghost use Rattle.std.specs.Prelude.{◌≡◌, ◌++◌, ◌<◌, ◌*◌, [], length, map, take, drop, filter, IfOk, OnOk};
+ghost use Rattle.kl1_model_history.specs.Command.{written_line, written_lines};
+ghost use Rattle.kl1_model.specs.Limits.{most_listed};
+ghost use Rattle.kl1_user_events.specs.Views.{reply_of};
+ghost use Rattle.kl1_run_work.specs.Answers.{listed_in, is_exception, reports_in, report_lines, exception_lines};
+
+use crate::asked::ask;
+use kl1_command::Host;
+use kl1_user_events::{Listed, Query, Reply, ShoenNo};
+use std::alloc::{AllocError, Global};
+
+/// The reports that one reply lists.
+pub(crate) const PAGE: u64 = 64;
+
+/// The most replies that list the reports of an account.
+const MOST_PAGES: u64 = 1_024;
+
+/// The lines of a shoen's reports, and of the exceptions among them.
+#[derive(Drop)]
+pub(crate) struct Reported {
+    pub(crate) reports: Vec<u8>,
+    pub(crate) exceptions: Vec<u8>,
+}
+
+/// The texts that a reply lists.
+fn listed_in(alloc: Global, reply: Reply) -> Listed
+    ensures { result ≡ listed_in (reply_of reply) }
+{
+    match reply {
+        Reply::Listed(texts) => texts,
+        Reply::Loaded(_name) => Listed::new(alloc),
+        Reply::Opened(_shoen) => Listed::new(alloc),
+        Reply::Sent => Listed::new(alloc),
+        Reply::Reduced => Listed::new(alloc),
+        Reply::Ran(_steps) => Listed::new(alloc),
+        Reply::Shown(_text) => Listed::new(alloc),
+        Reply::Status { .. } => Listed::new(alloc),
+        Reply::Quiet(_is_quiet) => Listed::new(alloc),
+        Reply::Welcome(_name) => Listed::new(alloc),
+        Reply::Bye => Listed::new(alloc),
+        Reply::Reset => Listed::new(alloc),
+        Reply::Refused(_refusal) => Listed::new(alloc),
+    }
+}
+
+/// Whether a report tells an exception.
+fn is_exception(report: &[u8]) -> bool
+    ensures { result ≡ is_exception report.now }
+{
+    report.starts_with(b"exception(")
+}
+
+/// Puts a line after the bytes. After an `Err` some of it may be there.
+pub(crate) fn put_line(out: &mut Vec<u8>, line: &[u8]) -> Result<(), AllocError>
+    ensures { OnOk result (out.new.items ≡ out.old.items ++ written_line line.now) }
+{
+    out.extend_from_slice(line)?;
+    out.extend_from_slice(b"\n")
+}
+
+/// Puts the lines of reports, and of the exceptions among them, after those before. After an `Err` some of them may be there.
+fn put_page(texts: &[Vec<u8>], reported: &mut Reported) -> Result<(), AllocError>
+    ensures reports { OnOk result (reported.new.reports.items ≡ reported.old.reports.items ++ written_lines (map (λ t. t.items) texts.now)) }
+    ensures exceptions { OnOk result (reported.new.exceptions.items ≡ reported.old.exceptions.items ++ written_lines (filter is_exception (map (λ t. t.items) texts.now))) }
+{
+    let mut rest = texts;
+    while let [first, others @ ..] = rest {
+        put_line(&mut reported.reports, first.as_slice())?;
+        if is_exception(first.as_slice()) {
+            put_line(&mut reported.exceptions, first.as_slice())?;
+        }
+        rest = others;
+    }
+    Ok(())
+}
+
+/// The reports of a shoen from one on, the first being 1: at most 64.
+fn page_from<H: Host>(
+    alloc: Global,
+    host: &mut H,
+    shoen: ShoenNo,
+    done: u64,
+) -> Result<Listed, AllocError>
+    requires few { done < 65536 }
+    ensures page { IfOk result (λ page. (f : H.Reading) → H.fits host.new f → page ≡ take most_listed (drop done (reports_in (H.kept f host.new).state shoen.0))) }
+    ensures same { (f : H.Reading) → H.fits host.new f → H.kept f host.new ≡ H.kept f host.old }
+    ensures before { (f : H.Reading) → H.fits host.new f → H.fits host.old f }
+    ensures beside { H.beside host.new ≡ H.beside host.old }
+{
+    let from = done + 1;
+    let reply = ask(host, Query::Reports { shoen, from })?;
+    Ok(listed_in(alloc, reply))
+}
+
+/// The lines of a shoen's reports, and of the exceptions among them.
+pub(crate) fn reported_by<H: Host>(
+    alloc: Global,
+    host: &mut H,
+    shoen: ShoenNo,
+) -> Result<Reported, AllocError>
+    ensures reports { IfOk result (λ reported. (f : H.Reading) → H.fits host.new f → reported.reports.items ≡ report_lines (H.kept f host.new).state shoen.0) }
+    ensures exceptions { IfOk result (λ reported. (f : H.Reading) → H.fits host.new f → reported.exceptions.items ≡ exception_lines (H.kept f host.new).state shoen.0) }
+    ensures same { (f : H.Reading) → H.fits host.new f → H.kept f host.new ≡ H.kept f host.old }
+    ensures before { (f : H.Reading) → H.fits host.new f → H.fits host.old f }
+    ensures beside { H.beside host.new ≡ H.beside host.old }
+{
+    let mut reported = Reported {
+        reports: Vec::new(alloc),
+        exceptions: Vec::new(alloc),
+    };
+    for page in 0..MOST_PAGES {
+        let listed = page_from(alloc, host, shoen, PAGE * page)?;
+        put_page(listed.texts(), &mut reported)?;
+    }
+    Ok(reported)
+}

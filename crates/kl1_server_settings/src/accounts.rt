@@ -1,0 +1,30 @@
+// The file of accounts.
+
+ghost use Rattle.std.specs.Prelude.{◌≡◌, ◌<◌, ◌≤◌, length, IfOk, IsErrOf};
+ghost use Rattle.kl1_model.specs.Limits.{most_accounts};
+ghost use Rattle.kl1_session_keys.specs.Views.{entries_view};
+ghost use Rattle.kl1_server_settings.specs.Files.{NamesAccounts, NamesNone};
+ghost use Rattle.kl1_server_settings.specs.declared.halt.Halt.TheVariants as halts;
+
+use crate::halt::Halt;
+use kl1_command_lines::{ScriptFault, Source, read_all};
+use kl1_session_keys::{Key, read_keys};
+use std::alloc::Global;
+
+/// The accounts with their keys that a file names, which is read to its end.
+pub fn read_accounts<S: Source>(alloc: Global, source: &mut S) -> Result<Vec<Key>, Halt>
+    ensures ok { IfOk result (λ keys. NamesAccounts (S.remaining source.old) (entries_view keys.items)) }
+    ensures bad { IsErrOf result halts.Accounts → S.failures source.new ≡ S.failures source.old → NamesNone (S.remaining source.old) }
+    ensures some { IfOk result (λ keys. 1 ≤ length keys.items) }
+    ensures few { IfOk result (λ keys. length keys.items ≤ most_accounts) }
+{
+    match read_all(alloc, source) {
+        Ok(bytes) => match read_keys(alloc, bytes.as_slice()) {
+            Ok(Some(keys)) => Ok(keys),
+            Ok(None) => Err(Halt::Accounts),
+            Err(_) => Err(Halt::Memory),
+        },
+        Err(ScriptFault::Memory) => Err(Halt::Memory),
+        Err(_) => Err(Halt::Accounts),
+    }
+}

@@ -1,0 +1,59 @@
+// What becomes of an input.
+
+ghost use Rattle.std.specs.Prelude.{◌≡◌, ◌<◌, ℕ, length};
+ghost use Rattle.kl1_session.specs.Asking.{input_view};
+ghost use Rattle.kl1_command.specs.Commands.{command_view};
+ghost use Rattle.kl1_session_keys.specs.Views.{entries_view};
+ghost use Rattle.kl1_session_door.specs.Doors.{deed_of, doing};
+ghost use Rattle.kl1_session_door.specs.Views.{deed_view, IsOfOne, IsVisitor};
+
+use kl1_command::Command;
+use kl1_session::Input;
+use kl1_session_keys::{Key, find};
+use kl1_user_events::{Event, Refusal};
+
+/// What becomes of an input.
+#[derive(Clone, Copy)]
+pub enum Deed {
+    /// It is refused for this reason.
+    Refuse(Refusal),
+    /// It is refused as a login, or since nobody is logged in.
+    RefuseLogin,
+    /// A session of the account of this number, from 0, begins.
+    LogIn(usize),
+    /// The session of the account of this number ends.
+    LogOut(usize),
+    /// The command is done to the account of this number.
+    Perform(usize),
+}
+
+/// What becomes of an input of one who isn't logged in, or who is, to the account of the number `visitor`, from 0.
+pub fn deed_of(keys: &[Key], visitor: Option<usize>, input: &Input) -> Deed
+    ensures value { deed_view result ≡ deed_of (entries_view keys.now) visitor (input_view input.now) }
+    ensures within { IsVisitor (length keys.now) visitor → IsOfOne (length keys.now) result }
+{
+    match (visitor, input) {
+        (_, Input::Refused(refusal)) => Deed::Refuse(*refusal),
+        (None, Input::Login { name, key }) => {
+            match find(keys, name.as_slice(), key.as_slice()) {
+                None => Deed::RefuseLogin,
+                Some(number) => Deed::LogIn(number),
+            }
+        }
+        (None, Input::Command(_)) => Deed::RefuseLogin,
+        (Some(_), Input::Login { .. }) => Deed::RefuseLogin,
+        (Some(number), Input::Command(command)) => deed_by(number, command),
+    }
+}
+
+/// What becomes of a command of one who is logged in to the account of this number.
+fn deed_by(number: usize, command: &Command) -> Deed
+    ensures value { deed_view result ≡ doing number (command_view command.now) }
+    ensures within { (n : ℕ) → number < n → IsOfOne n result }
+{
+    match command {
+        Command::Does(Event::Login) => Deed::RefuseLogin,
+        Command::Does(Event::Logout) => Deed::LogOut(number),
+        _ => Deed::Perform(number),
+    }
+}

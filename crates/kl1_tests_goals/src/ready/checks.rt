@@ -1,0 +1,43 @@
+// The checks by their names.
+
+use crate::ready::goals::{
+    ends_of_shoens_are_seen, goals_are_found, goals_of_flags_are_removed, goals_wait_for_flags,
+    the_greatest_priority_then_the_least_number,
+};
+use crate::ready::queue::{places_come_in_order, the_greatest_priority_then_the_least_place};
+use kl1_tests_rows::{Text, put_check};
+
+/// Puts a line on each check after a report.
+pub fn put_ready_checks(out: &mut Text) {
+    let alloc = out.alloc;
+    let done = the_greatest_priority_then_the_least_place(alloc);
+    put_check(
+        out,
+        b"ready the_greatest_priority_then_the_least_place_goes_first",
+        done,
+    );
+    let done = places_come_in_order(alloc);
+    put_check(out, b"ready 100_places_come_in_order", done);
+    let done = goals_are_found(alloc);
+    put_check(out, b"ready goals_are_found_by_their_numbers", done);
+    let done = the_greatest_priority_then_the_least_number(alloc);
+    put_check(
+        out,
+        b"ready the_greatest_priority_then_the_least_number_goes_first",
+        done,
+    );
+    let done = ends_of_shoens_are_seen(alloc);
+    put_check(
+        out,
+        b"ready the_last_goal_of_a_shoen_is_told_from_others",
+        done,
+    );
+    let done = goals_wait_for_flags(alloc);
+    put_check(out, b"ready goals_of_shoens_without_their_flags_wait", done);
+    let done = goals_of_flags_are_removed(alloc);
+    put_check(
+        out,
+        b"ready goals_of_shoens_with_their_flags_are_removed",
+        done,
+    );
+}

@@ -1,0 +1,232 @@
+// What goals can do by the clauses of a code.
+
+ghost use Rattle.std.specs.Prelude.{◌<◌, length, IfSome};
+ghost use Rattle.kl1_clause.specs.Predicates.{AreSome};
+ghost use Rattle.kl1_match.specs.Instances.{AreThere};
+ghost use Rattle.kl1_goals_moves.specs.Moves.{taken_places};
+ghost use Rattle.kl1_goals_moves.specs.Kinds.{KindIn};
+
+use crate::matching::heads::{behind_colon, cell_of, put_numbers};
+use crate::matching::printed_cells::{push_arguments, put_cells, put_goals};
+use kl1_clause::{Code, Predicate};
+use kl1_goals_moves::{Kind, Move, Trial, commit, kind_of, move_of, or_none, standing_of};
+use kl1_model::BuiltIn;
+use kl1_read::read_goal;
+use kl1_store::{Cell, Store};
+use kl1_term::Term;
+use kl1_tests_rows::Text;
+use kl1_text::{AtomText, NameValue, put_atom};
+use std::alloc::AllocError;
+
+/// Puts what each argument of the goal after the colon of a goal can do, as a goal, in a new store.
+pub fn put_moves(answer: &mut Text, store: &mut Store<AtomText>, code: &Code, text: &[u8]) {
+    match read_goal(answer.alloc, text) {
+        Ok(goal) => {
+            let done = put_each(answer, store, code, &goal);
+            answer.note(done);
+        }
+        Err(_fault) => answer.fail(),
+    }
+}
+
+/// Puts what each argument of the goal after the colon of a goal can do, in a new store.
+fn put_each(
+    answer: &mut Text,
+    store: &mut Store<AtomText>,
+    code: &Code,
+    goal: &Term,
+) -> Result<(), AllocError> {
+    let _zero = store.fresh()?;
+    let cell = cell_of(answer, store, goal)?;
+    let Some(Cell::Structure(structure)) = behind_colon(store, cell) else {
+        return Err(AllocError);
+    };
+    let mut goals = Vec::new(answer.alloc);
+    push_arguments(store, structure, &mut goals)?;
+    goals.reverse();
+    put_all(answer, store, code, goals.as_slice())
+}
+
+/// Puts what each of some cells can do, as a goal.
+fn put_all(
+    answer: &mut Text,
+    store: &mut Store<AtomText>,
+    code: &Code,
+    goals: &[Cell<AtomText>],
+) -> Result<(), AllocError> {
+    for goal in goals {
+        put_move(answer, store, code, *goal)?;
+    }
+    Ok(())
+}
+
+/// Puts the word for a kind of goal.
+fn put_kind(answer: &mut Text, kind: &Kind<AtomText>) {
+    let word: &[u8] = match kind {
+        Kind::Calls(_) => b" call",
+        Kind::Unifies(_, _) => b" unification",
+        Kind::Assigns(_, _) => b" assignment",
+        Kind::Spells(_, _) => b" spelling",
+        Kind::Executes(_) => b" execution",
+        Kind::Goes => b" true",
+        Kind::Waits(_) => b" unbound",
+        Kind::Nothing => b" none",
+    };
+    answer.put(word);
+}
+
+/// What kind of goal a cell is, if it is one of the store.
+fn kind_in<N: NameValue>(store: &Store<N>, goal: Cell<N>) -> Option<Kind<N>>
+    ensures { IfSome result (KindIn store.now.held) }
+{
+    if !store.holds(goal) {
+        return None;
+    }
+    Some(kind_of(store, goal))
+}
+
+/// The clauses of a code that are tried on a goal of a kind.
+fn predicate_of<'a>(code: &'a Code, kind: &Kind<AtomText>) -> Predicate<'a, AtomText>
+    ensures { AreSome result.names.now result.clauses.now }
+{
+    match kind {
+        Kind::Calls(call) => Predicate {
+            names: code.names(),
+            clauses: code.predicate(&call.name, call.count),
+        },
+        _ => or_none(None),
+    }
+}
+
+/// Puts what kind of goal a cell is, and the variables that it waits for, or what it does.
+fn put_move(
+    answer: &mut Text,
+    store: &mut Store<AtomText>,
+    code: &Code,
+    goal: Cell<AtomText>,
+) -> Result<(), AllocError> {
+    match kind_in(store, goal) {
+        Some(kind) => put_of_kind(answer, store, code, &kind),
+        None => Err(AllocError),
+    }
+}
+
+/// Puts a kind of goal, and the variables that such a goal waits for, or what it does.
+fn put_of_kind(
+    answer: &mut Text,
+    store: &mut Store<AtomText>,
+    code: &Code,
+    kind: &Kind<AtomText>,
+) -> Result<(), AllocError>
+    requires { KindIn store.old.held kind.now }
+{
+    put_kind(answer, kind);
+    let mut trial = Trial::new(answer.alloc);
+    put_tried(answer, store, kind, predicate_of(code, kind), &mut trial)
+}
+
+/// Puts the variables that a goal of a kind waits for, or what it does, with a trial for what is tried.
+fn put_tried(
+    answer: &mut Text,
+    store: &mut Store<AtomText>,
+    kind: &Kind<AtomText>,
+    predicate: Predicate<'_, AtomText>,
+    trial: &mut Trial<AtomText>,
+) -> Result<(), AllocError>
+    requires kind { KindIn store.old.held kind.now }
+    requires predicate { AreSome predicate.names.now predicate.clauses.now }
+{
+    let tried = *kind;
+    match standing_of(store, tried, predicate, trial)? {
+        Some(clause) => {
+            let moved = *kind;
+            put_done(answer, store, moved, predicate, clause, trial)
+        }
+        None => {
+            answer.put(b" waits");
+            put_numbers(answer, trial.awaited.as_slice());
+            Ok(())
+        }
+    }
+}
+
+/// Puts the kind of an exception that a goal raises.
+fn put_raised(answer: &mut Text, kind: BuiltIn) -> Result<(), AllocError> {
+    answer.put(b" raises ");
+    let name: AtomText = NameValue::of(kind);
+    put_atom(&mut answer.bytes, &name)
+}
+
+/// Puts a name that a goal uses, and the term that it unifies with it.
+fn put_named(
+    answer: &mut Text,
+    store: &Store<AtomText>,
+    text: &[u8],
+    target: Cell<AtomText>,
+) -> Result<(), AllocError> {
+    answer.put(b" names ");
+    match AtomText::read(text) {
+        Some(name) => put_atom(&mut answer.bytes, &name)?,
+        None => answer.fail(),
+    }
+    put_cells(answer, store, &[target])
+}
+
+/// Puts the order for a shoen that a goal opens: the structure, and its six arguments.
+fn put_opened(
+    answer: &mut Text,
+    store: &Store<AtomText>,
+    structure: u32,
+) -> Result<(), AllocError> {
+    answer.put(b" opens");
+    put_cells(answer, store, &[Cell::Structure(structure)])
+}
+
+/// Puts what a goal of a kind does by clause `clause`: the clause and the goals of its body, the terms that it unifies,
+/// the name that it uses, the shoen that it opens, the kind of the exception that it raises, or a word.
+fn put_done(
+    answer: &mut Text,
+    store: &mut Store<AtomText>,
+    kind: Kind<AtomText>,
+    predicate: Predicate<'_, AtomText>,
+    clause: u64,
+    trial: &mut Trial<AtomText>,
+) -> Result<(), AllocError>
+    requires kind { KindIn store.old.held kind }
+    requires predicate { AreSome predicate.names.now predicate.clauses.now }
+{
+    match move_of(store, kind, predicate, clause, trial)? {
+        None => answer.fail(),
+        Some(Move::Raises(kind)) => put_raised(answer, kind)?,
+        Some(Move::Goes) => answer.put(b" goes"),
+        Some(Move::Unifies(left, right)) => put_cells(answer, store, &[left, right])?,
+        Some(Move::Names(target)) => put_named(answer, store, trial.text.as_slice(), target)?,
+        Some(Move::Opens(structure)) => put_opened(answer, store, structure)?,
+        Some(Move::Commits(place)) => {
+            answer.put(b" ");
+            answer.put_number(clause);
+            put_body(answer, store, predicate, place, trial)?;
+        }
+    }
+    Ok(())
+}
+
+/// Puts the goals of the body of the clause at a place, with the terms at a trial's places in them.
+fn put_body(
+    answer: &mut Text,
+    store: &mut Store<AtomText>,
+    predicate: Predicate<'_, AtomText>,
+    place: usize,
+    trial: &mut Trial<AtomText>,
+) -> Result<(), AllocError>
+    requires place { place < length predicate.clauses.now }
+    requires predicate { AreSome predicate.names.now predicate.clauses.now }
+    requires places { AreThere store.old.held (taken_places trial.old) }
+{
+    if !store.holds(Cell::Variable(0)) {
+        return Err(AllocError);
+    }
+    let mut goals = Vec::new(answer.alloc);
+    commit(store, predicate, place, trial, &mut goals)?;
+    put_goals(answer, store, goals.as_slice())
+}

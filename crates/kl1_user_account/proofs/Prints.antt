@@ -1,0 +1,21 @@
+-- A cell's term printed node by node.
+use Rattle.std.proofs.Common.{◌≡◌, ℕ, List, length}
+use Rattle.std.specs.Prelude.{Option}
+use Rattle.kl1_model.specs.Print.{print}
+use Rattle.kl1_term.specs.declared.printer.Printer.{Printer}
+use Rattle.kl1_term.specs.Page.{limited}
+use Rattle.kl1_term.specs.Printing.{text_of, waits_of}
+use Rattle.kl1_text.specs.declared.cell_name.CellName.{CellName}
+use Rattle.kl1_atoms.specs.declared.known.Known.{Known}
+use Rattle.kl1_store.specs.declared.cell.Cell.{Cell}
+use Rattle.kl1_store.specs.Held.{Held, AreIn}
+use Rattle.kl1_user_effects.specs.Fitting.{Reading, Fits}
+use Rattle.kl1_user_effects.specs.Account.{meaning}
+use Rattle.kl1_user_account.specs.Tops.{stacked_terms}
+
+-- with the terms on the stack the printer makes the cell's text, for each reading of these names, and it waits for as many terms
+pub record IsPrinting (ks : List Known) (h : Held CellName) (x : Cell CellName) (most : Option ℕ) (p : Printer) (stack : List (Cell CellName)) : Type 0 where
+  pub text : (f : Reading) → Fits ks f → text_of p (stacked_terms f h stack) ≡ limited most (print (meaning f h x))
+  pub waits : waits_of p ≡ length stack
+  pub inside : AreIn h stack
+  pub named : (f g : Reading) → Fits ks f → Fits ks g → stacked_terms f h stack ≡ stacked_terms g h stack

@@ -1,0 +1,124 @@
+-- What refuses a start, and the step of one that nothing refuses.
+use Rattle.std.proofs.Common.{◌≡◌, ℕ, suc, ◌+◌, ◌<◌, ◌≤◌, ◌&&◌, Bool, true, false, if◌then◌else◌, List, [], length, refl, sym, ap, ◌∙◌, arith, subst}
+use Rattle.std.specs.Prelude.{nat_lt, nat_le}
+use Rattle.std.proofs.lemmas.Bool.{ltb-true, ltb-false, lt-leb, le-leb, le-ltb, lt-ltb}
+use Rattle.kl1_model.specs.Limits.{most_goals, most_variables, most_nodes, most_shoens}
+use Rattle.kl1_model.specs.Term.{Term}
+use Rattle.kl1_model.specs.Meaning.{highest}
+use Rattle.kl1_model.specs.Nodes.{goal_nodes}
+use Rattle.kl1_model.specs.State.{State, names_of, with_names}
+use Rattle.kl1_model.specs.Event.{Transition, start, opened, refuse, recorded, named, limited, syntax, too_many_names, journal_full, with_entry, most_entries, most_names}
+use Rattle.kl1_model.specs.Step.{step}
+use Rattle.kl1_model.specs.Opening.{may_start, has_room_to_start, start_goal}
+use Rattle.kl1_atoms.specs.declared.known.Known.{Known}
+use Rattle.kl1_clause.specs.NameList.{with_texts}
+use Rattle.kl1_user_events.specs.declared.refusal.Refusal.TheVariants.{Names, Limit, Journal}
+use Rattle.kl1_user_account.specs.declared.counted.Counted.{Counted}
+use Rattle.kl1_user_account.specs.declared.startable.Starting.{Starting}
+use Rattle.kl1_user_account.specs.declared.startable.Starting.TheVariants.{Refused, Coded}
+use Rattle.kl1_user_effects.specs.Account.{texts_of}
+use Rattle.kl1_user_account.specs.Starting.{HasNames, has_room_beside, IsStartable, StartsAs}
+use Rattle.kl1_user_account.proofs.NamesOnce.{collected}
+
+pub names_used : (names texts : List (List ℕ)) (goal : Term) → texts ≡ with_names [] (names_of goal) → with_texts names texts ≡ with_names names (names_of goal)
+unfolding with_texts
+names_used names texts goal e = ap (with_names names) e ∙ collected names [] (names_of goal)
+
+-- ---- room
+
+-- room by what is counted of a state
+room_in : (s : State) (names : List Known) (c : Counted) (goal : Term) → HasNames s names c → has_room_to_start s goal ≡ has_room_beside c (highest goal) (goal_nodes goal)
+room_in s names c goal at =
+    ap (λ n. nat_lt n most_goals && nat_le (s.variables + suc (suc (highest goal))) most_variables && nat_le (s.nodes + goal_nodes goal) most_nodes && nat_lt s.last_shoen most_shoens) at.goals_are
+    ∙ ap (λ n. nat_lt c.goals most_goals && nat_le (n + suc (suc (highest goal))) most_variables && nat_le (s.nodes + goal_nodes goal) most_nodes && nat_lt s.last_shoen most_shoens) at.variables_are
+    ∙ ap (λ n. nat_lt c.goals most_goals && nat_le (c.variables + suc (suc (highest goal))) most_variables && nat_le (n + goal_nodes goal) most_nodes && nat_lt s.last_shoen most_shoens) at.nodes_are
+    ∙ ap (λ n. nat_lt c.goals most_goals && nat_le (c.variables + suc (suc (highest goal))) most_variables && nat_le (c.nodes + goal_nodes goal) most_nodes && nat_lt n most_shoens) at.shoens_are
+
+-- ---- the step
+
+-- what a start does if nothing refuses it
+abbrev pub done_by : State → ℕ → ℕ → ℕ → Term → Transition
+done_by s allowance low high goal = record { state = with_entry (start_goal s allowance low high goal); reply = opened (suc s.last_shoen) }
+
+-- the step of a start by whether it may be
+step_by : (s : State) (allowance low high : ℕ) (goal : Term) (b : Bool) → may_start allowance low high goal ≡ b →
+    step s (start allowance low high goal) ≡ (if b then named s (with_names s.names (names_of goal)) (limited s (has_room_to_start s goal) (recorded s (done_by s allowance low high goal))) else refuse s syntax)
+step_by s allowance low high goal b e = ap (λ z. if z then named s (with_names s.names (names_of goal)) (limited s (has_room_to_start s goal) (recorded s (done_by s allowance low high goal))) else refuse s syntax) e
+
+step_names : (s : State) (allowance low high : ℕ) (goal : Term) (texts : List (List ℕ)) → may_start allowance low high goal ≡ true → texts ≡ with_names [] (names_of goal) → nat_lt most_names (length (with_texts s.names texts)) ≡ true → step s (start allowance low high goal) ≡ refuse s too_many_names
+step_names s allowance low high goal texts may is many =
+    let lt = ltb-true most_names (length (with_texts s.names texts)) many in
+    let e : length (with_texts s.names texts) ≡ length (with_names s.names (names_of goal)) = ap (λ (ns : List (List ℕ)). length ns) (names_used s.names texts goal is) in
+    step_by s allowance low high goal true may
+    ∙ ap (λ b. if b then limited s (has_room_to_start s goal) (recorded s (done_by s allowance low high goal)) else refuse s too_many_names) (lt-leb (length (with_names s.names (names_of goal))) most_names (omega arith))
+
+fits_names : (s : State) (allowance low high : ℕ) (goal : Term) (texts : List (List ℕ)) → may_start allowance low high goal ≡ true → texts ≡ with_names [] (names_of goal) → nat_lt most_names (length (with_texts s.names texts)) ≡ false →
+    step s (start allowance low high goal) ≡ limited s (has_room_to_start s goal) (recorded s (done_by s allowance low high goal))
+fits_names s allowance low high goal texts may is few =
+    let le = ltb-false most_names (length (with_texts s.names texts)) few in
+    let e : length (with_texts s.names texts) ≡ length (with_names s.names (names_of goal)) = ap (λ (ns : List (List ℕ)). length ns) (names_used s.names texts goal is) in
+    step_by s allowance low high goal true may
+    ∙ ap (λ b. if b then limited s (has_room_to_start s goal) (recorded s (done_by s allowance low high goal)) else refuse s too_many_names) (le-leb (length (with_names s.names (names_of goal))) most_names (omega arith))
+
+fits_room : (s : State) (allowance low high : ℕ) (goal : Term) (texts : List (List ℕ)) (b : Bool) → may_start allowance low high goal ≡ true → texts ≡ with_names [] (names_of goal) → nat_lt most_names (length (with_texts s.names texts)) ≡ false → has_room_to_start s goal ≡ b →
+    step s (start allowance low high goal) ≡ limited s b (recorded s (done_by s allowance low high goal))
+fits_room s allowance low high goal texts b may is few keeps = fits_names s allowance low high goal texts may is few ∙ ap (λ z. limited s z (recorded s (done_by s allowance low high goal))) keeps
+
+step_full : (s : State) (allowance low high : ℕ) (goal : Term) (texts : List (List ℕ)) → may_start allowance low high goal ≡ true → texts ≡ with_names [] (names_of goal) → nat_lt most_names (length (with_texts s.names texts)) ≡ false → has_room_to_start s goal ≡ true → most_entries ≤ s.entries →
+    step s (start allowance low high goal) ≡ refuse s journal_full
+step_full s allowance low high goal texts may is few keeps le =
+    fits_room s allowance low high goal texts true may is few keeps
+    ∙ ap (λ b. if b then done_by s allowance low high goal else refuse s journal_full) (le-ltb s.entries most_entries le)
+
+pub step_done : (s : State) (allowance low high : ℕ) (goal : Term) (texts : List (List ℕ)) → may_start allowance low high goal ≡ true → texts ≡ with_names [] (names_of goal) → nat_lt most_names (length (with_texts s.names texts)) ≡ false → has_room_to_start s goal ≡ true → s.entries < most_entries →
+    step s (start allowance low high goal) ≡ done_by s allowance low high goal
+step_done s allowance low high goal texts may is few keeps lt =
+    fits_room s allowance low high goal texts true may is few keeps
+    ∙ ap (λ b. if b then done_by s allowance low high goal else refuse s journal_full) (lt-ltb s.entries most_entries lt)
+
+-- ---- a goal that is to be started
+
+same_names : (s : State) (names : List Known) (c : Counted) (texts : List (List ℕ)) (b : Bool) → HasNames s names c → nat_lt most_names (length (with_texts (texts_of names) texts)) ≡ b → nat_lt most_names (length (with_texts s.names texts)) ≡ b
+same_names s names c texts b at e = ap (λ (ns : List (List ℕ)). nat_lt most_names (length (with_texts ns texts))) at.names_are ∙ e
+
+texts_as : (goal code : Term) (texts : List (List ℕ)) → code ≡ goal → texts ≡ with_names [] (names_of code) → texts ≡ with_names [] (names_of goal)
+texts_as goal code texts same is = is ∙ ap (λ (x : Term). with_names [] (names_of x)) same
+
+-- if its names are too many
+pub refused_crowd : (names : List Known) (c : Counted) (allowance low high : ℕ) (goal code : Term) (texts : List (List ℕ)) → may_start allowance low high goal ≡ true → code ≡ goal → texts ≡ with_names [] (names_of code) → nat_lt most_names (length (with_texts (texts_of names) texts)) ≡ true →
+    StartsAs names c allowance low high goal (Refused Names)
+refused_crowd names c allowance low high goal code texts may same is many =
+    λ s at. step_names s allowance low high goal texts may (texts_as goal code texts same is) (same_names s names c texts true at many)
+
+-- the room for a goal by the numbers of its code
+pub room_for : (c : Counted) (variables nodes : ℕ) (goal code : Term) (b : Bool) → code ≡ goal → variables ≡ highest goal → nodes ≡ goal_nodes code → has_room_beside c variables nodes ≡ b → has_room_beside c (highest goal) (goal_nodes goal) ≡ b
+room_for c variables nodes goal code b same v n e =
+    sym (ap (λ z. has_room_beside c z nodes) v ∙ ap (has_room_beside c (highest goal)) (n ∙ ap goal_nodes same)) ∙ e
+
+-- if a limit would be passed
+pub refused_limit : (names : List Known) (c : Counted) (allowance low high : ℕ) (goal code : Term) (texts : List (List ℕ)) → may_start allowance low high goal ≡ true → code ≡ goal → texts ≡ with_names [] (names_of code) → nat_lt most_names (length (with_texts (texts_of names) texts)) ≡ false →
+    has_room_beside c (highest goal) (goal_nodes goal) ≡ false → StartsAs names c allowance low high goal (Refused Limit)
+refused_limit names c allowance low high goal code texts may same is few keeps =
+    λ s at. fits_room s allowance low high goal texts false may (texts_as goal code texts same is) (same_names s names c texts false at few) (room_in s names c goal at ∙ keeps)
+
+-- if the journal is full
+pub refused_full : (names : List Known) (c : Counted) (allowance low high : ℕ) (goal code : Term) (texts : List (List ℕ)) → may_start allowance low high goal ≡ true → code ≡ goal → texts ≡ with_names [] (names_of code) → nat_lt most_names (length (with_texts (texts_of names) texts)) ≡ false →
+    has_room_beside c (highest goal) (goal_nodes goal) ≡ true → most_entries ≤ c.entries → StartsAs names c allowance low high goal (Refused Journal)
+refused_full names c allowance low high goal code texts may same is few keeps full =
+    λ s at. step_full s allowance low high goal texts may (texts_as goal code texts same is) (same_names s names c texts false at few) (room_in s names c goal at ∙ keeps) (let e = at.entries_are in omega arith)
+
+-- if it may be started
+pub startable : (names : List Known) (c : Counted) (allowance low high : ℕ) (goal code : Term) (texts : List (List ℕ)) → may_start allowance low high goal ≡ true → code ≡ goal → texts ≡ with_names [] (names_of code) → nat_lt most_names (length (with_texts (texts_of names) texts)) ≡ false →
+    has_room_beside c (highest goal) (goal_nodes goal) ≡ true → c.entries < most_entries → StartsAs names c allowance low high goal (Coded code)
+startable names c allowance low high goal code texts may same is few keeps room =
+    let N : List (List ℕ) → Type 0 = λ ts. nat_lt most_names (length (with_texts (texts_of names) ts)) ≡ false in
+    record { code_is = same; may = may; few = subst N (texts_as goal code texts same is) few; keeps = keeps; room = room }
+
+-- the step of a state with these names and counts, if the goal may be started
+pub step_startable : (s : State) (names : List Known) (c : Counted) (allowance low high : ℕ) (goal code : Term) → HasNames s names c → IsStartable names c allowance low high goal code → step s (start allowance low high goal) ≡ done_by s allowance low high goal
+step_startable s names c allowance low high goal code at may =
+    step_done s allowance low high goal (with_names [] (names_of goal)) may.may refl (same_names s names c (with_names [] (names_of goal)) false at may.few) (room_in s names c goal at ∙ may.keeps) (let e = at.entries_are in let lt = may.room in omega arith)
+
+-- what is known of the code of a goal that may be started
+pub startable_of : (names : List Known) (c : Counted) (allowance low high : ℕ) (goal code : Term) (o : Starting) → o ≡ Coded code → StartsAs names c allowance low high goal o → IsStartable names c allowance low high goal code
+startable_of names c allowance low high goal code o e s = let S : Starting → Type 0 = λ z. StartsAs names c allowance low high goal z in subst S e s

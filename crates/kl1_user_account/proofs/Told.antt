@@ -1,0 +1,116 @@
+-- Goals that were told of bindings are looked at again.
+use Rattle.std.proofs.Common.{◌≡◌, ℕ, ◌+◌, ◌<◌, List, [], ◌∷◌, length, drop, get_or, sym, ap, ◌∙◌, arith, subst, drop-cons, add-one, Bool, true, false, if◌then◌else◌}
+use Rattle.std.specs.Prelude.{Option, Some, None}
+use Rattle.std.specs.List.{find}
+use Rattle.std.proofs.lemmas.List.{drop_all}
+use Rattle.kl1_text.specs.declared.cell_name.CellName.{CellName}
+use Rattle.kl1_store.specs.Held.{Held}
+use Rattle.kl1_store.specs.Hooks.{Hook, Kept, HasGrown}
+use Rattle.kl1_goals.specs.declared.task.Task.{Task}
+use Rattle.kl1_goals.specs.declared.goal.Goal.{Goal}
+use Rattle.kl1_goals.specs.Lists.{has_number}
+use Rattle.kl1_shoen_paths.specs.declared.shoen.Shoen.{Shoen}
+use Rattle.kl1_codes_modules.specs.Numbered.{Numbered}
+use Rattle.kl1_store_hooks.specs.Hanging.{AreAmong}
+use Rattle.kl1_user_effects.specs.declared.draft.Change.{Change}
+use Rattle.kl1_user_effects.specs.Fitting.{Reading}
+use Rattle.kl1_user_effects.specs.Kept.{IsTaskIn, AreGoalsIn}
+use Rattle.kl1_user_effects.specs.Works.{Knows}
+use Rattle.kl1_user_effects.specs.Drafts.{restood}
+use Rattle.kl1_user_account.specs.Waking.{AreSettledOr, IsFor, AreFor}
+use Rattle.kl1_user_account.specs.Looking.{FindsOut, AreOthersOf, Wakes, WakesTold}
+use Rattle.kl1_user_account.proofs.GoalOrder.{same_goal}
+use Rattle.kl1_user_account.proofs.Waking.{one_settled, none_settled, all_settled}
+use Rattle.kl1_store_hooks.proofs.Hooked.{HasGrown-trans}
+use Rattle.kl1_user_account.proofs.Restood.{each_is, restood_holds, restood_push}
+
+-- ---- one number
+
+-- a goal that a table finds by its number, which isn't this one
+abbrev IsOther : List (Goal CellName) → ℕ → Goal CellName → Type 0
+IsOther goals removed g = (find (has_number g.number) goals ≡ Some g) × (g.number ≡ removed → ⊥)
+
+-- if no goal has the number, nothing changes
+none_wakes : (ms : List Numbered) (shoens : List (Shoen CellName)) (h : Held CellName) (hooks : List Hook) (goals : List (Goal CellName)) (removed n : ℕ) (changes : List Change) → ((g : Goal CellName) → IsOther goals removed g → g.number ≡ n → ⊥) →
+    Wakes ms shoens h hooks hooks goals removed n changes changes
+none_wakes ms shoens h hooks goals removed n changes none f knows gs others told settled =
+    none_settled f hooks h ms shoens n told (restood changes gs)
+    (restood_holds (λ g. g.number ≡ n → ⊥) (λ g o p. p) changes gs
+    (each_is (IsOther goals removed) (λ g. g.number ≡ n → ⊥) gs none others))
+    settled
+
+-- the number of the goal that is removed
+pub removed_wakes : (ms : List Numbered) (shoens : List (Shoen CellName)) (h : Held CellName) (hooks : List Hook) (goals : List (Goal CellName)) (removed n : ℕ) (changes : List Change) → n ≡ removed → Wakes ms shoens h hooks hooks goals removed n changes changes
+removed_wakes ms shoens h hooks goals removed n changes e = none_wakes ms shoens h hooks goals removed n changes (λ g other same. other.1 (same ∙ e))
+
+finds_same : (goals : List (Goal CellName)) (n : ℕ) (found : Option (Goal CellName)) (g : Goal CellName) → found ≡ find (has_number n) goals → find (has_number g.number) goals ≡ Some g → g.number ≡ n → found ≡ Some g
+finds_same goals n found g e is same = e ∙ ap (λ m. find (has_number m) goals) (sym same) ∙ is
+
+-- a number that no goal has
+pub absent_wakes : (ms : List Numbered) (shoens : List (Shoen CellName)) (h : Held CellName) (hooks : List Hook) (goals : List (Goal CellName)) (removed n : ℕ) (changes : List Change) → None ≡ find (has_number n) goals → Wakes ms shoens h hooks hooks goals removed n changes changes
+absent_wakes ms shoens h hooks goals removed n changes e =
+    none_wakes ms shoens h hooks goals removed n changes (λ g other same. let k = finds_same goals n None g e other.0 same in absurd (cc))
+
+-- the task of a goal that is found is of the store
+pub task_in : (h : Held CellName) (p : Goal CellName → Bool) (goals : List (Goal CellName)) (goal : Goal CellName) → AreGoalsIn h goals → Some goal ≡ find p goals → IsTaskIn h goal.task
+task_in h p [] goal all e = absurd (cc)
+task_in h p (g ∷ goals) goal all e = here (p g) (task_in h p goals goal all.1) e
+  where
+    here : (b : Bool) → (Some goal ≡ find p goals → IsTaskIn h goal.task) → Some goal ≡ (if b then Some g else find p goals) → IsTaskIn h goal.task
+    here true later k = let T : Task CellName → Type 0 = λ s. IsTaskIn h s in subst T (ap (λ (a : Goal CellName). a.task) (sym (same_goal goal g k))) all.0
+    here false later k = later k
+
+-- a goal's number
+pub goal_wakes : (ms : List Numbered) (shoens : List (Shoen CellName)) (h : Held CellName) (hooks more : List Hook) (goals : List (Goal CellName)) (removed n : ℕ) (before after : List Change) (goal : Goal CellName) → Some goal ≡ find (has_number n) goals → AreAmong hooks more →
+    FindsOut ms shoens h more goal.shoen goal.task n before after → Wakes ms shoens h hooks more goals removed n before after
+goal_wakes ms shoens h hooks more goals removed n before after goal e up l f knows gs others told settled =
+    let c = l.change in
+    let F : List (Goal CellName) → Type 0 = λ ks. AreSettledOr told f more h ms shoens ks in
+    let N : ℕ → Type 0 = λ m. AreSettledOr (m ∷ told) f hooks h ms shoens (restood before gs) in
+    let M : ℕ → Type 0 = λ m. AreFor m goal.shoen goal.task (restood before gs) in
+    let is : (g : Goal CellName) → IsOther goals removed g → g.number ≡ n → goal ≡ g = λ g other same. same_goal goal g (finds_same goals n (Some goal) g e other.0 same) in
+    let for : AreFor n goal.shoen goal.task (restood before gs) =
+    restood_holds (IsFor n goal.shoen goal.task) (λ g o p. p) before gs
+    (each_is (IsOther goals removed) (IsFor n goal.shoen goal.task) gs
+    (λ g other same. (ap (λ (a : Goal CellName). a.shoen) (sym (is g other same)), ap (λ (a : Goal CellName). a.task) (sym (is g other same))))
+    others) in
+    subst F (sym (ap (λ cs. restood cs gs) l.is ∙ restood_push before c gs))
+    (one_settled f hooks more h ms shoens goal.shoen goal.task c told (restood before gs) up (subst M (sym l.number_is) for) (l.found f knows) (subst N (sym l.number_is) settled))
+
+-- ---- one number after another
+
+-- a store that holds what it held, and goals of which only those of the numbers that are left are pending still
+pub record StillWakes (ms : List Numbered) (shoens : List (Shoen CellName)) (old new : Kept CellName) (goals : List (Goal CellName)) (removed : ℕ) (told left : List ℕ) (before after : List Change) : Type 0 where
+  pub held : new.held ≡ old.held
+  pub grown : HasGrown old new
+  pub wakes : (f : Reading) → Knows ms f → (gs : List (Goal CellName)) → AreOthersOf goals removed gs →
+      AreSettledOr told f old.hooks old.held ms shoens (restood before gs) → AreSettledOr left f new.hooks old.held ms shoens (restood after gs)
+
+-- one more was looked at
+pub next_woken : (ms : List Numbered) (shoens : List (Shoen CellName)) (old mid new : Kept CellName) (goals : List (Goal CellName)) (removed : ℕ) (told : List ℕ) (i d : ℕ) (before now after : List Change) → i < length told →
+    StillWakes ms shoens old mid goals removed told (drop i told) before now → new.held ≡ mid.held → HasGrown mid new → Wakes ms shoens mid.held mid.hooks new.hooks goals removed (get_or told i d) now after →
+    StillWakes ms shoens old new goals removed told (drop (i + 1) told) before after
+next_woken ms shoens old mid new goals removed told i d before now after lt s same grown wakes =
+    let W : Held CellName → Type 0 = λ h. Wakes ms shoens h mid.hooks new.hooks goals removed (get_or told i d) now after in
+    let one : W old.held = subst W s.held wakes in
+    let left : drop i told ≡ get_or told i d ∷ drop (i + 1) told = rw (add-one, drop-cons told i d) in
+    record {
+      held = same ∙ s.held;
+      grown = HasGrown-trans old mid new s.grown grown;
+      wakes = λ f knows gs others settled.
+          let L : List ℕ → Type 0 = λ ns. AreSettledOr ns f mid.hooks old.held ms shoens (restood now gs) in
+          one f knows gs others (drop (i + 1) told) (subst L left (s.wakes f knows gs others settled));
+    }
+
+-- and all were looked at in the end
+pub all_woken : (ms : List Numbered) (shoens : List (Shoen CellName)) (old new : Kept CellName) (goals : List (Goal CellName)) (removed : ℕ) (told : List ℕ) (i : ℕ) (before after : List Change) → length told < i + 1 →
+    StillWakes ms shoens old new goals removed told (drop i told) before after → WakesTold ms shoens old.held old.hooks new.hooks goals removed told before after
+all_woken ms shoens old new goals removed told i before after le s f knows gs others settled =
+    let L : List ℕ → Type 0 = λ ns. AreSettledOr ns f new.hooks old.held ms shoens (restood after gs) in
+    all_settled f new.hooks old.held ms shoens (restood after gs) (subst L (drop_all i told (omega arith)) (s.wakes f knows gs others settled))
+
+-- if no numbers are told, nothing is pending
+pub none_woken : (ms : List Numbered) (shoens : List (Shoen CellName)) (h : Held CellName) (hooks : List Hook) (goals : List (Goal CellName)) (removed : ℕ) (told : List ℕ) (changes : List Change) → told ≡ [] → WakesTold ms shoens h hooks hooks goals removed told changes changes
+none_woken ms shoens h hooks goals removed told changes none f knows gs others settled =
+    let L : List ℕ → Type 0 = λ ns. AreSettledOr ns f hooks h ms shoens (restood changes gs) in
+    all_settled f hooks h ms shoens (restood changes gs) (subst L none settled)

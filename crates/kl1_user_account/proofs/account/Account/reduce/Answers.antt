@@ -1,0 +1,149 @@
+use Rattle.std.proofs.Common.{◌≡◌, ℕ, suc, ◌+◌, Bool, nat_lt, List, length, refl, sym, ap, ap₂, subst, arith}
+use Rattle.kl1_text.specs.declared.cell_name.CellName.{CellName}
+use Rattle.kl1_atoms.specs.declared.known.Known.{Known}
+use Rattle.kl1_shoen.specs.Shoens.{Tree}
+use Rattle.kl1_user_account.specs.Accounts.{kept_in}
+use Rattle.kl1_user_effects.specs.Calling.{IsNewName}
+use Rattle.kl1_user_account.proofs.ReducePut.{begun_same, kept_at, comes_of, reduced_of, refused_of, published_of, fits_table, put_kept, put_steps, as_before, still_kept, refused_step}
+use Rattle.kl1_user_account.proofs.account.Account.reduce.Goals as goal
+
+pub draft_named-drafted-requires : goal.draft_named-drafted-requires
+draft_named-drafted-requires g c =
+    let u = c.self.inside in
+    let b = c.begin_draft.ensures in
+    record {
+      begun = begun_same 0 u.last_goal u.variables u.nodes u.reports c.begin_draft.new.draft b;
+      kept = rw (c.over.ensures, b.last_is, b.variables_are, b.nodes_are, b.reports_are) (kept_at (kept_in u) c.begin.new.self u.store.hooks u.goals.shoens (ap (λ (x : Tree CellName). x.shoens) c.begin.ensures) (ap (λ (x : Tree CellName). x.work) c.begin.ensures) c.self.invariant);
+    }
+
+pub invariant_of-self-in-Some : goal.invariant_of-self-in-Some
+invariant_of-self-in-Some g c =
+    let u = c.self.inside in
+    let b = c.begin_draft.ensures in
+    let a = kept_in u in
+    let k = c.draft_named-drafted.new.store in
+    let t = c.begin.new.self in
+    let v = c.draft_named-drafted.new.shoens in
+    let table = c.draft_named-drafted.new.goals in
+    let d = c.draft_named-drafted.new.draft in
+    let came =
+    comes_of a t c.args.number c.args.clause u.store k v table d c.in-Ok.refused (ap (λ (x : Tree CellName). x.shoens) c.begin.ensures) (ap (λ (x : Tree CellName). x.work) c.begin.ensures) (rw (c.over.ensures, b.last_is, b.variables_are, b.nodes_are, b.reports_are) at c.in-Ok.ensures.ok) in
+    let r = refused_of a c.args.number c.args.clause u.store k t v table d c.in-Ok.refused c.in-Some.refusal c.in-Some.is came in
+    let back = as_before a c.args.number c.args.clause u.store k t v c.in-Some.refusal table.goals c.draft_named-drafted.new.names.names r refl (ap (λ (x : Tree CellName). x.shoens) c.begin.ensures) (ap (λ (x : Tree CellName). x.work) c.begin.ensures) c.draft_named-drafted.ensures.goals c.draft_named-drafted.ensures.names in
+    still_kept a _ u.store.hooks k.hooks u.goals.shoens table.shoens back r.hooks c.draft_named-drafted.ensures.shoens c.self.invariant
+
+pub returns-in-Some-clause-step : goal.returns-in-Some-clause-step
+returns-in-Some-clause-step g c =
+    let u = c.self.inside in
+    let b = c.begin_draft.ensures in
+    let a = kept_in u in
+    let k = c.draft_named-drafted.new.store in
+    let t = c.begin.new.self in
+    let v = c.draft_named-drafted.new.shoens in
+    let table = c.draft_named-drafted.new.goals in
+    let d = c.draft_named-drafted.new.draft in
+    let came =
+    comes_of a t c.args.number c.args.clause u.store k v table d c.in-Ok.refused (ap (λ (x : Tree CellName). x.shoens) c.begin.ensures) (ap (λ (x : Tree CellName). x.work) c.begin.ensures) (rw (c.over.ensures, b.last_is, b.variables_are, b.nodes_are, b.reports_are) at c.in-Ok.ensures.ok) in
+    let r = refused_of a c.args.number c.args.clause u.store k t v table d c.in-Ok.refused c.in-Some.refusal c.in-Some.is came in
+    let back = as_before a c.args.number c.args.clause u.store k t v c.in-Some.refusal table.goals c.draft_named-drafted.new.names.names r refl (ap (λ (x : Tree CellName). x.shoens) c.begin.ensures) (ap (λ (x : Tree CellName). x.work) c.begin.ensures) c.draft_named-drafted.ensures.goals c.draft_named-drafted.ensures.names in
+    λ f fits. refused_step a c.args.self.now _ c.args.number c.args.clause u.store k t v c.in-Some.refusal u.store.hooks u.goals.shoens c.self.view_is back c.self.invariant r f fits
+
+pub publish_drafted-requires-clause-name : goal.publish_drafted-requires-clause-name
+publish_drafted-requires-clause-name g c =
+    let u = c.self.inside in
+    let b = c.begin_draft.ensures in
+    let a = kept_in u in
+    let k = c.draft_named-drafted.new.store in
+    let t = c.begin.new.self in
+    let v = c.draft_named-drafted.new.shoens in
+    let table = c.draft_named-drafted.new.goals in
+    let d = c.draft_named-drafted.new.draft in
+    let came =
+    comes_of a t c.args.number c.args.clause u.store k v table d c.in-Ok.refused (ap (λ (x : Tree CellName). x.shoens) c.begin.ensures) (ap (λ (x : Tree CellName). x.work) c.begin.ensures) (rw (c.over.ensures, b.last_is, b.variables_are, b.nodes_are, b.reports_are) at c.in-Ok.ensures.ok) in
+    let r = reduced_of a c.args.number c.args.clause u.store k t v table d c.in-Ok.refused c.in_default.is came in
+    let N : List Known → Type 0 = λ ks. IsNewName ks d.name in
+    subst N (sym c.draft_named-drafted.ensures.names) r.name
+
+pub publish_drafted-requires-clause-spelled : goal.publish_drafted-requires-clause-spelled
+publish_drafted-requires-clause-spelled g c =
+    let u = c.self.inside in
+    let b = c.begin_draft.ensures in
+    let a = kept_in u in
+    let k = c.draft_named-drafted.new.store in
+    let t = c.begin.new.self in
+    let v = c.draft_named-drafted.new.shoens in
+    let table = c.draft_named-drafted.new.goals in
+    let d = c.draft_named-drafted.new.draft in
+    let came =
+    comes_of a t c.args.number c.args.clause u.store k v table d c.in-Ok.refused (ap (λ (x : Tree CellName). x.shoens) c.begin.ensures) (ap (λ (x : Tree CellName). x.work) c.begin.ensures) (rw (c.over.ensures, b.last_is, b.variables_are, b.nodes_are, b.reports_are) at c.in-Ok.ensures.ok) in
+    let r = reduced_of a c.args.number c.args.clause u.store k t v table d c.in-Ok.refused c.in_default.is came in
+    r.spelled
+
+pub publish_drafted-requires-clause-has : goal.publish_drafted-requires-clause-has
+publish_drafted-requires-clause-has g c =
+    let u = c.self.inside in
+    let b = c.begin_draft.ensures in
+    let a = kept_in u in
+    let k = c.draft_named-drafted.new.store in
+    let t = c.begin.new.self in
+    let v = c.draft_named-drafted.new.shoens in
+    let table = c.draft_named-drafted.new.goals in
+    let d = c.draft_named-drafted.new.draft in
+    let came =
+    comes_of a t c.args.number c.args.clause u.store k v table d c.in-Ok.refused (ap (λ (x : Tree CellName). x.shoens) c.begin.ensures) (ap (λ (x : Tree CellName). x.work) c.begin.ensures) (rw (c.over.ensures, b.last_is, b.variables_are, b.nodes_are, b.reports_are) at c.in-Ok.ensures.ok) in
+    let r = reduced_of a c.args.number c.args.clause u.store k t v table d c.in-Ok.refused c.in_default.is came in
+    r.has
+
+pub install-requires : goal.install-requires
+install-requires g c =
+    let u = c.self.inside in
+    let b = c.begin_draft.ensures in
+    let a = kept_in u in
+    let k = c.draft_named-drafted.new.store in
+    let t = c.begin.new.self in
+    let v = c.draft_named-drafted.new.shoens in
+    let table = c.draft_named-drafted.new.goals in
+    let d = c.draft_named-drafted.new.draft in
+    let came =
+    comes_of a t c.args.number c.args.clause u.store k v table d c.in-Ok.refused (ap (λ (x : Tree CellName). x.shoens) c.begin.ensures) (ap (λ (x : Tree CellName). x.work) c.begin.ensures) (rw (c.over.ensures, b.last_is, b.variables_are, b.nodes_are, b.reports_are) at c.in-Ok.ensures.ok) in
+    let r = reduced_of a c.args.number c.args.clause u.store k t v table d c.in-Ok.refused c.in_default.is came in
+    let opens : Bool = nat_lt c.shoens.result c.len.result in
+    let is : opens ≡ nat_lt table.shoens (length v.shoens) = ap₂ (λ (m n : ℕ). nat_lt m n) c.shoens.ensures.shoens c.len.ensures.value in
+    fits_table a c.args.number c.args.clause k v table d opens r c.draft_named-drafted.ensures.goals is
+
+pub invariant_of-self-2 : goal.invariant_of-self-2
+invariant_of-self-2 g c =
+    let u = c.self.inside in
+    let b = c.begin_draft.ensures in
+    let a = kept_in u in
+    let k = c.draft_named-drafted.new.store in
+    let t = c.begin.new.self in
+    let v = c.draft_named-drafted.new.shoens in
+    let table = c.draft_named-drafted.new.goals in
+    let d = c.draft_named-drafted.new.draft in
+    let came =
+    comes_of a t c.args.number c.args.clause u.store k v table d c.in-Ok.refused (ap (λ (x : Tree CellName). x.shoens) c.begin.ensures) (ap (λ (x : Tree CellName). x.work) c.begin.ensures) (rw (c.over.ensures, b.last_is, b.variables_are, b.nodes_are, b.reports_are) at c.in-Ok.ensures.ok) in
+    let r = reduced_of a c.args.number c.args.clause u.store k t v table d c.in-Ok.refused c.in_default.is came in
+    let p = published_of a.names c.draft_named-drafted.new.names.names c.publish_drafted.new.known.names d k.held c.publish_drafted.new.store.held c.draft_named-drafted.ensures.names c.publish_drafted.ensures.published in
+    let one : u.entries + 1 ≡ suc u.entries = omega arith in
+    let opens : Bool = nat_lt c.shoens.result c.len.result in
+    let is : opens ≡ nat_lt table.shoens (length v.shoens) = ap₂ (λ (m n : ℕ). nat_lt m n) c.shoens.ensures.shoens c.len.ensures.value in
+    put_kept a c.args.number c.args.clause k v table d c.publish_drafted.new.known.names c.publish_drafted.new.store.held c.install.new.goals.goals (u.entries + 1) r p c.draft_named-drafted.ensures.goals c.install.ensures.goals one
+    c.publish_drafted.new.store.hooks c.install.new.goals.shoens opens c.publish_drafted.ensures.hooks is c.install.ensures.count
+
+pub returns-clause-step : goal.returns-clause-step
+returns-clause-step g c =
+    let u = c.self.inside in
+    let b = c.begin_draft.ensures in
+    let a = kept_in u in
+    let k = c.draft_named-drafted.new.store in
+    let t = c.begin.new.self in
+    let v = c.draft_named-drafted.new.shoens in
+    let table = c.draft_named-drafted.new.goals in
+    let d = c.draft_named-drafted.new.draft in
+    let came =
+    comes_of a t c.args.number c.args.clause u.store k v table d c.in-Ok.refused (ap (λ (x : Tree CellName). x.shoens) c.begin.ensures) (ap (λ (x : Tree CellName). x.work) c.begin.ensures) (rw (c.over.ensures, b.last_is, b.variables_are, b.nodes_are, b.reports_are) at c.in-Ok.ensures.ok) in
+    let r = reduced_of a c.args.number c.args.clause u.store k t v table d c.in-Ok.refused c.in_default.is came in
+    let p = published_of a.names c.draft_named-drafted.new.names.names c.publish_drafted.new.known.names d k.held c.publish_drafted.new.store.held c.draft_named-drafted.ensures.names c.publish_drafted.ensures.published in
+    let one : u.entries + 1 ≡ suc u.entries = omega arith in
+    λ f fits. put_steps a c.args.number c.args.clause k v table d c.publish_drafted.new.known.names c.publish_drafted.new.store.held c.install.new.goals.goals (u.entries + 1) r p c.draft_named-drafted.ensures.goals c.install.ensures.goals one c.args.self.now c.self.view_is f fits

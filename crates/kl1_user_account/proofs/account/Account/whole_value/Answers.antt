@@ -1,0 +1,43 @@
+use Rattle.std.proofs.Common.{◌≡◌, List, sym, ap, ◌∙◌, subst}
+use Rattle.std.specs.Prelude.{Option, Some, None, option_map}
+use Rattle.kl1_user_events.specs.Whole.{whole_value, whole_of}
+use Rattle.kl1_atoms.specs.declared.known.Known.{Known}
+use Rattle.kl1_user_effects.specs.Fitting.{Fits}
+use Rattle.kl1_user_effects.specs.Account.{Account, meaning, origin_with, state_of}
+use Rattle.kl1_user_account.specs.Accounts.{kept_in}
+use Rattle.kl1_user_account.proofs.Origins.{kept_at, origin_in, goal_named, whole_none, whole_some}
+use Rattle.kl1_user_account.proofs.account.Account.whole_value.Goals as goal
+
+pub print_cell-requires-clause-cell : goal.print_cell-requires-clause-cell
+print_cell-requires-clause-cell g c =
+    let u = c.self.inside in
+    let e : kept_at c.args.number u.shoens.shoens ≡ Some c.in-Some.origin = sym c.origin_at.ensures ∙ c.in-Some.is in
+    (origin_in u.store.held c.args.number u.shoens.shoens c.in-Some.origin c.self.invariant.shoens e).goal
+
+pub print_cell-requires-clause-named : goal.print_cell-requires-clause-named
+print_cell-requires-clause-named g c =
+    let u = c.self.inside in
+    let e : kept_at c.args.number u.shoens.shoens ≡ Some c.in-Some.origin = sym c.origin_at.ensures ∙ c.in-Some.is in
+    let names : g.A.AtomSource.knows c.args.seat.now ≡ (kept_in u).names = c.requires.knows ∙ sym (ap (λ (a : Account). a.names) c.self.view_is) in
+    λ f k a b.
+    let F : List Known → Type 0 = λ ks. Fits ks f in
+    let K : List Known → Type 0 = λ ks. Fits ks k in
+    goal_named f k (kept_in u) c.args.number c.in-Some.origin e (c.self.invariant.named f k (subst F names a) (subst K names b))
+
+pub returns-in-None-clause-whole : goal.returns-in-None-clause-whole
+returns-in-None-clause-whole g c =
+    let u = c.self.inside in
+    let e : kept_at c.args.number u.shoens.shoens ≡ None = sym c.origin_at.ensures ∙ c.in-None.is in
+    λ f fits.
+    let P : Account → Type 0 = λ a. None ≡ whole_value (state_of f a) c.args.number in
+    subst P c.self.view_is (whole_none f (kept_in u) c.args.number e)
+
+pub returns-in_ok-text-in-Some-clause-whole : goal.returns-in_ok-text-in-Some-clause-whole
+returns-in_ok-text-in-Some-clause-whole g c =
+    let u = c.self.inside in
+    let e : kept_at c.args.number u.shoens.shoens ≡ Some c.in-Some.origin = sym c.origin_at.ensures ∙ c.in-Some.is in
+    λ f fits.
+    let P : Account → Type 0 = λ a. Some c.in_ok-text-in-Some.text.items ≡ whole_value (state_of f a) c.args.number in
+    let F : List Known → Type 0 = λ ks. Fits ks f in
+    subst P c.self.view_is
+    (whole_some f (kept_in u) c.args.number c.in-Some.origin c.in_ok-text-in-Some.text.items e (c.in_ok-text-in-Some.ensures.text f (subst F (sym c.requires.knows) fits)))

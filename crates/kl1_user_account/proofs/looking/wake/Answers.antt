@@ -1,0 +1,31 @@
+use Rattle.std.proofs.Common.{ℕ, subst}
+use Rattle.std.specs.Prelude.{OnOk}
+use Rattle.kl1_user_account.specs.Looking.{FindsOut}
+use Rattle.std.proofs.lemmas.Result.{on_ok_weaker}
+use Rattle.kl1_goals.specs.Lists.{has_number}
+use Rattle.kl1_store_hooks.proofs.Hooked.{grown_among}
+use Rattle.kl1_user_account.proofs.Told.{removed_wakes, absent_wakes, goal_wakes, task_in}
+use Rattle.kl1_user_account.proofs.looking.wake.Goals as goal
+
+pub returns-then-number-removed-clause-wakes : goal.returns-then-number-removed-clause-wakes
+returns-then-number-removed-clause-wakes g c = removed_wakes c.args.modules.now.loaded c.args.shoens.now.shoens c.args.store.now.held c.args.store.now.hooks c.args.goals.now.goals c.args.removed c.args.number c.args.changes.now.items c.if-number-removed.true
+
+pub look_at_task-requires-clause-task : goal.look_at_task-requires-clause-task
+look_at_task-requires-clause-task g c = task_in c.args.store.now.held (has_number c.args.number) c.args.goals.now.goals c.in-Some.goal c.requires.goals c.in-Some.ensures.goal
+
+pub returns-in-None-clause-wakes : goal.returns-in-None-clause-wakes
+returns-in-None-clause-wakes g c = absent_wakes c.args.modules.now.loaded c.args.shoens.now.shoens c.args.store.now.held c.args.store.now.hooks c.args.goals.now.goals c.args.removed c.args.number c.args.changes.now.items c.in-None.ensures.goal
+
+pub returns-in-Some-clause-wakes : goal.returns-in-Some-clause-wakes
+returns-in-Some-clause-wakes g c =
+    let ms = c.args.modules.now.loaded in
+    let shoens = c.args.shoens.now.shoens in
+    let h = c.args.store.now.held in
+    let goal = c.in-Some.goal in
+    let before = c.args.changes.now.items in
+    let after = c.look_at_task.new.changes.items in
+    let F : ℕ → Type 0 = λ n. OnOk c.look_at_task.result (FindsOut ms shoens h c.look_at_task.new.store.hooks goal.shoen goal.task n before after) in
+    on_ok_weaker c.look_at_task.result
+    (goal_wakes ms shoens h c.args.store.now.hooks c.look_at_task.new.store.hooks c.args.goals.now.goals c.args.removed c.args.number before after goal
+    c.in-Some.ensures.goal (grown_among c.args.store.now c.look_at_task.new.store c.look_at_task.ensures.grown))
+    (subst F c.in-Some.ensures.number c.look_at_task.ensures.finds)

@@ -1,0 +1,26 @@
+-- What the fields of an account stand for.
+use Rattle.kl1_user_account.specs.declared.account.Account.TheInside.{Inside}
+use Rattle.kl1_user_effects.specs.Account.{Account}
+use Rattle.kl1_user_account.specs.Keeping as keeping
+
+-- what an account keeps
+abbrev pub kept_in : {C R : Type 0} → Inside C R → Account
+kept_in u = record {
+  own_name = u.name;
+  held = u.store.held;
+  goals = u.goals.goals;
+  shoens = u.shoens.shoens;
+  work = u.shoens.work;
+  modules = u.modules.loaded;
+  names = u.names.names;
+  last_goal = u.last_goal;
+  variables = u.variables;
+  nodes = u.nodes;
+  reports = u.reports;
+  entries = u.entries;
+  sessions = u.sessions;
+}
+
+-- what always holds of the fields
+abbrev pub IsKept : {C R : Type 0} → Inside C R → Type 0
+IsKept u = keeping.IsKept (kept_in u) u.store.hooks u.goals.shoens

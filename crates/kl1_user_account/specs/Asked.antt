@@ -1,0 +1,28 @@
+-- What is shown of an account.
+use Rattle.std.specs.Prelude.{ℕ, nat_le, if◌then◌else◌, List}
+use Rattle.kl1_model.specs.declared.life.Life.{Life}
+use Rattle.kl1_model.specs.declared.life.Life.TheVariants.{Living, Terminated, Aborted}
+use Rattle.kl1_model.specs.declared.condition.Condition.{Condition}
+use Rattle.kl1_model.specs.declared.condition.Condition.TheVariants.{Terminated as HasTerminated, Aborted as IsAborted, Stopped, Exhausted, Running}
+use Rattle.kl1_model.specs.Term.{Term}
+use Rattle.kl1_model.specs.Asking.{elements_of}
+use Rattle.kl1_text.specs.declared.cell_name.CellName.{CellName}
+use Rattle.kl1_store.specs.declared.cell.Cell.{Cell}
+use Rattle.kl1_store.specs.Held.{Held}
+use Rattle.kl1_shoen_paths.specs.declared.shoen.Shoen.{Shoen}
+use Rattle.kl1_user_effects.specs.Fitting.{Reading}
+use Rattle.kl1_user_effects.specs.Account.{meaning}
+
+-- the state of a shoen of this life as it is shown, if `charged` is what it was charged
+abbrev pub condition_at : Shoen CellName → ℕ → Life → Condition
+condition_at h charged Terminated = HasTerminated
+condition_at h charged Aborted = IsAborted
+condition_at h charged Living = if h.is_stopped then Stopped else if nat_le h.allowance charged then Exhausted else Running
+
+-- the state of a shoen as it is shown, if `charged` is what it was charged
+abbrev pub condition_by : Shoen CellName → ℕ → Condition
+condition_by h charged = condition_at h charged h.life
+
+-- the elements of a list of cells, for a reading
+abbrev pub cells_of : Reading → Held CellName → Cell CellName → List Term
+cells_of f h x = elements_of (meaning f h x)

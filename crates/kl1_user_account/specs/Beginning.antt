@@ -1,0 +1,24 @@
+-- An account in which nothing has happened.
+use Rattle.std.specs.Prelude.{ℕ, List, []}
+use Rattle.kl1_atoms.specs.declared.known.Known.{Known}
+use Rattle.kl1_store.specs.Held.{nothing_held, with_variable}
+use Rattle.kl1_user_effects.specs.Account.{Account}
+
+-- an account of this name in which nothing has happened but that it has used these names, and that `sessions` sessions are open; its store
+-- holds one variable, which it never uses, so that its variables are numbered from 1
+abbrev pub begun : List ℕ → List Known → ℕ → Account
+begun own names sessions = record {
+  own_name = own;
+  held = with_variable nothing_held;
+  goals = [];
+  shoens = [];
+  work = [];
+  modules = [];
+  names = names;
+  last_goal = 0;
+  variables = 0;
+  nodes = 0;
+  reports = 0;
+  entries = 0;
+  sessions = sessions;
+}

@@ -1,0 +1,72 @@
+-- What comes of a load.
+use Rattle.std.specs.Prelude.{◌≡◌, ℕ, ◌<◌, ◌≤◌, false, List, [], ◌∷◌, ◌++◌, length, Option, Some, None, is_some}
+use Rattle.kl1_model.specs.Limits.{most_names, most_modules, most_entries}
+use Rattle.kl1_model.specs.Match.{module_of}
+use Rattle.kl1_model.specs.State.{State}
+use Rattle.kl1_model.specs.Module.{good}
+use Rattle.kl1_model.specs.Event.{load, loaded, refuse, with_entry}
+use Rattle.kl1_model.specs.Step.{step, with_module, load_module}
+use Rattle.kl1_text.specs.declared.cell_name.CellName.{CellName}
+use Rattle.kl1_atoms.specs.declared.known.Known.{Known}
+use Rattle.kl1_store.specs.Hooks.{Hook}
+use Rattle.kl1_store.specs.Held.{Held}
+use Rattle.kl1_clause.specs.NameList.{with_texts}
+use Rattle.kl1_goals.specs.declared.goal.Goal.{Goal}
+use Rattle.kl1_shoen_paths.specs.declared.shoen.Shoen.{Shoen}
+use Rattle.kl1_codes_modules.specs.Numbered.{Numbered, own_names, number_of}
+use Rattle.kl1_codes_modules.specs.Finding.{contents, is_numbered}
+use Rattle.kl1_user_effects.specs.declared.draft.Change.{Change}
+use Rattle.kl1_user_account.specs.declared.loading.Loading.{Loading}
+use Rattle.kl1_user_account.specs.declared.loading.Loading.TheVariants.{Refused, Drafted}
+use Rattle.kl1_user_events.specs.declared.refusal.Refusal.{Refusal}
+use Rattle.kl1_user_effects.specs.Fitting.{Reading}
+use Rattle.kl1_user_effects.specs.Account.{texts_of}
+use Rattle.kl1_user_effects.specs.Naming.{ReadsDraft}
+use Rattle.kl1_user_effects.specs.Works.{Knows}
+use Rattle.kl1_user_effects.specs.Drafts.{restood}
+use Rattle.kl1_user_effects.specs.Settled.{AreSettled}
+use Rattle.kl1_user_events.specs.Views.{refusal_of}
+
+-- a state with these modules and names, and `entries` entries
+pub record HasModules (s : State) (ms : List Numbered) (names : List Known) (entries : ℕ) : Type 0 where
+  pub modules_are : s.modules ≡ contents ms
+  pub names_are : s.names ≡ texts_of names
+  pub entries_are : s.entries ≡ entries
+
+-- a load of a source is refused
+abbrev pub RefusesLoad : List Numbered → List Known → ℕ → List ℕ → Refusal → Type 0
+RefusesLoad ms names entries source r = (s : State) → HasModules s ms names entries → step s (load source) ≡ refuse s (refusal_of r)
+
+-- a drafted module may be loaded: its numbers are read as its names, and it is none of those that are there
+pub record IsDraft (ms : List Numbered) (names : List Known) (entries : ℕ) (d : Numbered) : Type 0 where
+  pub reads : ReadsDraft names (own_names d.content) d.row
+  pub new : is_numbered ms (number_of d) ≡ false
+  pub absent : is_some (module_of (contents ms) d.content.name) ≡ false
+  pub few : length (with_texts (texts_of names) (own_names d.content)) ≤ most_names
+  pub modules_few : length ms < most_modules
+  pub room : entries < most_entries
+  pub loads : (s : State) → HasModules s ms names entries → load_module s (good d.content) ≡ record { state = with_entry (with_module s d.content); reply = loaded d.content.name }
+
+-- why a drafted module is refused, or nothing if it may be loaded
+abbrev pub DraftsAs : List Numbered → List Known → ℕ → Numbered → Option Refusal → Type 0
+DraftsAs ms names entries d None = IsDraft ms names entries d
+DraftsAs ms names entries d (Some r) = (s : State) → HasModules s ms names entries → load_module s (good d.content) ≡ refuse s (refusal_of r)
+
+-- a module is drafted for a source that may be loaded
+pub record IsDraftOf (ms : List Numbered) (names : List Known) (entries : ℕ) (source : List ℕ) (d : Numbered) : Type 0 where
+  pub draft : IsDraft ms names entries d
+  pub loads : (s : State) → step s (load source) ≡ load_module s (good d.content)
+
+-- what comes of a source that is to be loaded
+abbrev pub LoadsAs : {C R : Type 0} → List Numbered → List Known → ℕ → List ℕ → Loading C R → Type 0
+LoadsAs ms names entries source (Refused r) = RefusesLoad ms names entries source r
+LoadsAs ms names entries source (Drafted d) = IsDraftOf ms names entries source d
+
+-- the code of a module that is drafted stands at one of these places
+abbrev pub StandsIn : {C R : Type 0} → (ℕ × ℕ → Type 0) → Loading C R → Type 0
+StandsIn has (Refused r) = Unit {0}
+StandsIn has (Drafted d) = has d.place
+
+-- all goals are settled with a drafted module beside the others, after these changes
+abbrev pub Settles : List Numbered → Numbered → List (Shoen CellName) → List Hook → Held CellName → List (Goal CellName) → List Change → Type 0
+Settles ms d shoens hooks h goals changes = (f : Reading) → Knows (ms ++ d ∷ []) f → AreSettled f hooks h (ms ++ d ∷ []) shoens (restood changes goals)

@@ -1,0 +1,185 @@
+// What is asked of an account: the state of a shoen, its reports, and the modules.
+
+ghost use Rattle.std.specs.Prelude.{◌≡◌, ℕ, ◌++◌, ◌∷◌, [], ◌-◌, ◌≤◌, List, length, map, take, drop, codes, decimal, IfOk, OnOk};
+ghost use Rattle.kl1_model.specs.State.{State};
+ghost use Rattle.kl1_model.specs.Step.{step};
+ghost use Rattle.kl1_model.specs.Event.{read, status, reports, modules};
+ghost use Rattle.kl1_model.specs.Asking.{module_line};
+ghost use Rattle.kl1_model.specs.Print.{cut_print};
+ghost use Rattle.kl1_user_events.specs.Views.{reply_of};
+ghost use Rattle.kl1_store.specs.Held.{IsIn};
+ghost use Rattle.kl1_shoen.specs.Shoens.{is_exhausted_in};
+ghost use Rattle.kl1_goals.specs.declared.goal.Goal.{Goal};
+ghost use Rattle.kl1_codes_modules.specs.Finding.{contents};
+ghost use Rattle.kl1_text.specs.declared.cell_name.CellName.{CellName};
+ghost use Rattle.kl1_user_effects.specs.Fitting.{Reading, Fits};
+ghost use Rattle.kl1_user_effects.specs.Account.{Means, meaning, shoen_with, state_with, with_kept};
+ghost use Rattle.kl1_user_effects.specs.Kept.{AreOwned, AreShoensIn};
+ghost use Rattle.kl1_user_effects.specs.Naming.{AreSmall, Keeps};
+ghost use Rattle.kl1_user_account.specs.Asked.{condition_by, cells_of};
+
+use crate::limits::{are_numbers, is_number};
+use crate::printing::print_cell;
+use itoa::Buffer;
+use kl1_atoms::AtomSource;
+use kl1_codes::CodeSource;
+use kl1_codes_modules::{CodedModule, CodedModules};
+use kl1_goals::GoalTable;
+use kl1_model::limits::{MOST_LISTED, MOST_PRINTED_BYTES};
+use kl1_model::{Condition, Life};
+use kl1_shoen::{Shoen, ShoenTree};
+use kl1_store::{Cell, Store};
+use kl1_stream::{next_element, nth_cell};
+use kl1_text::{CellName, put_atom};
+use kl1_user_events::{Listed, Refusal, Reply};
+use std::alloc::{AllocError, Global};
+
+/// The state of a shoen as it is shown, if `charged` is what it was charged.
+fn condition_of(shoen: &Shoen<CellName>, charged: u64) -> Condition
+    ensures { result ≡ condition_by shoen.now charged }
+{
+    match shoen.life {
+        Life::Terminated => Condition::Terminated,
+        Life::Aborted => Condition::Aborted,
+        Life::Living => {
+            if shoen.is_stopped {
+                return Condition::Stopped;
+            }
+            if shoen.allowance <= charged {
+                return Condition::Exhausted;
+            }
+            Condition::Running
+        }
+    }
+}
+
+/// The state of shoen `number`, with what it was charged, its allowance, and how many goals there are in it and below it.
+pub(crate) fn status_of(
+    alloc: Global,
+    shoens: &ShoenTree<CellName>,
+    goals: &GoalTable<CellName>,
+    number: u64,
+) -> Result<Reply, AllocError>
+    requires { AreOwned (length shoens.now.shoens) goals.now.goals }
+    ensures { IfOk result (λ reply. (t : Means) (s : State) (last : ℕ) → s.work ≡ shoens.now.work → step (state_with s t last goals.now.goals shoens.now.shoens) (read (status number)) ≡ record { state = state_with s t last goals.now.goals shoens.now.shoens; reply = reply_of reply }) }
+{
+    if !is_number(number) {
+        return Ok(Reply::Refused(Refusal::Syntax));
+    }
+    // Only for the proof: the shoens are numbered in order.
+    let _numbered = shoens.len();
+    let Some(shoen) = shoens.lend(number) else {
+        return Ok(Reply::Refused(Refusal::NoShoen));
+    };
+    let charged = shoens.charged(number);
+    let mut flags = Vec::new(alloc);
+    shoens.below(number, &mut flags)?;
+    Ok(Reply::Status {
+        condition: condition_of(shoen, charged),
+        charged,
+        allowance: shoen.allowance,
+        alive: goals.count_below(flags.as_slice()),
+    })
+}
+
+/// The elements of a list from one on, at most `most`, each printed and cut.
+fn list_cells<A: AtomSource>(
+    alloc: Global,
+    names: &mut A,
+    seat: &mut A::Seat,
+    store: &Store<CellName>,
+    list: Cell<CellName>,
+    most: usize,
+) -> Result<Listed, AllocError>
+    requires list { IsIn store.now.held list }
+    requires of { A.is_of names.old seat.old }
+    requires small { AreSmall (A.knows seat.old) }
+    requires named { (f g : Reading) → Fits (A.knows seat.old) f → Fits (A.knows seat.old) g → cells_of f store.now.held list ≡ cells_of g store.now.held list }
+    ensures listed { IfOk result (λ listed. (f : Reading) → Fits (A.knows seat.old) f → listed ≡ map cut_print (take most (cells_of f store.now.held list))) }
+    ensures keeps { Keeps A.is_of A.place A.knows A.published names.old names.new seat.old seat.new }
+    ensures knows { A.knows seat.new ≡ A.knows seat.old }
+{
+    let mut listed = Listed::new(alloc);
+    let mut at = list;
+    let mut left = most;
+    while 0 < left {
+        let Some((element, rest)) = next_element(store, at) else {
+            return Ok(listed);
+        };
+        let text = print_cell(alloc, names, seat, store, element, Some(MOST_PRINTED_BYTES))?;
+        listed.push(text)?;
+        at = rest;
+        left -= 1;
+    }
+    Ok(listed)
+}
+
+/// The reports of shoen `number`, which the console started, from one on, the first being 1: at most 64, each printed and cut.
+pub(crate) fn reports_of<A: AtomSource>(
+    alloc: Global,
+    names: &mut A,
+    seat: &mut A::Seat,
+    store: &Store<CellName>,
+    shoens: &ShoenTree<CellName>,
+    number: u64,
+    from: u64,
+) -> Result<Reply, AllocError>
+    requires shoens { AreShoensIn store.now.held shoens.now.shoens }
+    requires of { A.is_of names.old seat.old }
+    requires small { AreSmall (A.knows seat.old) }
+    requires named { (f g : Reading) → Fits (A.knows seat.old) f → Fits (A.knows seat.old) g → map (shoen_with (meaning f store.now.held)) shoens.now.shoens ≡ map (shoen_with (meaning g store.now.held)) shoens.now.shoens }
+    ensures step { IfOk result (λ reply. (f : Reading) → Fits (A.knows seat.old) f → (s : State) (goals : List (Goal CellName)) → step (with_kept f s store.now.held goals shoens.now.shoens) (read (reports number from)) ≡ record { state = with_kept f s store.now.held goals shoens.now.shoens; reply = reply_of reply }) }
+    ensures keeps { Keeps A.is_of A.place A.knows A.published names.old names.new seat.old seat.new }
+    ensures knows { A.knows seat.new ≡ A.knows seat.old }
+{
+    if !are_numbers(number, from) {
+        return Ok(Reply::Refused(Refusal::Syntax));
+    }
+    if from < 1 {
+        return Ok(Reply::Refused(Refusal::Syntax));
+    }
+    let Some(origin) = shoens.origin_at(number) else {
+        return Ok(Reply::Refused(Refusal::NoShoen));
+    };
+    let first = nth_cell(store, origin.reports, from - 1);
+    let listed = list_cells(alloc, names, seat, store, first, MOST_LISTED)?;
+    Ok(Reply::Listed(listed))
+}
+
+/// A module's name, how many bytes its source has, and how many clauses.
+fn line_of<C: CodeSource>(alloc: Global, loaded: &CodedModule<'_, C>) -> Result<Vec<u8>, AllocError>
+    ensures { IfOk result (λ line. line.items ≡ module_line loaded.now.content) }
+{
+    let code = loaded.code();
+    let mut line = Vec::new(alloc);
+    put_atom(&mut line, &code.module_name())?;
+    put_count(&mut line, code.source().len())?;
+    put_count(&mut line, code.clause_count())?;
+    Ok(line)
+}
+
+/// Puts a blank and a number after bytes. After an error some of them may be there.
+fn put_count(line: &mut Vec<u8>, count: usize) -> Result<(), AllocError>
+    ensures { OnOk result (line.new.items ≡ (line.old.items ++ codes " ") ++ decimal count) }
+{
+    let mut buffer = Buffer::new();
+    line.extend_from_slice(b" ")?;
+    line.extend_from_slice(buffer.format(count).as_bytes())
+}
+
+/// The modules, in order of loading.
+pub(crate) fn modules_of<C: CodeSource>(
+    alloc: Global,
+    loaded: &CodedModules<'_, C>,
+) -> Result<Reply, AllocError>
+    ensures { IfOk result (λ reply. (s : State) → s.modules ≡ contents loaded.now.loaded → step s (read modules) ≡ record { state = s; reply = reply_of reply }) }
+{
+    let mut listed = Listed::new(alloc);
+    for place in 0..loaded.len() {
+        let Some(module) = loaded.get(place) else {
+            return Ok(Reply::Listed(listed));
+        };
+        listed.push(line_of(alloc, &module)?)?;
+    }
+    Ok(Reply::Listed(listed))
+}

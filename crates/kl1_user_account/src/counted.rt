@@ -1,0 +1,36 @@
+// How much an account has of what is limited.
+
+ghost use Rattle.std.specs.Prelude.{◌≡◌, ◌+◌, nat_le};
+ghost use Rattle.kl1_user_account.specs.Starting.{has_room_beside};
+
+use kl1_model::limits::{MOST_GOALS, MOST_NODES, MOST_SHOENS, MOST_VARIABLES};
+
+/// How much an account has of what is limited: its goals, without monitors; the variables and the structures of its starts, messages
+/// and commits; the shoens that it opened; and the entries of its journal.
+#[derive(Clone, Copy)]
+pub(crate) struct Counted {
+    pub goals: u64,
+    pub variables: u64,
+    pub nodes: u64,
+    pub shoens: u64,
+    pub entries: u64,
+}
+
+/// Whether `count` and `more` together are at most `most`.
+fn is_within(count: u64, more: u64, most: u64) -> bool
+    ensures { result ≡ nat_le (count + more) most }
+{
+    count <= most && more <= most - count
+}
+
+impl Counted {
+    /// Whether there is room to start a goal of `variables` variables and `nodes` structures, in a shoen of its own with two tails.
+    pub(crate) fn has_room_to_start(&self, variables: u64, nodes: u64) -> bool
+        ensures { result ≡ has_room_beside self.now variables nodes }
+    {
+        self.goals < MOST_GOALS
+            && is_within(self.variables, variables, MOST_VARIABLES - 2)
+            && is_within(self.nodes, nodes, MOST_NODES)
+            && self.shoens < MOST_SHOENS
+    }
+}

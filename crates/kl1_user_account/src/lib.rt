@@ -1,0 +1,27 @@
+//! An account whose names are numbers: what each event does to it, and the reply.
+#![tactic(auto)]
+
+mod account;
+mod account_name;
+mod asking;
+mod completing;
+mod counted;
+mod installing;
+mod judging;
+mod limits;
+mod loading;
+mod looking;
+mod looking_beside;
+mod naming;
+mod opening;
+mod placing;
+mod printing;
+mod reducing;
+mod sending;
+mod startable;
+mod starting;
+mod top;
+
+pub use account::Account;
+pub use account_name::AccountName;
+pub use kl1_user_events::{ClauseNo, Event, GoalNo, Listed, Query, Refusal, Reply, ShoenNo};

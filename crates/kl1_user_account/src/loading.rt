@@ -1,0 +1,261 @@
+// Modules that are loaded.
+
+ghost use Rattle.std.specs.Prelude.{◌≡◌, ◌↔◌, ℕ, ◌≤◌, ◌<◌, false, [], ◌∷◌, ◌++◌, length, IfOk, OnOk, OnErr, vec_capacity};
+ghost use Rattle.kl1_model.specs.Limits.{most_source_bytes};
+ghost use Rattle.kl1_model.specs.Module.{read_module, good};
+ghost use Rattle.kl1_atoms.specs.Names.{AreNames};
+ghost use Rattle.kl1_store.specs.Hooks.{HasGrown};
+ghost use Rattle.kl1_codes_modules.specs.Numbered.{AreRead, ArePlaced, own_names, number_of};
+ghost use Rattle.kl1_codes_modules.specs.Finding.{is_numbered};
+ghost use Rattle.kl1_user_effects.specs.Fitting.{Reading, Fits};
+ghost use Rattle.kl1_user_effects.specs.Kept.{AreGoalsIn, AreShoensIn};
+ghost use Rattle.kl1_user_effects.specs.Naming.{AreSmall, ReadsDraft};
+ghost use Rattle.kl1_user_effects.specs.Drafts.{restood};
+ghost use Rattle.kl1_user_account.specs.Loadings.{DraftsAs, LoadsAs, StandsIn, Settles};
+
+use crate::looking_beside::look_at_all;
+use kl1_clause::{Code, CodeFault};
+use kl1_codes::CodeSource;
+use kl1_codes_modules::{CodedModule, CodedModules, Loaded, Modules, number_by};
+use kl1_goals::GoalTable;
+use kl1_goals_moves::Trial;
+use kl1_model::limits::{MOST_ENTRIES, MOST_MODULES, MOST_SOURCE_BYTES};
+use kl1_shoen::ShoenTree;
+use kl1_store::Store;
+use kl1_text::CellName;
+use kl1_user_effects::{AccountNames, Change, draft_row};
+use kl1_user_events::Refusal;
+use std::alloc::{AllocError, Global};
+
+/// What comes of a source that is to be loaded: a refusal, or a module that is drafted. Those of its names that are new have
+/// spare numbers.
+#[derive(Drop)]
+pub(crate) enum Loading<C: CodeSource> {
+    Refused(Refusal),
+    Drafted(Loaded<C>),
+}
+
+/// The numbers of the names of a code, spare ones for those that are new.
+fn row_of(alloc: Global, names: &AccountNames, code: &Code) -> Result<Vec<CellName>, AllocError>
+    requires names { AreNames names.now.names }
+    requires small { AreSmall names.now.names }
+    ensures { IfOk result (λ row. ReadsDraft names.now.names (own_names code.now) row.items) }
+{
+    let mut row = Vec::with_capacity(alloc, code.names().len())?;
+    draft_row(names, code.names(), &mut row)?;
+    Ok(row)
+}
+
+/// Why an account with these modules and names, whose journal has `entries` entries, refuses the module of a code whose names have
+/// these numbers; nothing if it may be loaded.
+fn refusal_of<C: CodeSource>(
+    modules: &Modules<C>,
+    names: &AccountNames,
+    entries: u64,
+    code: &Code,
+    row: &[CellName],
+) -> Option<Refusal>
+    requires reads { ReadsDraft names.now.names (own_names code.now) row.now }
+    requires rows { (f : Reading) → Fits names.now.names f → AreRead f modules.now.loaded }
+    ensures { (place : ℕ × ℕ) → DraftsAs modules.now.loaded names.now.names entries (record { content = code.now; row = row.now; place = place }) result }
+{
+    if modules.has(number_by(code, row)) {
+        return Some(Refusal::Exists);
+    }
+    if names.are_too_many(code.names()) {
+        return Some(Refusal::Names);
+    }
+    if modules.len() >= MOST_MODULES {
+        return Some(Refusal::Limit);
+    }
+    if entries >= MOST_ENTRIES {
+        return Some(Refusal::Journal);
+    }
+    None
+}
+
+/// Drafts the module of a reference that was found for a source, as `draft_module`.
+fn draft_found<C: CodeSource>(
+    alloc: Global,
+    modules: &Modules<C>,
+    names: &AccountNames,
+    codes: &C,
+    entries: u64,
+    source: &[u8],
+    found: C::Ref,
+) -> Result<Loading<C>, AllocError>
+    requires names { AreNames names.now.names }
+    requires small { AreSmall names.now.names }
+    requires rows { (f : Reading) → Fits names.now.names f → AreRead f modules.now.loaded }
+    requires few { length source.now ≤ most_source_bytes }
+    requires of { C.has codes.now (C.place found) }
+    requires module { read_module source.now ≡ good (C.meaning found) }
+    ensures loads { IfOk result (LoadsAs modules.now.loaded names.now.names entries source.now) }
+    ensures stands { IfOk result (StandsIn (C.has codes.now)) }
+{
+    let code = codes.code(&found);
+    let row = row_of(alloc, names, code)?;
+    match refusal_of(modules, names, entries, code, &row) {
+        Some(refusal) => Ok(Loading::Refused(refusal)),
+        None => Ok(Loading::Drafted(Loaded::new(alloc, codes, found, row)?)),
+    }
+}
+
+/// Drafts the module of a source that wasn't found, as `draft_module`. Its code is put in only if the module isn't refused.
+fn draft_new<C: CodeSource>(
+    alloc: Global,
+    modules: &Modules<C>,
+    names: &AccountNames,
+    codes: &mut C,
+    entries: u64,
+    source: &[u8],
+) -> Result<Loading<C>, AllocError>
+    requires names { AreNames names.now.names }
+    requires small { AreSmall names.now.names }
+    requires rows { (f : Reading) → Fits names.now.names f → AreRead f modules.now.loaded }
+    requires few { length source.now ≤ most_source_bytes }
+    ensures loads { IfOk result (LoadsAs modules.now.loaded names.now.names entries source.now) }
+    ensures stands { IfOk result (StandsIn (C.has codes.new)) }
+    ensures same { (p : ℕ × ℕ) → C.has codes.old p ↔ C.has codes.new p }
+{
+    let code = match Code::compile(alloc, source) {
+        Ok(code) => code,
+        Err(CodeFault::Bad { line }) => {
+            return Ok(Loading::Refused(Refusal::Source { line }));
+        }
+        Err(CodeFault::Memory) => return Err(AllocError),
+    };
+    let row = row_of(alloc, names, &code)?;
+    match refusal_of(modules, names, entries, &code, &row) {
+        Some(refusal) => Ok(Loading::Refused(refusal)),
+        None => {
+            let pushed = codes.push(code)?;
+            Ok(Loading::Drafted(Loaded::new(alloc, codes, pushed, row)?))
+        }
+    }
+}
+
+/// Drafts the module of a source for an account with these modules and names, whose journal has `entries` entries. Its code is put
+/// in if it isn't found and the module isn't refused.
+pub(crate) fn draft_module<C: CodeSource>(
+    alloc: Global,
+    modules: &Modules<C>,
+    names: &AccountNames,
+    codes: &mut C,
+    entries: u64,
+    source: &[u8],
+) -> Result<Loading<C>, AllocError>
+    requires names { AreNames names.now.names }
+    requires small { AreSmall names.now.names }
+    requires rows { (f : Reading) → Fits names.now.names f → AreRead f modules.now.loaded }
+    ensures loads { IfOk result (LoadsAs modules.now.loaded names.now.names entries source.now) }
+    ensures stands { IfOk result (StandsIn (C.has codes.new)) }
+    ensures same { (p : ℕ × ℕ) → C.has codes.old p ↔ C.has codes.new p }
+{
+    if source.len() > MOST_SOURCE_BYTES {
+        return Ok(Loading::Refused(Refusal::Syntax));
+    }
+    match codes.find(source) {
+        Some(found) => draft_found(alloc, modules, names, codes, entries, source, found),
+        None => draft_new(alloc, modules, names, codes, entries, source),
+    }
+}
+
+/// Looks at all goals beside a drafted module, and makes room for what is to be put in place: the result has room for the
+/// numbers of its names. If memory is refused, more may hang.
+fn prepare_parts<C: CodeSource>(
+    alloc: Global,
+    store: &mut Store<CellName>,
+    goals: &GoalTable<CellName>,
+    shoens: &ShoenTree<CellName>,
+    modules: &mut Modules<C>,
+    codes: &C,
+    names: &mut AccountNames,
+    trial: &mut Trial<CellName>,
+    draft: &CodedModule<'_, C>,
+    changes: &mut Vec<Change>,
+) -> Result<Vec<CellName>, AllocError>
+    requires placed { ArePlaced (C.has codes.now) modules.old.loaded }
+    requires new { is_numbered modules.old.loaded (number_of draft.now) ≡ false }
+    requires goals { AreGoalsIn store.old.held goals.now.goals }
+    requires shoens { AreShoensIn store.old.held shoens.now.shoens }
+    ensures settles { OnOk result (Settles modules.old.loaded draft.now shoens.now.shoens store.new.hooks store.old.held goals.now.goals changes.new.items) }
+    ensures row { IfOk result (λ row. row.items ≡ []) }
+    ensures row_room { IfOk result (λ row. length (own_names draft.now.content) ≤ vec_capacity row) }
+    ensures modules { modules.new.loaded ≡ modules.old.loaded }
+    ensures module_room { OnOk result (0 < modules.new.room) }
+    ensures names { names.new.names ≡ names.old.names }
+    ensures name_room { OnOk result (length (own_names draft.now.content) ≤ names.new.room) }
+    ensures held { store.new.held ≡ store.old.held }
+    ensures grown { HasGrown store.old store.new }
+{
+    changes.clear();
+    let coded = CodedModules::over(modules, codes);
+    look_at_all(store, goals, shoens, &coded, draft, trial, changes)?;
+    let count = draft.code().names().len();
+    modules.reserve(1)?;
+    names.reserve(count)?;
+    Vec::with_capacity(alloc, count)
+}
+
+/// Like `prepare_parts`; on an error no hook is added.
+pub(crate) fn prepare<C: CodeSource>(
+    alloc: Global,
+    store: &mut Store<CellName>,
+    goals: &GoalTable<CellName>,
+    shoens: &ShoenTree<CellName>,
+    modules: &mut Modules<C>,
+    codes: &C,
+    names: &mut AccountNames,
+    trial: &mut Trial<CellName>,
+    draft: &CodedModule<'_, C>,
+    changes: &mut Vec<Change>,
+) -> Result<Vec<CellName>, AllocError>
+    requires placed { ArePlaced (C.has codes.now) modules.old.loaded }
+    requires new { is_numbered modules.old.loaded (number_of draft.now) ≡ false }
+    requires goals { AreGoalsIn store.old.held goals.now.goals }
+    requires shoens { AreShoensIn store.old.held shoens.now.shoens }
+    ensures settles { OnOk result (Settles modules.old.loaded draft.now shoens.now.shoens store.new.hooks store.old.held goals.now.goals changes.new.items) }
+    ensures row { IfOk result (λ row. row.items ≡ []) }
+    ensures row_room { IfOk result (λ row. length (own_names draft.now.content) ≤ vec_capacity row) }
+    ensures modules { modules.new.loaded ≡ modules.old.loaded }
+    ensures module_room { OnOk result (0 < modules.new.room) }
+    ensures names { names.new.names ≡ names.old.names }
+    ensures name_room { OnOk result (length (own_names draft.now.content) ≤ names.new.room) }
+    ensures held { store.new.held ≡ store.old.held }
+    ensures hooks { OnErr result (store.new.hooks ≡ store.old.hooks) }
+{
+    let mark = store.mark();
+    match prepare_parts(
+        alloc, store, goals, shoens, modules, codes, names, trial, draft, changes,
+    ) {
+        Ok(row) => Ok(row),
+        Err(memory) => {
+            store.back(mark);
+            Err(memory)
+        }
+    }
+}
+
+/// Puts a drafted module after the others, under these numbers of its names, and each changed goal as it was found.
+pub(crate) fn install_module<C: CodeSource>(
+    goals: &mut GoalTable<CellName>,
+    modules: &mut Modules<C>,
+    codes: &C,
+    mut draft: Loaded<C>,
+    row: &[CellName],
+    changes: &[Change],
+)
+    requires of { C.has codes.now draft.place }
+    requires count { length row.now ≡ length (own_names draft.content) }
+    requires room { 0 < modules.old.room }
+    requires new { is_numbered modules.old.loaded (number_of (record draft { row = row.now })) ≡ false }
+    ensures goals { goals.new ≡ record goals.old { goals = restood changes.now goals.old.goals } }
+    ensures modules { modules.new.loaded ≡ modules.old.loaded ++ record draft { row = row.now } ∷ [] }
+{
+    draft.renumber(codes, row);
+    modules.push(draft);
+    for change in changes {
+        goals.set_standing(change.number, change.standing);
+    }
+}

@@ -1,0 +1,142 @@
+// Terms printed straight from cells.
+
+ghost use Rattle.std.specs.Prelude.{◌≡◌, ◌<◌, ◌++◌, ℕ, length, reverse, IfOk, OnOk};
+ghost use Rattle.kl1_model.specs.Print.{print};
+ghost use Rattle.kl1_term.specs.Nodes.{count_in};
+ghost use Rattle.kl1_term.specs.Page.{limited};
+ghost use Rattle.kl1_store.specs.Held.{IsIn, AreIn, arguments_of};
+ghost use Rattle.kl1_user_effects.specs.Fitting.{Reading, Fits};
+ghost use Rattle.kl1_user_effects.specs.Account.{meaning};
+ghost use Rattle.kl1_user_effects.specs.Naming.{AreSmall, Keeps};
+ghost use Rattle.kl1_user_account.specs.Tops.{node_with, count_at, IsNext, TakesTop};
+
+use crate::top::Top;
+use kl1_atoms::AtomSource;
+use kl1_store::{Cell, Store};
+use kl1_term::{Node, Printer};
+use kl1_text::{AtomNo, AtomText, CellName};
+use std::alloc::{AllocError, Global};
+
+/// Puts the `count` arguments of a structure on a stack, the first of them on top.
+#[tactic(auto, using(crate::proofs::Stacks::one_argument))]
+fn put_arguments(
+    store: &Store<CellName>,
+    structure: u32,
+    count: u32,
+    stack: &mut Vec<Cell<CellName>>,
+) -> Result<(), AllocError>
+    requires structure { structure < length store.now.held.structures }
+    requires count { count ≡ length (arguments_of store.now.held structure) }
+    ensures { OnOk result (reverse stack.new.items ≡ arguments_of store.now.held structure ++ reverse stack.old.items) }
+{
+    let mut left = count;
+    while 0 < left {
+        left -= 1;
+        stack.push(store.argument(structure, left))?;
+    }
+    Ok(())
+}
+
+/// What is at the top of a cell's term, whose arguments are put on a stack, the first of them on top.
+fn top_of(
+    store: &Store<CellName>,
+    cell: Cell<CellName>,
+    stack: &mut Vec<Cell<CellName>>,
+) -> Result<Top, AllocError>
+    requires cell { IsIn store.now.held cell }
+    requires stack { AreIn store.now.held stack.old.items }
+    ensures { IfOk result (λ top. IsNext store.now.held cell top stack.old.items stack.new.items) }
+{
+    // Only for the proof: what the store holds is formed.
+    let _ = store.mark();
+    match store.walk(cell) {
+        Cell::Variable(number) => Ok(Top::Variable(u64::from(number))),
+        Cell::Integer(number) => Ok(Top::Integer(number)),
+        Cell::Atom(name) => Ok(Top::Atom(name)),
+        Cell::Structure(structure) => {
+            let head = store.look(structure);
+            put_arguments(store, structure, head.count, stack)?;
+            Ok(Top::Structure(head.name, head.count as usize))
+        }
+    }
+}
+
+/// What is at the top of the first of the terms of cells on a stack, whose arguments take its place there; nothing if the
+/// stack is empty.
+#[tactic(auto, using(crate::proofs::Stacks::top_in, crate::proofs::Stacks::rest_in, crate::proofs::Stacks::takes))]
+fn next_top(
+    store: &Store<CellName>,
+    stack: &mut Vec<Cell<CellName>>,
+) -> Result<Option<Top>, AllocError>
+    requires { AreIn store.now.held stack.old.items }
+    ensures { IfOk result (TakesTop store.now.held stack.old.items stack.new.items) }
+{
+    match stack.pop() {
+        None => Ok(None),
+        Some(cell) => {
+            let top = top_of(store, cell, stack)?;
+            Ok(Some(top))
+        }
+    }
+}
+
+/// The text of a name in a cell, which is the same for all readings.
+fn text_of<A: AtomSource>(names: &mut A, seat: &mut A::Seat, name: CellName) -> AtomText
+    requires of { A.is_of names.old seat.old }
+    requires small { AreSmall (A.knows seat.old) }
+    requires named { (f g : Reading) → Fits (A.knows seat.old) f → Fits (A.knows seat.old) g → f name ≡ g name }
+    ensures text { (f : Reading) → Fits (A.knows seat.old) f → f name ≡ result }
+    ensures keeps { Keeps A.is_of A.place A.knows A.published names.old names.new seat.old seat.new }
+    ensures knows { A.knows seat.new ≡ A.knows seat.old }
+{
+    let number = name.number as u32;
+    names.text_of(seat, AtomNo { number })
+}
+
+/// What is at the top of a term, with its name as a text, which is the same for all readings.
+fn node_of<A: AtomSource>(names: &mut A, seat: &mut A::Seat, top: Top) -> Node
+    requires of { A.is_of names.old seat.old }
+    requires small { AreSmall (A.knows seat.old) }
+    requires named { (f g : Reading) → Fits (A.knows seat.old) f → Fits (A.knows seat.old) g → node_with f top ≡ node_with g top }
+    ensures node { (f : Reading) → Fits (A.knows seat.old) f → node_with f top ≡ result }
+    ensures count { count_in result ≡ count_at top }
+    ensures keeps { Keeps A.is_of A.place A.knows A.published names.old names.new seat.old seat.new }
+    ensures knows { A.knows seat.new ≡ A.knows seat.old }
+{
+    match top {
+        Top::Variable(number) => Node::Variable(number),
+        Top::Integer(number) => Node::Integer(number),
+        Top::Atom(name) => Node::Atom(text_of(names, seat, name)),
+        Top::Structure(name, count) => Node::Structure(text_of(names, seat, name), count),
+    }
+}
+
+/// The text of a cell's term: if a number of bytes is given, it is cut after these, with three dots if it is longer.
+pub(crate) fn print_cell<A: AtomSource>(
+    alloc: Global,
+    names: &mut A,
+    seat: &mut A::Seat,
+    store: &Store<CellName>,
+    cell: Cell<CellName>,
+    most: Option<usize>,
+) -> Result<Vec<u8>, AllocError>
+    requires cell { IsIn store.now.held cell }
+    requires of { A.is_of names.old seat.old }
+    requires small { AreSmall (A.knows seat.old) }
+    requires named { (f g : Reading) → Fits (A.knows seat.old) f → Fits (A.knows seat.old) g → meaning f store.now.held cell ≡ meaning g store.now.held cell }
+    ensures text { IfOk result (λ text. (f : Reading) → Fits (A.knows seat.old) f → text.items ≡ limited most (print (meaning f store.now.held cell))) }
+    ensures keeps { Keeps A.is_of A.place A.knows A.published names.old names.new seat.old seat.new }
+    ensures knows { A.knows seat.new ≡ A.knows seat.old }
+{
+    let mut printer = Printer::new(alloc, most);
+    let mut stack = Vec::new(alloc);
+    stack.push(cell)?;
+    while !printer.is_done() {
+        let Some(top) = next_top(store, &mut stack)? else {
+            break;
+        };
+        let node = node_of(names, seat, top);
+        printer.put(node)?;
+    }
+    printer.into_text()
+}

@@ -1,0 +1,332 @@
+// Reductions that are drafted.
+
+ghost use Rattle.std.specs.Prelude.{◌≡◌, ◌<◌, ◌≤◌, ℕ, List, Some, None, IfOk, IfErr, OnOk, vec_capacity};
+ghost use Rattle.kl1_model.specs.Limits.{most_entries, monitor_priority};
+ghost use Rattle.kl1_clause.specs.Predicates.{AreSome};
+ghost use Rattle.kl1_goals_moves.specs.Kinds.{IsKind, KindIn};
+ghost use Rattle.kl1_goals_moves.specs.Moves.{HasPredicate, MoveIn, taken_places};
+ghost use Rattle.kl1_stream.specs.Controls.{ControlIn};
+ghost use Rattle.kl1_codes_modules.specs.Finding.{contents};
+ghost use Rattle.kl1_model.specs.Term.{Term};
+ghost use Rattle.kl1_text.specs.declared.cell_name.CellName.{CellName};
+ghost use Rattle.kl1_store.specs.Held.{Held};
+ghost use Rattle.kl1_store.specs.Hooks.{HasGrown};
+ghost use Rattle.kl1_goals.specs.declared.task.Task.TheVariants.{Monitor, Reduces};
+ghost use Rattle.kl1_user_effects.specs.Fitting.{Reading};
+ghost use Rattle.kl1_user_effects.specs.Account.{aim};
+ghost use Rattle.kl1_user_effects.specs.Kept.{AreShoensIn};
+ghost use Rattle.kl1_user_effects.specs.Works.{Knows};
+ghost use Rattle.kl1_user_account.specs.Reducing.{HasRow, RefusesAmong, IsSteppable, is_read, NotHeard, HeardAs, NotMade, IsMade, account_at, ReducesAs};
+ghost use Rattle.kl1_user_account.specs.Keeping.{IsKept};
+ghost use Rattle.kl1_user_effects.specs.Drafts.{CanGoBack};
+ghost use Rattle.kl1_user_effects.specs.Installing.{IsBegun};
+ghost use Rattle.kl1_user_steps.specs.Spelling.{HasRoomFor};
+
+use crate::completing::finish;
+use crate::limits::are_numbers;
+use crate::looking::predicate_of;
+use kl1_clause::Predicate;
+use kl1_codes::CodeSource;
+use kl1_codes_modules::CodedModules;
+use kl1_goals::{Goal, GoalTable, Task};
+use kl1_goals_moves::{Kind, Move, Trial, kind_of_qualified, move_of};
+use kl1_model::limits::MOST_ENTRIES;
+use kl1_shoen::ShoenTree;
+use kl1_store::{Qualified, Store};
+use kl1_stream::{Control, read_control};
+use kl1_text::CellName;
+use kl1_user_effects::{AccountNames, Draft, Walk};
+use kl1_user_events::Refusal;
+use kl1_user_steps::{do_or_spell, read};
+use std::alloc::AllocError;
+
+/// Goal `number`, which may step, or why its reduction by clause `clause` is refused.
+fn steppable(
+    goals: &GoalTable<CellName>,
+    number: u64,
+    clause: u64,
+) -> Result<Goal<CellName>, Refusal>
+    ensures refused { IfErr result (RefusesAmong goals.now.goals number clause) }
+    ensures found { IfOk result (IsSteppable goals.now.goals number clause) }
+    ensures number { IfOk result (λ g. g.number ≡ number) }
+    ensures level { IfOk result (λ g. g.priority ≤ monitor_priority) }
+{
+    if !are_numbers(number, clause) {
+        return Err(Refusal::Syntax);
+    }
+    let Some(goal) = goals.get(number) else {
+        return Err(Refusal::Step);
+    };
+    if !goal.is_enabled {
+        return Err(Refusal::Step);
+    }
+    Ok(goal)
+}
+
+/// Whether a monitor reads what stands before it: it isn't a variable.
+fn is_read(control: Control<CellName>) -> bool
+    ensures { result ≡ is_read control }
+{
+    match control {
+        Control::Awaits(_variable) => false,
+        Control::Tells(_message, _rest) => true,
+        Control::TellsOther(_element, _rest) => true,
+        Control::Ends => true,
+        Control::BreaksOff(_cell) => true,
+    }
+}
+
+/// What a monitor, which may step, reads by clause `clause`, for an account with `entries` entries in its journal, or why that is
+/// refused.
+fn control_to_read(
+    store: &Store<CellName>,
+    shoens: &ShoenTree<CellName>,
+    entries: u64,
+    goal: Goal<CellName>,
+    clause: u64,
+) -> Result<Control<CellName>, Refusal>
+    requires shoens { AreShoensIn store.now.held shoens.now.shoens }
+    ensures refused { IfErr result (NotHeard store.now.held shoens.now.shoens entries goal clause) }
+    ensures reads { IfOk result (HeardAs store.now.held shoens.now.shoens entries goal clause) }
+    ensures inside { IfOk result (ControlIn store.now.held) }
+    ensures room { IfOk result (λ control. entries < most_entries) }
+{
+    if clause != 0 {
+        return Err(Refusal::Step);
+    }
+    let Some(shoen) = shoens.lend(goal.shoen) else {
+        return Err(Refusal::Step);
+    };
+    let control = read_control(store, shoen.control);
+    if !is_read(control) {
+        return Err(Refusal::Step);
+    }
+    if MOST_ENTRIES <= entries {
+        return Err(Refusal::Journal);
+    }
+    Ok(control)
+}
+
+/// What a goal for a cell, which may step and is of a kind, does by clause `clause` of its predicate, for an account with `entries`
+/// entries in its journal, or why that is refused.
+fn move_to_make<C: CodeSource>(
+    store: &Store<CellName>,
+    modules: &CodedModules<'_, C>,
+    kind: Kind<CellName>,
+    predicate: Predicate<'_, CellName>,
+    trial: &mut Trial<CellName>,
+    entries: u64,
+    cell: Qualified<CellName>,
+    clause: u64,
+) -> Result<Result<Move<CellName>, Refusal>, AllocError>
+    requires kind { KindIn store.now.held kind }
+    requires some { AreSome predicate.names.now predicate.clauses.now }
+    requires is { (f : Reading) → Knows modules.now.loaded f → IsKind f store.now.held (aim f store.now.held cell) kind }
+    requires has { (f : Reading) → Knows modules.now.loaded f → (h : Held CellName) (t : Term) → IsKind f h t kind → HasPredicate f h (contents modules.now.loaded) kind predicate }
+    ensures refused { IfOk result (λ o. IfErr o (NotMade store.now.held modules.now.loaded entries cell clause)) }
+    ensures makes { IfOk result (λ o. IfOk o (IsMade store.now.held modules.now.loaded entries cell clause predicate.entry (taken_places trial.new) trial.new.text)) }
+    ensures inside { IfOk result (λ o. IfOk o (λ made. MoveIn store.now.held predicate.entry (taken_places trial.new) trial.new.text (Some made))) }
+{
+    let Some(made) = move_of(store, kind, predicate, clause, trial)? else {
+        return Ok(Err(Refusal::Step));
+    };
+    if MOST_ENTRIES <= entries {
+        return Ok(Err(Refusal::Journal));
+    }
+    Ok(Ok(made))
+}
+
+/// Drafts what a monitor reads, which may step, by clause `clause`, for an account with `entries` entries in its journal, or says
+/// why it is refused. The draft has begun with what the account has.
+#[inline(never)]
+fn draft_reading<C: CodeSource>(
+    store: &mut Store<CellName>,
+    goals: &mut GoalTable<CellName>,
+    shoens: &mut ShoenTree<CellName>,
+    modules: &CodedModules<'_, C>,
+    names: &AccountNames,
+    trial: &mut Trial<CellName>,
+    draft: &mut Draft,
+    walk: &mut Walk,
+    entries: u64,
+    goal: Goal<CellName>,
+    clause: u64,
+) -> Result<Option<Refusal>, AllocError>
+    requires steppable { IsSteppable goals.old.goals goal.number clause goal }
+    requires monitor { goal.task ≡ Monitor }
+    requires begun { IsBegun 0 draft.old.last_goal draft.old.variables draft.old.nodes draft.old.reports draft.old }
+    requires kept { (own : List ℕ × ℕ) → IsKept (account_at own store.old.held goals.old.goals shoens.old modules.now.loaded names.now.names draft.old.last_goal draft.old.variables draft.old.nodes draft.old.reports entries) store.old.hooks goals.old.shoens }
+    ensures ok { IfOk result (λ refused. (own : List ℕ × ℕ) → ReducesAs (account_at own store.old.held goals.old.goals shoens.old modules.now.loaded names.now.names draft.old.last_goal draft.old.variables draft.old.nodes draft.old.reports entries) goal.number clause store.old store.new shoens.old shoens.new goals.new draft.new refused) }
+    ensures back { CanGoBack shoens.old shoens.new }
+    ensures grown { HasGrown store.old store.new }
+    ensures goals { goals.new.goals ≡ goals.old.goals }
+    ensures shoens { goals.new.shoens ≡ goals.old.shoens }
+    ensures unnamed { IfOk result (λ refused. refused ≡ None → draft.new.name ≡ None) }
+{
+    let control = match control_to_read(store, shoens, entries, goal, clause) {
+        Err(refusal) => return Ok(Some(refusal)),
+        Ok(control) => control,
+    };
+    // Only for the proof: no shoen has two monitors.
+    let _single = goals.shoens();
+    // Only for the proof: reductions were done in shoens that are there.
+    let _worked = shoens.len();
+    let mark = store.mark();
+    walk.reached.clear();
+    read(store, goals, shoens, draft, walk, goal.shoen, control)?;
+    draft.told.push(goal.number)?;
+    let predicate = predicate_of(modules, Kind::Nothing);
+    finish(
+        store,
+        goals,
+        shoens,
+        modules,
+        &Kind::Nothing,
+        &predicate,
+        trial,
+        draft,
+        walk,
+        mark,
+        0,
+    )?;
+    Ok(None)
+}
+
+/// Drafts the move that a goal for a cell does, which may step, by clause `clause`, for an account with `entries` entries in its
+/// journal, or says why it is refused. The draft has begun with what the account has.
+#[inline(always)]
+fn draft_move<C: CodeSource>(
+    store: &mut Store<CellName>,
+    goals: &mut GoalTable<CellName>,
+    shoens: &mut ShoenTree<CellName>,
+    modules: &CodedModules<'_, C>,
+    names: &mut AccountNames,
+    trial: &mut Trial<CellName>,
+    draft: &mut Draft,
+    walk: &mut Walk,
+    entries: u64,
+    goal: Goal<CellName>,
+    cell: Qualified<CellName>,
+    clause: u64,
+) -> Result<Option<Refusal>, AllocError>
+    requires steppable { IsSteppable goals.old.goals goal.number clause goal }
+    requires reduces { goal.task ≡ Reduces cell }
+    requires level { goal.priority ≤ monitor_priority }
+    requires begun { IsBegun 0 draft.old.last_goal draft.old.variables draft.old.nodes draft.old.reports draft.old }
+    requires kept { (own : List ℕ × ℕ) → IsKept (account_at own store.old.held goals.old.goals shoens.old modules.now.loaded names.old.names draft.old.last_goal draft.old.variables draft.old.nodes draft.old.reports entries) store.old.hooks goals.old.shoens }
+    ensures ok { IfOk result (λ refused. (own : List ℕ × ℕ) → ReducesAs (account_at own store.old.held goals.old.goals shoens.old modules.now.loaded names.old.names draft.old.last_goal draft.old.variables draft.old.nodes draft.old.reports entries) goal.number clause store.old store.new shoens.old shoens.new goals.new draft.new refused) }
+    ensures back { CanGoBack shoens.old shoens.new }
+    ensures grown { HasGrown store.old store.new }
+    ensures goals { goals.new.goals ≡ goals.old.goals }
+    ensures shoens { goals.new.shoens ≡ goals.old.shoens }
+    ensures names { names.new.names ≡ names.old.names }
+    ensures room { IfOk result (λ refused. refused ≡ None → HasRoomFor names.new.room draft.new.name) }
+{
+    let kind = kind_of_qualified(store, cell);
+    let predicate = predicate_of(modules, kind);
+    let made = match move_to_make(
+        store, modules, kind, predicate, trial, entries, cell, clause,
+    )? {
+        Err(refusal) => return Ok(Some(refusal)),
+        Ok(made) => made,
+    };
+    // Only for the proof: the goals are in order of number.
+    let _ordered = goals.shoens();
+    // Only for the proof: reductions were done in shoens that are there.
+    let _worked = shoens.len();
+    let mark = store.mark();
+    draft.removed = goal.number;
+    let alive = goals.alive() - 1;
+    do_or_spell(
+        store, goals, shoens, draft, walk, names, alive, predicate, made, trial, goal, cell,
+    )?;
+    finish(
+        store, goals, shoens, modules, &kind, &predicate, trial, draft, walk, mark, goal.shoen,
+    )?;
+    Ok(None)
+}
+
+/// Drafts the reduction of goal `number` by clause `clause`, for an account with `entries` entries in its journal, or says
+/// why it is refused. The draft has begun with what the account has. If memory is refused, the store and the tree may have changed.
+#[inline(always)]
+fn draft_reduction<C: CodeSource>(
+    store: &mut Store<CellName>,
+    goals: &mut GoalTable<CellName>,
+    shoens: &mut ShoenTree<CellName>,
+    modules: &CodedModules<'_, C>,
+    names: &mut AccountNames,
+    trial: &mut Trial<CellName>,
+    draft: &mut Draft,
+    walk: &mut Walk,
+    entries: u64,
+    number: u64,
+    clause: u64,
+) -> Result<Option<Refusal>, AllocError>
+    requires begun { IsBegun 0 draft.old.last_goal draft.old.variables draft.old.nodes draft.old.reports draft.old }
+    requires kept { (own : List ℕ × ℕ) → IsKept (account_at own store.old.held goals.old.goals shoens.old modules.now.loaded names.old.names draft.old.last_goal draft.old.variables draft.old.nodes draft.old.reports entries) store.old.hooks goals.old.shoens }
+    ensures ok { IfOk result (λ refused. (own : List ℕ × ℕ) → ReducesAs (account_at own store.old.held goals.old.goals shoens.old modules.now.loaded names.old.names draft.old.last_goal draft.old.variables draft.old.nodes draft.old.reports entries) number clause store.old store.new shoens.old shoens.new goals.new draft.new refused) }
+    ensures back { CanGoBack shoens.old shoens.new }
+    ensures grown { HasGrown store.old store.new }
+    ensures goals { goals.new.goals ≡ goals.old.goals }
+    ensures shoens { goals.new.shoens ≡ goals.old.shoens }
+    ensures names { names.new.names ≡ names.old.names }
+    ensures room { IfOk result (λ refused. refused ≡ None → HasRoomFor names.new.room draft.new.name) }
+{
+    let goal = match steppable(goals, number, clause) {
+        Err(refusal) => return Ok(Some(refusal)),
+        Ok(goal) => goal,
+    };
+    match goal.task {
+        Task::Monitor => draft_reading(
+            store, goals, shoens, modules, names, trial, draft, walk, entries, goal, clause,
+        ),
+        Task::Reduces(cell) => draft_move(
+            store, goals, shoens, modules, names, trial, draft, walk, entries, goal, cell, clause,
+        ),
+    }
+}
+
+/// Makes a row ready for the number of a name that a draft has.
+fn ready_row(row: &mut Vec<CellName>, draft: &Draft) -> Result<(), AllocError>
+    ensures { OnOk result (HasRow draft.now.name row.new.items (vec_capacity row.new)) }
+{
+    if draft.name.is_none() {
+        return Ok(());
+    }
+    row.clear();
+    row.reserve(1)
+}
+
+/// Does what `draft_reduction` does; then a row is ready for the number of a name that is drafted.
+#[inline(always)]
+pub(crate) fn draft_named<C: CodeSource>(
+    store: &mut Store<CellName>,
+    goals: &mut GoalTable<CellName>,
+    shoens: &mut ShoenTree<CellName>,
+    modules: &CodedModules<'_, C>,
+    names: &mut AccountNames,
+    trial: &mut Trial<CellName>,
+    draft: &mut Draft,
+    walk: &mut Walk,
+    row: &mut Vec<CellName>,
+    entries: u64,
+    number: u64,
+    clause: u64,
+) -> Result<Option<Refusal>, AllocError>
+    requires begun { IsBegun 0 draft.old.last_goal draft.old.variables draft.old.nodes draft.old.reports draft.old }
+    requires kept { (own : List ℕ × ℕ) → IsKept (account_at own store.old.held goals.old.goals shoens.old modules.now.loaded names.old.names draft.old.last_goal draft.old.variables draft.old.nodes draft.old.reports entries) store.old.hooks goals.old.shoens }
+    ensures ok { IfOk result (λ refused. (own : List ℕ × ℕ) → ReducesAs (account_at own store.old.held goals.old.goals shoens.old modules.now.loaded names.old.names draft.old.last_goal draft.old.variables draft.old.nodes draft.old.reports entries) number clause store.old store.new shoens.old shoens.new goals.new draft.new refused) }
+    ensures back { CanGoBack shoens.old shoens.new }
+    ensures grown { HasGrown store.old store.new }
+    ensures goals { goals.new.goals ≡ goals.old.goals }
+    ensures shoens { goals.new.shoens ≡ goals.old.shoens }
+    ensures names { names.new.names ≡ names.old.names }
+    ensures room { IfOk result (λ refused. refused ≡ None → HasRoomFor names.new.room draft.new.name) }
+    ensures row { IfOk result (λ refused. refused ≡ None → HasRow draft.new.name row.new.items (vec_capacity row.new)) }
+{
+    let refused = draft_reduction(
+        store, goals, shoens, modules, names, trial, draft, walk, entries, number, clause,
+    )?;
+    ready_row(row, draft)?;
+    Ok(refused)
+}
