@@ -7,7 +7,8 @@ use Rattle.std.proofs.lemmas.List.Folds.{list_any-append}
 use Rattle.std.proofs.lemmas.Bool.{or_parts, or_from, or_left, false≢true, false_from_ne_true, cond-true, cond-false}
 use Rattle.kl1_model.specs.declared.built_in.BuiltIn.{BuiltIn}
 use Rattle.kl1_model.specs.Term.{Term, same_term}
-use Rattle.kl1_model.specs.Same.{same, differs, unknown, passive, clash, awaited}
+use Rattle.kl1_model.specs.Same.{same, differs, unknown, passive, clash}
+use Rattle.kl1_model.specs.code.Awaited.{awaited}
 use Rattle.kl1_model.specs.code.Outcome.{own_variables}
 use Rattle.kl1_model.proofs.TermFacts.{same_term_decides}
 use Rattle.kl1_model.proofs.Clashes.{no_clash}

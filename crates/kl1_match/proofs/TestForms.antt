@@ -4,7 +4,7 @@ use Rattle.std.specs.Prelude.{Option, Some, None, option_map}
 use Rattle.kl1_model.specs.declared.built_in.BuiltIn.{BuiltIn}
 use Rattle.kl1_model.specs.Term.{Term, variable, structure, substituted, Terms, none, more, each_substituted, count_of}
 use Rattle.kl1_model.specs.code.TermCode.{first_term, behind_first, front_of, behind}
-use Rattle.kl1_model.specs.Same.{argument_at}
+use Rattle.kl1_model.specs.laws.Clashes.{argument_at}
 use Rattle.kl1_model.specs.code.Outcome.{beside, test_variable}
 use Rattle.kl1_model.proofs.Substitutions.{count-each_substituted}
 use Rattle.kl1_store.specs.declared.cell.Cell.{Cell}

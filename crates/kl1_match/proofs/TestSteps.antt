@@ -8,7 +8,7 @@ use Rattle.kl1_model.specs.declared.comparison.Comparison.{Comparison}
 use Rattle.kl1_model.specs.declared.type_test.TypeTest.{TypeTest}
 use Rattle.kl1_model.specs.Term.{Term, variable, integer, atom, structure, none, more, substituted}
 use Rattle.kl1_model.specs.code.TermCode.{first_term, behind_first}
-use Rattle.kl1_model.specs.Same.{awaited}
+use Rattle.kl1_model.specs.code.Awaited.{awaited}
 use Rattle.kl1_model.specs.Guard as guard
 use Rattle.kl1_model.specs.code.Outcome as model
 use Rattle.kl1_model.specs.Guard.{type_test_named, comparison_named, holds, looks, is_same, is_other, compares, test_of, test_substituted}

@@ -1,7 +1,8 @@
 -- Passive equality of two terms of a clause's tests.
 use Rattle.std.specs.Prelude.{◌≡◌, ℕ, suc, ◌+◌, Bool, true, false, List, [], ◌++◌}
 use Rattle.kl1_model.specs.declared.built_in.BuiltIn.{BuiltIn}
-use Rattle.kl1_model.specs.Same.{clash, awaited, passive, same, differs, unknown}
+use Rattle.kl1_model.specs.Same.{clash, passive, same, differs, unknown}
+use Rattle.kl1_model.specs.code.Awaited.{awaited}
 use Rattle.kl1_model.specs.code.Outcome.{own_variables}
 use Rattle.kl1_text.specs.Reading.{Reads}
 use Rattle.kl1_match_guard.specs.declared.pair.Pair.{Pair}

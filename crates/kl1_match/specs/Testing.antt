@@ -4,7 +4,8 @@ use Rattle.kl1_model.specs.declared.built_in.BuiltIn.{BuiltIn}
 use Rattle.kl1_model.specs.declared.comparison.Comparison.{Comparison}
 use Rattle.kl1_model.specs.Term.{Term}
 use Rattle.kl1_model.specs.code.TermCode.{first_term}
-use Rattle.kl1_model.specs.Same.{passive, awaited}
+use Rattle.kl1_model.specs.Same.{passive}
+use Rattle.kl1_model.specs.code.Awaited.{awaited}
 use Rattle.kl1_model.specs.code.Outcome as model
 use Rattle.kl1_model.specs.code.Outcome.{other_outcome, own_outcome, test_outcome, tests_outcome}
 use Rattle.kl1_clause.specs.declared.instruction.Instruction.{Instruction}

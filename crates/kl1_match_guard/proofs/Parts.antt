@@ -4,7 +4,7 @@ use Rattle.std.specs.Prelude.{Some}
 use Rattle.std.proofs.lemmas.Option.{same_Some}
 use Rattle.kl1_model.specs.declared.operator.Operator.{Operator}
 use Rattle.kl1_model.specs.Term.{Term, structure, Terms, none, more, count_of}
-use Rattle.kl1_model.specs.Same.{argument_at}
+use Rattle.kl1_model.specs.laws.Clashes.{argument_at}
 use Rattle.kl1_model.specs.Arithmetic.{operator_named, scan, scan_operation}
 use Rattle.kl1_match_guard.specs.declared.part.Part.TheVariants.{Operation}
 use Rattle.kl1_match_guard.specs.Forms.{IsStructure}

@@ -2,7 +2,7 @@
 
 ghost use Rattle.std.specs.Prelude.{◌≡◌, ◌==◌, ◌<◌, ℕ, List, Some, IsTrue};
 ghost use Rattle.kl1_model.specs.Term.{Term, Terms};
-ghost use Rattle.kl1_model.specs.Same.{argument_at};
+ghost use Rattle.kl1_model.specs.laws.Clashes.{argument_at};
 ghost use Rattle.kl1_match_guard.specs.Forms.{IsForm, IsFormIn};
 
 use crate::form::Form;

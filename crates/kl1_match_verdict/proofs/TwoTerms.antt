@@ -2,7 +2,8 @@
 use Rattle.std.proofs.Common.{◌≡◌, ℕ, Bool, true, false, if◌then◌else◌, List, [], refl, sym, ap, ◌∙◌, subst}
 use Rattle.std.proofs.lemmas.Bool.{false≢true, false_from_ne_true}
 use Rattle.kl1_model.specs.Term.{Term, same_term}
-use Rattle.kl1_model.specs.Same.{same, differs, unknown, clash, awaited}
+use Rattle.kl1_model.specs.Same.{same, differs, unknown, clash}
+use Rattle.kl1_model.specs.code.Awaited.{awaited}
 use Rattle.kl1_model.specs.code.Outcome.{alike, same_outcome, Outcome, clashes}
 use Rattle.kl1_model.proofs.TermFacts.{same_term_decides}
 use Rattle.kl1_model.proofs.Clashes.{no_clash}

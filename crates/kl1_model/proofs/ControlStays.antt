@@ -2,7 +2,8 @@
 use Rattle.std.proofs.Common.{◌≡◌, ℕ, Bool, true, false, if◌then◌else◌, List, [], ◌∷◌, refl, ap, ◌∙◌}
 use Rattle.std.specs.Prelude.{codes, bytes_eq, pos, negsuc}
 use Rattle.kl1_model.specs.Term.{Term, variable, integer, atom, structure, none, more, substituted}
-use Rattle.kl1_model.specs.Control.{Word, says, says_other, unsaid, allow_word, word_of, ends, breaks_off, control_by, control_of, awaited_by_control}
+use Rattle.kl1_model.specs.Control.{Word, says, says_other, unsaid, allow_word, word_of, ends, breaks_off, control_by, control_of}
+use Rattle.kl1_model.specs.code.Awaited.{awaited_by_control}
 use Rattle.kl1_model.specs.code.Waits.{LeavesEach}
 use Rattle.kl1_model.specs.laws.WaitsLaws.{control_substituted, ControlStays}
 

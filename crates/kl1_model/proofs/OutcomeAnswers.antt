@@ -7,7 +7,8 @@ use Rattle.kl1_model.specs.declared.number.Number.{Number}
 use Rattle.kl1_model.specs.declared.number.Number.TheVariants.{Value, Overflow, ZeroDivisor}
 use Rattle.kl1_model.specs.Term.{Term, variable, integer, atom, structure, Terms, none, more, substituted, each_substituted}
 use Rattle.kl1_model.specs.Meaning.{highest, highest_in}
-use Rattle.kl1_model.specs.Same.{Passive, same, differs, unknown, passive, awaited}
+use Rattle.kl1_model.specs.Same.{Passive, same, differs, unknown, passive}
+use Rattle.kl1_model.specs.code.Awaited.{awaited}
 use Rattle.kl1_model.specs.Arithmetic.{Evaluated, comes_to, awaits, is_no_expression, evaluated}
 use Rattle.kl1_model.specs.Guard.{Test, holds, looks, is_same, is_other, compares, test_of, type_test_named, comparison_named, test_substituted, is_found, compared, together, known, same_answer, other_answer, numbers_answer, sides_answer, test_answer, answer_by}
 use Rattle.kl1_model.specs.code.Outcome.{Outcome, agrees, clashes, waits, both, decided, alike, same_outcome, other_outcome, compared_numbers, compared_sides, outcome_by, answer_of}

@@ -6,7 +6,8 @@ use Rattle.kl1_model.specs.declared.comparison.Comparison.{Comparison}
 use Rattle.kl1_model.specs.declared.number.Number.{Number}
 use Rattle.kl1_model.specs.declared.number.Number.TheVariants.{Value, Overflow, ZeroDivisor}
 use Rattle.kl1_model.specs.Term.{Term, variable, integer, atom, structure, Terms, none, more, count_of, same_term, Replacement}
-use Rattle.kl1_model.specs.Same.{Passive, same, differs, unknown, passive, clash, awaited}
+use Rattle.kl1_model.specs.Same.{Passive, same, differs, unknown, passive, clash}
+use Rattle.kl1_model.specs.code.Awaited.{awaited}
 use Rattle.kl1_model.specs.Arithmetic.{Evaluated, comes_to, awaits, is_no_expression, evaluated}
 use Rattle.kl1_model.specs.Guard.{known, same_answer, other_answer, numbers_answer, sides_answer, Test, holds, looks, is_same, is_other, compares, test_substituted, is_found, compared}
 use Rattle.kl1_model.specs.code.Outcome.{Outcome, agrees, clashes, waits, both, decided, alike, same_outcome, other_outcome, compared_numbers, compared_sides, outcome_of, outcome_by, with_outcome, Matched, match_term, match_terms, places_alike, alike_with, each_alike}

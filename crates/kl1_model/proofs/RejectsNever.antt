@@ -5,7 +5,8 @@ use Rattle.std.proofs.lemmas.Bool.{cond-true, cond-false, eqb-true, eq-eqb, le-l
 use Rattle.std.proofs.lemmas.List.{map-append}
 use Rattle.kl1_model.specs.Term.{Term, variable, integer, atom, structure, Terms, none, more, terms_of, count_of, substituted, each_substituted, Replacement}
 use Rattle.kl1_model.specs.Meaning.{highest_in}
-use Rattle.kl1_model.specs.Same.{Passive, same, differs, unknown, passive, awaited}
+use Rattle.kl1_model.specs.Same.{Passive, same, differs, unknown, passive}
+use Rattle.kl1_model.specs.code.Awaited.{awaited}
 use Rattle.kl1_model.specs.Guard.{test_of}
 use Rattle.kl1_model.specs.code.Outcome.{Outcome, agrees, clashes, waits, both, same_outcome, alike, outcome_by, Matched, with_outcome, match_term, match_terms, places_alike, alike_with, each_alike, beside, test_variable, own_outcome, test_outcome, tests_outcome, guard_outcome, awaited_in}
 use Rattle.kl1_model.specs.code.Waits.{LeavesEach}

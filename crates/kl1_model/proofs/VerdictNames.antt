@@ -8,7 +8,7 @@ use Rattle.kl1_model.specs.declared.operator.Operator.{Operator}
 use Rattle.kl1_model.specs.Limits.{most_operators}
 use Rattle.kl1_model.specs.Term.{Term, variable, integer, atom, structure, Terms, none, more, terms_of, Replacement}
 use Rattle.kl1_model.specs.Meaning.{highest, highest_in}
-use Rattle.kl1_model.specs.Same.{awaited, all_awaited}
+use Rattle.kl1_model.specs.code.Awaited.{awaited, all_awaited}
 use Rattle.kl1_model.specs.Arithmetic.{ArithmeticExpression, Scan, found, waits_for, wrong_type, with_left, with_right, operator_named, scan, scan_operation, Evaluated, comes_to, awaits, is_no_expression, computed, evaluated}
 use Rattle.kl1_model.specs.Guard.{Answer, yes, no, wait, Test, holds, looks, is_same, is_other, compares, test_of, test_substituted, test_answer}
 use Rattle.kl1_model.specs.Match.{Match, match_patterns, guard_term, places_of}

@@ -1,5 +1,5 @@
 -- Control messages: as terms, and what a monitor reads.
-use Rattle.std.specs.Prelude.{ℕ, if◌then◌else◌, pos, List, [], ◌∷◌, codes, bytes_eq}
+use Rattle.std.specs.Prelude.{ℕ, if◌then◌else◌, pos, List, codes, bytes_eq}
 use Rattle.kl1_model.specs.declared.message.Message.{Message}
 use Rattle.kl1_model.specs.declared.message.Message.TheVariants.{Stop, Start, Abort, Allow}
 use Rattle.kl1_model.specs.Term.{Term, variable, integer, atom, structure, none, more}
@@ -66,11 +66,3 @@ control_of (variable v) = awaits_message v
 control_of (atom a) = if bytes_eq a (codes "[]") then ends else breaks_off (atom a)
 control_of (structure f (more m (more rest none))) = if bytes_eq f (codes ".") then control_by m rest (word_of m) else breaks_off (structure f (more m (more rest none)))
 control_of t = breaks_off t
-
--- the variables for which a monitor waits
-abbrev pub awaited_by_control : Control → List ℕ
-awaited_by_control (awaits_message v) = v ∷ []
-awaited_by_control (tells m rest) = []
-awaited_by_control (tells_other m rest) = []
-awaited_by_control ends = []
-awaited_by_control (breaks_off t) = []

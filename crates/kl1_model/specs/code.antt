@@ -2,3 +2,4 @@
 pub mod Outcome
 pub mod Waits
 pub mod TermCode
+pub mod Awaited

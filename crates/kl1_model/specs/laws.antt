@@ -6,3 +6,4 @@ pub mod WaitsLaws
 pub mod TreeLaws
 pub mod ReadLaws
 pub mod UnifyLaws
+pub mod Clashes

@@ -1,5 +1,5 @@
 //! Laws of passive equality.
-ghost use Rattle.kl1_model.specs.Same.{ClashesAreOnPaths, SameIsEqual, DiffersIsOnPath};
+ghost use Rattle.kl1_model.specs.laws.Clashes.{ClashesAreOnPaths, SameIsEqual, DiffersIsOnPath};
 ghost use Rattle.kl1_model.specs.laws.SameLaws.{SameStays, DiffersStays, UnknownWaits, UnknownStays, AllSameStays, SomeDifferStays, AllUnknownWaits, AllUnknownStays};
 
 /// Two terms clash if some path of argument numbers leads in both to a constant or structure and these differ. It does nothing: its

@@ -3,7 +3,7 @@ use Rattle.std.proofs.Common.{◌≡◌, ℕ, zero, suc, ◌≤◌, ◌==◌, fa
 use Rattle.std.specs.Prelude.{Some, slice_get}
 use Rattle.std.proofs.lemmas.Bool.{cond-true, eq-eqb}
 use Rattle.kl1_model.specs.Term.{Term, variable, structure, occurs, replace, replace_each}
-use Rattle.kl1_model.specs.Same.{argument_at}
+use Rattle.kl1_model.specs.laws.Clashes.{argument_at}
 use Rattle.kl1_model.proofs.TermFacts.{replace-absent}
 use Rattle.kl1_store.specs.declared.cell.Cell.{Cell}
 use Rattle.kl1_store.specs.declared.cell.Cell.TheVariants.{Variable, Structure}

@@ -2,7 +2,7 @@
 use Rattle.std.proofs.Common.{◌≡◌, ℕ, zero, suc, List, [], ◌∷◌, ◌++◌, refl, sym, ap, ◌∙◌, arith, subst}
 use Rattle.std.specs.Prelude.{Some}
 use Rattle.kl1_model.specs.Term.{Term, Terms, none, more, count_of}
-use Rattle.kl1_model.specs.Same.{argument_at}
+use Rattle.kl1_model.specs.laws.Clashes.{argument_at}
 use Rattle.kl1_store.specs.declared.frame.Frame.{Frame}
 use Rattle.kl1_store.specs.Onward.{onward}
 use Rattle.kl1_store.specs.Nested.{Alike, LooksAt, Under, Expects, Equal}

@@ -1,7 +1,7 @@
 -- Pairs of structures on the way, each inside the one before it: what has been looked at so far.
 use Rattle.std.specs.Prelude.{◌≡◌, ℕ, zero, suc, ◌⊎◌, List, [], ◌∷◌, Some}
 use Rattle.kl1_model.specs.Term.{Term, Terms, none, more}
-use Rattle.kl1_model.specs.Same.{argument_at}
+use Rattle.kl1_model.specs.laws.Clashes.{argument_at}
 use Rattle.kl1_store.specs.declared.cell.Cell.{Cell}
 use Rattle.kl1_store.specs.declared.cell.Cell.TheVariants.{Variable, Structure}
 use Rattle.kl1_store.specs.declared.frame.Frame.{Frame}

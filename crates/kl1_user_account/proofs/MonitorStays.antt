@@ -1,7 +1,8 @@
 -- What monitors could step by, and what they wait for, when variables are replaced.
 use Rattle.std.proofs.Common.{◌≡◌, ℕ, refl, ap, ◌∙◌}
 use Rattle.kl1_model.specs.Term.{Term, substituted}
-use Rattle.kl1_model.specs.Control.{Control, awaits_message, tells, tells_other, ends, breaks_off, control_of, awaited_by_control}
+use Rattle.kl1_model.specs.Control.{Control, awaits_message, tells, tells_other, ends, breaks_off, control_of}
+use Rattle.kl1_model.specs.code.Awaited.{awaited_by_control}
 use Rattle.kl1_model.specs.code.Waits.{LeavesEach}
 use Rattle.kl1_model.specs.laws.WaitsLaws.{control_substituted}
 use Rattle.kl1_model.proofs.ControlStays.{control_stays}

@@ -3,7 +3,8 @@ use Rattle.std.proofs.Common.{◌≡◌, ℕ, suc, ◌==◌, Bool, true, false, 
 use Rattle.std.specs.Prelude.{Contains, Option, Some, None, option_map}
 use Rattle.std.proofs.lemmas.Bool.{ne_eqb}
 use Rattle.kl1_model.specs.Term.{Term, substituted, Replacement}
-use Rattle.kl1_model.specs.Control.{Control, awaits_message, tells, tells_other, ends, breaks_off, control_of, awaited_by_control}
+use Rattle.kl1_model.specs.Control.{Control, awaits_message, tells, tells_other, ends, breaks_off, control_of}
+use Rattle.kl1_model.specs.code.Awaited.{awaited_by_control}
 use Rattle.kl1_model.specs.code.Waits.{LeavesEach, term_clause, awaited_by_term}
 use Rattle.kl1_model.specs.laws.WaitsLaws.{control_substituted}
 use Rattle.kl1_model.proofs.Substitutions.{values_of, replaced_is}

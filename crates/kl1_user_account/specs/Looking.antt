@@ -3,7 +3,8 @@ use Rattle.std.specs.Prelude.{◌≡◌, ℕ, ◌<◌, ◌==◌, ◌&&◌, Bool,
 use Rattle.std.specs.List.{AllByRecursion}
 use Rattle.kl1_model.specs.Match as model
 use Rattle.kl1_model.specs.Match.{clauses_of}
-use Rattle.kl1_model.specs.Control.{control_of, awaited_by_control}
+use Rattle.kl1_model.specs.Control.{control_of}
+use Rattle.kl1_model.specs.code.Awaited.{awaited_by_control}
 use Rattle.kl1_text.specs.Reading.{Reads}
 use Rattle.kl1_text.specs.declared.cell_name.CellName.{CellName}
 use Rattle.kl1_store.specs.declared.cell.Cell.{Cell}

@@ -5,7 +5,8 @@ use Rattle.std.specs.List.{AllByRecursion}
 use Rattle.kl1_model.specs.Module.{Module}
 use Rattle.kl1_model.specs.State as model
 use Rattle.kl1_model.specs.State.{monitor, reduces}
-use Rattle.kl1_model.specs.Control.{Control, awaits_message, tells, tells_other, ends, breaks_off, control_of, awaited_by_control}
+use Rattle.kl1_model.specs.Control.{Control, awaits_message, tells, tells_other, ends, breaks_off, control_of}
+use Rattle.kl1_model.specs.code.Awaited.{awaited_by_control}
 use Rattle.kl1_model.specs.code.Waits.{term_clause, awaited_by_term}
 use Rattle.kl1_text.specs.declared.cell_name.CellName.{CellName}
 use Rattle.kl1_store.specs.declared.cell.Cell.{Cell}

@@ -8,7 +8,8 @@ use Rattle.kl1_model.specs.declared.number.Number.{Number}
 use Rattle.kl1_model.specs.declared.number.Number.TheVariants.{Value}
 use Rattle.kl1_model.specs.Term.{Term, variable, integer, atom, structure, Terms, none, more, terms_of, count_of, substituted, Replacement}
 use Rattle.kl1_model.specs.Meaning.{highest_in}
-use Rattle.kl1_model.specs.Same.{Passive, same, differs, unknown, passive, awaited}
+use Rattle.kl1_model.specs.Same.{Passive, same, differs, unknown, passive}
+use Rattle.kl1_model.specs.code.Awaited.{awaited}
 use Rattle.kl1_model.specs.Arithmetic.{Evaluated, comes_to, awaits, is_no_expression, evaluated}
 use Rattle.kl1_model.specs.Guard.{Test, holds, looks, is_same, is_other, compares, test_of, test_substituted, is_found, compared, Answer, yes, no, wait}
 use Rattle.kl1_model.specs.Module.{Clause}

@@ -3,7 +3,7 @@ use Rattle.std.specs.Prelude.{◌≡◌, ℕ, suc, ◌==◌, nat_le, if◌then�
 use Rattle.std.specs.List.{AllByRecursion}
 use Rattle.kl1_model.specs.Term.{Term, variable, atom, structure, Terms, none, more, Replacement}
 use Rattle.kl1_model.specs.Meaning.{highest_in}
-use Rattle.kl1_model.specs.Same.{awaited}
+use Rattle.kl1_model.specs.code.Awaited.{awaited}
 use Rattle.kl1_model.specs.Guard.{Test, holds, looks, is_same, is_other, compares, test_of, test_substituted, test_answer}
 use Rattle.kl1_model.specs.Module.{Clause, Module}
 use Rattle.kl1_model.specs.Match.{Answer, yes, no, wait, match_patterns, guard_term, places_of, verdict, Call, call_of, clauses_of}
