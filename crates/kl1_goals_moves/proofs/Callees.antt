@@ -9,8 +9,8 @@ use Rattle.kl1_model.specs.Match.{call_of}
 use Rattle.kl1_model.specs.Arithmetic.{evaluated}
 use Rattle.kl1_model.specs.Goal.{is_execute}
 use Rattle.kl1_model.specs.Look as model_look
-use Rattle.kl1_model.specs.Look.{spelling, most_spelled, order_look}
-use Rattle.kl1_model.specs.Reduction.{Move, unifies, goes, assigned, spells, ordered, order_of, order_move, execute_move, built_in_move}
+use Rattle.kl1_model.specs.Look.{spelling, most_spelled, arguments_look}
+use Rattle.kl1_model.specs.Reduction.{Move, unifies, goes, assigned, spells, ordered, execute_arguments, order_move, execute_move, built_in_move}
 use Rattle.kl1_model.specs.code.Waits.{awaited_in_call, awaited_at_head, awaited_by_evaluated, awaited_by_spelling, awaited_by_look, awaited_by_order, awaited_by_execute, awaited_by_built_in}
 use Rattle.kl1_store.specs.declared.cell.Cell.{Cell}
 use Rattle.kl1_store.specs.declared.qualified.Qualified.{Qualified}
@@ -29,7 +29,7 @@ use Rattle.kl1_goals_moves.specs.declared.calling.Callee.TheVariants as callee
 use Rattle.kl1_goals_moves.specs.declared.kind.Kind.{Kind}
 use Rattle.kl1_goals_moves.specs.declared.kind.Kind.TheVariants as kind
 use Rattle.kl1_goals_moves.specs.Shapes.{IsNoGoal, two_terms}
-use Rattle.kl1_goals_moves.specs.declared.order.Order.{Order}
+use Rattle.kl1_goals_moves.specs.declared.order.ExecuteArguments.{ExecuteArguments}
 use Rattle.kl1_goals_moves.specs.Orders.{order_at, IsOrder}
 use Rattle.kl1_goals_moves.specs.Calls.{atom_in, name_in, cell_in, cell_of, IsOf, IsNameless, CallsNothing, Calls, CalledIn, CalledBetween, CalledAs, CalledInside, IsCounted, is_order}
 use Rattle.kl1_goals_moves.specs.Kinds.{IsCall, IsUnification, IsAssignment, IsSpelling, IsExecution, IsTrueGoal, IsKind, KindIn, order_kind, callee_kind}
@@ -179,10 +179,10 @@ no_execution m (atom p) e = absurd (cc)
 no_execution m (structure p ts) e = absurd (cc)
 
 not_execute_move : (m : List ℕ) (b : Term) → is_execute m b ≡ false → execute_move (atom m) b ≡ None
-not_execute_move m b e = cond-false (is_execute m b) (order_move (order_of b)) None e
+not_execute_move m b e = cond-false (is_execute m b) (order_move (execute_arguments b)) None e
 
 not_execute_waits : (m : List ℕ) (b : Term) → is_execute m b ≡ false → awaited_by_execute (atom m) b ≡ []
-not_execute_waits m b e = cond-false (is_execute m b) (awaited_by_order (order_of b)) [] e
+not_execute_waits m b e = cond-false (is_execute m b) (awaited_by_order (execute_arguments b)) [] e
 
 no_callee : (left right : Term) (m : List ℕ) (vs : List ℕ) → left ≡ atom m → IsNameless right vs → CallsNothing left right vs
 no_callee left right m vs e n = record {
@@ -271,9 +271,9 @@ order_by_parts m p count (structure q ts) b e n' o =
 order_as : {N : Type 0} (f : N → List ℕ) (h : Held N) (t : Term) (c : Call N) (b : Bool) → IsOf f h t c → is_order f c ≡ b → is_execute (f c.module_name) t ≡ b
 order_as f h t c b k e = order_by_parts (f c.module_name) (f c.name) c.count t b k.name_is k.counted e
 
-six_cells : {N : Type 0} (f : N → List ℕ) (h : Held N) (xs : List (Cell N)) (o : Order N) → length xs ≡ 6 →
+six_cells : {N : Type 0} (f : N → List ℕ) (h : Held N) (xs : List (Cell N)) (o : ExecuteArguments N) → length xs ≡ 6 →
     slice_get xs 0 ≡ Some o.goal → slice_get xs 1 ≡ Some o.low → slice_get xs 2 ≡ Some o.high → slice_get xs 3 ≡ Some o.allowance → slice_get xs 4 ≡ Some o.control → slice_get xs 5 ≡ Some o.reports →
-    (p : List ℕ) → order_of (structure p (terms_of f h xs)) ≡ Some (order_at f h o)
+    (p : List ℕ) → execute_arguments (structure p (terms_of f h xs)) ≡ Some (order_at f h o)
 unfolding terms_of
 six_cells f h [] o n a b c d e g p = absurd (omega arith)
 six_cells f h (x ∷ []) o n a b c d e g p = absurd (omega arith)
@@ -288,7 +288,7 @@ six_cells {N = N} f h (x ∷ y ∷ z ∷ u ∷ v ∷ w ∷ []) o n a b c d e g p
     let fourth : u ≡ o.allowance = some_cell d in
     let fifth : v ≡ o.control = some_cell e in
     let sixth : w ≡ o.reports = some_cell g in
-    let made : Order N → Option model_look.Order = λ o. Some (order_at f h o) in
+    let made : ExecuteArguments N → Option model_look.ExecuteArguments = λ o. Some (order_at f h o) in
     ap (λ (k : Cell N). made (record { goal = k; low = y; high = z; allowance = u; control = v; reports = w })) first
     ∙ ap (λ (k : Cell N). made (record { goal = o.goal; low = k; high = z; allowance = u; control = v; reports = w })) second
     ∙ ap (λ (k : Cell N). made (record { goal = o.goal; low = o.low; high = k; allowance = u; control = v; reports = w })) third
@@ -300,10 +300,10 @@ six_cells {N = N} f h (x ∷ y ∷ z ∷ u ∷ v ∷ w ∷ []) o n a b c d e g p
     some_cell e = cc
 six_cells f h (x ∷ y ∷ z ∷ u ∷ v ∷ w ∷ k ∷ xs) o n a b c d e g p = absurd (omega arith)
 
-order_in : {N : Type 0} (f : N → List ℕ) (h : Held N) (s : ℕ) (o : Order N) → IsFormed h → s < length h.structures → length (arguments_of h s) ≡ 6 → IsOrder h s o → order_of (term_of f h (Structure s)) ≡ Some (order_at f h o)
+order_in : {N : Type 0} (f : N → List ℕ) (h : Held N) (s : ℕ) (o : ExecuteArguments N) → IsFormed h → s < length h.structures → length (arguments_of h s) ≡ 6 → IsOrder h s o → execute_arguments (term_of f h (Structure s)) ≡ Some (order_at f h o)
 order_in f h s o p lt six k =
     let r = named h s lt in
-    ap order_of (term_of-Structure f h s r.0 p r.1) ∙ six_cells f h (arguments_of h s) o six k.goal_is k.low_is k.high_is k.allowance_is k.control_is k.reports_is (f r.0)
+    ap execute_arguments (term_of-Structure f h s r.0 p r.1) ∙ six_cells f h (arguments_of h s) o six k.goal_is k.low_is k.high_is k.allowance_is k.control_is k.reports_is (f r.0)
 
 -- `shoen:execute` with six arguments is no call
 no_call : (f m : List ℕ) (a b : Term) → atom_in a ≡ Some m → is_execute m b ≡ true → call_of (structure f (more a (more b none))) ≡ None
@@ -317,17 +317,17 @@ no_call f m (atom n) (structure q ts) l e =
     let is : is_execute n (structure q ts) ≡ true = ap (λ x. is_execute x (structure q ts)) (some_text l) ∙ e in
     cond-false (bytes_eq f (codes ":") && not (is_execute n (structure q ts))) (Some (call_with n q ts)) None (and_right (bytes_eq f (codes ":")) (not (is_execute n (structure q ts))) (ap not is))
 
-execution_moves : (m : List ℕ) (a b : Term) (o : model_look.Order) → atom_in a ≡ Some m → is_execute m b ≡ true → order_of b ≡ Some o → execute_move a b ≡ ordered o (order_look o)
+execution_moves : (m : List ℕ) (a b : Term) (o : model_look.ExecuteArguments) → atom_in a ≡ Some m → is_execute m b ≡ true → execute_arguments b ≡ Some o → execute_move a b ≡ ordered o (arguments_look o)
 execution_moves m (variable n) b o l e k = absurd (cc)
 execution_moves m (integer n) b o l e k = absurd (cc)
 execution_moves m (structure g us) b o l e k = absurd (cc)
-execution_moves m (atom n) b o l e k = cond-true (is_execute n b) (order_move (order_of b)) None (ap (λ x. is_execute x b) (some_text l) ∙ e) ∙ ap order_move k
+execution_moves m (atom n) b o l e k = cond-true (is_execute n b) (order_move (execute_arguments b)) None (ap (λ x. is_execute x b) (some_text l) ∙ e) ∙ ap order_move k
 
-execution_waits : (m : List ℕ) (a b : Term) (o : model_look.Order) → atom_in a ≡ Some m → is_execute m b ≡ true → order_of b ≡ Some o → awaited_by_execute a b ≡ awaited_by_look (order_look o)
+execution_waits : (m : List ℕ) (a b : Term) (o : model_look.ExecuteArguments) → atom_in a ≡ Some m → is_execute m b ≡ true → execute_arguments b ≡ Some o → awaited_by_execute a b ≡ awaited_by_look (arguments_look o)
 execution_waits m (variable n) b o l e k = absurd (cc)
 execution_waits m (integer n) b o l e k = absurd (cc)
 execution_waits m (structure g us) b o l e k = absurd (cc)
-execution_waits m (atom n) b o l e k = cond-true (is_execute n b) (awaited_by_order (order_of b)) [] (ap (λ x. is_execute x b) (some_text l) ∙ e) ∙ ap awaited_by_order k
+execution_waits m (atom n) b o l e k = cond-true (is_execute n b) (awaited_by_order (execute_arguments b)) [] (ap (λ x. is_execute x b) (some_text l) ∙ e) ∙ ap awaited_by_order k
 
 no_execute_move : (m : List ℕ) (a b : Term) → atom_in a ≡ Some m → is_execute m b ≡ false → awaited_by_execute a b ≡ []
 no_execute_move m (variable n) b l e = refl
@@ -358,9 +358,9 @@ is_execution f h g a b c s p e k y at lt six =
     let means : b ≡ term_of f h (Structure s) = sym k.goal_is.means ∙ ap (term_of f h) (cell_by c s at) in
     record {
       call = no_call g (f c.module_name) a b k.module_is other;
-      built_in = λ o is. module_move g a b e ∙ execution_moves (f c.module_name) a b (order_at f h o) k.module_is other (ap order_of means ∙ order_in f h s o p lt six is);
+      built_in = λ o is. module_move g a b e ∙ execution_moves (f c.module_name) a b (order_at f h o) k.module_is other (ap execute_arguments means ∙ order_in f h s o p lt six is);
       awaits = own_head g a b e ∙ call_awaits (f c.module_name) (f c.name) a b k.module_is k.goal_is.name_is;
-      waits_for = λ o is. module_waits g a b e ∙ execution_waits (f c.module_name) a b (order_at f h o) k.module_is other (ap order_of means ∙ order_in f h s o p lt six is);
+      waits_for = λ o is. module_waits g a b e ∙ execution_waits (f c.module_name) a b (order_at f h o) k.module_is other (ap execute_arguments means ∙ order_in f h s o p lt six is);
     }
 
 nothing_called : (g : List ℕ) (a b : Term) (vs : List ℕ) → bytes_eq g (codes ":") ≡ true → CallsNothing a b vs → IsNoGoal (structure g (more a (more b none))) vs

@@ -5,7 +5,7 @@ use Rattle.std.proofs.lemmas.Bool.{cond-true, cond-false}
 use Rattle.kl1_model.specs.Term.{Term, variable, integer, atom, structure, Terms, none, more}
 use Rattle.kl1_model.specs.Limits.{most_priority}
 use Rattle.kl1_model.specs.Look as model
-use Rattle.kl1_model.specs.Look.{callee_look, goal_look, priority_look, allowance_look, number_of_term, order_look}
+use Rattle.kl1_model.specs.Look.{callee_look, goal_look, priority_look, allowance_look, number_of_term, arguments_look}
 use Rattle.kl1_store.specs.declared.cell.Cell.{Cell}
 use Rattle.kl1_store.specs.declared.cell.Cell.TheVariants.{Variable, Integer, Atom, Structure}
 use Rattle.kl1_store.specs.Held.{Held}
@@ -15,7 +15,7 @@ use Rattle.kl1_goals_moves.specs.Shapes.{is_other}
 use Rattle.kl1_goals_moves.specs.declared.look.Look.{Look}
 use Rattle.kl1_goals_moves.specs.declared.look.Look.TheVariants.{Right, Waits, Wrong}
 use Rattle.kl1_goals_moves.specs.Looks.{look_of, right_if, then_look, priority_by, allowance_by, number_by, callee_in, callee_outside, callee_by}
-use Rattle.kl1_goals_moves.specs.declared.order.Order.{Order}
+use Rattle.kl1_goals_moves.specs.declared.order.ExecuteArguments.{ExecuteArguments}
 use Rattle.kl1_goals_moves.specs.Orders.{order_at}
 
 look_right : (b : Bool) → look_of (right_if b) ≡ model.right_if b
@@ -136,9 +136,9 @@ other_look (structure f (more t (more u (more v ts)))) e = refl
 
 -- ---- orders
 
-pub order_as_look : {N : Type 0} (f : N → List ℕ) (h : Held N) (o : Order N) (g l u n : Look) (least most : ℕ) → look_of g ≡ goal_look (term_of f h o.goal) → look_of l ≡ priority_look (term_of f h o.low) → look_of u ≡ priority_look (term_of f h o.high) →
+pub order_as_look : {N : Type 0} (f : N → List ℕ) (h : Held N) (o : ExecuteArguments N) (g l u n : Look) (least most : ℕ) → look_of g ≡ goal_look (term_of f h o.goal) → look_of l ≡ priority_look (term_of f h o.low) → look_of u ≡ priority_look (term_of f h o.high) →
     look_of n ≡ allowance_look (term_of f h o.allowance) → least ≡ number_of_term (term_of f h o.low) → most ≡ number_of_term (term_of f h o.high) →
-    look_of (then_look g (then_look l (then_look u (then_look n (right_if (nat_le least most)))))) ≡ order_look (order_at f h o)
+    look_of (then_look g (then_look l (then_look u (then_look n (right_if (nat_le least most)))))) ≡ arguments_look (order_at f h o)
 order_as_look f h o g l u n least most eg el eu en least_is most_is =
     let range = model.right_if (nat_le (number_of_term (term_of f h o.low)) (number_of_term (term_of f h o.high))) in
     let last : look_of (right_if (nat_le least most)) ≡ range = look_right (nat_le least most) ∙ ap₂ (λ x y. model.right_if (nat_le x y)) least_is most_is in

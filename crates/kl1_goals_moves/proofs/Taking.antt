@@ -12,7 +12,7 @@ use Rattle.kl1_model.specs.declared.number.Number.{Number}
 use Rattle.kl1_model.specs.declared.number.Number.TheVariants.{Value, Overflow, ZeroDivisor}
 use Rattle.kl1_model.specs.Text.{text_of}
 use Rattle.kl1_model.specs.Arithmetic.{evaluated}
-use Rattle.kl1_model.specs.Look.{spelling, most_spelled, order_look}
+use Rattle.kl1_model.specs.Look.{spelling, most_spelled, arguments_look}
 use Rattle.kl1_model.specs.Reduction as model_moves
 use Rattle.kl1_model.specs.Reduction.{raises, unifies, goes, illegal_input, built_in_move}
 use Rattle.kl1_model.specs.code.Waits.{move_by, awaited_by_term, awaited_by_call, awaited_by_clauses, awaited_at_head, awaited_by_evaluated, awaited_by_spelling, awaited_by_look, awaited_by_built_in}
@@ -53,7 +53,7 @@ use Rattle.kl1_goals_moves.specs.Looks.{look_of}
 use Rattle.kl1_goals_moves.specs.declared.spelling.Spelling.{Spelling}
 use Rattle.kl1_goals_moves.specs.declared.spelling.Spelling.TheVariants as spelled
 use Rattle.kl1_goals_moves.specs.Spellings.{spelling_of}
-use Rattle.kl1_goals_moves.specs.declared.order.Order.{Order}
+use Rattle.kl1_goals_moves.specs.declared.order.ExecuteArguments.{ExecuteArguments}
 use Rattle.kl1_goals_moves.specs.Orders.{order_at, IsOrder}
 use Rattle.kl1_goals_moves.specs.Kinds.{IsKind, IsCall, IsUnification, IsAssignment, IsSpelling, IsExecution, IsTrueGoal}
 use Rattle.kl1_goals_moves.specs.Moves.{HasPredicate, FailsAs, candidate_at, IsCandidate, CommitsAs, MovesAs}
@@ -174,7 +174,7 @@ named_as f h modules t n p places text codes target x u z e = by x (by_zero modu
     by spelled.Misspelled m = m
 
 -- a structure is one order
-one_order : {N : Type 0} (h : Held N) (s : ℕ) (o q : Order N) → IsOrder h s o → IsOrder h s q → o ≡ q
+one_order : {N : Type 0} (h : Held N) (s : ℕ) (o q : ExecuteArguments N) → IsOrder h s o → IsOrder h s q → o ≡ q
 one_order {N = N} h s o q a b =
     let first : o.goal ≡ q.goal = one (sym a.goal_is ∙ b.goal_is) in
     let second : o.low ≡ q.low = one (sym a.low_is ∙ b.low_is) in
@@ -188,12 +188,12 @@ one_order {N = N} h s o q a b =
     one e = cc
 
 -- what comes of an order by the look at it
-pub opened_as : {N : Type 0} (f : N → List ℕ) (h : Held N) (modules : List Module) (t : Term) (n : ℕ) (p : Predicate N) (places : List (Place N)) (text : List ℕ) (s : ℕ) (o : Order N) (x : Look) → IsExecution f h t s → n ≡ 0 → IsOrder h s o →
-    look_of x ≡ order_look (order_at f h o) → MovesAs f h modules t n p places text (opening s x)
-opened_as {N = N} f h modules t n p places text s o x u z at e = by x (by_zero modules t n (model_moves.ordered (order_at f h o) (order_look (order_at f h o))) u.call (u.built_in o at) z ∙ ap (model_moves.ordered (order_at f h o)) (sym e))
+pub opened_as : {N : Type 0} (f : N → List ℕ) (h : Held N) (modules : List Module) (t : Term) (n : ℕ) (p : Predicate N) (places : List (Place N)) (text : List ℕ) (s : ℕ) (o : ExecuteArguments N) (x : Look) → IsExecution f h t s → n ≡ 0 → IsOrder h s o →
+    look_of x ≡ arguments_look (order_at f h o) → MovesAs f h modules t n p places text (opening s x)
+opened_as {N = N} f h modules t n p places text s o x u z at e = by x (by_zero modules t n (model_moves.ordered (order_at f h o) (arguments_look (order_at f h o))) u.call (u.built_in o at) z ∙ ap (model_moves.ordered (order_at f h o)) (sym e))
   where
     by : (x : Look) → move_by modules t n ≡ model_moves.ordered (order_at f h o) (look_of x) → MovesAs f h modules t n p places text (opening s x)
-    by look.Right m = λ q k. m ∙ ap (λ (y : Order N). Some (model_moves.opens (order_at f h y))) (one_order h s o q at k)
+    by look.Right m = λ q k. m ∙ ap (λ (y : ExecuteArguments N). Some (model_moves.opens (order_at f h y))) (one_order h s o q at k)
     by (look.Waits v) m = m
     by look.Wrong m = m
 
@@ -287,10 +287,10 @@ waits_by_look look.Right = []
 waits_by_look (look.Waits v) = v ∷ []
 waits_by_look look.Wrong = []
 
-pub execution_stands : {N : Type 0} (f : N → List ℕ) (h : Held N) (modules : List Module) (t : Term) (s : ℕ) (o : Order N) (x : Look) (awaited : List ℕ) → IsExecution f h t s → IsOrder h s o → look_of x ≡ order_look (order_at f h o) → awaited ≡ waits_by_look x →
+pub execution_stands : {N : Type 0} (f : N → List ℕ) (h : Held N) (modules : List Module) (t : Term) (s : ℕ) (o : ExecuteArguments N) (x : Look) (awaited : List ℕ) → IsExecution f h t s → IsOrder h s o → look_of x ≡ arguments_look (order_at f h o) → awaited ≡ waits_by_look x →
     StandsAs modules t awaited (clause_by_look x)
 execution_stands f h modules t s o x awaited u at e a =
-    by x (u.built_in o at ∙ ap (model_moves.ordered (order_at f h o)) (sym e)) (awaited_parts modules t [] (awaited_by_look (order_look (order_at f h o))) None u.awaits u.call (u.waits_for o at) ∙ ap awaited_by_look (sym e)) a
+    by x (u.built_in o at ∙ ap (model_moves.ordered (order_at f h o)) (sym e)) (awaited_parts modules t [] (awaited_by_look (arguments_look (order_at f h o))) None u.awaits u.call (u.waits_for o at) ∙ ap awaited_by_look (sym e)) a
   where
     by : (x : Look) → built_in_move t ≡ model_moves.ordered (order_at f h o) (look_of x) → awaited_by_term modules t ≡ awaited_by_look (look_of x) → awaited ≡ waits_by_look x → StandsAs modules t awaited (clause_by_look x)
     by look.Right m w b = record { clause_is = sym (term_clause-built_in modules t (model_moves.opens (order_at f h o)) u.call m); awaits = same_by (awaited_by_term modules t) awaited (b ∙ sym w) }
@@ -331,8 +331,8 @@ goal_names_as {N = N} f h modules t k a b x n p places text found e z own value 
     let Q : Option (Move N) → Type 0 = λ o. MovesAs f h modules t n p places text o in
     subst Q (sym own) (named_as f h modules t n p places text a b x (subst P e is) z value)
 
-pub goal_opens_as : {N : Type 0} (f : N → List ℕ) (h : Held N) (modules : List Module) (t : Term) (k : Kind N) (s : ℕ) (o : Order N) (x : Look) (n : ℕ) (p : Predicate N) (places : List (Place N)) (text : List ℕ) (found : Option (Move N)) → k ≡ kind.Executes s → n ≡ 0 → found ≡ opening s x →
-    IsOrder h s o → look_of x ≡ order_look (order_at f h o) → IsKind f h t k → MovesAs f h modules t n p places text found
+pub goal_opens_as : {N : Type 0} (f : N → List ℕ) (h : Held N) (modules : List Module) (t : Term) (k : Kind N) (s : ℕ) (o : ExecuteArguments N) (x : Look) (n : ℕ) (p : Predicate N) (places : List (Place N)) (text : List ℕ) (found : Option (Move N)) → k ≡ kind.Executes s → n ≡ 0 → found ≡ opening s x →
+    IsOrder h s o → look_of x ≡ arguments_look (order_at f h o) → IsKind f h t k → MovesAs f h modules t n p places text found
 goal_opens_as {N = N} f h modules t k s o x n p places text found e z own at value is =
     let P : Kind N → Type 0 = λ y. IsKind f h t y in
     let Q : Option (Move N) → Type 0 = λ m. MovesAs f h modules t n p places text m in

@@ -3,7 +3,7 @@ use Rattle.std.specs.Prelude.{◌≡◌, ℕ, ◌<◌, if◌then◌else◌, List
 use Rattle.kl1_model.specs.Term.{Term, count_of}
 use Rattle.kl1_model.specs.Match.{call_of}
 use Rattle.kl1_model.specs.Arithmetic.{evaluated}
-use Rattle.kl1_model.specs.Look.{spelling, most_spelled, order_look}
+use Rattle.kl1_model.specs.Look.{spelling, most_spelled, arguments_look}
 use Rattle.kl1_model.specs.Reduction.{unifies, goes, assigned, spells, ordered, built_in_move}
 use Rattle.kl1_model.specs.code.Waits.{awaited_at_head, awaited_by_evaluated, awaited_by_spelling, awaited_by_look, awaited_by_built_in}
 use Rattle.kl1_store.specs.declared.cell.Cell.{Cell}
@@ -12,7 +12,7 @@ use Rattle.kl1_store.specs.Meaning.{term_of}
 use Rattle.kl1_goals_moves.specs.declared.call.Call.{Call}
 use Rattle.kl1_goals_moves.specs.declared.calling.Callee.{Callee}
 use Rattle.kl1_goals_moves.specs.declared.calling.Callee.TheVariants as callee
-use Rattle.kl1_goals_moves.specs.declared.order.Order.{Order}
+use Rattle.kl1_goals_moves.specs.declared.order.ExecuteArguments.{ExecuteArguments}
 use Rattle.kl1_goals_moves.specs.declared.kind.Kind.{Kind}
 use Rattle.kl1_goals_moves.specs.declared.kind.Kind.TheVariants as kind
 use Rattle.kl1_goals_moves.specs.Shapes.{IsNoGoal}
@@ -51,9 +51,9 @@ pub record IsSpelling {N : Type 0} (f : N → List ℕ) (h : Held N) (t : Term) 
 -- a term is `shoen:execute` with the arguments of a structure, which are an order for a new shoen
 pub record IsExecution {N : Type 0} (f : N → List ℕ) (h : Held N) (t : Term) (s : ℕ) : Type 0 where
   pub call : call_of t ≡ None
-  pub built_in : (o : Order N) → IsOrder h s o → built_in_move t ≡ ordered (order_at f h o) (order_look (order_at f h o))
+  pub built_in : (o : ExecuteArguments N) → IsOrder h s o → built_in_move t ≡ ordered (order_at f h o) (arguments_look (order_at f h o))
   pub awaits : awaited_at_head t ≡ []
-  pub waits_for : (o : Order N) → IsOrder h s o → awaited_by_built_in t ≡ awaited_by_look (order_look (order_at f h o))
+  pub waits_for : (o : ExecuteArguments N) → IsOrder h s o → awaited_by_built_in t ≡ awaited_by_look (arguments_look (order_at f h o))
 
 -- a term is `true`
 pub record IsTrueGoal (t : Term) : Type 0 where

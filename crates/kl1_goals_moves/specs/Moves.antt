@@ -22,7 +22,7 @@ use Rattle.kl1_goals_moves.specs.declared.moves.Move.{Move}
 use Rattle.kl1_goals_moves.specs.declared.moves.Move.TheVariants as move
 use Rattle.kl1_match.specs.Kept.{kept_places}
 use Rattle.kl1_goals_moves.specs.declared.trial.Trial.{Trial}
-use Rattle.kl1_goals_moves.specs.declared.order.Order.{Order}
+use Rattle.kl1_goals_moves.specs.declared.order.ExecuteArguments.{ExecuteArguments}
 use Rattle.kl1_goals_moves.specs.Orders.{order_at, IsOrder}
 use Rattle.kl1_goals_moves.specs.Calls.{arguments_at, call_at}
 
@@ -101,5 +101,5 @@ MovesAs f h modules t number p places text (Some (move.Commits place)) = Commits
 MovesAs f h modules t number p places text (Some (move.Raises b)) = move_by modules t number ≡ Some (raises (text_of b))
 MovesAs f h modules t number p places text (Some (move.Unifies a b)) = move_by modules t number ≡ Some (unifies (term_of f h a) (term_of f h b))
 MovesAs f h modules t number p places text (Some (move.Names a)) = move_by modules t number ≡ Some (names text (term_of f h a))
-MovesAs {N = N} f h modules t number p places text (Some (move.Opens s)) = (o : Order N) → IsOrder h s o → move_by modules t number ≡ Some (opens (order_at f h o))
+MovesAs {N = N} f h modules t number p places text (Some (move.Opens s)) = (o : ExecuteArguments N) → IsOrder h s o → move_by modules t number ≡ Some (opens (order_at f h o))
 MovesAs f h modules t number p places text (Some move.Goes) = move_by modules t number ≡ Some goes

@@ -27,7 +27,7 @@ pub use kind::{Kind, kind_of, kind_of_qualified};
 pub use look::Look;
 pub use moves::{Move, move_of};
 pub use needs::{Needs, needs_of, priorities_of};
-pub use order::{Order, look_at_order, number_at, order_at};
+pub use order::{ExecuteArguments, look_at_order, number_at, order_at};
 pub use predicates::or_none;
 pub use spelling::{Spelling, spell};
 pub use standing::standing_of;

@@ -1,7 +1,7 @@
 // Orders for new shoens.
 
 ghost use Rattle.std.specs.Prelude.{◌≡◌, ℕ, ◌<◌, List, length};
-ghost use Rattle.kl1_model.specs.Look.{number_of_term, callee_look, goal_look, priority_look, allowance_look, order_look};
+ghost use Rattle.kl1_model.specs.Look.{number_of_term, callee_look, goal_look, priority_look, allowance_look, arguments_look};
 ghost use Rattle.kl1_text.specs.Reading.{Reads};
 ghost use Rattle.kl1_store.specs.Held.{IsIn, arguments_of};
 ghost use Rattle.kl1_store.specs.Meaning.{term_of};
@@ -21,7 +21,7 @@ use kl1_text::NameValue;
 /// What a new shoen is ordered by: its goal, the low and the high end of the range of its priorities, its allowance in reductions,
 /// its control stream and its report stream.
 #[derive(Clone, Copy)]
-pub struct Order<N> {
+pub struct ExecuteArguments<N> {
     pub goal: Cell<N>,
     pub low: Cell<N>,
     pub high: Cell<N>,
@@ -31,7 +31,7 @@ pub struct Order<N> {
 }
 
 /// The order that a structure of six arguments is.
-pub fn order_at<N: NameValue>(store: &Store<N>, structure: u32) -> Order<N>
+pub fn order_at<N: NameValue>(store: &Store<N>, structure: u32) -> ExecuteArguments<N>
     requires structure { structure < length store.now.held.structures }
     requires six { length (arguments_of store.now.held structure) ≡ 6 }
     ensures inside { IsOrderIn store.now.held result }
@@ -39,7 +39,7 @@ pub fn order_at<N: NameValue>(store: &Store<N>, structure: u32) -> Order<N>
 {
     // Only for the proof: what the store holds is formed.
     let _ = store.mark();
-    Order {
+    ExecuteArguments {
         goal: store.argument(structure, 0),
         low: store.argument(structure, 1),
         high: store.argument(structure, 2),
@@ -198,10 +198,10 @@ fn look_at_goal<N: NameValue>(store: &Store<N>, goal: Cell<N>) -> Look
 
 /// The look at an order for a new shoen: its goal, the ends of its range and its allowance in this order, and then that the low end
 /// isn't over the high one. The variable of one that waits is unbound.
-pub fn look_at_order<N: NameValue>(store: &Store<N>, order: Order<N>) -> Look
+pub fn look_at_order<N: NameValue>(store: &Store<N>, order: ExecuteArguments<N>) -> Look
     requires { IsOrderIn store.now.held order }
     ensures inside { LookIn store.now.held result }
-    ensures look { (f : N → List ℕ) → Reads N.built f → look_of result ≡ order_look (order_at f store.now.held order) }
+    ensures look { (f : N → List ℕ) → Reads N.built f → look_of result ≡ arguments_look (order_at f store.now.held order) }
 {
     let goal = look_at_goal(store, order.goal);
     let low = look_at_priority(store, order.low);

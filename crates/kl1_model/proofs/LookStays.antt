@@ -3,7 +3,7 @@ use Rattle.std.proofs.Common.{◌≡◌, ℕ, zero, suc, Bool, true, false, if�
 use Rattle.std.specs.Prelude.{codes, bytes_eq, pos, negsuc, nat_le, ◌||◌}
 use Rattle.kl1_model.specs.Text.{is_name_byte}
 use Rattle.kl1_model.specs.Term.{Term, variable, integer, atom, structure, none, more, substituted}
-use Rattle.kl1_model.specs.Look.{Spelling, spelled, awaits_code, misspelled, spelled_before, spelled_by, spelling, Look, right, waits_on, wrong, right_if, then_look, callee_look, goal_look, priority_look, allowance_look, number_of_term, Order, order_look}
+use Rattle.kl1_model.specs.Look.{Spelling, spelled, awaits_code, misspelled, spelled_before, spelled_by, spelling, Look, right, waits_on, wrong, right_if, then_look, callee_look, goal_look, priority_look, allowance_look, number_of_term, ExecuteArguments, arguments_look}
 use Rattle.kl1_model.specs.code.Waits.{LeavesEach, awaited_by_spelling, awaited_by_look}
 
 -- ---- lists of codes
@@ -106,7 +106,7 @@ number_stays s (atom a) l = refl
 number_stays s (structure f ts) l = refl
 
 -- an order after a substitution
-abbrev pub order_substituted : (ℕ → Term) → Order → Order
+abbrev pub order_substituted : (ℕ → Term) → ExecuteArguments → ExecuteArguments
 order_substituted s o = record {
   goal = substituted s o.goal;
   low = substituted s o.low;
@@ -117,7 +117,7 @@ order_substituted s o = record {
 }
 
 -- the look at an order stays until the variable that it waits for is replaced
-pub order_stays : (s : ℕ → Term) (o : Order) → LeavesEach s (awaited_by_look (order_look o)) → order_look (order_substituted s o) ≡ order_look o
+pub order_stays : (s : ℕ → Term) (o : ExecuteArguments) → LeavesEach s (awaited_by_look (arguments_look o)) → arguments_look (order_substituted s o) ≡ arguments_look o
 order_stays s o l =
     let p = order_substituted s o in
     let range = right_if (nat_le (number_of_term o.low) (number_of_term o.high)) in

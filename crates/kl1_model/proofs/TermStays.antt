@@ -3,7 +3,7 @@ use Rattle.std.proofs.Common.{◌≡◌, ℕ, ◌==◌, Bool, true, false, if◌
 use Rattle.std.specs.Prelude.{not, ◌&&◌, codes, bytes_eq, Option, Some, None, option_map, is_some, find, filter}
 use Rattle.std.proofs.lemmas.Bool.{cond-false}
 use Rattle.kl1_model.specs.Goal.{is_called, is_execute}
-use Rattle.kl1_model.specs.Look.{Spelling, spelled, awaits_code, misspelled, spelling, most_spelled, Look, right, waits_on, wrong, Order, order_look}
+use Rattle.kl1_model.specs.Look.{Spelling, spelled, awaits_code, misspelled, spelling, most_spelled, Look, right, waits_on, wrong, ExecuteArguments, arguments_look}
 use Rattle.kl1_model.specs.Term.{Term, variable, integer, atom, structure, Terms, none, more, count_of, substituted, each_substituted, Replacement, replaced}
 use Rattle.kl1_model.specs.Module.{Module, is_of}
 use Rattle.kl1_model.specs.Match.{Call, call_of, module_of, clauses_in, clauses_of}
@@ -117,7 +117,7 @@ spells_is a b x (spelled text) e = ap (λ z. is_some (spells a z)) e
 spells_is a b x (awaits_code v) e = ap (λ z. is_some (spells a z)) e
 spells_is a b x misspelled e = ap (λ z. is_some (spells a z)) e
 
-ordered_is : (o p : Order) (x y : Look) → x ≡ y → is_some (ordered o x) ≡ is_some (ordered p y)
+ordered_is : (o p : ExecuteArguments) (x y : Look) → x ≡ y → is_some (ordered o x) ≡ is_some (ordered p y)
 ordered_is o p x right e = ap (λ z. is_some (ordered o z)) e
 ordered_is o p x (waits_on v) e = ap (λ z. is_some (ordered o z)) e
 ordered_is o p x wrong e = ap (λ z. is_some (ordered o z)) e
@@ -134,9 +134,9 @@ no_awaited s true false = refl
 no_awaited s false true = refl
 no_awaited s false false = refl
 
-six_stay : (s : ℕ → Term) (c : Bool) (o : Order) → LeavesEach s (if c then awaited_by_look (order_look o) else []) →
-    is_some (if c then ordered (order_substituted s o) (order_look (order_substituted s o)) else None) ≡ is_some (if c then ordered o (order_look o) else None)
-six_stay s true o l = ordered_is (order_substituted s o) o (order_look (order_substituted s o)) (order_look o) (order_stays s o l)
+six_stay : (s : ℕ → Term) (c : Bool) (o : ExecuteArguments) → LeavesEach s (if c then awaited_by_look (arguments_look o) else []) →
+    is_some (if c then ordered (order_substituted s o) (arguments_look (order_substituted s o)) else None) ≡ is_some (if c then ordered o (arguments_look o) else None)
+six_stay s true o l = ordered_is (order_substituted s o) o (arguments_look (order_substituted s o)) (arguments_look o) (order_stays s o l)
 six_stay s false o l = refl
 
 execute_stays : (s : ℕ → Term) (a b : Term) → LeavesEach s (awaited_in_call a b) → LeavesEach s (awaited_by_execute a b) → is_some (execute_move (substituted s a) (substituted s b)) ≡ is_some (execute_move a b)
@@ -156,8 +156,8 @@ execute_stays s (atom m) (structure p (more a (more b (more c (more d (more e (m
     six_stay s (is_execute m (structure p (more a (more b (more c (more d (more e (more g none)))))))) (record { goal = a; low = b; high = c; allowance = d; control = e; reports = g }) k
 execute_stays s (atom m) (structure p (more a (more b (more c (more d (more e (more g (more h us)))))))) l k = no_order s (bytes_eq m (codes "shoen") && is_called (codes "execute") 6 p (count_of (each_substituted s (more a (more b (more c (more d (more e (more g (more h us)))))))))) (bytes_eq m (codes "shoen") && is_called (codes "execute") 6 p (count_of (more a (more b (more c (more d (more e (more g (more h us)))))))))
 
-six_awaited_stay : (s : ℕ → Term) (c : Bool) (o : Order) → LeavesEach s (if c then awaited_by_look (order_look o) else []) →
-    (if c then awaited_by_look (order_look (order_substituted s o)) else []) ≡ (if c then awaited_by_look (order_look o) else [])
+six_awaited_stay : (s : ℕ → Term) (c : Bool) (o : ExecuteArguments) → LeavesEach s (if c then awaited_by_look (arguments_look o) else []) →
+    (if c then awaited_by_look (arguments_look (order_substituted s o)) else []) ≡ (if c then awaited_by_look (arguments_look o) else [])
 six_awaited_stay s true o l = ap awaited_by_look (order_stays s o l)
 six_awaited_stay s false o l = refl
 

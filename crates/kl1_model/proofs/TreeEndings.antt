@@ -12,7 +12,7 @@ use Rattle.kl1_model.specs.Module.{is_among}
 use Rattle.kl1_model.specs.State.{Task, monitor, reduces, Goal, Shoen, State, shoen_at, replace_in_task, replace_in_goal, replace_in_shoen, replace_in_state, change_shoen, is_monitor, is_living}
 use Rattle.kl1_model.specs.Tree.{path, is_on_path}
 use Rattle.kl1_model.specs.Report.{broken_at, reported_at, report_of, report, report_each, closed_at, close_of, close, exhausted_report, terminated_report, aborted_report}
-use Rattle.kl1_model.specs.Ending.{has_goal, has_living_child, lives, ends_now, without_monitor, ended_at, terminate, terminate_each, ending_of, settle, has_reached, reached_of, settle_charged, aborted_below, ended_below, abort}
+use Rattle.kl1_model.specs.Ending.{has_goal, has_living_child, lives, ends_now, without_monitor, ended_at, terminate, terminate_each, ending_of, settle, has_reached, newly_exhausted, after_reduction, aborted_below, ended_below, abort}
 use Rattle.kl1_model.specs.laws.TreeLaws.{lives_of, numbers_of, AbortEndsAllBelow, AbortRemovesAllBelow, TerminationsEnd, TerminationsEndAlone, EndingHaveNoGoals, ReachedGoOn}
 
 -- a shoen's number and its life
@@ -202,9 +202,9 @@ terminations_end_alone n s =
 pub terminations_end : TerminationsEnd
 terminations_end n s =
     let ns = ending_of (path s.shoens n) s in
-    let told = reached_of s ns (path s.shoens n) in
+    let told = newly_exhausted s ns (path s.shoens n) in
     let t = report_each told exhausted_report s in
-    life_of_marks (settle_charged n s).shoens
+    life_of_marks (after_reduction n s).shoens
     ∙ ap (map (λ (m : Mark). m.life)) (each_marks ns t ∙ ap (map (ended_mark ns)) (leaves_report_each told exhausted_report s).marks)
     ∙ lives_ended ns s.shoens
 
@@ -235,4 +235,4 @@ reached_case false s ending n ns e p = p
 
 pub reached_go_on : ReachedGoOn
 reached_go_on s ending [] = tt
-reached_go_on s ending (n ∷ ns) = reached_case (has_reached s n && not (is_among n ending)) s ending n (reached_of s ending ns) refl (reached_go_on s ending ns)
+reached_go_on s ending (n ∷ ns) = reached_case (has_reached s n && not (is_among n ending)) s ending n (newly_exhausted s ending ns) refl (reached_go_on s ending ns)

@@ -17,7 +17,7 @@ use Rattle.kl1_model.specs.Tree.{parents_of, path_within, path, is_on_path, char
 use Rattle.kl1_model.specs.Control.{Control}
 use Rattle.kl1_model.specs.Event.{with_entry}
 use Rattle.kl1_model.specs.Report.{report, exception, failure, exhaustion, started_report, exhausted_report}
-use Rattle.kl1_model.specs.Ending.{settle, settle_charged}
+use Rattle.kl1_model.specs.Ending.{settle, after_reduction}
 use Rattle.kl1_model.specs.Opening.{opening_goals, with_shoen, open_shoen, has_room_for_child, child_shoen, open_child}
 use Rattle.kl1_model.specs.Reduction.{Move, commits, raises, unifies, names, opens, goes, moves, reads, goals_from, has_room_for, committed, unified, equation, or_exhaustion, moved, heard, acted}
 use Rattle.kl1_model.specs.laws.TreeLaws.{AreNumbered, PathsFollowParents, ParentsAreLower, PathsGoOn, AreWithin, IsTree, ChargesPath, HeldBackBelow}
@@ -236,7 +236,7 @@ acted_move g t m s few tree =
     let removed = without_goal g.number s in
     let worked = charge g.shoen removed in
     let done = moved g t m worked in
-    let settled = settle_charged g.shoen done in
+    let settled = after_reduction g.shoen done in
     let before = charged_tree g.shoen removed few (kept_tree s removed (keeps_fewer _ s) tree) in
     let f = follows_then g.shoen worked done settled (move_follows g t m worked) (keeps_settle_charged g.shoen done) in
     (f.tree few before, λ a. charged_among worked settled f.more a before f.parents f.work ∙ charges_path removed g.shoen a)

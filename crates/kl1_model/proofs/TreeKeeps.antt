@@ -12,7 +12,7 @@ use Rattle.kl1_model.specs.State.{Goal, Shoen, State, shoen_at, replace_in_goal,
 use Rattle.kl1_model.specs.Tree.{parents_of, path, is_on_path}
 use Rattle.kl1_model.specs.Control.{Control, awaits_message, tells, tells_other, ends, breaks_off}
 use Rattle.kl1_model.specs.Report.{broken_at, reported_at, report_of, report, report_each, closed_at, close_of, close, exception, illegal_input, exhausted_report, terminated_report, aborted_report, stopped_report, resumed_report}
-use Rattle.kl1_model.specs.Ending.{without_monitor, ended_at, terminate, terminate_each, ending_of, settle, reached_of, settle_charged, aborted_below, ended_below, abort}
+use Rattle.kl1_model.specs.Ending.{without_monitor, ended_at, terminate, terminate_each, ending_of, settle, newly_exhausted, after_reduction, aborted_below, ended_below, abort}
 use Rattle.kl1_model.specs.Reduction.{stopped_of, resumed_of, allowed_more, obeyed, with_control, heard}
 use Rattle.kl1_model.specs.laws.TreeLaws.{AreNumbered, AreWithin, IsTree}
 
@@ -156,11 +156,11 @@ keeps_terminate_each (n ∷ ns) s = keeps_both s (terminate n s) (terminate_each
 pub keeps_settle : (n : ℕ) (s : State) → Keeps s (settle n s)
 keeps_settle n s = keeps_terminate_each (ending_of (path s.shoens n) s) s
 
-pub keeps_settle_charged : (n : ℕ) (s : State) → Keeps s (settle_charged n s)
+pub keeps_settle_charged : (n : ℕ) (s : State) → Keeps s (after_reduction n s)
 keeps_settle_charged n s =
     let ending = ending_of (path s.shoens n) s in
-    let t = report_each (reached_of s ending (path s.shoens n)) exhausted_report s in
-    keeps_both s t (terminate_each ending t) (keeps_report_each (reached_of s ending (path s.shoens n)) exhausted_report s) (keeps_terminate_each ending t)
+    let t = report_each (newly_exhausted s ending (path s.shoens n)) exhausted_report s in
+    keeps_both s t (terminate_each ending t) (keeps_report_each (newly_exhausted s ending (path s.shoens n)) exhausted_report s) (keeps_terminate_each ending t)
 
 if_aborted : (c : Bool) (h : Shoen) → (if c then record h { life = Aborted } else h).parent ≡ h.parent
 if_aborted true h = refl

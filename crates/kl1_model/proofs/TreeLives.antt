@@ -7,7 +7,7 @@ use Rattle.kl1_model.specs.declared.life.Life.TheVariants.{Terminated, Aborted}
 use Rattle.kl1_model.specs.State.{Goal, Shoen, State, shoen_at, is_monitor, is_living}
 use Rattle.kl1_model.specs.Tree.{path, is_on_path}
 use Rattle.kl1_model.specs.Report.{report, report_each, close, exhausted_report, terminated_report}
-use Rattle.kl1_model.specs.Ending.{has_goal, lives, without_monitor, ended_at, terminate, terminate_each, ending_of, settle, reached_of, settle_charged, aborted_below, ended_below, abort}
+use Rattle.kl1_model.specs.Ending.{has_goal, lives, without_monitor, ended_at, terminate, terminate_each, ending_of, settle, newly_exhausted, after_reduction, aborted_below, ended_below, abort}
 use Rattle.kl1_model.specs.laws.TreeLaws.{AreOfLiving, owners_of}
 use Rattle.kl1_model.proofs.TreeEndings.{Mark, mark_of, marks_of, Post, post_of, posts_of, Leaves, leaves_both, leaves_report, leaves_report_each, leaves_close, abort_leaves, ended_mark, ended_marks, ending_have_no_goals}
 
@@ -137,11 +137,11 @@ none_left : (s t : State) → Leaves s t → (ns : List ℕ) → AllByRecursion 
 none_left s t k [] a = tt
 none_left s t k (m ∷ ns) a = (posted_goal m t.goals ∙ ap (has_post m) k.posts ∙ sym (posted_goal m s.goals) ∙ a.0, none_left s t k ns a.1)
 
-pub settle_charged_posted : (n : ℕ) (s : State) → IsPosted s → IsPosted (settle_charged n s)
+pub settle_charged_posted : (n : ℕ) (s : State) → IsPosted s → IsPosted (after_reduction n s)
 settle_charged_posted n s a =
     let ns = path s.shoens n in
     let ending = ending_of ns s in
-    let told = reached_of s ending ns in
+    let told = newly_exhausted s ending ns in
     let t = report_each told exhausted_report s in
     let k = leaves_report_each told exhausted_report s in
     each_posted ending t (none_left s t k ending (ending_have_no_goals ns s)) (posted_left s t k a)

@@ -48,7 +48,7 @@ abbrev mutual
   elements_in f (more h (more t none)) = if bytes_eq f (codes ".") then h ∷ elements_of t else []
   elements_in f _ = []
 
--- the reports of a shoen that the console started from one on, the first being 1, each printed and cut: at most 64
+-- for a shoen that the console started: its reports from number `from` on, counted from 1, each printed and cut; at most 64
 abbrev pub reports_of : State → ℕ → Option Origin → Transition
 reports_of s from None = refuse s no_shoen
 reports_of s from (Some o) = record { state = s; reply = listed (map cut_print (take most_listed (drop (from - 1) (elements_of o.reports)))) }

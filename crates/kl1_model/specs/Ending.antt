@@ -49,23 +49,23 @@ terminate_each (n ∷ ns) s = terminate_each ns (terminate n s)
 abbrev pub settle : ℕ → State → State
 settle n s = terminate_each (ending_of (path s.shoens n) s) s
 
--- whether shoen `n` was charged just what it may be
+-- whether shoen `n` was charged exactly its allowance
 abbrev pub has_reached : State → ℕ → Bool
 has_reached s n = unwrap_or (option_map (λ h. h.allowance == charged_of s n) (shoen_at n s.shoens)) false
 
 -- of these shoens those that have reached their allowance and don't end now
-abbrev pub reached_of : State → List ℕ → List ℕ → List ℕ
-reached_of s ending ns = filter (λ n. has_reached s n && not (is_among n ending)) ns
+abbrev pub newly_exhausted : State → List ℕ → List ℕ → List ℕ
+newly_exhausted s ending ns = filter (λ n. has_reached s n && not (is_among n ending)) ns
 
--- what comes after the effects of a reduction in a shoen: of its path, innermost first, those report that they are exhausted that
--- have just reached their allowance and don't end now; and then come terminations
-abbrev pub settle_charged : ℕ → State → State
-settle_charged n s =
+-- what follows the effects of a reduction in shoen `n`: those of its path that have just reached their allowance and don't end now
+-- report that they are exhausted, innermost first; then come terminations, innermost first
+abbrev pub after_reduction : ℕ → State → State
+after_reduction n s =
     let ns = path s.shoens n in
     let ending = ending_of ns s in
-    terminate_each ending (report_each (reached_of s ending ns) exhausted_report s)
+    terminate_each ending (report_each (newly_exhausted s ending ns) exhausted_report s)
 
--- a shoen after an abort of one on whose path it may be: it is ended, if it lives
+-- a shoen after an abort of shoen `n`: ended as aborted if it lives and `n` is on its path
 abbrev pub aborted_below : List Shoen → ℕ → Shoen → Shoen
 aborted_below shoens n h = if is_living h.life && is_on_path shoens n h.number then record h { life = Aborted } else h
 

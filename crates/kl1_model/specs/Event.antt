@@ -73,7 +73,7 @@ refuse s r = record { state = s; reply = refused r }
 abbrev pub is_number : ℕ → Bool
 is_number n = nat_lt n number_limit
 
--- one entry more in the journal
+-- one entry more is counted
 abbrev pub with_entry : State → State
 with_entry s = record s { entries = suc s.entries }
 

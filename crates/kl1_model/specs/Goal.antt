@@ -8,7 +8,7 @@ use Rattle.kl1_model.specs.Term.{Term, atom, structure, none, more, count_of}
 use Rattle.kl1_model.specs.Meaning.{pair}
 use Rattle.kl1_model.specs.Guard.{test_of}
 
--- the texts that no head and no goal of a user's predicate has for a name: the operators, `:`, `.` and `[]`
+-- the names that no user's predicate may have: the operators, `:`, `.` and `[]`
 abbrev pub reserved_names : List BuiltIn
 reserved_names = Equal ∷ NotEqual ∷ Assign ∷ Less ∷ Greater ∷ AtMost ∷ AtLeast ∷ SameNumber ∷ OtherNumber ∷ Plus ∷ Minus ∷ Times ∷ Divide ∷ Modulo ∷ Colon ∷ ListCell ∷ EmptyList ∷ []
 

@@ -26,7 +26,7 @@ most_clauses = MOST_CLAUSES
 abbrev pub most_source_bytes : ℕ
 most_source_bytes = MOST_SOURCE_BYTES
 
--- the first number that no command takes, and the first integer that no term has
+-- 2 ^ 63: the first number too great for a command, and the first positive integer too great for a term
 abbrev pub number_limit : ℕ
 number_limit = NUMBER_LIMIT
 
@@ -46,7 +46,7 @@ monitor_priority = MONITOR_PRIORITY
 abbrev pub most_entries : ℕ
 most_entries = MOST_ENTRIES
 
--- the most bytes of a start's line in a journal
+-- the most bytes of a line of a journal's text, without its line feed
 abbrev pub most_line_bytes : ℕ
 most_line_bytes = MOST_LINE_BYTES
 
@@ -58,7 +58,7 @@ most_steps = MOST_STEPS
 abbrev pub most_command_bytes : ℕ
 most_command_bytes = MOST_COMMAND_BYTES
 
--- the most bytes of a printed value
+-- the most bytes of a value or a report in a reply; what is longer is cut there, and three dots follow
 abbrev pub most_printed_bytes : ℕ
 most_printed_bytes = MOST_PRINTED_BYTES
 
@@ -66,15 +66,15 @@ most_printed_bytes = MOST_PRINTED_BYTES
 abbrev pub most_account_name_bytes : ℕ
 most_account_name_bytes = MOST_ACCOUNT_NAME_BYTES
 
--- the most accounts of a script, and of a table of names
+-- the most accounts of a script, of a server and of a table of names
 abbrev pub most_accounts : ℕ
 most_accounts = MOST_ACCOUNTS
 
--- the most bytes of a script
+-- the most bytes of a script, and of a journal's text that is replayed
 abbrev pub most_script_bytes : ℕ
 most_script_bytes = MOST_SCRIPT_BYTES
 
--- the bytes of a reply that wait at most before they are written, but for one reply more
+-- replies are held back until they have this many bytes, and then written
 abbrev pub most_waiting_bytes : ℕ
 most_waiting_bytes = MOST_WAITING_BYTES
 
@@ -82,7 +82,7 @@ most_waiting_bytes = MOST_WAITING_BYTES
 abbrev pub first_number : ℕ
 first_number = FIRST_NUMBER
 
--- the most names that one account adds to a table of names
+-- the most names that an account uses besides the built-in ones, and so the entries that it has in a table of names
 abbrev pub most_names : ℕ
 most_names = MOST_NAMES
 
@@ -98,15 +98,15 @@ most_modules = MOST_MODULES
 abbrev pub most_goals : ℕ
 most_goals = MOST_GOALS
 
--- the most variables of an account's starts, messages from the console and commits
+-- the most variables of an account's starts, messages from the console and commits since its last reset
 abbrev pub most_variables : ℕ
 most_variables = MOST_VARIABLES
 
--- the most structures of an account's starts, messages from the console and commits
+-- the most structures of an account's starts, messages from the console and commits since its last reset
 abbrev pub most_nodes : ℕ
 most_nodes = MOST_NODES
 
--- the most shoens that an account opens
+-- the most shoens that an account opens since its last reset
 abbrev pub most_shoens : ℕ
 most_shoens = MOST_SHOENS
 
@@ -114,11 +114,11 @@ most_shoens = MOST_SHOENS
 abbrev pub most_shoen_depth : ℕ
 most_shoen_depth = MOST_SHOEN_DEPTH
 
--- the most reports of an account
+-- the most reports of an account since its last reset
 abbrev pub most_reports : ℕ
 most_reports = MOST_REPORTS
 
--- the most lines of a reply that lists reports
+-- the most reports that one reply lists, and the most lines of a journal that one command may ask for; the line with their number doesn't count
 abbrev pub most_listed : ℕ
 most_listed = MOST_LISTED
 
@@ -126,7 +126,7 @@ most_listed = MOST_LISTED
 abbrev pub most_allowance : ℕ
 most_allowance = MOST_ALLOWANCE
 
--- the most cells of a list of codes that are spelled as a name
+-- the most codes from which `atom_from` makes a name
 abbrev pub most_spelled : ℕ
 most_spelled = MOST_SPELLED
 

@@ -44,7 +44,7 @@ first_word before [] = before
 first_word [] (b ∷ bs) = elim (is_space b) [ true ↦ first_word [] bs | false ↦ first_word (b ∷ []) bs ]
 first_word (a ∷ before) (b ∷ bs) = elim (is_space b) [ true ↦ a ∷ before | false ↦ first_word (a ∷ before ++ b ∷ []) bs ]
 
--- what is after the first word; the test tells whether bytes of it have been seen
+-- what is after the first word; the flag tells whether bytes of it have been seen
 abbrev pub behind_first : Bool → List ℕ → List ℕ
 behind_first begun [] = []
 behind_first false (b ∷ bs) = elim (is_space b) [ true ↦ behind_first false bs | false ↦ behind_first true bs ]

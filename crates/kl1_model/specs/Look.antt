@@ -5,6 +5,8 @@ use Rattle.kl1_model.specs.Limits.{most_priority}
 use Rattle.kl1_model.specs.Text.{is_name_byte}
 use Rattle.kl1_model.specs.Term.{Term, variable, integer, atom, structure, none, more}
 
+-- ---- the codes of `atom_from`
+
 -- what a list of codes comes to: a text, or nothing as long as a variable is unbound, or it spells no name
 pub data Spelling : Type 0 where
   spelled : List ℕ → Spelling
@@ -31,6 +33,8 @@ spelling most (variable v) = awaits_code v
 spelling most (atom a) = if bytes_eq a (codes "[]") then spelled [] else misspelled
 spelling (suc most) (structure f (more h (more t none))) = if bytes_eq f (codes ".") then spelled_by h (spelling most t) else misspelled
 spelling most t = misspelled
+
+-- ---- the arguments of `shoen:execute`
 
 -- what is found of an argument: it is right, it waits for a variable, or it is wrong
 pub data Look : Type 0 where
@@ -83,7 +87,7 @@ number_of_term (integer (pos n)) = n
 number_of_term _ = 0
 
 -- the arguments of `shoen:execute`: the goal, the range of priorities, the allowance, the control stream and the report stream
-pub record Order : Type 0 where
+pub record ExecuteArguments : Type 0 where
   pub goal : Term
   pub low : Term
   pub high : Term
@@ -92,7 +96,7 @@ pub record Order : Type 0 where
   pub reports : Term
 
 -- the arguments of a new shoen: the goal, the low and the high priority and the allowance, and after these that low isn't over high
-abbrev pub order_look : Order → Look
-order_look o =
+abbrev pub arguments_look : ExecuteArguments → Look
+arguments_look o =
     then_look (goal_look o.goal) (then_look (priority_look o.low) (then_look (priority_look o.high) (then_look (allowance_look o.allowance)
     (right_if (nat_le (number_of_term o.low) (number_of_term o.high))))))

@@ -115,7 +115,7 @@ abbrev pub is_no : Answer → Bool
 is_no no = true
 is_no a = false
 
--- a clause that a goal may commit to: its number in its predicate, from 1, and the terms of its head's variables
+-- a clause that a goal may commit to: its number in its predicate, from 1, the clause itself, and the terms at the places of its head's variables
 pub record Candidate : Type 0 where
   pub number : ℕ
   pub clause : Clause
@@ -132,7 +132,7 @@ candidates_within section n [] ts = []
 candidates_within section n (c ∷ cs) ts = if c.section == section then candidate_by n c (places_of c ts) (verdict c ts) ++ candidates_within section (suc n) cs ts else []
 
 -- the candidates among clauses of which the first has this number, in order: those whose verdict is yes and that stand in the
--- section of the first clause whose verdict isn't no, since above each `otherwise` below it there is that one
+-- section of the first clause whose verdict isn't no, since that clause stands above every later `otherwise`
 abbrev pub candidates_from : ℕ → List Clause → Terms → List Candidate
 candidates_from n [] ts = []
 candidates_from n (c ∷ cs) ts = if is_no (verdict c ts) then candidates_from (suc n) cs ts else candidates_within c.section n (c ∷ cs) ts

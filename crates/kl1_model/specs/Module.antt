@@ -203,8 +203,8 @@ clauses_ended before (Some line) = bad line
 abbrev pub otherwise_on : ℕ → List Clause → Option ℕ → Option ℕ
 otherwise_on line before behind = if is_some (last_of before) && is_none behind then Some line else None
 
--- the clauses before and then those of the items, or the line of the first bad item; told is the line of an `otherwise`
--- directly before the items, if one stands there
+-- the clauses before and then those of the items, or the line of the first bad item; `behind` is the line of an `otherwise`
+-- that stands directly before the items, if there is one
 abbrev pub clauses_from : List ℕ → List Clause → Option ℕ → List Item → Reading (List Clause)
 clauses_from m before behind [] = clauses_ended before behind
 clauses_from m before behind (item ∷ items) =

@@ -9,7 +9,7 @@ use Rattle.kl1_model.specs.Meaning.{highest, is_writable, is_numbered}
 use Rattle.kl1_model.specs.Nodes.{goal_nodes}
 use Rattle.kl1_model.specs.State.{monitor, reduces, Goal, Shoen, State, shoen_at, names_of, with_names}
 use Rattle.kl1_model.specs.Tree.{depth_of, goals_alive}
-use Rattle.kl1_model.specs.Look.{Order, number_of_term}
+use Rattle.kl1_model.specs.Look.{ExecuteArguments, number_of_term}
 use Rattle.kl1_model.specs.Event.{is_number, is_range, most_line_bytes}
 use Rattle.kl1_model.specs.Report.{report, started_report, exhausted_report}
 
@@ -23,7 +23,7 @@ may_start allowance low high t =
     is_number allowance && is_range low high
     && is_goal t && is_writable t && is_numbered t && nat_le (length (start_line allowance low high t)) most_line_bytes
 
--- a goal of a shoen that opens: the monitor takes the next goal number, and the goal the one after
+-- the goals of a shoen that opens: its monitor with the next goal number, and its goal with the one after
 abbrev pub opening_goals : ℕ → Shoen → Term → List Goal
 opening_goals last h goal =
     record { number = suc last; task = monitor; shoen = h.number; priority = monitor_priority }
@@ -97,7 +97,7 @@ clipped_to None n = n
 clipped_to (Some h) n = clipped h.low h.high n
 
 -- the child that an order opens in a shoen, with the next number: its range is clipped to that of its parent
-abbrev pub child_shoen : State → ℕ → Order → Shoen
+abbrev pub child_shoen : State → ℕ → ExecuteArguments → Shoen
 child_shoen s parent o =
     let clip = clipped_to (shoen_at parent s.shoens) in
     record {
@@ -119,5 +119,5 @@ abbrev pub has_room_for_child : State → ℕ → Bool
 has_room_for_child s parent = nat_lt s.last_shoen most_shoens && nat_lt (depth_of s.shoens parent) most_shoen_depth
 
 -- a child opened in a shoen
-abbrev pub open_child : State → ℕ → Order → State
+abbrev pub open_child : State → ℕ → ExecuteArguments → State
 open_child s parent o = open_shoen (child_shoen s parent o) o.goal s

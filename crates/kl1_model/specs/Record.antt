@@ -23,7 +23,7 @@ pub record Records : Type 0 where
 abbrev pub record_first : Record → Records → Records
 record_first r rs = record { list = r ∷ rs.list; is_truncated = rs.is_truncated }
 
--- how many bytes the source has that follows a line, if the line is a good load: the word `load` and one number
+-- how many bytes of source follow a line, if it is a good load: the word `load` and one number
 abbrev pub source_bytes_in : List ℕ → Option ℕ
 source_bytes_in line = if nat_le (length line) most_command_bytes && bytes_eq (word_in line) (codes "load") then up_to most_source_bytes (only_number (behind_word_in line)) else None
 

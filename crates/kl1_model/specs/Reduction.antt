@@ -13,31 +13,37 @@ use Rattle.kl1_model.specs.Nodes.{goals_nodes}
 use Rattle.kl1_model.specs.Module.{Clause, goals_of, Module}
 use Rattle.kl1_model.specs.Match.{Call, call_of, Candidate, candidates_of, fails}
 use Rattle.kl1_model.specs.Instance.{body_instance, body_priorities, fresh_variables}
-use Rattle.kl1_model.specs.Look.{Spelling, spelled, awaits_code, misspelled, spelling, most_spelled, Look, right, waits_on, wrong, Order, order_look}
+use Rattle.kl1_model.specs.Look.{Spelling, spelled, awaits_code, misspelled, spelling, most_spelled, Look, right, waits_on, wrong, ExecuteArguments, arguments_look}
 use Rattle.kl1_model.specs.Control.{Control, awaits_message, tells, tells_other, ends, breaks_off, control_of}
 use Rattle.kl1_model.specs.State.{Task, monitor, reduces, Goal, Shoen, State, shoen_at, replace_all, change_shoen, without_goal, with_name}
 use Rattle.kl1_model.specs.Tree.{goals_alive, charge, is_enabled}
 use Rattle.kl1_model.specs.Event.{step_refused, reduced, Transition, refuse, with_entry, recorded}
 pub use Rattle.kl1_model.specs.Report.{failure, overflow, illegal_input, exhaustion}
 use Rattle.kl1_model.specs.Report.{report, exception, stopped_report, resumed_report}
-use Rattle.kl1_model.specs.Ending.{without_monitor, settle, settle_charged, abort}
+use Rattle.kl1_model.specs.Ending.{without_monitor, settle, after_reduction, abort}
 use Rattle.kl1_model.specs.Opening.{clipped_to, has_room_for_child, open_child}
 
+-- ---- what goals can do
+
 -- what a term can do as a goal: commit to a clause, raise an exception of a kind, unify two terms, use a text as a name and unify a
--- term with it, open a shoen, or nothing but go
+-- term with it, open a shoen, or succeed without effect, as `true` does
 pub data Move : Type 0 where
   commits : Candidate → Move
   raises : List ℕ → Move
   unifies : Term → Term → Move
   names : List ℕ → Term → Move
-  opens : Order → Move
+  opens : ExecuteArguments → Move
   goes : Move
+
+-- ---- a goal of a user's predicate
 
 -- what a call can do by the clause numbered `clause`: commit to a candidate, or by 0 fail if each clause rejects it
 abbrev pub call_move : List Module → Call → ℕ → Option Move
 call_move modules call clause =
     if clause == 0 then (if fails modules call then Some (raises failure) else None)
     else option_map (λ k. commits k) (find (λ k. k.number == clause) (candidates_of modules call))
+
+-- ---- the goal `:=`
 
 -- what comes of a term that becomes a number
 abbrev pub becomes : Term → Number → Move
@@ -51,32 +57,38 @@ assigned a (comes_to n) = Some (becomes a n)
 assigned a (awaits v) = None
 assigned a is_no_expression = Some (raises illegal_input)
 
+-- ---- the goal `atom_from`
+
 -- what comes of a term that becomes the name that codes spell; it waits while the codes do
 abbrev pub spells : Term → Spelling → Option Move
 spells a (spelled text) = Some (names text a)
 spells a (awaits_code v) = None
 spells a misspelled = Some (raises illegal_input)
 
--- what comes of an order for a new shoen by the look at it; it waits while an argument does
-abbrev pub ordered : Order → Look → Option Move
+-- ---- the goal `shoen:execute`
+
+-- what comes of the arguments of `shoen:execute` by the look at them; it waits while an argument does
+abbrev pub ordered : ExecuteArguments → Look → Option Move
 ordered o right = Some (opens o)
 ordered o (waits_on v) = None
 ordered o wrong = Some (raises illegal_input)
 
--- the order that the arguments of `shoen:execute` are
-abbrev pub order_of : Term → Option Order
-order_of (structure p (more g (more l (more h (more n (more c (more r none))))))) = Some (record { goal = g; low = l; high = h; allowance = n; control = c; reports = r })
-order_of t = None
+-- the arguments of `shoen:execute`, if a term has six
+abbrev pub execute_arguments : Term → Option ExecuteArguments
+execute_arguments (structure p (more g (more l (more h (more n (more c (more r none))))))) = Some (record { goal = g; low = l; high = h; allowance = n; control = c; reports = r })
+execute_arguments t = None
 
--- what comes of an order that may be there
-abbrev pub order_move : Option Order → Option Move
+-- what comes of arguments that may be there
+abbrev pub order_move : Option ExecuteArguments → Option Move
 order_move None = None
-order_move (Some o) = ordered o (order_look o)
+order_move (Some o) = ordered o (arguments_look o)
 
 -- what a goal `a:b` does, if it is `shoen:execute` with six arguments
 abbrev pub execute_move : Term → Term → Option Move
-execute_move (atom m) b = if is_execute m b then order_move (order_of b) else None
+execute_move (atom m) b = if is_execute m b then order_move (execute_arguments b) else None
 execute_move a b = None
+
+-- ---- built-in goals together: `true`, `=`, and those above
 
 -- what a built-in goal of two terms does
 abbrev pub pair_move : List ℕ → Term → Term → Option Move
@@ -97,6 +109,8 @@ built_in_move t = None
 abbrev pub term_move : List Module → Term → ℕ → Option Call → Option Move
 term_move modules t clause None = if clause == 0 then built_in_move t else None
 term_move modules t clause (Some call) = call_move modules call clause
+
+-- ---- goals and monitors of an account
 
 -- what a goal does in one step: the move of a term, or what a monitor reads
 pub data Action : Type 0 where
@@ -124,6 +138,8 @@ task_action s shoen (reduces t) clause = option_map (moves t) (term_move s.modul
 -- what a goal can do by the clause numbered `clause`, or nothing if that isn't allowed
 abbrev pub action_of : State → Goal → ℕ → Option Action
 action_of s g clause = if is_enabled s g then task_action s g.shoen g.task clause else None
+
+-- ---- what comes of a commit
 
 -- the priority of a body's goal: that of the goal that commits, or the one that is named, clipped to the range of the shoen
 abbrev pub priority_of : Option Shoen → ℕ → Option ℕ → ℕ
@@ -154,6 +170,8 @@ committed g k s =
       nodes = s.nodes + goals_nodes (goals_of k.clause.body);
     }
 
+-- ---- what comes of other moves
+
 -- what a unification does: its replacements everywhere, or an exception
 abbrev pub unified : ℕ → Term → Option (List Replacement) → State → State
 unified n goal None s = report n (exception failure goal) s
@@ -180,6 +198,8 @@ moved g t (unifies a b) s = unified g.shoen t (mgu (equation a b)) s
 moved g t (names text a) s = or_exhaustion (nat_le (length (with_name s.names text)) most_names) g.shoen t (named_by g.shoen t text a s) s
 moved g t (opens o) s = or_exhaustion (has_room_for_child s g.shoen) g.shoen t (open_child s g.shoen o) s
 moved g t goes s = s
+
+-- ---- what comes of a message
 
 -- a shoen stopped, and a report of it if it wasn't
 abbrev pub stopped_of : Option Shoen → ℕ → State → State
@@ -214,10 +234,12 @@ heard n (tells_other m rest) s = report n (exception illegal_input m) (with_cont
 heard n ends s = without_monitor n s
 heard n (breaks_off t) s = report n (exception illegal_input t) (without_monitor n s)
 
+-- ---- a reduction
+
 -- an account after what a goal does in one step: a goal that makes a move is removed, and its shoen charged; what a monitor reads
 -- charges nobody, and only terminations come after it
 abbrev pub acted : Goal → Action → State → State
-acted g (moves t m) s = settle_charged g.shoen (moved g t m (charge g.shoen (without_goal g.number s)))
+acted g (moves t m) s = after_reduction g.shoen (moved g t m (charge g.shoen (without_goal g.number s)))
 acted g (reads c) s = settle g.shoen (heard g.shoen c s)
 
 -- a reduction, if it is allowed

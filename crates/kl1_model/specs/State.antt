@@ -42,7 +42,7 @@ pub record Shoen : Type 0 where
   pub is_broken : Bool
   pub origin : Option Origin
 
--- an account: its own name; its goals, shoens and modules, each by number or in order of loading; for each reduction that was
+-- an account: its own name; its goals and shoens in order of their numbers; its modules in order of loading; for each reduction that was
 -- charged, the number of its goal's shoen; the names it has used, in order of first use; the last number of a variable, a goal and
 -- a shoen; how many variables and structures its starts, messages from the console and commits had, how many reports it made, how
 -- many entries its journal has, and how many sessions are open
@@ -127,7 +127,8 @@ change_shoen n change s = record s { shoens = map (λ h. if h.number == n then c
 abbrev pub without_goal : ℕ → State → State
 without_goal n s = record s { goals = filter (λ g. not (g.number == n)) s.goals }
 
--- the names of a term as they stand in its text
+-- the names of a term in order, that of an operator before those of its operands; operators are built in, so that the order of an
+-- account's own names is that of the text
 abbrev mutual
   pub names_of : Term → List (List ℕ)
   names_of (variable n) = []
@@ -139,7 +140,7 @@ abbrev mutual
   names_in none = []
   names_in (more t ts) = names_of t ++ names_in ts
 
--- the names of a clause as they stand in its text
+-- the names of a clause: its head's, its guard's and its body's, each as in a term
 abbrev pub names_of_clause : Clause → List (List ℕ)
 names_of_clause c = c.name ∷ names_in c.patterns ++ names_in (terms_of c.tests) ++ names_in (terms_of (goals_of c.body))
 
@@ -148,7 +149,7 @@ abbrev pub names_of_clauses : List Clause → List (List ℕ)
 names_of_clauses [] = []
 names_of_clauses (c ∷ cs) = names_of_clause c ++ names_of_clauses cs
 
--- the names of a module as they stand in its source
+-- the names of a module: its own, and those of its clauses in order
 abbrev pub names_of_module : Module → List (List ℕ)
 names_of_module m = m.name ∷ names_of_clauses m.clauses
 

@@ -15,7 +15,7 @@ use Rattle.kl1_model.specs.Asking.{answer}
 abbrev pub with_module : State → Module → State
 with_module s m = record s { modules = s.modules ++ m ∷ []; names = with_names s.names (names_of_module m) }
 
--- a load of what a source was read as; a module of its name may not be there
+-- a load of what a source was read as; refused if a module of its name is there
 abbrev pub load_module : State → Reading Module → Transition
 load_module s (bad line) = refuse s (source line)
 load_module s (good m) =

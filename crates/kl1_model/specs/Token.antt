@@ -34,7 +34,7 @@ is_blank b = b == 32 || b == 9 || b == 10 || b == 13
 abbrev pub is_source_byte : ℕ → Bool
 is_source_byte b = is_name_byte b || is_blank b
 
--- the word in front of a text: its letters, digits and `_` as far as they reach
+-- the word at the front of a text: its letters, digits and `_` as far as they reach
 abbrev pub word_of : List ℕ → List ℕ
 word_of [] = []
 word_of (b ∷ bs) = elim (is_word_byte b) [ true ↦ b ∷ word_of bs | false ↦ [] ]
@@ -44,7 +44,7 @@ abbrev pub behind_word : List ℕ → List ℕ
 behind_word [] = []
 behind_word (b ∷ bs) = elim (is_word_byte b) [ true ↦ behind_word bs | false ↦ b ∷ bs ]
 
--- the digits in front of a text
+-- the digits at the front of a text
 abbrev pub digits_of : List ℕ → List ℕ
 digits_of [] = []
 digits_of (b ∷ bs) = elim (is_digit b) [ true ↦ b ∷ digits_of bs | false ↦ [] ]
@@ -59,7 +59,7 @@ abbrev pub number_of : List ℕ → ℕ
 number_of digits = fold (λ n b. 10 * n + (b - 48)) 0 digits
 
 -- the text between quotes of which these bytes have been seen, and what is after it, or none if no quote ends it;
--- the test tells whether the last byte was a quote, which ends the text unless another one follows
+-- the flag tells whether the last byte was a quote, which ends the text unless another one follows
 abbrev pub quoted_from : Bool → List ℕ → List ℕ → Option (List ℕ × List ℕ)
 quoted_from true text [] = Some (text, [])
 quoted_from false text [] = None
@@ -99,11 +99,11 @@ spelling_of CloseList = codes "]"
 abbrev pub signs : List Sign
 signs = Neck ∷ Becomes ∷ SameValue ∷ OtherValue ∷ NotOver ∷ Differs ∷ NotUnder ∷ Colon ∷ Equals ∷ Under ∷ Over ∷ Plus ∷ Star ∷ Slash ∷ At ∷ Bar ∷ Comma ∷ Open ∷ Close ∷ OpenList ∷ CloseList ∷ []
 
--- the longest sign in front of a text
+-- the longest sign at the front of a text
 abbrev pub sign_at : List ℕ → Option Sign
 sign_at bs = find (λ s. starts_with nat_eq bs (spelling_of s)) signs
 
--- what stands in front of a text: nothing, something that is no token, the end of a line, another blank or a comment,
+-- what stands at the front of a text: nothing, something that is no token, the end of a line, another blank or a comment,
 -- or a token; with what is after
 pub data Front : Type 0 where
   finished : Front
@@ -117,7 +117,7 @@ abbrev pub first_is : (ℕ → Bool) → List ℕ → Bool
 first_is test [] = false
 first_is test (b ∷ bs) = test b
 
--- a name or a variable of this spelling, which has at most 63 bytes
+-- this token, or no token if its spelling has more than 63 bytes
 abbrev pub bounded : List ℕ → Token (List ℕ) → List ℕ → Front
 bounded text t rest = if nat_le (length text) most_name_bytes then token t rest else broken
 
@@ -176,7 +176,7 @@ start_of b =
     else if b == 45 then subtracts
     else signs_or_nothing
 
--- what stands in front of a text that begins with this byte
+-- what stands at the front of a text that begins with this byte
 abbrev pub front_by : Start → ℕ → List ℕ → Front
 front_by ends_line b bs = line_end bs
 front_by blanks b bs = blank bs
@@ -189,7 +189,7 @@ front_by dots b bs = dot_front bs
 front_by subtracts b bs = token (minus_token (first_is is_digit bs)) bs
 front_by signs_or_nothing b bs = sign_front (sign_at (b ∷ bs)) (b ∷ bs)
 
--- what stands in front of a text
+-- what stands at the front of a text
 abbrev pub front_of : List ℕ → Front
 front_of [] = finished
 front_of (b ∷ bs) = front_by (start_of b) b bs
@@ -216,7 +216,7 @@ tokens_by next line (line_end rest) = next (suc line) rest
 tokens_by next line (blank rest) = next line rest
 tokens_by next line (token t rest) = token_first (record { line = line; token = t }) (next line rest)
 
--- the tokens of a text whose first byte is on this line, in fewer than `n` fronts; a text has no more fronts than bytes and one
+-- the tokens of a text whose first byte is on this line, in at most `n` fronts; a text has no more fronts than bytes and one
 unfoldable pub tokens_within : ℕ → ℕ → List ℕ → Tokens
 tokens_within zero line bs = record { placed = []; broken_at = Some line }
 tokens_within (suc n) line bs = tokens_by (tokens_within n) line (front_of bs)

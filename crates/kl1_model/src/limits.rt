@@ -18,7 +18,7 @@ pub const MOST_CLAUSES: usize = 512;
 /// The most bytes of a module's source.
 pub const MOST_SOURCE_BYTES: usize = 65_536;
 
-/// The first number that no command takes, and the first integer that no term has.
+/// 2 ^ 63: the first number too great for a command, and the first positive integer too great for a term.
 pub const NUMBER_LIMIT: u64 = 1 << 63;
 
 /// The most digits that a number in a command has.
@@ -33,7 +33,7 @@ pub const MONITOR_PRIORITY: u64 = 4_096;
 /// The most entries of a journal.
 pub const MOST_ENTRIES: u64 = 262_144;
 
-/// The most bytes of a start's line in a journal.
+/// The most bytes of a line of a journal's text, without its line feed.
 pub const MOST_LINE_BYTES: usize = 262_144;
 
 /// The most steps of a run.
@@ -42,25 +42,25 @@ pub const MOST_STEPS: u64 = 262_144;
 /// The most bytes of a command's line, without its end.
 pub const MOST_COMMAND_BYTES: usize = 4_096;
 
-/// The most bytes of a printed value.
+/// The most bytes of a value or a report in a reply; what is longer is cut there, and three dots follow.
 pub const MOST_PRINTED_BYTES: usize = 4_000;
 
 /// The most bytes of an account's name.
 pub const MOST_ACCOUNT_NAME_BYTES: usize = 16;
 
-/// The most accounts of a script, and of a table of names.
+/// The most accounts of a script, of a server and of a table of names.
 pub const MOST_ACCOUNTS: usize = 16;
 
-/// The most bytes of a script.
+/// The most bytes of a script, and of a journal's text that is replayed.
 pub const MOST_SCRIPT_BYTES: usize = 16_777_216;
 
-/// The bytes of a reply that wait at most before they are written, but for one reply more.
+/// Replies are held back until they have this many bytes, and then written.
 pub const MOST_WAITING_BYTES: usize = 65_536;
 
 /// The first number of a name that isn't built in.
 pub const FIRST_NUMBER: u32 = 64;
 
-/// The most names that one account adds to a table of names.
+/// The most names that an account uses besides the built-in ones, and so the entries that it has in a table of names.
 pub const MOST_NAMES: usize = 1_024;
 
 /// The buckets of a table of names, for each account.
@@ -72,29 +72,29 @@ pub const MOST_MODULES: usize = 32;
 /// The most goals of an account at one time; monitors don't count.
 pub const MOST_GOALS: u64 = 8_192;
 
-/// The most variables of an account's starts, messages from the console and commits.
+/// The most variables of an account's starts, messages from the console and commits since its last reset.
 pub const MOST_VARIABLES: u64 = 262_144;
 
-/// The most structures of an account's starts, messages from the console and commits.
+/// The most structures of an account's starts, messages from the console and commits since its last reset.
 pub const MOST_NODES: u64 = 1_048_576;
 
-/// The most shoens that an account opens.
+/// The most shoens that an account opens since its last reset.
 pub const MOST_SHOENS: u64 = 1_024;
 
 /// The most shoens on a path: how deep a shoen can be.
 pub const MOST_SHOEN_DEPTH: usize = 32;
 
-/// The most reports of an account.
+/// The most reports of an account since its last reset.
 pub const MOST_REPORTS: u64 = 65_536;
 
 /// The most sessions of an account that are open at one time.
 pub const MOST_SESSIONS: u64 = 4;
 
-/// The most lines of a reply that lists reports or lines of a journal.
+/// The most reports that one reply lists, and the most lines of a journal that one command may ask for; the line with their number doesn't count.
 pub const MOST_LISTED: usize = 64;
 
 /// The greatest allowance of a shoen, in reductions.
 pub const MOST_ALLOWANCE: u64 = (1 << 63) - 1;
 
-/// The most cells of a list of codes that are spelled as a name.
+/// The most codes from which `atom_from` makes a name.
 pub const MOST_SPELLED: usize = 63;

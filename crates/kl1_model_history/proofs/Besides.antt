@@ -15,7 +15,7 @@ use Rattle.kl1_model.specs.State.{State, Goal, Task, monitor, reduces, Shoen, Or
 use Rattle.kl1_model.specs.Tree.{path, charge}
 use Rattle.kl1_model.specs.Control.{Control, awaits_message, tells, tells_other, ends, breaks_off, message_term, message_nodes}
 use Rattle.kl1_model.specs.Report.{broken_at, reported_at, report_of, report, report_each, closed_at, close_of, close, exception, failure, overflow, illegal_input, exhaustion, started_report, stopped_report, resumed_report, exhausted_report, terminated_report, aborted_report}
-use Rattle.kl1_model.specs.Ending.{ends_now, ended_at, ending_of, without_monitor, terminate, terminate_each, settle, reached_of, settle_charged, ended_below, abort}
+use Rattle.kl1_model.specs.Ending.{ends_now, ended_at, ending_of, without_monitor, terminate, terminate_each, settle, newly_exhausted, after_reduction, ended_below, abort}
 use Rattle.kl1_model.specs.Opening.{may_start, has_room_to_start, with_shoen, open_shoen, with_next_variables, started_shoen, start_goal, child_shoen, has_room_for_child, open_child}
 use Rattle.kl1_model.specs.Reduction.{Move, commits, raises, unifies, names, opens, goes, Action, moves, reads, action_of, has_room_for, committed, unified, equation, or_exhaustion, named_by, moved, stopped_of, resumed_of, allowed_more, obeyed, with_control, heard, acted, reduced_by, reduce_goal}
 use Rattle.kl1_model.specs.Sending.{may_send, has_room_to_send, sent_on, send_by, send_to}
@@ -92,13 +92,13 @@ settle_beside : (k : ℕ) (name : List ℕ) (n : ℕ) (s : State) → settle k (
 settle_beside k name n s =
     ap (λ ks. terminate_each ks (beside name n s)) (ending_beside (path s.shoens k) name n s) ∙ terminate_each_beside (ending_of (path s.shoens k) s) name n s
 
-settle_charged_beside : (k : ℕ) (name : List ℕ) (n : ℕ) (s : State) → settle_charged k (beside name n s) ≡ beside name n (settle_charged k s)
+settle_charged_beside : (k : ℕ) (name : List ℕ) (n : ℕ) (s : State) → after_reduction k (beside name n s) ≡ beside name n (after_reduction k s)
 settle_charged_beside k name n s =
     let ks = path s.shoens k in
-    let by : List ℕ → State = λ ending. terminate_each ending (report_each (reached_of s ending ks) exhausted_report (beside name n s)) in
+    let by : List ℕ → State = λ ending. terminate_each ending (report_each (newly_exhausted s ending ks) exhausted_report (beside name n s)) in
     let ending = ending_of ks s in
-    let after = report_each (reached_of s ending ks) exhausted_report s in
-    ap by (ending_beside ks name n s) ∙ ap (terminate_each ending) (report_each_beside (reached_of s ending ks) exhausted_report name n s) ∙ terminate_each_beside ending name n after
+    let after = report_each (newly_exhausted s ending ks) exhausted_report s in
+    ap by (ending_beside ks name n s) ∙ ap (terminate_each ending) (report_each_beside (newly_exhausted s ending ks) exhausted_report name n s) ∙ terminate_each_beside ending name n after
 
 abort_beside : (k : ℕ) (name : List ℕ) (n : ℕ) (s : State) → abort k (beside name n s) ≡ beside name n (abort k s)
 abort_beside k name n s =
@@ -158,7 +158,7 @@ heard_beside k (breaks_off t) name n s = report_beside k (exception illegal_inpu
 acted_beside : (g : Goal) (a : Action) (name : List ℕ) (n : ℕ) (s : State) → acted g a (beside name n s) ≡ beside name n (acted g a s)
 acted_beside g (moves t m) name n s =
     let before = charge g.shoen (without_goal g.number s) in
-    ap (settle_charged g.shoen) (moved_beside g t m name n before) ∙ settle_charged_beside g.shoen name n (moved g t m before)
+    ap (after_reduction g.shoen) (moved_beside g t m name n before) ∙ settle_charged_beside g.shoen name n (moved g t m before)
 acted_beside g (reads c) name n s = ap (settle g.shoen) (heard_beside g.shoen c name n s) ∙ settle_beside g.shoen name n (heard g.shoen c s)
 
 sent_beside : (k : ℕ) (m : Message) (t : Term) (name : List ℕ) (n : ℕ) (s : State) → sent_on k m t (beside name n s) ≡ beside name n (sent_on k m t s)

@@ -13,7 +13,7 @@ use Rattle.kl1_model.specs.State.{State, Goal, Shoen, shoen_at, with_name, repla
 use Rattle.kl1_model.specs.Tree.{path, charge}
 use Rattle.kl1_model.specs.Control.{Control, awaits_message, tells, tells_other, ends, breaks_off}
 use Rattle.kl1_model.specs.Report.{broken_at, reported_at, report_of, report, report_each, closed_at, close_of, close, exception, failure, illegal_input, exhaustion, started_report, stopped_report, resumed_report, exhausted_report, terminated_report, aborted_report}
-use Rattle.kl1_model.specs.Ending.{ended_at, ending_of, without_monitor, terminate, terminate_each, settle, reached_of, settle_charged, ended_below, abort}
+use Rattle.kl1_model.specs.Ending.{ended_at, ending_of, without_monitor, terminate, terminate_each, settle, newly_exhausted, after_reduction, ended_below, abort}
 use Rattle.kl1_model.specs.Opening.{with_shoen, open_shoen, child_shoen, has_room_for_child, open_child}
 use Rattle.kl1_model.specs.Reduction.{Move, commits, raises, unifies, names, opens, goes, Action, moves, reads, has_room_for, committed, unified, equation, or_exhaustion, named_by, moved, stopped_of, resumed_of, obeyed, with_control, heard, acted}
 use Rattle.kl1_model.specs.Sending.{sent_on}
@@ -78,11 +78,11 @@ terminate_each_has (k ∷ ks) s = terminate_each_has ks (terminate k s) ∙ term
 settle_has : (k : ℕ) (s : State) → Has s.names (settle k s)
 settle_has k s = terminate_each_has (ending_of (path s.shoens k) s) s
 
-settle_charged_has : (k : ℕ) (s : State) → Has s.names (settle_charged k s)
+settle_charged_has : (k : ℕ) (s : State) → Has s.names (after_reduction k s)
 settle_charged_has k s =
     let ks = path s.shoens k in
     let ending = ending_of ks s in
-    let reached = reached_of s ending ks in
+    let reached = newly_exhausted s ending ks in
     terminate_each_has ending (report_each reached exhausted_report s) ∙ report_each_has reached exhausted_report s
 
 abort_has : (k : ℕ) (s : State) → Has s.names (abort k s)
@@ -162,7 +162,7 @@ pub acted_named : (g : Goal) (a : Action) (s : State) → ActionText a → IsNam
 acted_named g (moves t m) s fine h =
     let before = charge g.shoen (without_goal g.number s) in
     let after = moved g t m before in
-    same_names after (settle_charged g.shoen after) (settle_charged_has g.shoen after) (moved_named g t m before fine h)
+    same_names after (after_reduction g.shoen after) (settle_charged_has g.shoen after) (moved_named g t m before fine h)
 acted_named g (reads c) s fine h =
     let after = heard g.shoen c s in
     same_names s (settle g.shoen after) (settle_has g.shoen after ∙ heard_has g.shoen c s) h

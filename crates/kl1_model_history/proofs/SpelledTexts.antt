@@ -12,12 +12,12 @@ use Rattle.kl1_model.specs.declared.number.Number.TheVariants.{Value, Overflow, 
 use Rattle.kl1_model.specs.Goal.{is_execute}
 use Rattle.kl1_model.specs.Module.{Module}
 use Rattle.kl1_model.specs.Match.{Call, call_of, Candidate, candidates_of, fails}
-use Rattle.kl1_model.specs.Look.{Spelling, spelled, awaits_code, misspelled, spelled_before, spelled_by, spelling, most_spelled, Look, right, waits_on, wrong, Order, order_look}
+use Rattle.kl1_model.specs.Look.{Spelling, spelled, awaits_code, misspelled, spelled_before, spelled_by, spelling, most_spelled, Look, right, waits_on, wrong, ExecuteArguments, arguments_look}
 use Rattle.kl1_model.specs.Control.{Control, awaits_message, tells, tells_other, ends, breaks_off, control_of}
 use Rattle.kl1_model.specs.State.{Task, monitor, reduces, Goal, Shoen, State, shoen_at}
 use Rattle.kl1_model.specs.Tree.{is_enabled}
 use Rattle.kl1_model.specs.Report.{failure}
-use Rattle.kl1_model.specs.Reduction.{Move, commits, raises, unifies, names, opens, goes, call_move, becomes, assigned, spells, ordered, order_of, order_move, execute_move, pair_move, built_in_move, term_move, Action, moves, reads, read_action, monitor_action, task_action, action_of}
+use Rattle.kl1_model.specs.Reduction.{Move, commits, raises, unifies, names, opens, goes, call_move, becomes, assigned, spells, ordered, execute_arguments, order_move, execute_move, pair_move, built_in_move, term_move, Action, moves, reads, read_action, monitor_action, task_action, action_of}
 
 -- a text that is spelled is bytes of names, and no more of them than cells
 abbrev IsSpelled : ℕ → Spelling → Type 0
@@ -90,17 +90,17 @@ assigned_names a (comes_to n) = become_names a n
 assigned_names a (awaits v) = tt
 assigned_names a is_no_expression = tt
 
-ordered_names : (o : Order) (l : Look) → MayName (ordered o l)
+ordered_names : (o : ExecuteArguments) (l : Look) → MayName (ordered o l)
 ordered_names o right = tt
 ordered_names o (waits_on v) = tt
 ordered_names o wrong = tt
 
-order_names : (o : Option Order) → MayName (order_move o)
+order_names : (o : Option ExecuteArguments) → MayName (order_move o)
 order_names None = tt
-order_names (Some o) = ordered_names o (order_look o)
+order_names (Some o) = ordered_names o (arguments_look o)
 
 execute_names : (a b : Term) → MayName (execute_move a b)
-execute_names (atom m) b = either_names (is_execute m b) (order_move (order_of b)) None (order_names (order_of b)) tt
+execute_names (atom m) b = either_names (is_execute m b) (order_move (execute_arguments b)) None (order_names (execute_arguments b)) tt
 execute_names (variable v) b = tt
 execute_names (integer i) b = tt
 execute_names (structure f ts) b = tt

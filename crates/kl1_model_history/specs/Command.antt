@@ -123,7 +123,7 @@ command_by logs_out rest = alone_command logout rest
 command_by resets rest = alone_command reset rest
 command_by unknown rest = None
 
--- the command that a line is, without its end, if it is one; one of too many bytes is none, and neither is a load alone
+-- the command that a line is, without its end, if it is one; a line that is too long is none, nor is a `load` line without its source
 abbrev pub parse : List ℕ → Option Command
 parse line = if nat_le (length line) most_command_bytes then command_by (verb_of (word_in line)) (behind_word_in line) else None
 

@@ -34,7 +34,7 @@ unfinished_load n bytes = codes "load " ++ decimal n ++ 10 ∷ take (n + 2) byte
 abbrev pub line_request : List ℕ → Request
 line_request line = other_line (take (most_command_bytes + 1) line)
 
--- what a load asks for, by its source and what stands after that in its last line
+-- what a load asks for, by its source and the bytes between that and the next line feed
 abbrev pub load_request : List ℕ → List ℕ → Request
 load_request text after = if length (without_return after) == 0 then load_of text else spoiled_load
 

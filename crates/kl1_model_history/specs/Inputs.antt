@@ -26,7 +26,7 @@ abbrev pub input_by : Option Command → Input
 input_by None = refused syntax
 input_by (Some c) = command c
 
--- the input that a request is: a line whose first word is `login` is a login of some form, or refused
+-- the input that a request is: a line whose first word is `login` is a login with a name and a key, or is refused
 abbrev pub input_of : Request → Input
 input_of (load_of text) = input_by (command_of (load_of text))
 input_of spoiled_load = input_by (command_of spoiled_load)

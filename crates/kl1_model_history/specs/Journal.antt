@@ -36,7 +36,7 @@ new_journal names sessions = record { sessions = sessions; names = names; entrie
 abbrev pub with_entry : Journal → Entry → Journal
 with_entry j e = record j { entries = j.entries ++ e ∷ [] }
 
--- a journal after an event that is accepted and leaves this account: a load, a start, a message and a reduction are entries, a query is
+-- a journal after an accepted event that led to this account: a load, a start, a message and a reduction are entries, a query is
 -- none; a session opened or closed changes the number of sessions; a reset begins the journal anew
 abbrev pub with_event : Journal → Event → State → Journal
 with_event j (load text) s = with_entry j (loads text)

@@ -42,7 +42,7 @@ after_all k (c ∷ cs) = after_all (done_by k c).kept cs
 abbrev pub alone_after : List ℕ → List Record → Kept
 alone_after name records = after_all (fresh_kept name) (commands_of name records)
 
--- the lines of a reply after the account's name
+-- the lines of a reply, each with the account's name before it
 abbrev pub written_reply : List ℕ → List (List ℕ) → List ℕ
 written_reply name [] = []
 written_reply name (line ∷ lines) = written_line (name ++ codes " " ++ line) ++ written_reply name lines

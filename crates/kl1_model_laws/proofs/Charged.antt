@@ -17,7 +17,7 @@ use Rattle.kl1_model.specs.State.{Goal, Shoen, State, shoen_at, replace_in_shoen
 use Rattle.kl1_model.specs.Tree.{parents_of, path_within, path, is_on_path, charged_of, charge, is_enabled}
 use Rattle.kl1_model.specs.Event.{with_entry}
 use Rattle.kl1_model.specs.Report.{broken_at, reported_at, report_of, report, report_each, closed_at, close_of, close, exception, failure, illegal_input, exhaustion, started_report, exhausted_report, stopped_report, resumed_report, terminated_report, aborted_report}
-use Rattle.kl1_model.specs.Ending.{ended_at, ending_of, without_monitor, terminate, terminate_each, settle, reached_of, settle_charged, aborted_below, ended_below, abort}
+use Rattle.kl1_model.specs.Ending.{ended_at, ending_of, without_monitor, terminate, terminate_each, settle, newly_exhausted, after_reduction, aborted_below, ended_below, abort}
 use Rattle.kl1_model.specs.Opening.{with_shoen, open_shoen, with_next_variables, start_goal, has_room_for_child, child_shoen, open_child}
 use Rattle.kl1_model.specs.Reduction.{Move, commits, raises, unifies, names, opens, goes, moves, reads, has_room_for, committed, unified, equation, or_exhaustion, moved, stopped_of, resumed_of, allowed_more, obeyed, with_control, heard, acted}
 use Rattle.kl1_model.specs.Sending.{with_control_tail, sent_on}
@@ -110,11 +110,11 @@ cap_terminations b (n ∷ ns) s a = cap_terminations b ns (terminate n s) (cap_t
 cap_settle : (b : ℕ → ℕ) (n : ℕ) (s : State) → Cap b s → Cap b (settle n s)
 cap_settle b n s a = cap_terminations b (ending_of (path s.shoens n) s) s a
 
-cap_settle_charged : (b : ℕ → ℕ) (n : ℕ) (s : State) → Cap b s → Cap b (settle_charged n s)
+cap_settle_charged : (b : ℕ → ℕ) (n : ℕ) (s : State) → Cap b s → Cap b (after_reduction n s)
 cap_settle_charged b n s a =
     let ns = path s.shoens n in
     let ending = ending_of ns s in
-    let told = reached_of s ending ns in
+    let told = newly_exhausted s ending ns in
     cap_terminations b ending (report_each told exhausted_report s) (cap_each b told exhausted_report s a)
 
 aborted_if : (c : Bool) (b : ℕ → ℕ) (h : Shoen) → b h.number ≤ h.allowance → b (if c then record h { life = Aborted } else h).number ≤ (if c then record h { life = Aborted } else h).allowance

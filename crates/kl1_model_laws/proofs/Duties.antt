@@ -8,7 +8,7 @@ use Rattle.kl1_model.specs.Term.{Term}
 use Rattle.kl1_model.specs.State.{Goal, State, shoen_at, without_goal}
 use Rattle.kl1_model.specs.Tree.{path, is_on_path}
 use Rattle.kl1_model.specs.Report.{report, report_each, exception, illegal_input, exhaustion, exhausted_report, terminated_report, aborted_report}
-use Rattle.kl1_model.specs.Ending.{ended_at, ending_of, without_monitor, terminate, terminate_each, settle, reached_of, settle_charged, ended_below, abort}
+use Rattle.kl1_model.specs.Ending.{ended_at, ending_of, without_monitor, terminate, terminate_each, settle, newly_exhausted, after_reduction, ended_below, abort}
 use Rattle.kl1_model.specs.Reduction.{or_exhaustion, obeyed, with_control, heard}
 use Rattle.kl1_model_laws.proofs.Alike.{Duty, duty_of, duties_of, Alike, alike_report, alike_report_each, alike_closing, alike_stopped, alike_resumed}
 
@@ -47,11 +47,11 @@ module _ (D : List Duty → ℕ → Type 0) (fewer : (p : Duty → Bool) (ds : L
   pub of_settle : (k : ℕ) (s : State) → Of D s → Of D (settle k s)
   of_settle k s a = of_each (ending_of (path s.shoens k) s) s a
 
-  pub of_settle_charged : (k : ℕ) (s : State) → Of D s → Of D (settle_charged k s)
+  pub of_settle_charged : (k : ℕ) (s : State) → Of D s → Of D (after_reduction k s)
   of_settle_charged k s a =
       let ks = path s.shoens k in
       let ending = ending_of ks s in
-      let told = reached_of s ending ks in
+      let told = newly_exhausted s ending ks in
       of_each ending (report_each told exhausted_report s) (of_alike D s (report_each told exhausted_report s) (alike_report_each told exhausted_report s) a)
 
   of_abort : (k : ℕ) (s : State) → Of D s → Of D (abort k s)

@@ -9,7 +9,7 @@ use Rattle.kl1_model.specs.Module.{is_among}
 use Rattle.kl1_model.specs.State.{Goal, Shoen, State, is_monitor, is_living}
 use Rattle.kl1_model.specs.Tree.{parents_of, path_within, path, is_on_path}
 use Rattle.kl1_model.specs.Report.{report_each, exhausted_report, terminated_report}
-use Rattle.kl1_model.specs.Ending.{has_goal, has_living_child, lives, ends_now, ended_at, ending_of, without_monitor, terminate, terminate_each, settle, reached_of, settle_charged}
+use Rattle.kl1_model.specs.Ending.{has_goal, has_living_child, lives, ends_now, ended_at, ending_of, without_monitor, terminate, terminate_each, settle, newly_exhausted, after_reduction}
 use Rattle.kl1_model.specs.laws.TreeLaws.{AreNumbered, ParentsAreLower, IsTree}
 use Rattle.kl1_model.proofs.TreeKeeps.{keeps_ended}
 use Rattle.kl1_model_laws.specs.EndingLaws.{AreDue, EndingAreDue, DueTerminate, DueTerminateAlone, NoneIsLeftDue, NoneIsLeftDueAlone}
@@ -179,11 +179,11 @@ follows_each (n ∷ ns) s t k = follows_each ns (ended_at n s) (terminate n t) (
 follows_settle : (n : ℕ) (s : State) → Follows (ended_each (ending_of (path s.shoens n) s) s) (settle n s)
 follows_settle n s = follows_each (ending_of (path s.shoens n) s) s s (follows_alike s s (alike_same s))
 
-follows_settle_charged : (n : ℕ) (s : State) → Follows (ended_each (ending_of (path s.shoens n) s) s) (settle_charged n s)
+follows_settle_charged : (n : ℕ) (s : State) → Follows (ended_each (ending_of (path s.shoens n) s) s) (after_reduction n s)
 follows_settle_charged n s =
     let ns = path s.shoens n in
     let ending = ending_of ns s in
-    let told = reached_of s ending ns in
+    let told = newly_exhausted s ending ns in
     follows_each ending s (report_each told exhausted_report s) (follows_alike s (report_each told exhausted_report s) (alike_report_each told exhausted_report s))
 
 follows_lives : (s t : State) → Follows s t → (m : ℕ) → lives m t ≡ lives m s
@@ -263,9 +263,9 @@ ended_none_due Q n s tree f m q = none_is_due Q (parents_of s.shoens) tree.lower
 pub settle_none_due : (Q : ℕ → Type 0) (n : ℕ) (s : State) → IsTree s → ((m : ℕ) → Q m → is_on_path s.shoens m n ≡ false → ends_now m s ≡ false) → (m : ℕ) → Q m → ends_now m (settle n s) ≡ false
 settle_none_due Q n s tree f m q = follows_due (ended_each (ending_of (path s.shoens n) s) s) (settle n s) (follows_settle n s) m ∙ ended_none_due Q n s tree f m q
 
-pub settle_charged_none_due : (Q : ℕ → Type 0) (n : ℕ) (s : State) → IsTree s → ((m : ℕ) → Q m → is_on_path s.shoens m n ≡ false → ends_now m s ≡ false) → (m : ℕ) → Q m → ends_now m (settle_charged n s) ≡ false
+pub settle_charged_none_due : (Q : ℕ → Type 0) (n : ℕ) (s : State) → IsTree s → ((m : ℕ) → Q m → is_on_path s.shoens m n ≡ false → ends_now m s ≡ false) → (m : ℕ) → Q m → ends_now m (after_reduction n s) ≡ false
 settle_charged_none_due Q n s tree f m q =
-    follows_due (ended_each (ending_of (path s.shoens n) s) s) (settle_charged n s) (follows_settle_charged n s) m ∙ ended_none_due Q n s tree f m q
+    follows_due (ended_each (ending_of (path s.shoens n) s) s) (after_reduction n s) (follows_settle_charged n s) m ∙ ended_none_due Q n s tree f m q
 
 -- ---- the laws
 
@@ -280,7 +280,7 @@ none_off n s m on off = absurd (false≢true (sym off ∙ on))
 
 pub none_is_left_due : NoneIsLeftDue
 none_is_left_due n s tree =
-    each_among (λ m. ends_now m (settle_charged n s) ≡ false) (path s.shoens n) (settle_charged_none_due (λ m. is_on_path s.shoens m n ≡ true) n s tree (none_off n s))
+    each_among (λ m. ends_now m (after_reduction n s) ≡ false) (path s.shoens n) (settle_charged_none_due (λ m. is_on_path s.shoens m n ≡ true) n s tree (none_off n s))
 
 pub none_is_left_due_alone : NoneIsLeftDueAlone
 none_is_left_due_alone n s tree =
@@ -311,7 +311,7 @@ dies s t ns k m e f =
 
 pub due_terminate : DueTerminate
 due_terminate n m s tree on due =
-    dies s (settle_charged n s) (ending_of (path s.shoens n) s) (follows_settle_charged n s) m due (settle_charged_none_due (λ k. is_on_path s.shoens k n ≡ true) n s tree (none_off n s) m on)
+    dies s (after_reduction n s) (ending_of (path s.shoens n) s) (follows_settle_charged n s) m due (settle_charged_none_due (λ k. is_on_path s.shoens k n ≡ true) n s tree (none_off n s) m on)
 
 pub due_terminate_alone : DueTerminateAlone
 due_terminate_alone n m s tree on due =

@@ -13,8 +13,8 @@ use Rattle.kl1_model.specs.Unify.{Equation, argument_equations, replace_in_all, 
 use Rattle.kl1_model.specs.Goal.{is_execute}
 use Rattle.kl1_model.specs.Module.{Clause, Module}
 use Rattle.kl1_model.specs.Match.{Answer, yes, no, wait, Match, with_answer, match_pattern, match_patterns, term_at, places_of, verdict, Call, call_of, clauses_of, is_no, Candidate, candidate_by, candidates_within, candidates_from, candidates_of, fails}
-use Rattle.kl1_model.specs.Look.{Spelling, spelled, awaits_code, misspelled, spelling, most_spelled, Look, right, waits_on, wrong, Order, order_look}
-use Rattle.kl1_model.specs.Reduction.{Move, commits, raises, unifies, names, opens, goes, failure, call_move, becomes, assigned, spells, ordered, order_of, order_move, execute_move, pair_move, built_in_move, term_move, equation}
+use Rattle.kl1_model.specs.Look.{Spelling, spelled, awaits_code, misspelled, spelling, most_spelled, Look, right, waits_on, wrong, ExecuteArguments, arguments_look}
+use Rattle.kl1_model.specs.Reduction.{Move, commits, raises, unifies, names, opens, goes, failure, call_move, becomes, assigned, spells, ordered, execute_arguments, order_move, execute_move, pair_move, built_in_move, term_move, equation}
 use Rattle.kl1_model_laws.proofs.UnifySound.{HoldsInEachCase, holds_of_solution}
 
 -- ---- terms
@@ -229,7 +229,7 @@ from P n (c ∷ cs) ts h =
 -- ---- moves
 
 -- a fact holds of the terms of an order that flow on
-abbrev pub InOrder : (ℕ → Type 0) → Order → Type 0
+abbrev pub InOrder : (ℕ → Type 0) → ExecuteArguments → Type 0
 InOrder P o = Holds P o.goal × Holds P o.control × Holds P o.reports
 
 -- a fact holds of the terms of a move
@@ -266,25 +266,25 @@ in_assigned P a (awaits v) h = tt
 in_assigned P a is_no_expression h = tt
 
 -- a fact holds of the terms of an order that may be there
-abbrev MayOrder : (ℕ → Type 0) → Option Order → Type 0
+abbrev MayOrder : (ℕ → Type 0) → Option ExecuteArguments → Type 0
 MayOrder P None = Unit {0}
 MayOrder P (Some o) = InOrder P o
 
-in_order : (P : ℕ → Type 0) (t : Term) → Holds P t → MayOrder P (order_of t)
+in_order : (P : ℕ → Type 0) (t : Term) → Holds P t → MayOrder P (execute_arguments t)
 in_order P (structure p (more g (more l (more i (more n (more c (more r none))))))) h = (h.0, h.1.1.1.1.0, h.1.1.1.1.1.0)
 in_order P t h = tt
 
-in_ordered : (P : ℕ → Type 0) (o : Order) (l : Look) → InOrder P o → MayMove P (ordered o l)
+in_ordered : (P : ℕ → Type 0) (o : ExecuteArguments) (l : Look) → InOrder P o → MayMove P (ordered o l)
 in_ordered P o right h = h
 in_ordered P o (waits_on v) h = tt
 in_ordered P o wrong h = tt
 
-in_order_move : (P : ℕ → Type 0) (o : Option Order) → MayOrder P o → MayMove P (order_move o)
+in_order_move : (P : ℕ → Type 0) (o : Option ExecuteArguments) → MayOrder P o → MayMove P (order_move o)
 in_order_move P None h = tt
-in_order_move P (Some o) h = in_ordered P o (order_look o) h
+in_order_move P (Some o) h = in_ordered P o (arguments_look o) h
 
 in_execute : (P : ℕ → Type 0) (a b : Term) → Holds P b → MayMove P (execute_move a b)
-in_execute P (atom m) b h = if_moves (is_execute m b) P (order_move (order_of b)) None (in_order_move P (order_of b) (in_order P b h)) tt
+in_execute P (atom m) b h = if_moves (is_execute m b) P (order_move (execute_arguments b)) None (in_order_move P (execute_arguments b) (in_order P b h)) tt
 in_execute P (variable v) b h = tt
 in_execute P (integer i) b h = tt
 in_execute P (structure f ts) b h = tt

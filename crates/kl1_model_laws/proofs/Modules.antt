@@ -14,7 +14,7 @@ use Rattle.kl1_model.specs.State.{Goal, State, shoen_at, with_name, without_goal
 use Rattle.kl1_model.specs.Tree.{path, charge}
 use Rattle.kl1_model.specs.Event.{with_entry}
 use Rattle.kl1_model.specs.Report.{report, report_each, exception, exhaustion, illegal_input, exhausted_report, terminated_report, aborted_report}
-use Rattle.kl1_model.specs.Ending.{ended_at, ending_of, without_monitor, terminate, terminate_each, reached_of, ended_below, settle, settle_charged}
+use Rattle.kl1_model.specs.Ending.{ended_at, ending_of, without_monitor, terminate, terminate_each, newly_exhausted, ended_below, settle, after_reduction}
 use Rattle.kl1_model.specs.Opening.{start_goal, has_room_for_child, child_shoen, open_child}
 use Rattle.kl1_model.specs.Reduction.{Move, commits, raises, unifies, names, opens, goes, moves, reads, has_room_for, committed, unified, equation, or_exhaustion, moved, obeyed, with_control, heard, acted}
 use Rattle.kl1_model.specs.Sending.{sent_on}
@@ -79,11 +79,11 @@ moved_has g t (opens o) s =
     or_has (has_room_for_child s g.shoen) g.shoen t (open_child s g.shoen o) s (record { modules = b.modules; entries = b.entries; work = b.work })
 moved_has g t goes s = has_same s
 
-settle_charged_has : (k : ℕ) (s : State) → Has s (settle_charged k s)
+settle_charged_has : (k : ℕ) (s : State) → Has s (after_reduction k s)
 settle_charged_has k s =
     let ks = path s.shoens k in
     let ending = ending_of ks s in
-    let told = reached_of s ending ks in
+    let told = newly_exhausted s ending ks in
     let t = report_each told exhausted_report s in
     has_both s t (terminate_each ending t) (has_alike s t (alike_report_each told exhausted_report s)) (terminate_each_has ending t)
 
@@ -92,7 +92,7 @@ pub move_has : (g : Goal) (t : Term) (m : Move) (s : State) → Has (charge g.sh
 move_has g t m s =
     let worked = charge g.shoen (without_goal g.number s) in
     let done = moved g t m worked in
-    has_both worked done (settle_charged g.shoen done) (moved_has g t m worked) (settle_charged_has g.shoen done)
+    has_both worked done (after_reduction g.shoen done) (moved_has g t m worked) (settle_charged_has g.shoen done)
 
 -- what a monitor reads
 pub reading_has : (g : Goal) (c : Control) (s : State) → Has s (acted g (reads c) s)

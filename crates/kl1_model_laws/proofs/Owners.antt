@@ -13,7 +13,7 @@ use Rattle.kl1_model.specs.Control.{message_term, Control, awaits_message, tells
 use Rattle.kl1_model.specs.State.{Task, monitor, reduces, Goal, Origin, Shoen, State, is_monitor, shoen_at, replace_in_task, replace_in_goal, replace_in_origin, replace_in_shoen, replace_in_state, replace_all, change_shoen, is_living}
 use Rattle.kl1_model.specs.Tree.{path, is_on_path}
 use Rattle.kl1_model.specs.Report.{broken_at, reported_at, report_of, report, report_each, closed_at, close_of, close, exception, illegal_input, exhausted_report, stopped_report, resumed_report}
-use Rattle.kl1_model.specs.Ending.{ended_at, ending_of, without_monitor, terminate, terminate_each, settle, reached_of, settle_charged, aborted_below, ended_below, abort}
+use Rattle.kl1_model.specs.Ending.{ended_at, ending_of, without_monitor, terminate, terminate_each, settle, newly_exhausted, after_reduction, aborted_below, ended_below, abort}
 use Rattle.kl1_model.specs.Reduction.{stopped_of, resumed_of, allowed_more, obeyed, with_control, heard}
 use Rattle.kl1_model.specs.laws.TreeLaws.{IsTree}
 use Rattle.kl1_model_laws.specs.ControlLaws.{messages_then}
@@ -210,11 +210,11 @@ own_terminations c (n ∷ ns) s a = own_terminations c ns (terminate n s) (own_t
 pub own_settle : (c : ℕ → ℕ) (n : ℕ) (s : State) → Of c s → Of c (settle n s)
 own_settle c n s a = own_terminations c (ending_of (path s.shoens n) s) s a
 
-pub own_settle_charged : (c : ℕ → ℕ) (n : ℕ) (s : State) → Of c s → Of c (settle_charged n s)
+pub own_settle_charged : (c : ℕ → ℕ) (n : ℕ) (s : State) → Of c s → Of c (after_reduction n s)
 own_settle_charged c n s a =
     let ns = path s.shoens n in
     let ending = ending_of ns s in
-    let told = reached_of s ending ns in
+    let told = newly_exhausted s ending ns in
     own_terminations c ending (report_each told exhausted_report s) (own_each c told (codes "exhausted") s a)
 
 aborted_if : (b : Bool) (c : ℕ → ℕ) (last : ℕ) (h : Shoen) → Owned c last h → Owned c last (if b then record h { life = Aborted } else h)

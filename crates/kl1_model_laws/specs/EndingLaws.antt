@@ -4,7 +4,7 @@ use Rattle.std.specs.List.{AllByRecursion}
 use Rattle.kl1_model.specs.State.{State}
 use Rattle.kl1_model.specs.Tree.{path, is_on_path}
 use Rattle.kl1_model.specs.Event.{Event}
-use Rattle.kl1_model.specs.Ending.{has_goal, has_living_child, lives, ends_now, ended_at, ending_of, settle, settle_charged}
+use Rattle.kl1_model.specs.Ending.{has_goal, has_living_child, lives, ends_now, ended_at, ending_of, settle, after_reduction}
 use Rattle.kl1_model.specs.laws.TreeLaws.{IsTree}
 use Rattle.kl1_model_laws.specs.Reached.{reached}
 
@@ -20,7 +20,7 @@ EndingAreDue = (ns : List ℕ) (s : State) → AreDue (ending_of ns s) s
 -- a shoen of the path that lives, and has no goal and no living child, terminates after a reduction, if shoens are a tree, as they
 -- are in each account that events make of a fresh one
 abbrev pub DueTerminate : Type 0
-DueTerminate = (n m : ℕ) (s : State) → IsTree s → is_on_path s.shoens m n ≡ true → ends_now m s ≡ true → lives m (settle_charged n s) ≡ false
+DueTerminate = (n m : ℕ) (s : State) → IsTree s → is_on_path s.shoens m n ≡ true → ends_now m s ≡ true → lives m (after_reduction n s) ≡ false
 
 -- so does one after what a monitor reads
 abbrev pub DueTerminateAlone : Type 0
@@ -28,7 +28,7 @@ DueTerminateAlone = (n m : ℕ) (s : State) → IsTree s → is_on_path s.shoens
 
 -- when terminations are done after a reduction, no shoen of the path is left that lives and has no goal and no living child
 abbrev pub NoneIsLeftDue : Type 0
-NoneIsLeftDue = (n : ℕ) (s : State) → IsTree s → AllByRecursion (λ m. ends_now m (settle_charged n s) ≡ false) (path s.shoens n)
+NoneIsLeftDue = (n : ℕ) (s : State) → IsTree s → AllByRecursion (λ m. ends_now m (after_reduction n s) ≡ false) (path s.shoens n)
 
 -- and none is left after what a monitor reads
 abbrev pub NoneIsLeftDueAlone : Type 0

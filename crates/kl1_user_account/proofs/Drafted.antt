@@ -14,7 +14,7 @@ use Rattle.kl1_clause.specs.declared.predicate.Predicate.{Predicate}
 use Rattle.kl1_match.specs.declared.place.Place.{Place}
 use Rattle.kl1_goals_moves.specs.declared.moves.Move.{Move}
 use Rattle.kl1_goals_moves.specs.declared.moves.Move.TheVariants as made
-use Rattle.kl1_goals_moves.specs.declared.order.Order.{Order}
+use Rattle.kl1_goals_moves.specs.declared.order.ExecuteArguments.{ExecuteArguments}
 use Rattle.kl1_goals_moves.specs.Orders.{order_at, IsOrder}
 use Rattle.kl1_goals_moves.specs.Moves.{MovesAs, MoveIn}
 use Rattle.kl1_codes_modules.specs.Numbered.{Numbered}
@@ -24,7 +24,7 @@ use Rattle.kl1_user_effects.specs.Account.{meaning, aim}
 use Rattle.kl1_user_account.specs.Reducing.{move_or_go, move_at}
 
 -- six cells are an order
-order_there : (h : Held CellName) (s : ℕ) (xs : List (Cell CellName)) → xs ≡ arguments_of h s → length xs ≡ 6 → (o : Order CellName) × IsOrder h s o
+order_there : (h : Held CellName) (s : ℕ) (xs : List (Cell CellName)) → xs ≡ arguments_of h s → length xs ≡ 6 → (o : ExecuteArguments CellName) × IsOrder h s o
 order_there h s [] e n = absurd (omega (arith, n))
 order_there h s (g ∷ []) e n = absurd (omega (arith, n))
 order_there h s (g ∷ l ∷ []) e n = absurd (omega (arith, n))
@@ -32,7 +32,7 @@ order_there h s (g ∷ l ∷ u ∷ []) e n = absurd (omega (arith, n))
 order_there h s (g ∷ l ∷ u ∷ a ∷ []) e n = absurd (omega (arith, n))
 order_there h s (g ∷ l ∷ u ∷ a ∷ k ∷ []) e n = absurd (omega (arith, n))
 order_there h s (g ∷ l ∷ u ∷ a ∷ k ∷ r ∷ []) e n =
-    let o : Order CellName = record { goal = g; low = l; high = u; allowance = a; control = k; reports = r } in (
+    let o : ExecuteArguments CellName = record { goal = g; low = l; high = u; allowance = a; control = k; reports = r } in (
       o,
       record {
         goal_is = ap (λ (xs : List (Cell CellName)). slice_get xs 0) (sym e);

@@ -6,7 +6,7 @@ use Rattle.kl1_model.specs.Term.{Term, atom}
 use Rattle.kl1_model.specs.State as model
 use Rattle.kl1_model.specs.State.{State}
 use Rattle.kl1_model.specs.Tree.{charge}
-use Rattle.kl1_model.specs.Ending.{settle, settle_charged}
+use Rattle.kl1_model.specs.Ending.{settle, after_reduction}
 use Rattle.kl1_model.specs.Event.{reduce, reduced, with_entry, Transition}
 use Rattle.kl1_model.specs.Step.{step}
 use Rattle.kl1_model.specs.code.Waits.{move_by}
@@ -168,7 +168,7 @@ does_effect a hooks known n c g x p places text made mid t u start d kept is num
     let s = with_entry (state_of f a) in
     let k = goal_with (meaning f a.held) g in
     let m = move_at a.modules a.held x c f in
-    let change : State → State = λ z. settle_charged g.shoen (moved k (aim f a.held x) m (charge g.shoen z)) in
+    let change : State → State = λ z. after_reduction g.shoen (moved k (aim f a.held x) m (charge g.shoen z)) in
     let read = names_read a hooks known n c g x p places text made ms more published.number d.name kept formed inside is.found task makes fit published.named name in
     let turned = does ms (contents a.modules) c (move_at a.modules a.held x c) published.number last read published.respells (λ r j. makes.moves r (old r j)) (λ r j. makes.some r (old r j)) (begun_inside a hooks known g.number t start kept shoens work begun) in
     record {

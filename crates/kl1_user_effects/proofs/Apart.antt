@@ -8,7 +8,7 @@ use Rattle.kl1_model.specs.Meaning.{nil, cell}
 use Rattle.kl1_model.specs.State.{Shoen, State, shoen_at, replace_in_shoen, replace_in_state, change_shoen}
 use Rattle.kl1_model.specs.Tree.{path}
 use Rattle.kl1_model.specs.Report.{broken_at, reported_at, report_of, report, report_each, closed_at, close_of, close, exhausted_report, terminated_report}
-use Rattle.kl1_model.specs.Ending.{without_monitor, ended_at, terminate, terminate_each, ending_of, reached_of, settle_charged}
+use Rattle.kl1_model.specs.Ending.{without_monitor, ended_at, terminate, terminate_each, ending_of, newly_exhausted, after_reduction}
 use Rattle.kl1_user_effects.specs.Endings.{ended_each, finished, finished_each}
 
 -- a shoen that has ended as terminated
@@ -157,9 +157,9 @@ terminates_apart (n ∷ ns) s = terminates_apart ns (terminate n s) ∙ ap (fini
 
 -- what comes after a reduction comes apart: lives end, reports of exhaustion are made, and then the rest of each termination
 pub settles_apart : (n : ℕ) (s : State) →
-    settle_charged n s ≡ finished_each (ending_of (path s.shoens n) s) (report_each (reached_of s (ending_of (path s.shoens n) s) (path s.shoens n)) exhausted_report (ended_each (ending_of (path s.shoens n) s) s))
+    after_reduction n s ≡ finished_each (ending_of (path s.shoens n) s) (report_each (newly_exhausted s (ending_of (path s.shoens n) s) (path s.shoens n)) exhausted_report (ended_each (ending_of (path s.shoens n) s) s))
 settles_apart n s =
     let ns = path s.shoens n in
     let ending = ending_of ns s in
-    let told = reached_of s ending ns in
+    let told = newly_exhausted s ending ns in
     terminates_apart ending (report_each told exhausted_report s) ∙ ap (finished_each ending) (sym (reported_all ending told exhausted_report s))

@@ -7,7 +7,7 @@ use Rattle.kl1_model.specs.State as model
 use Rattle.kl1_model.specs.State.{State}
 use Rattle.kl1_model.specs.Tree.{path}
 use Rattle.kl1_model.specs.Report.{report, report_each, close, exhausted_report, terminated_report}
-use Rattle.kl1_model.specs.Ending.{without_monitor, ending_of, reached_of, settle, settle_charged, terminate_each}
+use Rattle.kl1_model.specs.Ending.{without_monitor, ending_of, newly_exhausted, settle, after_reduction, terminate_each}
 use Rattle.kl1_text.specs.declared.cell_name.CellName.{CellName}
 use Rattle.kl1_store.specs.Held.{Held}
 use Rattle.kl1_goals.specs.declared.goal.Goal.{Goal}
@@ -142,29 +142,29 @@ drafts_settle ms goals names h k t u v d x n ending p q i =
 
 -- those that have reached their allowance, by the definitions
 pub reached_is : (goals : List (Goal CellName)) (names : List (List ℕ)) (h : Held CellName) (t u : Tree CellName) (d : Draft) (n : ℕ) (ending reached : List ℕ) (f : Reading) (s : State) → EndsLives (goals_left (goals ++ d.added.items) d) t u n ending →
-    reached ≡ reached_in u.shoens u.work ending (path_in u.shoens n) → reached_of (worked f s h (made_of goals names t d)) ending (path (worked f s h (made_of goals names t d)).shoens n) ≡ reached
+    reached ≡ reached_in u.shoens u.work ending (path_in u.shoens n) → newly_exhausted (worked f s h (made_of goals names t d)) ending (path (worked f s h (made_of goals names t d)).shoens n) ≡ reached
 reached_is goals names h t u d n ending reached f s p r =
     let w = made_of goals names t d in
     let R : Tree CellName → Type 0 = λ x. reached ≡ reached_in x.shoens x.work ending (path_in x.shoens n) in
     let found : reached ≡ reached_in (ended_in ending t.shoens) t.work ending (path_in (ended_in ending t.shoens) n) = subst R p.tree_is r in
-    ap (λ (ns : List ℕ). reached_of (worked f s h w) ending ns) (path_read (meaning f h) t.shoens n)
+    ap (λ (ns : List ℕ). newly_exhausted (worked f s h w) ending ns) (path_read (meaning f h) t.shoens n)
     ∙ reached_read f s h w ending (path_in t.shoens n)
     ∙ sym (reached_after ending t.shoens t.work ending (path_in t.shoens n))
     ∙ ap (λ (ns : List ℕ). reached_in (ended_in ending t.shoens) t.work ending ns) (sym (paths_all ending n t.shoens))
     ∙ sym found
 
 pub drafts_settle_charged : (ms : List Numbered) (goals : List (Goal CellName)) (names : List (List ℕ)) (h k l : Held CellName) (t u v y : Tree CellName) (d e x : Draft) (n : ℕ) (ending reached : List ℕ) → EndsLives (goals_left (goals ++ d.added.items) d) t u n ending →
-    reached ≡ reached_in u.shoens u.work ending (path_in u.shoens n) → DraftsAll (λ f. report_each reached exhausted_report) h k u v d e → DraftsAll (λ f. finished_each ending) k l v y e x → Drafts ms (λ f. settle_charged n) h l goals names t y d x
+    reached ≡ reached_in u.shoens u.work ending (path_in u.shoens n) → DraftsAll (λ f. report_each reached exhausted_report) h k u v d e → DraftsAll (λ f. finished_each ending) k l v y e x → Drafts ms (λ f. after_reduction n) h l goals names t y d x
 drafts_settle_charged ms goals names h k l t u v y d e x n ending reached p r q z i =
     let w = made_of goals names t d in
     let first = ends_drafts ms goals names h t u d n ending p i in
     let after : List ℕ → List ℕ → State → State = λ es rs s. finished_each es (report_each rs exhausted_report (ended_each es s)) in
-    turns_as ms (λ f. after ending reached) (λ f. settle_charged n) h l w (made_of goals names y x)
+    turns_as ms (λ f. after ending reached) (λ f. after_reduction n) h l w (made_of goals names y x)
     (λ f knows s.
     let S = worked f s h w in
     let es = ending_of (path S.shoens n) S in
     settles_apart n S
-    ∙ ap (λ (ns : List ℕ). after ns (reached_of S ns (path S.shoens n)) S) (ending_is goals names h t u d n ending f s p)
+    ∙ ap (λ (ns : List ℕ). after ns (newly_exhausted S ns (path S.shoens n)) S) (ending_is goals names h t u d n ending f s p)
     ∙ ap (λ (ns : List ℕ). after ending ns S) (reached_is goals names h t u d n ending reached f s p r))
     (turns_then ms (λ f. ended_each ending) (λ f s. finished_each ending (report_each reached exhausted_report s)) h h l w (made_of goals names u d) (made_of goals names y x) first
     (drafts_then (λ f. report_each reached exhausted_report) (λ f. finished_each ending) h k l u v y d e x q z ms goals names first.inside))

@@ -17,7 +17,7 @@ use Rattle.kl1_text.specs.declared.cell_name.CellName.{CellName}
 use Rattle.kl1_store.specs.declared.cell.Cell.{Cell}
 use Rattle.kl1_store.specs.declared.qualified.Qualified.{Qualified}
 use Rattle.kl1_store.specs.Held.{Held, IsIn, arguments_of}
-use Rattle.kl1_goals_moves.specs.declared.order.Order.{Order}
+use Rattle.kl1_goals_moves.specs.declared.order.ExecuteArguments.{ExecuteArguments}
 use Rattle.kl1_goals_moves.specs.Orders.{order_at, IsOrder}
 use Rattle.kl1_goals.specs.declared.task.Task.TheVariants.{Monitor}
 use Rattle.kl1_goals.specs.declared.goal.Goal.{Goal}
@@ -155,7 +155,7 @@ drafts_full s goal x h k t u d e full raised o order ms goals names i =
     (raised ms goals names i)
 
 -- the child of a shoen, as it is kept
-abbrev pub child_of : List (Shoen CellName) → Goal CellName → Order CellName → ℕ → ℕ → ℕ → Shoen CellName
+abbrev pub child_of : List (Shoen CellName) → Goal CellName → ExecuteArguments CellName → ℕ → ℕ → ℕ → Shoen CellName
 child_of ss goal o allowance low high = record {
   number = suc (length ss);
   parent = goal.shoen;
@@ -171,17 +171,17 @@ child_of ss goal o allowance low high = record {
 }
 
 -- a child that is opened
-pub drafts_child : (s : ℕ) (goal : Goal CellName) (x : Qualified CellName) (h k : Held CellName) (t u : Tree CellName) (d e : Draft) (parent : Shoen CellName) (o : Order CellName) (allowance low high : ℕ) →
+pub drafts_child : (s : ℕ) (goal : Goal CellName) (x : Qualified CellName) (h k : Held CellName) (t u : Tree CellName) (d e : Draft) (parent : Shoen CellName) (o : ExecuteArguments CellName) (allowance low high : ℕ) →
     (nat_lt (length t.shoens) most_shoens && nat_lt (length (path_in t.shoens goal.shoen)) most_shoen_depth) ≡ true → find (has_number goal.shoen) t.shoens ≡ Some parent →
     ((f : Reading) → allowance ≡ number_of_term (meaning f h o.allowance)) → ((f : Reading) → low ≡ clipped parent.low parent.high (number_of_term (meaning f h o.low))) → ((f : Reading) → high ≡ clipped parent.low parent.high (number_of_term (meaning f h o.high))) →
-    ((p : Order CellName) → IsOrder h s p → p ≡ o) →
+    ((p : ExecuteArguments CellName) → IsOrder h s p → p ≡ o) →
     DraftsAll (λ f. open_shoen (shoen_with (meaning f h) (child_of t.shoens goal o allowance low high)) (meaning f h o.goal)) h k t u d e → OpensChild s goal x h k t u d e
 drafts_child s goal x h k t u d e parent o allowance low high room there a b c one opened p order ms goals names i =
     let w = made_of goals names t d in
     turns_as ms (λ f. open_shoen (shoen_with (meaning f h) (child_of t.shoens goal o allowance low high)) (meaning f h o.goal)) (λ f. moved (goal_with (meaning f h) goal) (aim f h x) (opens (order_at f h p))) h k w (made_of goals names u e)
     (λ f knows z.
     let S = worked f z h w in
-    let q : Order CellName → model_look.Order = λ y. order_at f h y in
+    let q : ExecuteArguments CellName → model_look.ExecuteArguments = λ y. order_at f h y in
     let child : Option model.Shoen → ℕ → ℕ → ℕ → model.Shoen = λ y n l m. record {
       number = suc (length t.shoens);
       parent = goal.shoen;
@@ -196,7 +196,7 @@ drafts_child s goal x h k t u d e parent o allowance low high room there a b c o
       origin = None;
     } in
     let kept : ℕ → ℕ → ℕ → model.Shoen = λ n l m. shoen_with (meaning f h) (child_of t.shoens goal o n l m) in
-    ap (λ (y : Order CellName). moved (goal_with (meaning f h) goal) (aim f h x) (opens (order_at f h y)) S) (one p order)
+    ap (λ (y : ExecuteArguments CellName). moved (goal_with (meaning f h) goal) (aim f h x) (opens (order_at f h y)) S) (one p order)
     ∙ ap (λ (ns : List ℕ). or_exhaustion (nat_lt (length t.shoens) most_shoens && nat_lt (length ns) most_shoen_depth) goal.shoen (aim f h x) (open_child S goal.shoen (q o)) S) (path_read (meaning f h) t.shoens goal.shoen)
     ∙ ap (λ y. or_exhaustion y goal.shoen (aim f h x) (open_child S goal.shoen (q o)) S) room
     ∙ ap (λ (y : Option model.Shoen). open_shoen (child y (number_of_term (meaning f h o.allowance)) (number_of_term (meaning f h o.low)) (number_of_term (meaning f h o.high))) (meaning f h o.goal) S) (finds z (meaning f h) (h.variables - 1) w goal.shoen (Some parent) there)
@@ -209,7 +209,7 @@ drafts_child s goal x h k t u d e parent o allowance low high room there a b c o
 same_some : {A : Type 0} (o : Option A) (x y : A) → o ≡ Some x → o ≡ Some y → x ≡ y
 same_some o x y a b = cc
 
-pub one_order : (h : Held CellName) (s : ℕ) (p o : Order CellName) → IsOrder h s o → IsOrder h s p → p ≡ o
+pub one_order : (h : Held CellName) (s : ℕ) (p o : ExecuteArguments CellName) → IsOrder h s o → IsOrder h s p → p ≡ o
 one_order h s p o a b =
     let one = same_some (slice_get (arguments_of h s) 0) p.goal o.goal b.goal_is a.goal_is in
     let two = same_some (slice_get (arguments_of h s) 1) p.low o.low b.low_is a.low_is in
@@ -217,7 +217,7 @@ one_order h s p o a b =
     let four = same_some (slice_get (arguments_of h s) 3) p.allowance o.allowance b.allowance_is a.allowance_is in
     let five = same_some (slice_get (arguments_of h s) 4) p.control o.control b.control_is a.control_is in
     let six = same_some (slice_get (arguments_of h s) 5) p.reports o.reports b.reports_is a.reports_is in
-    let mk : Cell CellName → Cell CellName → Cell CellName → Cell CellName → Cell CellName → Cell CellName → Order CellName = λ g l m n c r. record { goal = g; low = l; high = m; allowance = n; control = c; reports = r } in
+    let mk : Cell CellName → Cell CellName → Cell CellName → Cell CellName → Cell CellName → Cell CellName → ExecuteArguments CellName = λ g l m n c r. record { goal = g; low = l; high = m; allowance = n; control = c; reports = r } in
     ap (λ y. mk y p.low p.high p.allowance p.control p.reports) one
     ∙ ap (λ y. mk o.goal y p.high p.allowance p.control p.reports) two
     ∙ ap (λ y. mk o.goal o.low y p.allowance p.control p.reports) three

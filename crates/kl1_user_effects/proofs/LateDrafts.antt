@@ -7,7 +7,7 @@ use Rattle.kl1_model.specs.State as model
 use Rattle.kl1_model.specs.State.{State}
 use Rattle.kl1_model.specs.Tree.{path}
 use Rattle.kl1_model.specs.Report.{broken_at, report, closed_at, close_of, close, exhausted_report, terminated_report}
-use Rattle.kl1_model.specs.Ending.{without_monitor, reached_of}
+use Rattle.kl1_model.specs.Ending.{without_monitor, newly_exhausted}
 use Rattle.kl1_text.specs.declared.cell_name.CellName.{CellName}
 use Rattle.kl1_store.specs.declared.cell.Cell.{Cell}
 use Rattle.kl1_store.specs.declared.cell.Cell.TheVariants.{Variable}
@@ -176,7 +176,7 @@ drafts_settle_late ms goals names h k l t u y z d e x n v ending reached p r q b
     turns_as ms (λ f. after ending reached) (λ f. settle_charged_late v n) h l w (made_of goals names z x)
     (λ f knows s.
     let S = worked f s h w in
-    ap (λ (ns : List ℕ). after ns (reached_of S ns (path S.shoens n)) S) (ending_is goals names h t u d n ending f s p)
+    ap (λ (ns : List ℕ). after ns (newly_exhausted S ns (path S.shoens n)) S) (ending_is goals names h t u d n ending f s p)
     ∙ ap (λ (ns : List ℕ). after ending ns S) (reached_is goals names h t u d n ending reached f s p r))
     (turns_then ms (λ f. ended_each ending) (λ f s. finished_each_late v ending (report_each_late v reached exhausted_report s)) h h l w (made_of goals names u d) (made_of goals names z x) first
     (drafts_then (λ f. report_each_late v reached exhausted_report) (λ f. finished_each_late v ending) h k l u y z d e x q b ms goals names first.inside))

@@ -11,7 +11,7 @@ use Rattle.kl1_model.specs.Meaning.{nil, cell}
 use Rattle.kl1_model.specs.State.{Task, monitor, reduces, Goal, Origin, Shoen, State, shoen_at, replace_in_task, replace_in_goal, replace_in_origin, replace_in_shoen, replace_in_state, change_shoen, is_monitor, is_living}
 use Rattle.kl1_model.specs.Tree.{parents_of, path_within, path, charge, is_living_child}
 use Rattle.kl1_model.specs.Report.{broken_at, reported_at, report_of, report, report_each, closed_at, close_of, close, exhausted_report, terminated_report}
-use Rattle.kl1_model.specs.Ending.{has_goal, has_living_child, lives, ends_now, without_monitor, ended_at, ending_of, has_reached, reached_of, settle_charged}
+use Rattle.kl1_model.specs.Ending.{has_goal, has_living_child, lives, ends_now, without_monitor, ended_at, ending_of, has_reached, newly_exhausted, after_reduction}
 use Rattle.kl1_user_effects.specs.Endings.{ended_each, finished, finished_each}
 use Rattle.kl1_user_effects.specs.Late.{is_variable, break_of, break_at, report_late, report_each_late, close_late_of, close_late, finished_late, finished_each_late, settle_charged_late}
 use Rattle.kl1_user_effects.proofs.Apart.{settles_apart}
@@ -313,7 +313,7 @@ has_reached_replaced n v t s =
     ∙ reached_found v t (count_by (λ k. is_among n (path s.shoens k)) s.work) (shoen_at n s.shoens)
 
 -- nor does which of them have reached their allowance
-pub reached_replaced : (ns ending : List ℕ) (v : ℕ) (t : Term) (s : State) → reached_of (replace_in_state v t s) ending ns ≡ reached_of s ending ns
+pub reached_replaced : (ns ending : List ℕ) (v : ℕ) (t : Term) (s : State) → newly_exhausted (replace_in_state v t s) ending ns ≡ newly_exhausted s ending ns
 reached_replaced [] ending v t s = refl
 reached_replaced (n ∷ ns) ending v t s =
     ap₂ (λ c (xs : List ℕ). if c && not (is_among n ending) then n ∷ xs else xs) (has_reached_replaced n v t s) (reached_replaced ns ending v t s)
@@ -392,13 +392,13 @@ finishes_replaced (n ∷ ns) v a s le =
     ap (finished_each ns) (finish_replaced n v a s le) ∙ finishes_replaced ns v a (finished_late v n s) (finished_more v n v s le)
 
 -- what comes after the effects of a reduction, before a variable becomes a name or after that
-pub settles_late : (n v : ℕ) (a : List ℕ) (s : State) → v ≤ s.last_variable → settle_charged n (replace_in_state v (atom a) s) ≡ replace_in_state v (atom a) (settle_charged_late v n s)
+pub settles_late : (n v : ℕ) (a : List ℕ) (s : State) → v ≤ s.last_variable → after_reduction n (replace_in_state v (atom a) s) ≡ replace_in_state v (atom a) (settle_charged_late v n s)
 settles_late n v a s le =
     let R : State → State = λ z. replace_in_state v (atom a) z in
-    let all : List ℕ → List ℕ → State = λ ns ending. finished_each ending (report_each (reached_of (R s) ending ns) exhausted_report (ended_each ending (R s))) in
+    let all : List ℕ → List ℕ → State = λ ns ending. finished_each ending (report_each (newly_exhausted (R s) ending ns) exhausted_report (ended_each ending (R s))) in
     let ns = path s.shoens n in
     let ending = ending_of ns s in
-    let told = reached_of s ending ns in
+    let told = newly_exhausted s ending ns in
     let over = ended_each ending s in
     let le_over = ends_more ending v s le in
     settles_apart n (R s)

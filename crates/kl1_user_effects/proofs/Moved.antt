@@ -18,7 +18,7 @@ use Rattle.kl1_store.specs.Held.{Held}
 use Rattle.kl1_clause.specs.declared.predicate.Predicate.{Predicate}
 use Rattle.kl1_match.specs.declared.place.Place.{Place}
 use Rattle.kl1_goals_moves.specs.declared.moves.Move.TheVariants as move
-use Rattle.kl1_goals_moves.specs.declared.order.Order.{Order}
+use Rattle.kl1_goals_moves.specs.declared.order.ExecuteArguments.{ExecuteArguments}
 use Rattle.kl1_goals_moves.specs.Orders.{order_at, IsOrder}
 use Rattle.kl1_goals_moves.specs.Moves.{IsCandidate}
 use Rattle.kl1_goals.specs.declared.goal.Goal.{Goal}
@@ -80,7 +80,7 @@ moves_by_unification p places text l r goal x goals h k t u d e did known ms mod
     moves_as ms goal x clause m (λ f. unifies (meaning f h l) (meaning f h r)) goals (texts_of known) h k t u d e
     (λ f knows. found_is (m f) (unifies (meaning f h l) (meaning f h r)) (move_by modules (aim f h x) clause) (found f knows) (as_found f knows)) (did ms goals (texts_of known))
 
-pub moves_by_order : (p : Predicate CellName) (places : List (Place CellName)) (text : List ℕ) (s : ℕ) (o : Order CellName) (goal : Goal CellName) (x : Qualified CellName) (goals : List (Goal CellName)) (h k : Held CellName) (t u : Tree CellName) (d e : Draft) → IsOrder h s o →
+pub moves_by_order : (p : Predicate CellName) (places : List (Place CellName)) (text : List ℕ) (s : ℕ) (o : ExecuteArguments CellName) (goal : Goal CellName) (x : Qualified CellName) (goals : List (Goal CellName)) (h k : Held CellName) (t u : Tree CellName) (d e : Draft) → IsOrder h s o →
     OpensChild s goal x h k t u d e → (known : List Known) → Moves p (move.Opens s) places text goal x goals known h k t u d e
 moves_by_order p places text s o goal x goals h k t u d e order opened known ms modules clause m reads as_found found =
     moves_as ms goal x clause m (λ f. opens (order_at f h o)) goals (texts_of known) h k t u d e

@@ -9,7 +9,7 @@ use Rattle.kl1_model.specs.State.{State, is_living}
 use Rattle.kl1_model.specs.Tree as tree
 use Rattle.kl1_model.specs.Tree.{parents_of, path_within, path, charged_of}
 use Rattle.kl1_model.specs.Ending as ending
-use Rattle.kl1_model.specs.Ending.{has_living_child, lives, ends_now, ended_at, ending_of, has_reached, reached_of}
+use Rattle.kl1_model.specs.Ending.{has_living_child, lives, ends_now, ended_at, ending_of, has_reached, newly_exhausted}
 use Rattle.kl1_text.specs.declared.cell_name.CellName.{CellName}
 use Rattle.kl1_store.specs.Held.{Held}
 use Rattle.kl1_goals.specs.Lists.{is_goal_of}
@@ -112,11 +112,11 @@ kept_same : (c : Bool) (n : ℕ) (xs ys : List ℕ) → xs ≡ ys → (if c then
 kept_same true n xs ys e = ap (λ (zs : List ℕ). n ∷ zs) e
 kept_same false n xs ys e = e
 
-pub reached_read : (f : Reading) (s : State) (h : Held CellName) (w : Made) (ending ns : List ℕ) → reached_of (worked f s h w) ending ns ≡ reached_in w.shoens w.work ending ns
+pub reached_read : (f : Reading) (s : State) (h : Held CellName) (w : Made) (ending ns : List ℕ) → newly_exhausted (worked f s h w) ending ns ≡ reached_in w.shoens w.work ending ns
 reached_read f s h w ending [] = refl
 reached_read f s h w ending (n ∷ ns) =
-    ap (λ b. if b && not (is_among n ending) then n ∷ reached_of (worked f s h w) ending ns else reached_of (worked f s h w) ending ns) (reached_one f s h w n)
-    ∙ kept_same (has_reached_in w.shoens w.work n && not (is_among n ending)) n (reached_of (worked f s h w) ending ns) (reached_in w.shoens w.work ending ns) (reached_read f s h w ending ns)
+    ap (λ b. if b && not (is_among n ending) then n ∷ newly_exhausted (worked f s h w) ending ns else newly_exhausted (worked f s h w) ending ns) (reached_one f s h w n)
+    ∙ kept_same (has_reached_in w.shoens w.work n && not (is_among n ending)) n (newly_exhausted (worked f s h w) ending ns) (reached_in w.shoens w.work ending ns) (reached_read f s h w ending ns)
 
 -- that a shoen terminates changes no allowance and no charge
 

@@ -4,7 +4,7 @@ use Rattle.kl1_model.specs.Term.{Term, variable, integer, atom, structure}
 use Rattle.kl1_model.specs.State.{Shoen, State, shoen_at}
 use Rattle.kl1_model.specs.Tree.{path}
 use Rattle.kl1_model.specs.Report.{broken_at, report, closed_at, exhausted_report, terminated_report}
-use Rattle.kl1_model.specs.Ending.{without_monitor, ending_of, reached_of}
+use Rattle.kl1_model.specs.Ending.{without_monitor, ending_of, newly_exhausted}
 use Rattle.kl1_text.specs.Reading.{Reads}
 use Rattle.kl1_text.specs.declared.cell_name.CellName.{CellName}
 use Rattle.kl1_store.specs.declared.cell.Cell.TheVariants as cell
@@ -64,7 +64,7 @@ abbrev pub settle_charged_late : ℕ → ℕ → State → State
 settle_charged_late v n s =
     let ns = path s.shoens n in
     let ending = ending_of ns s in
-    finished_each_late v ending (report_each_late v (reached_of s ending ns) exhausted_report (ended_each ending s))
+    finished_each_late v ending (report_each_late v (newly_exhausted s ending ns) exhausted_report (ended_each ending s))
 
 -- whether a shoen has an unbroken report stream whose tail is variable `v`
 abbrev pub is_tail_of : ℕ → Option Shoen → Bool

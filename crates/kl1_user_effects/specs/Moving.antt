@@ -13,7 +13,7 @@ use Rattle.kl1_clause.specs.declared.predicate.Predicate.{Predicate}
 use Rattle.kl1_match.specs.declared.place.Place.{Place}
 use Rattle.kl1_goals_moves.specs.declared.moves.Move.{Move}
 use Rattle.kl1_goals_moves.specs.declared.moves.Move.TheVariants as move
-use Rattle.kl1_goals_moves.specs.declared.order.Order.{Order}
+use Rattle.kl1_goals_moves.specs.declared.order.ExecuteArguments.{ExecuteArguments}
 use Rattle.kl1_goals_moves.specs.Orders.{order_at, IsOrder}
 use Rattle.kl1_goals_moves.specs.Moves.{IsCandidate, MovesAs}
 use Rattle.kl1_goals.specs.declared.goal.Goal.{Goal}
@@ -73,7 +73,7 @@ Moves p made places text goal x goals known old new t u before after =
 -- that would pass a limit
 abbrev pub OpensChild : ℕ → Goal CellName → Qualified CellName → Held CellName → Held CellName → Tree CellName → Tree CellName → Draft → Draft → Type 0
 OpensChild s goal x old new t u before after =
-    (o : Order CellName) → IsOrder old s o → DraftsAll (λ f. moved (goal_with (meaning f old) goal) (aim f old x) (opens (order_at f old o))) old new t u before after
+    (o : ExecuteArguments CellName) → IsOrder old s o → DraftsAll (λ f. moved (goal_with (meaning f old) goal) (aim f old x) (opens (order_at f old o))) old new t u before after
 
 -- a draft after a move: goals may come, more is counted, and a name may be drafted
 abbrev pub IsMoved : Draft → Draft → Type 0

@@ -4,7 +4,7 @@ ghost use Rattle.std.specs.Prelude.{◌≡◌, ◌≤◌, ◌<◌, ◌+◌, ◌�
 ghost use Rattle.kl1_model.specs.Term.{atom};
 ghost use Rattle.kl1_model.specs.Text.{text_of};
 ghost use Rattle.kl1_model.specs.State.{State, replace_in_state};
-ghost use Rattle.kl1_model.specs.Ending.{settle_charged};
+ghost use Rattle.kl1_model.specs.Ending.{after_reduction};
 ghost use Rattle.kl1_store.specs.Held.{is_bound};
 ghost use Rattle.kl1_store.specs.Sound.{Grown};
 ghost use Rattle.kl1_shoen.specs.Shoens.{has_number};
@@ -257,5 +257,5 @@ pub fn settle_late(
 /// What comes after the effects of a reduction leaves the same, whether a variable becomes a name before it or after it. It does
 /// nothing: its contract is this law.
 pub fn late_law()
-    ensures law { (n v : ℕ) → (a : List ℕ) → (s : State) → v ≤ s.last_variable → settle_charged n (replace_in_state v (atom a) s) ≡ replace_in_state v (atom a) (settle_charged_late v n s) }
+    ensures law { (n v : ℕ) → (a : List ℕ) → (s : State) → v ≤ s.last_variable → after_reduction n (replace_in_state v (atom a) s) ≡ replace_in_state v (atom a) (settle_charged_late v n s) }
 {}

@@ -21,4 +21,4 @@ pub use names::{AccountNames, draft_row, publish};
 pub use naming::{has_room, name_term};
 pub use obeying::{hear, obey};
 pub use reporting::{close, raise, raise_whole, report, report_each, report_name, unify};
-pub use settling::{Walk, end_lives, find_reached, settle, settle_charged};
+pub use settling::{Walk, after_reduction, end_lives, find_reached, settle};

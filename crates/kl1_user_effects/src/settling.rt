@@ -2,7 +2,7 @@
 
 ghost use Rattle.std.specs.Prelude.{◌≡◌, ◌≤◌, ◌+◌, length, ◌-◌, [], ◌∷◌, ◌++◌, not, ◌&&◌, true, false, if◌then◌else◌, List, ℕ, filter, get_or, OnOk};
 ghost use Rattle.std.specs.List.{list_any};
-ghost use Rattle.kl1_model.specs.Ending.{settle, settle_charged};
+ghost use Rattle.kl1_model.specs.Ending.{settle, after_reduction};
 ghost use Rattle.kl1_model.specs.Module.{is_among};
 ghost use Rattle.kl1_text.specs.declared.cell_name.CellName.{CellName};
 ghost use Rattle.kl1_goals.specs.Lists.{is_goal_of, is_other};
@@ -354,7 +354,7 @@ pub fn settle(
     finish_each(store, shoens, draft, ending)
 }
 
-/// What comes after the effects of a reduction in a shoen, as `settle_charged` says, by a walk along its path.
+/// What comes after the effects of a reduction in a shoen, as `after_reduction` says, by a walk along its path.
 fn settle_path(
     store: &mut Store<CellName>,
     goals: &GoalTable<CellName>,
@@ -364,7 +364,7 @@ fn settle_path(
     number: u64,
 ) -> Result<(), AllocError>
     requires shoens { AreShoensIn store.old.held shoens.old.shoens }
-    ensures ok { OnOk result ((ms : List Numbered) (names : List (List ℕ)) → Drafts ms (λ f. settle_charged number) store.old.held store.new.held goals.now.goals names shoens.old shoens.new draft.old draft.new) }
+    ensures ok { OnOk result ((ms : List Numbered) (names : List (List ℕ)) → Drafts ms (λ f. after_reduction number) store.old.held store.new.held goals.now.goals names shoens.old shoens.new draft.old draft.new) }
     ensures shoens { OnOk result (AreShoensIn store.new.held shoens.new.shoens) }
     ensures back { CanGoBack shoens.old shoens.new }
     ensures frames { OnOk result (KeepsFrames shoens.old.shoens shoens.new.shoens) }
@@ -389,7 +389,7 @@ fn settle_path(
 
 /// What comes after the effects of a reduction in a shoen: the shoens on its path that have just been charged what they may be, and go
 /// on, report that they are exhausted, innermost first, and then come terminations. If memory is refused, the store may have grown.
-pub fn settle_charged(
+pub fn after_reduction(
     store: &mut Store<CellName>,
     goals: &GoalTable<CellName>,
     shoens: &mut ShoenTree<CellName>,
@@ -398,7 +398,7 @@ pub fn settle_charged(
     number: u64,
 ) -> Result<(), AllocError>
     requires shoens { AreShoensIn store.old.held shoens.old.shoens }
-    ensures ok { OnOk result ((ms : List Numbered) (names : List (List ℕ)) → Drafts ms (λ f. settle_charged number) store.old.held store.new.held goals.now.goals names shoens.old shoens.new draft.old draft.new) }
+    ensures ok { OnOk result ((ms : List Numbered) (names : List (List ℕ)) → Drafts ms (λ f. after_reduction number) store.old.held store.new.held goals.now.goals names shoens.old shoens.new draft.old draft.new) }
     ensures shoens { OnOk result (AreShoensIn store.new.held shoens.new.shoens) }
     ensures back { CanGoBack shoens.old shoens.new }
     ensures frames { OnOk result (KeepsFrames shoens.old.shoens shoens.new.shoens) }

@@ -8,7 +8,7 @@ use Rattle.kl1_model.specs.Term.{Term, Terms, variable, integer, atom, structure
 use Rattle.kl1_model.specs.Unify.{Equation, walk, mgu_within, mgu, after, goes_on, fails, equations_size}
 use Rattle.kl1_model.specs.State.{State, replace_in_state, with_name}
 use Rattle.kl1_model.specs.Tree.{charge}
-use Rattle.kl1_model.specs.Ending.{settle_charged}
+use Rattle.kl1_model.specs.Ending.{after_reduction}
 use Rattle.kl1_model.specs.Reduction as model
 use Rattle.kl1_model.specs.Reduction.{moved, equation, names, or_exhaustion, named_by, unified}
 use Rattle.kl1_model.specs.code.Waits.{move_by}
@@ -120,7 +120,7 @@ pub does_acts : (p : Predicate CellName) (made : Move CellName) (places : List (
 does_acts p made places text goal x goals known h k t u d e spells unspelled acts ms modules clause m n last reads respells as_found found =
     let R : Option Spelled → Type 0 = λ o. Respells o n k last in
     let same : last ≡ k = subst R unspelled respells in
-    let D : Held CellName → Type 0 = λ l. Drafts ms (λ f s. settle_charged goal.shoen (moved (goal_with (meaning f h) goal) (aim f h x) (m f) (charge goal.shoen s))) h l goals (texts_of known) t u d e in
+    let D : Held CellName → Type 0 = λ l. Drafts ms (λ f s. after_reduction goal.shoen (moved (goal_with (meaning f h) goal) (aim f h x) (m f) (charge goal.shoen s))) h l goals (texts_of known) t u d e in
     subst D (sym same) (acts ms modules clause m (reads_move made ms h known text n spells reads) as_found found)
 
 -- ---- a variable that becomes a name
@@ -157,11 +157,11 @@ reads_number f h known text a n new keeps r =
 -- the step of a name that is spelled, for a reading
 spelled_state : (f : Reading) (s : State) (h before : Held CellName) (w z : Made) (goal : Goal CellName) (x a : Term) (m : model.Move) (v : ℕ) (text : List ℕ) (n : CellName) → m ≡ names text a → a ≡ variable v → nat_le (length (with_name w.names text)) most_names ≡ true → v < h.variables → f n ≡ text → IsMadeIn before z →
     settle_charged_late v goal.shoen (with_text text (charge goal.shoen (worked f s h w))) ≡ worked f s before z →
-    settle_charged goal.shoen (moved (goal_with (meaning f h) goal) x m (charge goal.shoen (worked f s h w))) ≡ worked f s (with_binding before v (Atom n)) z
+    after_reduction goal.shoen (moved (goal_with (meaning f h) goal) x m (charge goal.shoen (worked f s h w))) ≡ worked f s (with_binding before v (Atom n)) z
 spelled_state f s h before w z goal x a m v text n move_is is keeps within reads i late =
     let S = charge goal.shoen (worked f s h w) in
-    ap (λ (y : model.Move). settle_charged goal.shoen (moved (goal_with (meaning f h) goal) x y S)) move_is
-    ∙ ap (settle_charged goal.shoen) (becomes goal (meaning f h) x a v text S keeps is)
+    ap (λ (y : model.Move). after_reduction goal.shoen (moved (goal_with (meaning f h) goal) x y S)) move_is
+    ∙ ap (after_reduction goal.shoen) (becomes goal (meaning f h) x a v text S keeps is)
     ∙ settles_late goal.shoen v text (with_text text S) (omega (arith, within))
     ∙ ap (replace_in_state v (atom text)) late
     ∙ bound_state f s before z v n text reads i
@@ -178,7 +178,7 @@ does_names p places text a v goal x goals known h k t u d e by unnamed s ms modu
     let rebinds : R (Some (record { variable = v; before = s.point })) = subst R s.spelled respells in
     let last_is : last ≡ bound = rebinds s.held (Atom spare) s.marked s.bound in
     let names_are : w.names ≡ texts_of known = ap (names_with (texts_of known)) unnamed in
-    let T : Held CellName → Type 0 = λ l. Turns ms (λ f s. settle_charged goal.shoen (moved (goal_with (meaning f h) goal) (aim f h x) (m f) (charge goal.shoen s))) h l w z in
+    let T : Held CellName → Type 0 = λ l. Turns ms (λ f s. after_reduction goal.shoen (moved (goal_with (meaning f h) goal) (aim f h x) (m f) (charge goal.shoen s))) h l w z in
     let turns : T bound = record {
       inside = grown_made s.held bound z (Grown-binding s.held v (Atom n)) late.inside;
       states = λ f knows state.

@@ -2,7 +2,7 @@
 use Rattle.std.specs.Prelude.{◌≡◌, ℕ, List, Some}
 use Rattle.kl1_model.specs.Module.{Module}
 use Rattle.kl1_model.specs.Tree.{charge}
-use Rattle.kl1_model.specs.Ending.{settle, settle_charged}
+use Rattle.kl1_model.specs.Ending.{settle, after_reduction}
 use Rattle.kl1_model.specs.Reduction as model
 use Rattle.kl1_model.specs.Reduction.{moved, heard}
 use Rattle.kl1_model.specs.code.Waits.{move_by}
@@ -33,7 +33,7 @@ Acts p made places text goal x goals known old new t u before after =
     (ms : List Numbered) (modules : List Module) (clause : ℕ) (m : Reading → model.Move) → ReadsMove made ms old known text →
     ((f : Reading) → Knows ms f → MovesAs f old modules (aim f old x) clause p places text (Some made)) →
     ((f : Reading) → Knows ms f → move_by modules (aim f old x) clause ≡ Some (m f)) →
-    Drafts ms (λ f s. settle_charged goal.shoen (moved (goal_with (meaning f old) goal) (aim f old x) (m f) (charge goal.shoen s))) old new goals (texts_of known) t u before after
+    Drafts ms (λ f s. after_reduction goal.shoen (moved (goal_with (meaning f old) goal) (aim f old x) (m f) (charge goal.shoen s))) old new goals (texts_of known) t u before after
 
 -- the monitor of a shoen of an account with these goals and names has read this, and terminations have come after
 abbrev pub Reads : ℕ → Control CellName → List (Goal CellName) → List (List ℕ) → Held CellName → Held CellName → Tree CellName → Tree CellName → Draft → Draft → Type 0

@@ -6,7 +6,7 @@ use Rattle.kl1_model.specs.Unify.{mgu}
 use Rattle.kl1_model.specs.Module.{Module}
 use Rattle.kl1_model.specs.State.{State, with_name}
 use Rattle.kl1_model.specs.Tree.{charge}
-use Rattle.kl1_model.specs.Ending.{settle_charged}
+use Rattle.kl1_model.specs.Ending.{after_reduction}
 use Rattle.kl1_model.specs.Reduction as model
 use Rattle.kl1_model.specs.Reduction.{moved, equation}
 use Rattle.kl1_model.specs.code.Waits.{move_by}
@@ -179,4 +179,4 @@ Does p made places text goal x goals known old new t u before after =
     (ms : List Numbered) (modules : List Module) (clause : ℕ) (m : Reading → model.Move) (k : CellName) (last : Held CellName) → ReadsAll made ms old known text k → Respells after.spelled k new last →
     ((f : Reading) → Knows ms f → MovesAs f old modules (aim f old x) clause p places text (Some made)) →
     ((f : Reading) → Knows ms f → move_by modules (aim f old x) clause ≡ Some (m f)) →
-    Drafts ms (λ f s. settle_charged goal.shoen (moved (goal_with (meaning f old) goal) (aim f old x) (m f) (charge goal.shoen s))) old last goals (texts_of known) t u before after
+    Drafts ms (λ f s. after_reduction goal.shoen (moved (goal_with (meaning f old) goal) (aim f old x) (m f) (charge goal.shoen s))) old last goals (texts_of known) t u before after

@@ -23,7 +23,7 @@ use kl1_shoen::ShoenTree;
 use kl1_store::{Qualified, Store};
 use kl1_stream::Control;
 use kl1_text::CellName;
-use kl1_user_effects::{AccountNames, Draft, Walk, do_move, hear, settle, settle_charged};
+use kl1_user_effects::{AccountNames, Draft, Walk, after_reduction, do_move, hear, settle};
 use std::alloc::AllocError;
 
 /// A goal that a draft removes, which is this cell, makes a move: its shoen is charged, the move is done, and after that
@@ -74,7 +74,7 @@ pub fn act(
     do_move(
         store, goals, shoens, draft, names, alive, predicate, made, trial, goal, cell,
     )?;
-    settle_charged(store, goals, shoens, draft, walk, goal.shoen)
+    after_reduction(store, goals, shoens, draft, walk, goal.shoen)
 }
 
 /// The monitor of a shoen reads this, and after that shoens terminate; nobody is charged. If memory is refused, the store and the tree

@@ -1,4 +1,4 @@
--- What a goal waits for: the variables of which a change may change what it can do.
+-- What a goal waits for: the variables whose binding may change what it can do.
 use Rattle.std.specs.Prelude.{◌≡◌, ℕ, suc, ◌==◌, nat_le, if◌then◌else◌, List, [], ◌∷◌, ◌++◌, codes, bytes_eq, filter, find, Option, Some, None, is_some}
 use Rattle.std.specs.List.{AllByRecursion}
 use Rattle.kl1_model.specs.Term.{Term, variable, atom, structure, Terms, none, more, Replacement}
@@ -9,8 +9,8 @@ use Rattle.kl1_model.specs.Module.{Clause, Module}
 use Rattle.kl1_model.specs.Match.{Answer, yes, no, wait, match_patterns, guard_term, places_of, verdict, Call, call_of, clauses_of}
 use Rattle.kl1_model.specs.Arithmetic.{Evaluated, comes_to, awaits, is_no_expression, evaluated}
 use Rattle.kl1_model.specs.Goal.{is_execute}
-use Rattle.kl1_model.specs.Look.{Spelling, spelled, awaits_code, misspelled, spelling, most_spelled, Look, right, waits_on, wrong, Order, order_look}
-use Rattle.kl1_model.specs.Reduction.{Move, order_of, term_move}
+use Rattle.kl1_model.specs.Look.{Spelling, spelled, awaits_code, misspelled, spelling, most_spelled, Look, right, waits_on, wrong, ExecuteArguments, arguments_look}
+use Rattle.kl1_model.specs.Reduction.{Move, execute_arguments, term_move}
 use Rattle.kl1_model.specs.Choice.{call_clauses}
 
 -- what a term can do by the clause numbered `clause`
@@ -21,7 +21,7 @@ move_by modules t clause = term_move modules t clause (call_of t)
 abbrev pub term_clause : List Module → Term → Option ℕ
 term_clause modules t = find (λ clause. is_some (move_by modules t clause)) (0 ∷ call_clauses modules (call_of t))
 
--- what a verdict leads to, of what follows if it is yes, no and wait
+-- one of three results, chosen by a verdict: for yes, for no and for wait
 abbrev pub least_by : Option ℕ → Option ℕ → Option ℕ → Answer → Option ℕ
 least_by accepted rejected suspended yes = accepted
 least_by accepted rejected suspended no = rejected
@@ -184,13 +184,13 @@ awaited_by_look (waits_on v) = v ∷ []
 awaited_by_look wrong = []
 
 -- the variable that an order that may be there waits for
-abbrev pub awaited_by_order : Option Order → List ℕ
+abbrev pub awaited_by_order : Option ExecuteArguments → List ℕ
 awaited_by_order None = []
-awaited_by_order (Some o) = awaited_by_look (order_look o)
+awaited_by_order (Some o) = awaited_by_look (arguments_look o)
 
 -- the variable that a goal `a:b` waits for, if it is `shoen:execute` with six arguments
 abbrev pub awaited_by_execute : Term → Term → List ℕ
-awaited_by_execute (atom m) b = if is_execute m b then awaited_by_order (order_of b) else []
+awaited_by_execute (atom m) b = if is_execute m b then awaited_by_order (execute_arguments b) else []
 awaited_by_execute a b = []
 
 -- the variables that a built-in goal of two terms waits for

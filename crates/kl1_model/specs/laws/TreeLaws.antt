@@ -7,7 +7,7 @@ use Rattle.kl1_model.specs.Module.{is_among}
 use Rattle.kl1_model.specs.State.{Goal, Shoen, State, fresh, goal_at, shoen_at, is_monitor, is_living}
 use Rattle.kl1_model.specs.Tree.{parents_of, path, is_on_path, charged_of, charge, is_blocking_at, is_enabled_in}
 use Rattle.kl1_model.specs.Event.{Event, reduce, reset, Reply, reduced, refused}
-use Rattle.kl1_model.specs.Ending.{has_goal, lives, ending_of, has_reached, reached_of, settle, settle_charged, abort}
+use Rattle.kl1_model.specs.Ending.{has_goal, lives, ending_of, has_reached, newly_exhausted, settle, after_reduction, abort}
 use Rattle.kl1_model.specs.Step.{step}
 
 -- ---- trees
@@ -138,7 +138,7 @@ AbortRemovesAllBelow = (n : ℕ) (s : State) → numbers_of (abort n s).goals �
 abbrev pub TerminationsEnd : Type 0
 TerminationsEnd =
     (n : ℕ) (s : State) →
-    lives_of (settle_charged n s).shoens ≡ map (λ h. if is_among h.number (ending_of (path s.shoens n) s) then Terminated else h.life) s.shoens
+    lives_of (after_reduction n s).shoens ≡ map (λ h. if is_among h.number (ending_of (path s.shoens n) s) then Terminated else h.life) s.shoens
 
 -- and those that terminate after what a monitor reads are found on the path likewise
 abbrev pub TerminationsEndAlone : Type 0
@@ -152,4 +152,4 @@ EndingHaveNoGoals = (ns : List ℕ) (s : State) → AllByRecursion (λ n. has_go
 
 -- a shoen that reports that it is exhausted was charged just what it may be, and doesn't end now
 abbrev pub ReachedGoOn : Type 0
-ReachedGoOn = (s : State) (ending ns : List ℕ) → AllByRecursion (λ n. (has_reached s n ≡ true) × (is_among n ending ≡ false)) (reached_of s ending ns)
+ReachedGoOn = (s : State) (ending ns : List ℕ) → AllByRecursion (λ n. (has_reached s n ≡ true) × (is_among n ending ≡ false)) (newly_exhausted s ending ns)

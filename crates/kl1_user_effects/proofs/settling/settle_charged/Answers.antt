@@ -5,7 +5,7 @@ use Rattle.kl1_user_effects.specs.Frames.{frame}
 use Rattle.kl1_user_effects.specs.Walks.{HaveNoGoals}
 use Rattle.kl1_user_effects.proofs.Finishing.{drafts_none, drafts_settle_charged}
 use Rattle.kl1_user_effects.proofs.Frames.{keeps_same, none_reached, stays_same}
-use Rattle.kl1_user_effects.proofs.settling.settle_charged.Goals as goal
+use Rattle.kl1_user_effects.proofs.settling.after_reduction.Goals as goal
 
 pub returns-then-is_calm-clause-ok : goal.returns-then-is_calm-clause-ok
 returns-then-is_calm-clause-ok c = λ ms names.

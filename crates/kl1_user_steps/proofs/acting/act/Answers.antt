@@ -1,7 +1,7 @@
 use Rattle.std.proofs.Common.{◌≡◌, ◌∷◌, [], ap, ◌∙◌, arith}
 use Rattle.std.proofs.lemmas.Result.{on_ok_weaker}
 use Rattle.kl1_model.specs.Tree.{charge}
-use Rattle.kl1_model.specs.Ending.{settle_charged}
+use Rattle.kl1_model.specs.Ending.{after_reduction}
 use Rattle.kl1_model.specs.Reduction.{moved}
 use Rattle.kl1_user_effects.specs.Account.{meaning, goal_with, aim, texts_of}
 use Rattle.kl1_user_effects.proofs.Effects.{drafts_charged}
@@ -28,18 +28,18 @@ returns-clause-ok c =
     let t = c.args.shoens.now in
     let u = c.charge.new.self in
     let v = c.do_move.new.shoens in
-    let w = c.settle_charged.new.shoens in
+    let w = c.after_reduction.new.shoens in
     let d = c.args.draft.now in
     let e = c.do_move.new.draft in
-    let y = c.settle_charged.new.draft in
+    let y = c.after_reduction.new.draft in
     let names = texts_of c.args.names.now.names in
-    on_ok_weaker c.settle_charged.result
+    on_ok_weaker c.after_reduction.result
     (λ settled ms modules clause m reads as_found found.
-    both_drafts ms goals names (λ f s. moved (goal_with (meaning f h) g) (aim f h x) (m f) (charge g.shoen s)) (λ f. settle_charged g.shoen) h c.do_move.new.store.held c.settle_charged.new.store.held t v w d e y
+    both_drafts ms goals names (λ f s. moved (goal_with (meaning f h) g) (aim f h x) (m f) (charge g.shoen s)) (λ f. after_reduction g.shoen) h c.do_move.new.store.held c.after_reduction.new.store.held t v w d e y
     (both_drafts ms goals names (λ f. charge g.shoen) (λ f. moved (goal_with (meaning f h) g) (aim f h x) (m f)) h h c.do_move.new.store.held t u v d d e
     (drafts_charged h t u d g.shoen c.in_ok-charge.ensures.ok ms goals names) (c.in_ok-do_move.ensures.ok ms modules clause m reads as_found found))
     (settled ms names))
-    c.settle_charged.ensures.ok
+    c.after_reduction.ensures.ok
 
 -- ---- what comes
 
@@ -48,17 +48,17 @@ returns-clause-leaves c =
     let t = c.args.shoens.now in
     let u = c.charge.new.self in
     let v = c.do_move.new.shoens in
-    let y = c.settle_charged.new.shoens in
+    let y = c.after_reduction.new.shoens in
     let d = c.args.draft.now in
     let e = c.do_move.new.draft in
-    let z = c.settle_charged.new.draft in
+    let z = c.after_reduction.new.draft in
     let high = c.requires.owned.high in
     let made = c.in_ok-do_move.ensures in
-    let r = c.settle_charged.result in
-    let after = c.settle_charged.ensures in
+    let r = c.after_reduction.result in
+    let after = c.after_reduction.ensures in
     let early : e.ended.items ≡ [] = ap (λ (x : Draft). x.ended.items) made.moved ∙ c.requires.begun.ended in
     on_ok_six r
     (λ alone count work frames lives none.
-    act_leaves c.do_move.new.store.held c.settle_charged.new.store.held t u v y c.args.goals.now.goals d e z c.settle_charged.new.walk.reached.items c.args.goal.shoen c.len-numbered.ensures.numbered c.len-numbered.ensures.lower c.len-numbered.ensures.worked (omega (arith, high)) c.requires.may
+    act_leaves c.do_move.new.store.held c.after_reduction.new.store.held t u v y c.args.goals.now.goals d e z c.after_reduction.new.walk.reached.items c.args.goal.shoen c.len-numbered.ensures.numbered c.len-numbered.ensures.lower c.len-numbered.ensures.worked (omega (arith, high)) c.requires.may
     c.in_ok-charge.ensures.ok made.stays made.comes made.met made.more made.one_opens early after.grown after.rest alone count work frames lives none)
     after.alone after.count after.work after.frames after.lives after.none
