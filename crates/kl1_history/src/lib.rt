@@ -1,15 +1,16 @@
 //! Definitions of journals, commands, scripts and replays, and of what an account does alone; and that an account is the replay of its journal.
 #![tactic(auto)]
 
-ghost use Rattle.kl1_history.specs.HistoryLaws.{StaysBeside, FreshIsReplay, ReplaysStay, NamesStay};
+ghost use Rattle.kl1_history.specs.HistoryLaws.{StaysBeside, FreshIsReplay, ReplaysStay, NamesStay, RulesStay};
 ghost use Rattle.kl1_history.specs.ReplayLaws.{RepliesOfReplays, FreshIsReplayable, ReplayableStays};
 ghost use Rattle.kl1_history.specs.TextLaws.{EntriesReadBack, StrictLinesAreEntries, NamesReadBack, StrictLinesAreNames, HeadingsReadBack, StrictLinesAreHeadings, LinesOfLines, TextsAreLines, JournalsReadBack, StrictTextsAreJournals, FreshIsWritten, WrittenStays};
 
 /// An account is the replay of its journal: so is a fresh one, and it stays so through each event. What an entry does
-/// depends neither on the own name nor on the number of open sessions, and no event changes the own name.
+/// depends neither on the own name nor on the number of open sessions, and no event changes the own name or the rules.
 pub fn replays_stay()
     ensures beside { StaysBeside }
     ensures names { NamesStay }
+    ensures rules { RulesStay }
     ensures fresh { FreshIsReplay }
     ensures stay { ReplaysStay }
 {}

@@ -6,7 +6,7 @@ use Rattle.kl1_model.specs.Module.{Clause, Module}
 use Rattle.kl1_model.specs.Match.{Verdict, accepts, rejects, suspends, verdict, Call, call_of, clauses_of}
 use Rattle.kl1_model.specs.Arithmetic.{Evaluated, comes_to, awaits, is_no_expression, evaluated}
 use Rattle.kl1_model.specs.Goal.{is_execute}
-use Rattle.kl1_model.specs.Look.{Spelling, spelled, awaits_code, misspelled, spelling, most_spelled, Look, right, waits_on, wrong, Order, order_look}
+use Rattle.kl1_model.specs.Look.{Spelling, spelled, awaits_code, misspelled, spelling, most_spelled, Look, right, waits_on, wrong, goal_look, Order, order_look}
 use Rattle.kl1_model.specs.Reduction.{Move, order_of, term_move}
 use Rattle.kl1_model.specs.Choice.{call_clauses}
 
@@ -118,6 +118,10 @@ awaited_by_pair f a b =
 abbrev pub awaited_by_built_in : Term → List ℕ
 awaited_by_built_in (structure f (more a (more b none))) = awaited_by_pair f a b
 awaited_by_built_in t = []
+
+-- the variable that a substitute waits for while its term is this
+abbrev pub awaited_by_substitute : Term → List ℕ
+awaited_by_substitute t = awaited_by_look (goal_look t)
 
 -- the variables that a term waits for as a goal
 abbrev pub awaited_by_term : List Module → Term → List ℕ

@@ -12,6 +12,7 @@ mod number;
 mod operator;
 mod pair_form;
 mod relation;
+mod rules;
 mod sign;
 
 pub use built_in::BuiltIn;
@@ -24,4 +25,5 @@ pub use number::Number;
 pub use operator::Operator;
 pub use pair_form::PairForm;
 pub use relation::Relation;
+pub use rules::Rules;
 pub use sign::Sign;
