@@ -186,6 +186,26 @@ pub(crate) fn monitor_standing(
     }
 }
 
+/// The clause by which the substitute of a number can step, for what a cell is: 0, or none as long as it waits. The number is hung on the
+/// variable that it waits for then.
+pub(crate) fn substitute_hung(
+    store: &mut Store<CellName>,
+    trial: &mut Trial<CellName>,
+    number: u64,
+    term: Cell<CellName>,
+) -> Result<Option<u64>, AllocError>
+    requires term { IsIn store.old.held term }
+    ensures stands { IfOk result (λ standing. (modules : List Numbered) (shoens : List (Shoen CellName)) (shoen : ℕ) → StandsAt modules shoens store.old.held store.new.hooks shoen (Substitutes term) (record { number = number; standing = standing })) }
+    ensures held { store.new.held ≡ store.old.held }
+    ensures grown { HasGrown store.old store.new }
+{
+    let standing = substitute_standing(store, term, trial)?;
+    if !trial.awaited.is_empty() {
+        hang_on(store, trial.awaited.as_slice(), number)?;
+    }
+    Ok(standing)
+}
+
 /// The clause by which a goal can step, or none. The predicate of goals of one kind is known here and below; the goal's number is hung
 /// on each variable that it waits for.
 #[inline(always)]
@@ -211,6 +231,7 @@ fn task_standing<C: CodeSource>(
         Task::Reduces(cell) => {
             standing_at(store, modules, known, predicate, trial, goal.number, cell)
         }
+        Task::Substitutes(term) => substitute_hung(store, trial, goal.number, term),
     }
 }
 

@@ -140,7 +140,7 @@ pub fn commit(
 {
     let needs = needs_of(predicate, place);
     if !has_room(draft, alive, needs) {
-        return raise(store, shoens, draft, goal.shoen, BuiltIn::Exhaustion, cell);
+        return raise(store, shoens, draft, goal, BuiltIn::Exhaustion, cell);
     }
     let _numbered = shoens.len();
     let Some(shoen) = shoens.lend(goal.shoen) else {

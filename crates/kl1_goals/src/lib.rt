@@ -11,4 +11,5 @@ mod task;
 
 pub use goal::Goal;
 pub use goal_table::GoalTable;
+pub use kl1_model::Rules;
 pub use task::Task;

@@ -28,19 +28,19 @@ report_of (Some h) n message s = if h.is_broken then s else reported_at n messag
 abbrev pub report : ℕ → Term → State → State
 report n message s = report_of (shoen_at n s.shoens) n message s
 
--- whether a report is made on an unbroken stream with this tail
-abbrev pub is_reported_at : Term → Term → State → Bool
-is_reported_at message (variable v) s = not (occurs v message) && nat_lt s.reports most_reports
-is_reported_at message t s = false
+-- whether a report is made on an unbroken stream with this tail by an account that has made this number of reports
+abbrev pub is_reported_at : Term → Term → ℕ → Bool
+is_reported_at message (variable v) made = not (occurs v message) && nat_lt made most_reports
+is_reported_at message t made = false
 
 -- whether a report of a shoen is made
-abbrev pub is_reported_of : Option Shoen → Term → State → Bool
-is_reported_of None message s = false
-is_reported_of (Some h) message s = not h.is_broken && is_reported_at message h.tail s
+abbrev pub is_reported_of : Option Shoen → Term → ℕ → Bool
+is_reported_of None message made = false
+is_reported_of (Some h) message made = not h.is_broken && is_reported_at message h.tail made
 
 -- whether a report of the shoen of a number is made, and not dropped
 abbrev pub is_reported : ℕ → Term → State → Bool
-is_reported n message s = is_reported_of (shoen_at n s.shoens) message s
+is_reported n message s = is_reported_of (shoen_at n s.shoens) message s.reports
 
 -- the same report of each of these shoens, in order
 abbrev pub report_each : List ℕ → Term → State → State

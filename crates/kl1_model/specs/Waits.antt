@@ -123,6 +123,16 @@ awaited_by_built_in t = []
 abbrev pub awaited_by_substitute : Term → List ℕ
 awaited_by_substitute t = awaited_by_look (goal_look t)
 
+-- the clause by which a substitute can step by what is found of its term: 0, unless it waits
+abbrev pub look_clause : Look → Option ℕ
+look_clause right = Some 0
+look_clause (waits_on v) = None
+look_clause wrong = Some 0
+
+-- the clause by which a substitute can step while its term is this
+abbrev pub substitute_clause : Term → Option ℕ
+substitute_clause t = look_clause (goal_look t)
+
 -- the variables that a term waits for as a goal
 abbrev pub awaited_by_term : List Module → Term → List ℕ
 awaited_by_term modules t = awaited_at_head t ++ awaited_by_call modules (call_of t) ++ awaited_by_built_in t
