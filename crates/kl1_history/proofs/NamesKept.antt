@@ -9,7 +9,7 @@ use Rattle.kl1_model.specs.Text.{is_text}
 use Rattle.kl1_model.specs.Term.{Term, variable, integer, atom, structure, Replacement, occurs}
 use Rattle.kl1_model.specs.Meaning.{cell}
 use Rattle.kl1_model.specs.Unify.{solve}
-use Rattle.kl1_model.specs.State.{State, Goal, Task, reduces, substitutes, has_substitutes, Shoen, shoen_at, with_name, replace_in_state, replace_all, change_shoen, without_goal}
+use Rattle.kl1_model.specs.State.{State, Goal, has_substitutes, Shoen, shoen_at, with_name, replace_in_state, replace_all, change_shoen, without_goal}
 use Rattle.kl1_model.specs.Tree.{path, charge}
 use Rattle.kl1_model.specs.Control.{Control, awaits_message, tells, tells_other, ends, breaks_off}
 use Rattle.kl1_model.specs.Report.{broken_at, reported_at, report_of, report, is_reported, report_each, closed_at, close_of, close, exception, exception_with, failure, illegal_input, exhaustion, started_report, stopped_report, resumed_report, exhausted_report, terminated_report, aborted_report}

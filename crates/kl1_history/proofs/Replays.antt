@@ -2,14 +2,14 @@
 use Rattle.std.proofs.Common.{◌≡◌, ℕ, suc, ◌-◌, nat_lt, nat_le, ◌&&◌, Bool, true, false, if◌then◌else◌, List, [], ◌∷◌, ◌++◌, refl, sym, ap, ◌∙◌, subst}
 use Rattle.std.specs.Prelude.{Option, Some, None}
 use Rattle.kl1_model.specs.Limits.{most_sessions}
-use Rattle.kl1_model.specs.State.{State, Shoen, Origin, fresh, fresh_with, shoen_at}
+use Rattle.kl1_model.specs.State.{State, Shoen, Origin, fresh_with, shoen_at}
 use Rattle.kl1_model.specs.Event.{Event, load, start, control, reduce, read, login, logout, reset, answer, welcome, bye, sessions_refused, Query, value, status, reports, modules, is_quiet, Refusal, syntax, Stepped, refuse, is_number}
 use Rattle.kl1_model.specs.Asking.{origin_at, value_of, status_of, reports_of}
-use Rattle.kl1_model.specs.Step.{log_in, log_out, step}
+use Rattle.kl1_model.specs.Step.{step}
 use Rattle.kl1_model.specs.TreeLaws.{is_refused}
 use Rattle.kl1_model.proofs.TreeSteps.{refusals_change_nothing}
-use Rattle.kl1_history.specs.Journal.{Entry, loads, starts, sends, steps, answers, event_in, Journal, new_journal, with_entry, with_event, noted, after_entries, replay, Kept, Done, fresh_kept, kept_after, done}
-use Rattle.kl1_history.specs.HistoryLaws.{beside, stepped_beside, IsReplay, FreshIsReplay, ReplaysStay, NamesStay, RulesStay}
+use Rattle.kl1_history.specs.Journal.{Entry, loads, starts, sends, steps, answers, event_in, Journal, with_entry, with_event, noted, after_entries, replay}
+use Rattle.kl1_history.specs.HistoryLaws.{beside, FreshIsReplay, ReplaysStay, NamesStay, RulesStay}
 use Rattle.kl1_history.proofs.Besides.{stays_beside}
 use Rattle.kl1_history.proofs.RulesKept.{entry_rules}
 

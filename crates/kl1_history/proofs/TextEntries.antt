@@ -19,8 +19,6 @@ use Rattle.kl1_model.specs.Line.{before_space, behind_space, number_in}
 use Rattle.kl1_model.specs.Module.{Reading, good, read_goal}
 use Rattle.kl1_model.specs.Event.{is_number}
 use Rattle.kl1_model.specs.Sending.{is_message, may_send}
-use Rattle.kl1_model.specs.Opening.{start_line}
-use Rattle.kl1_model.specs.Answering.{answer_line}
 use Rattle.kl1_model.specs.ReadLaws.{is_printable}
 use Rattle.kl1_history.specs.Journal.{Entry, loads, starts, sends, steps, answers}
 use Rattle.kl1_history.specs.JournalText.{hex_digit, is_hex_digit, hex_text, hex_value, hex_bytes, entry_line, of_two, start_of, start_in, answer_of, answer_in, entry_by, if_line}

@@ -12,7 +12,7 @@ use Rattle.kl1_model.specs.Limits.{number_limit, most_names, most_sessions}
 use Rattle.kl1_model.specs.Text.{is_text}
 use Rattle.kl1_model.specs.Name.{is_small_letter, is_word_byte, is_bare, doubled, quoted, name_text}
 use Rattle.kl1_model.specs.Line.{before_space, behind_space, number_in}
-use Rattle.kl1_history.specs.JournalText.{name_line, unquoted, name_by, if_name_line, version, first_line, Heading, if_first_line, rules_of, heading_with, heading_in}
+use Rattle.kl1_history.specs.JournalText.{name_line, unquoted, name_by, if_name_line, version, first_line, Heading, if_first_line, rules_of, heading_with}
 use Rattle.kl1_history.specs.TextLaws.{NamesReadBack, StrictLinesAreNames, HeadingsReadBack, StrictLinesAreHeadings}
 use Rattle.kl1_history.proofs.Words.{number_back, before_front, behind_front, decimal_no_space}
 

@@ -15,7 +15,7 @@ use Rattle.kl1_model.specs.Token.{is_digit}
 use Rattle.kl1_model.specs.Term.{Term, atom}
 use Rattle.kl1_model.specs.Print.{Printed, plain, print}
 use Rattle.kl1_history.specs.Journal.{Entry, loads, starts, sends, steps, answers}
-use Rattle.kl1_history.specs.JournalText.{hex_digit, hex_text, entry_line, name_line, version, first_line}
+use Rattle.kl1_history.specs.JournalText.{hex_digit, hex_text, entry_line, name_line, first_line}
 use Rattle.kl1_history.specs.TextLaws.{HasLine, is_unbroken}
 use Rattle.kl1_history.proofs.LexWords.{decimal_writes}
 use Rattle.kl1_history.proofs.ReadPlain.{prints_are_plain}

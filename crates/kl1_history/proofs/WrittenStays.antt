@@ -9,14 +9,14 @@ use Rattle.kl1_model.specs.declared.message.Message.{Message}
 use Rattle.kl1_model.specs.Term.{Term, variable}
 use Rattle.kl1_model.specs.Meaning.{most_depth, depth, highest, is_narrow, is_writable, is_numbered}
 use Rattle.kl1_model.specs.Goal.{is_goal}
-use Rattle.kl1_model.specs.Nodes.{goal_nodes, structures_of}
+use Rattle.kl1_model.specs.Nodes.{goal_nodes}
 use Rattle.kl1_model.specs.Module.{Module, Reading, good, bad, read_module}
 use Rattle.kl1_model.specs.Match.{module_of}
-use Rattle.kl1_model.specs.State.{State, has_substitutes, Goal, Shoen, Origin, goal_at, shoen_at, names_of, names_of_module, with_names, replace_in_state, is_living}
-use Rattle.kl1_model.specs.Event.{Refusal, syntax, exists, shoen_ended, too_many_names, limit_passed, journal_full, sessions_refused, answer_refused, Event, load, start, control, reduce, read, login, logout, reset, answer, loaded, opened, sent, reduced, welcome, bye, Stepped, refuse, is_number, is_range, with_entry, recorded, named, limited}
+use Rattle.kl1_model.specs.State.{State, has_substitutes, Goal, Shoen, Origin, goal_at, shoen_at, names_of, names_of_module, with_names, is_living}
+use Rattle.kl1_model.specs.Event.{Refusal, syntax, exists, shoen_ended, too_many_names, limit_passed, journal_full, sessions_refused, Event, load, start, control, reduce, read, login, logout, reset, answer, loaded, opened, sent, reduced, welcome, bye, Stepped, refuse, is_number, is_range, with_entry, recorded, named, limited}
 use Rattle.kl1_model.specs.Opening.{start_line, may_start, has_room_to_start, with_next_variables, started_shoen, start_goal}
 use Rattle.kl1_model.specs.Sending.{may_send, has_room_to_send, sent_on, send_by, send_to}
-use Rattle.kl1_model.specs.Answering.{answer_line, may_answer, has_room_to_answer, unanswered_at, answered, answer_by, answer_in, answer_to}
+use Rattle.kl1_model.specs.Answering.{answer_line, may_answer, has_room_to_answer, unanswered_at, answer_by, answer_in, answer_to}
 use Rattle.kl1_model.specs.Reduction.{Action, action_of, acted, reduced_by, reduce_goal}
 use Rattle.kl1_model.specs.Step.{with_module, load_module, step}
 use Rattle.kl1_model.specs.TreeLaws.{is_refused}

@@ -1,11 +1,10 @@
 -- What holds of journals and replays.
-use Rattle.std.specs.Prelude.{◌≡◌, ℕ, ◌<◌, ◌≤◌, IsTrue, List, length, Some}
-use Rattle.std.specs.List.{AllByRecursion}
+use Rattle.std.specs.Prelude.{◌≡◌, ℕ, List}
 use Rattle.kl1_model.specs.declared.rules.Rules.{Rules}
 use Rattle.kl1_model.specs.State.{State}
 use Rattle.kl1_model.specs.Event.{Event, Stepped}
 use Rattle.kl1_model.specs.Step.{step}
-use Rattle.kl1_history.specs.Journal.{Entry, event_in, Journal, replay, Kept, done, fresh_kept}
+use Rattle.kl1_history.specs.Journal.{Entry, event_in, replay, Kept, done, fresh_kept}
 
 -- an account with another own name and another number of sessions
 abbrev pub beside : List ℕ → ℕ → State → State

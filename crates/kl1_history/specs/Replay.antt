@@ -7,7 +7,7 @@ use Rattle.kl1_model.specs.Step.{step}
 use Rattle.kl1_model.specs.TreeLaws.{is_refused}
 use Rattle.kl1_history.specs.Command.{reply_lines, written_line, written_lines}
 use Rattle.kl1_history.specs.Journal.{Entry, event_in}
-use Rattle.kl1_history.specs.JournalText.{Heading, Lines, entry_in, name_in, is_new_name, heading_in, lines_of}
+use Rattle.kl1_history.specs.JournalText.{Heading, entry_in, name_in, is_new_name, heading_in, lines_of}
 
 -- what is written for the line of this number, from 1, if it isn't of the form or its entry is refused
 abbrev pub written_fault : ℕ → List ℕ

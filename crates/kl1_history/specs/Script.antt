@@ -1,5 +1,5 @@
 -- Scripts: their accounts, and what is written for their records.
-use Rattle.std.specs.Prelude.{ℕ, nat_le, not, ◌&&◌, Bool, true, false, if◌then◌else◌, List, [], ◌∷◌, ◌++◌, length, codes, bytes_eq, Option, Some, None}
+use Rattle.std.specs.Prelude.{ℕ, nat_le, not, ◌&&◌, Bool, true, if◌then◌else◌, List, [], ◌∷◌, ◌++◌, length, codes, bytes_eq, Option, Some, None}
 use Rattle.std.specs.List.{list_any, list_all}
 use Rattle.kl1_model.specs.declared.rules.Rules.TheVariants.{Two}
 use Rattle.kl1_model.specs.Limits.{most_accounts}

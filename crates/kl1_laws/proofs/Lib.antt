@@ -9,4 +9,5 @@ pub mod AccountRowProofs
 pub mod HistoryRowProofs
 pub mod GuardRowProofs
 pub mod ShoenRowProofs
+pub mod SubstituteRowProofs
 pub mod StreamRowProofs

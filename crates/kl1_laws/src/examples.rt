@@ -6,6 +6,7 @@ ghost use Rattle.kl1_laws.specs.HistoryRows.{HistoryRowsHold};
 ghost use Rattle.kl1_laws.specs.JournalExamples.{JournalsHold};
 ghost use Rattle.kl1_laws.specs.ShoenRows.{ShoenRowsHold};
 ghost use Rattle.kl1_laws.specs.StreamRows.{StreamRowsHold};
+ghost use Rattle.kl1_laws.specs.SubstituteRows.{SubstituteRowsHold};
 
 /// Each script in `examples/scripts` has the output that stands beside it, computed from the definitions.
 pub fn example_scripts_hold()
@@ -30,6 +31,11 @@ pub fn history_rows_hold()
 /// Accounts at their limits, and their shoens, come to what the rows say, computed from the definitions.
 pub fn shoen_rows_hold()
     ensures { ShoenRowsHold }
+{}
+
+/// Accounts come to what the rows say by exceptions and by answers to them, computed from the definitions.
+pub fn substitute_rows_hold()
+    ensures { SubstituteRowsHold }
 {}
 
 /// Arithmetic, tests, verdicts and the reader come to what the rows say, computed from the definitions.

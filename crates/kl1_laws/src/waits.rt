@@ -1,5 +1,5 @@
 //! Laws of verdicts and of what goals wait for.
-ghost use Rattle.kl1_model.specs.WaitsLaws.{RejectsStays, RejectsNeverAccepts, AcceptsStays, SuspendsStays, SuspendsWaits, CandidatesAreOpen, ClausesStay, HeadStays, TermStays, ControlStays};
+ghost use Rattle.kl1_model.specs.WaitsLaws.{RejectsStays, RejectsNeverAccepts, AcceptsStays, SuspendsStays, SuspendsWaits, CandidatesAreOpen, ClausesStay, HeadStays, TermStays, ControlStays, SubstitutesStay};
 
 /// What a clause says of a goal stays until a variable that it names is replaced. It accepts a goal for good, and rejects it for
 /// good where it names none: while the match waits, a test may reject the goal by a place that isn't the first of its variable,
@@ -29,4 +29,9 @@ pub fn goals_wait_for_named_variables()
 /// What a monitor reads stays, but for the rest of the stream, until the variable that it waits for is replaced.
 pub fn monitors_wait_for_one_variable()
     ensures { ControlStays }
+{}
+
+/// What is found of the term that a substitute waits for stays until the variable that it waits for is replaced.
+pub fn substitutes_wait_for_one_variable()
+    ensures { SubstitutesStay }
 {}
