@@ -6,21 +6,23 @@ ghost use Rattle.kl1_effects.specs.Drafts.{without_monitors, restood};
 ghost use Rattle.kl1_effects.specs.Installing.{IsBegun, AreNext, shifted, goals_after, IsFitting, Opens};
 
 use kl1_effects::{Change, Draft};
-use kl1_goals::{Goal, GoalTable};
+use kl1_goals::{Goal, GoalTable, Rules};
 use kl1_text::CellName;
 
-/// Begins a draft that removes the goal of a number, or none where that is 0, for an account with this last number of a goal, and so many
+/// Begins a draft that removes the goal of a number, or none where that is 0, for an account with these rules and this last number of a goal, and so many
 /// variables, structures and reports.
 pub(crate) fn begin_draft(
     draft: &mut Draft,
+    rules: Rules,
     removed: u64,
     last_goal: u64,
     variables: u64,
     nodes: u64,
     reports: u64,
 )
-    ensures { IsBegun removed last_goal variables nodes reports draft.new }
+    ensures { IsBegun removed rules last_goal variables nodes reports draft.new }
 {
+    draft.rules = rules;
     draft.removed = removed;
     draft.aborted.clear();
     draft.ended.clear();

@@ -3,6 +3,8 @@
 
 mod account;
 mod account_name;
+mod answerable;
+mod answering;
 mod asking;
 mod completing;
 mod counted;
