@@ -14,7 +14,7 @@ use Rattle.kl1_model.specs.Reduction.{Action, reduce_goal, reduced_by, acted, ac
 use Rattle.kl1_model.specs.Opening.{may_start, has_room_to_start, start_goal}
 use Rattle.kl1_model.specs.Sending.{may_send, has_room_to_send, send_to, send_by, sent_on}
 use Rattle.kl1_model.specs.State.{is_living}
-use Rattle.kl1_model.specs.Asking.{answer, value_of, status_of, reports_of, origin_at}
+use Rattle.kl1_model.specs.Asking.{reply_to, value_of, status_of, reports_of, origin_at}
 use Rattle.kl1_model.specs.Step.{with_module, load_module, step}
 use Rattle.kl1_history.specs.Journal.{Entry, loads, starts, sends, steps, Journal, noted, new_journal}
 use Rattle.kl1_history.specs.Journal.{Kept, Done, done}
@@ -122,7 +122,7 @@ reports_count : (p : Past) (j : Journal) (b : Book) (q : model.Query) (s : State
 reports_count p j b q s from None h = (no_more p j b h, refl)
 reports_count p j b q s from (Some o) h = (no_more p j b h, refl)
 
-answer_counts : (p : Past) (j : Journal) (b : Book) (q : model.Query) (s : State) → IsCounted p j b → Counts p j b (model.read q) (answer s q)
+answer_counts : (p : Past) (j : Journal) (b : Book) (q : model.Query) (s : State) → IsCounted p j b → Counts p j b (model.read q) (reply_to s q)
 answer_counts p j b (model.value n) s h =
     by_choice (Counts p j b (model.read (model.value n))) (is_number n) (value_of s (origin_at n s.shoens)) (refuse s model.syntax) (value_counts p j b (model.value n) s (origin_at n s.shoens) h) (no_more p j b h, refl)
 answer_counts p j b (model.status n) s h =

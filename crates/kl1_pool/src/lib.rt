@@ -11,7 +11,7 @@ mod working;
 
 pub use gate::Gate;
 pub use gathering::gather;
-pub use kl1_cell::{AccountName, CellNaming};
+pub use kl1_cell::{AccountName, CellNaming, Rules};
 pub use kl1_command::{Command, Performed};
 pub use kl1_tickets::{Share, Totals};
 pub use parts::PoolParts;

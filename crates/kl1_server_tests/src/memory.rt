@@ -7,7 +7,7 @@ use crate::row::{LINES, REPLIES, alice};
 use kl1_atoms::AtomTable;
 use kl1_codes::CodeTable;
 use kl1_lines::Counted;
-use kl1_pool::{AccountName, CellNaming, Pool, PoolParts, gather};
+use kl1_pool::{AccountName, CellNaming, Pool, PoolParts, Rules, gather};
 use kl1_serving::{Served, serve};
 use std::alloc::{AllocError, Global};
 use std::marker::Brand;
@@ -72,7 +72,7 @@ fn is_same_in<R: Wait>(
     };
     let (table, seats) = AtomTable::new(alloc, 1)?;
     let codes = CodeTable::new(alloc)?;
-    let parts = PoolParts::new(alloc, &table, &codes, &[name], seats, 1)?;
+    let parts = PoolParts::new(alloc, &table, &codes, &[name], Rules::Two, seats, 1)?;
     is_same_of(rt, alloc, parts, first, size)
 }
 

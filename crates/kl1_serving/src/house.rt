@@ -7,7 +7,7 @@ use kl1_atoms::AtomTable;
 use kl1_codes::CodeTable;
 use kl1_keys::Key;
 use kl1_model::limits::MOST_ACCOUNTS;
-use kl1_pool::{AccountName, CellNaming, Pool, PoolParts, Share, Totals, gather};
+use kl1_pool::{AccountName, CellNaming, Pool, PoolParts, Rules, Share, Totals, gather};
 use kl1_settings::Halt;
 use std::alloc::{AllocError, Global};
 use std::marker::Brand;
@@ -136,6 +136,7 @@ where
         &table,
         &codes,
         names.as_slice(),
+        Rules::Two,
         seats,
         workers + usize::from(accept),
     )?;

@@ -9,7 +9,7 @@ use Rattle.kl1_model.specs.Limits.{most_reports}
 use Rattle.kl1_model.specs.Print.{cut_print}
 use Rattle.kl1_model.specs.State.{Origin, State}
 use Rattle.kl1_model.specs.Event.{value, status, is_number, Reply, loaded, opened, sent, reduced, ran, shown, status_is, listed, quiet_is, welcome, bye, was_reset, refused}
-use Rattle.kl1_model.specs.Asking.{answer, origin_at, elements_of}
+use Rattle.kl1_model.specs.Asking.{reply_to, origin_at, elements_of}
 use Rattle.kl1_model.specs.Choice.{first}
 use Rattle.kl1_history.specs.Journal.{Kept}
 use Rattle.kl1_history.specs.Command.{written_line, written_lines}
@@ -58,7 +58,7 @@ listed_in (refused r) = []
 
 -- a shoen's goal as it was started, with what is bound now, as a reply shows it
 abbrev pub shown_text : State → ℕ → List ℕ
-shown_text s n = shown_in (answer s (value n)).reply
+shown_text s n = shown_in (reply_to s (value n)).reply
 
 -- that goal without the cut of a reply
 abbrev pub whole_text : State → ℕ → List ℕ
@@ -132,7 +132,7 @@ ending_in is_quiet raised (refused r) = ending.Unfinished
 
 -- how a shoen stands
 unfoldable pub ending_of : State → ℕ → Bool → Ending
-ending_of s n raised = ending_in (is_none (first s)) raised (answer s (status n)).reply
+ending_of s n raised = ending_in (is_none (first s)) raised (reply_to s (status n)).reply
 
 -- what is told of a shoen, as it is wanted
 pub record Tells (wanted : Wanted) (s : State) (n : ℕ) (a : Answers) : Type 0 where

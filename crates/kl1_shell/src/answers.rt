@@ -1,7 +1,7 @@
 // What is told of a shoen once its run is over.
 
 ghost use Rattle.std.specs.Prelude.{◌≡◌, ◌∷◌, ◌++◌, IfOk, OnOk};
-ghost use Rattle.kl1_model.specs.Asking.{answer};
+ghost use Rattle.kl1_model.specs.Asking.{reply_to};
 ghost use Rattle.kl1_model.specs.Event as model;
 ghost use Rattle.kl1_event.specs.Views.{reply_of};
 ghost use Rattle.kl1_shell.specs.Answers.{shown_in, shown_text, value_text, value_line, ending_by, ending_in, ending_of, Tells};

@@ -2,6 +2,7 @@
 use Rattle.std.specs.Prelude.{ℕ, List, codes, Option, Ok, Err}
 use Rattle.std.specs.declared.result.Result.{Result}
 use Rattle.std.specs.Io.KnownBytes.{Appends}
+use Rattle.kl1_model.specs.declared.rules.Rules.TheVariants.{Two}
 use Rattle.kl1_model.specs.Term.{Term}
 use Rattle.kl1_history.specs.Journal.{Journal, Kept, fresh_kept}
 use Rattle.kl1_history.specs.JournalText.{journal_lines}
@@ -26,5 +27,5 @@ IsTold j book book' (Err e) = AppendsFront book book' (written_lines (journal_li
 -- was written to two streams, by how the work ended; and the journal of the account after it was written to a third
 pub record RunsAlone (texts : List (List ℕ)) (goal : Term) (allowance steps : ℕ) (wanted : Wanted) (out out' err err' book book' : Option (List ℕ)) (outcome : Outcome) : Type 0 where
   pub after : Kept
-  pub runs : IsRun (worked_of (fresh_kept account_name) texts goal allowance steps) wanted out out' err err' outcome.ending after
+  pub runs : IsRun (worked_of (fresh_kept Two account_name) texts goal allowance steps) wanted out out' err err' outcome.ending after
   pub journal : IsTold after.journal book book' outcome.journal

@@ -8,7 +8,7 @@ ghost use Rattle.kl1_tasks.specs.Alone.{IsTold, RunsAlone};
 use kl1_atoms::{AtomTable, SharedAtoms};
 use kl1_codes::PlainCodes;
 use kl1_shell::{Ending, Host, Sink, Stop, Wanted, Watch, Work, put_journal, run};
-use kl1_world::{AccountName, World};
+use kl1_world::{AccountName, Rules, World};
 use std::alloc::Global;
 
 /// How work on an account of its own ended.
@@ -57,6 +57,7 @@ pub fn run_alone<T: Watch, W: Sink, E: Sink, J: Sink>(
                 seats,
                 PlainCodes::new(alloc),
                 &[name],
+                Rules::Two,
             ) {
                 Ok(mut world) => {
                     let ending = run(alloc, &mut world, work, wanted, watch, out, err);

@@ -13,7 +13,7 @@ ghost use Rattle.kl1_effects.specs.Naming.{IsNameList, Keeps};
 ghost use Rattle.kl1_event.specs.Views.{event_of, is_logout, query_of, reply_of, reduced_or, chosen_of};
 ghost use Rattle.kl1_event.specs.Whole.{whole_value};
 
-use kl1_account::{Account, AccountName, ClauseNo, Event, GoalNo, Query, Refusal, Reply};
+use kl1_account::{Account, AccountName, ClauseNo, Event, GoalNo, Query, Refusal, Reply, Rules};
 use kl1_atoms::AtomSource;
 use kl1_codes::CodeSource;
 use kl1_text::AtomText;
@@ -42,13 +42,13 @@ impl<A: AtomSource, C: CodeSource> Model for UserState<A, C> {
 }
 
 impl<A: AtomSource, C: CodeSource> UserState<A, C> {
-    /// An account of this name in which nothing has happened.
-    pub fn fresh(alloc: Global, name: AccountName) -> Result<Self, AllocError>
-        ensures fresh { IfOk result (λ user. (f : Reading) → state_of f user ≡ fresh name) }
+    /// An account of this name, which keeps to these rules, in which nothing has happened.
+    pub fn fresh(alloc: Global, name: AccountName, rules: Rules) -> Result<Self, AllocError>
+        ensures fresh { IfOk result (λ user. (f : Reading) → state_of f user ≡ fresh rules name) }
         ensures names { IfOk result (λ user. user.names ≡ []) }
         ensures modules { IfOk result (λ user. user.modules ≡ []) }
     {
-        let account = Account::fresh(alloc, name)?;
+        let account = Account::fresh(alloc, name, rules)?;
         Ok(UserState {
             account,
             source: PhantomData,
@@ -56,11 +56,12 @@ impl<A: AtomSource, C: CodeSource> UserState<A, C> {
         })
     }
 
-    /// An account of this name in which nothing has happened but that it has used `texts`, and that `sessions` sessions are open. The
+    /// An account of this name, which keeps to these rules, in which nothing has happened but that it has used `texts`, and that `sessions` sessions are open. The
     /// seat knows no name before it and these after it; if memory is refused, it knows none.
     pub fn with_names(
         alloc: Global,
         name: AccountName,
+        rules: Rules,
         sessions: u64,
         names: &mut A,
         seat: &mut A::Seat,
@@ -70,13 +71,13 @@ impl<A: AtomSource, C: CodeSource> UserState<A, C> {
         requires knows { A.knows seat.old ≡ [] }
         requires list { IsNameList texts.now }
         requires few { length texts.now ≤ most_names }
-        ensures fresh { IfOk result (λ user. (f : Reading) → state_of f user ≡ fresh_with name texts.now sessions) }
+        ensures fresh { IfOk result (λ user. (f : Reading) → state_of f user ≡ fresh_with rules name texts.now sessions) }
         ensures knows { IfOk result (λ user. A.knows seat.new ≡ user.names) }
         ensures modules { IfOk result (λ user. user.modules ≡ []) }
         ensures keeps { Keeps A.is_of A.place A.knows names.old names.new seat.old seat.new }
         ensures seat { OnErr result (A.knows seat.new ≡ []) }
     {
-        let account = Account::with_names(alloc, name, sessions, names, seat, texts)?;
+        let account = Account::with_names(alloc, name, rules, sessions, names, seat, texts)?;
         Ok(UserState {
             account,
             source: PhantomData,
@@ -109,7 +110,7 @@ impl<A: AtomSource, C: CodeSource> UserState<A, C> {
             Event::Reduce { goal, clause } => Ok(reply_to(
                 self.account.reduce(names, seat, codes, goal.0, clause.0)?,
             )),
-            Event::Read(query) => self.answer(names, seat, codes, *query),
+            Event::Read(query) => self.tell(names, seat, codes, *query),
             Event::Load { source } => self.account.load(names, seat, codes, source.as_slice()),
             Event::Start {
                 allowance,
@@ -119,6 +120,13 @@ impl<A: AtomSource, C: CodeSource> UserState<A, C> {
             } => self
                 .account
                 .start(names, seat, codes, *allowance, *low, *high, goal),
+            Event::Answer {
+                shoen,
+                report,
+                goal,
+            } => self
+                .account
+                .answer(names, seat, codes, shoen.0, *report, goal),
             Event::Control { shoen, message } => self.account.send(codes, shoen.0, *message),
             Event::Login => Ok(self.account.login()),
             Event::Logout => Ok(self.account.logout()),
@@ -130,7 +138,7 @@ impl<A: AtomSource, C: CodeSource> UserState<A, C> {
     }
 
     /// What is answered to a query, which changes nothing.
-    fn answer(
+    fn tell(
         &self,
         names: &mut A,
         seat: &mut A::Seat,

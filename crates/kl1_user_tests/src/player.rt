@@ -8,7 +8,7 @@ use kl1_codes::PlainCodes;
 use kl1_command::Host;
 use kl1_event::{ClauseNo, Event, GoalNo, Listed, Reply};
 use kl1_model::limits::MOST_ACCOUNTS;
-use kl1_world::{AccountName, World};
+use kl1_world::{AccountName, Rules, World};
 use std::alloc::{AllocError, Global};
 use std::marker::Model;
 
@@ -49,7 +49,7 @@ impl Player {
         }
         let (names, seats) = PlainTable::new(alloc, count)?;
         let codes = PlainCodes::new(alloc);
-        let world = World::new(alloc, names, seats, codes, accounts)?;
+        let world = World::new(alloc, names, seats, codes, accounts, Rules::Two)?;
         Ok(Player { world, count })
     }
 
