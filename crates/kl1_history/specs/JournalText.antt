@@ -116,11 +116,11 @@ entry_by w rest =
     if bytes_eq w (codes "reduce") then of_two steps rest
     else if bytes_eq w (codes "load") then load_in rest
     else if bytes_eq w (codes "start") then start_in rest
+    else if bytes_eq w (codes "answer") then answer_in rest
     else if bytes_eq w (codes "stop") then option_map (λ n. sends n Stop) (number_in rest)
     else if bytes_eq w (codes "resume") then option_map (λ n. sends n Start) (number_in rest)
     else if bytes_eq w (codes "abort") then option_map (λ n. sends n Abort) (number_in rest)
     else if bytes_eq w (codes "allow") then of_two (λ n k. sends n (Allow k)) rest
-    else if bytes_eq w (codes "answer") then answer_in rest
     else None
 
 -- an entry, if this is its line

@@ -41,7 +41,7 @@ fn are_of(count: usize, events: &[(usize, Event)]) -> bool
 }
 
 impl Player {
-    /// Accounts of these names, in which nothing has happened; an `Err` also if there are none or too many.
+    /// Accounts of these names, which keep to the first rules, in which nothing has happened; an `Err` also if there are none or too many.
     pub fn new(alloc: Global, accounts: &[AccountName]) -> Result<Self, AllocError> {
         let count = accounts.len();
         if count == 0 || count > MOST_ACCOUNTS {
@@ -49,7 +49,7 @@ impl Player {
         }
         let (names, seats) = PlainTable::new(alloc, count)?;
         let codes = PlainCodes::new(alloc);
-        let world = World::new(alloc, names, seats, codes, accounts, Rules::Two)?;
+        let world = World::new(alloc, names, seats, codes, accounts, Rules::One)?;
         Ok(Player { world, count })
     }
 
