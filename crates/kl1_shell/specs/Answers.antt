@@ -102,17 +102,22 @@ abbrev pub is_some_byte : List ℕ → Bool
 is_some_byte [] = false
 is_some_byte (b ∷ bs) = true
 
--- how a shoen stands that lives and isn't exhausted, by whether no goal can step, and how many goals are alive
-abbrev pub ending_alive : Bool → ℕ → Ending
-ending_alive is_quiet alive = if is_quiet then ending.Waits alive else ending.Unfinished
+-- how a shoen stands of which no goal can step, by whether there were exceptions, and how many goals are alive
+abbrev pub ending_quiet : Bool → ℕ → Ending
+ending_quiet raised alive = if raised then ending.Raised else ending.Waits alive
+
+-- how a shoen stands that lives and isn't exhausted, by whether no goal can step, whether there were exceptions, and how many goals are
+-- alive
+abbrev pub ending_alive : Bool → Bool → ℕ → Ending
+ending_alive is_quiet raised alive = if is_quiet then ending_quiet raised alive else ending.Unfinished
 
 -- how a shoen stands, by its state, whether no goal can step, whether there were exceptions, and how many goals are alive
 abbrev pub ending_by : Condition → Bool → Bool → ℕ → Ending
 ending_by Terminated is_quiet raised alive = if raised then ending.Raised else ending.Terminated
 ending_by Exhausted is_quiet raised alive = ending.Exhausted
-ending_by Aborted is_quiet raised alive = ending_alive is_quiet alive
-ending_by Stopped is_quiet raised alive = ending_alive is_quiet alive
-ending_by Running is_quiet raised alive = ending_alive is_quiet alive
+ending_by Aborted is_quiet raised alive = ending_alive is_quiet raised alive
+ending_by Stopped is_quiet raised alive = ending_alive is_quiet raised alive
+ending_by Running is_quiet raised alive = ending_alive is_quiet raised alive
 
 -- so by the reply that tells its state
 abbrev pub ending_in : Bool → Bool → Reply → Ending

@@ -112,10 +112,12 @@ fn ending_by(condition: Condition, is_quiet: bool, raised: bool, alive: u64) -> 
         }
         Condition::Exhausted => Ending::Exhausted,
         Condition::Aborted | Condition::Stopped | Condition::Running => {
-            if is_quiet {
-                Ending::Waits(alive)
-            } else {
+            if !is_quiet {
                 Ending::Unfinished
+            } else if raised {
+                Ending::Raised
+            } else {
+                Ending::Waits(alive)
             }
         }
     }
