@@ -56,12 +56,7 @@ fn put_answer(
 }
 
 /// Whether an answer has numbers in range, and a goal that can be written in a line of a journal and read back.
-fn may_answer(
-    alloc: Global,
-    number: u64,
-    report: u64,
-    goal: &Term,
-) -> Result<bool, AllocError>
+fn may_answer(alloc: Global, number: u64, report: u64, goal: &Term) -> Result<bool, AllocError>
     ensures { IfOk result (λ may. may ≡ may_answer number report goal.now) }
 {
     if !are_numbers(number, report) || report < 1 || !is_goal(goal) {

@@ -26,5 +26,5 @@ mod top;
 
 pub use account::Account;
 pub use account_name::AccountName;
-pub use kl1_goals::Rules;
 pub use kl1_event::{ClauseNo, Event, GoalNo, Listed, Query, Refusal, Reply, ShoenNo};
+pub use kl1_goals::Rules;

@@ -282,12 +282,7 @@ fn parse_answer(alloc: Global, rest: &[u8]) -> Result<Parsed, AllocError>
 
 /// The answer with the goal that bytes are, if the report's number is at least 1 and there is one.
 #[tactic(auto, using(crate::proofs::Starts::no_report))]
-fn answer_of(
-    alloc: Global,
-    shoen: u64,
-    report: u64,
-    goal: &[u8],
-) -> Result<Parsed, AllocError>
+fn answer_of(alloc: Global, shoen: u64, report: u64, goal: &[u8]) -> Result<Parsed, AllocError>
     ensures { IfOk result (λ parsed. parsed_view parsed ≡ answer_with shoen report (read_goal goal.now)) }
 {
     if report < 1 {

@@ -295,12 +295,7 @@ fn is_answer_lined(
 }
 
 /// An answer, if its line can be read back.
-fn answer_for(
-    alloc: Global,
-    shoen: u64,
-    report: u64,
-    goal: &Term,
-) -> Result<Prepared, AllocError>
+fn answer_for(alloc: Global, shoen: u64, report: u64, goal: &Term) -> Result<Prepared, AllocError>
     ensures { IfOk result (λ p. p ≡ if_lined (answers shoen report goal.now)) }
 {
     let text = print_whole(alloc, goal)?;

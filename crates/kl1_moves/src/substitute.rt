@@ -28,7 +28,11 @@ fn giving_way<N: Copy>(look: Look) -> Option<Move<N>>
 }
 
 /// What a substitute for what a cell is can do by the clause of a number, or nothing if that isn't allowed.
-pub fn substitute_move<N: NameValue>(store: &Store<N>, term: Cell<N>, clause: u64) -> Option<Move<N>>
+pub fn substitute_move<N: NameValue>(
+    store: &Store<N>,
+    term: Cell<N>,
+    clause: u64,
+) -> Option<Move<N>>
     requires { IsIn store.now.held term }
     ensures { (f : N → List ℕ) → Reads N.built f → SubstituteMoves (term_of f store.now.held term) clause result }
 {

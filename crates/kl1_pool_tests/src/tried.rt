@@ -83,6 +83,14 @@ pub fn tried<J: Job + Sync, R: Threads + Wait + Clock + Sync>(
     let names = names_of(alloc, accounts)?;
     let (table, seats) = AtomTable::new(alloc, accounts)?;
     let codes = CodeTable::new(alloc)?;
-    let parts = PoolParts::new(alloc, &table, &codes, names.as_slice(), Rules::Two, seats, threads)?;
+    let parts = PoolParts::new(
+        alloc,
+        &table,
+        &codes,
+        names.as_slice(),
+        Rules::Two,
+        seats,
+        threads,
+    )?;
     done_of(rt, alloc, parts, job, out)
 }

@@ -61,7 +61,9 @@ impl<A: AtomSource + Drop, C: CodeSource + Drop> Replayed<A, C> {
         ensures { IfOk result (λ replayed. (f : Reading) → state_of f replayed ≡ fresh_with rules replay_name texts.now sessions) }
     {
         let name = replay_name();
-        let user = UserState::with_names(alloc, name, rules, sessions, &mut names, &mut seat, texts)?;
+        let user = UserState::with_names(
+            alloc, name, rules, sessions, &mut names, &mut seat, texts,
+        )?;
         Ok(Replayed {
             user,
             names,

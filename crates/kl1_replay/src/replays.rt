@@ -84,14 +84,14 @@ fn answer_headed<H: Wait, W: Sink>(
     match names_in(alloc, heading.names, text) {
         Ok(Named::All { names, rest }) => {
             answer_shared(
-            rt,
-            alloc,
-            heading.rules,
-            heading.sessions,
-            names.as_slice(),
-            rest,
-            sink,
-        )
+                rt,
+                alloc,
+                heading.rules,
+                heading.sessions,
+                names.as_slice(),
+                rest,
+                sink,
+            )
         }
         Ok(Named::Fault { line }) => finish_fault(sink, b"", line),
         Err(_) => Err(ScriptFault::Memory),

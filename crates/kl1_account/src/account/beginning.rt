@@ -86,7 +86,14 @@ impl<C: CodeSource> Account<C> {
         ensures { self.new ≡ begun self.old.own_name self.old.rules self.old.names self.old.sessions }
     {
         let names = mem::replace(&mut self.names, AccountNames::new(self.alloc));
-        *self = Account::blank(self.alloc, self.name, self.rules, store, names, self.sessions);
+        *self = Account::blank(
+            self.alloc,
+            self.name,
+            self.rules,
+            store,
+            names,
+            self.sessions,
+        );
     }
 
     /// An account that keeps to these rules, in which nothing has happened but that it has used these names, and that `sessions` sessions are open. Its cells are
