@@ -17,7 +17,7 @@ use Rattle.kl1_shoen.specs.Shoens.{Tree}
 use Rattle.kl1_modules.specs.Numbered.{Numbered}
 use Rattle.kl1_effects.specs.declared.draft.Draft.{Draft}
 use Rattle.kl1_effects.specs.Fitting.{Reading}
-use Rattle.kl1_effects.specs.Account.{texts_of, meaning, aim}
+use Rattle.kl1_effects.specs.Account.{texts_of, meaning, goal_with, aim}
 use Rattle.kl1_effects.specs.Works.{Knows}
 use Rattle.kl1_effects.specs.Drafts.{Drafts}
 
