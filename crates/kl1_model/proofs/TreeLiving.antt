@@ -10,13 +10,13 @@ use Rattle.kl1_model.specs.declared.message.Message.TheVariants.{Stop, Start, Ab
 use Rattle.kl1_model.specs.Term.{Term, variable, integer, atom, structure, Replacement}
 use Rattle.kl1_model.specs.Unify.{solve}
 use Rattle.kl1_model.specs.Meaning.{cell, highest}
-use Rattle.kl1_model.specs.Nodes.{goal_nodes, structures_of}
+use Rattle.kl1_model.specs.Nodes.{goal_nodes}
 use Rattle.kl1_model.specs.Module.{Module, Reading, good, bad, read_module}
 use Rattle.kl1_model.specs.Match.{Candidate, module_of}
 use Rattle.kl1_model.specs.State.{Task, reduces, substitutes, Goal, Origin, Shoen, State, has_substitutes, goal_at, shoen_at, names_of, names_of_module, with_name, with_names, replace_in_state, replace_all, change_shoen, without_goal, is_living}
 use Rattle.kl1_model.specs.Tree.{parents_of, charge}
 use Rattle.kl1_model.specs.Control.{Control, awaits_message, tells, tells_other, ends, breaks_off, message_term, message_nodes}
-use Rattle.kl1_model.specs.Event.{exists, shoen_ended, syntax, too_many_names, limit_passed, journal_full, sessions_refused, answer_refused, Query, value, status, reports, modules, is_quiet, Event, load, start, control, reduce, read, login, logout, reset, answer, loaded, opened, sent, reduced, welcome, bye, Stepped, refuse, is_number, most_source_bytes, most_entries, with_entry, recorded, named, limited}
+use Rattle.kl1_model.specs.Event.{exists, shoen_ended, syntax, too_many_names, limit_passed, journal_full, sessions_refused, Query, value, status, reports, modules, is_quiet, Event, load, start, control, reduce, read, login, logout, reset, answer, loaded, opened, sent, reduced, welcome, bye, Stepped, refuse, is_number, most_source_bytes, most_entries, with_entry, recorded, named, limited}
 use Rattle.kl1_model.specs.Report.{report, is_reported, exception, exception_with, failure, illegal_input, exhaustion, started_report, exhausted_report, stopped_report, resumed_report}
 use Rattle.kl1_model.specs.Ending.{without_monitor}
 use Rattle.kl1_model.specs.Opening.{may_start, has_room_to_start, opening_goals, with_shoen, open_shoen, with_next_variables, started_shoen, start_goal, has_room_for_child, child_shoen, open_child}

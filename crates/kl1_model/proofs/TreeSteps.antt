@@ -7,7 +7,7 @@ use Rattle.kl1_model.specs.declared.message.Message.{Message}
 use Rattle.kl1_model.specs.Limits.{most_modules, most_sessions}
 use Rattle.kl1_model.specs.Term.{Term, variable, integer, atom, structure}
 use Rattle.kl1_model.specs.Meaning.{cell, highest}
-use Rattle.kl1_model.specs.Nodes.{goal_nodes, structures_of}
+use Rattle.kl1_model.specs.Nodes.{goal_nodes}
 use Rattle.kl1_model.specs.Module.{Module, Reading, good, bad, read_module}
 use Rattle.kl1_model.specs.Match.{call_of, module_of}
 use Rattle.kl1_model.specs.Look.{goal_look}
