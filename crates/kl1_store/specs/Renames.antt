@@ -26,11 +26,14 @@ shape_renamed g s = record { name = g s.name; arguments = map (cell_renamed g) s
 abbrev pub binding_renamed : {N : Type 0} → (N → N) → Binding N → Binding N
 binding_renamed g b = record { variable = b.variable; value = cell_renamed g b.value }
 
+-- what is held, with other names in the structures from one on
+abbrev pub structures_renamed : {N : Type 0} → (N → N) → ℕ → Held N → Held N
+structures_renamed g n h = record { variables = h.variables; structures = take n h.structures ++ map (shape_renamed g) (drop n h.structures); bindings = h.bindings }
+
+-- what is held, with other names in the bindings from one on
+abbrev pub bindings_renamed : {N : Type 0} → (N → N) → ℕ → Held N → Held N
+bindings_renamed g n h = record { variables = h.variables; structures = h.structures; bindings = take n h.bindings ++ map (binding_renamed g) (drop n h.bindings) }
+
 -- what is held, with other names in the structures and the bindings that came since a mark
 abbrev pub renamed_since : {N : Type 0} → (N → N) → Mark → Held N → Held N
-renamed_since g mark h =
-    record {
-      variables = h.variables;
-      structures = take mark.structures h.structures ++ map (shape_renamed g) (drop mark.structures h.structures);
-      bindings = take mark.bindings h.bindings ++ map (binding_renamed g) (drop mark.bindings h.bindings);
-    }
+renamed_since g mark h = bindings_renamed g mark.bindings (structures_renamed g mark.structures h)

@@ -1,7 +1,7 @@
 // Names that take the places of others in what came since a mark.
 
 ghost use Rattle.std.specs.Prelude.{◌≡◌, ◌≤◌, length};
-ghost use Rattle.kl1_store.specs.Renames.{Renames, cell_renamed, renamed_since};
+ghost use Rattle.kl1_store.specs.Renames.{Renames, cell_renamed, structures_renamed, bindings_renamed, renamed_since};
 
 use crate::cell::Cell;
 use crate::cells::Cells;
@@ -48,7 +48,12 @@ impl<N: NameValue> Cells<N> {
     }
 
     /// The same of the structures from one on.
-    fn rename_structures(&mut self, first: usize, from: &[N], to: &[N]) {
+    fn rename_structures(&mut self, first: usize, from: &[N], to: &[N])
+        requires length { length from.now ≤ length to.now }
+        requires structures { first ≤ length self.old.held.structures }
+        ensures held { (g : N → N) → Renames from.now to.now g → self.new.held ≡ structures_renamed g first self.old.held }
+        ensures room { self.new.room ≡ self.old.room }
+    {
         if self.nodes.len() <= first {
             return;
         }
@@ -63,7 +68,12 @@ impl<N: NameValue> Cells<N> {
     }
 
     /// The same of the bindings from one on.
-    fn rename_bindings(&mut self, first: usize, from: &[N], to: &[N]) {
+    fn rename_bindings(&mut self, first: usize, from: &[N], to: &[N])
+        requires length { length from.now ≤ length to.now }
+        requires bindings { first ≤ length self.old.held.bindings }
+        ensures held { (g : N → N) → Renames from.now to.now g → self.new.held ≡ bindings_renamed g first self.old.held }
+        ensures room { self.new.room ≡ self.old.room }
+    {
         for place in first..self.bindings.len() {
             let binding = self.bindings[place];
             let value = renamed_cell(from, to, binding.value);
