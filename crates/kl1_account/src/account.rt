@@ -140,7 +140,7 @@ impl<C: CodeSource> Account<C> {
         requires placed { ArePlaced (C.has codes.now) self.old.modules }
         ensures step { IfOk result (λ refused. (f : Reading) → Fits self.new.names f → step (state_of f self.old) (reduce number clause) ≡ record { state = state_of f self.new; reply = reduced_or refused }) }
         ensures err { OnErr result (self.new ≡ self.old) }
-        ensures keeps { Keeps A.is_of A.place A.knows names.old names.new seat.old seat.new }
+        ensures keeps { Keeps A.is_of A.place A.knows A.published names.old names.new seat.old seat.new }
         ensures knows { A.knows seat.new ≡ self.new.names }
         ensures modules { self.new.modules ≡ self.old.modules }
     {
@@ -257,7 +257,7 @@ impl<C: CodeSource> Account<C> {
         requires placed { ArePlaced (C.has codes.old) self.old.modules }
         ensures step { IfOk result (λ reply. (f : Reading) → Fits self.new.names f → step (state_of f self.old) (load_event source.now) ≡ record { state = state_of f self.new; reply = reply_of reply }) }
         ensures err { OnErr result (self.new ≡ self.old) }
-        ensures keeps { Keeps A.is_of A.place A.knows names.old names.new seat.old seat.new }
+        ensures keeps { Keeps A.is_of A.place A.knows A.published names.old names.new seat.old seat.new }
         ensures knows { A.knows seat.new ≡ self.new.names }
         ensures placed { ArePlaced (C.has codes.new) self.new.modules }
         ensures same { (p : ℕ × ℕ) → C.has codes.old p ↔ C.has codes.new p }
@@ -321,7 +321,7 @@ impl<C: CodeSource> Account<C> {
         requires placed { ArePlaced (C.has codes.now) self.old.modules }
         ensures step { IfOk result (λ reply. (f : Reading) → Fits self.new.names f → step (state_of f self.old) (start_event allowance low high goal.now) ≡ record { state = state_of f self.new; reply = reply_of reply }) }
         ensures err { OnErr result (self.new ≡ self.old) }
-        ensures keeps { Keeps A.is_of A.place A.knows names.old names.new seat.old seat.new }
+        ensures keeps { Keeps A.is_of A.place A.knows A.published names.old names.new seat.old seat.new }
         ensures knows { A.knows seat.new ≡ self.new.names }
         ensures modules { self.new.modules ≡ self.old.modules }
     {
@@ -480,7 +480,7 @@ impl<C: CodeSource> Account<C> {
         requires of { A.is_of names.old seat.old }
         requires knows { A.knows seat.old ≡ self.now.names }
         ensures step { IfOk result (λ reply. (f : Reading) → Fits self.now.names f → step (state_of f self.now) (read (reports number from)) ≡ record { state = state_of f self.now; reply = reply_of reply }) }
-        ensures keeps { Keeps A.is_of A.place A.knows names.old names.new seat.old seat.new }
+        ensures keeps { Keeps A.is_of A.place A.knows A.published names.old names.new seat.old seat.new }
         ensures knows { A.knows seat.new ≡ self.now.names }
     {
         reports_of(
@@ -512,7 +512,7 @@ impl<C: CodeSource> Account<C> {
         requires of { A.is_of names.old seat.old }
         requires knows { A.knows seat.old ≡ self.now.names }
         ensures step { IfOk result (λ reply. (f : Reading) → Fits self.now.names f → step (state_of f self.now) (read (value number)) ≡ record { state = state_of f self.now; reply = reply_of reply }) }
-        ensures keeps { Keeps A.is_of A.place A.knows names.old names.new seat.old seat.new }
+        ensures keeps { Keeps A.is_of A.place A.knows A.published names.old names.new seat.old seat.new }
         ensures knows { A.knows seat.new ≡ self.now.names }
     {
         if !is_number(number) {
@@ -545,7 +545,7 @@ impl<C: CodeSource> Account<C> {
         requires of { A.is_of names.old seat.old }
         requires knows { A.knows seat.old ≡ self.now.names }
         ensures whole { IfOk result (λ shown. (f : Reading) → Fits self.now.names f → option_map (λ text. text.items) shown ≡ whole_value (state_of f self.now) number) }
-        ensures keeps { Keeps A.is_of A.place A.knows names.old names.new seat.old seat.new }
+        ensures keeps { Keeps A.is_of A.place A.knows A.published names.old names.new seat.old seat.new }
         ensures knows { A.knows seat.new ≡ self.now.names }
     {
         match self.shoens.origin_at(number) {

@@ -95,7 +95,7 @@ fn list_cells<A: AtomSource>(
     requires small { AreSmall (A.knows seat.old) }
     requires named { (f g : Reading) → Fits (A.knows seat.old) f → Fits (A.knows seat.old) g → cells_of f store.now.held list ≡ cells_of g store.now.held list }
     ensures listed { IfOk result (λ listed. (f : Reading) → Fits (A.knows seat.old) f → listed ≡ map cut_print (take most (cells_of f store.now.held list))) }
-    ensures keeps { Keeps A.is_of A.place A.knows names.old names.new seat.old seat.new }
+    ensures keeps { Keeps A.is_of A.place A.knows A.published names.old names.new seat.old seat.new }
     ensures knows { A.knows seat.new ≡ A.knows seat.old }
 {
     let mut listed = Listed::new(alloc);
@@ -128,7 +128,7 @@ pub(crate) fn reports_of<A: AtomSource>(
     requires small { AreSmall (A.knows seat.old) }
     requires named { (f g : Reading) → Fits (A.knows seat.old) f → Fits (A.knows seat.old) g → map (shoen_with (meaning f store.now.held)) shoens.now.shoens ≡ map (shoen_with (meaning g store.now.held)) shoens.now.shoens }
     ensures step { IfOk result (λ reply. (f : Reading) → Fits (A.knows seat.old) f → (s : State) (goals : List (Goal CellName)) → step (with_kept f s store.now.held goals shoens.now.shoens) (read (reports number from)) ≡ record { state = with_kept f s store.now.held goals shoens.now.shoens; reply = reply_of reply }) }
-    ensures keeps { Keeps A.is_of A.place A.knows names.old names.new seat.old seat.new }
+    ensures keeps { Keeps A.is_of A.place A.knows A.published names.old names.new seat.old seat.new }
     ensures knows { A.knows seat.new ≡ A.knows seat.old }
 {
     if !are_numbers(number, from) {

@@ -29,7 +29,7 @@ pub(crate) fn publish_drafted<A: AtomSource>(
     requires small { AreSmall known.old.names }
     requires room { HasRoomFor known.old.room draft.now.name }
     requires row { HasRow draft.now.name row.old.items (vec_capacity row.old) }
-    ensures keeps { Keeps A.is_of A.place A.knows names.old names.new seat.old seat.new }
+    ensures keeps { Keeps A.is_of A.place A.knows A.published names.old names.new seat.old seat.new }
     ensures knows { A.knows seat.new ≡ known.new.names }
     ensures published { IsPublished known.old.names known.new.names draft.now store.old.held store.new.held }
     ensures hooks { store.new.hooks ≡ store.old.hooks }

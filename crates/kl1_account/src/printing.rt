@@ -85,7 +85,7 @@ fn text_of<A: AtomSource>(names: &mut A, seat: &mut A::Seat, name: CellName) -> 
     requires small { AreSmall (A.knows seat.old) }
     requires named { (f g : Reading) → Fits (A.knows seat.old) f → Fits (A.knows seat.old) g → f name ≡ g name }
     ensures text { (f : Reading) → Fits (A.knows seat.old) f → f name ≡ result }
-    ensures keeps { Keeps A.is_of A.place A.knows names.old names.new seat.old seat.new }
+    ensures keeps { Keeps A.is_of A.place A.knows A.published names.old names.new seat.old seat.new }
     ensures knows { A.knows seat.new ≡ A.knows seat.old }
 {
     let number = name.number as u32;
@@ -99,7 +99,7 @@ fn node_of<A: AtomSource>(names: &mut A, seat: &mut A::Seat, top: Top) -> Node
     requires named { (f g : Reading) → Fits (A.knows seat.old) f → Fits (A.knows seat.old) g → node_with f top ≡ node_with g top }
     ensures node { (f : Reading) → Fits (A.knows seat.old) f → node_with f top ≡ result }
     ensures count { count_in result ≡ count_at top }
-    ensures keeps { Keeps A.is_of A.place A.knows names.old names.new seat.old seat.new }
+    ensures keeps { Keeps A.is_of A.place A.knows A.published names.old names.new seat.old seat.new }
     ensures knows { A.knows seat.new ≡ A.knows seat.old }
 {
     match top {
@@ -124,7 +124,7 @@ pub(crate) fn print_cell<A: AtomSource>(
     requires small { AreSmall (A.knows seat.old) }
     requires named { (f g : Reading) → Fits (A.knows seat.old) f → Fits (A.knows seat.old) g → meaning f store.now.held cell ≡ meaning g store.now.held cell }
     ensures text { IfOk result (λ text. (f : Reading) → Fits (A.knows seat.old) f → text.items ≡ limited most (print (meaning f store.now.held cell))) }
-    ensures keeps { Keeps A.is_of A.place A.knows names.old names.new seat.old seat.new }
+    ensures keeps { Keeps A.is_of A.place A.knows A.published names.old names.new seat.old seat.new }
     ensures knows { A.knows seat.new ≡ A.knows seat.old }
 {
     let mut printer = Printer::new(alloc, most);

@@ -173,7 +173,7 @@ pub fn spell_anew<A: AtomSource>(
     requires room { HasRoomFor known.old.room draft.now.name }
     requires row_room { 1 ≤ vec_capacity row.old }
     requires empty { row.old.items ≡ [] }
-    ensures keeps { Keeps A.is_of A.place A.knows names.old names.new seat.old seat.new }
+    ensures keeps { Keeps A.is_of A.place A.knows A.published names.old names.new seat.old seat.new }
     ensures knows { A.knows seat.new ≡ known.new.names }
     ensures published { IsPublished known.old.names known.new.names draft.now store.old.held store.new.held }
     ensures hooks { store.new.hooks ≡ store.old.hooks }

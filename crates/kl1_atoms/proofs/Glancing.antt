@@ -15,6 +15,7 @@ use Rattle.kl1_atoms.specs.Rounds.{Starts, Walks, Ends, Compares}
 use Rattle.kl1_atoms.specs.Way.{further}
 use Rattle.kl1_atoms.specs.Plays.{own, with_first, In, Passed, heard_more, Looks, Steps, learned, Learns}
 use Rattle.kl1_atoms.specs.Seeking.{Saw, Glances, Finds}
+use Rattle.kl1_atoms.specs.Knowing.{publishes_none}
 use Rattle.kl1_atoms.proofs.Playing.{no_fewer}
 use Rattle.kl1_atoms.proofs.Rounding.{passed_more, looked_seen, first_twice}
 
@@ -103,6 +104,7 @@ found_ends a b c t i e number more found learns starts is none =
           };
           names = learns.tells.names;
           used_up = (let u = starts.used_up in omega arith);
+          publishes = publishes_none (own a.0).used (own c.0).used (own a.0).knows (own c.0).knows used grown;
           draft = ap (λ (x : Face). x.draft) change;
         },
         (let z : (own a.0).used ≡ (own a.0).used + more = omega arith in used ∙ z),
@@ -129,6 +131,7 @@ learned_ends before mid after t n d i e drafted h same learns walks is at entry 
           adds = record { known = knows; number = subst (λ u. number_by (own after.0).knows u ≡ Some (first_number + e)) text (steps.tells.number h is at ∙ ap (λ m. Some (first_number + m)) entry) };
           names = steps.tells.names;
           used_up = (let u = walks.used_up in omega arith);
+          publishes = publishes_none (own before.0).used (own after.0).used (own before.0).knows (own after.0).knows used grown;
           draft = ap (λ (x : Face). x.draft) change;
         },
         used,

@@ -15,7 +15,7 @@ use Rattle.kl1_atoms.specs.declared.face.View.{View}
 use Rattle.kl1_atoms.specs.declared.round.Round.{Round}
 use Rattle.kl1_atoms.specs.declared.round.Round.TheVariants.{Found, Made, Other}
 use Rattle.kl1_atoms.specs.Names.{number_in, text_in, text_by, HasRoom, Adds, AreNames}
-use Rattle.kl1_atoms.specs.Knowing.{adds_one, option_cases}
+use Rattle.kl1_atoms.specs.Knowing.{adds_one, option_cases, publishes_one}
 use Rattle.kl1_atoms.specs.Way.{further}
 use Rattle.kl1_atoms.specs.Rule.{own_entry, Listed}
 use Rattle.kl1_atoms.specs.Plays.{own, first_of, has_first, with_first, In, Passed, heard_more, Sees, Looks, own_pair, published_by, Publishes, Steps, IsReady}
@@ -128,6 +128,7 @@ made f g h t d drafted walks new drafts is names =
         adds = rw knows (adds_one f.knows t record { number = first_number + own_entry f } walks.other new);
         names = names;
         used_up = rw (used, knows) (simp length-append (let u = walks.used_up in omega arith));
+        publishes = rw (used, knows) (publishes_one f.used f.knows record { text = t; number = record { number = first_number + own_entry f } });
         draft = ap (λ (x : Face). x.draft) is;
       },
       used,
@@ -192,6 +193,7 @@ compared_gives f m g t d drafted (Found e) kin told = (
     adds = subst (λ ks. Adds ks t record { number = first_number + e } g.knows) kin.knows told.0.adds;
     names = told.0.names;
     used_up = told.0.used_up;
+    publishes = rw (← kin.used, ← kin.knows) told.0.publishes;
     draft = told.0.draft;
   },
   told.1 ∙ kin.used,
@@ -268,6 +270,7 @@ ends_at a b c t d number more drafted one two = record {
       adds = subst (λ ks. Adds ks t record { number = number } (own c.0).knows) one.tells.knows two.tells.0.adds;
       names = two.tells.0.names;
       used_up = two.tells.0.used_up;
+      publishes = rw (← one.tells.used, ← one.tells.knows) two.tells.0.publishes;
       draft = two.tells.0.draft;
     },
     two.tells.1 ∙ ap (λ u. u + more) one.tells.used,

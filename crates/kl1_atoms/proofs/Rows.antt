@@ -8,9 +8,9 @@ use Rattle.kl1_model.specs.Limits.{first_number, most_names}
 use Rattle.kl1_model.specs.Text.{is_text}
 use Rattle.kl1_text.specs.BuiltIns.{built_in_of}
 use Rattle.kl1_atoms.specs.declared.known.Known.{Known}
-use Rattle.kl1_atoms.specs.Names.{IsTable, StandIn}
+use Rattle.kl1_atoms.specs.Names.{IsTable, StandIn, PublishesWithin}
 use Rattle.kl1_atoms.specs.Plain.{StandsAt, IsSeatOf, Held}
-use Rattle.kl1_atoms.specs.Knowing.{stand_more, stand_on}
+use Rattle.kl1_atoms.specs.Knowing.{stand_more, stand_on, publishes_none, publishes_one}
 
 -- what a written place holds
 set_same : {X : Type 0} (xs : List X) (i : ℕ) (x : X) → i < length xs → slice_get (slice_set xs i x) i ≡ Some x
@@ -140,6 +140,14 @@ seat_after old new account used_old used_new place t k known seat few name own h
                 subst (λ ps. slice_get ps (most_names * account + j) ≡ Some None) e (set_other old place (most_names * account + j) (Some t) other ∙ seat.free j (let s = put.1 in omega arith) high);
             there = stand_more (StandsAt new) known k (subst (λ ps. StandIn (StandsAt ps) known) e (stand_on (StandsAt old) (StandsAt (slice_set old place (Some t))) known (stood old place t free) seat.there)) here;
           }
+    ]
+
+-- a place is taken only if the text is known anew
+pub held_publishes : (old new : List (Option (List ℕ))) (account used_old used_new place : ℕ) (t : List ℕ) (known : List Known) (k : Known) → Held old new account used_old used_new place t → PublishesWithin used_old used_new known (known ++ k ∷ [])
+held_publishes old new account used_old used_new place t known k held =
+    elim held.change [
+      | inl same ↦ publishes_none used_old used_new known (known ++ k ∷ []) same.1 (rw longer (omega arith))
+      | inr put ↦ subst (λ u. PublishesWithin used_old u known (known ++ k ∷ [])) (sym put.1) (publishes_one used_old known k)
     ]
 
 -- another account's seat, after it

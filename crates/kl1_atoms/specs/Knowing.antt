@@ -13,7 +13,7 @@ use Rattle.std.specs.List.{list_all}
 use Rattle.kl1_text.proofs.Words.{name_byte_bounds}
 use Rattle.kl1_text.specs.Reading.{Reads}
 use Rattle.kl1_text.proofs.BuiltInLaws.{at_place, of_text, built_ins_are_texts, text_found, place_found}
-use Rattle.kl1_atoms.specs.Names.{number_in, text_in, number_by, text_by, Adds, AreNames, IsTable, StandIn, reading}
+use Rattle.kl1_atoms.specs.Names.{number_in, text_in, number_by, text_by, Adds, AreNames, IsTable, StandIn, reading, PublishesWithin}
 
 -- what an option holds
 some_is : (m n : ℕ) → Some m ≡ Some n → m ≡ n
@@ -176,6 +176,26 @@ few_more old t a new adds = elim (cases_Bool (is_some (number_by old t))) [
   | inl known ↦ rw (adds.known, known) (omega arith)
   | inr other ↦ rw (adds.known, other) (simp length-append (omega arith))
 ]
+
+-- a seat that published no name, and knows no fewer
+pub publishes_none : (before after : ℕ) (old new : List Known) → after ≡ before → length old ≤ length new → PublishesWithin before after old new
+publishes_none before after old new same more = record { more = omega arith; within = omega arith }
+
+-- a seat that published the name that it knows anew
+pub publishes_one : (before : ℕ) (old : List Known) (k : Known) → PublishesWithin before (before + 1) old (old ++ k ∷ [])
+publishes_one before old k = record { more = omega arith; within = simp length-append (omega arith) }
+
+-- a seat that published no name, and knows what it knew
+pub publishes_same : (before : ℕ) (old : List Known) → PublishesWithin before before old old
+publishes_same before old = record { more = omega arith; within = omega arith }
+
+-- publishing only while more is known, and then again
+pub publishes_then : (first mid last : ℕ) (old now new : List Known) → PublishesWithin first mid old now → PublishesWithin mid last now new → PublishesWithin first last old new
+publishes_then first mid last old now new one two = record { more = (let a = one.more in let b = two.more in omega arith); within = (let a = one.within in let b = two.within in omega arith) }
+
+-- a seat that knows what it knew has published no name
+pub publishes_nothing : (before after : ℕ) (old new : List Known) → PublishesWithin before after old new → new ≡ old → after ≡ before
+publishes_nothing before after old new within same = let a = within.more in let b = within.within in let c = ap (λ (ks : List Known). length ks) same in omega arith
 
 -- a number that a look-up answered is known
 pub number_known : (old : List Known) (t : List ℕ) (a : AtomNo) (new : List Known) → AreNames new → Adds old t a new → IsSome (text_by new a.number)

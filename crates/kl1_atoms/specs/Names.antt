@@ -1,5 +1,5 @@
 -- What a seat knows: names that aren't built in, each with its number, in the order of their first use.
-use Rattle.std.specs.Prelude.{◌≡◌, ℕ, ◌<◌, ◌≤◌, ◌==◌, ◌⊎◌, if◌then◌else◌, List, [], ◌∷◌, ◌++◌, length, Option, Some, None, IsTrue, IsSome, is_some, bytes_eq}
+use Rattle.std.specs.Prelude.{◌≡◌, ℕ, ◌+◌, ◌<◌, ◌≤◌, ◌==◌, ◌⊎◌, if◌then◌else◌, List, [], ◌∷◌, ◌++◌, length, Option, Some, None, IsTrue, IsSome, is_some, bytes_eq}
 use Rattle.kl1_model.specs.Limits.{first_number, most_names}
 use Rattle.kl1_model.specs.declared.built_in.BuiltIn.{BuiltIn}
 use Rattle.kl1_model.specs.Text.{is_text, text_of}
@@ -47,6 +47,11 @@ added ks t a = if is_some (number_by ks t) then ks else ks ++ record { text = t;
 pub record Adds (old : List Known) (t : List ℕ) (a : AtomNo) (new : List Known) : Type 0 where
   pub known : new ≡ added old t a
   pub number : number_by new t ≡ Some a.number
+
+-- a seat publishes names only while what it knows grows: it has published `before` names and then `after`, and knew `old` and knows `new`
+pub record PublishesWithin (before after : ℕ) (old new : List Known) : Type 0 where
+  pub more : before ≤ after
+  pub within : after + length old ≤ before + length new
 
 -- the numbers and the texts that are known are one to one, and each text is a name
 pub record AreNames (ks : List Known) : Type 0 where

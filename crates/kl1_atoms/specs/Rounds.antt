@@ -7,7 +7,7 @@ use Rattle.kl1_text.specs.Words.{words_of}
 use Rattle.kl1_atoms.specs.declared.face.Face.{Face}
 use Rattle.kl1_atoms.specs.declared.round.Round.{Round}
 use Rattle.kl1_atoms.specs.declared.round.Round.TheVariants.{Found, Made, Other}
-use Rattle.kl1_atoms.specs.Names.{HasRoom, Adds}
+use Rattle.kl1_atoms.specs.Names.{HasRoom, Adds, PublishesWithin}
 use Rattle.kl1_atoms.specs.Rule.{own_entry, Listed}
 use Rattle.kl1_atoms.specs.Plays.{Passed}
 
@@ -46,12 +46,13 @@ pub record Drafts (f g : Face) (ws : List ℕ) : Type 0 where
   pub heard : g.heard ≡ f.heard
   pub draft : g.draft ≡ ws
 
--- the end of a look-up: the text is known by its number, and no draft is kept
+-- the end of a look-up: the text is known by its number, an entry was used only if it is known anew, and no draft is kept
 pub record Ends (f g : Face) (t : List ℕ) (number : ℕ) : Type 0 where
   pub same : SameAccount f g
   pub adds : Adds f.knows t record { number = number } g.knows
   pub names : Listed g.accounts g.knows
   pub used_up : g.used ≤ length g.knows
+  pub publishes : PublishesWithin f.used g.used f.knows g.knows
   pub draft : g.draft ≡ []
 
 -- a face that goes on with the look-up, as far as a comparison tells

@@ -2,7 +2,7 @@
 
 ghost use Rattle.std.specs.Prelude.{◌≡◌, ◌≢◌, ℕ, List, Some, IsSome};
 ghost use Rattle.kl1_atoms.specs.declared.known.Known.{Known};
-ghost use Rattle.kl1_atoms.specs.Names.{text_by, HasRoom, Adds, AreNames};
+ghost use Rattle.kl1_atoms.specs.Names.{text_by, HasRoom, Adds, AreNames, PublishesWithin};
 
 use kl1_text::{AtomNo, AtomText};
 
@@ -20,6 +20,9 @@ pub trait AtomSource {
     /// The names that a seat knows, in the order of their first use.
     ghost knows: { Self.Seat → List Known };
 
+    /// How many names a seat has put into the table.
+    ghost published: { Self.Seat → ℕ };
+
     /// The number of a name, which the seat knows from then on.
     fn intern(&mut self, seat: &mut Self::Seat, text: AtomText) -> AtomNo
         requires of { is_of self.old seat.old }
@@ -27,7 +30,8 @@ pub trait AtomSource {
         ensures of { is_of self.new seat.new }
         ensures place { place seat.new ≡ place seat.old }
         ensures others { (other : Self.Seat) → is_of self.old other → place other ≢ place seat.old → is_of self.new other }
-        ensures adds { Adds (knows seat.old) text result (knows seat.new) };
+        ensures adds { Adds (knows seat.old) text result (knows seat.new) }
+        ensures publishes { PublishesWithin (published seat.old) (published seat.new) (knows seat.old) (knows seat.new) };
 
     /// The name of a number that the seat knows.
     fn text_of(&mut self, seat: &mut Self::Seat, number: AtomNo) -> AtomText
@@ -37,6 +41,7 @@ pub trait AtomSource {
         ensures place { place seat.new ≡ place seat.old }
         ensures others { (other : Self.Seat) → is_of self.old other → place other ≢ place seat.old → is_of self.new other }
         ensures same { knows seat.new ≡ knows seat.old }
+        ensures publishes { published seat.new ≡ published seat.old }
         ensures text { text_by (knows seat.old) number.number ≡ Some result };
 
     /// What a seat knows is one to one.

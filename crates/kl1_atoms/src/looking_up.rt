@@ -1,8 +1,8 @@
 // Making the shared table, and its public look-ups.
 
-ghost use Rattle.std.specs.Prelude.{◌≡◌, ℕ, ◌+◌, ◌-◌, ◌*◌, ◌<◌, ◌≤◌, List, [], ◌∷◌, Some, IsSome, IsTrue, IfOk, slice_get, vec_len};
+ghost use Rattle.std.specs.Prelude.{◌≡◌, ℕ, ◌+◌, ◌-◌, ◌*◌, ◌<◌, ◌≤◌, List, [], ◌∷◌, Some, IsSome, IsTrue, IfOk, slice_get, vec_len, length};
 ghost use Rattle.kl1_model.specs.Limits.{buckets_each, first_number, most_accounts, most_names};
-ghost use Rattle.kl1_atoms.specs.Names.{text_in, text_by, HasRoom, Adds};
+ghost use Rattle.kl1_atoms.specs.Names.{text_in, text_by, HasRoom, Adds, PublishesWithin};
 ghost use Rattle.kl1_text.specs.Words.{words_of};
 ghost use Rattle.kl1_atoms.specs.Plays.{own, has_first};
 ghost use Rattle.kl1_atoms.specs.Seats.{all_faces, face_in, IsSharedSeat, IsNewSharedSeat, new_face, faces_from};
@@ -74,6 +74,7 @@ impl AtomTable {
         ensures of { IsSharedSeat self.now.table.shared.table_id seat.new.badge.table_id self.now.accounts (face_in seat.new.badge.views) seat.new.account }
         ensures account { seat.new.account ≡ seat.old.account }
         ensures adds { Adds (face_in seat.old.badge.views).knows text result (face_in seat.new.badge.views).knows }
+        ensures publishes { PublishesWithin seat.old.used seat.new.used (face_in seat.old.badge.views).knows (face_in seat.new.badge.views).knows }
         ensures turns { (turns.old < turns.new) × (turns.new ≤ turns.old + buckets_each * self.now.accounts) }
     {
         text.shows_text();
@@ -84,6 +85,17 @@ impl AtomTable {
         seat.badge = own.into_badge();
         seat.used = used + ended.more;
         ended.number
+    }
+
+    /// How many entries of its account's own range a seat has published: at most as many as it knows names that aren't built in, and
+    /// all before the others. Its account alone publishes them.
+    pub fn own_entries(&self, seat: &AtomSeat) -> u64
+        requires of { IsSharedSeat self.now.table.shared.table_id seat.now.badge.table_id self.now.accounts (face_in seat.now.badge.views) seat.now.account }
+        ensures used { result ≡ (face_in seat.now.badge.views).used }
+        ensures published { result ≡ seat.now.used }
+        ensures few { result ≤ length (face_in seat.now.badge.views).knows }
+    {
+        seat.used
     }
 
     /// Reads the words of an entry whose name the seat knows.
@@ -110,6 +122,7 @@ impl AtomTable {
         ensures of { IsSharedSeat self.now.table.shared.table_id seat.new.badge.table_id self.now.accounts (face_in seat.new.badge.views) seat.new.account }
         ensures account { seat.new.account ≡ seat.old.account }
         ensures same { (face_in seat.new.badge.views).knows ≡ (face_in seat.old.badge.views).knows }
+        ensures publishes { seat.new.used ≡ seat.old.used }
         ensures text { text_by (face_in seat.old.badge.views).knows number.number ≡ Some result }
     {
         if let Some(built_in) = built_in_at(number.number) {

@@ -72,6 +72,8 @@ impl AtomSource for PlainTable {
 
     ghost knows = { λ seat. seat.known.items };
 
+    ghost published = { λ seat. seat.used };
+
     ghost one_to_one = { λ table seat of. are_names (StandsAt table.places.items) seat.known.items of.table of.there };
 
     fn intern(&mut self, seat: &mut PlainSeat, text: AtomText) -> AtomNo {

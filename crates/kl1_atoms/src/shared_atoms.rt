@@ -24,6 +24,8 @@ impl<'t> AtomSource for SharedAtoms<'t> {
 
     ghost knows = { λ seat. (face_in seat.badge.views).knows };
 
+    ghost published = { λ seat. seat.used };
+
     ghost one_to_one = { λ atoms seat of. seat.names.names };
 
     fn intern(&mut self, seat: &mut AtomSeat, text: AtomText) -> AtomNo {

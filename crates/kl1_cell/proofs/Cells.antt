@@ -12,7 +12,7 @@ use Rattle.kl1_tally.specs.Seats.{Book}
 use Rattle.kl1_event.specs.Views.{reduced_or}
 use Rattle.kl1_event.specs.declared.refusal.Refusal.{Refusal}
 use Rattle.kl1_journal.specs.Keeping.{Reading, Fits, Held, kept_of}
-use Rattle.kl1_journal.proofs.Readings.{reading_of, reading_fits}
+use Rattle.kl1_user.specs.Readings.{reading_of, reading_fits}
 use Rattle.kl1_cell.specs.declared.past.Past.{Past}
 use Rattle.kl1_cell.specs.Counted.{IsCounted, with_more, events_by, steps_by, past_by, is_run, ended}
 use Rattle.kl1_cell.specs.Cells.{StandsIn}

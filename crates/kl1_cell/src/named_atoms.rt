@@ -27,6 +27,8 @@ impl<'t, K: CellNaming> AtomSource for NamedAtoms<'t, K> {
 
     ghost knows = { λ seat. (face_in seat.badge.views).knows };
 
+    ghost published = { λ seat. seat.used };
+
     ghost one_to_one = { λ atoms seat of. seat.names.names };
 
     fn intern(&mut self, seat: &mut AtomSeat, text: AtomText) -> AtomNo {

@@ -4,38 +4,18 @@ use Rattle.std.proofs.lemmas.Bool.{cases_Bool, eqb-true}
 use Rattle.std.proofs.lemmas.Option.{slice_get_past}
 use Rattle.kl1_model.specs.Text.{built_ins}
 use Rattle.kl1_model.specs.declared.built_in.BuiltIn.{BuiltIn}
-use Rattle.kl1_text.specs.declared.atom_no.AtomNo.{AtomNo}
 use Rattle.kl1_text.specs.declared.cell_name.CellName.{CellName}
 use Rattle.kl1_text.specs.BuiltIns.{built_in_at}
 use Rattle.kl1_atoms.specs.declared.known.Known.{Known}
-use Rattle.kl1_atoms.specs.Names.{text_in, text_by, text_or_mark, AreNames}
-use Rattle.kl1_atoms.specs.Knowing.{is_reading, option_cases}
-use Rattle.kl1_effects.specs.Fitting.{Reading, Fits}
+use Rattle.kl1_atoms.specs.Names.{text_in, text_by, AreNames}
+use Rattle.kl1_atoms.specs.Knowing.{option_cases}
+use Rattle.kl1_effects.specs.Fitting.{Reading, Fits, marked_reading, marked_fits}
 use Rattle.kl1_effects.specs.Naming.{AreSmall}
-
--- numbers read as texts, and those that aren't known as a mark and the number
-abbrev pub cell_reading : ℕ → List Known → Reading
-cell_reading mark ks c = text_or_mark mark c.number (text_by ks c.number)
-
-pub reading_fits : (mark : ℕ) (ks : List Known) → mark < 32 → AreNames ks → Fits ks (cell_reading mark ks)
-reading_fits mark ks low names =
-    let r = is_reading mark ks low names in
-    record {
-      reads = record {
-        once = λ a b e.
-            let x : AtomNo = record { number = a.number } in
-            let y : AtomNo = record { number = b.number } in
-            let same : a.number ≡ b.number = ap (λ (z : AtomNo). z.number) (r.once x y e) in
-            ap (λ n. let c : CellName = record { number = n } in c) same;
-        texts = r.texts;
-      };
-      texts = λ t n e. ap (text_or_mark mark n) (names.back t n e);
-    }
 
 -- a number that is the same for all readings is known
 pub is_known : (ks : List Known) (c : CellName) → AreNames ks → ((f g : Reading) → Fits ks f → Fits ks g → f c ≡ g c) → IsSome (text_by ks c.number)
 is_known ks c names same =
-    let e = same (cell_reading 1 ks) (cell_reading 2 ks) (reading_fits 1 ks (omega arith) names) (reading_fits 2 ks (omega arith) names) in
+    let e = same (marked_reading 1 ks) (marked_reading 2 ks) (marked_fits 1 ks (omega arith) names) (marked_fits 2 ks (omega arith) names) in
     elim (option_cases (text_by ks c.number)) [
       | inl none ↦ absurd (marks c.number (rw none at e))
       | inr some ↦ rw some.1 refl

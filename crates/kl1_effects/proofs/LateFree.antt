@@ -16,11 +16,10 @@ use Rattle.kl1_stream.specs.Reports.{HasSent, ClosedAs, EndsAt}
 use Rattle.kl1_stream.proofs.Tails.{BreaksOff, off_is}
 use Rattle.kl1_ancestors.specs.declared.shoen.Shoen.{Shoen}
 use Rattle.kl1_shoen.specs.Shoens.{has_number, changed}
-use Rattle.kl1_effects.specs.Fitting.{Reading, built}
+use Rattle.kl1_effects.specs.Fitting.{Reading, built, reading_of, reading_fits}
 use Rattle.kl1_effects.specs.Account.{meaning, shoen_with}
 use Rattle.kl1_effects.specs.Late.{is_variable, is_tail_of, IsNoTail, StaysFree, KeepsFree}
 use Rattle.kl1_effects.proofs.Works.{torn}
-use Rattle.kl1_effects.proofs.CellReadings.{cell_reading, reading_fits}
 
 -- an unbound variable after another is replaced
 other_stays : (v w : ℕ) (t : Term) → (w == v) ≡ false → replace w t (variable v) ≡ variable v
@@ -154,6 +153,6 @@ unbound_by h f v formed inside e = by_case (found v h.bindings) refl
 -- a variable that stays free of meaning anything else stays unbound
 pub free_unbound : (v : ℕ) (h k : Held CellName) → StaysFree v h k → IsFormed k → v < k.variables → is_bound v h.bindings ≡ false → is_bound v k.bindings ≡ false
 free_unbound v h k free formed inside unbound =
-    let f = cell_reading 1 [] in
-    let fits = reading_fits 1 [] (omega arith) no_names in
+    let f = reading_of [] in
+    let fits = reading_fits [] no_names in
     unbound_by k f v formed inside (free f fits.reads (term_of-unbound f h v unbound))

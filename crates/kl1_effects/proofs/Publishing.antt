@@ -5,8 +5,8 @@ use Rattle.kl1_model.specs.Limits.{most_names}
 use Rattle.kl1_text.specs.declared.atom_no.AtomNo.{AtomNo}
 use Rattle.kl1_text.specs.declared.cell_name.CellName.{CellName}
 use Rattle.kl1_atoms.specs.declared.known.Known.{Known}
-use Rattle.kl1_atoms.specs.Names.{number_by, added, Adds, HasRoom}
-use Rattle.kl1_atoms.specs.Knowing.{option_cases, still_known}
+use Rattle.kl1_atoms.specs.Names.{number_by, added, Adds, HasRoom, PublishesWithin}
+use Rattle.kl1_atoms.specs.Knowing.{option_cases, still_known, publishes_same, publishes_then}
 use Rattle.kl1_clause.specs.NameList.{with_text, with_texts}
 use Rattle.kl1_clause.proofs.Growth.{with_none}
 use Rattle.kl1_effects.specs.Account.{texts_of}
@@ -84,20 +84,32 @@ published_all first texts i now row le p =
 
 -- ---- what calls leave of a table and of a seat
 
-module _ {T S : Type 0} (is_of : T → S → Type 0) (place : S → ℕ × ℕ) (knows : S → List Known) where
-  pub keeps_same : (table : T) (seat : S) → is_of table seat → Keeps is_of place knows table table seat seat
-  keeps_same table seat of = record { of = of; stays = refl; others = λ other o ne. o; grows = λ t n e. e }
+module _ {T S : Type 0} (is_of : T → S → Type 0) (place : S → ℕ × ℕ) (knows : S → List Known) (published : S → ℕ) where
+  pub keeps_same : (table : T) (seat : S) → is_of table seat → Keeps is_of place knows published table table seat seat
+  keeps_same table seat of = record { of = of; stays = refl; others = λ other o ne. o; grows = λ t n e. e; publishes = publishes_same (published seat) (knows seat) }
+
+  -- two calls, one after the other
+  pub keeps_then : (old mid new : T) (before seat after : S) → Keeps is_of place knows published old mid before seat → Keeps is_of place knows published mid new seat after → Keeps is_of place knows published old new before after
+  keeps_then old mid new before seat after one two = record {
+    of = two.of;
+    stays = two.stays ∙ one.stays;
+    others = λ other o ne. two.others other (one.others other o ne) (λ e. ne (e ∙ one.stays));
+    grows = λ t n e. two.grows t n (one.grows t n e);
+    publishes = publishes_then (published before) (published seat) (published after) (knows before) (knows seat) (knows after) one.publishes two.publishes;
+  }
 
   -- one look-up more
-  pub keeps_more : (old mid new : T) (before seat after : S) (t : List ℕ) (a : AtomNo) → Keeps is_of place knows old mid before seat → is_of new after → place after ≡ place seat → ((other : S) → is_of mid other → (place other ≡ place seat → ⊥) → is_of new other) → Adds (knows seat) t a (knows after) →
-      Keeps is_of place knows old new before after
-  keeps_more old mid new before seat after t a k of stays others adds = record {
+  pub keeps_more : (old mid new : T) (before seat after : S) (t : List ℕ) (a : AtomNo) → Keeps is_of place knows published old mid before seat → is_of new after → place after ≡ place seat → ((other : S) → is_of mid other → (place other ≡ place seat → ⊥) → is_of new other) → Adds (knows seat) t a (knows after) →
+      PublishesWithin (published seat) (published after) (knows seat) (knows after) → Keeps is_of place knows published old new before after
+  keeps_more old mid new before seat after t a k of stays others adds publishes = record {
     of = of;
     stays = stays ∙ k.stays;
     others = λ other o ne. others other (k.others other o ne) (λ e. ne (e ∙ k.stays));
     grows = λ u n e. still_known (knows seat) t a (knows after) adds u n (k.grows u n e);
+    publishes = publishes_then (published before) (published seat) (published after) (knows before) (knows seat) (knows after) k.publishes publishes;
   }
 
+module _ {S : Type 0} (knows : S → List Known) where
   -- what the names of an account are told of a look-up
   pub adds_to : (seat after : S) (now learned : List Known) (t : List ℕ) (a : AtomNo) → knows seat ≡ now → learned ≡ added now t a → Adds (knows seat) t a (knows after) → (knows after ≡ learned) × Adds now t a learned
   adds_to seat after now learned t a same is adds =

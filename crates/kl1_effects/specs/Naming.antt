@@ -3,7 +3,7 @@ use Rattle.std.specs.Prelude.{◌≡◌, ℕ, ◌<◌, ◌^◌, List, map, Some}
 use Rattle.std.specs.List.{AllByRecursion}
 use Rattle.kl1_text.specs.declared.cell_name.CellName.{CellName}
 use Rattle.kl1_atoms.specs.declared.known.Known.{Known}
-use Rattle.kl1_atoms.specs.Names.{number_by}
+use Rattle.kl1_atoms.specs.Names.{number_by, PublishesWithin}
 pub use Rattle.kl1_clause.specs.NameList.{IsNameList}
 use Rattle.kl1_effects.specs.Fitting.{Reading, Fits}
 
@@ -30,9 +30,11 @@ pub record ReadsDraft (names : List Known) (texts : List (List ℕ)) (row : List
 abbrev pub Grows : List Known → List Known → Type 0
 Grows old new = (t : List ℕ) (n : ℕ) → number_by old t ≡ Some n → number_by new t ≡ Some n
 
--- what a call leaves of a table of names and of an account's seat: what the seat knows only grows, and other seats stay seats
-pub record Keeps {T S : Type 0} (is_of : T → S → Type 0) (place : S → ℕ × ℕ) (knows : S → List Known) (old new : T) (before after : S) : Type 0 where
+-- what a call leaves of a table of names and of an account's seat: what the seat knows only grows, it publishes names only while that
+-- grows, and other seats stay seats
+pub record Keeps {T S : Type 0} (is_of : T → S → Type 0) (place : S → ℕ × ℕ) (knows : S → List Known) (published : S → ℕ) (old new : T) (before after : S) : Type 0 where
   pub of : is_of new after
   pub stays : place after ≡ place before
   pub others : (other : S) → is_of old other → (place other ≡ place before → ⊥) → is_of new other
   pub grows : Grows (knows before) (knows after)
+  pub publishes : PublishesWithin (published before) (published after) (knows before) (knows after)

@@ -173,7 +173,7 @@ pub fn publish<A: AtomSource>(
     requires room { length texts.now ≤ known.old.room }
     requires empty { row.old.items ≡ [] }
     requires row_room { length texts.now ≤ vec_capacity row.old }
-    ensures keeps { Keeps A.is_of A.place A.knows names.old names.new seat.old seat.new }
+    ensures keeps { Keeps A.is_of A.place A.knows A.published names.old names.new seat.old seat.new }
     ensures knows { A.knows seat.new ≡ known.new.names }
     ensures texts { texts_of known.new.names ≡ with_texts (texts_of known.old.names) texts.now }
     ensures row { AreNumbersOf known.new.names texts.now row.new.items }

@@ -2,7 +2,8 @@
 use Rattle.std.proofs.Common.{◌≡◌, ℕ, Bool, List, ap, ◌∙◌, sym, refl}
 use Rattle.kl1_model.specs.declared.inspection.Inspection.{Inspection}
 use Rattle.kl1_model.specs.Term.{Term, Terms}
-use Rattle.kl1_model.specs.Guard.{look, decided, is_found}
+use Rattle.kl1_model.specs.Guard.{is_found}
+use Rattle.kl1_model.specs.Outcome.{look, decided}
 use Rattle.kl1_guard.specs.declared.form.Form.{Form}
 use Rattle.kl1_guard.specs.declared.form.Form.TheVariants.{Variable, Integer, Atom, Structure}
 use Rattle.kl1_guard.specs.declared.outcome.Outcome.{Outcome}

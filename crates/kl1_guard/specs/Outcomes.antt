@@ -4,7 +4,7 @@ use Rattle.kl1_model.specs.declared.built_in.BuiltIn.{BuiltIn}
 use Rattle.kl1_model.specs.declared.comparison.Comparison.{Comparison}
 use Rattle.kl1_model.specs.declared.inspection.Inspection.{Inspection}
 use Rattle.kl1_model.specs.Term.{Term}
-use Rattle.kl1_model.specs.Guard as model
+use Rattle.kl1_model.specs.Outcome as model
 use Rattle.kl1_text.specs.Reading.{Reads}
 use Rattle.kl1_guard.specs.declared.outcome.Outcome.{Outcome}
 use Rattle.kl1_guard.specs.declared.outcome.Outcome.TheVariants.{Agrees, Clashes, Waits}

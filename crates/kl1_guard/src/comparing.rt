@@ -1,7 +1,8 @@
 // Tests that compare the values of two expressions.
 
 ghost use Rattle.std.specs.Prelude.{◌≡◌, ℕ, IfOk, IsOk, OnOk};
-ghost use Rattle.kl1_model.specs.Guard.{compared, compared_numbers};
+ghost use Rattle.kl1_model.specs.Guard.{compared};
+ghost use Rattle.kl1_model.specs.Outcome.{compared_numbers};
 ghost use Rattle.kl1_guard.specs.Evaluations.{HasRoom};
 ghost use Rattle.kl1_guard.specs.Outcomes.{outcome_of, ComparesAs, IsKnown, IsWaiting};
 

@@ -1,7 +1,7 @@
 // What tests come to.
 
 ghost use Rattle.std.specs.Prelude.{◌≡◌, ℕ};
-ghost use Rattle.kl1_model.specs.Guard.{decided};
+ghost use Rattle.kl1_model.specs.Outcome.{decided};
 ghost use Rattle.kl1_guard.specs.Outcomes.{outcome_of, IsKnown};
 
 /// What a test comes to: it holds; it doesn't, and never will; or it waits for this variable.

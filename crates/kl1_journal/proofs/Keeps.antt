@@ -26,7 +26,7 @@ use Rattle.kl1_event.specs.Views.{reduced_or}
 use Rattle.kl1_journal.specs.declared.change.Change.{Change}
 use Rattle.kl1_journal.specs.Changes.{IsChange, SessionsFit, changed}
 use Rattle.kl1_journal.specs.Keeping.{kept_of, IsKept}
-use Rattle.kl1_journal.proofs.Readings.{reading_of, reading_fits}
+use Rattle.kl1_user.specs.Readings.{reading_of, reading_fits}
 use Rattle.kl1_journal.proofs.Changing.{noted_is, sessions_fit}
 
 -- an event did this to an account, for each reading of the names that it uses then

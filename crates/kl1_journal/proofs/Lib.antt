@@ -1,3 +1,2 @@
-pub mod Readings
 pub mod Changing
 pub mod Keeps

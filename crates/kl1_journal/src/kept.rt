@@ -85,8 +85,8 @@ impl<A: AtomSource, C: CodeSource> Kept<A, C> {
         let _journal = &self.journal;
     }
 
-    /// What an event does to the account and its journal, and the reply. If memory is refused, both are as before, and so is what
-    /// the seat knows; a code may have been put in. A session is closed without memory.
+    /// What an event does to the account and its journal, and the reply. If memory is refused, both are as before, and so are what
+    /// the seat knows and what it has published; a code may have been put in. A session is closed without memory.
     pub fn apply(
         &mut self,
         names: &mut A,
@@ -98,6 +98,7 @@ impl<A: AtomSource, C: CodeSource> Kept<A, C> {
         ensures step { IfOk result (λ reply. (f : Reading) → Fits self.new.1.0.names f → done (kept_of f self.old.1) (event_of event.now) ≡ record { kept = kept_of f self.new.1; reply = reply_of reply }) }
         ensures logout { IsTrue (is_logout event.now) → IsOk result }
         ensures err { OnErr result (self.new.1 ≡ self.old.1) }
+        ensures published { OnErr result (A.published self.new.0 ≡ A.published self.old.0) }
         ensures of { A.is_of names.new self.new.0 }
         ensures place { A.place self.new.0 ≡ A.place self.old.0 }
         ensures others { (other : A.Seat) → A.is_of names.old other → (A.place other ≡ A.place self.old.0 → ⊥) → A.is_of names.new other }
@@ -123,6 +124,7 @@ impl<A: AtomSource, C: CodeSource> Kept<A, C> {
         requires placed { ArePlaced (C.has codes.now) self.old.1.0.modules }
         ensures step { IfOk result (λ refused. (f : Reading) → Fits self.new.1.0.names f → done (kept_of f self.old.1) (reduce_event goal.0 clause.0) ≡ record { kept = kept_of f self.new.1; reply = reduced_or refused }) }
         ensures err { OnErr result (self.new.1 ≡ self.old.1) }
+        ensures published { OnErr result (A.published self.new.0 ≡ A.published self.old.0) }
         ensures of { A.is_of names.new self.new.0 }
         ensures place { A.place self.new.0 ≡ A.place self.old.0 }
         ensures others { (other : A.Seat) → A.is_of names.old other → (A.place other ≡ A.place self.old.0 → ⊥) → A.is_of names.new other }

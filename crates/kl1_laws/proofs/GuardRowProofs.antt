@@ -6,9 +6,8 @@ use Rattle.kl1_model.specs.declared.number.Number.TheVariants.{Value, Overflow, 
 use Rattle.kl1_model.specs.Term.{integer, atom, variable}
 use Rattle.kl1_model.specs.Meaning.{pair}
 use Rattle.kl1_model.specs.Arithmetic.{operated, comes_to, awaits, is_no_expression, evaluated}
-use Rattle.kl1_model.specs.Guard.{agrees, clashes, waits, comparison}
 use Rattle.kl1_model.specs.Module.{bad, read_module}
-use Rattle.kl1_model.specs.Match.{accepts, rejects, suspends}
+use Rattle.kl1_model.specs.Outcome.{agrees, clashes, waits, comparison, accepts, rejects, suspends}
 use Rattle.kl1_model.specs.Print.{print}
 use Rattle.std.specs.Fmt.{digits}
 use Rattle.kl1_model.specs.Token.{tokens_within}

@@ -8,9 +8,9 @@ use Rattle.kl1_model.specs.Meaning.{pair}
 use Rattle.kl1_model.specs.Print.{print}
 use Rattle.kl1_model.specs.Token.{tokens_of_text}
 use Rattle.kl1_model.specs.Arithmetic.{operated, comes_to, awaits, is_no_expression, evaluated}
-use Rattle.kl1_model.specs.Guard.{Outcome, agrees, clashes, waits, test_of, comparison, outcome_by}
+use Rattle.kl1_model.specs.Guard.{test_of}
 use Rattle.kl1_model.specs.Module.{Module, Clause, Reading, good, bad, bare_tokens, term_of_tokens, read_module}
-use Rattle.kl1_model.specs.Match.{Verdict, accepts, rejects, suspends, verdict}
+use Rattle.kl1_model.specs.Outcome.{Outcome, agrees, clashes, waits, comparison, outcome_by, Verdict, accepts, rejects, suspends, named_verdict}
 
 -- lines, each ended by a line feed
 abbrev pub lines : List (List ℕ) → List ℕ
@@ -66,7 +66,7 @@ arguments_in t = none
 -- the verdict of the first clause on the arguments of a goal
 abbrev pub first_verdict : List Clause → Terms → Option Verdict
 first_verdict [] ts = None
-first_verdict (c ∷ cs) ts = Some (verdict c ts)
+first_verdict (c ∷ cs) ts = Some (named_verdict c ts)
 
 -- the verdict of a clause on the arguments of a goal, each a text
 abbrev pub verdict_in : List ℕ → List ℕ → Option Verdict

@@ -9,3 +9,9 @@ pub mod ReadFaults
 pub mod GuardRows
 pub mod ArithmeticLaws
 pub mod StreamRows
+pub mod Reached
+pub mod SectionLaws
+pub mod AllowanceLaws
+pub mod EndingLaws
+pub mod GoalLaws
+pub mod ControlLaws

@@ -1,5 +1,9 @@
-//! Laws of shoens: of their tree, of what they are charged, and of how they end.
+//! Laws of shoens: of their tree, of what they are charged, of how they end, and of their control streams.
 ghost use Rattle.kl1_model.specs.TreeLaws.{PathsGoOn, PathsFollowParents, FreshIsTree, TreesStay, HeldBackBelow, ChargesPath, ReductionsCharge, MonitorsChargeNobody, OthersChargeNobody, FreshIsOfLiving, EndedHaveNoGoals, RefusalsChangeNothing, AbortEndsAllBelow, AbortRemovesAllBelow, TerminationsEnd, TerminationsEndAlone, EndingHaveNoGoals, ReachedGoOn};
+ghost use Rattle.kl1_laws.specs.AllowanceLaws.{ReductionsHaveAllowance, ReductionsStayWithin, NoneIsChargedMore};
+ghost use Rattle.kl1_laws.specs.ControlLaws.{ControlTailsAreUnbound, ControlStreamsAreMessages};
+ghost use Rattle.kl1_laws.specs.EndingLaws.{EndingAreDue, DueTerminate, DueTerminateAlone, NoneIsLeftDue, NoneIsLeftDueAlone, LivingHaveGoals};
+ghost use Rattle.kl1_laws.specs.GoalLaws.{GoalsAreFew};
 
 /// The path of a shoen is that shoen and then the path of its parent: by its place, where parents have lesser numbers, and by its
 /// number, where shoens are a tree. They are one in a fresh account, and after each event.
@@ -24,6 +28,20 @@ pub fn reductions_charge_their_path()
     ensures others { OthersChargeNobody }
 {}
 
+/// A goal is reduced only if each shoen on its path was charged less than its allowance, and if shoens are a tree, as
+/// `paths_go_on` says of each account, none of them is charged more than its allowance then. So no shoen of an account was charged
+/// more than its allowance, whatever was done to the account since it was fresh.
+pub fn reductions_stay_within_allowances()
+    ensures before { ReductionsHaveAllowance }
+    ensures after { ReductionsStayWithin }
+    ensures most { NoneIsChargedMore }
+{}
+
+/// An account has at most 8,192 goals alive, whatever was done to it since it was fresh.
+pub fn goals_alive_are_few()
+    ensures { GoalsAreFew }
+{}
+
 /// Goals and monitors are of living shoens, in a fresh account and after each event: a shoen that has ended has none.
 pub fn ended_shoens_have_no_goals()
     ensures fresh { FreshIsOfLiving }
@@ -42,11 +60,30 @@ pub fn abort_ends_all_below()
     ensures goals { AbortRemovesAllBelow }
 {}
 
-/// After a reduction those shoens of the path terminate, and no other, that are found without goals, each where those before it
-/// have ended; those report before that they are exhausted that were charged just what they may be, and don't end now.
+/// After a reduction those shoens of the path terminate, and no other, that live and have no goal and no living child when those
+/// before them have ended, and none such is left; those report before that they are exhausted that were charged just what they may
+/// be, and don't end now.
 pub fn terminations_end_shoens_without_goals()
     ensures charged { TerminationsEnd }
     ensures alone { TerminationsEndAlone }
     ensures goals { EndingHaveNoGoals }
+    ensures due { EndingAreDue }
+    ensures terminate { DueTerminate }
+    ensures terminate_alone { DueTerminateAlone }
+    ensures left { NoneIsLeftDue }
+    ensures left_alone { NoneIsLeftDueAlone }
     ensures reached { ReachedGoOn }
+{}
+
+/// Each living shoen of an account has a goal or a living child, whatever was done to the account since it was fresh, so that none
+/// is left idle.
+pub fn living_shoens_have_goals()
+    ensures { LivingHaveGoals }
+{}
+
+/// The tail of the control stream that the console keeps of a shoen is unbound, whatever was done to the account since it was fresh;
+/// and what the shoen's monitor has still to read is messages, and then that tail.
+pub fn control_tails_are_unbound()
+    ensures tails { ControlTailsAreUnbound }
+    ensures streams { ControlStreamsAreMessages }
 {}

@@ -1,5 +1,7 @@
 //! Laws of verdicts and of what goals wait for.
 ghost use Rattle.kl1_model.specs.WaitsLaws.{RejectsStays, RejectsNeverAccepts, AcceptsStays, SuspendsStays, SuspendsWaits, CandidatesAreOpen, ClausesStay, HeadStays, TermStays, ControlStays, SubstitutesStay};
+ghost use Rattle.kl1_model.specs.OutcomeLaws.{OutcomesAnswer, VerdictsAnswer, AcceptsPlaces, VerdictsName};
+ghost use Rattle.kl1_laws.specs.SectionLaws.{SectionsAreInOrder, CandidatesOfModulesAreOpen, CandidatesOfCallsAreOpen};
 
 /// What a clause says of a goal stays until a variable that it names is replaced. It accepts a goal for good, and rejects it for
 /// good where it names none: while the match waits, a test may reject the goal by a place that isn't the first of its variable,
@@ -13,9 +15,24 @@ pub fn verdicts_wait_for_named_variables()
     ensures waits { SuspendsWaits }
 {}
 
-/// The candidates of a goal are the clauses that accept it and above whose nearest `otherwise` each clause rejects it.
+/// The outcome of each test has the test's answer. The verdict that names variables, and in whose tests they have other numbers, has
+/// the answer of the plain verdict, for every clause and every goal; if it accepts, then with the terms at the same places; and it names the
+/// variables that the clause waits for.
+pub fn outcomes_have_answers()
+    ensures tests { OutcomesAnswer }
+    ensures verdicts { VerdictsAnswer }
+    ensures places { AcceptsPlaces }
+    ensures names { VerdictsName }
+{}
+
+/// The candidates of a goal are the clauses that accept it and above whose nearest `otherwise` each clause rejects it: of clauses
+/// whose sections are in order; of the clauses of each predicate of a module that was read; and so of each call in each account,
+/// whatever was done to it since it was fresh.
 pub fn candidates_stand_in_an_open_section()
-    ensures { CandidatesAreOpen }
+    ensures clauses { CandidatesAreOpen }
+    ensures sections { SectionsAreInOrder }
+    ensures modules { CandidatesOfModulesAreOpen }
+    ensures calls { CandidatesOfCallsAreOpen }
 {}
 
 /// The clause by which a goal can step, and the variables that it waits for, stay until one of these is replaced; and so does

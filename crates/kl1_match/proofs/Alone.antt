@@ -7,8 +7,7 @@ use Rattle.kl1_model.specs.TermCode.{NodeCode, nodes_of_all}
 use Rattle.kl1_model.specs.declared.built_in.BuiltIn.TheVariants.{True}
 use Rattle.kl1_model.specs.Meaning.{variables_of, variables_in as variables_of_all, highest_in}
 use Rattle.kl1_model.specs.Module.{Clause}
-use Rattle.kl1_model.specs.Match.{agrees, clashes, both, Matched, with_outcome, match_term, match_terms, alike_with, each_alike, test_outcome, tests_outcome, guard_outcome, verdict, verdict_with}
-use Rattle.kl1_model.specs.Guard.{alike}
+use Rattle.kl1_model.specs.Outcome.{agrees, clashes, both, Matched, with_outcome, match_term, match_terms, alike_with, each_alike, test_outcome, tests_outcome, guard_outcome, named_verdict, verdict_with, alike}
 use Rattle.kl1_term.specs.Variables.{variables_in}
 use Rattle.kl1_term.proofs.VariableFacts.{variables_all}
 use Rattle.kl1_clause.specs.declared.compiled_clause.CompiledClause.{CompiledClause}
@@ -165,7 +164,7 @@ guard_agrees names compiled clause places plain is = hold_agree (highest_in (ter
 
 -- the verdict of such a clause is that of its match
 pub plain_verdict : (names : List (List ℕ)) (compiled : CompiledClause) (clause : Clause) (ts : Terms) → IsPlain compiled.patterns.items compiled.tests.items → IsCompiled names compiled clause →
-    verdict clause ts ≡ verdict_with (match_terms clause.patterns ts) (match_terms clause.patterns ts).outcome
+    named_verdict clause ts ≡ verdict_with (match_terms clause.patterns ts) (match_terms clause.patterns ts).outcome
 plain_verdict names compiled clause ts plain is =
     let m = match_terms clause.patterns ts in
     ap (λ o. verdict_with m (both (both m.outcome o) (guard_outcome m.places clause.tests))) (places_agree names compiled clause ts plain is)

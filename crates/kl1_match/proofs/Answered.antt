@@ -3,7 +3,7 @@ use Rattle.std.proofs.Common.{◌≡◌, ℕ, List, [], ◌∷◌, ◌++◌, ref
 use Rattle.std.proofs.lemmas.List.{append-nil}
 use Rattle.kl1_model.specs.Term.{Term, variable, integer, atom, structure, Terms, none, more, count_of, Replacement}
 use Rattle.kl1_model.specs.TermCode.{NodeCode, nodes_of_all}
-use Rattle.kl1_model.specs.Match.{Outcome, agrees, clashes, waits, both, Matched, with_outcome, match_both, match_term, match_terms}
+use Rattle.kl1_model.specs.Outcome.{Outcome, agrees, clashes, waits, both, Matched, with_outcome, match_both, match_term, match_terms}
 use Rattle.kl1_store.specs.declared.cell.Cell.{Cell}
 use Rattle.kl1_store.specs.Held.{Held}
 use Rattle.kl1_store.specs.Meaning.{term_of, terms_of}

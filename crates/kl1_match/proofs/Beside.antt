@@ -2,7 +2,7 @@
 use Rattle.std.proofs.Common.{◌≡◌, ℕ, List, [], ◌∷◌, ◌++◌, map, refl, sym, ap, ◌∙◌, subst, ℤ, inl, inr}
 use Rattle.kl1_model.specs.declared.built_in.BuiltIn.{BuiltIn}
 use Rattle.kl1_model.specs.Term.{Term, integer, atom, structure}
-use Rattle.kl1_model.specs.Match.{Outcome, clashes, waits, with_outcome, match_term}
+use Rattle.kl1_model.specs.Outcome.{Outcome, clashes, waits, with_outcome, match_term}
 use Rattle.kl1_text.specs.Reading.{Reads}
 use Rattle.kl1_store.specs.declared.cell.Cell.{Cell}
 use Rattle.kl1_store.specs.Held.{Held, IsIn, IsWalked}

@@ -1,7 +1,7 @@
 -- Parts of a clause that are looked at one after another.
 use Rattle.std.proofs.Common.{◌≡◌, ℕ, Bool, true, false, List, [], ◌∷◌, ◌++◌, refl, sym, ap, ◌∙◌, subst, append_assoc, append-nil}
 use Rattle.kl1_model.specs.declared.built_in.BuiltIn.{BuiltIn}
-use Rattle.kl1_model.specs.Match.{Outcome, agrees, both}
+use Rattle.kl1_model.specs.Outcome.{Outcome, agrees, both}
 use Rattle.kl1_text.specs.Reading.{Reads}
 use Rattle.kl1_store.specs.Held.{Held}
 use Rattle.kl1_match.specs.Waiting.{AreUnbound}

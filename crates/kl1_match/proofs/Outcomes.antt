@@ -1,6 +1,6 @@
 -- Outcomes of parts together.
 use Rattle.std.proofs.Common.{ℕ, Bool, true, false, List, ◌++◌, sym, ap, ◌∙◌, subst, append-nil}
-use Rattle.kl1_model.specs.Match.{Outcome, agrees, clashes, waits, both}
+use Rattle.kl1_model.specs.Outcome.{Outcome, agrees, clashes, waits, both}
 use Rattle.kl1_match.specs.Outcomes.{WaitsFor, ComesTo}
 use Rattle.kl1_match.proofs.Answered.{both-clashes}
 use Rattle.kl1_match.proofs.Naming.{more_same}

@@ -8,7 +8,7 @@ use Rattle.std.proofs.lemmas.Bool.{le-leb, lt-leb, false≢true}
 use Rattle.kl1_model.specs.declared.built_in.BuiltIn.{BuiltIn}
 use Rattle.kl1_model.specs.declared.built_in.BuiltIn.TheVariants.{EmptyList}
 use Rattle.kl1_model.specs.Meaning.{nil}
-use Rattle.kl1_model.specs.Instance.{term_at}
+use Rattle.kl1_model.specs.Match.{term_at}
 use Rattle.kl1_text.specs.Reading.{Reads}
 use Rattle.kl1_store.specs.declared.binding.Binding.{Binding}
 use Rattle.kl1_store.specs.Held.{Shape, Held, with_variable, is_bound, IsWithin, AreWithin, IsIn}

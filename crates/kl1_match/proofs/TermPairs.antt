@@ -8,7 +8,7 @@ use Rattle.std.proofs.lemmas.Bool.{or_parts, or_from, or_left, false≢true, fal
 use Rattle.kl1_model.specs.declared.built_in.BuiltIn.{BuiltIn}
 use Rattle.kl1_model.specs.Term.{Term, same_term}
 use Rattle.kl1_model.specs.Same.{same, differs, unknown, passive, clash, awaited}
-use Rattle.kl1_model.specs.Match.{own_variables}
+use Rattle.kl1_model.specs.Outcome.{own_variables}
 use Rattle.kl1_model.proofs.TermFacts.{same_term_decides}
 use Rattle.kl1_model.proofs.Clashes.{no_clash}
 use Rattle.kl1_model.proofs.SameEach.{awaited_self, same_from}

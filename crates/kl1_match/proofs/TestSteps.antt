@@ -10,8 +10,9 @@ use Rattle.kl1_model.specs.Term.{Term, variable, integer, atom, structure, none,
 use Rattle.kl1_model.specs.TermCode.{first_term, behind_first}
 use Rattle.kl1_model.specs.Same.{awaited}
 use Rattle.kl1_model.specs.Guard as guard
-use Rattle.kl1_model.specs.Guard.{Outcome, agrees, clashes, both, inspection_named, comparison_named, holds, looks, is_same, is_other, compares, test_of, test_substituted, same_outcome, other_outcome, outcome_by}
-use Rattle.kl1_model.specs.Match.{own_outcome, test_outcome, tests_outcome}
+use Rattle.kl1_model.specs.Outcome as model
+use Rattle.kl1_model.specs.Guard.{inspection_named, comparison_named, holds, looks, is_same, is_other, compares, test_of, test_substituted}
+use Rattle.kl1_model.specs.Outcome.{Outcome, agrees, clashes, both, same_outcome, other_outcome, outcome_by, own_outcome, test_outcome, tests_outcome}
 use Rattle.kl1_text.specs.Reading.{Reads}
 use Rattle.kl1_store.specs.Held.{Held}
 use Rattle.kl1_clause.specs.declared.name.Name.{Name}
@@ -146,11 +147,11 @@ module _ {N : Type 0} (built : BuiltIn → N) (t : Tests N) where
   -- ---- a comparison
 
   sides : (q : Comparison) (x y : TestAt N) (i j : ℤ) (b : Bool) (f : N → List ℕ) → b ≡ guard.compared q i j → test_term built f t x ≡ integer i → test_term built f t y ≡ integer j →
-      own_outcome (last_of t) (guard.comparison q (test_term built f t x) (test_term built f t y)) ≡ own_outcome (last_of t) (guard.decided b)
+      own_outcome (last_of t) (model.comparison q (test_term built f t x) (test_term built f t y)) ≡ own_outcome (last_of t) (model.decided b)
   sides q x y i j b f e one two =
-      ap (λ k. own_outcome (last_of t) (guard.comparison q k (test_term built f t y))) one
-      ∙ ap (λ k. own_outcome (last_of t) (guard.comparison q (integer i) k)) two
-      ∙ ap (λ d. own_outcome (last_of t) (guard.decided d)) (sym e)
+      ap (λ k. own_outcome (last_of t) (model.comparison q k (test_term built f t y))) one
+      ∙ ap (λ k. own_outcome (last_of t) (model.comparison q (integer i) k)) two
+      ∙ ap (λ d. own_outcome (last_of t) (model.decided d)) (sym e)
 
   pub compared_integers : (q : Comparison) (x y : TestAt N) (i j : ℤ) (before : List ℕ) (b : Bool) → b ≡ guard.compared q i j →
       ((f : N → List ℕ) → test_term built f t x ≡ integer i) → ((f : N → List ℕ) → test_term built f t y ≡ integer j) → ComparedAs built t q x y before before b
@@ -160,23 +161,23 @@ module _ {N : Type 0} (built : BuiltIn → N) (t : Tests N) where
   -- ---- a test
 
   found_at : (f : N → List ℕ) → Test (TestAt N) → Outcome
-  found_at f test = own_outcome (last_of t) (guard.outcome_of (test_in (test_term built f t) test))
+  found_at f test = own_outcome (last_of t) (model.outcome_of (test_in (test_term built f t) test))
 
   pub found_holds : (test : Test (TestAt N)) (before : List ℕ) → test ≡ Holds → FoundAs built t test before before true
-  found_holds test before e = it_agrees built t.held _ before before refl (λ f reads. ap (λ k. own_outcome (last_of t) (guard.outcome_of (test_in (test_term built f t) k))) e)
+  found_holds test before e = it_agrees built t.held _ before before refl (λ f reads. ap (λ k. own_outcome (last_of t) (model.outcome_of (test_in (test_term built f t) k))) e)
 
   pub found_looks : (test : Test (TestAt N)) (i : Inspection) (x : TestAt N) (o : found.Outcome TestVariable) (before after : List ℕ) (b : Bool) → test ≡ Looks i x → LooksAs built (test_number t) i (λ f. test_term built f t x) o → SettledAs built t o before after b → FoundAs built t test before after b
   found_looks test i x o before after b e looked c =
-      comes_as built t.held _ _ before after b (λ f reads. ap (own_outcome (last_of t)) (looked f reads) ∙ sym (ap (λ k. own_outcome (last_of t) (guard.outcome_of (test_in (test_term built f t) k))) e)) c
+      comes_as built t.held _ _ before after b (λ f reads. ap (own_outcome (last_of t)) (looked f reads) ∙ sym (ap (λ k. own_outcome (last_of t) (model.outcome_of (test_in (test_term built f t) k))) e)) c
 
   pub found_same : (test : Test (TestAt N)) (x y : TestAt N) (before after : List ℕ) (b : Bool) → test ≡ IsSame x y → SameAs built t x y before after b → FoundAs built t test before after b
-  found_same test x y before after b e c = comes_as built t.held _ _ before after b (λ f reads. sym (ap (λ k. own_outcome (last_of t) (guard.outcome_of (test_in (test_term built f t) k))) e)) c
+  found_same test x y before after b e c = comes_as built t.held _ _ before after b (λ f reads. sym (ap (λ k. own_outcome (last_of t) (model.outcome_of (test_in (test_term built f t) k))) e)) c
 
   pub found_other : (test : Test (TestAt N)) (x y : TestAt N) (before after : List ℕ) (b : Bool) → test ≡ IsOther x y → OtherAs built t x y before after b → FoundAs built t test before after b
-  found_other test x y before after b e c = comes_as built t.held _ _ before after b (λ f reads. sym (ap (λ k. own_outcome (last_of t) (guard.outcome_of (test_in (test_term built f t) k))) e)) c
+  found_other test x y before after b e c = comes_as built t.held _ _ before after b (λ f reads. sym (ap (λ k. own_outcome (last_of t) (model.outcome_of (test_in (test_term built f t) k))) e)) c
 
   pub found_compares : (test : Test (TestAt N)) (q : Comparison) (x y : TestAt N) (before after : List ℕ) (b : Bool) → test ≡ Compares q x y → ComparedAs built t q x y before after b → FoundAs built t test before after b
-  found_compares test q x y before after b e c = comes_as built t.held _ _ before after b (λ f reads. sym (ap (λ k. own_outcome (last_of t) (guard.outcome_of (test_in (test_term built f t) k))) e)) c
+  found_compares test q x y before after b e c = comes_as built t.held _ _ before after b (λ f reads. sym (ap (λ k. own_outcome (last_of t) (model.outcome_of (test_in (test_term built f t) k))) e)) c
 
   pub test_there : (test other : Test (TestAt N)) → test ≡ other → IsTestAt (IsTermAt t) test → IsTestAt (IsTermAt t) other
   test_there test other e i = let P : Test (TestAt N) → Type 0 = λ k. IsTestAt (IsTermAt t) k in subst P e i
@@ -218,7 +219,7 @@ test_again s (structure g (more a (more b (more c ts)))) no_one = refl
 -- an outcome by a test that was found
 abbrev outcome_found : Option guard.Test → Outcome
 outcome_found None = clashes
-outcome_found (Some test) = guard.outcome_of test
+outcome_found (Some test) = model.outcome_of test
 
 by_found : (s : ℕ → Term) (o : Option guard.Test) → outcome_by s o ≡ outcome_found (option_map (test_substituted s) o)
 by_found s None = refl

@@ -6,7 +6,7 @@ use Rattle.kl1_model.specs.declared.built_in.BuiltIn.{BuiltIn}
 use Rattle.kl1_model.specs.Term.{Term, Terms, more}
 use Rattle.kl1_model.specs.TermCode.{nodes_of_all}
 use Rattle.kl1_model.specs.Module.{Clause}
-use Rattle.kl1_model.specs.Match.{clashes, waits, both, Matched, match_terms, each_alike, guard_outcome, awaited_in, accepts, rejects, verdict, verdict_with}
+use Rattle.kl1_model.specs.Outcome.{clashes, waits, both, Matched, match_terms, each_alike, guard_outcome, awaited_in, accepts, rejects, named_verdict, verdict_with}
 use Rattle.kl1_text.specs.Reading.{Reads}
 use Rattle.kl1_store.specs.declared.cell.Cell.{Cell}
 use Rattle.kl1_store.specs.Held.{Held}
@@ -219,7 +219,7 @@ suspended built names compiled h goal at cells places before after le empty ne a
 -- ---- verdicts of clauses of which the match alone decides
 
 -- a match that clashes decides, whatever the places and the tests say
-pub clash_verdict : (c : Clause) (ts : Terms) → (match_terms c.patterns ts).outcome ≡ clashes → verdict c ts ≡ rejects []
+pub clash_verdict : (c : Clause) (ts : Terms) → (match_terms c.patterns ts).outcome ≡ clashes → named_verdict c ts ≡ rejects []
 clash_verdict c ts clash =
     let m = match_terms c.patterns ts in
     ap (λ o. verdict_with m (both (both o (each_alike m.places)) (guard_outcome m.places c.tests))) clash ∙ ap (λ o. rejects (awaited_in o)) clash

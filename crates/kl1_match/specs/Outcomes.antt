@@ -1,7 +1,7 @@
 -- What parts of a clause come to, by the variables that are named for them.
 use Rattle.std.specs.Prelude.{◌≡◌, ℕ, Bool, true, false, List, [], ◌++◌}
 use Rattle.kl1_model.specs.declared.built_in.BuiltIn.{BuiltIn}
-use Rattle.kl1_model.specs.Match.{Outcome, agrees, clashes, waits}
+use Rattle.kl1_model.specs.Outcome.{Outcome, agrees, clashes, waits}
 use Rattle.kl1_text.specs.Reading.{Reads}
 use Rattle.kl1_store.specs.Held.{Held}
 use Rattle.kl1_match.specs.Waiting.{AreUnbound, AreSame}

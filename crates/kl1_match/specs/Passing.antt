@@ -2,7 +2,7 @@
 use Rattle.std.specs.Prelude.{◌≡◌, ℕ, suc, ◌+◌, Bool, true, false, List, [], ◌++◌}
 use Rattle.kl1_model.specs.declared.built_in.BuiltIn.{BuiltIn}
 use Rattle.kl1_model.specs.Same.{clash, awaited, passive, same, differs, unknown}
-use Rattle.kl1_model.specs.Match.{own_variables}
+use Rattle.kl1_model.specs.Outcome.{own_variables}
 use Rattle.kl1_text.specs.Reading.{Reads}
 use Rattle.kl1_guard.specs.declared.pair.Pair.{Pair}
 use Rattle.kl1_guard.specs.Alike.{is_among, wait_for, some_pair}

@@ -5,9 +5,8 @@ use Rattle.kl1_model.specs.declared.comparison.Comparison.{Comparison}
 use Rattle.kl1_model.specs.Term.{Term}
 use Rattle.kl1_model.specs.TermCode.{first_term}
 use Rattle.kl1_model.specs.Same.{passive, awaited}
-use Rattle.kl1_model.specs.Guard as guard
-use Rattle.kl1_model.specs.Guard.{other_outcome}
-use Rattle.kl1_model.specs.Match.{own_outcome, test_outcome, tests_outcome}
+use Rattle.kl1_model.specs.Outcome as model
+use Rattle.kl1_model.specs.Outcome.{other_outcome, own_outcome, test_outcome, tests_outcome}
 use Rattle.kl1_clause.specs.declared.instruction.Instruction.{Instruction}
 use Rattle.kl1_clause.specs.declared.instruction.Instruction.TheVariants.{Variable, Integer, Atom, Structure}
 use Rattle.kl1_guard.specs.declared.outcome.Outcome.{Outcome}
@@ -37,7 +36,7 @@ SettledAs built t outcome before after answer = Comes built t.held (λ f. own_ou
 
 -- what comes of `=`
 abbrev pub SameAs : {N : Type 0} → (BuiltIn → N) → Tests N → TestAt N → TestAt N → List ℕ → List ℕ → Bool → Type 0
-SameAs built t x y before after answer = Comes built t.held (λ f. own_outcome (last_of t) (guard.alike (test_term built f t x) (test_term built f t y))) before after answer
+SameAs built t x y before after answer = Comes built t.held (λ f. own_outcome (last_of t) (model.alike (test_term built f t x) (test_term built f t y))) before after answer
 
 -- what comes of `\=`
 abbrev pub OtherAs : {N : Type 0} → (BuiltIn → N) → Tests N → TestAt N → TestAt N → List ℕ → List ℕ → Bool → Type 0
@@ -45,11 +44,11 @@ OtherAs built t x y before after answer = Comes built t.held (λ f. own_outcome 
 
 -- what comes of a comparison
 abbrev pub ComparedAs : {N : Type 0} → (BuiltIn → N) → Tests N → Comparison → TestAt N → TestAt N → List ℕ → List ℕ → Bool → Type 0
-ComparedAs built t c x y before after answer = Comes built t.held (λ f. own_outcome (last_of t) (guard.comparison c (test_term built f t x) (test_term built f t y))) before after answer
+ComparedAs built t c x y before after answer = Comes built t.held (λ f. own_outcome (last_of t) (model.comparison c (test_term built f t x) (test_term built f t y))) before after answer
 
 -- what comes of a test
 abbrev pub FoundAs : {N : Type 0} → (BuiltIn → N) → Tests N → Test (TestAt N) → List ℕ → List ℕ → Bool → Type 0
-FoundAs built t test before after answer = Comes built t.held (λ f. own_outcome (last_of t) (guard.outcome_of (test_in (test_term built f t) test))) before after answer
+FoundAs built t test before after answer = Comes built t.held (λ f. own_outcome (last_of t) (model.outcome_of (test_in (test_term built f t) test))) before after answer
 
 -- what comes of the test at a place of the row
 abbrev pub TestComes : {N : Type 0} → (BuiltIn → N) → Tests N → ℕ → List ℕ → List ℕ → Bool → Type 0

@@ -3,8 +3,8 @@ use Rattle.std.specs.Prelude.{◌≡◌, ℕ, Bool, true, false, List, [], ◌++
 use Rattle.kl1_model.specs.declared.built_in.BuiltIn.{BuiltIn}
 use Rattle.kl1_model.specs.Term.{Term, variable, integer, atom, structure, Terms, none}
 use Rattle.kl1_model.specs.Module.{Clause}
-use Rattle.kl1_model.specs.Match as model
-use Rattle.kl1_model.specs.Match.{Matched, agrees, clashes, waits, match_terms, verdict, accepts, rejects, suspends}
+use Rattle.kl1_model.specs.Outcome as model
+use Rattle.kl1_model.specs.Outcome.{Matched, agrees, clashes, waits, match_terms, named_verdict, accepts, rejects, suspends}
 use Rattle.kl1_text.specs.Reading.{Reads}
 use Rattle.kl1_store.specs.declared.cell.Cell.{Cell}
 use Rattle.kl1_store.specs.Held.{Held}
@@ -56,7 +56,7 @@ pub record IsVerdict {N : Type 0} (built : BuiltIn → N) (names : List N) (comp
   pub named_as : NamesAs given named
   pub unbound : AreUnbound h named
   pub awaited : after ≡ before ++ named
-  pub gives : (f : N → List ℕ) → Reads built f → (clause : Clause) → IsCompiled (map f names) compiled clause → GivesVerdict f h places named given (verdict clause (arguments_of_goal (term_of f h goal)))
+  pub gives : (f : N → List ℕ) → Reads built f → (clause : Clause) → IsCompiled (map f names) compiled clause → GivesVerdict f h places named given (named_verdict clause (arguments_of_goal (term_of f h goal)))
 
 -- the verdict of a match alone: it agrees, with the terms at these places, or clashes, or waits for these variables, with the
 -- terms at the places that were reached

@@ -7,7 +7,7 @@ use Rattle.kl1_model.specs.declared.operator.Operator.{Operator}
 use Rattle.kl1_model.specs.Term.{Term, variable, integer, atom, structure, Terms, none, more, count_of, same_term, same_terms, each_substituted}
 use Rattle.kl1_model.specs.Same.{clash, any_clash, same, differs, unknown, passive, awaited, all_awaited}
 use Rattle.kl1_model.specs.Arithmetic.{Formula, Scan, found, waits_for, wrong_type, with_left, with_right, operator_named, scan, scan_operation}
-use Rattle.kl1_model.specs.Match.{beside, own_variables}
+use Rattle.kl1_model.specs.Outcome.{beside, own_variables}
 use Rattle.kl1_model.proofs.Substitutions.{count-each_substituted}
 
 -- the number of a variable of the goal there

@@ -10,8 +10,8 @@ use Rattle.kl1_model.specs.Term.{Term, variable, integer, atom, structure, Terms
 use Rattle.kl1_model.specs.Meaning.{highest, highest_in}
 use Rattle.kl1_model.specs.Same.{Passive, same, differs, unknown, passive, awaited, all_awaited}
 use Rattle.kl1_model.specs.Arithmetic.{Evaluated, comes_to, awaits, is_no_expression, evaluated}
-use Rattle.kl1_model.specs.Guard.{Outcome, agrees, clashes, waits, both, decided, Test, holds, looks, is_same, is_other, compares, test_of, inspection_named, comparison_named, test_substituted, is_found, look, same_outcome, other_outcome, alike, compared_sides, outcome_of, outcome_by}
-use Rattle.kl1_model.specs.Match.{awaited_in, places_alike, alike_with, each_alike, beside, test_variable, own_variables, own_outcome, test_outcome, tests_outcome, guard_outcome}
+use Rattle.kl1_model.specs.Guard.{Test, holds, looks, is_same, is_other, compares, test_of, inspection_named, comparison_named, test_substituted, is_found}
+use Rattle.kl1_model.specs.Outcome.{Outcome, agrees, clashes, waits, both, decided, look, same_outcome, other_outcome, alike, compared_sides, outcome_of, outcome_by, awaited_in, places_alike, alike_with, each_alike, beside, test_variable, own_variables, own_outcome, test_outcome, tests_outcome, guard_outcome}
 use Rattle.kl1_model.specs.Waits.{LeavesEach, awaited_by_evaluated}
 use Rattle.kl1_model.specs.WaitsLaws.{place_substituted, places_substituted}
 use Rattle.kl1_model.proofs.SameEach.{awaited_self}

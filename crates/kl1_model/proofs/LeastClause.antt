@@ -3,10 +3,9 @@ use Rattle.std.proofs.Common.{◌≡◌, ℕ, suc, ◌≤◌, ◌==◌, ◌&&◌
 use Rattle.std.specs.Prelude.{Option, Some, None, is_some, find, option_map}
 use Rattle.std.specs.List.{list_all}
 use Rattle.std.proofs.lemmas.Bool.{cond-true, cond-false, eq-eqb, ne_eqb}
-use Rattle.kl1_model.specs.Term.{Term, Terms}
+use Rattle.kl1_model.specs.Term.{Term, Terms, Replacement}
 use Rattle.kl1_model.specs.Module.{Clause, Module}
-use Rattle.kl1_model.specs.Match as model
-use Rattle.kl1_model.specs.Match.{Call, call_of, clauses_of, Candidate, candidate_by, candidates_within, candidates_from, candidates_of, fails, is_rejected, verdict, accepts, rejects, suspends}
+use Rattle.kl1_model.specs.Match.{Answer, yes, no, wait, Call, call_of, clauses_of, Candidate, candidate_by, candidates_within, candidates_from, candidates_of, fails, is_no, places_of, verdict}
 use Rattle.kl1_model.specs.Reduction.{Move, commits, raises, failure, term_move, built_in_move}
 use Rattle.kl1_model.specs.Choice.{call_clauses}
 use Rattle.kl1_model.specs.Waits.{term_clause, least_by, least_within, least_from, least_clause}
@@ -16,17 +15,17 @@ abbrev pub first_number : List Candidate → Option ℕ
 first_number [] = None
 first_number (k ∷ ks) = Some k.number
 
--- whether each clause rejects
-abbrev pub all_reject : List Clause → Terms → Bool
-all_reject cs ts = list_all (λ c. is_rejected (verdict c ts)) cs
+-- whether the verdict of each clause is no
+abbrev pub all_no : List Clause → Terms → Bool
+all_no cs ts = list_all (λ c. is_no (verdict c ts)) cs
 
 abbrev chosen_from : Bool → List Candidate → Option ℕ
 chosen_from rejected ks = if rejected then Some 0 else first_number ks
 
-by_verdict_within : (n : ℕ) (c : Clause) (ks : List Candidate) (r : Option ℕ) (v : model.Verdict) → r ≡ first_number ks → least_by (Some n) r r v ≡ first_number (candidate_by n c v ++ ks)
-by_verdict_within n c ks r (accepts places) e = refl
-by_verdict_within n c ks r (rejects vs) e = e
-by_verdict_within n c ks r (suspends vs) e = e
+by_verdict_within : (n : ℕ) (c : Clause) (ps : List Replacement) (ks : List Candidate) (r : Option ℕ) (v : Answer) → r ≡ first_number ks → least_by (Some n) r r v ≡ first_number (candidate_by n c ps v ++ ks)
+by_verdict_within n c ps ks r yes e = refl
+by_verdict_within n c ps ks r no e = e
+by_verdict_within n c ps ks r wait e = e
 
 within_if : (b : Bool) (m : Option ℕ) (ks : List Candidate) → m ≡ first_number ks → (if b then m else None) ≡ first_number (if b then ks else [])
 within_if true m ks e = e
@@ -37,23 +36,23 @@ least-within section n [] ts = refl
 least-within section n (c ∷ cs) ts =
     let later = least_within section (suc n) cs ts in
     let ks = candidates_within section (suc n) cs ts in
-    within_if (c.section == section) (least_by (Some n) later later (verdict c ts)) (candidate_by n c (verdict c ts) ++ ks) (by_verdict_within n c ks later (verdict c ts) (least-within section (suc n) cs ts))
+    within_if (c.section == section) (least_by (Some n) later later (verdict c ts)) (candidate_by n c (places_of c ts) (verdict c ts) ++ ks) (by_verdict_within n c (places_of c ts) ks later (verdict c ts) (least-within section (suc n) cs ts))
 
--- the first clause that doesn't reject is of its own section
-within_first : (n : ℕ) (c : Clause) (cs : List Clause) (ts : Terms) → candidates_within c.section n (c ∷ cs) ts ≡ candidate_by n c (verdict c ts) ++ candidates_within c.section (suc n) cs ts
-within_first n c cs ts = cond-true (c.section == c.section) (candidate_by n c (verdict c ts) ++ candidates_within c.section (suc n) cs ts) [] (eq-eqb c.section c.section refl)
+-- the first clause whose verdict isn't no is of its own section
+within_first : (n : ℕ) (c : Clause) (cs : List Clause) (ts : Terms) → candidates_within c.section n (c ∷ cs) ts ≡ candidate_by n c (places_of c ts) (verdict c ts) ++ candidates_within c.section (suc n) cs ts
+within_first n c cs ts = cond-true (c.section == c.section) (candidate_by n c (places_of c ts) (verdict c ts) ++ candidates_within c.section (suc n) cs ts) [] (eq-eqb c.section c.section refl)
 
-by_verdict : (rest : Bool) (n : ℕ) (c : Clause) (ks js : List Candidate) (r w : Option ℕ) (v : model.Verdict) → r ≡ chosen_from rest ks → w ≡ first_number js →
-    least_by (Some n) r w v ≡ chosen_from (is_rejected v && rest) (if is_rejected v then ks else candidate_by n c v ++ js)
-by_verdict rest n c ks js r w (accepts places) e f = refl
-by_verdict rest n c ks js r w (rejects vs) e f = e
-by_verdict rest n c ks js r w (suspends vs) e f = f
+by_verdict : (rest : Bool) (n : ℕ) (c : Clause) (ps : List Replacement) (ks js : List Candidate) (r w : Option ℕ) (v : Answer) → r ≡ chosen_from rest ks → w ≡ first_number js →
+    least_by (Some n) r w v ≡ chosen_from (is_no v && rest) (if is_no v then ks else candidate_by n c ps v ++ js)
+by_verdict rest n c ps ks js r w yes e f = refl
+by_verdict rest n c ps ks js r w no e f = e
+by_verdict rest n c ps ks js r w wait e f = f
 
-pub least-chosen : (n : ℕ) (cs : List Clause) (ts : Terms) → least_from n cs ts ≡ chosen_from (all_reject cs ts) (candidates_from n cs ts)
+pub least-chosen : (n : ℕ) (cs : List Clause) (ts : Terms) → least_from n cs ts ≡ chosen_from (all_no cs ts) (candidates_from n cs ts)
 least-chosen n [] ts = refl
 least-chosen n (c ∷ cs) ts =
-    by_verdict (all_reject cs ts) n c (candidates_from (suc n) cs ts) (candidates_within c.section (suc n) cs ts) (least_from (suc n) cs ts) (least_within c.section (suc n) cs ts) (verdict c ts) (least-chosen (suc n) cs ts) (least-within c.section (suc n) cs ts)
-    ∙ ap (λ ks. chosen_from (is_rejected (verdict c ts) && all_reject cs ts) (if is_rejected (verdict c ts) then candidates_from (suc n) cs ts else ks)) (sym (within_first n c cs ts))
+    by_verdict (all_no cs ts) n c (places_of c ts) (candidates_from (suc n) cs ts) (candidates_within c.section (suc n) cs ts) (least_from (suc n) cs ts) (least_within c.section (suc n) cs ts) (verdict c ts) (least-chosen (suc n) cs ts) (least-within c.section (suc n) cs ts)
+    ∙ ap (λ ks. chosen_from (is_no (verdict c ts) && all_no cs ts) (if is_no (verdict c ts) then candidates_from (suc n) cs ts else ks)) (sym (within_first n c cs ts))
 
 -- the numbers of candidates are not below that of the first clause
 abbrev pub AreFrom : ℕ → List Candidate → Type 0
@@ -64,10 +63,10 @@ from_lower : (m n : ℕ) (ks : List Candidate) → m ≤ n → AreFrom n ks → 
 from_lower m n [] le a = tt
 from_lower m n (k ∷ ks) le a = (let p = a.0 in omega arith, from_lower m n ks le a.1)
 
-from_by : (n : ℕ) (c : Clause) (ks : List Candidate) (v : model.Verdict) → AreFrom (suc n) ks → AreFrom n (candidate_by n c v ++ ks)
-from_by n c ks (accepts places) a = (omega arith, from_lower n (suc n) ks (omega arith) a)
-from_by n c ks (rejects vs) a = from_lower n (suc n) ks (omega arith) a
-from_by n c ks (suspends vs) a = from_lower n (suc n) ks (omega arith) a
+from_by : (n : ℕ) (c : Clause) (ps : List Replacement) (ks : List Candidate) (v : Answer) → AreFrom (suc n) ks → AreFrom n (candidate_by n c ps v ++ ks)
+from_by n c ps ks yes a = (omega arith, from_lower n (suc n) ks (omega arith) a)
+from_by n c ps ks no a = from_lower n (suc n) ks (omega arith) a
+from_by n c ps ks wait a = from_lower n (suc n) ks (omega arith) a
 
 from_if : (b : Bool) (n : ℕ) (ks : List Candidate) → AreFrom n ks → AreFrom n (if b then ks else [])
 from_if true n ks a = a
@@ -76,7 +75,7 @@ from_if false n ks a = tt
 pub are_from_within : (section n : ℕ) (cs : List Clause) (ts : Terms) → AreFrom n (candidates_within section n cs ts)
 are_from_within section n [] ts = tt
 are_from_within section n (c ∷ cs) ts =
-    from_if (c.section == section) n (candidate_by n c (verdict c ts) ++ candidates_within section (suc n) cs ts) (from_by n c (candidates_within section (suc n) cs ts) (verdict c ts) (are_from_within section (suc n) cs ts))
+    from_if (c.section == section) n (candidate_by n c (places_of c ts) (verdict c ts) ++ candidates_within section (suc n) cs ts) (from_by n c (places_of c ts) (candidates_within section (suc n) cs ts) (verdict c ts) (are_from_within section (suc n) cs ts))
 
 from_either : (b : Bool) (n : ℕ) (ks js : List Candidate) → AreFrom n ks → AreFrom n js → AreFrom n (if b then ks else js)
 from_either true n ks js a l = a
@@ -85,7 +84,7 @@ from_either false n ks js a l = l
 pub are_from : (n : ℕ) (cs : List Clause) (ts : Terms) → AreFrom n (candidates_from n cs ts)
 are_from n [] ts = tt
 are_from n (c ∷ cs) ts =
-    from_either (is_rejected (verdict c ts)) n (candidates_from (suc n) cs ts) (candidates_within c.section n (c ∷ cs) ts)
+    from_either (is_no (verdict c ts)) n (candidates_from (suc n) cs ts) (candidates_within c.section n (c ∷ cs) ts)
     (from_lower n (suc n) (candidates_from (suc n) cs ts) (omega arith) (are_from (suc n) cs ts))
     (are_from_within c.section n (c ∷ cs) ts)
 

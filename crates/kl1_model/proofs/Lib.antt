@@ -19,10 +19,17 @@ pub mod ScanFinds
 pub mod ScanStays
 pub mod LookStays
 pub mod GuardStays
+pub mod Renamed
+pub mod OutcomeAnswers
+pub mod VerdictAnswers
+pub mod OutcomeNames
+pub mod VerdictNames
+pub mod NamedWaits
 pub mod Beside
 pub mod VerdictStays
 pub mod RejectsNever
 pub mod VerdictWaits
+pub mod ClauseStays
 pub mod OpenSections
 pub mod TermStays
 pub mod ReadClauses

@@ -6,10 +6,11 @@ use Rattle.std.proofs.lemmas.List.{map-append}
 use Rattle.kl1_model.specs.Term.{Term, variable, integer, atom, structure, Terms, none, more, terms_of, count_of, substituted, each_substituted, Replacement}
 use Rattle.kl1_model.specs.Meaning.{highest_in}
 use Rattle.kl1_model.specs.Same.{Passive, same, differs, unknown, passive, awaited}
-use Rattle.kl1_model.specs.Guard.{Outcome, agrees, clashes, waits, both, same_outcome, alike, test_of, outcome_by}
-use Rattle.kl1_model.specs.Match.{Matched, with_outcome, match_term, match_terms, places_alike, alike_with, each_alike, beside, test_variable, own_outcome, test_outcome, tests_outcome, guard_outcome, awaited_in}
+use Rattle.kl1_model.specs.Guard.{test_of}
+use Rattle.kl1_model.specs.Outcome.{Outcome, agrees, clashes, waits, both, same_outcome, alike, outcome_by, Matched, with_outcome, match_term, match_terms, places_alike, alike_with, each_alike, beside, test_variable, own_outcome, test_outcome, tests_outcome, guard_outcome, awaited_in}
 use Rattle.kl1_model.specs.Waits.{LeavesEach}
-use Rattle.kl1_model.specs.WaitsLaws.{place_substituted, places_substituted, RejectsNeverAccepts}
+use Rattle.kl1_model.specs.WaitsLaws.{place_substituted, places_substituted}
+use Rattle.kl1_model.specs.OutcomeLaws.{NamedRejectsNeverAccepts}
 use Rattle.kl1_model.proofs.Clashes.{same_is_equal}
 use Rattle.kl1_model.proofs.Substitutions.{count-each_substituted}
 use Rattle.kl1_model.proofs.GuardStays.{then_substituted, everywhere, behind_last, few_test, by_test, guard_stays, each_alike_stays}
@@ -190,8 +191,8 @@ never s tests m n f w e h =
       | inr x ↦ agrees_or_clashes (guard_outcome n.places tests) (tests_clash (highest_in (terms_of tests)) ps n.places tests (omega arith) a w (guard_stays s m.places tests (subst (λ o. LeavesEach s (awaited_in o)) (sym x) tt) ∙ x)) k.1
     ]
 
-pub rejects_never_accepts : RejectsNeverAccepts
-rejects_never_accepts s c ts vs places e h =
+pub named_rejects_never_accepts : NamedRejectsNeverAccepts
+named_rejects_never_accepts s c ts vs places e h =
     let m = match_terms c.patterns ts in
     let n = match_terms c.patterns (each_substituted s ts) in
     never s c.tests m n (clashes_stay s c.patterns ts) (all_reached s c.patterns ts) (was_clash m (whole c.tests m) vs e).0 (was_agreed n (whole c.tests n) places h).0

@@ -4,12 +4,13 @@ use Rattle.std.specs.Prelude.{bytes_eq, Option, Some, None}
 use Rattle.std.proofs.lemmas.List.{map-append}
 use Rattle.kl1_model.specs.Term.{Term, variable, integer, atom, structure, Terms, none, more, count_of, substituted, each_substituted, Replacement}
 use Rattle.kl1_model.specs.Module.{Clause}
-use Rattle.kl1_model.specs.Guard.{Outcome, agrees, clashes, waits, both}
-use Rattle.kl1_model.specs.Match.{Matched, with_outcome, match_both, match_term, match_terms, each_alike, guard_outcome, awaited_in, Verdict, accepts, rejects, suspends, verdict_with, verdict_of, verdict}
-use Rattle.kl1_model.specs.Waits.{LeavesEach, least_by, least_within, least_from, awaited_after, awaited_within, awaited_by_clauses}
-use Rattle.kl1_model.specs.WaitsLaws.{place_substituted, places_substituted, RejectsStays, AcceptsStays, SuspendsStays, ClausesStay}
+use Rattle.kl1_model.specs.Outcome.{Outcome, agrees, clashes, waits, both, Matched, with_outcome, match_both, match_term, match_terms, each_alike, guard_outcome, awaited_in, Verdict, accepts, rejects, suspends, verdict_with, verdict_of, named_verdict}
+use Rattle.kl1_model.specs.Waits.{LeavesEach}
+use Rattle.kl1_model.specs.WaitsLaws.{place_substituted, places_substituted, ClausesStay}
+use Rattle.kl1_model.specs.OutcomeLaws.{NamedRejectsStays, NamedAcceptsStays, NamedSuspendsStays}
 use Rattle.kl1_model.proofs.Substitutions.{count-each_substituted}
 use Rattle.kl1_model.proofs.SameStays.{left_front, left_back}
+use Rattle.kl1_model.proofs.NamedWaits.{named_least_by, named_least_within, named_least_from, named_after, named_within, named_by_clauses, least_from_named, clauses_named}
 use Rattle.kl1_model.proofs.GuardStays.{Stays, both_stay, guard_stays, each_alike_stays}
 
 -- ---- outcomes that stay
@@ -128,7 +129,7 @@ whole_stays s tests m =
 
 -- the verdict where the match stays and the whole outcome is this
 stays_with : (s : ℕ → Term) (c : Clause) (ts : Terms) (o : Outcome) → whole c.tests (match_terms c.patterns ts) ≡ o → Left s (match_terms c.patterns ts).outcome → LeavesEach s (awaited_in o) →
-    verdict c (each_substituted s ts) ≡ verdict_with (after s (match_terms c.patterns ts)) o
+    named_verdict c (each_substituted s ts) ≡ verdict_with (after s (match_terms c.patterns ts)) o
 stays_with s c ts o e left l =
     let m = match_terms c.patterns ts in
     ap (verdict_of c.tests) (match_all_stays s c.patterns ts left)
@@ -150,7 +151,7 @@ was_waiting m clashes vs e = absurd (cc)
 was_waiting m (waits ws) vs e = cc
 
 -- a match that doesn't clash stays where the variables for which it waits are left, and so does what it names
-open_stays : (s : ℕ → Term) (c : Clause) (ts : Terms) (o : Outcome) → (match_terms c.patterns ts).outcome ≡ o → whole c.tests (match_terms c.patterns ts) ≡ clashes → LeavesEach s (awaited_in o) → verdict c (each_substituted s ts) ≡ rejects (awaited_in o)
+open_stays : (s : ℕ → Term) (c : Clause) (ts : Terms) (o : Outcome) → (match_terms c.patterns ts).outcome ≡ o → whole c.tests (match_terms c.patterns ts) ≡ clashes → LeavesEach s (awaited_in o) → named_verdict c (each_substituted s ts) ≡ rejects (awaited_in o)
 open_stays s c ts agrees e w l = stays_with s c ts clashes w (subst (λ o. Left s o) (sym e) tt) tt ∙ ap (λ o. rejects (awaited_in o)) e
 open_stays s c ts clashes e w l =
     let k : (match_terms c.patterns (each_substituted s ts)).outcome ≡ clashes = clashes_stay s c.patterns ts e in
@@ -158,8 +159,8 @@ open_stays s c ts clashes e w l =
     ap (verdict_with n) (ap (λ o. both (both o (each_alike n.places)) (guard_outcome n.places c.tests)) k) ∙ ap (λ o. rejects (awaited_in o)) k
 open_stays s c ts (waits vs) e w l = stays_with s c ts clashes w (subst (λ o. Left s o) (sym e) l) tt ∙ ap (λ o. rejects (awaited_in o)) e
 
-pub rejects_stays : RejectsStays
-rejects_stays s c ts vs e l =
+pub named_rejects_stays : NamedRejectsStays
+named_rejects_stays s c ts vs e l =
     let m = match_terms c.patterns ts in
     let w = was_clash m (whole c.tests m) vs e in
     open_stays s c ts m.outcome refl w.0 (subst (λ (x : List ℕ). LeavesEach s x) (sym w.1) l) ∙ ap (λ x. rejects x) w.1
@@ -168,15 +169,15 @@ rejects_stays s c ts vs e l =
 match_left : (s : ℕ → Term) (tests : List Term) (m : Matched) → Left s (whole tests m) → Left s m.outcome
 match_left s tests m l = (left_both s m.outcome (each_alike m.places) (left_both s (both m.outcome (each_alike m.places)) (guard_outcome m.places tests) l).0).0
 
-pub accepts_stays : AcceptsStays
-accepts_stays s c ts places e =
+pub named_accepts_stays : NamedAcceptsStays
+named_accepts_stays s c ts places e =
     let m = match_terms c.patterns ts in
     let w = was_agreed m (whole c.tests m) places e in
     stays_with s c ts agrees w.0 (match_left s c.tests m (subst (λ o. Left s o) (sym w.0) tt)) tt
     ∙ ap (λ (ps : List Replacement). accepts (places_substituted s ps)) w.1
 
-pub suspends_stays : SuspendsStays
-suspends_stays s c ts vs e l =
+pub named_suspends_stays : NamedSuspendsStays
+named_suspends_stays s c ts vs e l =
     let m = match_terms c.patterns ts in
     let w : whole c.tests m ≡ waits vs = was_waiting m (whole c.tests m) vs e in
     stays_with s c ts (waits vs) w (match_left s c.tests m (subst (λ o. Left s o) (sym w) l)) l
@@ -186,11 +187,11 @@ suspends_stays s c ts vs e l =
 -- the answers of clauses before and after, and the variables that they wait for, within a section
 abbrev SameWithin : (ℕ → Term) → ℕ → List Clause → Terms → Type 0
 SameWithin s section cs ts =
-    ((n : ℕ) → least_within section n cs (each_substituted s ts) ≡ least_within section n cs ts) × (awaited_within section cs (each_substituted s ts) ≡ awaited_within section cs ts)
+    ((n : ℕ) → named_least_within section n cs (each_substituted s ts) ≡ named_least_within section n cs ts) × (named_within section cs (each_substituted s ts) ≡ named_within section cs ts)
 
 -- the same of all
 abbrev Same : (ℕ → Term) → List Clause → Terms → Type 0
-Same s cs ts = ((n : ℕ) → least_from n cs (each_substituted s ts) ≡ least_from n cs ts) × (awaited_by_clauses cs (each_substituted s ts) ≡ awaited_by_clauses cs ts)
+Same s cs ts = ((n : ℕ) → named_least_from n cs (each_substituted s ts) ≡ named_least_from n cs ts) × (named_by_clauses cs (each_substituted s ts) ≡ named_by_clauses cs ts)
 
 -- a verdict after a substitution, but for the terms at places
 abbrev SameVerdict : (ℕ → Term) → Verdict → Verdict → Type 0
@@ -199,52 +200,57 @@ SameVerdict s (rejects vs) w = w ≡ rejects vs
 SameVerdict s (suspends vs) w = w ≡ suspends vs
 
 -- a verdict, and what later clauses lead to where it rejects and where it suspends
-verdict_stays : (s : ℕ → Term) (c : Clause) (ts : Terms) (v : Verdict) (rs ws : List ℕ) → verdict c ts ≡ v → LeavesEach s (awaited_after v rs ws) → SameVerdict s v (verdict c (each_substituted s ts))
-verdict_stays s c ts (accepts ps) rs ws e l = accepts_stays s c ts ps e
-verdict_stays s c ts (rejects vs) rs ws e l = rejects_stays s c ts vs e (left_front s vs rs l)
-verdict_stays s c ts (suspends vs) rs ws e l = suspends_stays s c ts vs e (left_front s vs ws l)
+verdict_stays : (s : ℕ → Term) (c : Clause) (ts : Terms) (v : Verdict) (rs ws : List ℕ) → named_verdict c ts ≡ v → LeavesEach s (named_after v rs ws) → SameVerdict s v (named_verdict c (each_substituted s ts))
+verdict_stays s c ts (accepts ps) rs ws e l = named_accepts_stays s c ts ps e
+verdict_stays s c ts (rejects vs) rs ws e l = named_rejects_stays s c ts vs e (left_front s vs rs l)
+verdict_stays s c ts (suspends vs) rs ws e l = named_suspends_stays s c ts vs e (left_front s vs ws l)
 
-least_same : (s : ℕ → Term) (v w : Verdict) (a r x q y : Option ℕ) (rs ws : List ℕ) → SameVerdict s v w → LeavesEach s (awaited_after v rs ws) → (LeavesEach s rs → q ≡ r) → (LeavesEach s ws → y ≡ x) → least_by a q y w ≡ least_by a r x v
-least_same s (accepts ps) w a r x q y rs ws e l f g = ap (least_by a q y) e
-least_same s (rejects vs) w a r x q y rs ws e l f g = ap (least_by a q y) e ∙ f (left_back s vs rs l)
-least_same s (suspends vs) w a r x q y rs ws e l f g = ap (least_by a q y) e ∙ g (left_back s vs ws l)
+least_same : (s : ℕ → Term) (v w : Verdict) (a r x q y : Option ℕ) (rs ws : List ℕ) → SameVerdict s v w → LeavesEach s (named_after v rs ws) → (LeavesEach s rs → q ≡ r) → (LeavesEach s ws → y ≡ x) → named_least_by a q y w ≡ named_least_by a r x v
+least_same s (accepts ps) w a r x q y rs ws e l f g = ap (named_least_by a q y) e
+least_same s (rejects vs) w a r x q y rs ws e l f g = ap (named_least_by a q y) e ∙ f (left_back s vs rs l)
+least_same s (suspends vs) w a r x q y rs ws e l f g = ap (named_least_by a q y) e ∙ g (left_back s vs ws l)
 
-awaited_same : (s : ℕ → Term) (v w : Verdict) (rs ws qs ys : List ℕ) → SameVerdict s v w → LeavesEach s (awaited_after v rs ws) → (LeavesEach s rs → qs ≡ rs) → (LeavesEach s ws → ys ≡ ws) → awaited_after w qs ys ≡ awaited_after v rs ws
-awaited_same s (accepts ps) w rs ws qs ys e l f g = ap (λ u. awaited_after u qs ys) e
-awaited_same s (rejects vs) w rs ws qs ys e l f g = ap (λ u. awaited_after u qs ys) e ∙ ap (λ x. vs ++ x) (f (left_back s vs rs l))
-awaited_same s (suspends vs) w rs ws qs ys e l f g = ap (λ u. awaited_after u qs ys) e ∙ ap (λ x. vs ++ x) (g (left_back s vs ws l))
+awaited_same : (s : ℕ → Term) (v w : Verdict) (rs ws qs ys : List ℕ) → SameVerdict s v w → LeavesEach s (named_after v rs ws) → (LeavesEach s rs → qs ≡ rs) → (LeavesEach s ws → ys ≡ ws) → named_after w qs ys ≡ named_after v rs ws
+awaited_same s (accepts ps) w rs ws qs ys e l f g = ap (λ u. named_after u qs ys) e
+awaited_same s (rejects vs) w rs ws qs ys e l f g = ap (λ u. named_after u qs ys) e ∙ ap (λ x. vs ++ x) (f (left_back s vs rs l))
+awaited_same s (suspends vs) w rs ws qs ys e l f g = ap (λ u. named_after u qs ys) e ∙ ap (λ x. vs ++ x) (g (left_back s vs ws l))
 
-within_if : (s : ℕ → Term) (section : ℕ) (c : Clause) (cs : List Clause) (ts : Terms) (b : Bool) → LeavesEach s (if b then awaited_after (verdict c ts) (awaited_within section cs ts) (awaited_within section cs ts) else []) → (LeavesEach s (awaited_within section cs ts) → SameWithin s section cs ts) →
+within_if : (s : ℕ → Term) (section : ℕ) (c : Clause) (cs : List Clause) (ts : Terms) (b : Bool) → LeavesEach s (if b then named_after (named_verdict c ts) (named_within section cs ts) (named_within section cs ts) else []) → (LeavesEach s (named_within section cs ts) → SameWithin s section cs ts) →
     ((n : ℕ) →
-    (if b then least_by (Some n) (least_within section (suc n) cs (each_substituted s ts)) (least_within section (suc n) cs (each_substituted s ts)) (verdict c (each_substituted s ts)) else None)
-    ≡ (if b then least_by (Some n) (least_within section (suc n) cs ts) (least_within section (suc n) cs ts) (verdict c ts) else None))
-    × ((if b then awaited_after (verdict c (each_substituted s ts)) (awaited_within section cs (each_substituted s ts)) (awaited_within section cs (each_substituted s ts)) else [])
-    ≡ (if b then awaited_after (verdict c ts) (awaited_within section cs ts) (awaited_within section cs ts) else []))
+    (if b then named_least_by (Some n) (named_least_within section (suc n) cs (each_substituted s ts)) (named_least_within section (suc n) cs (each_substituted s ts)) (named_verdict c (each_substituted s ts)) else None)
+    ≡ (if b then named_least_by (Some n) (named_least_within section (suc n) cs ts) (named_least_within section (suc n) cs ts) (named_verdict c ts) else None))
+    × ((if b then named_after (named_verdict c (each_substituted s ts)) (named_within section cs (each_substituted s ts)) (named_within section cs (each_substituted s ts)) else [])
+    ≡ (if b then named_after (named_verdict c ts) (named_within section cs ts) (named_within section cs ts) else []))
 within_if s section c cs ts true l f =
     let us = each_substituted s ts in
-    let ws = awaited_within section cs ts in
-    let v = verdict_stays s c ts (verdict c ts) ws ws refl l in (
+    let ws = named_within section cs ts in
+    let v = verdict_stays s c ts (named_verdict c ts) ws ws refl l in (
       λ n.
-          least_same s (verdict c ts) (verdict c us) (Some n) (least_within section (suc n) cs ts) (least_within section (suc n) cs ts) (least_within section (suc n) cs us) (least_within section (suc n) cs us) ws ws v l (λ k. (f k).0 (suc n)) (λ k. (f k).0 (suc n)),
-      awaited_same s (verdict c ts) (verdict c us) ws ws (awaited_within section cs us) (awaited_within section cs us) v l (λ k. (f k).1) (λ k. (f k).1),
+          least_same s (named_verdict c ts) (named_verdict c us) (Some n) (named_least_within section (suc n) cs ts) (named_least_within section (suc n) cs ts) (named_least_within section (suc n) cs us) (named_least_within section (suc n) cs us) ws ws v l (λ k. (f k).0 (suc n)) (λ k. (f k).0 (suc n)),
+      awaited_same s (named_verdict c ts) (named_verdict c us) ws ws (named_within section cs us) (named_within section cs us) v l (λ k. (f k).1) (λ k. (f k).1),
     )
 within_if s section c cs ts false l f = (λ n. refl, refl)
 
-within_same : (s : ℕ → Term) (section : ℕ) (cs : List Clause) (ts : Terms) → LeavesEach s (awaited_within section cs ts) → SameWithin s section cs ts
+within_same : (s : ℕ → Term) (section : ℕ) (cs : List Clause) (ts : Terms) → LeavesEach s (named_within section cs ts) → SameWithin s section cs ts
 within_same s section [] ts l = (λ n. refl, refl)
 within_same s section (c ∷ cs) ts l = within_if s section c cs ts (c.section == section) l (within_same s section cs ts)
 
-clauses_same : (s : ℕ → Term) (cs : List Clause) (ts : Terms) → LeavesEach s (awaited_by_clauses cs ts) → Same s cs ts
+clauses_same : (s : ℕ → Term) (cs : List Clause) (ts : Terms) → LeavesEach s (named_by_clauses cs ts) → Same s cs ts
 clauses_same s [] ts l = (λ n. refl, refl)
 clauses_same s (c ∷ cs) ts l =
     let us = each_substituted s ts in
-    let rs = awaited_by_clauses cs ts in
-    let ws = awaited_within c.section cs ts in
-    let v = verdict_stays s c ts (verdict c ts) rs ws refl l in (
+    let rs = named_by_clauses cs ts in
+    let ws = named_within c.section cs ts in
+    let v = verdict_stays s c ts (named_verdict c ts) rs ws refl l in (
       λ n.
-          least_same s (verdict c ts) (verdict c us) (Some n) (least_from (suc n) cs ts) (least_within c.section (suc n) cs ts) (least_from (suc n) cs us) (least_within c.section (suc n) cs us) rs ws v l (λ k. (clauses_same s cs ts k).0 (suc n)) (λ k. (within_same s c.section cs ts k).0 (suc n)),
-      awaited_same s (verdict c ts) (verdict c us) rs ws (awaited_by_clauses cs us) (awaited_within c.section cs us) v l (λ k. (clauses_same s cs ts k).1) (λ k. (within_same s c.section cs ts k).1),
+          least_same s (named_verdict c ts) (named_verdict c us) (Some n) (named_least_from (suc n) cs ts) (named_least_within c.section (suc n) cs ts) (named_least_from (suc n) cs us) (named_least_within c.section (suc n) cs us) rs ws v l (λ k. (clauses_same s cs ts k).0 (suc n)) (λ k. (within_same s c.section cs ts k).0 (suc n)),
+      awaited_same s (named_verdict c ts) (named_verdict c us) rs ws (named_by_clauses cs us) (named_within c.section cs us) v l (λ k. (clauses_same s cs ts k).1) (λ k. (within_same s c.section cs ts k).1),
     )
 
 pub clauses_stay : ClausesStay
-clauses_stay s cs ts l = let k = clauses_same s cs ts l in (k.0 1, k.1)
+clauses_stay s cs ts l =
+    let us = each_substituted s ts in
+    let k = clauses_same s cs ts (subst (λ (vs : List ℕ). LeavesEach s vs) (clauses_named cs ts) l) in (
+      least_from_named 1 cs us ∙ k.0 1 ∙ sym (least_from_named 1 cs ts),
+      clauses_named cs us ∙ k.1 ∙ sym (clauses_named cs ts),
+    )

@@ -16,9 +16,9 @@ use Rattle.kl1_model.specs.Meaning.{variables_of, variables_in, highest_in}
 use Rattle.kl1_model.specs.Module.{is_among, has_only}
 use Rattle.kl1_model.specs.Same.{Passive, same, differs, unknown, passive, awaited, all_awaited}
 use Rattle.kl1_model.specs.Arithmetic.{Formula, Scan, found, waits_for, wrong_type, with_left, with_right, operator_named, scan, scan_operation, Evaluated, comes_to, awaits, is_no_expression, computed, evaluated}
-use Rattle.kl1_model.specs.Guard.{Outcome, agrees, clashes, waits, both, decided, inspection_named, comparison_named, Test, holds, looks, is_same, is_other, compares, test_of, test_substituted, is_found, look, same_outcome, other_outcome, alike, compared, compared_numbers, compared_sides, outcome_of, outcome_by}
-use Rattle.kl1_model.specs.Match.{Matched, with_outcome, match_term, match_terms, places_alike, alike_with, each_alike, beside, test_variable, own_variables, own_outcome, test_outcome, tests_outcome, guard_outcome, suspends, verdict_with}
-use Rattle.kl1_model.specs.WaitsLaws.{SuspendsWaits}
+use Rattle.kl1_model.specs.Guard.{inspection_named, comparison_named, Test, holds, looks, is_same, is_other, compares, test_of, test_substituted, is_found, compared}
+use Rattle.kl1_model.specs.Outcome.{Outcome, agrees, clashes, waits, both, decided, look, same_outcome, other_outcome, alike, compared_numbers, compared_sides, outcome_of, outcome_by, Matched, with_outcome, match_term, match_terms, places_alike, alike_with, each_alike, beside, test_variable, own_variables, own_outcome, test_outcome, tests_outcome, guard_outcome, suspends, verdict_with}
+use Rattle.kl1_model.specs.OutcomeLaws.{NamedSuspendsWaits}
 use Rattle.kl1_model.proofs.SameStays.{unknown_waits}
 
 -- ---- who waits names a variable
@@ -418,8 +418,8 @@ no_suspension m clashes e n = absurd (cc)
 no_suspension m (waits []) e n = n
 no_suspension m (waits (v ∷ vs)) e n = absurd (cc)
 
-pub suspends_waits : SuspendsWaits
-suspends_waits c ts g e =
+pub named_suspends_waits : NamedSuspendsWaits
+named_suspends_waits c ts g e =
     let m = match_terms c.patterns ts in
     no_suspension m (both (both m.outcome (each_alike m.places)) (guard_outcome m.places c.tests)) e
     (whole_names m.outcome (each_alike m.places) (guard_outcome m.places c.tests) (match_all_names c.patterns ts) (each_alike_names m.places)

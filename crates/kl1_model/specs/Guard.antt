@@ -1,5 +1,5 @@
--- The tests of a guard: which terms are tests, and what comes of each of them.
-use Rattle.std.specs.Prelude.{ℕ, ◌++◌, not, Bool, true, false, if◌then◌else◌, ℤ, int_lt, int_le, List, [], ◌∷◌, codes, bytes_eq, find, Option, Some, None, option_map}
+-- The tests of a guard: which terms are tests, and the answer of each of them.
+use Rattle.std.specs.Prelude.{ℕ, not, Bool, true, false, if◌then◌else◌, ℤ, int_lt, int_le, List, [], ◌∷◌, codes, bytes_eq, find, Option, Some, None, option_map}
 use Rattle.std.specs.Ordering.{int_eq}
 use Rattle.kl1_model.specs.declared.comparison.Comparison.{Comparison}
 use Rattle.kl1_model.specs.declared.comparison.Comparison.TheVariants.{Less, Greater, AtMost, AtLeast, SameNumber, OtherNumber}
@@ -8,27 +8,26 @@ use Rattle.kl1_model.specs.declared.inspection.Inspection.TheVariants.{Bound, In
 use Rattle.kl1_model.specs.declared.number.Number.{Number}
 use Rattle.kl1_model.specs.declared.number.Number.TheVariants.{Value}
 use Rattle.kl1_model.specs.Term.{Term, variable, integer, atom, structure, none, more, substituted}
-use Rattle.kl1_model.specs.Same.{Passive, same, differs, unknown, passive, awaited}
+use Rattle.kl1_model.specs.Same.{Passive, same, differs, unknown, passive}
 use Rattle.kl1_model.specs.Arithmetic.{Evaluated, comes_to, awaits, is_no_expression, evaluated}
 
--- what comes of a part of a clause, be it a pattern, the places of a variable or a test: it agrees, it clashes, or it waits for
--- variables
-pub data Outcome : Type 0 where
-  agrees : Outcome
-  clashes : Outcome
-  waits : List ℕ → Outcome
+-- yes, no, or not yet
+pub data Answer : Type 0 where
+  yes : Answer
+  no : Answer
+  wait : Answer
 
--- the outcome of two parts: a clash anywhere outweighs a wait, and two that wait do so for the variables of both
-abbrev pub both : Outcome → Outcome → Outcome
-both agrees o = o
-both clashes o = clashes
-both (waits vs) agrees = waits vs
-both (waits vs) clashes = clashes
-both (waits vs) (waits ws) = waits (vs ++ ws)
+-- two answers together: no if one of them is no, or else wait if one of them is wait, or else yes
+abbrev pub together : Answer → Answer → Answer
+together yes a = a
+together no a = no
+together wait yes = wait
+together wait no = no
+together wait wait = wait
 
--- an outcome that is known
-abbrev pub decided : Bool → Outcome
-decided b = if b then agrees else clashes
+-- an answer that is known
+abbrev pub known : Bool → Answer
+known b = if b then yes else no
 
 -- the name of a test that looks at one term
 abbrev pub inspection_name : Inspection → List ℕ
@@ -106,27 +105,6 @@ is_found Atom (atom a) = true
 is_found Atom _ = false
 is_found Cell t = is_cell t
 
--- a look at a term waits while the term is an unbound variable
-abbrev pub look : Inspection → Term → Outcome
-look i (variable v) = waits (v ∷ [])
-look i t = decided (is_found i t)
-
--- `=` asks for the same term
-abbrev pub same_outcome : Passive → List ℕ → Outcome
-same_outcome same vs = agrees
-same_outcome differs vs = clashes
-same_outcome unknown vs = waits vs
-
--- `\=` asks for a clash
-abbrev pub other_outcome : Passive → List ℕ → Outcome
-other_outcome same vs = clashes
-other_outcome differs vs = agrees
-other_outcome unknown vs = waits vs
-
--- passive equality of two terms
-abbrev pub alike : Term → Term → Outcome
-alike t u = same_outcome (passive t u) (awaited t u)
-
 -- whether a comparison holds of two integers
 abbrev pub compared : Comparison → ℤ → ℤ → Bool
 compared Less x y = int_lt x y
@@ -136,33 +114,43 @@ compared AtLeast x y = int_le y x
 compared SameNumber x y = int_eq x y
 compared OtherNumber x y = not (int_eq x y)
 
--- a comparison of what two expressions come to, which clashes where one of them has a fault of computing
-abbrev pub compared_numbers : Comparison → Number → Number → Outcome
-compared_numbers c (Value x) (Value y) = decided (compared c x y)
-compared_numbers c a b = clashes
+-- `=` asks for the same term
+abbrev pub same_answer : Passive → Answer
+same_answer same = yes
+same_answer differs = no
+same_answer unknown = wait
 
--- a comparison by its sides, the left one first: one that waits waits, and one that is no expression clashes
-abbrev pub compared_sides : Comparison → Evaluated → Evaluated → Outcome
-compared_sides c (awaits v) b = waits (v ∷ [])
-compared_sides c is_no_expression b = clashes
-compared_sides c (comes_to x) (awaits v) = waits (v ∷ [])
-compared_sides c (comes_to x) is_no_expression = clashes
-compared_sides c (comes_to x) (comes_to y) = compared_numbers c x y
+-- `\=` asks for a clash
+abbrev pub other_answer : Passive → Answer
+other_answer same = no
+other_answer differs = yes
+other_answer unknown = wait
 
--- a comparison of two terms; each side has its own 64 operators
-abbrev pub comparison : Comparison → Term → Term → Outcome
-comparison c t u = compared_sides c (evaluated t) (evaluated u)
+-- a comparison of what two expressions come to, which is no if one of them has a fault of computing
+abbrev pub numbers_answer : Comparison → Number → Number → Answer
+numbers_answer c (Value x) (Value y) = known (compared c x y)
+numbers_answer c a b = no
 
--- the outcome of a test
-abbrev pub outcome_of : Test → Outcome
-outcome_of holds = agrees
-outcome_of (looks i t) = look i t
-outcome_of (is_same t u) = alike t u
-outcome_of (is_other t u) = other_outcome (passive t u) (awaited t u)
-outcome_of (compares c t u) = comparison c t u
+-- a comparison by its sides, the left one first: one that waits is wait, and one that is no expression is no
+abbrev pub sides_answer : Comparison → Evaluated → Evaluated → Answer
+sides_answer c (awaits v) b = wait
+sides_answer c is_no_expression b = no
+sides_answer c (comes_to x) (awaits v) = wait
+sides_answer c (comes_to x) is_no_expression = no
+sides_answer c (comes_to x) (comes_to y) = numbers_answer c x y
 
--- the outcome of what may be a test, with terms in place of its variables; a term that is none, which no clause that was read has
--- there, clashes
-abbrev pub outcome_by : (ℕ → Term) → Option Test → Outcome
-outcome_by s None = clashes
-outcome_by s (Some test) = outcome_of (test_substituted s test)
+-- the answer of a test: a look at a term waits while the term is an unbound variable, and each side of a comparison has its own 64
+-- operators
+abbrev pub test_answer : Test → Answer
+test_answer holds = yes
+test_answer (looks i (variable v)) = wait
+test_answer (looks i t) = known (is_found i t)
+test_answer (is_same t u) = same_answer (passive t u)
+test_answer (is_other t u) = other_answer (passive t u)
+test_answer (compares c t u) = sides_answer c (evaluated t) (evaluated u)
+
+-- the answer of what may be a test, with terms in place of its variables; a term that is none, which no clause that was read has
+-- there, is no
+abbrev pub answer_by : (ℕ → Term) → Option Test → Answer
+answer_by s None = no
+answer_by s (Some test) = test_answer (test_substituted s test)

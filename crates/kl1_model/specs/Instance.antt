@@ -1,8 +1,9 @@
 -- Body instance: the goals of a clause's body with the goal's terms in them.
-use Rattle.std.specs.Prelude.{ℕ, ◌+◌, ◌-◌, ◌==◌, nat_le, if◌then◌else◌, List, [], ◌∷◌, map, Option}
+use Rattle.std.specs.Prelude.{ℕ, ◌+◌, ◌-◌, nat_le, if◌then◌else◌, List, map, Option}
 use Rattle.kl1_model.specs.Term.{Term, variable, terms_of, Replacement, substituted}
 use Rattle.kl1_model.specs.Meaning.{highest_in, nil}
 use Rattle.kl1_model.specs.Module.{Clause, goals_of}
+use Rattle.kl1_model.specs.Match.{term_at}
 
 -- how many variables the head of a clause has
 abbrev pub head_variables : Clause → ℕ
@@ -11,11 +12,6 @@ head_variables c = highest_in c.patterns
 -- how many variables of a clause's body stand nowhere in its head
 abbrev pub fresh_variables : Clause → ℕ
 fresh_variables c = highest_in (terms_of (goals_of c.body)) - head_variables c
-
--- the term at the first place of a variable, or a given one where it has no place
-abbrev pub term_at : List Replacement → ℕ → Term → Term
-term_at [] v t = t
-term_at (p ∷ places) v t = if p.number == v then p.by else term_at places v t
 
 -- what stands in the body's goals for a variable of a clause: for one of the head the term at its place, which it has where
 -- the clause accepts; the others are the next variables behind the last, in order of first occurrence

@@ -16,6 +16,7 @@ pub mod Meaning
 pub mod Goal
 pub mod Module
 pub mod Match
+pub mod Outcome
 pub mod Instance
 pub mod State
 pub mod Tree
@@ -37,6 +38,7 @@ pub mod Line
 pub mod Record
 pub mod SameLaws
 pub mod WaitsLaws
+pub mod OutcomeLaws
 pub mod ScanLaws
 pub mod AccountName
 pub mod TreeLaws

@@ -1,9 +1,12 @@
 -- What a goal waits for: the variables of which a change may change what it can do.
-use Rattle.std.specs.Prelude.{◌≡◌, ℕ, suc, ◌==◌, if◌then◌else◌, List, [], ◌∷◌, ◌++◌, codes, bytes_eq, find, Option, Some, None, is_some}
+use Rattle.std.specs.Prelude.{◌≡◌, ℕ, suc, ◌==◌, nat_le, if◌then◌else◌, List, [], ◌∷◌, ◌++◌, codes, bytes_eq, filter, find, Option, Some, None, is_some}
 use Rattle.std.specs.List.{AllByRecursion}
-use Rattle.kl1_model.specs.Term.{Term, variable, atom, structure, Terms, none, more}
+use Rattle.kl1_model.specs.Term.{Term, variable, atom, structure, Terms, none, more, Replacement}
+use Rattle.kl1_model.specs.Meaning.{highest_in}
+use Rattle.kl1_model.specs.Same.{awaited}
+use Rattle.kl1_model.specs.Guard.{Test, holds, looks, is_same, is_other, compares, test_of, test_substituted, test_answer}
 use Rattle.kl1_model.specs.Module.{Clause, Module}
-use Rattle.kl1_model.specs.Match.{Verdict, accepts, rejects, suspends, verdict, Call, call_of, clauses_of}
+use Rattle.kl1_model.specs.Match.{Answer, yes, no, wait, match_patterns, guard_term, places_of, verdict, Call, call_of, clauses_of}
 use Rattle.kl1_model.specs.Arithmetic.{Evaluated, comes_to, awaits, is_no_expression, evaluated}
 use Rattle.kl1_model.specs.Goal.{is_execute}
 use Rattle.kl1_model.specs.Look.{Spelling, spelled, awaits_code, misspelled, spelling, most_spelled, Look, right, waits_on, wrong, goal_look, Order, order_look}
@@ -18,13 +21,13 @@ move_by modules t clause = term_move modules t clause (call_of t)
 abbrev pub term_clause : List Module → Term → Option ℕ
 term_clause modules t = find (λ clause. is_some (move_by modules t clause)) (0 ∷ call_clauses modules (call_of t))
 
--- what a verdict leads to, of what follows where it accepts, rejects and suspends
-abbrev pub least_by : Option ℕ → Option ℕ → Option ℕ → Verdict → Option ℕ
-least_by accepted rejected suspended (accepts places) = accepted
-least_by accepted rejected suspended (rejects vs) = rejected
-least_by accepted rejected suspended (suspends vs) = suspended
+-- what a verdict leads to, of what follows if it is yes, no and wait
+abbrev pub least_by : Option ℕ → Option ℕ → Option ℕ → Answer → Option ℕ
+least_by accepted rejected suspended yes = accepted
+least_by accepted rejected suspended no = rejected
+least_by accepted rejected suspended wait = suspended
 
--- the least number of a clause that accepts, among clauses as far as they are of this section, in which one before them waits;
+-- the least number of a clause whose verdict is yes, among clauses as far as they are of this section, in which one before waits;
 -- the first has this number
 abbrev pub least_within : ℕ → ℕ → List Clause → Terms → Option ℕ
 least_within section n [] ts = None
@@ -42,24 +45,114 @@ least_from n (c ∷ cs) ts = least_by (Some n) (least_from (suc n) cs ts) (least
 abbrev pub least_clause : List Clause → Terms → Option ℕ
 least_clause cs ts = least_from 1 cs ts
 
--- the variables that clauses wait for from this one on, of those that later ones wait for where it rejects and suspends: a
--- clause that accepts ends the search for the least, and one that suspends may yet come to accept
-abbrev pub awaited_after : Verdict → List ℕ → List ℕ → List ℕ
-awaited_after (accepts places) rejected suspended = []
-awaited_after (rejects vs) rejected suspended = vs ++ rejected
-awaited_after (suspends vs) rejected suspended = vs ++ suspended
+-- variables, while an answer is wait
+abbrev pub while_waiting : Answer → List ℕ → List ℕ
+while_waiting yes vs = []
+while_waiting no vs = []
+while_waiting wait vs = vs
+
+-- the variables that a pattern beside a term waits for
+abbrev mutual
+  pub awaited_by_pattern : Term → Term → List ℕ
+  awaited_by_pattern (variable v) t = []
+  awaited_by_pattern p (variable w) = w ∷ []
+  awaited_by_pattern (structure f ps) (structure g ts) = awaited_by_patterns ps ts
+  awaited_by_pattern p t = []
+
+  pub awaited_by_patterns : Terms → Terms → List ℕ
+  awaited_by_patterns (more p ps) (more t ts) = awaited_by_pattern p t ++ awaited_by_patterns ps ts
+  awaited_by_patterns ps ts = []
+
+-- the variables that the terms at two places wait for, if they are places of one variable
+abbrev pub awaited_by_two : Replacement → Replacement → List ℕ
+awaited_by_two p q = if p.number == q.number then awaited p.by q.by else []
+
+-- those that a place waits for beside each of the others
+abbrev pub awaited_by_one : Replacement → List Replacement → List ℕ
+awaited_by_one p [] = []
+awaited_by_one p (q ∷ qs) = awaited_by_two p q ++ awaited_by_one p qs
+
+-- those that each two places wait for
+abbrev pub awaited_by_each : List Replacement → List ℕ
+awaited_by_each [] = []
+awaited_by_each (p ∷ ps) = awaited_by_one p ps ++ awaited_by_each ps
+
+-- the variable that an expression waits for
+abbrev pub awaited_by_evaluated : Evaluated → List ℕ
+awaited_by_evaluated (comes_to n) = []
+awaited_by_evaluated (awaits v) = v ∷ []
+awaited_by_evaluated is_no_expression = []
+
+-- the variable that a comparison waits for, whose left side decides first
+abbrev pub awaited_by_sides : Evaluated → Evaluated → List ℕ
+awaited_by_sides (awaits v) b = v ∷ []
+awaited_by_sides is_no_expression b = []
+awaited_by_sides (comes_to n) b = awaited_by_evaluated b
+
+-- the variables that the answer of a test depends on
+abbrev pub awaited_in_test : Test → List ℕ
+awaited_in_test holds = []
+awaited_in_test (looks i (variable v)) = v ∷ []
+awaited_in_test (looks i t) = []
+awaited_in_test (is_same t u) = awaited t u
+awaited_in_test (is_other t u) = awaited t u
+awaited_in_test (compares c t u) = awaited_by_sides (evaluated t) (evaluated u)
+
+-- the variables that a test waits for
+abbrev pub awaited_by_test : Test → List ℕ
+awaited_by_test test = while_waiting (test_answer test) (awaited_in_test test)
+
+-- those that what may be a test waits for, with terms in place of its variables
+abbrev pub awaited_by_option : (ℕ → Term) → Option Test → List ℕ
+awaited_by_option s None = []
+awaited_by_option s (Some test) = awaited_by_test (test_substituted s test)
+
+-- of variables those that are the goal's, whose greatest number this is: a variable of the head that wasn't reached is none
+abbrev pub own_of : ℕ → List ℕ → List ℕ
+own_of top vs = filter (λ v. nat_le v top) vs
+
+-- the variables of a goal that tests wait for
+abbrev pub awaited_by_tests : ℕ → (ℕ → Term) → List Term → List ℕ
+awaited_by_tests top s [] = []
+awaited_by_tests top s (t ∷ ts) = own_of top (awaited_by_option s (test_of t)) ++ awaited_by_tests top s ts
+
+-- the variables that the match of a clause's head waits for
+abbrev pub awaited_by_match : Clause → Terms → List ℕ
+awaited_by_match c ts = while_waiting (match_patterns c.patterns ts).answer (awaited_by_patterns c.patterns ts)
+
+-- the variables that the places of a clause's head and its tests wait for
+abbrev pub awaited_by_rest : Clause → Terms → List ℕ
+awaited_by_rest c ts = awaited_by_each (places_of c ts) ++ awaited_by_tests (highest_in ts) (guard_term (highest_in ts) (places_of c ts)) c.tests
+
+-- the variables that a verdict waits for, of those of the match and the others: a clause that rejects by a test while its match
+-- waits may come to wait, since an earlier place of a variable may yet be reached, and then the test speaks of the term there
+abbrev pub awaited_by_verdict : Answer → List ℕ → List ℕ → List ℕ
+awaited_by_verdict yes match_awaited rest_awaited = []
+awaited_by_verdict no match_awaited rest_awaited = match_awaited
+awaited_by_verdict wait match_awaited rest_awaited = match_awaited ++ rest_awaited
+
+-- the variables that a clause waits for
+abbrev pub awaited_by_clause : Clause → Terms → List ℕ
+awaited_by_clause c ts = awaited_by_verdict (verdict c ts) (awaited_by_match c ts) (awaited_by_rest c ts)
+
+-- the variables that clauses wait for from this one on, by its verdict, with its own and those of later ones if it is no and wait:
+-- a clause that accepts ends the search for the least, and one that waits may yet come to accept
+abbrev pub awaited_after : Answer → List ℕ → List ℕ → List ℕ → List ℕ
+awaited_after yes own rejected suspended = []
+awaited_after no own rejected suspended = own ++ rejected
+awaited_after wait own rejected suspended = own ++ suspended
 
 -- the variables that clauses wait for, up to the first that accepts, as far as they are of this section
 abbrev pub awaited_within : ℕ → List Clause → Terms → List ℕ
 awaited_within section [] ts = []
 awaited_within section (c ∷ cs) ts =
     let later = awaited_within section cs ts in
-    if c.section == section then awaited_after (verdict c ts) later later else []
+    if c.section == section then awaited_after (verdict c ts) (awaited_by_clause c ts) later later else []
 
 -- the variables that clauses wait for, up to the first that accepts or the end of the section of the first that waits
 abbrev pub awaited_by_clauses : List Clause → Terms → List ℕ
 awaited_by_clauses [] ts = []
-awaited_by_clauses (c ∷ cs) ts = awaited_after (verdict c ts) (awaited_by_clauses cs ts) (awaited_within c.section cs ts)
+awaited_by_clauses (c ∷ cs) ts = awaited_after (verdict c ts) (awaited_by_clause c ts) (awaited_by_clauses cs ts) (awaited_within c.section cs ts)
 
 -- the variables that a call waits for
 abbrev pub awaited_by_call : List Module → Option Call → List ℕ
@@ -77,12 +170,6 @@ abbrev pub awaited_at_head : Term → List ℕ
 awaited_at_head (variable v) = v ∷ []
 awaited_at_head (structure f (more a (more b none))) = if bytes_eq f (codes ":") then awaited_in_call a b else []
 awaited_at_head t = []
-
--- the variable that an expression waits for
-abbrev pub awaited_by_evaluated : Evaluated → List ℕ
-awaited_by_evaluated (comes_to n) = []
-awaited_by_evaluated (awaits v) = v ∷ []
-awaited_by_evaluated is_no_expression = []
 
 -- the variable that a list of codes waits for
 abbrev pub awaited_by_spelling : Spelling → List ℕ

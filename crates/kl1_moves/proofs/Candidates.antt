@@ -2,10 +2,10 @@
 use Rattle.std.proofs.Common.{◌≡◌, ℕ, suc, ◌+◌, ◌<◌, ◌≤◌, ◌==◌, Bool, true, false, if◌then◌else◌, List, [], ◌∷◌, ◌++◌, length, refl, sym, ap, ◌∙◌, arith}
 use Rattle.std.specs.Prelude.{Option, Some, None, option_map}
 use Rattle.std.proofs.lemmas.Bool.{cond-true, cond-false, eq-eqb, ne_eqb}
-use Rattle.kl1_model.specs.Term.{Term, Terms}
+use Rattle.kl1_model.specs.Term.{Term, Terms, Replacement}
 use Rattle.kl1_model.specs.Module.{Clause, Module}
 use Rattle.kl1_model.specs.Match as model
-use Rattle.kl1_model.specs.Match.{call_of, clauses_of, Candidate, candidate_by, candidates_within, candidates_from, candidates_of, fails, is_rejected, verdict, accepts, rejects, suspends}
+use Rattle.kl1_model.specs.Match.{Answer, yes, no, wait, call_of, clauses_of, Candidate, candidate_by, candidates_within, candidates_from, candidates_of, fails, is_no, places_of, verdict}
 use Rattle.kl1_model.specs.Reduction as model_moves
 use Rattle.kl1_model.specs.Reduction.{commits, raises, failure, term_move, call_move, built_in_move}
 use Rattle.kl1_model.specs.Waits.{move_by, least_clause}
@@ -13,23 +13,23 @@ use Rattle.kl1_model.proofs.LeastClause.{AreFrom, are_from, first_number, least-
 use Rattle.kl1_verdict.specs.Candidates.{numbered}
 use Rattle.kl1_moves.specs.Shapes.{IsNoGoal}
 
-behind_front : (j n : ℕ) (c : Clause) (ks : List Candidate) (v : model.Verdict) → n < j → numbered j (candidate_by n c v ++ ks) ≡ numbered j ks
-behind_front j n c ks (accepts ps) lt = cond-false (n == j) (Some (record { number = n; clause = c; places = ps })) (numbered j ks) (ne_eqb n j (λ e. absurd (omega (arith, lt, e))))
-behind_front j n c ks (rejects vs) lt = refl
-behind_front j n c ks (suspends vs) lt = refl
+behind_front : (j n : ℕ) (c : Clause) (ps : List Replacement) (ks : List Candidate) (v : Answer) → n < j → numbered j (candidate_by n c ps v ++ ks) ≡ numbered j ks
+behind_front j n c ps ks yes lt = cond-false (n == j) (Some (record { number = n; clause = c; places = ps })) (numbered j ks) (ne_eqb n j (λ e. absurd (omega (arith, lt, e))))
+behind_front j n c ps ks no lt = refl
+behind_front j n c ps ks wait lt = refl
 
 -- behind all clauses there is no candidate
 none_within : (section j n : ℕ) (cs : List Clause) (ts : Terms) → n + length cs ≤ j → numbered j (candidates_within section n cs ts) ≡ None
 none_within section j n [] ts le = refl
 none_within section j n (c ∷ cs) ts le = by (c.section == section) (none_within section j (suc n) cs ts (omega (arith, le)))
   where
-    by : (b : Bool) → numbered j (candidates_within section (suc n) cs ts) ≡ None → numbered j (if b then candidate_by n c (verdict c ts) ++ candidates_within section (suc n) cs ts else []) ≡ None
-    by true next = behind_front j n c (candidates_within section (suc n) cs ts) (verdict c ts) (omega (arith, le)) ∙ next
+    by : (b : Bool) → numbered j (candidates_within section (suc n) cs ts) ≡ None → numbered j (if b then candidate_by n c (places_of c ts) (verdict c ts) ++ candidates_within section (suc n) cs ts else []) ≡ None
+    by true next = behind_front j n c (places_of c ts) (candidates_within section (suc n) cs ts) (verdict c ts) (omega (arith, le)) ∙ next
     by false next = refl
 
 pub none_behind : (j n : ℕ) (cs : List Clause) (ts : Terms) → n + length cs ≤ j → numbered j (candidates_from n cs ts) ≡ None
 none_behind j n [] ts le = refl
-none_behind j n (c ∷ cs) ts le = by (is_rejected (verdict c ts)) (none_behind j (suc n) cs ts (omega (arith, le)))
+none_behind j n (c ∷ cs) ts le = by (is_no (verdict c ts)) (none_behind j (suc n) cs ts (omega (arith, le)))
   where
     by : (b : Bool) → numbered j (candidates_from (suc n) cs ts) ≡ None → numbered j (if b then candidates_from (suc n) cs ts else candidates_within c.section n (c ∷ cs) ts) ≡ None
     by true next = next

@@ -12,16 +12,18 @@ use std::rt::Clock;
 use std::sync::Wait;
 use std::thread::Threads;
 
-/// Puts a line on each row, and on the check after them.
+/// The line with which rows end if checks are to follow.
+const CHECKS: &[u8] = b"== checks\n";
+
+/// Puts a line on each row.
 fn put_rows<R: Threads + Wait + Clock + Sync>(rt: &R, out: &mut Text, rows: &[Row]) {
     for row in rows {
         let done = is_right(rt, out.alloc, row.act.as_slice(), row.wanted.as_slice());
         put_check(out, row.heading.as_slice(), Ok(done));
     }
-    put_checks(rt, out);
 }
 
-/// Tries the rows of a text.
+/// Tries the rows of a text, and after them the check if the text ends with the heading of checks.
 fn put_tried<R: Threads + Wait + Clock + Sync>(rt: &R, out: &mut Text, text: &[u8]) {
     let mut noted = Noted::new(out.alloc);
     // What this report says of rows that are only noted is of no use.
@@ -32,6 +34,9 @@ fn put_tried<R: Threads + Wait + Clock + Sync>(rt: &R, out: &mut Text, text: &[u
         return;
     }
     put_rows(rt, out, noted.rows.as_slice());
+    if text.ends_with(CHECKS) {
+        put_checks(rt, out);
+    }
 }
 
 /// Tries the rows of its input; if that is the word `pool` or `idle` and a line feed, the program measures.

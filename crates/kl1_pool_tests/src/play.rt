@@ -24,6 +24,42 @@ pub fn answered<'t, R: Wait, K: CellNaming>(
     pool.act(rt, account, command, share)
 }
 
+/// What an account answers to a run that want of memory cut short after `steps`, if it goes on: the steps of both.
+fn answered_after<'t, R: Wait, K: CellNaming>(
+    rt: &R,
+    pool: &Pool<'t, R, K>,
+    account: usize,
+    command: &Command,
+    steps: u64,
+    share: &mut Share<K>,
+) -> Performed {
+    let Command::Run(most) = command else {
+        return Performed::Short { steps };
+    };
+    let rest = Command::Run(most.saturating_sub(steps));
+    match answered(rt, pool, account, &rest, share) {
+        Performed::Whole(Reply::Ran(more)) => {
+            Performed::Whole(Reply::Ran(steps.saturating_add(more)))
+        }
+        performed => performed,
+    }
+}
+
+/// What an account answers to a command, at the second try if memory is refused at the first.
+fn answered_again<'t, R: Wait, K: CellNaming>(
+    rt: &R,
+    pool: &Pool<'t, R, K>,
+    account: usize,
+    command: &Command,
+    share: &mut Share<K>,
+) -> Performed {
+    match answered(rt, pool, account, command, share) {
+        Performed::Memory => answered(rt, pool, account, command, share),
+        Performed::Short { steps } => answered_after(rt, pool, account, command, steps, share),
+        performed => performed,
+    }
+}
+
 /// Puts what an account answers to a request.
 pub fn put_answer<'t, R: Wait, K: CellNaming>(
     rt: &R,
@@ -35,7 +71,7 @@ pub fn put_answer<'t, R: Wait, K: CellNaming>(
 ) {
     match command_in(out.alloc, request) {
         Ok(Parsed::Command(command)) => {
-            match answered(rt, pool, account, &command, share) {
+            match answered_again(rt, pool, account, &command, share) {
                 Performed::Whole(reply) => {
                     let put = put_reply(&mut out.bytes, &reply);
                     out.note(put);

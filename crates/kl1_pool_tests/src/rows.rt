@@ -125,14 +125,32 @@ fn answer<R: Threads + Wait + Clock + Sync>(rt: &R, act: &[u8], out: &mut Text) 
     }
 }
 
-/// Whether a row answers this.
+/// Whether a row answers this; nothing if memory is refused elsewhere than in a command.
+fn is_answered<R: Threads + Wait + Clock + Sync>(
+    rt: &R,
+    alloc: Global,
+    act: &[u8],
+    wanted: &[u8],
+) -> Option<bool> {
+    let mut out = Text::new(alloc);
+    answer(rt, act, &mut out);
+    if out.has_failed {
+        return None;
+    }
+    Some(out.bytes.as_slice() == wanted)
+}
+
+/// Whether a row answers this. A row that begins with `0again` is tried a second time if memory is refused elsewhere than in a command.
 pub fn is_right<R: Threads + Wait + Clock + Sync>(
     rt: &R,
     alloc: Global,
     act: &[u8],
     wanted: &[u8],
 ) -> bool {
-    let mut out = Text::new(alloc);
-    answer(rt, act, &mut out);
-    !out.has_failed && out.bytes.as_slice() == wanted
+    match is_answered(rt, alloc, act, wanted) {
+        None if act.starts_with(b"0again") => {
+            matches!(is_answered(rt, alloc, act, wanted), Some(true))
+        }
+        answered => matches!(answered, Some(true)),
+    }
 }

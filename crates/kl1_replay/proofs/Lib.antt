@@ -2,4 +2,3 @@ pub mod NewNames
 pub mod LinesOfNames
 pub mod Accepted
 pub mod Endings
-pub mod Readings

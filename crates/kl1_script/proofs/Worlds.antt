@@ -12,7 +12,7 @@ use Rattle.kl1_history.specs.Command.{Command, command_of, act, reply_lines, wri
 use Rattle.kl1_history.specs.Script.{are_distinct, is_account, done_by, alone_after, written_reply, written_for}
 use Rattle.kl1_atoms.specs.Names.{AreNames}
 use Rattle.kl1_journal.specs.Keeping.{Reading, Fits, Held, kept_of}
-use Rattle.kl1_journal.proofs.Readings.{reading_of, reading_fits}
+use Rattle.kl1_user.specs.Readings.{reading_of, reading_fits}
 use Rattle.kl1_world.specs.Worlds.{account_in, AreFresh}
 use Rattle.kl1_script.specs.Alone.{AreAlone}
 use Rattle.kl1_script.proofs.Others.{own_more, other_more, are_apart, none_named, one_place, is_named}

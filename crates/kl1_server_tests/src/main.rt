@@ -1,4 +1,5 @@
-//! Rows on the server: a conversation over streams in memory, cut at each place, and over a socket of this machine.
+//! Rows on the server: a conversation over streams in memory, cut at each place or failing at each call, and over a socket of this
+//! machine.
 #![tactic(auto)]
 
 mod memory;
@@ -6,7 +7,7 @@ mod pieces;
 mod row;
 mod socket;
 
-use crate::memory::is_same_at_each_cut;
+use crate::memory::{is_closed_after_each_failure, is_same_at_each_cut};
 use crate::socket::is_same_over_a_socket;
 use std::io;
 
@@ -14,6 +15,11 @@ fn main(rt: HostRuntime) -> io::Result<()> {
     let is_right = is_same_at_each_cut(&rt, rt.alloc());
     println!(rt;
         "logins_and_commands_over_memory_cut_at_each_place {}",
+        word(is_right)
+    )?;
+    let is_right = is_closed_after_each_failure(&rt, rt.alloc());
+    println!(rt;
+        "no_session_is_open_after_a_call_of_a_stream_that_fails {}",
         word(is_right)
     )?;
     let is_right = is_same_over_a_socket(&rt, rt.alloc());

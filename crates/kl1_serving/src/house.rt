@@ -60,7 +60,7 @@ where
     let count = shares.len();
     match shares_back(rt, alloc, &pool, listener, keys, shares, workers) {
         Ok(back) => {
-            // Fewer come back only if memory was refused.
+            // All come back, but no clause says so.
             if back.len() == count {
                 Ok(gather(rt, pool, back))
             } else {

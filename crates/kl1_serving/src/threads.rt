@@ -7,8 +7,8 @@ use kl1_keys::Key;
 use kl1_pool::{CellNaming, Gate, Pool, Share, worker};
 use std::alloc::{AllocError, Global};
 use std::net::{Net, TcpListener, TcpStream};
-use std::sync::Wait;
 use std::sync::atomic::{AtomicU64, Ordering};
+use std::sync::{Mutex, Wait};
 use std::thread;
 use std::thread::Threads;
 
@@ -37,8 +37,14 @@ fn work<'t, R: Wait, K: CellNaming>(
     share
 }
 
+/// Puts a share back. There is room for each, so that no memory is asked for.
+fn put_back<R: Wait, K: CellNaming>(rt: &R, back: &Mutex<Vec<Share<K>>>, share: Share<K>) {
+    let mut back = back.lock(rt);
+    let _ = back.push(share);
+}
+
 /// Accepts a connection for each share, and serves each in a thread of its own, or in this one if no thread can be made. When all
-/// have ended, it gives the shares back, after those of `back`. An accept that fails counts as a connection.
+/// have ended, it gives the shares back, after those of `back`, which has room for them. An accept that fails counts as a connection.
 fn serve_each<'t, R, K: CellNaming + Send + Sync>(
     rt: &R,
     alloc: Global,
@@ -52,46 +58,40 @@ where
     R: Net<Listener = TcpListener, Stream = TcpStream> + Threads + Wait + Sync,
     requires { length keys.now ≤ K.accounts }
 {
+    let all = Mutex::new(back);
+    let back = &all;
     thread::scope(
         thread::scope_env(),
         rt,
-        move |scope| -> Vec<Share<K>>
+        move |scope|
             requires { length keys.now ≤ K.accounts }
         {
-            let mut back = back;
-            // A handle that finds no room is dropped with its share, and the scope waits for its thread all the same.
-            let mut handles = Vec::new(alloc);
             for share in shares {
                 match listener.accept() {
                     Ok((stream, _)) => {
-                        match scope.spawn(move || serve_stream(
-                            rt, alloc, stream, pool, keys, share,
+                        match scope.spawn(move || put_back(
+                            rt,
+                            back,
+                            serve_stream(rt, alloc, stream, pool, keys, share),
                         )) {
-                            Ok(handle) => {
-                                let _ = handles.push(handle);
-                            }
+                            // A thread whose handle is dropped leaves nothing when it ends, and the scope waits for it all the same.
+                            Ok(handle) => drop(handle),
                             Err(failed) => {
                                 let thread::SpawnError { value: here, .. } = failed;
-                                let _ = back.push(here());
+                                here();
                             }
                         }
                     }
-                    Err(_) => {
-                        let _ = back.push(share);
-                    }
+                    Err(_) => put_back(rt, back, share),
                 }
             }
-            for handle in handles {
-                let _ = back.push(handle.join(rt));
-            }
-            back
         },
-    )
+    );
+    all.into_inner()
 }
 
 /// Starts a worker for each share of `workers`, and leaves out those for which no thread can be made; and serves a connection for each
-/// share of `visitors`. When all connections have ended, it closes the pool, waits for the workers, and gives the shares back; fewer
-/// if memory was refused.
+/// share of `visitors`. When all connections have ended, it closes the pool, waits for the workers, and gives the shares back.
 pub(crate) fn serve_with_workers<'t, R, K: CellNaming + Send + Sync>(
     rt: &R,
     alloc: Global,

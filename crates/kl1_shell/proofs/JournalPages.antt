@@ -1,17 +1,14 @@
 -- A journal that is written page by page.
 use Rattle.std.proofs.Common.{◌≡◌, ℕ, ◌+◌, ◌-◌, ◌<◌, ◌≤◌, nat_lt, IsTrue, List, ◌++◌, length, take, drop, length-take, length-drop, take-append-drop, ap, sym, ◌∙◌, subst, refl, arith}
-use Rattle.std.specs.declared.option.Option.{Option}
-use Rattle.std.specs.Io.KnownBytes.{Appends}
 use Rattle.std.proofs.Math.Seq.{take-add}
 use Rattle.std.proofs.lemmas.Bool.{ltb-true}
 use Rattle.std.proofs.lemmas.List.{take_all}
 use Rattle.kl1_history.specs.Journal.{Journal}
 use Rattle.kl1_history.specs.Command.{written_lines}
 use Rattle.kl1_history.specs.JournalText.{journal_lines, page_of}
-use Rattle.kl1_lines.specs.Devices.{AppendsFront}
 use Rattle.kl1_lines.proofs.DeviceLaws.{appends_both, front_behind}
+use Rattle.kl1_shell.specs.Streams.{Stream, WritesAll, BreaksOff}
 use Rattle.kl1_shell.proofs.Pages.{lines_both}
-use Rattle.kl1_shell.proofs.Writes.{front_whole, front_more}
 
 -- a page that isn't full is the last
 pub page_last : (j : Journal) (done n : ℕ) (page : List (List ℕ)) → page ≡ page_of j (done + 1) 64 → n ≡ length page → IsTrue (nat_lt n 64) → length (journal_lines j) ≤ done + 64
@@ -29,24 +26,23 @@ other_lines : (lines : List (List ℕ)) (n : ℕ) → written_lines (take n line
 other_lines lines n = sym (lines_both (take n lines) (drop n lines)) ∙ ap written_lines (take-append-drop n lines)
 
 -- one page more is written
-pub page_written : (a b c : Option (List ℕ)) (lines : List (List ℕ)) (done next : ℕ) (bytes : List ℕ) → next ≡ done + 64 → Appends a b (written_lines (take done lines)) → bytes ≡ written_lines (take 64 (drop done lines)) → Appends b c bytes → Appends a c (written_lines (take next lines))
+pub page_written : (a b c : Stream) (lines : List (List ℕ)) (done next : ℕ) (bytes : List ℕ) → next ≡ done + 64 → WritesAll a b (written_lines (take done lines)) → bytes ≡ written_lines (take 64 (drop done lines)) → WritesAll b c bytes → WritesAll a c (written_lines (take next lines))
 page_written a b c lines done next bytes sum before is h =
-    let P : List ℕ → Type 0 = λ x. Appends a c x in
-    subst P (first_lines lines done next bytes sum is) (appends_both a b c (written_lines (take done lines)) bytes before h)
+    let P : List ℕ → Type 0 = λ x. WritesAll a c x in
+    subst P (first_lines lines done next bytes sum is) (record {
+      written = appends_both a.bytes b.bytes c.bytes (written_lines (take done lines)) bytes before.written h.written;
+      kept = h.kept ∙ before.kept;
+    })
 
 -- the last page is written
-pub pages_written : (a b c : Option (List ℕ)) (lines : List (List ℕ)) (done : ℕ) (bytes : List ℕ) → Appends a b (written_lines (take done lines)) → bytes ≡ written_lines (take 64 (drop done lines)) → length lines ≤ done + 64 → Appends b c bytes → Appends a c (written_lines lines)
+pub pages_written : (a b c : Stream) (lines : List (List ℕ)) (done : ℕ) (bytes : List ℕ) → WritesAll a b (written_lines (take done lines)) → bytes ≡ written_lines (take 64 (drop done lines)) → length lines ≤ done + 64 → WritesAll b c bytes → WritesAll a c (written_lines lines)
 pages_written a b c lines done bytes before is all h =
-    let P : List (List ℕ) → Type 0 = λ x. Appends a c (written_lines x) in
+    let P : List (List ℕ) → Type 0 = λ x. WritesAll a c (written_lines x) in
     subst P (take_all (done + 64) lines all) (page_written a b c lines done (done + 64) bytes refl before is h)
 
 -- a page wasn't written to its end
-pub page_fails : (a b c : Option (List ℕ)) (lines : List (List ℕ)) (done : ℕ) (bytes : List ℕ) → Appends a b (written_lines (take done lines)) → bytes ≡ written_lines (take 64 (drop done lines)) → AppendsFront b c bytes → AppendsFront a c (written_lines lines)
-page_fails a b c lines done bytes before is h =
-    front_behind a b c (written_lines (take done lines)) bytes (written_lines (drop (done + 64) lines)) (written_lines lines) before h (ap (λ x. x ++ written_lines (drop (done + 64) lines)) (first_lines lines done (done + 64) bytes refl is) ∙ other_lines lines (done + 64))
-
--- pages before one that isn't there
-pub pages_before : (a b : Option (List ℕ)) (lines : List (List ℕ)) (done : ℕ) → Appends a b (written_lines (take done lines)) → AppendsFront a b (written_lines lines)
-pages_before a b lines done before =
-    let P : List ℕ → Type 0 = λ x. AppendsFront a b x in
-    subst P (other_lines lines done) (front_more a b (written_lines (take done lines)) (written_lines (drop done lines)) (front_whole a b (written_lines (take done lines)) before))
+pub page_fails : (a b c : Stream) (lines : List (List ℕ)) (done : ℕ) (bytes : List ℕ) → WritesAll a b (written_lines (take done lines)) → bytes ≡ written_lines (take 64 (drop done lines)) → BreaksOff b c bytes → BreaksOff a c (written_lines lines)
+page_fails a b c lines done bytes before is h = record {
+  front = front_behind a.bytes b.bytes c.bytes (written_lines (take done lines)) bytes (written_lines (drop (done + 64) lines)) (written_lines lines) before.written h.front (ap (λ x. x ++ written_lines (drop (done + 64) lines)) (first_lines lines done (done + 64) bytes refl is) ∙ other_lines lines (done + 64));
+  failed = omega (arith, before.kept, h.failed);
+}

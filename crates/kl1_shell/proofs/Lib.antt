@@ -6,3 +6,4 @@ pub mod Pages
 pub mod Writes
 pub mod Checks
 pub mod JournalPages
+pub mod Followed

@@ -1,20 +1,21 @@
 -- What is written to two streams.
 use Rattle.std.proofs.Common.{◌≡◌, ℕ, Bool, true, false, not, if◌then◌else◌, List, [], ◌++◌, ap, sym, ◌∙◌, subst, append_assoc, refl}
 use Rattle.std.proofs.lemmas.List.{append-nil}
-use Rattle.std.specs.Prelude.{None, Some, Ok, Err, OnErr}
+use Rattle.std.specs.Prelude.{Ok, Err, OnErr}
 use Rattle.std.specs.declared.option.Option.{Option}
 use Rattle.std.specs.declared.result.Result.{Result}
 use Rattle.std.specs.Io.KnownBytes.{Appends}
 use Rattle.kl1_model.specs.State.{State}
 use Rattle.kl1_history.specs.Journal.{Kept}
-use Rattle.kl1_lines.specs.Devices.{AppendsFront, KeepsIfKnown}
-use Rattle.kl1_lines.proofs.DeviceLaws.{appends_none, front_behind, front_of_all}
+use Rattle.kl1_lines.specs.Devices.{AppendsFront}
+use Rattle.kl1_lines.proofs.DeviceLaws.{appends_none, front_behind}
 use Rattle.kl1_shell.specs.declared.answers.Answers.{Answers}
 use Rattle.kl1_shell.specs.declared.ending.Ending.{Ending}
 use Rattle.kl1_shell.specs.declared.stop.Stop.{Stop}
 use Rattle.kl1_shell.specs.declared.stop.Stop.TheVariants as stop
 use Rattle.kl1_shell.specs.declared.wanted.Wanted.{Wanted}
 use Rattle.kl1_shell.specs.Works.{Worked, worked, IsWorked}
+use Rattle.kl1_shell.specs.Streams.{Stream, WritesAll, OneBreaksOff}
 use Rattle.kl1_shell.specs.Answers.{value_line, out_text, Tells, IsToldTo, IsRun}
 
 -- bytes, and no more
@@ -29,23 +30,15 @@ front_more a b bs more h = front_behind a a b [] bs more (bs ++ more) (appends_n
 pub front_after : (a b c : Option (List ℕ)) (bs cs : List ℕ) → Appends a b bs → AppendsFront b c cs → AppendsFront a c (bs ++ cs)
 front_after a b c bs cs h k = front_behind a b c bs cs [] (bs ++ cs) h k (append-nil (bs ++ cs))
 
-keeps_self : (a : Option (List ℕ)) → KeepsIfKnown a a
-keeps_self None = tt
-keeps_self (Some xs) = refl
-
--- all bytes are a front of them
-pub front_whole : (a b : Option (List ℕ)) (bs : List ℕ) → Appends a b bs → AppendsFront a b bs
-front_whole a b bs h = front_of_all a b b bs h (keeps_self b)
-
 text_is : (q : Wanted) (a : Answers) (s : State) (n : ℕ) → Tells q s n a → a.value.items ++ (if q.reports then a.reports.items else []) ≡ out_text q s n
 text_is q a s n t =
     ap (λ x. x ++ (if q.reports then a.reports.items else [])) t.value ∙ ap (λ x. value_line q.whole s n ++ (if q.reports then x else [])) t.reports
 
 -- what is told of a shoen was written, or a write failed
-pub shows : (w : Worked) (q : Wanted) (out out' err err' : Option (List ℕ)) (a : Answers) (k : Kept) (n : ℕ) (r : Result Ending Stop) → w ≡ worked n k → Tells q k.state n a → IsToldTo a q out out' err err' r → IsRun w q out out' err err' r k
+pub shows : (w : Worked) (q : Wanted) (out out' err err' : Stream) (a : Answers) (k : Kept) (n : ℕ) (r : Result Ending Stop) → w ≡ worked n k → Tells q k.state n a → IsToldTo a q out out' err err' r → IsRun w q out out' err err' r k
 shows w q out out' err err' a k n (Ok e) is t h =
-    let P : List ℕ → Type 0 = λ x. Appends out out' x in
-    let Q : List ℕ → Type 0 = λ x. Appends err err' x in
+    let P : List ℕ → Type 0 = λ x. WritesAll out out' x in
+    let Q : List ℕ → Type 0 = λ x. WritesAll err err' x in
     record {
       shoen = n;
       works = is;
@@ -57,11 +50,12 @@ shows w q out out' err err' a k n (Err (stop.Source place r)) is t h = absurd h
 shows w q out out' err err' a k n (Err (stop.Goal r)) is t h = absurd h
 shows w q out out' err err' a k n (Err stop.Memory) is t h = absurd h
 shows w q out out' err err' a k n (Err stop.Write) is t h =
-    let P : List ℕ → Type 0 = λ x. AppendsFront out out' x in
-    record { shoen = n; works = is; front = subst P (text_is q a k.state n t) h }
+    let P : List ℕ → Type 0 = λ x. OneBreaksOff out out' x err err' a.exceptions.items in
+    let Q : List ℕ → Type 0 = λ x. OneBreaksOff out out' (out_text q k.state n) err err' x in
+    record { shoen = n; works = is; breaks = subst Q t.exceptions (subst P (text_is q a k.state n t) h) }
 
 -- the work stopped, and nothing was written
-pub stops : (w : Worked) (q : Wanted) (out err : Option (List ℕ)) (k : Kept) (e : Stop) → IsWorked w (Err e) k → IsRun w q out out err err (Err e) k
+pub stops : (w : Worked) (q : Wanted) (out err : Stream) (k : Kept) (e : Stop) → IsWorked w (Err e) k → IsRun w q out out err err (Err e) k
 stops w q out err k (stop.Source place r) h = (h, record { first = refl; second = refl })
 stops w q out err k (stop.Goal r) h = (h, record { first = refl; second = refl })
 stops w q out err k stop.Memory h = record { first = refl; second = refl }

@@ -2,7 +2,6 @@
 use Rattle.std.specs.Prelude.{◌≡◌, ℕ, nat_eq, Bool, true, false, if◌then◌else◌, List, [], ◌∷◌, ◌++◌, map, take, filter, codes, Option, Some, None, unwrap_or, is_none, Ok, Err}
 use Rattle.std.specs.List.{starts_with}
 use Rattle.std.specs.declared.result.Result.{Result}
-use Rattle.std.specs.Io.KnownBytes.{Appends}
 use Rattle.kl1_model.specs.declared.condition.Condition.{Condition}
 use Rattle.kl1_model.specs.declared.condition.Condition.TheVariants.{Terminated, Aborted, Stopped, Exhausted, Running}
 use Rattle.kl1_model.specs.Limits.{most_reports}
@@ -15,7 +14,6 @@ use Rattle.kl1_history.specs.Journal.{Kept}
 use Rattle.kl1_history.specs.Command.{written_line, written_lines}
 use Rattle.kl1_event.specs.Views.{refusal_of}
 use Rattle.kl1_event.specs.Whole.{whole_value}
-use Rattle.kl1_lines.specs.Devices.{AppendsFront}
 use Rattle.kl1_shell.specs.declared.answers.Answers.{Answers}
 use Rattle.kl1_shell.specs.declared.ending.Ending.{Ending}
 use Rattle.kl1_shell.specs.declared.ending.Ending.TheVariants as ending
@@ -23,6 +21,7 @@ use Rattle.kl1_shell.specs.declared.stop.Stop.{Stop}
 use Rattle.kl1_shell.specs.declared.stop.Stop.TheVariants as stop
 use Rattle.kl1_shell.specs.declared.wanted.Wanted.{Wanted}
 use Rattle.kl1_shell.specs.Works.{Worked, worked, source_refused, goal_refused}
+use Rattle.kl1_shell.specs.Streams.{Stream, WritesAll, OneBreaksOff}
 
 -- the goal that a reply shows
 abbrev pub shown_in : Reply → List ℕ
@@ -151,36 +150,36 @@ abbrev pub out_text : Wanted → State → ℕ → List ℕ
 out_text wanted s n = value_line wanted.whole s n ++ (if wanted.reports then report_lines s n else [])
 
 -- the shoen's run is over, and what is told of it was written to two streams, and nothing else
-pub record Shows (w : Worked) (wanted : Wanted) (out out' err err' : Option (List ℕ)) (e : Ending) (k : Kept) : Type 0 where
+pub record Shows (w : Worked) (wanted : Wanted) (out out' err err' : Stream) (e : Ending) (k : Kept) : Type 0 where
   pub shoen : ℕ
   pub works : w ≡ worked shoen k
-  pub value : Appends out out' (out_text wanted k.state shoen)
-  pub exceptions : Appends err err' (exception_lines k.state shoen)
+  pub value : WritesAll out out' (out_text wanted k.state shoen)
+  pub exceptions : WritesAll err err' (exception_lines k.state shoen)
   pub ending : e ≡ ending_of k.state shoen (is_some_byte (exception_lines k.state shoen))
 
--- the shoen's run is over, and a write failed: of what was to be written first, the bytes up to some place were
-pub record Breaks (w : Worked) (wanted : Wanted) (out out' : Option (List ℕ)) (k : Kept) : Type 0 where
+-- the shoen's run is over, and a write of what is told of it to one of two streams failed
+pub record Breaks (w : Worked) (wanted : Wanted) (out out' err err' : Stream) (k : Kept) : Type 0 where
   pub shoen : ℕ
   pub works : w ≡ worked shoen k
-  pub front : AppendsFront out out' (out_text wanted k.state shoen)
+  pub breaks : OneBreaksOff out out' (out_text wanted k.state shoen) err err' (exception_lines k.state shoen)
 
 -- how the answers of a shoen were written to two streams: all of them; or a write failed
-abbrev pub IsToldTo : Answers → Wanted → Option (List ℕ) → Option (List ℕ) → Option (List ℕ) → Option (List ℕ) → Result Ending Stop → Type 0
-IsToldTo a wanted out out' err err' (Ok e) = Appends out out' (a.value.items ++ (if wanted.reports then a.reports.items else [])) × Appends err err' a.exceptions.items × (e ≡ a.ending)
+abbrev pub IsToldTo : Answers → Wanted → Stream → Stream → Stream → Stream → Result Ending Stop → Type 0
+IsToldTo a wanted out out' err err' (Ok e) = WritesAll out out' (a.value.items ++ (if wanted.reports then a.reports.items else [])) × WritesAll err err' a.exceptions.items × (e ≡ a.ending)
 IsToldTo a wanted out out' err err' (Err (stop.Source place r)) = ⊥
 IsToldTo a wanted out out' err err' (Err (stop.Goal r)) = ⊥
 IsToldTo a wanted out out' err err' (Err stop.Memory) = ⊥
-IsToldTo a wanted out out' err err' (Err stop.Write) = AppendsFront out out' (a.value.items ++ (if wanted.reports then a.reports.items else []))
+IsToldTo a wanted out out' err err' (Err stop.Write) = OneBreaksOff out out' (a.value.items ++ (if wanted.reports then a.reports.items else [])) err err' a.exceptions.items
 
--- nothing was written
-pub record WritesNone (out out' err err' : Option (List ℕ)) : Type 0 where
+-- nothing was written to two streams, and none of their calls failed
+pub record WritesNone (out out' err err' : Stream) : Type 0 where
   pub first : out' ≡ out
   pub second : err' ≡ err
 
 -- what was written, by how the work ended
-abbrev pub IsRun : Worked → Wanted → Option (List ℕ) → Option (List ℕ) → Option (List ℕ) → Option (List ℕ) → Result Ending Stop → Kept → Type 0
+abbrev pub IsRun : Worked → Wanted → Stream → Stream → Stream → Stream → Result Ending Stop → Kept → Type 0
 IsRun w wanted out out' err err' (Ok e) k = Shows w wanted out out' err err' e k
 IsRun w wanted out out' err err' (Err (stop.Source place r)) k = (w ≡ source_refused place (refusal_of r) k) × WritesNone out out' err err'
 IsRun w wanted out out' err err' (Err (stop.Goal r)) k = (w ≡ goal_refused (refusal_of r) k) × WritesNone out out' err err'
 IsRun w wanted out out' err err' (Err stop.Memory) k = WritesNone out out' err err'
-IsRun w wanted out out' err err' (Err stop.Write) k = Breaks w wanted out out' k
+IsRun w wanted out out' err err' (Err stop.Write) k = Breaks w wanted out out' err err' k

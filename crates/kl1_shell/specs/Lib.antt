@@ -1,4 +1,6 @@
 pub mod Faults
 pub mod Scripts
 pub mod Works
+pub mod Streams
+pub mod Watching
 pub mod Answers

@@ -1,10 +1,9 @@
 // The journal of an account, written page by page.
 
-ghost use Rattle.std.specs.Prelude.{◌≡◌, ◌++◌, ◌+◌, ◌*◌, ◌<◌, ◌≤◌, length, map, take, drop, IsTrue, IfOk, OnOk, OnErr};
-ghost use Rattle.std.specs.Io.KnownBytes.{Appends};
+ghost use Rattle.std.specs.Prelude.{◌≡◌, ◌++◌, ◌+◌, ◌*◌, ◌<◌, ◌≤◌, length, map, take, drop, IsTrue, IfOk, OnOk};
 ghost use Rattle.kl1_history.specs.Command.{written_lines};
 ghost use Rattle.kl1_history.specs.JournalText.{journal_lines};
-ghost use Rattle.kl1_lines.specs.Devices.{AppendsFront};
+ghost use Rattle.kl1_shell.specs.Streams.{seen, IsTold};
 
 use crate::reports::{PAGE, put_line};
 use crate::stop::Stop;
@@ -51,10 +50,10 @@ fn page_after<H: Host>(alloc: Global, host: &H, done: u64) -> Result<Page, Alloc
     })
 }
 
-/// Writes the lines of the host's journal, 64 at a time. After an `Err` those bytes of them are written that stand before some place.
+/// Writes the lines of the host's journal, 64 at a time. If memory is refused, the first of them are written, and if a write fails,
+/// those of their bytes that stand before some place.
 pub fn put_journal<H: Host, W: Sink>(alloc: Global, host: &H, out: &mut W) -> Result<(), Stop>
-    ensures ok { OnOk result ((f : H.Reading) → H.fits host.now f → Appends (W.contents out.old) (W.contents out.new) (written_lines (journal_lines (H.kept f host.now).journal))) }
-    ensures front { OnErr result ((f : H.Reading) → H.fits host.now f → AppendsFront (W.contents out.old) (W.contents out.new) (written_lines (journal_lines (H.kept f host.now).journal))) }
+    ensures { (f : H.Reading) → H.fits host.now f → IsTold (H.kept f host.now).journal (seen W.contents W.failures out.old) (seen W.contents W.failures out.new) result }
 {
     for page in 0..MOST_PAGES {
         let Ok(Page { lines, is_last }) = page_after(alloc, host, PAGE * page) else {

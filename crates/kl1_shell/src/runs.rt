@@ -2,6 +2,9 @@
 
 ghost use Rattle.std.specs.Prelude.{◌≡◌, OnOk};
 ghost use Rattle.kl1_history.specs.Command.{run_from};
+ghost use Rattle.kl1_event.specs.Views.{reply_of};
+ghost use Rattle.kl1_shell.specs.Works.{worked};
+ghost use Rattle.kl1_shell.specs.Watching.{progress_in, Follows};
 
 use crate::asked::ask;
 use crate::watch::Watch;
@@ -25,13 +28,35 @@ fn run_slice<H: Host>(host: &mut H, steps: u64) -> Result<(), AllocError>
     }
 }
 
+/// The reductions that a shoen was charged, and how many goals are alive in it and below it, where a reply tells its status.
+fn progress_in(reply: &Reply) -> Option<(u64, u64)>
+    ensures { result ≡ progress_in (reply_of reply.now) }
+{
+    match reply {
+        Reply::Status { charged, alive, .. } => Some((*charged, *alive)),
+        Reply::Loaded(_name) => None,
+        Reply::Opened(_shoen) => None,
+        Reply::Sent => None,
+        Reply::Reduced => None,
+        Reply::Ran(_steps) => None,
+        Reply::Shown(_text) => None,
+        Reply::Listed(_texts) => None,
+        Reply::Quiet(_is_quiet) => None,
+        Reply::Welcome(_name) => None,
+        Reply::Bye => None,
+        Reply::Reset => None,
+        Reply::Refused(_refusal) => None,
+    }
+}
+
 /// Tells what the shoen was charged, and how many goals are alive in it and below it, where that is due.
 fn tell_progress<H: Host, T: Watch>(
     host: &mut H,
     shoen: ShoenNo,
     watch: &mut T,
 ) -> Result<(), AllocError>
-    ensures same { OnOk result ((f : H.Reading) → H.fits host.new f → H.kept f host.new ≡ H.kept f host.old) }
+    ensures told { (f : H.Reading) → H.fits host.new f → Follows (λ steps. worked shoen.0 (H.kept f host.new)) 0 (T.told watch.old) (T.told watch.new) }
+    ensures same { (f : H.Reading) → H.fits host.new f → H.kept f host.new ≡ H.kept f host.old }
     ensures before { (f : H.Reading) → H.fits host.new f → H.fits host.old f }
     ensures beside { H.beside host.new ≡ H.beside host.old }
 {
@@ -39,10 +64,13 @@ fn tell_progress<H: Host, T: Watch>(
         return Ok(());
     }
     let reply = ask(host, Query::Status(shoen))?;
-    if let Reply::Status { charged, alive, .. } = reply {
-        watch.tell(charged, alive);
+    match progress_in(&reply) {
+        Some((charged, alive)) => {
+            watch.tell(charged, alive);
+            Ok(())
+        }
+        None => Ok(()),
     }
-    Ok(())
 }
 
 /// Does first steps, one after another, at most so many and until none can step. After an `Err` some of them may be done.
@@ -53,6 +81,7 @@ pub(crate) fn run_watched<H: Host, T: Watch>(
     watch: &mut T,
 ) -> Result<(), AllocError>
     ensures does { OnOk result ((f : H.Reading) → H.fits host.new f → (run_from steps 0 (H.kept f host.old)).kept ≡ H.kept f host.new) }
+    ensures follows { (f : H.Reading) → H.fits host.new f → Follows (λ done. worked shoen.0 (run_from done 0 (H.kept f host.old)).kept) steps (T.told watch.old) (T.told watch.new) }
     ensures before { (f : H.Reading) → H.fits host.new f → H.fits host.old f }
     ensures beside { H.beside host.new ≡ H.beside host.old }
 {

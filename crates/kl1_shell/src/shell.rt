@@ -1,9 +1,11 @@
 // The whole of what the program does on one account: the work, and what is written of it.
 
-ghost use Rattle.std.specs.Prelude.{◌≡◌, ◌++◌, [], OnOk, OnErr, if◌then◌else◌};
+ghost use Rattle.std.specs.Prelude.{◌≡◌, ◌++◌, ◌<◌, [], OnOk, OnErr, if◌then◌else◌};
 ghost use Rattle.std.specs.Io.KnownBytes.{Appends};
 ghost use Rattle.kl1_lines.specs.Devices.{AppendsFront};
 ghost use Rattle.kl1_shell.specs.Works.{texts_of, worked_of};
+ghost use Rattle.kl1_shell.specs.Streams.{seen};
+ghost use Rattle.kl1_shell.specs.Watching.{Follows};
 ghost use Rattle.kl1_shell.specs.Answers.{IsRun, IsToldTo};
 
 use crate::answers::{Answers, answers_of};
@@ -19,7 +21,9 @@ use std::alloc::Global;
 /// Writes the goal, and the reports where they are wanted.
 fn write_value<W: Sink>(answers: &Answers, wanted: Wanted, out: &mut W) -> Result<(), DeviceFailed>
     ensures ok { OnOk result (Appends (W.contents out.old) (W.contents out.new) (answers.now.value.items ++ (if wanted.reports then answers.now.reports.items else []))) }
+    ensures kept { OnOk result (W.failures out.new ≡ W.failures out.old) }
     ensures front { OnErr result (AppendsFront (W.contents out.old) (W.contents out.new) (answers.now.value.items ++ (if wanted.reports then answers.now.reports.items else []))) }
+    ensures failed { OnErr result (W.failures out.old < W.failures out.new) }
 {
     if !wanted.reports {
         return finish(out, answers.value.as_slice());
@@ -39,7 +43,8 @@ pub fn run<H: Host, T: Watch, W: Sink, E: Sink>(
     out: &mut W,
     err: &mut E,
 ) -> Result<Ending, Stop>
-    ensures does { (f : H.Reading) → H.fits host.new f → IsRun (worked_of (H.kept f host.old) (texts_of work.files.items) work.goal work.allowance work.steps) wanted (W.contents out.old) (W.contents out.new) (E.contents err.old) (E.contents err.new) result (H.kept f host.new) }
+    ensures does { (f : H.Reading) → H.fits host.new f → IsRun (worked_of (H.kept f host.old) (texts_of work.files.items) work.goal work.allowance work.steps) wanted (seen W.contents W.failures out.old) (seen W.contents W.failures out.new) (seen E.contents E.failures err.old) (seen E.contents E.failures err.new) result (H.kept f host.new) }
+    ensures follows { (f : H.Reading) → H.fits host.new f → Follows (worked_of (H.kept f host.old) (texts_of work.files.items) work.goal work.allowance) work.steps (T.told watch.old) (T.told watch.new) }
     ensures before { (f : H.Reading) → H.fits host.new f → H.fits host.old f }
     ensures beside { H.beside host.new ≡ H.beside host.old }
 {
@@ -59,7 +64,7 @@ fn write_answers<W: Sink, E: Sink>(
     out: &mut W,
     err: &mut E,
 ) -> Result<Ending, Stop>
-    ensures { IsToldTo answers.now wanted (W.contents out.old) (W.contents out.new) (E.contents err.old) (E.contents err.new) result }
+    ensures { IsToldTo answers.now wanted (seen W.contents W.failures out.old) (seen W.contents W.failures out.new) (seen E.contents E.failures err.old) (seen E.contents E.failures err.new) result }
 {
     match write_value(answers, wanted, out) {
         Ok(()) => {}

@@ -5,6 +5,7 @@ ghost use Rattle.kl1_model.specs.Limits.{most_priority};
 ghost use Rattle.kl1_model.specs.Event as model;
 ghost use Rattle.kl1_history.specs.Journal.{done};
 ghost use Rattle.kl1_shell.specs.Works.{texts_of, started, worked_of, IsWorked};
+ghost use Rattle.kl1_shell.specs.Watching.{Follows};
 
 use crate::loads::load_each;
 use crate::runs::run_watched;
@@ -39,6 +40,7 @@ pub fn do_work<H: Host, T: Watch>(
     watch: &mut T,
 ) -> Result<ShoenNo, Stop>
     ensures does { (f : H.Reading) → H.fits host.new f → IsWorked (worked_of (H.kept f host.old) (texts_of work.files.items) work.goal work.allowance work.steps) result (H.kept f host.new) }
+    ensures follows { (f : H.Reading) → H.fits host.new f → Follows (worked_of (H.kept f host.old) (texts_of work.files.items) work.goal work.allowance) work.steps (T.told watch.old) (T.told watch.new) }
     ensures before { (f : H.Reading) → H.fits host.new f → H.fits host.old f }
     ensures beside { H.beside host.new ≡ H.beside host.old }
 {
@@ -63,6 +65,7 @@ fn start_and_run<H: Host, T: Watch>(
     watch: &mut T,
 ) -> Result<ShoenNo, Stop>
     ensures does { (f : H.Reading) → H.fits host.new f → IsWorked (started steps (done (H.kept f host.old) (model.start allowance 0 most_priority goal))) result (H.kept f host.new) }
+    ensures follows { (f : H.Reading) → H.fits host.new f → Follows (λ count. started count (done (H.kept f host.old) (model.start allowance 0 most_priority goal))) steps (T.told watch.old) (T.told watch.new) }
     ensures before { (f : H.Reading) → H.fits host.new f → H.fits host.old f }
     ensures beside { H.beside host.new ≡ H.beside host.old }
 {

@@ -1,9 +1,11 @@
 // The account on which the work is done.
 
-ghost use Rattle.std.specs.Prelude.{◌≡◌, Err, option_and_then};
+ghost use Rattle.std.specs.Prelude.{◌≡◌, Err};
 ghost use Rattle.kl1_shell.specs.declared.stop.Stop.TheVariants as stop;
 ghost use Rattle.kl1_shell.specs.Works.{texts_of};
-ghost use Rattle.kl1_tasks.specs.Alone.{IsTold, RunsAlone};
+ghost use Rattle.kl1_shell.specs.Streams.{seen, IsTold};
+ghost use Rattle.kl1_shell.specs.Watching.{Follows};
+ghost use Rattle.kl1_tasks.specs.Alone.{seen_if, alone_of, RunsAlone};
 
 use kl1_atoms::{AtomTable, SharedAtoms};
 use kl1_codes::PlainCodes;
@@ -21,12 +23,13 @@ pub struct Outcome {
 }
 
 /// Writes the journal of the host's account to the stream, if there is one.
+#[tactic(auto, using(crate::proofs::Runs::told_nowhere))]
 fn write_journal<H: Host, J: Sink>(
     alloc: Global,
     host: &H,
     journal: &mut Option<J>,
 ) -> Result<(), Stop>
-    ensures { (f : H.Reading) → H.fits host.now f → IsTold (H.kept f host.now).journal (option_and_then J.contents journal.old) (option_and_then J.contents journal.new) result }
+    ensures { (f : H.Reading) → H.fits host.now f → IsTold (H.kept f host.now).journal (seen_if J.contents J.failures journal.old) (seen_if J.contents J.failures journal.new) result }
 {
     match journal {
         Some(sink) => put_journal(alloc, host, sink),
@@ -36,7 +39,7 @@ fn write_journal<H: Host, J: Sink>(
 
 /// Does the work on an account of its own, and writes what is told of the goal's shoen, and the journal to its stream, if there is
 /// one.
-#[tactic(auto, using(crate::proofs::Runs::refused_alone))]
+#[tactic(auto, using(crate::proofs::Runs::refused_alone, crate::proofs::Runs::none_followed))]
 pub fn run_alone<T: Watch, W: Sink, E: Sink, J: Sink>(
     alloc: Global,
     work: Work,
@@ -46,7 +49,8 @@ pub fn run_alone<T: Watch, W: Sink, E: Sink, J: Sink>(
     err: &mut E,
     journal: &mut Option<J>,
 ) -> Outcome
-    ensures { RunsAlone (texts_of work.files.items) work.goal work.allowance work.steps wanted (W.contents out.old) (W.contents out.new) (E.contents err.old) (E.contents err.new) (option_and_then J.contents journal.old) (option_and_then J.contents journal.new) result }
+    ensures runs { RunsAlone (texts_of work.files.items) work.goal work.allowance work.steps wanted (seen W.contents W.failures out.old) (seen W.contents W.failures out.new) (seen E.contents E.failures err.old) (seen E.contents E.failures err.new) (seen_if J.contents J.failures journal.old) (seen_if J.contents J.failures journal.new) result }
+    ensures follows { Follows (alone_of (texts_of work.files.items) work.goal work.allowance) work.steps (T.told watch.old) (T.told watch.new) }
 {
     let name = AccountName::read(b"me").unwrap();
     match AtomTable::new(alloc, 1) {

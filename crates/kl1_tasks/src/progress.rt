@@ -1,5 +1,7 @@
 // The line that tells how a run goes on.
 
+ghost use Rattle.std.specs.Prelude.{None};
+
 use kl1_shell::Watch;
 use std::io::IsTerminal;
 use std::time::Instant;
@@ -50,6 +52,9 @@ impl<'r> Progress<'r> {
 }
 
 impl Watch for Progress<'_> {
+    // What the terminal took isn't known.
+    ghost told = { λ p. None };
+
     fn is_due(&mut self) -> bool {
         let Some(start) = self.start else {
             return false;

@@ -1,6 +1,8 @@
 // The checks in the order of the report.
 
-use crate::script::{refused_load_puts_no_code_in, two_accounts_answer_over_each_word};
+use crate::script::{
+    crowded_names_leave_room, refused_load_puts_no_code_in, two_accounts_answer_over_each_word,
+};
 use kl1_rows::{Text, put_check};
 use std::rt::Clock;
 use std::sync::Wait;
@@ -18,4 +20,10 @@ pub fn put_checks<R: Threads + Wait + Clock + Sync>(rt: &R, out: &mut Text) {
     );
     let done = refused_load_puts_no_code_in(rt, out.alloc);
     put_check(out, b"script refused_load_puts_no_code_in", done);
+    let done = crowded_names_leave_room(rt, out.alloc);
+    put_check(
+        out,
+        b"script names_that_crowd_in_few_buckets_leave_room_for_another_account",
+        done,
+    );
 }

@@ -1,5 +1,5 @@
 //! Rows of acts on the public calls of all crates below the program, and checks, also with several threads, and whether each comes
-//! to what is wanted; and how long reductions, the store, look-ups and counting take.
+//! to what is wanted; and how long the store, look-ups and counting take.
 #![tactic(auto)]
 
 mod checks;

@@ -8,8 +8,6 @@ use std::thread::Threads;
 /// What is measured.
 #[derive(Clone, Copy)]
 pub enum Measure {
-    /// What a reduction costs.
-    Reductions,
     /// How long it takes to find a code.
     Loads,
     /// The store beside plain Rust.
@@ -21,8 +19,7 @@ pub enum Measure {
 }
 
 /// The measures by their words, each with a line feed.
-const MEASURES: [(&[u8], Measure); 5] = [
-    (b"reductions\n", Measure::Reductions),
+const MEASURES: [(&[u8], Measure); 4] = [
     (b"loads\n", Measure::Loads),
     (b"store\n", Measure::Store),
     (b"names\n", Measure::Names),
@@ -42,7 +39,6 @@ pub fn measure_of(input: &[u8]) -> Option<Measure> {
 /// Measures, and puts what comes of it.
 pub fn put_measured<R: Threads + Wait + Clock + Sync>(rt: &R, out: &mut Text, measure: Measure) {
     match measure {
-        Measure::Reductions => kl1_user_tests::put_times(rt, out),
         Measure::Loads => kl1_goals_tests::put_code_times(rt, out),
         Measure::Store => kl1_goals_tests::put_store_times(rt, out),
         Measure::Names => kl1_sharing_tests::put_atom_times(rt, out),

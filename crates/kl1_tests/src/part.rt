@@ -21,8 +21,8 @@ pub enum Part {
     One,
     /// An account, to which an event is done again where memory was refused.
     Again,
-    /// An account, and a slow one beside it.
-    Both,
+    /// A load over the shared table of names, which is done again while memory is refused.
+    Published,
     /// Events of many accounts, together by at most so many calls and each alone.
     World(u8),
     /// Journals and their texts.
@@ -91,7 +91,7 @@ const PARTS: [(&[u8], Part); 62] = [
     (b"shoen tree ", Part::Tree),
     (b"user one ", Part::One),
     (b"user again ", Part::Again),
-    (b"user both ", Part::Both),
+    (b"user published ", Part::Published),
     (b"world once ", Part::World(1)),
     (b"world both ", Part::World(2)),
     (b"journal read ", Part::Journal),

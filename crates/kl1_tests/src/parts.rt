@@ -38,8 +38,7 @@ impl<H: Wait> Tried for Parts<'_, H> {
         match self.part {
             Part::Numbers => self.stores.begin(self.alloc, false),
             Part::Texts => self.stores.begin(self.alloc, true),
-            Part::One | Part::Again => self.accounts.begin(self.alloc, false),
-            Part::Both => self.accounts.begin(self.alloc, true),
+            Part::One | Part::Again => self.accounts.begin(self.alloc),
             _ => (),
         }
     }
@@ -51,8 +50,9 @@ impl<H: Wait> Tried for Parts<'_, H> {
             Part::Read(kind) => kl1_read_tests::is_right(self.alloc, kind, act, wanted),
             Part::Match(kind) => kl1_read_tests::is_match_right(self.alloc, kind, act, wanted),
             Part::Tree => kl1_goals_tests::is_tree_right(self.alloc, act, wanted),
-            Part::One | Part::Both => self.accounts.is_right(self.alloc, act, wanted),
+            Part::One => self.accounts.is_right(self.alloc, act, wanted),
             Part::Again => self.accounts.is_right_again(self.alloc, act, wanted),
+            Part::Published => kl1_user_tests::is_published(self.alloc, act, wanted),
             Part::World(calls) => kl1_user_tests::is_world_right(self.alloc, calls, act, wanted),
             Part::Journal => kl1_user_tests::is_journal(self.alloc, act, wanted),
             Part::Command(kind) => command::is_right(self.alloc, kind, act, wanted),

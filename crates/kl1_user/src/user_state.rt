@@ -32,6 +32,7 @@ pub struct UserState<A: AtomSource, C: CodeSource> {
 impl<A: AtomSource, C: CodeSource> Model for UserState<A, C> {
     ghost use Rattle.std.specs.Coded.{codes};
     ghost use Rattle.kl1_modules.specs.Numbered.{numbered_code};
+    ghost use Rattle.kl1_atoms.specs.Names.{AreNames};
     ghost use Rattle.kl1_effects.specs.Account.{Account as Kept};
 
     ghost Value = { Kept };
@@ -39,6 +40,8 @@ impl<A: AtomSource, C: CodeSource> Model for UserState<A, C> {
     ghost coded = { Prim.hlevel (codes, numbered_code) };
 
     ghost view = { λ u. u.account };
+
+    ghost invariant = { λ u. AreNames u.account.names };
 }
 
 impl<A: AtomSource, C: CodeSource> UserState<A, C> {
@@ -74,7 +77,7 @@ impl<A: AtomSource, C: CodeSource> UserState<A, C> {
         ensures fresh { IfOk result (λ user. (f : Reading) → state_of f user ≡ fresh_with rules name texts.now sessions) }
         ensures knows { IfOk result (λ user. A.knows seat.new ≡ user.names) }
         ensures modules { IfOk result (λ user. user.modules ≡ []) }
-        ensures keeps { Keeps A.is_of A.place A.knows names.old names.new seat.old seat.new }
+        ensures keeps { Keeps A.is_of A.place A.knows A.published names.old names.new seat.old seat.new }
         ensures seat { OnErr result (A.knows seat.new ≡ []) }
     {
         let account = Account::with_names(alloc, name, rules, sessions, names, seat, texts)?;
@@ -85,8 +88,8 @@ impl<A: AtomSource, C: CodeSource> UserState<A, C> {
         })
     }
 
-    /// What an event does to the account, and the reply. Where memory is refused, the account and what the seat knows are as
-    /// before; a code may have been put in. A session is closed without memory.
+    /// What an event does to the account, and the reply. If memory is refused, the account, what the seat knows and what it has
+    /// published are as before; a code may have been put in. A session is closed without memory.
     pub fn apply(
         &mut self,
         names: &mut A,
@@ -101,7 +104,8 @@ impl<A: AtomSource, C: CodeSource> UserState<A, C> {
         ensures logout { IsTrue (is_logout event.now) → IsOk result }
         ensures err { OnErr result (self.new ≡ self.old) }
         ensures seat { OnErr result (A.knows seat.new ≡ A.knows seat.old) }
-        ensures keeps { Keeps A.is_of A.place A.knows names.old names.new seat.old seat.new }
+        ensures published { OnErr result (A.published seat.new ≡ A.published seat.old) }
+        ensures keeps { Keeps A.is_of A.place A.knows A.published names.old names.new seat.old seat.new }
         ensures knows { A.knows seat.new ≡ self.new.names }
         ensures placed { ArePlaced (C.has codes.new) self.new.modules }
         ensures same { (p : ℕ × ℕ) → C.has codes.old p ↔ C.has codes.new p }
@@ -149,7 +153,7 @@ impl<A: AtomSource, C: CodeSource> UserState<A, C> {
         requires knows { A.knows seat.old ≡ self.now.names }
         requires placed { ArePlaced (C.has codes.now) self.now.modules }
         ensures step { IfOk result (λ reply. (f : Reading) → Fits self.now.names f → step (state_of f self.now) (read (query_of query)) ≡ record { state = state_of f self.now; reply = reply_of reply }) }
-        ensures keeps { Keeps A.is_of A.place A.knows names.old names.new seat.old seat.new }
+        ensures keeps { Keeps A.is_of A.place A.knows A.published names.old names.new seat.old seat.new }
         ensures knows { A.knows seat.new ≡ self.now.names }
     {
         match query {
@@ -172,7 +176,7 @@ impl<A: AtomSource, C: CodeSource> UserState<A, C> {
         requires of { A.is_of names.old seat.old }
         requires knows { A.knows seat.old ≡ self.now.names }
         ensures whole { IfOk result (λ shown. (f : Reading) → Fits self.now.names f → option_map (λ text. text.items) shown ≡ whole_value (state_of f self.now) number) }
-        ensures keeps { Keeps A.is_of A.place A.knows names.old names.new seat.old seat.new }
+        ensures keeps { Keeps A.is_of A.place A.knows A.published names.old names.new seat.old seat.new }
         ensures knows { A.knows seat.new ≡ self.now.names }
     {
         self.account.whole_value(names, seat, number)
@@ -193,7 +197,8 @@ impl<A: AtomSource, C: CodeSource> UserState<A, C> {
         ensures step { IfOk result (λ refused. (f : Reading) → Fits self.new.names f → step (state_of f self.old) (reduce_event goal.0 clause.0) ≡ record { state = state_of f self.new; reply = reduced_or refused }) }
         ensures err { OnErr result (self.new ≡ self.old) }
         ensures seat { OnErr result (A.knows seat.new ≡ A.knows seat.old) }
-        ensures keeps { Keeps A.is_of A.place A.knows names.old names.new seat.old seat.new }
+        ensures published { OnErr result (A.published seat.new ≡ A.published seat.old) }
+        ensures keeps { Keeps A.is_of A.place A.knows A.published names.old names.new seat.old seat.new }
         ensures knows { A.knows seat.new ≡ self.new.names }
         ensures modules { self.new.modules ≡ self.old.modules }
     {
@@ -207,16 +212,18 @@ impl<A: AtomSource, C: CodeSource> UserState<A, C> {
         self.account.name_texts()
     }
 
-    /// The first goal that can step, with the clause by which it steps.
+    /// The first goal that can step, with the clause by which it steps, by each reading of the names; there is such a reading.
     pub fn pick(&self) -> Option<(GoalNo, ClauseNo)>
-        ensures { (f : Reading) → Fits self.now.names f → option_map chosen_of result ≡ first (state_of f self.now) }
+        ensures picks { (f : Reading) → Fits self.now.names f → option_map chosen_of result ≡ first (state_of f self.now) }
+        ensures some { (f : Reading) × Fits self.now.names f }
     {
         self.account.pick()
     }
 
-    /// Whether no goal can step.
+    /// Whether no goal can step, by each reading of the names; there is such a reading.
     pub fn quiet(&self) -> bool
-        ensures { (f : Reading) → Fits self.now.names f → result ≡ quiet (state_of f self.now) }
+        ensures quiet { (f : Reading) → Fits self.now.names f → result ≡ quiet (state_of f self.now) }
+        ensures some { (f : Reading) × Fits self.now.names f }
     {
         self.account.quiet()
     }

@@ -1,13 +1,13 @@
 // Answers of an account beside the texts that are wanted.
 
 use crate::player::Player;
-use kl1_event::{Event, Query, Refusal, Reply, ShoenNo};
+use kl1_event::{Event, Refusal, Reply};
 use kl1_model::Condition;
 use kl1_rows::{cut, is_counted, is_joined, number_of};
 use kl1_text::AtomText;
 
 /// The number and word of a refusal; for the line of a source nothing.
-pub fn refusal_word(refusal: Refusal) -> &'static [u8] {
+fn refusal_word(refusal: Refusal) -> &'static [u8] {
     match refusal {
         Refusal::Syntax => b"- 1 syntax",
         Refusal::Source { line: _ } => b"",
@@ -58,7 +58,7 @@ fn is_change(reply: &Reply, wanted: &[u8]) -> bool {
 }
 
 /// Whether a text says whether no goal can step.
-pub fn is_told_quiet(is_quiet: bool, wanted: &[u8]) -> bool {
+fn is_told_quiet(is_quiet: bool, wanted: &[u8]) -> bool {
     let word: &[u8] = if is_quiet { b"+ yes" } else { b"+ no" };
     word == wanted
 }
@@ -75,7 +75,7 @@ pub fn condition_word(condition: Condition) -> &'static [u8] {
 }
 
 /// Whether a text shows a shoen by the word for its state, and by what it was charged, its allowance and its goals.
-pub fn is_status(word: &[u8], numbers: &[u64], wanted: &[u8]) -> bool {
+fn is_status(word: &[u8], numbers: &[u64], wanted: &[u8]) -> bool {
     let Some(text) = wanted.strip_prefix(b"+ ") else {
         return false;
     };
@@ -144,16 +144,8 @@ pub fn is_answered(user: &mut Player, event: &Event, wanted: &[u8]) -> bool {
     }
 }
 
-/// Whether an account shows the goal of a shoen so.
-pub fn is_shown(user: &mut Player, shoen: u64, text: &[u8]) -> bool {
-    match user.apply(&Event::Read(Query::Value(ShoenNo(shoen)))) {
-        Ok(Reply::Shown(shown)) => shown.as_slice() == text,
-        _ => false,
-    }
-}
-
 /// Whether the first goal and its clause have these numbers, or the goal's is 0 and there is none.
-pub fn is_first_by(user: &Player, first: u64, second: u64) -> bool {
+fn is_first_by(user: &Player, first: u64, second: u64) -> bool {
     let (goal, clause) = match user.pick() {
         None => (0, 0),
         Some((goal, clause)) => (goal.0, clause.0),

@@ -1,21 +1,19 @@
-//! Rows of events on an account, also beside a slow one, and on many accounts; rows on journals; and what a reduction costs.
+//! Rows of events on an account and on many accounts; rows on loads and on journals.
 #![tactic(auto)]
 
 mod accounts;
 mod acts;
 mod again;
 mod answers;
-mod beside;
 mod journals;
+mod loads;
 mod made;
 mod over_accounts;
 mod player;
-mod playing;
-mod reductions;
 mod worlds;
 
 pub use accounts::Accounts;
 pub use journals::is_journal;
+pub use loads::is_published;
 pub use over_accounts::{OverAccounts, put_over};
-pub use reductions::put_times;
 pub use worlds::is_world_right;

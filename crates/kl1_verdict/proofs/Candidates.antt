@@ -3,11 +3,12 @@ use Rattle.std.proofs.Common.{◌≡◌, ℕ, zero, suc, ◌+◌, ◌-◌, ◌<�
 use Rattle.std.specs.Prelude.{Option, Some, None}
 use Rattle.std.proofs.lemmas.Bool.{cond-true, cond-false, eq-eqb, ne_eqb, eqb-true, eqb-false}
 use Rattle.kl1_model.specs.declared.built_in.BuiltIn.{BuiltIn}
-use Rattle.kl1_model.specs.Term.{Terms}
+use Rattle.kl1_model.specs.Term.{Terms, Replacement}
 use Rattle.kl1_model.specs.Module.{Clause}
-use Rattle.kl1_model.specs.Match as model
-use Rattle.kl1_model.specs.Match.{Candidate, candidate_by, candidates_within, candidates_from, is_rejected, verdict, accepts, rejects, suspends}
+use Rattle.kl1_model.specs.Match.{Answer, yes, no, wait, Candidate, candidate_by, candidates_within, candidates_from, is_no, places_of, verdict}
+use Rattle.kl1_model.specs.Outcome.{answer_in}
 use Rattle.kl1_model.proofs.LeastClause.{AreFrom, are_from, are_from_within}
+use Rattle.kl1_model.proofs.VerdictAnswers.{verdicts_answer, places_in, candidate_in}
 use Rattle.kl1_text.specs.Reading.{Reads}
 use Rattle.kl1_store.specs.declared.cell.Cell.{Cell}
 use Rattle.kl1_store.specs.Held.{Held}
@@ -34,16 +35,16 @@ none_numbered j n (k ∷ ks) lt a =
     let le = a.0 in
     cond-false (k.number == j) (Some k) (numbered j ks) (ne_eqb k.number j (λ e. absurd (omega (arith, le, lt, e)))) ∙ none_numbered j n ks lt a.1
 
-at_front : (j n : ℕ) (c : Clause) (ks : List Candidate) (v : model.Verdict) → j ≡ n → AreFrom (suc n) ks → numbered j (candidate_by n c v ++ ks) ≡ first_of (candidate_by j c v)
-at_front j n c ks (accepts ps) e a =
-    cond-true (n == j) (Some (record { number = n; clause = c; places = ps })) (numbered j ks) (eq-eqb n j (sym e)) ∙ ap (λ k. first_of (candidate_by k c (accepts ps))) (sym e)
-at_front j n c ks (rejects vs) e a = none_numbered j (suc n) ks (omega (arith, e)) a
-at_front j n c ks (suspends vs) e a = none_numbered j (suc n) ks (omega (arith, e)) a
+at_front : (j n : ℕ) (c : Clause) (ps : List Replacement) (ks : List Candidate) (v : Answer) → j ≡ n → AreFrom (suc n) ks → numbered j (candidate_by n c ps v ++ ks) ≡ first_of (candidate_by j c ps v)
+at_front j n c ps ks yes e a =
+    cond-true (n == j) (Some (record { number = n; clause = c; places = ps })) (numbered j ks) (eq-eqb n j (sym e)) ∙ ap (λ k. first_of (candidate_by k c ps yes)) (sym e)
+at_front j n c ps ks no e a = none_numbered j (suc n) ks (omega (arith, e)) a
+at_front j n c ps ks wait e a = none_numbered j (suc n) ks (omega (arith, e)) a
 
-behind_front : (j n : ℕ) (c : Clause) (ks : List Candidate) (v : model.Verdict) → n < j → numbered j (candidate_by n c v ++ ks) ≡ numbered j ks
-behind_front j n c ks (accepts ps) lt = cond-false (n == j) (Some (record { number = n; clause = c; places = ps })) (numbered j ks) (ne_eqb n j (λ e. absurd (omega (arith, lt, e))))
-behind_front j n c ks (rejects vs) lt = refl
-behind_front j n c ks (suspends vs) lt = refl
+behind_front : (j n : ℕ) (c : Clause) (ps : List Replacement) (ks : List Candidate) (v : Answer) → n < j → numbered j (candidate_by n c ps v ++ ks) ≡ numbered j ks
+behind_front j n c ps ks yes lt = cond-false (n == j) (Some (record { number = n; clause = c; places = ps })) (numbered j ks) (ne_eqb n j (λ e. absurd (omega (arith, lt, e))))
+behind_front j n c ps ks no lt = refl
+behind_front j n c ps ks wait lt = refl
 
 -- ---- sections
 
@@ -65,48 +66,48 @@ same_first : {A : Type 0} {x y : A} {xs ys : List A} → x ∷ xs ≡ y ∷ ys �
 same_first e = cc
 
 -- in a run of one section the candidate of a number is its clause, where that accepts
-run_within : (j k n s : ℕ) (cs rest : List Clause) (c : Clause) (ts : Terms) → drop k cs ≡ c ∷ rest → ((i : ℕ) → i ≤ k → get_or (sections cs) i 0 ≡ s) → j ≡ n + k → numbered j (candidates_within s n cs ts) ≡ first_of (candidate_by j c (verdict c ts))
+run_within : (j k n s : ℕ) (cs rest : List Clause) (c : Clause) (ts : Terms) → drop k cs ≡ c ∷ rest → ((i : ℕ) → i ≤ k → get_or (sections cs) i 0 ≡ s) → j ≡ n + k → numbered j (candidates_within s n cs ts) ≡ first_of (candidate_by j c (places_of c ts) (verdict c ts))
 run_within j zero n s [] rest c ts e run is = absurd (cc)
 run_within j (suc k) n s [] rest c ts e run is = absurd (cc)
 run_within j zero n s (d ∷ ds) rest c ts e run is =
-    ap (λ b. numbered j (if b then candidate_by n d (verdict d ts) ++ candidates_within s (suc n) ds ts else [])) (eq-eqb d.section s (run 0 (omega arith)))
-    ∙ at_front j n d (candidates_within s (suc n) ds ts) (verdict d ts) (omega (arith, is)) (are_from_within s (suc n) ds ts)
-    ∙ ap (λ x. first_of (candidate_by j x (verdict x ts))) (same_first e)
+    ap (λ b. numbered j (if b then candidate_by n d (places_of d ts) (verdict d ts) ++ candidates_within s (suc n) ds ts else [])) (eq-eqb d.section s (run 0 (omega arith)))
+    ∙ at_front j n d (places_of d ts) (candidates_within s (suc n) ds ts) (verdict d ts) (omega (arith, is)) (are_from_within s (suc n) ds ts)
+    ∙ ap (λ x. first_of (candidate_by j x (places_of x ts) (verdict x ts))) (same_first e)
 run_within j (suc k) n s (d ∷ ds) rest c ts e run is =
-    ap (λ b. numbered j (if b then candidate_by n d (verdict d ts) ++ candidates_within s (suc n) ds ts else [])) (eq-eqb d.section s (run 0 (omega arith)))
-    ∙ behind_front j n d (candidates_within s (suc n) ds ts) (verdict d ts) (omega (arith, is))
+    ap (λ b. numbered j (if b then candidate_by n d (places_of d ts) (verdict d ts) ++ candidates_within s (suc n) ds ts else [])) (eq-eqb d.section s (run 0 (omega arith)))
+    ∙ behind_front j n d (places_of d ts) (candidates_within s (suc n) ds ts) (verdict d ts) (omega (arith, is))
     ∙ run_within j k (suc n) s ds rest c ts e (λ i le. run (suc i) (omega (arith, le))) (omega (arith, is))
 
-nothing_by : (j : ℕ) (c : Clause) (v : model.Verdict) → is_rejected v ≡ true → first_of (candidate_by j c v) ≡ None
-nothing_by j c (accepts ps) e = absurd (cc)
-nothing_by j c (rejects vs) e = refl
-nothing_by j c (suspends vs) e = refl
+nothing_by : (j : ℕ) (c : Clause) (ps : List Replacement) (v : Answer) → is_no v ≡ true → first_of (candidate_by j c ps v) ≡ None
+nothing_by j c ps yes e = absurd (cc)
+nothing_by j c ps no e = refl
+nothing_by j c ps wait e = refl
 
-run_from : (j k n s : ℕ) (cs rest : List Clause) (c : Clause) (ts : Terms) → drop k cs ≡ c ∷ rest → ((i : ℕ) → i ≤ k → get_or (sections cs) i 0 ≡ s) → j ≡ n + k → numbered j (candidates_from n cs ts) ≡ first_of (candidate_by j c (verdict c ts))
+run_from : (j k n s : ℕ) (cs rest : List Clause) (c : Clause) (ts : Terms) → drop k cs ≡ c ∷ rest → ((i : ℕ) → i ≤ k → get_or (sections cs) i 0 ≡ s) → j ≡ n + k → numbered j (candidates_from n cs ts) ≡ first_of (candidate_by j c (places_of c ts) (verdict c ts))
 run_from j zero n s [] rest c ts e run is = absurd (cc)
 run_from j (suc k) n s [] rest c ts e run is = absurd (cc)
-run_from j zero n s (d ∷ ds) rest c ts e run is = by (is_rejected (verdict d ts)) refl
+run_from j zero n s (d ∷ ds) rest c ts e run is = by (is_no (verdict d ts)) refl
   where
     here : d.section ≡ s
     here = run 0 (omega arith)
 
-    by : (b : Bool) → is_rejected (verdict d ts) ≡ b → numbered j (candidates_from n (d ∷ ds) ts) ≡ first_of (candidate_by j c (verdict c ts))
+    by : (b : Bool) → is_no (verdict d ts) ≡ b → numbered j (candidates_from n (d ∷ ds) ts) ≡ first_of (candidate_by j c (places_of c ts) (verdict c ts))
     by true r =
         ap (λ b. numbered j (if b then candidates_from (suc n) ds ts else candidates_within d.section n (d ∷ ds) ts)) r
         ∙ none_numbered j (suc n) (candidates_from (suc n) ds ts) (omega (arith, is)) (are_from (suc n) ds ts)
-        ∙ sym (nothing_by j d (verdict d ts) r)
-        ∙ ap (λ x. first_of (candidate_by j x (verdict x ts))) (same_first e)
+        ∙ sym (nothing_by j d (places_of d ts) (verdict d ts) r)
+        ∙ ap (λ x. first_of (candidate_by j x (places_of x ts) (verdict x ts))) (same_first e)
     by false r =
         ap (λ b. numbered j (if b then candidates_from (suc n) ds ts else candidates_within d.section n (d ∷ ds) ts)) r
         ∙ ap (λ x. numbered j (candidates_within x n (d ∷ ds) ts)) here
         ∙ run_within j zero n s (d ∷ ds) rest c ts e run is
 run_from j (suc k) n s (d ∷ ds) rest c ts e run is =
-    by (is_rejected (verdict d ts)) refl (run_from j k (suc n) s ds rest c ts e (λ i le. run (suc i) (omega (arith, le))) (omega (arith, is)))
+    by (is_no (verdict d ts)) refl (run_from j k (suc n) s ds rest c ts e (λ i le. run (suc i) (omega (arith, le))) (omega (arith, is)))
   where
     here : d.section ≡ s
     here = run 0 (omega arith)
 
-    by : (b : Bool) → is_rejected (verdict d ts) ≡ b → numbered j (candidates_from (suc n) ds ts) ≡ first_of (candidate_by j c (verdict c ts)) → numbered j (candidates_from n (d ∷ ds) ts) ≡ first_of (candidate_by j c (verdict c ts))
+    by : (b : Bool) → is_no (verdict d ts) ≡ b → numbered j (candidates_from (suc n) ds ts) ≡ first_of (candidate_by j c (places_of c ts) (verdict c ts)) → numbered j (candidates_from n (d ∷ ds) ts) ≡ first_of (candidate_by j c (places_of c ts) (verdict c ts))
     by true r next = ap (λ b. numbered j (if b then candidates_from (suc n) ds ts else candidates_within d.section n (d ∷ ds) ts)) r ∙ next
     by false r next =
         ap (λ b. numbered j (if b then candidates_from (suc n) ds ts else candidates_within d.section n (d ∷ ds) ts)) r
@@ -117,12 +118,12 @@ run_from j (suc k) n s (d ∷ ds) rest c ts e run is =
 section_ends : (j k e n s : ℕ) (cs : List Clause) (ts : Terms) → e ≤ k → e < length cs → (get_or (sections cs) e 0 ≡ s → ⊥) → j ≡ n + k → numbered j (candidates_within s n cs ts) ≡ None
 section_ends j k e n s [] ts le lt other is = refl
 section_ends j k zero n s (d ∷ ds) ts le lt other is =
-    ap (λ b. numbered j (if b then candidate_by n d (verdict d ts) ++ candidates_within s (suc n) ds ts else [])) (ne_eqb d.section s other)
+    ap (λ b. numbered j (if b then candidate_by n d (places_of d ts) (verdict d ts) ++ candidates_within s (suc n) ds ts else [])) (ne_eqb d.section s other)
 section_ends j zero (suc e) n s (d ∷ ds) ts le lt other is = absurd (omega arith)
 section_ends j (suc k) (suc e) n s (d ∷ ds) ts le lt other is = by (d.section == s) (section_ends j k e (suc n) s ds ts (omega (arith, le)) (omega (arith, lt)) other (omega (arith, is)))
   where
-    by : (b : Bool) → numbered j (candidates_within s (suc n) ds ts) ≡ None → numbered j (if b then candidate_by n d (verdict d ts) ++ candidates_within s (suc n) ds ts else []) ≡ None
-    by true next = behind_front j n d (candidates_within s (suc n) ds ts) (verdict d ts) (omega (arith, is)) ∙ next
+    by : (b : Bool) → numbered j (candidates_within s (suc n) ds ts) ≡ None → numbered j (if b then candidate_by n d (places_of d ts) (verdict d ts) ++ candidates_within s (suc n) ds ts else []) ≡ None
+    by true next = behind_front j n d (places_of d ts) (candidates_within s (suc n) ds ts) (verdict d ts) (omega (arith, is)) ∙ next
     by false next = refl
 
 -- ---- compiled clauses
@@ -143,7 +144,7 @@ section_behind : (names : List (List ℕ)) (clauses : List CompiledClause) (cs :
 section_behind names clauses cs start i a =
     ap (λ l. get_or l i 0) (sections_drop start cs) ∙ get_or-drop start (sections cs) i 0 ∙ ap (λ l. get_or l (start + i) 0) (sym (sections_same names clauses cs a))
 
-as_rejected : {N : Type 0} (f : N → List ℕ) (h : Held N) (places : List (Place N)) (named : List ℕ) (given : Verdict) (b : Bool) → is_rejection given ≡ b → is_rejected (verdict_with_places f h places named given) ≡ b
+as_rejected : {N : Type 0} (f : N → List ℕ) (h : Held N) (places : List (Place N)) (named : List ℕ) (given : Verdict) (b : Bool) → is_rejection given ≡ b → is_no (answer_in (verdict_with_places f h places named given)) ≡ b
 as_rejected f h places named Accepts b e = e
 as_rejected f h places named Rejects b e = e
 as_rejected f h places named Suspends b e = e
@@ -178,7 +179,7 @@ module _ {N : Type 0} (built : BuiltIn → N) (names : List N) (clauses : List C
       let t = there (map f names) clauses cs place x a lt in
       let g = v.gives f reads t.clause t.is in
       let rest = drop (suc place) cs in
-      let rejects_is : is_rejected (verdict t.clause ts) ≡ b = ap is_rejected g.verdict_is ∙ as_rejected f h places g.defined given b is in
+      let rejects_is : is_no (verdict t.clause ts) ≡ b = ap is_no (sym (verdicts_answer t.clause ts) ∙ ap answer_in g.verdict_is) ∙ as_rejected f h places g.defined given b is in
       let own : t.clause.section ≡ section_at clauses place = sym (ap (λ l. get_or l place 0) (sections_same (map f names) clauses cs a) ∙ section_there place cs rest t.clause t.left) in
       l f reads cs a
       ∙ ap (λ ds. candidates_from (suc place) ds ts) t.left
@@ -201,7 +202,7 @@ module _ {N : Type 0} (built : BuiltIn → N) (names : List N) (clauses : List C
 
   found_there : (start place : ℕ) (rest : List Clause) (c : Clause) → start ≤ place → IsRun clauses start place → AllReject built names clauses h goal start →
       (f : N → List ℕ) → Reads built f → (cs : List Clause) → AreCompiled (map f names) clauses cs → drop place cs ≡ c ∷ rest →
-      numbered (suc place) (candidates_from 1 cs (arguments_of_goal (term_of f h goal))) ≡ first_of (candidate_by (suc place) c (verdict c (arguments_of_goal (term_of f h goal))))
+      numbered (suc place) (candidates_from 1 cs (arguments_of_goal (term_of f h goal))) ≡ first_of (candidate_by (suc place) c (places_of c (arguments_of_goal (term_of f h goal))) (verdict c (arguments_of_goal (term_of f h goal))))
   found_there start place rest c le run l f reads cs a e =
       let ts = arguments_of_goal (term_of f h goal) in
       let k = place - start in
@@ -222,7 +223,7 @@ module _ {N : Type 0} (built : BuiltIn → N) (names : List N) (clauses : List C
           clause = t.clause;
           others = drop (suc place) cs;
           at = t.left;
-          found = found_there start place (drop (suc place) cs) t.clause le run l f reads cs a t.left ∙ ap (λ w. first_of (candidate_by (suc place) t.clause w)) g.verdict_is;
+          found = found_there start place (drop (suc place) cs) t.clause le run l f reads cs a t.left ∙ ap first_of (candidate_in (suc place) t.clause ts (verdict_with_places f h places g.defined Accepts) g.verdict_is);
         };
   }
 
@@ -233,10 +234,12 @@ module _ {N : Type 0} (built : BuiltIn → N) (names : List N) (clauses : List C
     taken = λ f reads cs a.
         let t = there (map f names) clauses cs place x a lt in
         let g = v.gives f reads t.clause t.is in
-        found_there start place (drop (suc place) cs) t.clause le run l f reads cs a t.left ∙ ap (λ w. first_of (candidate_by (suc place) t.clause w)) g.verdict_is ∙ none_by f t.clause g.defined given other;
+        found_there start place (drop (suc place) cs) t.clause le run l f reads cs a t.left
+        ∙ ap first_of (candidate_in (suc place) t.clause (arguments_of_goal (term_of f h goal)) (verdict_with_places f h places g.defined given) g.verdict_is)
+        ∙ none_by f t.clause g.defined given other;
   }
     where
-      none_by : (f : N → List ℕ) (c : Clause) (named : List ℕ) (w : Verdict) → (w ≡ Accepts → ⊥) → first_of (candidate_by (suc place) c (verdict_with_places f h places named w)) ≡ None
+      none_by : (f : N → List ℕ) (c : Clause) (named : List ℕ) (w : Verdict) → (w ≡ Accepts → ⊥) → first_of (candidate_by (suc place) c (places_in (verdict_with_places f h places named w)) (answer_in (verdict_with_places f h places named w))) ≡ None
       none_by f c named Accepts ne = absurd (ne refl)
       none_by f c named Rejects ne = refl
       none_by f c named Suspends ne = refl

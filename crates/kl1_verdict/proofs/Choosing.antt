@@ -1,5 +1,5 @@
 -- Clauses that are tried one after another.
-use Rattle.std.proofs.Common.{◌≡◌, ℕ, zero, suc, ◌+◌, ◌<◌, ◌≤◌, Bool, true, false, List, [], ◌∷◌, ◌++◌, length, map, drop, get_or, refl, sym, ap, ◌∙◌, subst, arith, append_assoc, append-nil}
+use Rattle.std.proofs.Common.{◌≡◌, ℕ, zero, suc, ◌+◌, ◌<◌, ◌≤◌, Bool, true, false, List, [], ◌∷◌, ◌++◌, length, map, drop, get_or, refl, sym, ap, ap₂, ◌∙◌, subst, arith, append_assoc, append-nil}
 use Rattle.std.proofs.Common.{◌==◌, if◌then◌else◌, not}
 use Rattle.std.specs.Prelude.{Option, Some, None}
 use Rattle.std.proofs.lemmas.Bool.{eqb-true}
@@ -7,9 +7,13 @@ use Rattle.std.proofs.lemmas.List.{drop_all}
 use Rattle.kl1_model.specs.declared.built_in.BuiltIn.{BuiltIn}
 use Rattle.kl1_model.specs.Term.{Terms}
 use Rattle.kl1_model.specs.Module.{Clause}
-use Rattle.kl1_model.specs.Match as model
+use Rattle.kl1_model.specs.Outcome as model
 use Rattle.kl1_model.specs.Match.{verdict}
-use Rattle.kl1_model.specs.Waits.{least_by, least_within, least_from, least_clause, awaited_after, awaited_within, awaited_by_clauses}
+use Rattle.kl1_model.specs.Outcome.{named_verdict, answer_in}
+use Rattle.kl1_model.specs.OutcomeLaws.{named_in}
+use Rattle.kl1_model.specs.Waits.{least_by, least_within, least_from, least_clause, awaited_after, awaited_within, awaited_by_clause, awaited_by_clauses}
+use Rattle.kl1_model.proofs.VerdictAnswers.{verdicts_answer}
+use Rattle.kl1_model.proofs.VerdictNames.{verdicts_name}
 use Rattle.kl1_text.specs.Reading.{Reads}
 use Rattle.kl1_store.specs.declared.cell.Cell.{Cell}
 use Rattle.kl1_store.specs.Held.{Held}
@@ -96,10 +100,10 @@ here_within s n d rest ts e is =
     ∙ ap (λ k. least_by (Some n) (least_within s (suc n) rest ts) (least_within k (suc n) rest ts) (verdict d ts)) (sym e)
 
 awaited_here : (s : ℕ) (d : Clause) (rest : List Clause) (ts : Terms) → d.section ≡ s → (d.section == s) ≡ true →
-    awaited_within s (d ∷ rest) ts ≡ awaited_after (verdict d ts) (awaited_within s rest ts) (awaited_within d.section rest ts)
+    awaited_within s (d ∷ rest) ts ≡ awaited_after (verdict d ts) (awaited_by_clause d ts) (awaited_within s rest ts) (awaited_within d.section rest ts)
 awaited_here s d rest ts e is =
-    ap (λ b. if b then awaited_after (verdict d ts) (awaited_within s rest ts) (awaited_within s rest ts) else []) is
-    ∙ ap (λ k. awaited_after (verdict d ts) (awaited_within s rest ts) (awaited_within k rest ts)) (sym e)
+    ap (λ b. if b then awaited_after (verdict d ts) (awaited_by_clause d ts) (awaited_within s rest ts) (awaited_within s rest ts) else []) is
+    ∙ ap (λ k. awaited_after (verdict d ts) (awaited_by_clause d ts) (awaited_within s rest ts) (awaited_within k rest ts)) (sym e)
 
 not_other : (b : Bool) → not b ≡ false → b ≡ true
 not_other true e = refl
@@ -115,7 +119,7 @@ least_here None n d rest ts e = refl
 least_here (Some s) n d rest ts e = let is = not_other (d.section == s) e in here_within s n d rest ts (eqb-true d.section s is) is
 
 waits_here : (waiting : Option ℕ) (d : Clause) (rest : List Clause) (ts : Terms) → is_past waiting d.section ≡ false →
-    awaited_left waiting (d ∷ rest) ts ≡ awaited_after (verdict d ts) (awaited_left waiting rest ts) (awaited_within d.section rest ts)
+    awaited_left waiting (d ∷ rest) ts ≡ awaited_after (verdict d ts) (awaited_by_clause d ts) (awaited_left waiting rest ts) (awaited_within d.section rest ts)
 waits_here None d rest ts e = refl
 waits_here (Some s) d rest ts e = let is = not_other (d.section == s) e in awaited_here s d rest ts (eqb-true d.section s is) is
 
@@ -127,26 +131,28 @@ none_past (Some s) n d rest ts e = ap (λ b. if b then least_by (Some n) (least_
 
 nothing_past : (waiting : Option ℕ) (d : Clause) (rest : List Clause) (ts : Terms) → is_past waiting d.section ≡ true → awaited_left waiting (d ∷ rest) ts ≡ []
 nothing_past None d rest ts e = absurd (cc)
-nothing_past (Some s) d rest ts e = ap (λ b. if b then awaited_after (verdict d ts) (awaited_within s rest ts) (awaited_within s rest ts) else []) (other (d.section == s) e)
+nothing_past (Some s) d rest ts e = ap (λ b. if b then awaited_after (verdict d ts) (awaited_by_clause d ts) (awaited_within s rest ts) (awaited_within s rest ts) else []) (other (d.section == s) e)
 
 -- ---- a verdict more
 
 -- what a clause's verdict leads to
 record LeadsTo (cs : List Clause) (ts : Terms) (defined : List ℕ) (tried section : ℕ) (waiting : Option ℕ) (v : model.Verdict) : Type 0 where
-  pub answer : least_by (Some (suc tried)) (least_left waiting (suc (suc tried)) (drop (suc tried) cs) ts) (least_within section (suc (suc tried)) (drop (suc tried) cs) ts) v ≡ least_clause cs ts
-  pub awaited : awaited_by_clauses cs ts ≡ defined ++ awaited_after v (awaited_left waiting (drop (suc tried) cs) ts) (awaited_within section (drop (suc tried) cs) ts)
+  pub answer : least_by (Some (suc tried)) (least_left waiting (suc (suc tried)) (drop (suc tried) cs) ts) (least_within section (suc (suc tried)) (drop (suc tried) cs) ts) (answer_in v) ≡ least_clause cs ts
+  pub awaited : awaited_by_clauses cs ts ≡ defined ++ awaited_after (answer_in v) (named_in v) (awaited_left waiting (drop (suc tried) cs) ts) (awaited_within section (drop (suc tried) cs) ts)
 
-leads_to : (cs : List Clause) (ts : Terms) (named : List ℕ) (tried : ℕ) (waiting : Option ℕ) (d : Clause) (v : model.Verdict) → drop tried cs ≡ d ∷ drop (suc tried) cs → is_past waiting d.section ≡ false → verdict d ts ≡ v →
+leads_to : (cs : List Clause) (ts : Terms) (named : List ℕ) (tried : ℕ) (waiting : Option ℕ) (d : Clause) (v : model.Verdict) → drop tried cs ≡ d ∷ drop (suc tried) cs → is_past waiting d.section ≡ false → named_verdict d ts ≡ v →
     (l : IsLeftOf cs ts named tried waiting) → LeadsTo cs ts l.defined tried d.section waiting v
 leads_to cs ts named tried waiting d v e near is l =
     let rest = drop (suc tried) cs in
+    let said : verdict d ts ≡ answer_in v = sym (verdicts_answer d ts) ∙ ap answer_in is in
+    let named_is : awaited_by_clause d ts ≡ named_in v = verdicts_name d ts ∙ ap named_in is in
     record {
       answer =
           sym (ap (λ ds. least_left waiting (suc tried) ds ts) e ∙ (least_here waiting (suc tried) d rest ts near
-          ∙ ap (least_by (Some (suc tried)) (least_left waiting (suc (suc tried)) rest ts) (least_within d.section (suc (suc tried)) rest ts)) is)) ∙ l.answer;
+          ∙ ap (least_by (Some (suc tried)) (least_left waiting (suc (suc tried)) rest ts) (least_within d.section (suc (suc tried)) rest ts)) said)) ∙ l.answer;
       awaited =
           l.awaited ∙ (ap (λ ds. l.defined ++ awaited_left waiting ds ts) e ∙ (ap (λ ws. l.defined ++ ws) (waits_here waiting d rest ts near)
-          ∙ ap (λ w. l.defined ++ awaited_after w (awaited_left waiting rest ts) (awaited_within d.section rest ts)) is));
+          ∙ ap₂ (λ a (ws : List ℕ). l.defined ++ awaited_after a ws (awaited_left waiting rest ts) (awaited_within d.section rest ts)) said named_is));
     }
 
 -- what the verdict of the clause at a place leads to, for one reading

@@ -3,8 +3,7 @@ use Rattle.std.proofs.Common.{◌≡◌, ℕ, ◌-◌, ◌<◌, ◌≤◌, ◌==
 use Rattle.std.proofs.lemmas.List.{take_all}
 use Rattle.std.proofs.lemmas.Bool.{cond-true, cond-false, eq-eqb, ne_eqb}
 use Rattle.kl1_model.specs.declared.built_in.BuiltIn.{BuiltIn}
-use Rattle.kl1_model.specs.Match.{Outcome, agrees, places_alike, alike_with, each_alike}
-use Rattle.kl1_model.specs.Guard.{alike}
+use Rattle.kl1_model.specs.Outcome.{Outcome, agrees, places_alike, alike_with, each_alike, alike}
 use Rattle.kl1_store.specs.Held.{Held}
 use Rattle.kl1_store.specs.Meaning.{term_of}
 use Rattle.kl1_store.specs.Sameness.{AlikeAs}

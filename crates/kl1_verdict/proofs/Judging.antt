@@ -8,8 +8,8 @@ use Rattle.kl1_model.specs.Term.{Terms, terms_of}
 use Rattle.kl1_model.specs.Meaning.{highest_in}
 use Rattle.kl1_model.specs.Module.{Clause}
 use Rattle.kl1_model.specs.WaitsLaws.{is_guarded}
-use Rattle.kl1_model.specs.Match.{Outcome, agrees, clashes, waits, both, Matched, match_terms, each_alike, tests_outcome, guard_outcome, awaited_in, accepts, suspends, verdict, verdict_with}
-use Rattle.kl1_model.proofs.VerdictWaits.{suspends_waits}
+use Rattle.kl1_model.specs.Outcome.{Outcome, agrees, clashes, waits, both, Matched, match_terms, each_alike, tests_outcome, guard_outcome, awaited_in, accepts, suspends, named_verdict, verdict_with}
+use Rattle.kl1_model.proofs.VerdictWaits.{named_suspends_waits}
 use Rattle.kl1_text.specs.Reading.{Reads}
 use Rattle.kl1_store.specs.declared.cell.Cell.{Cell}
 use Rattle.kl1_store.specs.Held.{Held}
@@ -54,17 +54,17 @@ rejected_there built names compiled h goal places before after Rejects e t = t
 rejected_there built names compiled h goal places before after Suspends e t = absurd (cc)
 
 -- the verdict of a clause
-by_rest : (c : Clause) (ts : Terms) → verdict c ts ≡ verdict_with (match_terms c.patterns ts) (both (match_terms c.patterns ts).outcome (both (each_alike (match_terms c.patterns ts).places) (guard_outcome (match_terms c.patterns ts).places c.tests)))
+by_rest : (c : Clause) (ts : Terms) → named_verdict c ts ≡ verdict_with (match_terms c.patterns ts) (both (match_terms c.patterns ts).outcome (both (each_alike (match_terms c.patterns ts).places) (guard_outcome (match_terms c.patterns ts).places c.tests)))
 by_rest c ts = let m = match_terms c.patterns ts in ap (verdict_with m) (both-group m.outcome (each_alike m.places) (guard_outcome m.places c.tests))
 
 -- what waits for no variable is accepted
-accepted_by : (c : Clause) (ts : Terms) (m : Matched) (o : Outcome) → IsTrue (is_guarded c) → verdict c ts ≡ verdict_with m o → WaitsFor [] o → verdict c ts ≡ accepts m.places
+accepted_by : (c : Clause) (ts : Terms) (m : Matched) (o : Outcome) → IsTrue (is_guarded c) → named_verdict c ts ≡ verdict_with m o → WaitsFor [] o → named_verdict c ts ≡ accepts m.places
 accepted_by c ts m agrees g v w = v
 accepted_by c ts m clashes g v w = absurd w
-accepted_by c ts m (waits vs) g v w = absurd (suspends_waits c ts g (v ∙ ap suspends (none_same vs w)))
+accepted_by c ts m (waits vs) g v w = absurd (named_suspends_waits c ts g (v ∙ ap suspends (none_same vs w)))
 
 -- and what waits for some is suspended
-suspended_by : (c : Clause) (ts : Terms) (m : Matched) (o : Outcome) (named : List ℕ) → verdict c ts ≡ verdict_with m o → (named ≡ [] → ⊥) → WaitsFor named o → (vs : List ℕ) × (AreSame named vs × (verdict c ts ≡ suspends vs))
+suspended_by : (c : Clause) (ts : Terms) (m : Matched) (o : Outcome) (named : List ℕ) → named_verdict c ts ≡ verdict_with m o → (named ≡ [] → ⊥) → WaitsFor named o → (vs : List ℕ) × (AreSame named vs × (named_verdict c ts ≡ suspends vs))
 suspended_by c ts m agrees named v some w = absurd (some w)
 suspended_by c ts m clashes named v some w = absurd w
 suspended_by c ts m (waits vs) named v some w = (vs, (w, v))

@@ -3,8 +3,7 @@ use Rattle.std.proofs.Common.{◌≡◌, ℕ, Bool, true, false, if◌then◌els
 use Rattle.std.proofs.lemmas.Bool.{false≢true, false_from_ne_true}
 use Rattle.kl1_model.specs.Term.{Term, same_term}
 use Rattle.kl1_model.specs.Same.{same, differs, unknown, clash, awaited}
-use Rattle.kl1_model.specs.Guard.{alike, same_outcome}
-use Rattle.kl1_model.specs.Match.{Outcome, clashes}
+use Rattle.kl1_model.specs.Outcome.{alike, same_outcome, Outcome, clashes}
 use Rattle.kl1_model.proofs.TermFacts.{same_term_decides}
 use Rattle.kl1_model.proofs.Clashes.{no_clash}
 use Rattle.kl1_model.proofs.SameEach.{awaited_self}

@@ -1,7 +1,7 @@
 -- What places of a head come to, two at a time, and the tests with them.
 use Rattle.std.specs.Prelude.{ℕ, Bool, List}
 use Rattle.kl1_model.specs.declared.built_in.BuiltIn.{BuiltIn}
-use Rattle.kl1_model.specs.Match.{both, places_alike, alike_with, each_alike, tests_outcome}
+use Rattle.kl1_model.specs.Outcome.{both, places_alike, alike_with, each_alike, tests_outcome}
 use Rattle.kl1_store.specs.Held.{Held}
 use Rattle.kl1_match.specs.declared.place.Place.{Place}
 use Rattle.kl1_match.specs.Instances.{replacement_of, replacements_of}

@@ -55,7 +55,7 @@ impl<C: CodeSource> Account<C> {
         ensures fresh { IfOk result (λ account. (f : Reading) → state_of f account ≡ fresh_with rules name texts.now sessions) }
         ensures knows { IfOk result (λ account. A.knows seat.new ≡ account.names) }
         ensures modules { IfOk result (λ account. account.modules ≡ []) }
-        ensures keeps { Keeps A.is_of A.place A.knows names.old names.new seat.old seat.new }
+        ensures keeps { Keeps A.is_of A.place A.knows A.published names.old names.new seat.old seat.new }
         ensures seat { OnErr result (A.knows seat.new ≡ []) }
     {
         let store = first_store(alloc)?;

@@ -5,7 +5,8 @@ ghost use Rattle.std.specs.Prelude.{◌≤◌, length};
 use crate::atoms::agreement::{agree_in, agree_on_one_bucket, agree_on_what_one_knows};
 use crate::atoms::names::names;
 use crate::atoms::sources::{
-    a_full_plain_seat_finds, a_full_seat_finds, plain_seats_share, seats_share,
+    a_full_plain_seat_finds, a_full_seat_finds, own_entries_are_counted, plain_seats_share,
+    seats_share,
 };
 use crate::atoms::tells::threads_find_the_same;
 use kl1_rows::{Text, put_check};
@@ -52,6 +53,12 @@ fn put_each<R: Threads + Clock + Sync>(rt: &R, out: &mut Text, names: &[AtomText
     put_check(
         out,
         b"atoms seats_of_a_shared_table_share_its_numbers",
+        done,
+    );
+    let done = own_entries_are_counted(alloc);
+    put_check(
+        out,
+        b"atoms seats_of_a_shared_table_count_the_entries_that_they_published",
         done,
     );
     let done = a_full_plain_seat_finds(alloc, names);

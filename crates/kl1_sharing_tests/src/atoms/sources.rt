@@ -3,7 +3,7 @@
 ghost use Rattle.std.specs.Prelude.{◌≡◌, ◌≢◌, ◌+◌, ◌≤◌, ◌<◌, length};
 
 use crate::atoms::seats::{next_plain_seat, next_seat};
-use kl1_atoms::{AtomSource, AtomTable, PlainTable, SharedAtoms};
+use kl1_atoms::{AtomSource, AtomTable, PlainTable, SharedAtoms, Turns};
 use kl1_text::AtomText;
 use std::alloc::{AllocError, Global};
 
@@ -80,6 +80,18 @@ pub fn seats_share(alloc: Global) -> Result<bool, AllocError> {
     let mut bob = next_seat(&table, &mut seats);
     let mut alice = next_seat(&table, &mut seats);
     Ok(are_shared(&mut SharedAtoms { table: &table }, &mut alice, &mut bob))
+}
+
+/// Whether a seat of a shared table has published an entry of its own for a name that it was the first to look up, and the other none.
+pub fn own_entries_are_counted(alloc: Global) -> Result<bool, AllocError> {
+    let (table, mut seats) = AtomTable::new(alloc, 2)?;
+    let mut bob = next_seat(&table, &mut seats);
+    let mut alice = next_seat(&table, &mut seats);
+    let none = (table.own_entries(&alice) == 0) & (table.own_entries(&bob) == 0);
+    let first = table.intern(&mut alice, AtomText::of(b"one"), &mut Turns::new());
+    let again = table.intern(&mut bob, AtomText::of(b"one"), &mut Turns::new());
+    let one = (table.own_entries(&alice) == 1) & (table.own_entries(&bob) == 0);
+    Ok(none & one & (first.number == again.number))
 }
 
 /// Whether a seat of a plain table that is given so many names finds them again.

@@ -1,7 +1,6 @@
 // The checks by their names.
 
-use crate::tickets::left::left;
-use crate::tickets::threads::worked;
+use crate::tickets::threads::{left, worked};
 use kl1_rows::{Text, put_check};
 use kl1_tally::MOST_ACCOUNTS;
 use kl1_tickets::Totals;

@@ -61,6 +61,26 @@ impl<K: Naming> StandIn<K> {
         share.raise(tally, &mut self.book, true);
         true
     }
+
+    /// Enters the gate and does a step, if this is the account of the number.
+    fn turn(&mut self, gate: &Gate, tally: &Tally, account: usize, share: &mut Share<K>) -> Turn
+        requires of { tally.now.id ≡ K.tally }
+        ensures few { result.steps ≤ 1 }
+        ensures counted { Moved account result.steps result.steps 0 0 share.old share.new }
+    {
+        if self.book.account() != account {
+            return Turn {
+                steps: 0,
+                again: false,
+            };
+        }
+        gate.enter();
+        let done = self.step(tally, share);
+        Turn {
+            steps: u64::from(done),
+            again: self.left > 0,
+        }
+    }
 }
 
 /// Holds who comes first until a second comes, for at most 1,000,000 turns.
@@ -109,25 +129,14 @@ pub struct Pool<K: Naming> {
 impl<K: Naming> Accounts<K> for Pool<K> {
     /// A turn is one step.
     fn turn<R: Wait>(&self, rt: &R, account: usize, share: &mut Share<K>) -> Turn {
-        let Some(place) = self.accounts.get(account) else {
-            return Turn {
+        match self.accounts.get(account) {
+            None => Turn {
                 steps: 0,
                 again: false,
-            };
-        };
-        let mut guard = place.lock(rt);
-        let here = &mut *guard;
-        if here.book.account() != account {
-            return Turn {
-                steps: 0,
-                again: false,
-            };
-        }
-        self.gate.enter();
-        let done = here.step(self.common.tally(), share);
-        Turn {
-            steps: u64::from(done),
-            again: here.left > 0,
+            },
+            Some(place) => place
+                .lock(rt)
+                .turn(&self.gate, self.common.tally(), account, share),
         }
     }
 
@@ -157,6 +166,20 @@ impl<K: Naming> Pool<K> {
     }
 }
 
+/// The last of some new books.
+fn next_new<K: Naming>(books: &mut Vec<BookSeat>) -> BookSeat
+    requires new { All (IsNewBook K.tally) books.old.items }
+    requires some { 0 < vec_len books.old }
+    ensures rest { All (IsNewBook K.tally) books.new.items }
+    ensures fewer { vec_len books.new + 1 ≡ vec_len books.old }
+    ensures of { IsNewBook K.tally result }
+{
+    let Some(book) = books.pop() else {
+        unreachable!()
+    };
+    book
+}
+
 /// An account that has nothing to do for each book, in the order of the books.
 pub fn stand_ins<K: Naming>(
     alloc: Global,
@@ -166,8 +189,8 @@ pub fn stand_ins<K: Naming>(
     ensures { IfOk result (λ made. vec_len made ≡ vec_len books) }
 {
     let mut made = Vec::with_capacity(alloc, books.len())?;
-    while let Some(book) = books.pop() {
-        made.push_reserved(Mutex::new(StandIn::quiet(book)));
+    for _book in 0..books.len() {
+        made.push_reserved(Mutex::new(StandIn::quiet(next_new::<K>(&mut books))));
     }
     made.as_mut_slice().reverse();
     Ok(made)

@@ -1,15 +1,17 @@
 // Workers in threads, beside one who starts accounts.
 
-ghost use Rattle.std.specs.Prelude.{◌≡◌, ◌+◌, ◌<◌, ◌≤◌, vec_len};
+ghost use Rattle.std.specs.Prelude.{◌≡◌, ◌<◌, vec_len};
 
-use crate::tickets::stand_ins::{Gate, Pool, stand_ins};
-use kl1_tickets::{Naming, Opened, Parts, Share, Totals, gather, worker};
+use crate::tickets::left::left_over;
+use crate::tickets::stand_ins::{Gate, Pool, StandIn, stand_ins};
+use kl1_tickets::{Common, Naming, Opened, Parts, Share, Totals, gather, worker};
 use std::alloc::{AllocError, Global};
 use std::marker::Brand;
 use std::rt::Clock;
-use std::sync::Wait;
+use std::sync::atomic::{AtomicU64, Ordering};
+use std::sync::{Mutex, Wait};
 use std::thread;
-use std::thread::Threads;
+use std::thread::{Threads, map_vec};
 use std::time::Duration;
 
 /// Waits until an account has nothing to do, but looks at most 10,000,000 times.
@@ -23,93 +25,50 @@ fn wait_until_quiet<R: Wait, K: Naming>(rt: &R, pool: &Pool<K>, account: usize) 
 }
 
 /// Twice gives two accounts 100 steps each, waits until they are done, and lets the workers fall asleep; then ends them.
-fn lead<R: Wait + Clock, K: Naming>(rt: &R, pool: &Pool<K>, share: Share<K>) -> Share<K> {
-    let mut share = share;
+fn lead<R: Wait + Clock, K: Naming>(rt: &R, pool: &Pool<K>, share: &mut Share<K>) {
     for _round in 0..2u8 {
-        pool.start(rt, 0, 100, &mut share);
-        pool.start(rt, 1, 100, &mut share);
+        pool.start(rt, 0, 100, share);
+        pool.start(rt, 1, 100, share);
         wait_until_quiet(rt, pool, 0);
         wait_until_quiet(rt, pool, 1);
         thread::sleep(rt, Duration::from_millis(5));
     }
     pool.common.close();
-    share
 }
 
-/// A worker's thread.
-fn work<R: Wait, K: Naming>(rt: &R, pool: &Pool<K>, share: Share<K>) -> Share<K> {
+/// A thread's part: the first that comes leads, and the others are workers.
+fn take_part<R: Wait + Clock, K: Naming>(
+    rt: &R,
+    pool: &Pool<K>,
+    come: &AtomicU64,
+    share: Share<K>,
+) -> Share<K> {
     let mut share = share;
-    worker(rt, &pool.common, pool, &mut share);
+    if come.fetch_add(1, Ordering::SeqCst) == 0 {
+        lead(rt, pool, &mut share);
+    } else {
+        worker(rt, &pool.common, pool, &mut share);
+    }
     share
 }
 
-/// Two workers in two threads.
-fn work_by_two<R: Threads + Wait + Sync, K: Naming + Send + Sync>(
+/// What one who leads and workers come to, a thread for each share, and whether two workers met at the gate.
+fn worked_over<K: Naming + Send + Sync, R: Threads + Wait + Clock + Sync>(
     rt: &R,
-    pool: &Pool<K>,
-    first: Share<K>,
-    second: Share<K>,
-) -> (Share<K>, Share<K>) {
-    thread::join(
-        rt,
-        move || work(rt, pool, first),
-        move || work(rt, pool, second),
-    )
-}
-
-/// Two workers, and a third thread that starts accounts.
-fn work_by_three<R: Threads + Wait + Clock + Sync, K: Naming + Send + Sync>(
-    rt: &R,
-    pool: &Pool<K>,
-    mine: Share<K>,
-    first: Share<K>,
-    second: Share<K>,
-) -> (Share<K>, (Share<K>, Share<K>)) {
-    thread::join(
-        rt,
-        move || lead(rt, pool, mine),
-        move || work_by_two(rt, pool, first, second),
-    )
-}
-
-/// The last of some shares.
-fn next_share<K: Naming>(shares: &mut Vec<Share<K>>) -> Share<K>
-    requires { 0 < vec_len shares.old }
-    ensures { vec_len shares.new + 1 ≡ vec_len shares.old }
-{
-    let Some(share) = shares.pop() else {
-        unreachable!()
-    };
-    share
-}
-
-/// What two workers and a third thread come to, and whether the workers met at the gate.
-fn gathered<K: Naming + Send + Sync, R: Threads + Wait + Clock + Sync>(
-    rt: &R,
-    alloc: Global,
-    parts: Parts,
+    common: Common<K>,
+    accounts: Vec<Mutex<StandIn<K>>>,
+    shares: Vec<Share<K>>,
 ) -> Result<(Totals, bool), AllocError>
-    requires names { (parts.tally ≡ K.tally) × (parts.queue ≡ K.queue) × (parts.accounts ≡ K.accounts) × (parts.shares ≡ K.shares) }
-    requires shares { parts.shares ≡ 3 }
+    requires accounts { vec_len accounts ≡ K.accounts }
+    requires shares { vec_len shares ≡ K.shares }
 {
-    let Opened {
-        common,
-        books,
-        mut shares,
-    } = parts.open::<K>(alloc)?;
-    let accounts = stand_ins::<K>(alloc, books)?;
     let pool = Pool {
         common,
         accounts,
         gate: Gate::new(),
     };
-    let mine = next_share(&mut shares);
-    let first = next_share(&mut shares);
-    let second = next_share(&mut shares);
-    let (mine, (first, second)) = work_by_three(rt, &pool, mine, first, second);
-    shares.push(mine)?;
-    shares.push(first)?;
-    shares.push(second)?;
+    let come = AtomicU64::new(0);
+    let shares = map_vec(rt, shares, &|share| take_part(rt, &pool, &come, share))?;
     let Pool {
         common,
         accounts,
@@ -118,15 +77,38 @@ fn gathered<K: Naming + Send + Sync, R: Threads + Wait + Clock + Sync>(
     Ok((gather(rt, common, accounts, shares), gate.has_met()))
 }
 
+/// What comes of some parts: of tickets that nobody takes, or of what threads do.
+fn gathered<K: Naming + Send + Sync, R: Threads + Wait + Clock + Sync>(
+    rt: &R,
+    alloc: Global,
+    parts: Parts,
+    are_left: bool,
+) -> Result<(Totals, bool), AllocError>
+    requires names { (parts.tally ≡ K.tally) × (parts.queue ≡ K.queue) × (parts.accounts ≡ K.accounts) × (parts.shares ≡ K.shares) }
+    requires some { 0 < parts.shares }
+{
+    let Opened {
+        common,
+        books,
+        shares,
+    } = parts.open::<K>(alloc)?;
+    let accounts = stand_ins::<K>(alloc, books)?;
+    if are_left {
+        return Ok(left_over(rt, common, accounts, shares));
+    }
+    worked_over(rt, common, accounts, shares)
+}
+
 /// `gathered` of parts that no type names yet.
 fn gathered_of<R: Threads + Wait + Clock + Sync>(
     rt: &R,
     alloc: Global,
     parts: Parts,
+    are_left: bool,
 ) -> Result<(Totals, bool), AllocError>
-    requires shares { parts.shares ≡ 3 }
+    requires { 0 < parts.shares }
 {
-    gathered::<Brand, R>(rt, alloc, parts)
+    gathered::<Brand, R>(rt, alloc, parts, are_left)
 }
 
 /// What two workers did over two accounts with 200 steps each, and whether they were at work at once.
@@ -135,5 +117,15 @@ pub fn worked<R: Threads + Wait + Clock + Sync>(
     alloc: Global,
 ) -> Result<(Totals, bool), AllocError> {
     let parts = Parts::new(alloc, 2, 3)?;
-    gathered_of(rt, alloc, parts)
+    gathered_of(rt, alloc, parts, false)
+}
+
+/// What comes of three tickets in a queue for two accounts, if nobody takes one, and whether the first two were put
+/// and the last wasn't.
+pub fn left<R: Threads + Wait + Clock + Sync>(
+    rt: &R,
+    alloc: Global,
+) -> Result<(Totals, bool), AllocError> {
+    let parts = Parts::new(alloc, 2, 1)?;
+    gathered_of(rt, alloc, parts, true)
 }

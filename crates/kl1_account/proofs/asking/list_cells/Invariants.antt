@@ -7,7 +7,7 @@ use Rattle.kl1_account.proofs.asking.list_cells.Given as goal
 abbrev pub invariant-loop-left : goal.invariant-loop-left
 invariant-loop-left g l = record {
   listing : IsListing (g.A.AtomSource.knows l.initial.seat) l.store.held l.fn.list l.at l.most l.left l.listed;
-  keeps : Keeps g.A.AtomSource.is_of g.A.AtomSource.place g.A.AtomSource.knows l.initial.names l.names l.initial.seat l.seat;
+  keeps : Keeps g.A.AtomSource.is_of g.A.AtomSource.place g.A.AtomSource.knows g.A.AtomSource.published l.initial.names l.names l.initial.seat l.seat;
   knows : g.A.AtomSource.knows l.seat ≡ g.A.AtomSource.knows l.initial.seat;
 }
 

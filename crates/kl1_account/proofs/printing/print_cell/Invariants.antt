@@ -9,7 +9,7 @@ use Rattle.kl1_account.proofs.printing.print_cell.Given as goal
 abbrev pub invariant-loop-stack : goal.invariant-loop-stack
 invariant-loop-stack g l = record {
   printing : IsPrinting (g.A.AtomSource.knows l.initial.seat) l.store.held l.fn.cell l.fn.most l.printer l.stack.items;
-  keeps : Keeps g.A.AtomSource.is_of g.A.AtomSource.place g.A.AtomSource.knows l.initial.names l.names l.initial.seat l.seat;
+  keeps : Keeps g.A.AtomSource.is_of g.A.AtomSource.place g.A.AtomSource.knows g.A.AtomSource.published l.initial.names l.names l.initial.seat l.seat;
   knows : g.A.AtomSource.knows l.seat ≡ g.A.AtomSource.knows l.initial.seat;
 }
 

@@ -7,7 +7,7 @@ use Rattle.kl1_effects.proofs.names.publish.Goals as goal
 
 pub loop-text-init : goal.loop-text-init
 loop-text-init g c = record {
-  keeps = keeps_same g.A.AtomSource.is_of g.A.AtomSource.place g.A.AtomSource.knows c.args.names.now c.args.seat.now c.requires.of;
+  keeps = keeps_same g.A.AtomSource.is_of g.A.AtomSource.place g.A.AtomSource.knows g.A.AtomSource.published c.args.names.now c.args.seat.now c.requires.of;
   knows = c.requires.knows;
   published = published_none c.args.known.now.names c.args.texts.now c.args.row.now.items c.requires.small c.requires.empty;
   count = ap length c.requires.empty;
@@ -24,11 +24,11 @@ intern-number-requires-clause-room g c =
 pub loop-text-preserved : goal.loop-text-preserved
 loop-text-preserved g c =
     let more =
-    adds_to g.A.AtomSource.is_of g.A.AtomSource.place g.A.AtomSource.knows c.loop-text.seat c.intern-number.new.seat c.loop-text.known.names c.learn.new.self.names c.text-item.result c.intern-number.result c.loop-text.invariant.knows c.learn.ensures.names c.intern-number.ensures.adds in
+    adds_to g.A.AtomSource.knows c.loop-text.seat c.intern-number.new.seat c.loop-text.known.names c.learn.new.self.names c.text-item.result c.intern-number.result c.loop-text.invariant.knows c.learn.ensures.names c.intern-number.ensures.adds in
     record {
       keeps =
-          keeps_more g.A.AtomSource.is_of g.A.AtomSource.place g.A.AtomSource.knows c.args.names.now c.loop-text.names c.intern-number.new.self c.args.seat.now c.loop-text.seat c.intern-number.new.seat c.text-item.result c.intern-number.result
-          c.loop-text.invariant.keeps c.intern-number.ensures.of c.intern-number.ensures.place c.intern-number.ensures.others c.intern-number.ensures.adds;
+          keeps_more g.A.AtomSource.is_of g.A.AtomSource.place g.A.AtomSource.knows g.A.AtomSource.published c.args.names.now c.loop-text.names c.intern-number.new.self c.args.seat.now c.loop-text.seat c.intern-number.new.seat c.text-item.result c.intern-number.result
+          c.loop-text.invariant.keeps c.intern-number.ensures.of c.intern-number.ensures.place c.intern-number.ensures.others c.intern-number.ensures.adds c.intern-number.ensures.publishes;
       knows = more.0;
       published =
           published_more c.args.known.now.names c.args.texts.now c.loop-text.text-index c.loop-text.known.names c.loop-text.row.items c.text-item.result c.intern-number.result c.learn.new.self.names c.of_number.result c.push_reserved.new.self.items

@@ -6,7 +6,7 @@ use Rattle.kl1_effects.proofs.names.publish.Given as goal
 -- the texts so far are looked up, and there is room for the others
 abbrev pub invariant-loop-text : goal.invariant-loop-text
 invariant-loop-text g l = record {
-  keeps : Keeps g.A.AtomSource.is_of g.A.AtomSource.place g.A.AtomSource.knows l.initial.names l.names l.initial.seat l.seat;
+  keeps : Keeps g.A.AtomSource.is_of g.A.AtomSource.place g.A.AtomSource.knows g.A.AtomSource.published l.initial.names l.names l.initial.seat l.seat;
   knows : g.A.AtomSource.knows l.seat ≡ l.known.names;
   published : Published l.initial.known.names l.texts l.text-index l.known.names l.row.items;
   count : length l.row.items ≡ l.text-index;

@@ -1,7 +1,7 @@
 use Rattle.std.proofs.Common.{ap, sym, ◌∙◌}
 use Rattle.std.proofs.lemmas.Bool.{false≢true}
 use Rattle.kl1_model.specs.Term.{atom}
-use Rattle.kl1_model.specs.Match.{match_term, with_outcome, decided}
+use Rattle.kl1_model.specs.Outcome.{match_term, with_outcome, decided}
 use Rattle.kl1_match.proofs.Cells.{at_variable, at_integer, at_atom, at_structure, names_same, names_differ}
 use Rattle.kl1_match.proofs.meets.meet_atom.Goals as goal
 

@@ -3,7 +3,7 @@ use mir.Val.{of_z, to_z}
 use Rattle.std.proofs.lemmas.Int.{to_z-of_z}
 use mir.Syntax.{w64}
 use Rattle.kl1_model.specs.Term.{integer}
-use Rattle.kl1_model.specs.Match.{match_term}
+use Rattle.kl1_model.specs.Outcome.{match_term}
 use Rattle.kl1_match.proofs.Cells.{at_variable, at_integer, at_atom, at_structure, integers_agree, integers_clash}
 use Rattle.kl1_match.proofs.meets.meet_integer.Goals as goal
 

@@ -1,7 +1,7 @@
 use Rattle.std.proofs.Common.{List, ap, sym, refl, subst, ◌∙◌}
 use Rattle.std.proofs.lemmas.Bool.{false≢true}
 use Rattle.kl1_model.specs.Term.{structure}
-use Rattle.kl1_model.specs.Match.{match_term}
+use Rattle.kl1_model.specs.Outcome.{match_term}
 use Rattle.kl1_match.proofs.Cells.{at_variable, at_integer, at_atom, opened, name_clashes, count_clashes, put_before, AreSpans-push}
 use Rattle.kl1_match.specs.declared.span.Span.{Span}
 use Rattle.kl1_match.specs.Spans.{AreSpans, cells_left}

@@ -5,7 +5,7 @@ use Rattle.kl1_user.specs.Accounts.{state_of}
 use Rattle.kl1_replay.specs.Fronts.{accepted_in, first_entries}
 use Rattle.kl1_replay.specs.Steps.{Went}
 use Rattle.kl1_replay.proofs.Endings.{more_done, fault_next, rest_next, fails_there, ends_here}
-use Rattle.kl1_replay.proofs.Readings.{reading_of, reading_fits}
+use Rattle.kl1_user.specs.Readings.{reading_of, reading_fits}
 use Rattle.kl1_replay.proofs.entries.answer_entries.Goals as goal
 
 pub entries-preserved : goal.entries-preserved

@@ -5,7 +5,7 @@ use Rattle.kl1_text.specs.BuiltIns.{built_in_of}
 use Rattle.kl1_atoms.specs.declared.known.Known.{Known}
 use Rattle.kl1_atoms.specs.Names.{number_in, HasRoom}
 use Rattle.kl1_atoms.specs.Knowing.{adds_one}
-use Rattle.kl1_atoms.proofs.Rows.{seat_after, other_seat_after}
+use Rattle.kl1_atoms.proofs.Rows.{seat_after, other_seat_after, held_publishes}
 use Rattle.kl1_atoms.proofs.plain_table.PlainTableAtomSource.intern.Goals as goal
 
 -- there is room for a text that isn't known
@@ -49,3 +49,10 @@ returns-clause-others c = λ other its differ.
 pub returns-clause-adds : goal.returns-clause-adds
 unfolding pair
 returns-clause-adds c = rw (now_known c) (adds_one c.args.seat.now.known.items c.args.text (pair c).number (not_built_in c) (not_known c))
+
+pub returns-clause-publishes : goal.returns-clause-publishes
+unfolding pair
+returns-clause-publishes c =
+    rw (now_known c, c.learn.ensures.used)
+    (held_publishes c.args.self.now.places.items c.place_of-place.new.self.places.items c.args.seat.now.account c.args.seat.now.used c.place_of-place.new.seat.used c.place_of-place.result c.args.text
+    c.args.seat.now.known.items (pair c) c.place_of-place.ensures.held)

@@ -7,7 +7,7 @@ use Rattle.kl1_user.specs.Accounts.{Account, texts_of}
 use Rattle.kl1_event.specs.Views.{event_of, reply_of}
 use Rattle.kl1_journal.specs.Changes.{IsChange, SessionsFit, changed}
 use Rattle.kl1_journal.specs.Keeping.{kept_of}
-use Rattle.kl1_journal.proofs.Readings.{fits_before, grows_as}
+use Rattle.kl1_user.specs.Readings.{fits_before, grows_as}
 use Rattle.kl1_journal.proofs.Keeps.{done_change, kept_change, fits_change}
 use Rattle.kl1_journal.proofs.kept.Kept.apply.Goals as goal
 

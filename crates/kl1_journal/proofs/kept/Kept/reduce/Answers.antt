@@ -8,7 +8,7 @@ use Rattle.kl1_user.specs.Accounts.{Account}
 use Rattle.kl1_entries.specs.Lined.{if_lined, with_prepared}
 use Rattle.kl1_event.specs.Views.{reduced_or}
 use Rattle.kl1_journal.specs.Keeping.{kept_of}
-use Rattle.kl1_journal.proofs.Readings.{fits_before, grows_as}
+use Rattle.kl1_user.specs.Readings.{fits_before, grows_as}
 use Rattle.kl1_journal.proofs.Keeps.{done_step, kept_step}
 use Rattle.kl1_journal.proofs.kept.Kept.reduce.Goals as goal
 

@@ -3,7 +3,7 @@ use Rattle.std.specs.Prelude.{IfOk}
 use Rattle.kl1_model.specs.Step.{step}
 use Rattle.kl1_event.specs.Views.{event_of, reply_of}
 use Rattle.kl1_user.specs.Accounts.{Account, state_of, Reading, Fits}
-use Rattle.kl1_replay.proofs.Readings.{fits_before, grows_as}
+use Rattle.kl1_user.specs.Readings.{fits_before, grows_as}
 use Rattle.kl1_replay.proofs.replayed.Replayed.apply.Goals as goal
 
 pub returns-clause-step : goal.returns-clause-step

@@ -1,4 +1,4 @@
-use Rattle.std.proofs.Common.{◌≡◌, ◌+◌, ◌≤◌, length, vec_capacity}
+use Rattle.std.proofs.Common.{◌≡◌, ◌+◌, ◌≤◌, vec_capacity, vec_len}
 use Rattle.std.specs.Prelude.{All}
 use Rattle.kl1_tickets.specs.Parts.{IsNewBook}
 use Rattle.kl1_sharing_tests.proofs.tickets.stand_ins.stand_ins.Given as goal
@@ -7,9 +7,7 @@ use Rattle.kl1_sharing_tests.proofs.tickets.stand_ins.stand_ins.Given as goal
 abbrev pub invariant-loop-book : goal.invariant-loop-book
 invariant-loop-book g l = record {
   of : All (IsNewBook g.K.Naming.tally) l.books.items;
-  count : length l.made.items + length l.books.items ≡ length l.initial.books.items;
-  room : length l.made.items + length l.books.items ≤ vec_capacity l.made;
+  left : vec_len l.books + l._book ≡ vec_len l.initial.books;
+  count : vec_len l.made ≡ l._book;
+  room : vec_len l.initial.books ≤ vec_capacity l.made;
 }
-
-abbrev pub decreases-loop-book : goal.decreases-loop-book
-decreases-loop-book g l = length l.books.items

@@ -1,0 +1,76 @@
+-- What holds of an account's goals, if it holds of fewer of them.
+use Rattle.std.proofs.Common.{◌≡◌, ℕ, ◌==◌, ◌&&◌, not, Bool, true, false, if◌then◌else◌, List, [], ◌∷◌, refl, sym, ap, subst}
+use Rattle.std.specs.Prelude.{filter}
+use Rattle.kl1_model.specs.declared.message.Message.{Message}
+use Rattle.kl1_model.specs.declared.message.Message.TheVariants.{Stop, Start, Abort, Allow}
+use Rattle.kl1_model.specs.Control.{Control, awaits_message, tells, tells_other, ends, breaks_off}
+use Rattle.kl1_model.specs.Term.{Term}
+use Rattle.kl1_model.specs.State.{Goal, State, shoen_at, without_goal}
+use Rattle.kl1_model.specs.Tree.{path, is_on_path}
+use Rattle.kl1_model.specs.Report.{report, report_each, exception, illegal_input, exhaustion, exhausted_report, terminated_report, aborted_report}
+use Rattle.kl1_model.specs.Ending.{ended_at, ending_of, without_monitor, terminate, terminate_each, settle, reached_of, settle_charged, ended_below, abort}
+use Rattle.kl1_model.specs.Reduction.{or_exhaustion, obeyed, with_control, heard}
+use Rattle.kl1_laws.proofs.Alike.{Duty, duty_of, duties_of, Alike, alike_report, alike_report_each, alike_closing, alike_stopped, alike_resumed}
+
+-- a fact of an account that speaks of the duties of its goals and the last number of a goal alone
+abbrev pub Of : (List Duty → ℕ → Type 0) → State → Type 0
+Of D s = D (duties_of s.goals) s.last_goal
+
+pub of_alike : (D : List Duty → ℕ → Type 0) (s t : State) → Alike s t → Of D s → Of D t
+of_alike D s t k a = subst (λ ds. D ds t.last_goal) (sym k.duties) (subst (D (duties_of s.goals)) (sym k.last) a)
+
+filter_case : (c : Bool) (g : Goal) (gs : List Goal) (ds : List Duty) → duties_of gs ≡ ds → duties_of (if c then g ∷ gs else gs) ≡ (if c then duty_of g ∷ ds else ds)
+filter_case true g gs ds e = ap (λ (more : List Duty). duty_of g ∷ more) e
+filter_case false g gs ds e = e
+
+pub filtered : (p : Duty → Bool) (gs : List Goal) → duties_of (filter (λ g. p (duty_of g)) gs) ≡ filter p (duties_of gs)
+filtered p [] = refl
+filtered p (g ∷ gs) = filter_case (p (duty_of g)) g (filter (λ g. p (duty_of g)) gs) (filter p (duties_of gs)) (filtered p gs)
+
+module _ (D : List Duty → ℕ → Type 0) (fewer : (p : Duty → Bool) (ds : List Duty) (last : ℕ) → D ds last → D (filter p ds) last) where
+  of_fewer : (p : Duty → Bool) (gs : List Goal) (last : ℕ) → D (duties_of gs) last → D (duties_of (filter (λ g. p (duty_of g)) gs)) last
+  of_fewer p gs last a = subst (λ ds. D ds last) (sym (filtered p gs)) (fewer p (duties_of gs) last a)
+
+  of_monitor : (k : ℕ) (s : State) → Of D s → Of D (without_monitor k s)
+  of_monitor k s a = of_fewer (λ d. not (d.shoen == k && d.is_monitor)) s.goals s.last_goal a
+
+  pub of_gone : (n : ℕ) (s : State) → Of D s → Of D (without_goal n s)
+  of_gone n s a = of_fewer (λ d. not (d.number == n)) s.goals s.last_goal a
+
+  of_terminate : (k : ℕ) (s : State) → Of D s → Of D (terminate k s)
+  of_terminate k s a = of_alike D (without_monitor k (ended_at k s)) (terminate k s) (alike_closing k terminated_report (without_monitor k (ended_at k s))) (of_monitor k s a)
+
+  of_each : (ks : List ℕ) (s : State) → Of D s → Of D (terminate_each ks s)
+  of_each [] s a = a
+  of_each (k ∷ ks) s a = of_each ks (terminate k s) (of_terminate k s a)
+
+  pub of_settle : (k : ℕ) (s : State) → Of D s → Of D (settle k s)
+  of_settle k s a = of_each (ending_of (path s.shoens k) s) s a
+
+  pub of_settle_charged : (k : ℕ) (s : State) → Of D s → Of D (settle_charged k s)
+  of_settle_charged k s a =
+      let ks = path s.shoens k in
+      let ending = ending_of ks s in
+      let told = reached_of s ending ks in
+      of_each ending (report_each told exhausted_report s) (of_alike D s (report_each told exhausted_report s) (alike_report_each told exhausted_report s) a)
+
+  of_abort : (k : ℕ) (s : State) → Of D s → Of D (abort k s)
+  of_abort k s a = of_alike D (ended_below k s) (abort k s) (alike_closing k aborted_report (ended_below k s)) (of_fewer (λ d. not (is_on_path s.shoens k d.shoen)) s.goals s.last_goal a)
+
+  of_obeyed : (k : ℕ) (m : Message) (s : State) → Of D s → Of D (obeyed k m s)
+  of_obeyed k Stop s a = of_alike D s (obeyed k Stop s) (alike_stopped (shoen_at k s.shoens) k s) a
+  of_obeyed k Start s a = of_alike D s (obeyed k Start s) (alike_resumed (shoen_at k s.shoens) k s) a
+  of_obeyed k Abort s a = of_abort k s a
+  of_obeyed k (Allow extra) s a = a
+
+  pub of_heard : (k : ℕ) (c : Control) (s : State) → Of D s → Of D (heard k c s)
+  of_heard k (awaits_message v) s a = a
+  of_heard k (tells m rest) s a = of_obeyed k m (with_control k rest s) a
+  of_heard k (tells_other m rest) s a = of_alike D (with_control k rest s) (heard k (tells_other m rest) s) (alike_report k (exception illegal_input m) (with_control k rest s)) a
+  of_heard k ends s a = of_monitor k s a
+  of_heard k (breaks_off t) s a = of_alike D (without_monitor k s) (heard k (breaks_off t) s) (alike_report k (exception illegal_input t) (without_monitor k s)) (of_monitor k s a)
+
+-- an effect, or the report of an exception
+pub of_or : (D : List Duty → ℕ → Type 0) (c : Bool) (k : ℕ) (goal : Term) (t s : State) → (c ≡ true → Of D t) → Of D s → Of D (or_exhaustion c k goal t s)
+of_or D true k goal t s f a = f refl
+of_or D false k goal t s f a = of_alike D s (report k (exception exhaustion goal) s) (alike_report k (exception exhaustion goal) s) a

@@ -1,0 +1,350 @@
+-- What holds of each variable of a goal holds of each variable of what its step makes of it.
+use Rattle.std.proofs.Common.{◌≡◌, ◌≤◌, ◌<◌, ℕ, suc, ◌==◌, ◌&&◌, Bool, true, false, if◌then◌else◌, List, [], ◌∷◌, ◌++◌, max, refl, ap, ap₂, subst, arith}
+use Rattle.std.specs.Prelude.{nat_le, find, codes, bytes_eq, Option, Some, None, option_map}
+use Rattle.std.specs.List.{AllByRecursion}
+use Rattle.std.proofs.lemmas.Bool.{and_parts, leb-true, cond_both, ne_eqb}
+use Rattle.std.proofs.Math.Nat.{le-max_left, le-max_right}
+use Rattle.kl1_model.specs.declared.number.Number.{Number}
+use Rattle.kl1_model.specs.declared.number.Number.TheVariants.{Value, Overflow, ZeroDivisor}
+use Rattle.kl1_model.specs.Term.{Term, variable, integer, atom, structure, Terms, none, more, count_of, replace, replace_each, Replacement, substituted, each_substituted}
+use Rattle.kl1_model.specs.Meaning.{nil, variables_of, variables_in, highest, highest_in, numbered_after}
+use Rattle.kl1_model.specs.Arithmetic.{Evaluated, comes_to, awaits, is_no_expression, evaluated}
+use Rattle.kl1_model.specs.Unify.{Equation, argument_equations, replace_in_all, solve}
+use Rattle.kl1_model.specs.Goal.{is_execute}
+use Rattle.kl1_model.specs.Module.{Clause, Module}
+use Rattle.kl1_model.specs.Match.{Answer, yes, no, wait, Match, with_answer, match_pattern, match_patterns, term_at, places_of, verdict, Call, call_of, clauses_of, is_no, Candidate, candidate_by, candidates_within, candidates_from, candidates_of, fails}
+use Rattle.kl1_model.specs.Look.{Spelling, spelled, awaits_code, misspelled, spelling, most_spelled, Look, right, waits_on, wrong, Order, order_look}
+use Rattle.kl1_model.specs.Reduction.{Move, commits, raises, unifies, names, opens, goes, failure, call_move, becomes, assigned, spells, ordered, order_of, order_move, execute_move, pair_move, built_in_move, term_move, equation}
+use Rattle.kl1_laws.proofs.UnifySound.{HoldsInEachCase, holds_of_solution}
+
+-- ---- terms
+
+-- a fact holds of each variable of a term
+abbrev mutual
+  pub Holds : (ℕ → Type 0) → Term → Type 0
+  Holds P (variable v) = P v
+  Holds P (integer i) = Unit {0}
+  Holds P (atom a) = Unit {0}
+  Holds P (structure f ts) = HoldsEach P ts
+
+  pub HoldsEach : (ℕ → Type 0) → Terms → Type 0
+  HoldsEach P none = Unit {0}
+  HoldsEach P (more t ts) = Holds P t × HoldsEach P ts
+
+mutual
+  pub holds_replace : (P : ℕ → Type 0) (v : ℕ) (u t : Term) → Holds P u → Holds P t → Holds P (replace v u t)
+  holds_replace P v u (variable n) k h = cond_both (n == v) u (variable n) (Holds P) (λ _. k) (λ _. h)
+  holds_replace P v u (integer i) k h = tt
+  holds_replace P v u (atom a) k h = tt
+  holds_replace P v u (structure f ts) k h = holds_replace_each P v u ts k h
+
+  pub holds_replace_each : (P : ℕ → Type 0) (v : ℕ) (u : Term) (ts : Terms) → Holds P u → HoldsEach P ts → HoldsEach P (replace_each v u ts)
+  holds_replace_each P v u none k h = tt
+  holds_replace_each P v u (more t ts) k h = (holds_replace P v u t k h.0, holds_replace_each P v u ts k h.1)
+
+mutual
+  -- a fact that follows
+  pub holds_weaker : (P Q : ℕ → Type 0) → ((v : ℕ) → P v → Q v) → (t : Term) → Holds P t → Holds Q t
+  holds_weaker P Q f (variable v) h = f v h
+  holds_weaker P Q f (integer i) h = tt
+  holds_weaker P Q f (atom a) h = tt
+  holds_weaker P Q f (structure g ts) h = each_weaker P Q f ts h
+
+  each_weaker : (P Q : ℕ → Type 0) → ((v : ℕ) → P v → Q v) → (ts : Terms) → HoldsEach P ts → HoldsEach Q ts
+  each_weaker P Q f none h = tt
+  each_weaker P Q f (more t ts) h = (holds_weaker P Q f t h.0, each_weaker P Q f ts h.1)
+
+mutual
+  -- a variable of which the fact doesn't hold isn't there to be replaced
+  pub holds_unchanged : (P : ℕ → Type 0) (v : ℕ) (u : Term) → (P v → ⊥) → (t : Term) → Holds P t → replace v u t ≡ t
+  holds_unchanged P v u f (variable n) h = ap (λ b. if b then u else variable n) (ne_eqb n v (λ same. f (subst P same h)))
+  holds_unchanged P v u f (integer i) h = refl
+  holds_unchanged P v u f (atom a) h = refl
+  holds_unchanged P v u f (structure g ts) h = ap (structure g) (each_unchanged P v u f ts h)
+
+  each_unchanged : (P : ℕ → Type 0) (v : ℕ) (u : Term) → (P v → ⊥) → (ts : Terms) → HoldsEach P ts → replace_each v u ts ≡ ts
+  each_unchanged P v u f none h = refl
+  each_unchanged P v u f (more t ts) h = ap₂ more (holds_unchanged P v u f t h.0) (each_unchanged P v u f ts h.1)
+
+mutual
+  pub holds_substituted : (R P : ℕ → Type 0) (f : ℕ → Term) → ((v : ℕ) → R v → Holds P (f v)) → (t : Term) → Holds R t → Holds P (substituted f t)
+  holds_substituted R P f k (variable v) h = k v h
+  holds_substituted R P f k (integer i) h = tt
+  holds_substituted R P f k (atom a) h = tt
+  holds_substituted R P f k (structure g ts) h = each_holds_substituted R P f k ts h
+
+  each_holds_substituted : (R P : ℕ → Type 0) (f : ℕ → Term) → ((v : ℕ) → R v → Holds P (f v)) → (ts : Terms) → HoldsEach R ts → HoldsEach P (each_substituted f ts)
+  each_holds_substituted R P f k none h = tt
+  each_holds_substituted R P f k (more t ts) h = (holds_substituted R P f k t h.0, each_holds_substituted R P f k ts h.1)
+
+mutual
+  -- each variable is at most the highest
+  pub holds_highest : (top : ℕ) (t : Term) → highest t ≤ top → Holds (λ v. v ≤ top) t
+  holds_highest top (variable v) e = e
+  holds_highest top (integer i) e = tt
+  holds_highest top (atom a) e = tt
+  holds_highest top (structure f ts) e = each_highest top ts e
+
+  each_highest : (top : ℕ) (ts : Terms) → highest_in ts ≤ top → HoldsEach (λ v. v ≤ top) ts
+  each_highest top none e = tt
+  each_highest top (more t ts) e =
+      let a = le-max_left (highest t) (highest_in ts) in let b = le-max_right (highest t) (highest_in ts) in
+      (holds_highest top t (omega (arith, a, e)), each_highest top ts (omega (arith, b, e)))
+
+mutual
+  pub holds_both : (P Q : ℕ → Type 0) (t : Term) → Holds P t → Holds Q t → Holds (λ v. P v × Q v) t
+  holds_both P Q (variable v) g h = (g, h)
+  holds_both P Q (integer i) g h = tt
+  holds_both P Q (atom a) g h = tt
+  holds_both P Q (structure f ts) g h = each_both P Q ts g h
+
+  each_both : (P Q : ℕ → Type 0) (ts : Terms) → HoldsEach P ts → HoldsEach Q ts → HoldsEach (λ v. P v × Q v) ts
+  each_both P Q none g h = tt
+  each_both P Q (more t ts) g h = (holds_both P Q t g.0 h.0, each_both P Q ts g.1 h.1)
+
+split : (P : ℕ → Type 0) (vs ws : List ℕ) → AllByRecursion P (vs ++ ws) → AllByRecursion P vs × AllByRecursion P ws
+split P [] ws a = (tt, a)
+split P (v ∷ vs) ws a = let more = split P vs ws a.1 in ((a.0, more.0), more.1)
+
+mutual
+  listed : (P : ℕ → Type 0) (t : Term) → AllByRecursion P (variables_of t) → Holds P t
+  listed P (variable v) a = a.0
+  listed P (integer i) a = tt
+  listed P (atom a) b = tt
+  listed P (structure f ts) a = each_listed P ts a
+
+  each_listed : (P : ℕ → Type 0) (ts : Terms) → AllByRecursion P (variables_in ts) → HoldsEach P ts
+  each_listed P none a = tt
+  each_listed P (more t ts) a = let parts = split P (variables_of t) (variables_in ts) a in (listed P t parts.0, each_listed P ts parts.1)
+
+positive : (seen : ℕ) (vs : List ℕ) → numbered_after seen vs ≡ true → AllByRecursion (λ v. 0 < v) vs
+positive seen [] e = tt
+positive seen (v ∷ vs) e =
+    let parts = and_parts (nat_le 1 v && nat_le v (suc seen)) (numbered_after (max seen v) vs) e in
+    let one = leb-true 1 v (and_parts (nat_le 1 v) (nat_le v (suc seen)) parts.0).0 in
+    (omega (arith, one), positive (max seen v) vs parts.1)
+
+-- variables that are numbered by first occurrence are numbered from 1
+pub holds_positive : (t : Term) → numbered_after 0 (variables_of t) ≡ true → Holds (λ v. 0 < v) t
+holds_positive t e = listed (λ v. 0 < v) t (positive 0 (variables_of t) e)
+
+-- ---- unification
+
+-- a fact holds of the variables of equations
+abbrev AllHold : (ℕ → Type 0) → List Equation → Type 0
+AllHold P es = AllByRecursion (λ e. Holds P e.left × Holds P e.right) es
+
+-- a fact holds of the variables that are replaced, and of those of the terms in their place
+abbrev pub EachReplaced : (ℕ → Type 0) → List Replacement → Type 0
+EachReplaced P rs = AllByRecursion (λ r. P r.number × Holds P r.by) rs
+
+holds_in_all : (P : ℕ → Type 0) (v : ℕ) (u : Term) (es : List Equation) → Holds P u → AllHold P es → AllHold P (replace_in_all v u es)
+holds_in_all P v u [] k h = tt
+holds_in_all P v u (e ∷ es) k h = ((holds_replace P v u e.left k h.0.0, holds_replace P v u e.right k h.0.1), holds_in_all P v u es k h.1)
+
+holds_arguments : (P : ℕ → Type 0) (ts us : Terms) (es : List Equation) → HoldsEach P ts → HoldsEach P us → AllHold P es → AllHold P (argument_equations ts us es)
+holds_arguments P (more t ts) (more u us) es h k r = ((h.0, k.0), holds_arguments P ts us es h.1 k.1 r)
+holds_arguments P _ _ es h k r = r
+
+abbrev SolvedWith : (ℕ → Type 0) → List Equation → List Replacement → Type 0
+SolvedWith P es rs = AllHold P es → EachReplaced P rs
+
+solved_with : (P : ℕ → Type 0) → HoldsInEachCase (SolvedWith P)
+solved_with P = record {
+  done = λ h. tt;
+  same = λ t es rs k h. k h.1;
+  inner = λ f ts us es rs n k h. k (holds_arguments P ts us es h.0.0 h.0.1 h.1);
+  left = λ v t es rs o w k h. ((h.0.0, h.0.1), k (holds_in_all P v t es h.0.1 h.1));
+  right = λ v t es rs o w k h. ((h.0.1, h.0.0), k (holds_in_all P v t es h.0.0 h.1));
+}
+
+pub holds_solved : (P : ℕ → Type 0) (a b : Term) (rs : List Replacement) → Holds P a → Holds P b → solve (equation a b) ≡ Some rs → EachReplaced P rs
+holds_solved P a b rs g h e = holds_of_solution (SolvedWith P) (solved_with P) (equation a b) rs e ((g, h), tt)
+
+-- ---- matches
+
+-- a fact holds of the terms at places
+abbrev pub Places : (ℕ → Type 0) → List Replacement → Type 0
+Places P ps = AllByRecursion (λ p. Holds P p.by) ps
+
+both_places : (P : ℕ → Type 0) (ps qs : List Replacement) → Places P ps → Places P qs → Places P (ps ++ qs)
+both_places P [] qs a b = b
+both_places P (p ∷ ps) qs a b = (a.0, both_places P ps qs a.1 b)
+
+if_places : (c : Bool) (P : ℕ → Type 0) (m n : Match) → Places P m.places → Places P n.places → Places P (if c then m else n).places
+if_places true P m n a b = a
+if_places false P m n a b = b
+
+mutual
+  matched : (P : ℕ → Type 0) (p t : Term) → Holds P t → Places P (match_pattern p t).places
+  matched P (variable v) t h = (h, tt)
+  matched P (integer i) (variable w) h = tt
+  matched P (integer i) (integer j) h = tt
+  matched P (integer i) (atom a) h = tt
+  matched P (integer i) (structure g us) h = tt
+  matched P (atom a) (variable w) h = tt
+  matched P (atom a) (integer j) h = tt
+  matched P (atom a) (atom b) h = tt
+  matched P (atom a) (structure g us) h = tt
+  matched P (structure f ps) (variable w) h = tt
+  matched P (structure f ps) (integer j) h = tt
+  matched P (structure f ps) (atom b) h = tt
+  matched P (structure f ps) (structure g ts) h = if_places (bytes_eq f g && count_of ps == count_of ts) P (match_patterns ps ts) (with_answer no) (each_matched P ps ts h) tt
+
+  each_matched : (P : ℕ → Type 0) (ps ts : Terms) → HoldsEach P ts → Places P (match_patterns ps ts).places
+  each_matched P none none h = tt
+  each_matched P none (more t ts) h = tt
+  each_matched P (more p ps) none h = tt
+  each_matched P (more p ps) (more t ts) h = both_places P (match_pattern p t).places (match_patterns ps ts).places (matched P p t h.0) (each_matched P ps ts h.1)
+
+-- a fact holds of the terms at the places of candidates
+abbrev Candidates : (ℕ → Type 0) → List Candidate → Type 0
+Candidates P ks = AllByRecursion (λ k. Places P k.places) ks
+
+one_candidate : (P : ℕ → Type 0) (n : ℕ) (c : Clause) (ps : List Replacement) (a : Answer) → Places P ps → Candidates P (candidate_by n c ps a)
+one_candidate P n c ps yes h = (h, tt)
+one_candidate P n c ps no h = tt
+one_candidate P n c ps wait h = tt
+
+both_candidates : (P : ℕ → Type 0) (ks ls : List Candidate) → Candidates P ks → Candidates P ls → Candidates P (ks ++ ls)
+both_candidates P [] ls a b = b
+both_candidates P (k ∷ ks) ls a b = (a.0, both_candidates P ks ls a.1 b)
+
+if_candidates : (c : Bool) (P : ℕ → Type 0) (ks ls : List Candidate) → Candidates P ks → Candidates P ls → Candidates P (if c then ks else ls)
+if_candidates true P ks ls a b = a
+if_candidates false P ks ls a b = b
+
+within : (P : ℕ → Type 0) (section n : ℕ) (cs : List Clause) (ts : Terms) → HoldsEach P ts → Candidates P (candidates_within section n cs ts)
+within P section n [] ts h = tt
+within P section n (c ∷ cs) ts h =
+    let here = candidate_by n c (places_of c ts) (verdict c ts) in
+    let later = candidates_within section (suc n) cs ts in
+    if_candidates (c.section == section) P (here ++ later) [] (both_candidates P here later (one_candidate P n c (places_of c ts) (verdict c ts) (each_matched P c.patterns ts h)) (within P section (suc n) cs ts h)) tt
+
+from : (P : ℕ → Type 0) (n : ℕ) (cs : List Clause) (ts : Terms) → HoldsEach P ts → Candidates P (candidates_from n cs ts)
+from P n [] ts h = tt
+from P n (c ∷ cs) ts h =
+    if_candidates (is_no (verdict c ts)) P (candidates_from (suc n) cs ts) (candidates_within c.section n (c ∷ cs) ts) (from P (suc n) cs ts h) (within P c.section n (c ∷ cs) ts h)
+
+-- ---- moves
+
+-- a fact holds of the terms of an order that flow on
+abbrev pub InOrder : (ℕ → Type 0) → Order → Type 0
+InOrder P o = Holds P o.goal × Holds P o.control × Holds P o.reports
+
+-- a fact holds of the terms of a move
+abbrev pub InMove : (ℕ → Type 0) → Move → Type 0
+InMove P (commits k) = Places P k.places
+InMove P (raises kind) = Unit {0}
+InMove P (unifies a b) = Holds P a × Holds P b
+InMove P (names text a) = Holds P a
+InMove P (opens o) = InOrder P o
+InMove P goes = Unit {0}
+
+-- a fact holds of the terms of a move that may be there
+abbrev MayMove : (ℕ → Type 0) → Option Move → Type 0
+MayMove P None = Unit {0}
+MayMove P (Some m) = InMove P m
+
+if_moves : (c : Bool) (P : ℕ → Type 0) (m n : Option Move) → MayMove P m → MayMove P n → MayMove P (if c then m else n)
+if_moves true P m n a b = a
+if_moves false P m n a b = b
+
+in_spelled : (P : ℕ → Type 0) (a : Term) (s : Spelling) → Holds P a → MayMove P (spells a s)
+in_spelled P a (spelled text) h = h
+in_spelled P a (awaits_code v) h = tt
+in_spelled P a misspelled h = tt
+
+in_number : (P : ℕ → Type 0) (a : Term) (n : Number) → Holds P a → InMove P (becomes a n)
+in_number P a (Value z) h = (h, tt)
+in_number P a Overflow h = tt
+in_number P a ZeroDivisor h = tt
+
+in_assigned : (P : ℕ → Type 0) (a : Term) (e : Evaluated) → Holds P a → MayMove P (assigned a e)
+in_assigned P a (comes_to n) h = in_number P a n h
+in_assigned P a (awaits v) h = tt
+in_assigned P a is_no_expression h = tt
+
+-- a fact holds of the terms of an order that may be there
+abbrev MayOrder : (ℕ → Type 0) → Option Order → Type 0
+MayOrder P None = Unit {0}
+MayOrder P (Some o) = InOrder P o
+
+in_order : (P : ℕ → Type 0) (t : Term) → Holds P t → MayOrder P (order_of t)
+in_order P (structure p (more g (more l (more i (more n (more c (more r none))))))) h = (h.0, h.1.1.1.1.0, h.1.1.1.1.1.0)
+in_order P t h = tt
+
+in_ordered : (P : ℕ → Type 0) (o : Order) (l : Look) → InOrder P o → MayMove P (ordered o l)
+in_ordered P o right h = h
+in_ordered P o (waits_on v) h = tt
+in_ordered P o wrong h = tt
+
+in_order_move : (P : ℕ → Type 0) (o : Option Order) → MayOrder P o → MayMove P (order_move o)
+in_order_move P None h = tt
+in_order_move P (Some o) h = in_ordered P o (order_look o) h
+
+in_execute : (P : ℕ → Type 0) (a b : Term) → Holds P b → MayMove P (execute_move a b)
+in_execute P (atom m) b h = if_moves (is_execute m b) P (order_move (order_of b)) None (in_order_move P (order_of b) (in_order P b h)) tt
+in_execute P (variable v) b h = tt
+in_execute P (integer i) b h = tt
+in_execute P (structure f ts) b h = tt
+
+in_pair : (P : ℕ → Type 0) (f : List ℕ) (a b : Term) → Holds P a → Holds P b → MayMove P (pair_move f a b)
+in_pair P f a b g h =
+    let last = if bytes_eq f (codes ":") then execute_move a b else None in
+    let third = if bytes_eq f (codes "atom_from") then spells b (spelling most_spelled a) else last in
+    let second = if bytes_eq f (codes ":=") then assigned a (evaluated b) else third in
+    if_moves (bytes_eq f (codes "=")) P (Some (unifies a b)) second (g, h)
+    (if_moves (bytes_eq f (codes ":=")) P (assigned a (evaluated b)) third (in_assigned P a (evaluated b) g)
+    (if_moves (bytes_eq f (codes "atom_from")) P (spells b (spelling most_spelled a)) last (in_spelled P b (spelling most_spelled a) h)
+    (if_moves (bytes_eq f (codes ":")) P (execute_move a b) None (in_execute P a b h) tt)))
+
+in_built_in : (P : ℕ → Type 0) (t : Term) → Holds P t → MayMove P (built_in_move t)
+in_built_in P (atom a) h = if_moves (bytes_eq a (codes "true")) P (Some goes) None tt tt
+in_built_in P (structure f (more a (more b none))) h = in_pair P f a b h.0 h.1.0
+in_built_in P (variable v) h = tt
+in_built_in P (integer i) h = tt
+in_built_in P (structure f none) h = tt
+in_built_in P (structure f (more a none)) h = tt
+in_built_in P (structure f (more a (more b (more c ts)))) h = tt
+
+-- a fact holds of the arguments of a call that may be there
+abbrev MayCall : (ℕ → Type 0) → Option Call → Type 0
+MayCall P None = Unit {0}
+MayCall P (Some call) = HoldsEach P call.arguments
+
+if_call : (c : Bool) (P : ℕ → Type 0) (call : Call) → HoldsEach P call.arguments → MayCall P (if c then Some call else None)
+if_call true P call h = h
+if_call false P call h = tt
+
+in_call : (P : ℕ → Type 0) (t : Term) → Holds P t → MayCall P (call_of t)
+in_call P (structure f (more (atom m) (more (atom p) none))) h = if_call _ P _ tt
+in_call P (structure f (more (atom m) (more (structure p ts) none))) h = if_call _ P _ h.1.0
+in_call P t h = tt
+
+found_place : (P : ℕ → Type 0) (p : Candidate → Bool) (ks : List Candidate) → Candidates P ks → MayMove P (option_map (λ k. commits k) (find p ks))
+found_place P p [] a = tt
+found_place P p (k ∷ ks) a = by_test (p k) k (find p ks) a.0 (found_place P p ks a.1)
+  where
+    by_test : (c : Bool) (k : Candidate) (o : Option Candidate) → Places P k.places → MayMove P (option_map (λ k. commits k) o) → MayMove P (option_map (λ k. commits k) (if c then Some k else o))
+    by_test true k o a b = a
+    by_test false k o a b = b
+
+in_called : (P : ℕ → Type 0) (modules : List Module) (call : Call) (clause : ℕ) → HoldsEach P call.arguments → MayMove P (call_move modules call clause)
+in_called P modules call clause h =
+    let failing = if fails modules call then Some (raises failure) else None in
+    let found = find (λ k. k.number == clause) (candidates_of modules call) in
+    if_moves (clause == 0) P failing (option_map (λ k. commits k) found) (if_moves (fails modules call) P (Some (raises failure)) None tt tt)
+    (found_place P (λ k. k.number == clause) (candidates_of modules call) (from P 1 (clauses_of modules call) call.arguments h))
+
+in_term : (P : ℕ → Type 0) (modules : List Module) (t : Term) (clause : ℕ) (o : Option Call) → Holds P t → MayCall P o → MayMove P (term_move modules t clause o)
+in_term P modules t clause None h c = if_moves (clause == 0) P (built_in_move t) None (in_built_in P t h) tt
+in_term P modules t clause (Some call) h c = in_called P modules call clause c
+
+-- what holds of the variables of a goal holds of those of its move
+pub in_move : (P : ℕ → Type 0) (modules : List Module) (t : Term) (clause : ℕ) (m : Move) → Holds P t → term_move modules t clause (call_of t) ≡ Some m → InMove P m
+in_move P modules t clause m h e = subst (MayMove P) e (in_term P modules t clause (call_of t) h (in_call P t h))
+
+pub holds_term_at : (P : ℕ → Type 0) (ps : List Replacement) (v : ℕ) → Places P ps → Holds P (term_at ps v nil)
+holds_term_at P [] v a = tt
+holds_term_at P (p ∷ ps) v a = cond_both (p.number == v) p.by (term_at ps v nil) (Holds P) (λ _. a.0) (λ _. holds_term_at P ps v a.1)

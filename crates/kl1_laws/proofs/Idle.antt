@@ -1,0 +1,288 @@
+-- Each living shoen has a goal or a living child.
+use Rattle.std.proofs.Common.{◌≡◌, ◌≤◌, inl, inr, ℕ, zero, suc, ◌==◌, ◌||◌, not, ◌&&◌, Bool, true, false, if◌then◌else◌, List, [], ◌∷◌, ◌++◌, refl, sym, ap, ◌∙◌, subst, arith}
+use Rattle.std.specs.Prelude.{nat_le, filter, length, Option, Some, None}
+use Rattle.std.specs.List.{AllByRecursion}
+use Rattle.std.proofs.Math.Bool.{or-true}
+use Rattle.std.proofs.lemmas.Bool.{false≢true, eqb-true, eqb-false, eq-eqb, ne_eqb, cases_eq}
+use Rattle.std.proofs.lemmas.Option.{none-some, same_Some}
+use Rattle.kl1_model.specs.Limits.{most_names}
+use Rattle.kl1_model.specs.declared.message.Message.TheVariants.{Stop, Start, Abort, Allow}
+use Rattle.kl1_model.specs.Term.{Term, atom, Replacement}
+use Rattle.kl1_model.specs.Unify.{solve}
+use Rattle.kl1_model.specs.Module.{is_among}
+use Rattle.kl1_model.specs.Match.{Candidate}
+use Rattle.kl1_model.specs.Control.{Control, awaits_message, tells, tells_other, ends, breaks_off}
+use Rattle.kl1_model.specs.State.{Goal, Shoen, State, goal_at, shoen_at, with_name, without_goal, is_monitor, is_living}
+use Rattle.kl1_model.specs.Tree.{parents_of, path_within, is_on_path, charge}
+use Rattle.kl1_model.specs.Event.{with_entry}
+use Rattle.kl1_model.specs.Report.{report, exception, failure, illegal_input, exhaustion}
+use Rattle.kl1_model.specs.Ending.{has_goal, has_living_child, lives, ends_now, without_monitor, settle}
+use Rattle.kl1_model.specs.Opening.{opening_goals, with_shoen, with_next_variables, start_goal, has_room_to_start, has_room_for_child, child_shoen, open_child}
+use Rattle.kl1_model.specs.Reduction.{Move, commits, raises, unifies, names, opens, goes, moves, goals_from, has_room_for, committed, unified, equation, or_exhaustion, moved, allowed_more, with_control, heard, acted}
+use Rattle.kl1_model.specs.Sending.{sent_on}
+use Rattle.kl1_model.specs.TreeLaws.{AreWithin, IsTree}
+use Rattle.kl1_model.proofs.TreeKeeps.{Keeps, keeps_both, kept_tree, keeps_change, keeps_all, keeps_report, keeps_fewer, keeps_abort, keeps_heard}
+use Rattle.kl1_model.proofs.TreeGrows.{opening_follows, found_within, with_entry_keeps}
+use Rattle.kl1_laws.specs.Reached.{reached}
+use Rattle.kl1_laws.specs.EndingLaws.{LivingHaveGoals}
+use Rattle.kl1_laws.proofs.Reaching.{Keeping, holds_reached}
+use Rattle.kl1_laws.proofs.Alike.{Node, node_of, nodes_of, Duty, duties_of, Alike, alike_report, alike_stopped, alike_resumed, alike_change, alike_unified, alike_open, begun, begun_shoen, alike_start, alike_sent, lives_in, has_duty, has_child, lives_by, goal_by, child_by}
+use Rattle.kl1_laws.proofs.Duties.{Of, filtered, of_alike, of_settle, of_heard}
+use Rattle.kl1_laws.proofs.Counts.{Rises, AreCounted, counted_fewer, acted_counted, start_counted, fresh_counted, found_goal, duties_append}
+use Rattle.kl1_laws.proofs.Endings.{Idle, Stays, not_due, stays_alike, goal_aside, zero_not_due, path_begins, settle_none_due, settle_charged_none_due}
+use Rattle.kl1_laws.proofs.Aborts.{abort_idle}
+
+-- ---- a goal that is removed
+
+-- each goal n is of shoen k
+abbrev OnlyOf : ℕ → ℕ → List Duty → Type 0
+OnlyOf n k ds = AllByRecursion (λ (d : Duty). d.number ≡ n → d.shoen ≡ k) ds
+
+above : (b n k last : ℕ) (ds : List Duty) → n ≤ b → Rises b ds last → OnlyOf n k ds
+above b n k last [] e r = tt
+above b n k last (d ∷ ds) e r = let x = r.0 in (λ is. absurd (omega (arith, e, x, is)), above d.number n k last ds (omega (arith, e, x)) r.1)
+
+only_case : (c : Bool) (n last : ℕ) (g h : Goal) (gs : List Goal) → g.number == n ≡ c → (if c then Some g else goal_at n gs) ≡ Some h → Rises g.number (duties_of gs) last → (goal_at n gs ≡ Some h → OnlyOf n h.shoen (duties_of gs)) → OnlyOf n h.shoen (duties_of (g ∷ gs))
+only_case true n last g h gs d e r f =
+    let same = same_Some g h e in
+    let number = eqb-true g.number n d in
+    (λ is. ap (λ (k : Goal). k.shoen) same, above g.number n h.shoen last (duties_of gs) (omega (arith, number)) r)
+only_case false n last g h gs d e r f = (λ is. absurd (eqb-false g.number n d is), f e)
+
+only : (b n last : ℕ) (gs : List Goal) (h : Goal) → Rises b (duties_of gs) last → goal_at n gs ≡ Some h → OnlyOf n h.shoen (duties_of gs)
+only b n last [] h r e = absurd (none-some h e)
+only b n last (g ∷ gs) h r e = only_case (g.number == n) n last g h gs refl e r.1 (λ f. only g.number n last gs h r.1 f)
+
+other_case : (c : Bool) (n k m : ℕ) (d : Duty) (ds es : List Duty) → d.number == n ≡ c → (d.number ≡ n → d.shoen ≡ k) → (m ≡ k → ⊥) → has_duty es m ≡ has_duty ds m → has_duty (if not c then d ∷ es else es) m ≡ has_duty (d ∷ ds) m
+other_case true n k m d ds es e f other q =
+    q ∙ sym (ap (λ b. b && not d.is_monitor || has_duty ds m) (ne_eqb d.shoen m (λ same. other (sym same ∙ f (eqb-true d.number n e)))))
+other_case false n k m d ds es e f other q = ap (λ b. d.shoen == m && not d.is_monitor || b) q
+
+-- the goals of other shoens stay
+others_stay : (n k m : ℕ) (ds : List Duty) → OnlyOf n k ds → (m ≡ k → ⊥) → has_duty (filter (λ d. not (d.number == n)) ds) m ≡ has_duty ds m
+others_stay n k m [] a other = refl
+others_stay n k m (d ∷ ds) a other = other_case (d.number == n) n k m d ds (filter (λ d. not (d.number == n)) ds) refl a.0 other (others_stay n k m ds a.1 other)
+
+gone_stays : (g : Goal) (s : State) (m : ℕ) → goal_at g.number s.goals ≡ Some g → Of AreCounted s → (m ≡ g.shoen → ⊥) → Stays s (charge g.shoen (without_goal g.number s)) m
+gone_stays g s m there counted other = record {
+  lives = λ e. e;
+  goals = λ e. goal_by m (without_goal g.number s) ∙ ap (λ ds. has_duty ds m) (filtered (λ d. not (d.number == g.number)) s.goals)
+      ∙ others_stay g.number g.shoen m (duties_of s.goals) (only 0 g.number s.last_goal s.goals g counted.rising there) other ∙ sym (goal_by m s) ∙ e;
+  children = λ e. e;
+}
+
+-- ---- goals and shoens that come
+
+or_assoc : (x y z : Bool) → (x || (y || z)) ≡ ((x || y) || z)
+or_assoc true y z = refl
+or_assoc false y z = refl
+
+more_duties : (m : ℕ) (ds es : List Duty) → has_duty (ds ++ es) m ≡ has_duty ds m || has_duty es m
+more_duties m [] es = refl
+more_duties m (d ∷ ds) es = ap (λ b. d.shoen == m && not d.is_monitor || b) (more_duties m ds es) ∙ or_assoc (d.shoen == m && not d.is_monitor) (has_duty ds m) (has_duty es m)
+
+more_children : (m : ℕ) (ms : List Node) (k : Node) → has_child (ms ++ k ∷ []) m ≡ has_child ms m || has_child (k ∷ []) m
+more_children m [] k = refl
+more_children m (n ∷ ms) k = ap (λ b. n.parent == m && is_living n.life || b) (more_children m ms k) ∙ or_assoc (n.parent == m && is_living n.life) (has_child ms m) (has_child (k ∷ []) m)
+
+more_lives : (m : ℕ) (ms : List Node) (k : Node) → (k.number ≡ m → ⊥) → lives_in (ms ++ k ∷ []) m ≡ lives_in ms m
+more_lives m [] k other = ap (λ b. if b then is_living k.life else false) (ne_eqb k.number m other)
+more_lives m (n ∷ ms) k other = ap (λ b. if n.number == m then is_living n.life else b) (more_lives m ms k other)
+
+nodes_append : (hs : List Shoen) (h : Shoen) → nodes_of (hs ++ h ∷ []) ≡ nodes_of hs ++ node_of h ∷ []
+nodes_append [] h = refl
+nodes_append (k ∷ hs) h = ap (λ (ms : List Node). node_of k ∷ ms) (nodes_append hs h)
+
+-- goals that come, and no shoens
+more_goals : (m : ℕ) (gs hs : List Goal) → has_duty (duties_of gs) m ≡ true → has_duty (duties_of (gs ++ hs)) m ≡ true
+more_goals m gs hs e = ap (λ ds. has_duty ds m) (duties_append gs hs) ∙ more_duties m (duties_of gs) (duties_of hs) ∙ ap (λ b. b || has_duty (duties_of hs) m) e
+
+commit_stays : (g : Goal) (k : Candidate) (s : State) (m : ℕ) → Stays s (committed g k s) m
+commit_stays g k s m = record {
+  lives = λ e. e;
+  goals = λ e. goal_by m (committed g k s) ∙ more_goals m s.goals _ (sym (goal_by m s) ∙ e);
+  children = λ e. e;
+}
+
+open_stays : (h : Shoen) (goal : Term) (s : State) (m : ℕ) → (h.number ≡ m → ⊥) → Stays s (with_shoen h goal s) m
+open_stays h goal s m other = record {
+  lives = λ e. lives_by m s ∙ sym (ap (λ ms. lives_in ms m) (nodes_append s.shoens h) ∙ more_lives m (nodes_of s.shoens) (node_of h) other) ∙ sym (lives_by m (with_shoen h goal s)) ∙ e;
+  goals = λ e. goal_by m (with_shoen h goal s) ∙ more_goals m s.goals (opening_goals s.last_goal h goal) (sym (goal_by m s) ∙ e);
+  children = λ e. child_by m (with_shoen h goal s) ∙ ap (λ ms. has_child ms m) (nodes_append s.shoens h) ∙ more_children m (nodes_of s.shoens) (node_of h)
+      ∙ ap (λ b. b || has_child (node_of h ∷ []) m) (sym (child_by m s) ∙ e);
+}
+
+busy_case : (x y : Bool) → (x && not true && y) ≡ false
+busy_case true y = refl
+busy_case false y = refl
+
+new_has_goal : (h : Shoen) (goal : Term) (s : State) → has_goal h.number (with_shoen h goal s) ≡ true
+new_has_goal h goal s =
+    let new = opening_goals s.last_goal h goal in
+    goal_by h.number (with_shoen h goal s) ∙ ap (λ ds. has_duty ds h.number) (duties_append s.goals new) ∙ more_duties h.number (duties_of s.goals) (duties_of new)
+    ∙ ap (λ b. has_duty (duties_of s.goals) h.number || (b && not true || (b && not false || false))) (eq-eqb h.number h.number refl) ∙ or-true (has_duty (duties_of s.goals) h.number)
+
+-- a shoen that opens isn't due, and others are as they were
+open_idle : (h : Shoen) (goal : Term) (s : State) (m : ℕ) → ((h.number ≡ m → ⊥) → ends_now m s ≡ false) → ends_now m (with_shoen h goal s) ≡ false
+open_idle h goal s m f = elim (cases_eq h.number m) [
+  | inl same ↦ subst (λ (k : ℕ). ends_now k (with_shoen h goal s) ≡ false) same
+      (ap (λ b. lives h.number (with_shoen h goal s) && not b && not (has_living_child h.number (with_shoen h goal s))) (new_has_goal h goal s) ∙ busy_case (lives h.number (with_shoen h goal s)) (not (has_living_child h.number (with_shoen h goal s))))
+  | inr other ↦ not_due s (with_shoen h goal s) m (open_stays h goal s m other) (f other)
+]
+
+-- ---- moves
+
+-- no shoen but perhaps this one is due
+abbrev IdleBut : ℕ → State → Type 0
+IdleBut k s = (m : ℕ) → (m ≡ k → ⊥) → ends_now m s ≡ false
+
+but_alike : (k : ℕ) (s t : State) → Alike s t → IdleBut k s → IdleBut k t
+but_alike k s t a idle m other = not_due s t m (stays_alike s t a m) (idle m other)
+
+but_or : (c : Bool) (k n : ℕ) (goal : Term) (t s : State) → IdleBut k t → IdleBut k s → IdleBut k (or_exhaustion c n goal t s)
+but_or true k n goal t s a b = a
+but_or false k n goal t s a b = but_alike k s (report n (exception exhaustion goal) s) (alike_report n (exception exhaustion goal) s) b
+
+moved_idle : (g : Goal) (t : Term) (m : Move) (s : State) → IdleBut g.shoen s → IdleBut g.shoen (moved g t m s)
+moved_idle g t (commits k) s idle = but_or (has_room_for s k.clause) g.shoen g.shoen t (committed g k s) s (λ m other. not_due s (committed g k s) m (commit_stays g k s m) (idle m other)) idle
+moved_idle g t (raises kind) s idle = but_alike g.shoen s (moved g t (raises kind) s) (alike_report g.shoen (exception kind t) s) idle
+moved_idle g t (unifies x y) s idle = but_alike g.shoen s (moved g t (unifies x y) s) (alike_unified g.shoen t (solve (equation x y)) s) idle
+moved_idle g t (names text x) s idle =
+    let u = record s { names = with_name s.names text } in
+    let v = unified g.shoen t (solve (equation x (atom text))) u in
+    but_or (nat_le (length (with_name s.names text)) most_names) g.shoen g.shoen t v s (but_alike g.shoen u v (alike_unified g.shoen t (solve (equation x (atom text))) u) idle) idle
+moved_idle g t (opens o) s idle =
+    let h = child_shoen s g.shoen o in
+    but_or (has_room_for_child s g.shoen) g.shoen g.shoen t (open_child s g.shoen o) s
+    (but_alike g.shoen (with_shoen h o.goal s) (open_child s g.shoen o) (alike_open h o.goal s) (λ m other. open_idle h o.goal s m (λ _. idle m other))) idle
+moved_idle g t goes s idle = idle
+
+-- ---- trees
+
+both_within : (n : ℕ) (gs hs : List Goal) → AreWithin n gs → AreWithin n hs → AreWithin n (gs ++ hs)
+both_within n [] hs a b = b
+both_within n (g ∷ gs) hs a b = (a.0, both_within n gs hs a.1 b)
+
+from_within : (n last shoen : ℕ) (ps : List ℕ) (ts : List Term) → shoen ≤ n → AreWithin n (goals_from last shoen ps ts)
+from_within n last shoen [] [] few = tt
+from_within n last shoen [] (t ∷ ts) few = tt
+from_within n last shoen (p ∷ ps) [] few = tt
+from_within n last shoen (p ∷ ps) (t ∷ ts) few = (few, from_within n (suc last) shoen ps ts few)
+
+unified_keeps : (n : ℕ) (goal : Term) (o : Option (List Replacement)) (s : State) → Keeps s (unified n goal o s)
+unified_keeps n goal None s = keeps_report n (exception failure goal) s
+unified_keeps n goal (Some rs) s = keeps_all rs s
+
+tree_or : (c : Bool) (n : ℕ) (goal : Term) (t s : State) → IsTree t → IsTree s → IsTree (or_exhaustion c n goal t s)
+tree_or true n goal t s a b = a
+tree_or false n goal t s a b = kept_tree s (report n (exception exhaustion goal) s) (keeps_report n (exception exhaustion goal) s) b
+
+moved_tree : (g : Goal) (t : Term) (m : Move) (s : State) → g.shoen ≤ s.last_shoen → IsTree s → IsTree (moved g t m s)
+moved_tree g t (commits k) s few tree = tree_or (has_room_for s k.clause) g.shoen t (committed g k s) s
+    (record { numbered = tree.numbered; lower = tree.lower; count = tree.count; owners = both_within s.last_shoen s.goals _ tree.owners (from_within s.last_shoen s.last_goal g.shoen _ _ few); worked = tree.worked }) tree
+moved_tree g t (raises kind) s few tree = kept_tree s (moved g t (raises kind) s) (keeps_report g.shoen (exception kind t) s) tree
+moved_tree g t (unifies x y) s few tree = kept_tree s (moved g t (unifies x y) s) (unified_keeps g.shoen t (solve (equation x y)) s) tree
+moved_tree g t (names text x) s few tree =
+    let u = record s { names = with_name s.names text } in
+    let v = unified g.shoen t (solve (equation x (atom text))) u in
+    let k : Keeps s u = record { parents = refl; work = refl; last = refl; owners = λ n w. w; numbered = λ n w. w } in
+    tree_or (nat_le (length (with_name s.names text)) most_names) g.shoen t v s (kept_tree s v (keeps_both s u v k (unified_keeps g.shoen t (solve (equation x (atom text))) u)) tree) tree
+moved_tree g t (opens o) s few tree = tree_or (has_room_for_child s g.shoen) g.shoen t (open_child s g.shoen o) s ((opening_follows g.shoen (child_shoen s g.shoen o) o.goal s refl (λ few. few)).tree few tree) tree
+moved_tree g t goes s few tree = tree
+
+-- ---- a reduction
+
+-- a shoen that isn't on its own path is none
+off_path : (k m : ℕ) (s : State) → IsTree s → IdleBut k s → is_on_path s.shoens m k ≡ false → ends_now m s ≡ false
+off_path k zero s tree idle off = zero_not_due s tree.numbered
+off_path k (suc m) s tree idle off = idle (suc m) (λ same.
+    let at : is_on_path s.shoens (suc m) (suc m) ≡ false = ap (is_on_path s.shoens (suc m)) same ∙ off in
+    false≢true (sym at ∙ path_begins (parents_of s.shoens) (suc m) m (omega arith)))
+
+acted_idle : (g : Goal) (t : Term) (m : Move) (s : State) → goal_at g.number s.goals ≡ Some g → g.shoen ≤ s.last_shoen → IsTree s → Of AreCounted s → Idle s → Idle (acted g (moves t m) s)
+acted_idle g t m s there few tree counted idle n =
+    let removed = without_goal g.number s in
+    let worked = charge g.shoen removed in
+    let done = moved g t m worked in
+    let kept = kept_tree s removed (keeps_fewer _ s) tree in
+    let before : IsTree worked = record { numbered = kept.numbered; lower = kept.lower; count = kept.count; owners = kept.owners; worked = (few, kept.worked) } in
+    let after = moved_tree g t m worked few before in
+    let free = moved_idle g t m worked (λ k other. not_due s worked k (gone_stays g s k there counted other) (idle k)) in
+    settle_charged_none_due (λ k. Unit {0}) g.shoen done after (λ k u off. off_path g.shoen k done after free off) n tt
+
+-- ---- what monitors read
+
+idle_alike : (s t : State) → Alike s t → Idle s → Idle t
+idle_alike s t k idle m = not_due s t m (stays_alike s t k m) (idle m)
+
+monitor_idle : (n : ℕ) (s : State) → Idle s → Idle (without_monitor n s)
+monitor_idle n s idle m = ap (λ b. lives m s && not b && not (has_living_child m s)) (goal_aside n m s) ∙ idle m
+
+rest_idle : (n : ℕ) (rest : Term) (s : State) → Idle s → Idle (with_control n rest s)
+rest_idle n rest s idle = idle_alike s (with_control n rest s) (alike_change n (λ h. record h { control = rest }) s (λ h. refl)) idle
+
+heard_idle : (n : ℕ) (c : Control) (s : State) → IsTree s → Idle s → (m : ℕ) → is_on_path (heard n c s).shoens m n ≡ false → ends_now m (heard n c s) ≡ false
+heard_idle n (awaits_message v) s tree idle m off = idle m
+heard_idle n (tells Stop rest) s tree idle m off = idle_alike (with_control n rest s) (heard n (tells Stop rest) s) (alike_stopped (shoen_at n (with_control n rest s).shoens) n (with_control n rest s)) (rest_idle n rest s idle) m
+heard_idle n (tells Start rest) s tree idle m off = idle_alike (with_control n rest s) (heard n (tells Start rest) s) (alike_resumed (shoen_at n (with_control n rest s).shoens) n (with_control n rest s)) (rest_idle n rest s idle) m
+heard_idle n (tells Abort rest) s tree idle m off =
+    let t = with_control n rest s in
+    abort_idle n m t (kept_tree s t (keeps_change n (λ h. record h { control = rest }) s (λ h. refl) (λ h. refl)) tree) (rest_idle n rest s idle) (sym (ap (λ ps. is_among m (path_within n ps n)) (keeps_abort n t).parents) ∙ off)
+heard_idle n (tells (Allow extra) rest) s tree idle m off = idle_alike (with_control n rest s) (heard n (tells (Allow extra) rest) s) (alike_change n (allowed_more extra) (with_control n rest s) (λ h. refl)) (rest_idle n rest s idle) m
+heard_idle n (tells_other t rest) s tree idle m off = idle_alike (with_control n rest s) (heard n (tells_other t rest) s) (alike_report n (exception illegal_input t) (with_control n rest s)) (rest_idle n rest s idle) m
+heard_idle n ends s tree idle m off = monitor_idle n s idle m
+heard_idle n (breaks_off t) s tree idle m off = idle_alike (without_monitor n s) (heard n (breaks_off t) s) (alike_report n (exception illegal_input t) (without_monitor n s)) (monitor_idle n s idle) m
+
+read_idle : (n : ℕ) (c : Control) (s : State) → IsTree s → Idle s → Idle (settle n (heard n c s))
+read_idle n c s tree idle m =
+    let done = heard n c s in
+    settle_none_due (λ k. Unit {0}) n done (kept_tree s done (keeps_heard n c s) tree) (λ k u off. heard_idle n c s tree idle k off) m tt
+
+-- ---- events
+
+-- goals are counted, and no shoen is due
+record IsBusy (s : State) : Type 0 where
+  counted : Of AreCounted s
+  idle : Idle s
+
+start_busy : (s : State) (allowance low high : ℕ) (t : Term) → has_room_to_start s t ≡ true → IsBusy s → IsBusy (start_goal s allowance low high t)
+start_busy s allowance low high t room b =
+    let h = begun_shoen s allowance low high t in
+    let goal = with_next_variables s.last_variable t in record {
+      counted = start_counted s allowance low high t room b.counted;
+      idle = idle_alike (with_shoen h goal (begun s t)) (start_goal s allowance low high t) (alike_start s allowance low high t) (λ m. open_idle h goal (begun s t) m (λ _. b.idle m));
+    }
+
+keeping : Keeping IsBusy
+keeping = record {
+  fresh = λ name names sessions. record { counted = fresh_counted; idle = λ m. refl };
+  seats = λ s n b. record { counted = b.counted; idle = b.idle };
+  loads = λ s source m is free b. record { counted = b.counted; idle = b.idle };
+  starts = λ s allowance low high t tree may room free b. let d = start_busy s allowance low high t room b in record { counted = d.counted; idle = d.idle };
+  sends = λ s n m h o tree there is free b.
+      let k = alike_sent n m o.control s in record { counted = of_alike AreCounted s (sent_on n m o.control s) k b.counted; idle = idle_alike s (sent_on n m o.control s) k b.idle };
+  moving = λ s n clause g t m tree there task is enabled free b.
+      let own = found_goal n s.goals g there in
+      let few = found_within s.last_shoen n s.goals g there tree.owners in
+      let entered = kept_tree s (with_entry s) (with_entry_keeps s) tree in record {
+        counted = acted_counted g t m (with_entry s) own (ap is_monitor task) b.counted;
+        idle = acted_idle g t m (with_entry s) own few entered b.counted b.idle;
+      };
+  reading = λ s n g h c tree there found is free b.
+      let entered = kept_tree s (with_entry s) (with_entry_keeps s) tree in record {
+        counted = of_settle AreCounted counted_fewer g.shoen (heard g.shoen c (with_entry s)) (of_heard AreCounted counted_fewer g.shoen c (with_entry s) b.counted);
+        idle = read_idle g.shoen c (with_entry s) entered b.idle;
+      };
+}
+
+has_one : (l g c : Bool) → l ≡ true → l && not g && not c ≡ false → g || c ≡ true
+has_one l true c e f = refl
+has_one l false true e f = refl
+has_one true false false e f = absurd (false≢true (sym f))
+has_one false false false e f = absurd (false≢true e)
+
+pub living_have_goals : LivingHaveGoals
+living_have_goals name es n living =
+    let s = reached name es in
+    let b = holds_reached IsBusy keeping name es in
+    has_one (lives n s) (has_goal n s) (has_living_child n s) living (b.idle n)

@@ -1,0 +1,139 @@
+-- Modules of an account stay, and each that is loaded was read; what a goal does makes no entry by itself.
+use Rattle.std.proofs.Common.{◌≡◌, ℕ, Bool, true, false, if◌then◌else◌, List, [], ◌∷◌, ◌++◌, refl, sym, ◌∙◌, subst}
+use Rattle.std.specs.Prelude.{nat_le, filter, length, bytes_eq, Option, Some}
+use Rattle.std.specs.List.{AllByRecursion}
+use Rattle.kl1_model.specs.Limits.{most_names}
+use Rattle.kl1_model.specs.declared.message.Message.{Message}
+use Rattle.kl1_model.specs.declared.message.Message.TheVariants.{Stop, Start, Abort, Allow}
+use Rattle.kl1_model.specs.Term.{Term, atom, count_of}
+use Rattle.kl1_model.specs.Module.{Module, is_of}
+use Rattle.kl1_model.specs.Match.{Call, module_of, clauses_in, clauses_of}
+use Rattle.kl1_model.specs.Unify.{solve}
+use Rattle.kl1_model.specs.Control.{Control, awaits_message, tells, tells_other, ends, breaks_off}
+use Rattle.kl1_model.specs.State.{Goal, State, shoen_at, with_name, without_goal}
+use Rattle.kl1_model.specs.Tree.{path, charge}
+use Rattle.kl1_model.specs.Event.{with_entry}
+use Rattle.kl1_model.specs.Report.{report, report_each, exception, exhaustion, illegal_input, exhausted_report, terminated_report, aborted_report}
+use Rattle.kl1_model.specs.Ending.{ended_at, ending_of, without_monitor, terminate, terminate_each, reached_of, ended_below, settle, settle_charged}
+use Rattle.kl1_model.specs.Opening.{start_goal, has_room_for_child, child_shoen, open_child}
+use Rattle.kl1_model.specs.Reduction.{Move, commits, raises, unifies, names, opens, goes, moves, reads, has_room_for, committed, unified, equation, or_exhaustion, moved, obeyed, with_control, heard, acted}
+use Rattle.kl1_model.specs.Sending.{sent_on}
+use Rattle.kl1_model.specs.WaitsLaws.{are_in_order}
+use Rattle.kl1_model.proofs.OpenSections.{candidates_are_open}
+use Rattle.kl1_laws.specs.Reached.{reached}
+use Rattle.kl1_laws.specs.SectionLaws.{CandidatesOfCallsAreOpen}
+use Rattle.kl1_laws.proofs.SectionOrder.{sections_are_in_order}
+use Rattle.kl1_laws.proofs.Reaching.{Keeping, holds_reached}
+use Rattle.kl1_laws.proofs.Alike.{Alike, alike_report, alike_report_each, alike_closing, alike_stopped, alike_resumed, alike_unified, alike_open, alike_start, alike_sent}
+
+-- an effect leaves the modules, charged reductions, and how many entries there are
+pub record Has (s t : State) : Type 0 where
+  pub modules : t.modules ≡ s.modules
+  pub entries : t.entries ≡ s.entries
+  pub work : t.work ≡ s.work
+
+has_same : (s : State) → Has s s
+has_same s = record { modules = refl; entries = refl; work = refl }
+
+has_both : (s t u : State) → Has s t → Has t u → Has s u
+has_both s t u p q = record { modules = q.modules ∙ p.modules; entries = q.entries ∙ p.entries; work = q.work ∙ p.work }
+
+has_alike : (s t : State) → Alike s t → Has s t
+has_alike s t k = record { modules = k.modules; entries = k.entries; work = k.work }
+
+terminate_has : (k : ℕ) (s : State) → Has s (terminate k s)
+terminate_has k s =
+    let a = alike_closing k terminated_report (without_monitor k (ended_at k s)) in record { modules = a.modules; entries = a.entries; work = a.work }
+
+terminate_each_has : (ks : List ℕ) (s : State) → Has s (terminate_each ks s)
+terminate_each_has [] s = has_same s
+terminate_each_has (k ∷ ks) s = has_both s (terminate k s) (terminate_each ks (terminate k s)) (terminate_has k s) (terminate_each_has ks (terminate k s))
+
+obeyed_has : (k : ℕ) (m : Message) (s : State) → Has s (obeyed k m s)
+obeyed_has k Stop s = has_alike s (obeyed k Stop s) (alike_stopped (shoen_at k s.shoens) k s)
+obeyed_has k Start s = has_alike s (obeyed k Start s) (alike_resumed (shoen_at k s.shoens) k s)
+obeyed_has k Abort s = let a = alike_closing k aborted_report (ended_below k s) in record { modules = a.modules; entries = a.entries; work = a.work }
+obeyed_has k (Allow extra) s = record { modules = refl; entries = refl; work = refl }
+
+heard_has : (k : ℕ) (c : Control) (s : State) → Has s (heard k c s)
+heard_has k (awaits_message v) s = has_same s
+heard_has k (tells m rest) s = let a = obeyed_has k m (with_control k rest s) in record { modules = a.modules; entries = a.entries; work = a.work }
+heard_has k (tells_other m rest) s = let a = alike_report k (exception illegal_input m) (with_control k rest s) in record { modules = a.modules; entries = a.entries; work = a.work }
+heard_has k ends s = record { modules = refl; entries = refl; work = refl }
+heard_has k (breaks_off t) s = let a = alike_report k (exception illegal_input t) (without_monitor k s) in record { modules = a.modules; entries = a.entries; work = a.work }
+
+or_has : (c : Bool) (k : ℕ) (goal : Term) (t s : State) → Has s t → Has s (or_exhaustion c k goal t s)
+or_has true k goal t s e = e
+or_has false k goal t s e = has_alike s (report k (exception exhaustion goal) s) (alike_report k (exception exhaustion goal) s)
+
+moved_has : (g : Goal) (t : Term) (m : Move) (s : State) → Has s (moved g t m s)
+moved_has g t (commits k) s = or_has (has_room_for s k.clause) g.shoen t (committed g k s) s (record { modules = refl; entries = refl; work = refl })
+moved_has g t (raises kind) s = has_alike s (moved g t (raises kind) s) (alike_report g.shoen (exception kind t) s)
+moved_has g t (unifies a b) s = has_alike s (moved g t (unifies a b) s) (alike_unified g.shoen t (solve (equation a b)) s)
+moved_has g t (names text a) s =
+    let u = record s { names = with_name s.names text } in
+    let b = alike_unified g.shoen t (solve (equation a (atom text))) u in
+    or_has (nat_le (length (with_name s.names text)) most_names) g.shoen t (unified g.shoen t (solve (equation a (atom text))) u) s (record { modules = b.modules; entries = b.entries; work = b.work })
+moved_has g t (opens o) s =
+    let b = alike_open (child_shoen s g.shoen o) o.goal s in
+    or_has (has_room_for_child s g.shoen) g.shoen t (open_child s g.shoen o) s (record { modules = b.modules; entries = b.entries; work = b.work })
+moved_has g t goes s = has_same s
+
+settle_charged_has : (k : ℕ) (s : State) → Has s (settle_charged k s)
+settle_charged_has k s =
+    let ks = path s.shoens k in
+    let ending = ending_of ks s in
+    let told = reached_of s ending ks in
+    let t = report_each told exhausted_report s in
+    has_both s t (terminate_each ending t) (has_alike s t (alike_report_each told exhausted_report s)) (terminate_each_has ending t)
+
+-- what a goal does after it is removed and its shoen charged
+pub move_has : (g : Goal) (t : Term) (m : Move) (s : State) → Has (charge g.shoen (without_goal g.number s)) (acted g (moves t m) s)
+move_has g t m s =
+    let worked = charge g.shoen (without_goal g.number s) in
+    let done = moved g t m worked in
+    has_both worked done (settle_charged g.shoen done) (moved_has g t m worked) (settle_charged_has g.shoen done)
+
+-- what a monitor reads
+pub reading_has : (g : Goal) (c : Control) (s : State) → Has s (acted g (reads c) s)
+reading_has g c s =
+    let done = heard g.shoen c s in
+    has_both s done (settle g.shoen done) (heard_has g.shoen c s) (terminate_each_has (ending_of (path done.shoens g.shoen) done) done)
+
+-- the clauses of each predicate of a module stand in order
+abbrev IsOrdered : Module → Type 0
+IsOrdered m = (name : List ℕ) (count : ℕ) → are_in_order (filter (is_of name count) m.clauses) ≡ true
+
+abbrev AreOrdered : State → Type 0
+AreOrdered s = AllByRecursion IsOrdered s.modules
+
+one_more : (ms : List Module) (m : Module) → AllByRecursion IsOrdered ms → IsOrdered m → AllByRecursion IsOrdered (ms ++ m ∷ [])
+one_more [] m a b = (b, tt)
+one_more (k ∷ ms) m a b = (a.0, one_more ms m a.1 b)
+
+by_modules : (s t : State) → t.modules ≡ s.modules → AreOrdered s → AreOrdered t
+by_modules s t e a = subst (λ ms. AllByRecursion IsOrdered ms) (sym e) a
+
+keeping : Keeping AreOrdered
+keeping = record {
+  fresh = λ name names sessions. tt;
+  seats = λ s n a. a;
+  loads = λ s source m e free a. one_more s.modules m a (λ name count. sections_are_in_order source name count m e);
+  starts = λ s allowance low high t tree may room free a. by_modules s (start_goal s allowance low high t) (alike_start s allowance low high t).modules a;
+  sends = λ s n m h o tree there e free a. by_modules s (sent_on n m o.control s) (alike_sent n m o.control s).modules a;
+  moving = λ s n clause g t m tree there task e enabled free a. by_modules s (acted g (moves t m) (with_entry s)) (move_has g t m (with_entry s)).modules a;
+  reading = λ s n g h c tree there found e free a. by_modules s (acted g (reads c) (with_entry s)) (reading_has g c (with_entry s)).modules a;
+}
+
+found_case : (c : Bool) (m : Module) (o : Option Module) (call : Call) → IsOrdered m → are_in_order (clauses_in o call) ≡ true → are_in_order (clauses_in (if c then Some m else o) call) ≡ true
+found_case true m o call a e = a call.name (count_of call.arguments)
+found_case false m o call a e = e
+
+found_ordered : (ms : List Module) (call : Call) → AllByRecursion IsOrdered ms → are_in_order (clauses_of ms call) ≡ true
+found_ordered [] call a = refl
+found_ordered (m ∷ ms) call a = found_case (bytes_eq m.name call.module_name) m (module_of ms call.module_name) call a.0 (found_ordered ms call a.1)
+
+pub candidates_of_calls_are_open : CandidatesOfCallsAreOpen
+candidates_of_calls_are_open name es call =
+    let ms = (reached name es).modules in
+    candidates_are_open 1 (clauses_of ms call) call.arguments (found_ordered ms call (holds_reached AreOrdered keeping name es))

@@ -1,0 +1,331 @@
+-- The console's control tails are unbound, since no goal, report or other shoen has them.
+use Rattle.std.proofs.Common.{◌≡◌, ◌≤◌, ◌<◌, ℕ, suc, ◌+◌, ◌-◌, ◌==◌, not, ◌&&◌, Bool, true, false, if◌then◌else◌, List, [], ◌∷◌, ◌++◌, refl, sym, ap, ◌∙◌, subst, arith}
+use Rattle.std.specs.Prelude.{nat_le, map, length, Option, Some, None, option_map}
+use Rattle.std.specs.List.{AllByRecursion}
+use Rattle.std.proofs.lemmas.Bool.{and_parts, eqb-true, eqb-false, eq-eqb, ne_eqb, leb-false}
+use Rattle.std.proofs.Math.Nat.{le-max_left, le-max_right}
+use Rattle.kl1_model.specs.Limits.{most_names}
+use Rattle.kl1_model.specs.declared.message.Message.{Message}
+use Rattle.kl1_model.specs.Term.{Term, variable, atom, terms_of, replace, Replacement, substituted}
+use Rattle.kl1_model.specs.Meaning.{nil, cell, highest, highest_in, is_numbered, is_writable}
+use Rattle.kl1_model.specs.Goal.{is_goal}
+use Rattle.kl1_model.specs.Unify.{solve}
+use Rattle.kl1_model.specs.Module.{goals_of}
+use Rattle.kl1_model.specs.Match.{Candidate, call_of, term_at}
+use Rattle.kl1_model.specs.Instance.{head_variables, fresh_variables, body_variable, body_instance, body_priorities}
+use Rattle.kl1_model.specs.Control.{message_term, Control, control_of}
+use Rattle.kl1_model.specs.State.{Task, monitor, reduces, Goal, Origin, Shoen, State, goal_at, shoen_at, replace_in_task, replace_in_goal, replace_in_origin, replace_in_shoen, without_goal, with_name}
+use Rattle.kl1_model.specs.Tree.{charge}
+use Rattle.kl1_model.specs.Event.{is_number, is_range, most_line_bytes, with_entry}
+use Rattle.kl1_model.specs.Report.{report, exception, failure, exhaustion, started_report, exhausted_report}
+use Rattle.kl1_model.specs.Opening.{start_line, may_start, opening_goals, with_shoen, open_shoen, with_next_variables, start_goal, has_room_for_child, child_shoen, open_child}
+use Rattle.kl1_model.specs.Reduction.{Move, commits, raises, unifies, names, opens, goes, moves, reads, priority_of, goals_from, has_room_for, committed, unified, equation, or_exhaustion, moved, heard, acted, term_move}
+use Rattle.kl1_model.specs.Sending.{origin_with, with_control_tail, sent_on}
+use Rattle.kl1_model.specs.TreeLaws.{IsTree}
+use Rattle.kl1_model.proofs.TreeKeeps.{kept_tree}
+use Rattle.kl1_model.proofs.TreeGrows.{with_entry_keeps}
+use Rattle.kl1_laws.specs.Reached.{reached}
+use Rattle.kl1_laws.specs.ControlLaws.{is_unbound, messages_then, ControlTailsAreUnbound, ControlStreamsAreMessages}
+use Rattle.kl1_laws.proofs.Allowances.{found_number}
+use Rattle.kl1_laws.proofs.Reaching.{Keeping, holds_reached}
+use Rattle.kl1_laws.proofs.Alike.{begun, begun_shoen}
+use Rattle.kl1_laws.proofs.Holds.{Holds, holds_weaker, holds_unchanged, holds_substituted, holds_highest, holds_both, holds_positive, holds_solved, Places, InMove, in_move, holds_term_at}
+use Rattle.kl1_laws.proofs.Each.{all_weaker, all_append, found_shoen, the_goal, Only, only}
+use Rattle.kl1_laws.proofs.Owners.{Free, IsFree, TaskFree, Console, ControlOf, Owned, Of, stream_replaced, stream_longer, term_raised, raised, own_if, own_report, own_all, fewer, own_settle, own_settle_charged, own_heard}
+
+-- ---- moves
+
+own_unified : (c : ℕ → ℕ) (n : ℕ) (goal a b : Term) (o : Option (List Replacement)) (s : State) → solve (equation a b) ≡ o → IsFree c s.last_variable goal → IsFree c s.last_variable a → IsFree c s.last_variable b → Of c s → Of c (unified n goal o s)
+own_unified c n goal a b None s e f g h own = own_report c n (exception failure goal) s (tt, (f, tt)) own
+own_unified c n goal a b (Some rs) s e f g h own = own_all c rs s (holds_solved (Free c s.last_variable) a b rs g h e) own
+
+own_or : (b : Bool) (c : ℕ → ℕ) (n : ℕ) (goal : Term) (t s : State) → IsFree c s.last_variable goal → Of c t → Of c s → Of c (or_exhaustion b n goal t s)
+own_or true c n goal t s f a b = a
+own_or false c n goal t s f a b = own_report c n (exception exhaustion goal) s (tt, (f, tt)) b
+
+-- a shoen that opens, with its goal
+own_open : (c : ℕ → ℕ) (h : Shoen) (goal : Term) (s : State) → Owned c s.last_variable h → IsFree c s.last_variable goal → Of c s → Of c (open_shoen h goal s)
+own_open c h goal s own f a =
+    let t = with_shoen h goal s in
+    let b : Of c t = record {
+      goals = all_append (λ g. TaskFree c s.last_variable g.task) s.goals (opening_goals s.last_goal h goal) a.goals (tt, (f, tt));
+      shoens = all_append (Owned c s.last_variable) s.shoens (h ∷ []) a.shoens (own, tt);
+      above = a.above;
+    } in
+    let u = report h.number started_report t in
+    let d = own_report c h.number started_report t tt b in
+    own_if (h.allowance == 0) c (report h.number exhausted_report u) u (own_report c h.number exhausted_report u tt d) d
+
+own_from : (c : ℕ → ℕ) (top last shoen : ℕ) (ps : List ℕ) (ts : List Term) → AllByRecursion (IsFree c top) ts → AllByRecursion (λ (g : Goal). TaskFree c top g.task) (goals_from last shoen ps ts)
+own_from c top last shoen [] [] a = tt
+own_from c top last shoen [] (t ∷ ts) a = tt
+own_from c top last shoen (p ∷ ps) [] a = tt
+own_from c top last shoen (p ∷ ps) (t ∷ ts) a = (a.0, own_from c top (suc last) shoen ps ts a.1)
+
+body_holds : (R P : ℕ → Type 0) (f : ℕ → Term) → ((v : ℕ) → R v → Holds P (f v)) → (ts : List Term) → AllByRecursion (Holds R) ts → AllByRecursion (Holds P) (map (substituted f) ts)
+body_holds R P f k [] a = tt
+body_holds R P f k (t ∷ ts) a = (holds_substituted R P f k t a.0, body_holds R P f k ts a.1)
+
+each_below : (top : ℕ) (ts : List Term) → highest_in (terms_of ts) ≤ top → AllByRecursion (Holds (λ v. v ≤ top)) ts
+each_below top [] e = tt
+each_below top (t ∷ ts) e =
+    let a = le-max_left (highest t) (highest_in (terms_of ts)) in
+    let b = le-max_right (highest t) (highest_in (terms_of ts)) in
+    (holds_highest top t (omega (arith, a, e)), each_below top ts (omega (arith, b, e)))
+
+body_case : (b : Bool) (c : ℕ → ℕ) (last top head v : ℕ) (ps : List Replacement) → nat_le v head ≡ b → v ≤ top → ((w : ℕ) → last < w → c w ≡ 0) → Places (Free c last) ps →
+    IsFree c (last + (top - head)) (if b then term_at ps v nil else variable (last + (v - head)))
+body_case true c last top head v ps e low above places = term_raised c last (last + (top - head)) (term_at ps v nil) (omega arith) (holds_term_at (Free c last) ps v places)
+body_case false c last top head v ps e low above places =
+    let less = leb-false v head e in
+    (above (last + (v - head)) (omega (arith, less)), omega (arith, less, low))
+
+own_commit : (c : ℕ → ℕ) (g : Goal) (k : Candidate) (s : State) → Places (Free c s.last_variable) k.places → Of c s → Of c (committed g k s)
+own_commit c g k s places a =
+    let last = s.last_variable in
+    let top = highest_in (terms_of (goals_of k.clause.body)) in
+    let next = last + fresh_variables k.clause in
+    let up = raised c last next s.goals s.shoens (omega arith) a in
+    let body = body_holds (λ v. v ≤ top) (Free c next) (body_variable k.clause k.places last) (λ v low. body_case (nat_le v (head_variables k.clause)) c last top (head_variables k.clause) v k.places refl low a.above places) (goals_of k.clause.body) (each_below top (goals_of k.clause.body) (omega arith)) in
+    let ps = map (priority_of (shoen_at g.shoen s.shoens) g.priority) (body_priorities k.clause) in
+    record {
+      goals = all_append (λ g. TaskFree c next g.task) s.goals (goals_from s.last_goal g.shoen ps (body_instance k.clause k.places last)) up.goals (own_from c next s.last_goal g.shoen ps (body_instance k.clause k.places last) body);
+      shoens = up.shoens;
+      above = up.above;
+    }
+
+own_moved : (c : ℕ → ℕ) (g : Goal) (t : Term) (m : Move) (s : State) → IsFree c s.last_variable t → InMove (Free c s.last_variable) m → Of c s → Of c (moved g t m s)
+own_moved c g t (commits k) s f h a = own_or (has_room_for s k.clause) c g.shoen t (committed g k s) s f (own_commit c g k s h a) a
+own_moved c g t (raises kind) s f h a = own_report c g.shoen (exception kind t) s (tt, (f, tt)) a
+own_moved c g t (unifies x y) s f h a = own_unified c g.shoen t x y (solve (equation x y)) s refl f h.0 h.1 a
+own_moved c g t (names text x) s f h a =
+    let u = record s { names = with_name s.names text } in
+    let b : Of c u = record { goals = a.goals; shoens = a.shoens; above = a.above } in
+    own_or (nat_le (length (with_name s.names text)) most_names) c g.shoen t (unified g.shoen t (solve (equation x (atom text))) u) s f (own_unified c g.shoen t x (atom text) (solve (equation x (atom text))) u refl f h tt b) a
+own_moved c g t (opens o) s f h a =
+    own_or (has_room_for_child s g.shoen) c g.shoen t (open_child s g.shoen o) s f (own_open c (child_shoen s g.shoen o) o.goal s (record { tail = h.2; control = h.1 }) h.0 a) a
+own_moved c g t goes s f h a = a
+
+own_acted : (c : ℕ → ℕ) (g : Goal) (t : Term) (m : Move) (s : State) → IsFree c s.last_variable t → InMove (Free c s.last_variable) m → Of c s → Of c (acted g (moves t m) s)
+own_acted c g t m s f h a =
+    let worked = charge g.shoen (without_goal g.number s) in
+    let b = fewer c (λ k. not (k.number == g.number)) s a in
+    let d : Of c worked = record { goals = b.goals; shoens = b.shoens; above = b.above } in
+    own_settle_charged c g.shoen (moved g t m worked) (own_moved c g t m worked f h d)
+
+-- ---- messages from the console
+
+-- a control tail more: this variable, of this shoen
+abbrev with_tail : (ℕ → ℕ) → ℕ → ℕ → ℕ → ℕ
+with_tail c v n w = if w == v then n else c w
+
+other_tail : (c : ℕ → ℕ) (v n w : ℕ) → (w ≡ v → ⊥) → with_tail c v n w ≡ c w
+other_tail c v n w f = ap (λ b. if b then n else c w) (ne_eqb w v f)
+
+own_tail : (c : ℕ → ℕ) (v n : ℕ) → with_tail c v n v ≡ n
+own_tail c v n = ap (λ b. if b then n else c v) (eq-eqb v v refl)
+
+free_beside : (c : ℕ → ℕ) (last v n top w : ℕ) → last < v → last ≤ top → Free c last w → Free (with_tail c v n) top w
+free_beside c last v n top w e l f = (other_tail c v n w (λ same. let x = f.1 in omega (arith, x, same, e)) ∙ f.0, let x = f.1 in omega (arith, x, l))
+
+term_beside : (c : ℕ → ℕ) (last v n top : ℕ) (t : Term) → last < v → last ≤ top → IsFree c last t → IsFree (with_tail c v n) top t
+term_beside c last v n top t e l a = holds_weaker (Free c last) (Free (with_tail c v n) top) (λ w f. free_beside c last v n top w e l f) t a
+
+task_beside : (c : ℕ → ℕ) (last v n top : ℕ) (task : Task) → last < v → last ≤ top → TaskFree c last task → TaskFree (with_tail c v n) top task
+task_beside c last v n top monitor e l a = tt
+task_beside c last v n top (reduces t) e l a = term_beside c last v n top t e l a
+
+control_beside : (c : ℕ → ℕ) (last v n top k : ℕ) (t : Term) (o : Option Origin) → last < v → last ≤ top → ControlOf c last k t o → ControlOf (with_tail c v n) top k t o
+control_beside c last v n top k t None e l a = term_beside c last v n top t e l a
+control_beside c last v n top k t (Some o) e l a = record {
+  tail = a.tail;
+  messages = a.messages;
+  is = a.is;
+  stream = a.stream;
+  owner = other_tail c v n a.tail (λ same. let x = a.low in omega (arith, x, same, e)) ∙ a.owner;
+  some = a.some;
+  low = let x = a.low in omega (arith, x, l);
+}
+
+owned_beside : (c : ℕ → ℕ) (last v n top : ℕ) (h : Shoen) → last < v → last ≤ top → Owned c last h → Owned (with_tail c v n) top h
+owned_beside c last v n top h e l a = record { tail = term_beside c last v n top h.tail e l a.tail; control = control_beside c last v n top h.number h.control h.origin e l a.control }
+
+above_beside : (c : ℕ → ℕ) (last v n top : ℕ) → last ≤ top → v ≤ top → ((w : ℕ) → last < w → c w ≡ 0) → (w : ℕ) → top < w → with_tail c v n w ≡ 0
+above_beside c last v n top l e f w g = other_tail c v n w (λ same. omega (arith, same, e, g)) ∙ f w (omega (arith, l, g))
+
+task_unchanged : (c : ℕ → ℕ) (last v : ℕ) (u : Term) (task : Task) → (c v ≡ 0 → ⊥) → TaskFree c last task → replace_in_task v u task ≡ task
+task_unchanged c last v u monitor f a = refl
+task_unchanged c last v u (reduces t) f a = ap reduces (holds_unchanged (Free c last) v u (λ x. f x.0) t a)
+
+goals_sent : (c : ℕ → ℕ) (last v next n : ℕ) (u : Term) (gs : List Goal) → (c v ≡ 0 → ⊥) → last < next → AllByRecursion (λ g. TaskFree c last g.task) gs → AllByRecursion (λ g. TaskFree (with_tail c next n) next g.task) (map (replace_in_goal v u) gs)
+goals_sent c last v next n u [] f e a = tt
+goals_sent c last v next n u (g ∷ gs) f e a =
+    (subst (TaskFree (with_tail c next n) next) (sym (task_unchanged c last v u g.task f a.0)) (task_beside c last next n next g.task e (omega (arith, e)) a.0), goals_sent c last v next n u gs f e a.1)
+
+-- a control stream of another shoen
+control_aside : (c : ℕ → ℕ) (last v next n k : ℕ) (u t : Term) (o : Option Origin) → (c v ≡ 0 → ⊥) → (c v ≡ k → ⊥) → last < next → ControlOf c last k t o → ControlOf (with_tail c next n) next k (replace v u t) (option_map (replace_in_origin v u) o)
+control_aside c last v next n k u t None f g e a =
+    subst (IsFree (with_tail c next n) next) (sym (holds_unchanged (Free c last) v u (λ x. f x.0) t a)) (term_beside c last next n next t e (omega (arith, e)) a)
+control_aside c last v next n k u t (Some o) f g e a =
+    let stays : replace v u (variable a.tail) ≡ variable a.tail = ap (λ b. if b then u else variable a.tail) (ne_eqb a.tail v (λ same. g (ap c (sym same) ∙ a.owner))) in record {
+      tail = a.tail;
+      messages = a.messages;
+      is = ap (replace v u) a.is ∙ stays;
+      stream = ap (replace v u) a.stream ∙ stream_replaced v u (variable a.tail) a.messages ∙ ap (messages_then a.messages) stays;
+      owner = other_tail c next n a.tail (λ same. let x = a.low in omega (arith, x, same, e)) ∙ a.owner;
+      some = a.some;
+      low = let x = a.low in omega (arith, x, e);
+    }
+
+-- the control stream of the shoen to which a message is sent
+control_sent : (c : ℕ → ℕ) (last v next n : ℕ) (m : Message) (t : Term) (o : Origin) → o.control ≡ variable v → last < next → (k : Console c last n t o) →
+    Console (with_tail c next n) next n (replace v (cell (message_term m) (variable next)) t) (record (replace_in_origin v (cell (message_term m) (variable next)) o) { control = variable next })
+control_sent c last v next n m t o is e k =
+    let u = cell (message_term m) (variable next) in
+    let same : variable k.tail ≡ variable v = sym k.is ∙ is in
+    let put : replace v u (variable k.tail) ≡ u = ap (replace v u) same ∙ ap (λ b. if b then u else variable v) (eq-eqb v v refl) in record {
+      tail = next;
+      messages = k.messages ++ m ∷ [];
+      is = refl;
+      stream = ap (replace v u) k.stream ∙ stream_replaced v u (variable k.tail) k.messages ∙ ap (messages_then k.messages) put ∙ stream_longer k.messages m (variable next);
+      owner = own_tail c next n;
+      some = k.some;
+      low = omega arith;
+    }
+
+shoen_sent : (b : Bool) (c : ℕ → ℕ) (last v next n : ℕ) (m : Message) (k h : Shoen) (o : Origin) → k.number == n ≡ b → (k.number ≡ n → k ≡ h) → h.number ≡ n → h.origin ≡ Some o → o.control ≡ variable v → c v ≡ n → 0 < n → last < next → Owned c last k →
+    Owned (with_tail c next n) next (if b then with_control_tail (variable next) (replace_in_shoen v (cell (message_term m) (variable next)) k) else replace_in_shoen v (cell (message_term m) (variable next)) k)
+shoen_sent true c last v next n m k h o e only at there is owner some l a =
+    let u = cell (message_term m) (variable next) in
+    let number = eqb-true k.number n e in
+    let origin : k.origin ≡ Some o = ap (λ (x : Shoen). x.origin) (only number) ∙ there in
+    let own : Console c last n k.control o = subst (λ (j : ℕ). Console c last j k.control o) number (subst (ControlOf c last k.number k.control) origin a.control) in
+    record {
+      tail = subst (IsFree (with_tail c next n) next) (sym (holds_unchanged (Free c last) v u (λ x. let y = x.0 in omega (arith, y, owner, some)) k.tail a.tail)) (term_beside c last next n next k.tail l (omega (arith, l)) a.tail);
+      control = subst (λ (x : Option Origin). ControlOf (with_tail c next n) next k.number (replace v u k.control) (option_map (origin_with (variable next)) (option_map (replace_in_origin v u) x))) (sym origin)
+          (subst (λ (j : ℕ). Console (with_tail c next n) next j (replace v u k.control) (origin_with (variable next) (replace_in_origin v u o))) (sym number) (control_sent c last v next n m k.control o is l own));
+    }
+shoen_sent false c last v next n m k h o e only at there is owner some l a =
+    let u = cell (message_term m) (variable next) in
+    record {
+      tail = subst (IsFree (with_tail c next n) next) (sym (holds_unchanged (Free c last) v u (λ x. let y = x.0 in omega (arith, y, owner, some)) k.tail a.tail)) (term_beside c last next n next k.tail l (omega (arith, l)) a.tail);
+      control = control_aside c last v next n k.number u k.control k.origin (λ x. omega (arith, x, owner, some)) (λ x. eqb-false k.number n e (sym x ∙ owner)) l a.control;
+    }
+
+shoens_sent : (c : ℕ → ℕ) (last v next n : ℕ) (m : Message) (h : Shoen) (o : Origin) (hs : List Shoen) → Only n h hs → h.number ≡ n → h.origin ≡ Some o → o.control ≡ variable v → c v ≡ n → 0 < n → last < next → AllByRecursion (Owned c last) hs →
+    AllByRecursion (Owned (with_tail c next n) next) (map (λ (k : Shoen). if k.number == n then with_control_tail (variable next) k else k) (map (replace_in_shoen v (cell (message_term m) (variable next))) hs))
+shoens_sent c last v next n m h o [] u at there is owner some l a = tt
+shoens_sent c last v next n m h o (k ∷ hs) u at there is owner some l a =
+    (shoen_sent (k.number == n) c last v next n m k h o refl u.0 at there is owner some l a.0, shoens_sent c last v next n m h o hs u.1 at there is owner some l a.1)
+
+-- an account in which control tails are unbound
+abbrev Tails : State → Type 0
+Tails s = (c : ℕ → ℕ) × Of c s
+
+the_console : (c : ℕ → ℕ) (last n : ℕ) (hs : List Shoen) (h : Shoen) (o : Origin) → shoen_at n hs ≡ Some h → h.origin ≡ Some o → AllByRecursion (Owned c last) hs → Console c last h.number h.control o
+the_console c last n hs h o there e a = subst (ControlOf c last h.number h.control) e (found_shoen (Owned c last) n hs h there a).control
+
+own_sent : (s : State) (n : ℕ) (m : Message) (h : Shoen) (o : Origin) → IsTree s → shoen_at n s.shoens ≡ Some h → h.origin ≡ Some o → Tails s → Tails (sent_on n m o.control s)
+own_sent s n m h o tree there e p =
+    let c = p.0 in
+    let a = p.1 in
+    let last = s.last_variable in
+    let next = suc last in
+    let k = the_console c last n s.shoens h o there e a.shoens in
+    let at = found_number n s.shoens h there in
+    let owner : c k.tail ≡ n = k.owner ∙ at in
+    let some : 0 < n = let x = k.some in omega (arith, x, at) in
+    subst (λ t. Tails (sent_on n m t s)) (sym k.is) (
+      with_tail c next n,
+      record {
+        goals = goals_sent c last k.tail next n (cell (message_term m) (variable next)) s.goals (λ x. omega (arith, x, owner, some)) (omega arith) a.goals;
+        shoens = shoens_sent c last k.tail next n m h o s.shoens (only 0 n h s.shoens tree.numbered there) at e k.is owner some (omega arith) a.shoens;
+        above = above_beside c last next n next (omega arith) (omega arith) a.above;
+      },
+    )
+
+-- ---- starts
+
+start_free : (c : ℕ → ℕ) (last n : ℕ) (t : Term) → is_numbered t ≡ true → ((w : ℕ) → last < w → c w ≡ 0) → IsFree (with_tail c (suc (last + highest t)) n) (suc (suc (last + highest t))) (with_next_variables last t)
+start_free c last n t numbered above =
+    let top = highest t in
+    holds_substituted (λ v. (0 < v) × (v ≤ top)) (Free (with_tail c (suc (last + top)) n) (suc (suc (last + top)))) (λ v. variable (last + v))
+    (λ v r. let x = r.0 in let y = r.1 in (other_tail c (suc (last + top)) n (last + v) (λ same. omega (arith, same, y)) ∙ above (last + v) (omega (arith, x)), omega (arith, y))) t
+    (holds_both (λ v. 0 < v) (λ v. v ≤ top) t (holds_positive t numbered) (holds_highest top t (omega arith)))
+
+start_numbered : (allowance low high : ℕ) (t : Term) → may_start allowance low high t ≡ true → is_numbered t ≡ true
+start_numbered allowance low high t may =
+    let a = and_parts (is_number allowance && is_range low high && is_goal t && is_writable t && is_numbered t) (nat_le (length (start_line allowance low high t)) most_line_bytes) may in
+    (and_parts (is_number allowance && is_range low high && is_goal t && is_writable t) (is_numbered t) a.0).1
+
+own_start : (s : State) (allowance low high : ℕ) (t : Term) → may_start allowance low high t ≡ true → Tails s → Tails (start_goal s allowance low high t)
+own_start s allowance low high t may p =
+    let c = p.0 in
+    let a = p.1 in
+    let last = s.last_variable in
+    let count = last + highest t in
+    let top = suc (suc count) in
+    let n = suc s.last_shoen in
+    let d = with_tail c (suc count) n in
+    let goal = with_next_variables last t in
+    let h = begun_shoen s allowance low high t in
+    let less : last < suc count = omega arith in
+    let up : last ≤ top = omega arith in
+    let b : Of d (begun s t) = record {
+      goals = all_weaker (λ g. TaskFree c last g.task) (λ g. TaskFree d top g.task) (λ g f. task_beside c last (suc count) n top g.task less up f) s.goals a.goals;
+      shoens = all_weaker (Owned c last) (Owned d top) (λ k f. owned_beside c last (suc count) n top k less up f) s.shoens a.shoens;
+      above = above_beside c last (suc count) n top up (omega arith) a.above;
+    } in
+    let own : Owned d top h = record {
+      tail = (other_tail c (suc count) n top (λ same. omega (arith, same)) ∙ a.above top (omega arith), omega arith);
+      control = record { tail = suc count; messages = []; is = refl; stream = refl; owner = own_tail c (suc count) n; some = omega arith; low = omega arith };
+    } in
+    (d, own_open d h goal (begun s t) own (start_free c last n t (start_numbered allowance low high t may) a.above) b)
+
+-- ---- events
+
+own_moving : (s : State) (n clause : ℕ) (g : Goal) (t : Term) (m : Move) → goal_at n s.goals ≡ Some g → g.task ≡ reduces t → term_move s.modules t clause (call_of t) ≡ Some m → Tails s → Tails (acted g (moves t m) (with_entry s))
+own_moving s n clause g t m there task e p =
+    let c = p.0 in
+    let a = p.1 in
+    let free : IsFree c s.last_variable t = subst (TaskFree c s.last_variable) task (the_goal (λ g. TaskFree c s.last_variable g.task) n s.goals g there a.goals) in
+    let b : Of c (with_entry s) = record { goals = a.goals; shoens = a.shoens; above = a.above } in
+    (c, own_acted c g t m (with_entry s) free (in_move (Free c s.last_variable) s.modules t clause m free e) b)
+
+own_reading : (s : State) (g : Goal) (h : Shoen) (x : Control) → IsTree s → shoen_at g.shoen s.shoens ≡ Some h → control_of h.control ≡ x → Tails s → Tails (acted g (reads x) (with_entry s))
+own_reading s g h x tree there e p =
+    let c = p.0 in
+    let a = p.1 in
+    let t = with_entry s in
+    let b : Of c t = record { goals = a.goals; shoens = a.shoens; above = a.above } in
+    let k = kept_tree s t (with_entry_keeps s) tree in
+    (c, own_settle c g.shoen (heard g.shoen x t) (subst (λ y. Of c (heard g.shoen y t)) e (own_heard c g.shoen h t k there b)))
+
+entered : (s : State) → Tails s → Tails (with_entry s)
+entered s p = let a = p.1 in (p.0, record { goals = a.goals; shoens = a.shoens; above = a.above })
+
+keeping : Keeping Tails
+keeping = record {
+  fresh = λ name names sessions. (λ v. 0, record { goals = tt; shoens = tt; above = λ v e. refl });
+  seats = λ s n p. let a = p.1 in (p.0, record { goals = a.goals; shoens = a.shoens; above = a.above });
+  loads = λ s source m is free p. let a = p.1 in (p.0, record { goals = a.goals; shoens = a.shoens; above = a.above });
+  starts = λ s allowance low high t tree may room free p. entered (start_goal s allowance low high t) (own_start s allowance low high t may p);
+  sends = λ s n m h o tree there is free p. entered (sent_on n m o.control s) (own_sent s n m h o tree there is p);
+  moving = λ s n clause g t m tree there task is enabled free p. own_moving s n clause g t m there task is p;
+  reading = λ s n g h c tree there found is free p. own_reading s g h c tree found is p;
+}
+
+pub control_tails_are_unbound : ControlTailsAreUnbound
+control_tails_are_unbound name es n h o there e =
+    let s = reached name es in
+    let p = holds_reached Tails keeping name es in
+    let a = p.1 in
+    ap is_unbound (the_console p.0 s.last_variable n s.shoens h o there e a.shoens).is
+
+pub control_streams_are_messages : ControlStreamsAreMessages
+control_streams_are_messages name es n h o there e =
+    let s = reached name es in
+    let p = holds_reached Tails keeping name es in
+    let a = p.1 in
+    let k = the_console p.0 s.last_variable n s.shoens h o there e a.shoens in
+    (k.messages, k.stream ∙ ap (messages_then k.messages) (sym k.is))
