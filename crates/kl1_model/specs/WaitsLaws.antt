@@ -5,6 +5,7 @@ use Rattle.kl1_model.specs.Term.{Term, Terms, substituted, each_substituted, Rep
 use Rattle.kl1_model.specs.Meaning.{variables_in}
 use Rattle.kl1_model.specs.Module.{Clause, Module, has_only}
 use Rattle.kl1_model.specs.Match.{yes, no, wait, is_no, places_of, verdict, Candidate, candidate_by, candidates_from, Call, call_of}
+use Rattle.kl1_model.specs.Look.{goal_look}
 use Rattle.kl1_model.specs.Control.{Control, awaits_message, tells, tells_other, ends, breaks_off, control_of, awaited_by_control}
 use Rattle.kl1_model.specs.Waits.{LeavesEach, least_clause, awaited_by_clause, awaited_by_clauses, awaited_at_head, awaited_by_substitute, awaited_by_term, term_clause}
 

@@ -1,7 +1,8 @@
 -- Names that take the places of others in what came since a mark.
-use Rattle.std.specs.Prelude.{◌≡◌, ℕ, List, ◌++◌, map, take, drop, Some, slice_get}
+use Rattle.std.specs.Prelude.{◌≡◌, ◌≤◌, ◌<◌, ℕ, List, ◌++◌, length, map, take, drop, get_or, Some, slice_get}
 use Rattle.kl1_store.specs.declared.cell.Cell.{Cell}
 use Rattle.kl1_store.specs.declared.cell.Cell.TheVariants.{Variable, Integer, Atom, Structure}
+use Rattle.kl1_store.specs.declared.node.Node.{Node}
 use Rattle.kl1_store.specs.declared.binding.Binding.{Binding}
 use Rattle.kl1_store.specs.declared.mark.Mark.{Mark}
 use Rattle.kl1_store.specs.Held.{Held, Shape}
@@ -12,18 +13,22 @@ pub record Renames {N : Type 0} (from to : List N) (g : N → N) : Type 0 where
   pub others : (n : N) → ((i : ℕ) → slice_get from i ≡ Some n → ⊥) → g n ≡ n
 
 -- a cell, with another name where it is an atom
-abbrev pub cell_renamed : {N : Type 0} → (N → N) → Cell N → Cell N
+abbrev pub cell_renamed : {N M : Type 0} → (N → M) → Cell N → Cell M
 cell_renamed g (Variable v) = Variable v
 cell_renamed g (Integer i) = Integer i
 cell_renamed g (Atom a) = Atom (g a)
 cell_renamed g (Structure s) = Structure s
 
 -- a structure, with another name, and with other names where its arguments are atoms
-abbrev pub shape_renamed : {N : Type 0} → (N → N) → Shape N → Shape N
+abbrev pub shape_renamed : {N M : Type 0} → (N → M) → Shape N → Shape M
 shape_renamed g s = record { name = g s.name; arguments = map (cell_renamed g) s.arguments }
 
+-- a structure as the store keeps it, with another name
+abbrev pub node_renamed : {N M : Type 0} → (N → M) → Node N → Node M
+node_renamed g n = record { name = g n.name; start = n.start; count = n.count }
+
 -- a binding, with another name where it is to an atom
-abbrev pub binding_renamed : {N : Type 0} → (N → N) → Binding N → Binding N
+abbrev pub binding_renamed : {N M : Type 0} → (N → M) → Binding N → Binding M
 binding_renamed g b = record { variable = b.variable; value = cell_renamed g b.value }
 
 -- what is held, with other names in the structures from one on
@@ -37,3 +42,31 @@ bindings_renamed g n h = record { variables = h.variables; structures = h.struct
 -- what is held, with other names in the structures and the bindings that came since a mark
 abbrev pub renamed_since : {N : Type 0} → (N → N) → Mark → Held N → Held N
 renamed_since g mark h = bindings_renamed g mark.bindings (structures_renamed g mark.structures h)
+
+-- no name
+abbrev pub unnamed : {N : Type 0} → N → Unit {0}
+unnamed n = tt
+
+-- something with other names in it, and without names what it was
+pub record IsBy {N X B : Type 0} (renamed : (N → N) → X → X) (bare : X → B) (from to : List N) (x y : X) : Type 0 where
+  pub by : (g : N → N) → Renames from to g → y ≡ renamed g x
+  pub bare : bare y ≡ bare x
+
+-- a cell with other names
+abbrev pub IsCellRenamed : {N : Type 0} → List N → List N → Cell N → Cell N → Type 0
+IsCellRenamed from to x y = IsBy (λ g. cell_renamed g) (cell_renamed unnamed) from to x y
+
+-- a structure as the store keeps it, with other names
+abbrev pub IsNodeRenamed : {N : Type 0} → List N → List N → Node N → Node N → Type 0
+IsNodeRenamed from to x y = IsBy (λ g. node_renamed g) (node_renamed unnamed) from to x y
+
+-- a binding with other names
+abbrev pub IsBindingRenamed : {N : Type 0} → List N → List N → Binding N → Binding N → Type 0
+IsBindingRenamed from to x y = IsBy (λ g. binding_renamed g) (binding_renamed unnamed) from to x y
+
+-- a list whose elements from one place to another are changed
+pub record AreChanged {X : Type 0} (Changes : X → X → Type 0) (start end : ℕ) (old new : List X) : Type 0 where
+  pub count : length new ≡ length old
+  pub before : (k : ℕ) (d : X) → k < start → get_or new k d ≡ get_or old k d
+  pub since : (k : ℕ) (d : X) → start ≤ k → k < end → k < length old → Changes (get_or old k d) (get_or new k d)
+  pub after : (k : ℕ) (d : X) → end ≤ k → get_or new k d ≡ get_or old k d
