@@ -31,6 +31,10 @@ node_renamed g n = record { name = g n.name; start = n.start; count = n.count }
 abbrev pub binding_renamed : {N M : Type 0} → (N → M) → Binding N → Binding M
 binding_renamed g b = record { variable = b.variable; value = cell_renamed g b.value }
 
+-- what is held, with other names everywhere
+abbrev pub held_renamed : {N M : Type 0} → (N → M) → Held N → Held M
+held_renamed k h = record { variables = h.variables; structures = map (shape_renamed k) h.structures; bindings = map (binding_renamed k) h.bindings }
+
 -- what is held, with other names in the structures from one on
 abbrev pub structures_renamed : {N : Type 0} → (N → N) → ℕ → Held N → Held N
 structures_renamed g n h = record { variables = h.variables; structures = take n h.structures ++ map (shape_renamed g) (drop n h.structures); bindings = h.bindings }
@@ -50,7 +54,7 @@ unnamed n = tt
 -- something with other names in it, and without names what it was
 pub record IsBy {N X B : Type 0} (renamed : (N → N) → X → X) (bare : X → B) (from to : List N) (x y : X) : Type 0 where
   pub by : (g : N → N) → Renames from to g → y ≡ renamed g x
-  pub bare : bare y ≡ bare x
+  pub same : bare y ≡ bare x
 
 -- a cell with other names
 abbrev pub IsCellRenamed : {N : Type 0} → List N → List N → Cell N → Cell N → Type 0

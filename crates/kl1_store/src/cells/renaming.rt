@@ -2,7 +2,7 @@
 
 ghost use Rattle.std.specs.Prelude.{◌≡◌, ◌≤◌, [], length, vec_capacity};
 ghost use Rattle.kl1_store.specs.Slots.{AreSlotted, AreOnce};
-ghost use Rattle.kl1_store.specs.Renames.{Renames, renamed_since, IsCellRenamed, IsNodeRenamed, IsBindingRenamed, AreChanged};
+ghost use Rattle.kl1_store.specs.Renames.{Renames, held_renamed, renamed_since, unnamed, IsCellRenamed, IsNodeRenamed, IsBindingRenamed, AreChanged};
 
 use crate::binding::Binding;
 use crate::cell::Cell;
@@ -83,10 +83,13 @@ fn rename_bindings<N: NameValue>(
     ensures bindings_capacity { vec_capacity bindings.new ≡ vec_capacity bindings.old }
 {
     for place in first..bindings.len() {
-        let variable = bindings[place].variable;
-        let value = renamed_cell(from, to, bindings[place].value);
-        bindings[place] = Binding { variable, value };
-        slots[variable as usize] = value;
+        let binding = bindings[place];
+        let value = renamed_cell(from, to, binding.value);
+        bindings[place] = Binding {
+            variable: binding.variable,
+            value,
+        };
+        slots[binding.variable as usize] = value;
     }
 }
 
@@ -97,6 +100,7 @@ impl<N: NameValue> Cells<N> {
         requires structures { mark.structures ≤ length self.old.held.structures }
         requires bindings { mark.bindings ≤ length self.old.held.bindings }
         ensures held { (g : N → N) → Renames from.now to.now g → self.new.held ≡ renamed_since g mark self.old.held }
+        ensures alike { held_renamed unnamed self.new.held ≡ held_renamed unnamed self.old.held }
         ensures room { self.new.room ≡ self.old.room }
     {
         rename_bindings(
