@@ -1,6 +1,6 @@
 -- What is held, under other names: that it is formed, and levels, don't depend on names.
-use Rattle.std.proofs.Common.{◌≡◌, ℕ, suc, ◌≤◌, ◌==◌, ◌||◌, Bool, true, false, if◌then◌else◌, List, [], ◌∷◌, ◌++◌, length, get_or, map, refl, sym, ap, ap₂, ◌∙◌, ◌⊎◌, inl, inr, arith, subst, zero}
-use Rattle.std.specs.Prelude.{Option, None, Some, slice_get, option_map}
+use Rattle.std.proofs.Common.{◌≡◌, ℕ, suc, ◌==◌, ◌||◌, Bool, true, false, if◌then◌else◌, List, [], ◌∷◌, ◌++◌, length, get_or, map, refl, sym, ap, ap₂, ◌∙◌, ◌⊎◌, inl, inr, arith, subst, zero}
+use Rattle.std.specs.Prelude.{Some, slice_get, option_map}
 use Rattle.std.proofs.lemmas.Bool.{cases_eq}
 use Rattle.std.proofs.lemmas.List.{length-map, map-append}
 use Rattle.std.proofs.lemmas.Option.{slice_get-map}
@@ -10,7 +10,7 @@ use Rattle.kl1_store.specs.declared.cell.Cell.TheVariants.{Variable, Integer, At
 use Rattle.kl1_store.specs.declared.binding.Binding.{Binding}
 use Rattle.kl1_store.specs.declared.levels.Levels.{Levels}
 use Rattle.kl1_store.specs.Held.{Held, Shape, is_bound, found, shape_arguments, arguments_of, IsWithin, AreWithin, IsLower}
-use Rattle.kl1_store.specs.Meaning.{mean, means, shapes_from, replacements_from, term_of}
+use Rattle.kl1_store.specs.Meaning.{mean, means, shapes_from, replacements_from, unread}
 use Rattle.kl1_store.specs.Sound.{Built, Bound, FitsNext, IsFormed}
 use Rattle.kl1_store.specs.Levels.{level_at, LiesAt, IsLevel, AreLevels}
 use Rattle.kl1_store.specs.Renames.{cell_renamed, shape_renamed, binding_renamed, held_renamed, unnamed}
@@ -165,10 +165,6 @@ lower_from k v (Integer i) h = tt
 lower_from k v (Atom a) h = tt
 lower_from k v (Structure s) h = tt
 
--- no name is read
-abbrev silent : {N : Type 0} → N → List ℕ
-silent n = []
-
 fits_to : {N M : Type 0} (k : N → M) (vs : ℕ) (ss : List (Shape N)) (before : List (Binding N)) (b : Binding N) →
     FitsNext vs ss before b → FitsNext vs (map (shape_renamed k) ss) (map (binding_renamed k) before) (binding_renamed k b)
 fits_to k vs ss before b h =
@@ -178,7 +174,7 @@ fits_to k vs ss before b h =
       value_inside = subst W (sym (length-map ss (shape_renamed k))) (within_to k vs (length ss) b.value h.value_inside);
       unbound = is_bound-renamed k b.variable before ∙ h.unbound;
       lower = lower_to k b.variable b.value h.lower;
-      free = λ e. sym (occurs_under silent e k ss before b.variable b.value) ∙ h.free silent;
+      free = λ e. sym (occurs_under unread e k ss before b.variable b.value) ∙ h.free unread;
     }
 
 fits_from : {N M : Type 0} (k : N → M) (vs : ℕ) (ss : List (Shape N)) (before : List (Binding N)) (b : Binding N) →
@@ -190,7 +186,7 @@ fits_from k vs ss before b h =
       value_inside = within_from k vs (length ss) b.value (subst W (length-map ss (shape_renamed k)) h.value_inside);
       unbound = sym (is_bound-renamed k b.variable before) ∙ h.unbound;
       lower = lower_from k b.variable b.value h.lower;
-      free = λ f. occurs_under f silent k ss before b.variable b.value ∙ h.free silent;
+      free = λ f. occurs_under f unread k ss before b.variable b.value ∙ h.free unread;
     }
 
 bound_to : {N M : Type 0} (k : N → M) (vs : ℕ) (ss : List (Shape N)) (before bs : List (Binding N)) → Bound vs ss before bs → Bound vs (map (shape_renamed k) ss) (map (binding_renamed k) before) (map (binding_renamed k) bs)

@@ -92,6 +92,7 @@ changed_bare {X = X} {B = B} renamed bare from to start old new h = bare_lists n
     each : (k : ℕ) (d : X) → (k < start) ⊎ (start ≤ k) → k < length old → bare (get_or new k d) ≡ bare (get_or old k d)
     each k d (inl less) lt = ap bare (h.before k d less)
     each k d (inr ge) lt = (h.since k d ge lt lt).same
+
     bare_lists : (xs ys : List X) → length xs ≡ length ys → ((k : ℕ) (d : X) → k < length xs → bare (get_or xs k d) ≡ bare (get_or ys k d)) → map bare xs ≡ map bare ys
     bare_lists [] [] e same = refl
     bare_lists [] (y ∷ ys) e same = absurd (omega (arith, e))

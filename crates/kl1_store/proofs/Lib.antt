@@ -31,3 +31,4 @@ pub mod Constants
 pub mod Changed
 pub mod Bare
 pub mod Renaming
+pub mod Renamed

@@ -1,6 +1,6 @@
 -- The lists of a store whose names are other ones from a mark on.
 use Rattle.std.proofs.Common.{◌≡◌, ℕ, zero, suc, ◌+◌, ◌-◌, ◌<◌, ◌≤◌, ◌==◌, ◌||◌, if◌then◌else◌, false, List, [], ◌∷◌, ◌++◌, length, get_or, set, take, drop, map, refl, sym, ap, ap₂, ◌∙◌, ◌⊎◌, inl, inr, arith, subst, length-set, length-drop, get_or-set_same, get_or-set_other}
-use Rattle.std.proofs.lemmas.Bool.{cases_eq, eqb-false, or_parts, or_from, ne_eqb}
+use Rattle.std.proofs.lemmas.Bool.{cases_eq, eqb-false, or_parts, or_from}
 use Rattle.std.proofs.lemmas.List.{take-map, drop-map, map-append}
 use Rattle.kl1_store.specs.declared.cell.Cell.{Cell}
 use Rattle.kl1_store.specs.declared.cell.Cell.TheVariants.{Variable}
@@ -9,11 +9,10 @@ use Rattle.kl1_store.specs.declared.node.Node.{Node}
 use Rattle.kl1_store.specs.declared.mark.Mark.{Mark}
 use Rattle.kl1_store.specs.Held.{Held, Shape, is_bound, found}
 use Rattle.kl1_store.specs.Slots.{AreSlotted, AreOnce}
-use Rattle.kl1_store.specs.Sound.{IsFormed}
 use Rattle.kl1_store.specs.Inside.{shapes_in, AreLaid, held_in, IsInside}
 use Rattle.kl1_store.specs.Renames.{Renames, cell_renamed, node_renamed, shape_renamed, binding_renamed, held_renamed, renamed_since, unnamed, IsCellRenamed, IsNodeRenamed, IsBindingRenamed, AreChanged}
 use Rattle.kl1_store.proofs.Meanings.{if_same, if_other}
-use Rattle.kl1_store.proofs.Laid.{laid_up, count_fits, rest_laid, length-shapes_in}
+use Rattle.kl1_store.proofs.Laid.{count_fits, rest_laid}
 use Rattle.kl1_store.proofs.Changed.{mapped_from, mapped_parts, changed_by, changed_bare}
 use Rattle.kl1_store.proofs.Bare.{formed_alike}
 
@@ -209,9 +208,13 @@ pub rebound : {N : Type 0} (slots : List (Cell N)) (bs : List (Binding N)) (i : 
 rebound {N = N} slots bs i b d slotted once lt e =
     let O : ℕ → Type 0 = λ n. AreOnce n [] (set bs i b) in
     let B : ℕ → Type 0 = λ m. suc m ≤ length slots in
-    let inside = subst B (sym e) (once_at (length slots) [] bs i d once lt).0 in
-    (inside, (λ v le. by v (cases_eq b.variable v) (omega (arith, length-set slots b.variable b.value)) inside,
-    subst O (sym (length-set slots b.variable b.value)) (once_alike (length slots) [] [] bs (set bs i b) refl (sym (variables-set bs i b d lt e)) once)))
+    let inside = subst B (sym e) (once_at (length slots) [] bs i d once lt).0 in (
+      inside,
+      (
+        λ v le. by v (cases_eq b.variable v) (omega (arith, length-set slots b.variable b.value)) inside,
+        subst O (sym (length-set slots b.variable b.value)) (once_alike (length slots) [] [] bs (set bs i b) refl (sym (variables-set bs i b d lt e)) once),
+      ),
+    )
   where
     by : (v : ℕ) → (b.variable ≡ v) ⊎ (b.variable ≡ v → ⊥) → suc v ≤ length slots → suc b.variable ≤ length slots → get_or (set slots b.variable b.value) v (Variable v) ≡ found v (set bs i b)
     by v (inl same) le inside =

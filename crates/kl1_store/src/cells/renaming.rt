@@ -103,13 +103,7 @@ impl<N: NameValue> Cells<N> {
         ensures alike { held_renamed unnamed self.new.held ≡ held_renamed unnamed self.old.held }
         ensures room { self.new.room ≡ self.old.room }
     {
-        rename_bindings(
-            &mut self.slots,
-            &mut self.bindings,
-            mark.bindings,
-            from,
-            to,
-        );
+        rename_bindings(&mut self.slots, &mut self.bindings, mark.bindings, from, to);
         let first = mark.structures as usize;
         if first < self.nodes.len() {
             let start = self.nodes[first].start as usize;

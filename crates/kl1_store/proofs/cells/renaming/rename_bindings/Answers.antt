@@ -1,4 +1,4 @@
-use Rattle.std.proofs.Common.{◌≡◌, ◌<◌, length, ap, ◌∙◌, arith, length-set}
+use Rattle.std.proofs.Common.{◌<◌, length, ap, ◌∙◌, arith, length-set}
 use Rattle.kl1_store.specs.declared.binding.Binding.{Binding}
 use Rattle.kl1_store.specs.Renames.{IsBindingRenamed}
 use Rattle.kl1_store.proofs.Changed.{one_changed, read_changed}
@@ -37,7 +37,7 @@ loop-place-preserved g c =
       once = r.1.1;
       slots = length-set l.slots.items b.variable x ∙ l.invariant.slots;
       items = one_changed R c.args.first l.place c.args.bindings.now.items l.bindings.items new l.invariant.items (omega arith) lt
-      (read_changed R l.bindings.items l.place b new lt c.index-binding.ensures (binding_changed c.args.from.now c.args.to.now b x c.renamed_cell-value.ensures));
+          (read_changed R l.bindings.items l.place b new lt c.index-binding.ensures (binding_changed c.args.from.now c.args.to.now b x c.renamed_cell-value.ensures));
       slots_capacity = l.invariant.slots_capacity;
       bindings_capacity = l.invariant.bindings_capacity;
     }

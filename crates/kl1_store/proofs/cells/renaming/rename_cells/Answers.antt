@@ -11,6 +11,6 @@ loop-place-preserved g c =
     let lt : l.place < length l.cells.items = omega (arith, l.invariant.items.count, c.loop-place-test.true, l.cells.ok.0) in
     record {
       items = one_changed R c.args.first l.place c.args.cells.now.items l.cells.items c.renamed_cell.result l.invariant.items (omega arith) lt
-      (read_changed R l.cells.items l.place c.index-cell.result.now c.renamed_cell.result lt c.index-cell.ensures c.renamed_cell.ensures);
+          (read_changed R l.cells.items l.place c.index-cell.result.now c.renamed_cell.result lt c.index-cell.ensures c.renamed_cell.ensures);
       capacity = l.invariant.capacity;
     }

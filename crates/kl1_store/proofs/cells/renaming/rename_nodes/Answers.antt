@@ -14,6 +14,6 @@ loop-place-preserved g c =
     let lt : l.place < length l.nodes.items = omega (arith, l.invariant.items.count, c.loop-place-test.true, l.nodes.ok.0) in
     record {
       items = one_changed R c.args.first l.place c.args.nodes.now.items l.nodes.items new l.invariant.items (omega arith) lt
-      (read_changed R l.nodes.items l.place n new lt c.index-node.ensures (node_changed c.args.from.now c.args.to.now n c.renamed.result c.renamed.ensures));
+          (read_changed R l.nodes.items l.place n new lt c.index-node.ensures (node_changed c.args.from.now c.args.to.now n c.renamed.result c.renamed.ensures));
       capacity = l.invariant.capacity;
     }
