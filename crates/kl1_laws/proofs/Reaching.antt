@@ -2,6 +2,7 @@
 use Rattle.std.proofs.Common.{◌≡◌, ℕ, suc, ◌-◌, ◌==◌, ◌&&◌, Bool, true, false, if◌then◌else◌, List, [], ◌∷◌, refl, subst}
 use Rattle.std.specs.Prelude.{nat_lt, nat_le, length, Option, Some, None, is_some, option_map}
 use Rattle.std.proofs.lemmas.Option.{none-some, same_Some}
+use Rattle.kl1_model.specs.declared.rules.Rules.{Rules}
 use Rattle.kl1_model.specs.Limits.{most_names, most_modules, most_sessions}
 use Rattle.kl1_model.specs.declared.message.Message.{Message}
 use Rattle.kl1_model.specs.Term.{Term}
@@ -14,7 +15,7 @@ use Rattle.kl1_model.specs.Control.{Control, awaits_message, tells, tells_other,
 use Rattle.kl1_model.specs.Opening.{may_start, has_room_to_start, start_goal}
 use Rattle.kl1_model.specs.Reduction.{Move, Action, moves, reads, term_move, read_action, monitor_action, task_action, action_of, acted, reduced_by, reduce_goal}
 use Rattle.kl1_model.specs.Sending.{may_send, has_room_to_send, sent_on, send_by, send_to}
-use Rattle.kl1_model.specs.Asking.{origin_at, value_of, status_of, reports_of, answer}
+use Rattle.kl1_model.specs.Asking.{origin_at, value_of, status_of, reports_of, reply_to}
 use Rattle.kl1_model.specs.Step.{with_module, load_module, step}
 use Rattle.kl1_model.specs.TreeLaws.{IsTree}
 use Rattle.kl1_model.proofs.TreeSteps.{fresh_is_tree, trees_stay}
@@ -22,7 +23,7 @@ use Rattle.kl1_laws.specs.Reached.{after, reached}
 
 -- what is done to an account keeps a fact of it
 pub record Keeping (P : State → Type 0) : Type 0 where
-  pub fresh : (name : List ℕ) (names : List (List ℕ)) (sessions : ℕ) → P (fresh_with name names sessions)
+  pub fresh : (rules : Rules) (name : List ℕ) (names : List (List ℕ)) (sessions : ℕ) → P (fresh_with rules name names sessions)
   pub seats : (s : State) (n : ℕ) → P s → P (record s { sessions = n })
   pub loads : (s : State) (source : List ℕ) (m : Module) → read_module source ≡ good m → nat_lt s.entries most_entries ≡ true → P s → P (with_entry (with_module s m))
   pub starts : (s : State) (allowance low high : ℕ) (t : Term) → IsTree s → may_start allowance low high t ≡ true → has_room_to_start s t ≡ true → nat_lt s.entries most_entries ≡ true → P s → P (with_entry (start_goal s allowance low high t))
@@ -139,7 +140,7 @@ module _ (P : State → Type 0) (k : Keeping P) where
   holds_reports s from None p = p
   holds_reports s from (Some o) p = p
 
-  holds_answer : (s : State) (q : Query) → P s → Holds (answer s q)
+  holds_answer : (s : State) (q : Query) → P s → Holds (reply_to s q)
   holds_answer s (value n) p = holds_if (is_number n) s (value_of s (origin_at n s.shoens)) syntax p λ _. holds_value s (origin_at n s.shoens) p
   holds_answer s (status n) p = holds_if (is_number n) s (status_of s (shoen_at n s.shoens)) syntax p λ _. holds_status s (shoen_at n s.shoens) p
   holds_answer s (reports n from) p =
@@ -156,11 +157,11 @@ module _ (P : State → Type 0) (k : Keeping P) where
   holds_step s (read q) tree p = holds_answer s q p
   holds_step s login tree p = holds_if (nat_lt s.sessions most_sessions) s (record { state = record s { sessions = suc s.sessions }; reply = welcome s.own_name }) sessions_refused p λ _. k.seats s (suc s.sessions) p
   holds_step s logout tree p = holds_if (nat_lt 0 s.sessions) s (record { state = record s { sessions = s.sessions - 1 }; reply = bye }) sessions_refused p λ _. k.seats s (s.sessions - 1) p
-  holds_step s reset tree p = k.fresh s.own_name s.names s.sessions
+  holds_step s reset tree p = k.fresh s.rules s.own_name s.names s.sessions
 
   holds_after : (s : State) (es : List Event) → IsTree s → P s → P (after s es)
   holds_after s [] tree p = p
   holds_after s (e ∷ es) tree p = holds_after (step s e).state es (trees_stay s e tree) (holds_step s e tree p)
 
-  pub holds_reached : (name : List ℕ) (es : List Event) → P (reached name es)
-  holds_reached name es = holds_after (fresh name) es (fresh_is_tree name) (k.fresh name [] 0)
+  pub holds_reached : (rules : Rules) (name : List ℕ) (es : List Event) → P (reached rules name es)
+  holds_reached rules name es = holds_after (fresh rules name) es (fresh_is_tree rules name) (k.fresh rules name [] 0)
