@@ -8,7 +8,7 @@ use kl1_atoms::{AtomSeat, AtomTable, SharedAtoms};
 use kl1_codes::{CodeSource, PlainCodes};
 use kl1_event::{Event, Reply};
 use kl1_rows::is_counted;
-use kl1_user::{AccountName, UserState};
+use kl1_user::{AccountName, Rules, UserState};
 use std::alloc::{AllocError, Global};
 
 /// The most tries of a load: one after 100 that are refused memory.
@@ -56,7 +56,7 @@ fn entries_in(
     let mut names = SharedAtoms { table };
     let mut seat = seat;
     let mut codes = PlainCodes::new(alloc);
-    let mut user = UserState::fresh(alloc, name)?;
+    let mut user = UserState::fresh(alloc, name, Rules::Two)?;
     Ok(entries_after(&mut names, &mut seat, &mut user, &mut codes, load))
 }
 
