@@ -8,7 +8,9 @@ use kl1_atoms::AtomTable;
 use kl1_codes::CodeTable;
 use kl1_event::{Event, Refusal, Reply};
 use kl1_lines::Counted;
-use kl1_pool::{AccountName, CellNaming, Command, Performed, Pool, PoolParts, Rules, Share, gather};
+use kl1_pool::{
+    AccountName, CellNaming, Command, Performed, Pool, PoolParts, Rules, Share, gather,
+};
 use kl1_serving::{Served, serve};
 use std::alloc::{AllocError, Global};
 use std::marker::Brand;
