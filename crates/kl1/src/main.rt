@@ -1,8 +1,7 @@
 //! The program: a script, or the text of a journal, from standard input, and what is written for it to standard output.
 #![tactic(auto)]
 
-use kl1_replay::run_replay;
-use kl1_script::{Counted, ScriptFault, run_script};
+use kl1_script::{Counted, ScriptFault, run_replay, run_script};
 use std::env;
 use std::env::Args;
 use std::io::{Error, ErrorKind};

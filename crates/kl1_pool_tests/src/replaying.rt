@@ -4,8 +4,8 @@ use crate::play::answered;
 use kl1_event::{Listed, Reply};
 use kl1_lines::{is_same, split_feed};
 use kl1_pool::{CellNaming, Command, Performed, Pool, Share};
-use kl1_replay::{Counted, run_replay};
 use kl1_rows::Text;
+use kl1_script::{Counted, run_replay};
 use std::sync::Wait;
 
 /// How many lines of a journal are asked for at once.

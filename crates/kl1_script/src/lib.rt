@@ -1,8 +1,13 @@
-//! Scripts: what their records do to accounts, and the bytes that are written for them.
+//! Scripts and journals that are replayed: what their records and entries do to accounts, and the bytes that are written for them.
 #![tactic(auto)]
 
 mod accounts;
 mod answers;
+mod entries;
+mod finishing;
+mod names;
+mod replayed;
+mod replays;
 mod scripts;
 
 pub use accounts::accounts_in;
@@ -10,4 +15,5 @@ pub use kl1_command::{
     Command, Parsed, Performed, command_in, parse, perform, put_lines, put_reply,
 };
 pub use kl1_lines::{Counted, DeviceFailed, Request, ScriptFault, Sink, Source};
+pub use replays::{replay_over, run_replay};
 pub use scripts::{answer_over, run_script};

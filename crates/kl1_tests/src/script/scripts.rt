@@ -3,9 +3,8 @@
 use crate::script::kind::Kind;
 use crate::script::streams::{Faulty, cause_of};
 use crate::script::told::{are_told, end_of};
-use kl1_replay::run_replay;
 use kl1_rows::{cut, number_of};
-use kl1_script::{Counted, run_script};
+use kl1_script::{Counted, run_replay, run_script};
 use std::alloc::Global;
 use std::sync::Wait;
 
