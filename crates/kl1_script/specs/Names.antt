@@ -4,8 +4,8 @@ use Rattle.kl1_history.specs.JournalText.{Lines, lines_of}
 use Rattle.kl1_history.specs.Replay.{written_names, written_fault}
 use Rattle.kl1_user.specs.Accounts.{IsNameList}
 use Rattle.kl1_script.specs.Fronts.{first_names}
-use Rattle.kl1_script.specs.declared.names.Named.{Named}
-use Rattle.kl1_script.specs.declared.names.Named.TheVariants as named
+use Rattle.kl1_script.specs.declared.journal_names.Named.{Named}
+use Rattle.kl1_script.specs.declared.journal_names.Named.TheVariants as named
 
 -- after names, `count` lines of names from line k on go on as `more` lines of names from line j on after others
 pub record GoesOn (count k : ℕ) (names : List (List ℕ)) (ls : Lines) (more j : ℕ) (others : List (List ℕ)) (rest : Lines) : Type 0 where

@@ -5,7 +5,7 @@ mod accounts;
 mod answers;
 mod entries;
 mod finishing;
-mod names;
+mod journal_names;
 mod replayed;
 mod replays;
 mod scripts;

@@ -14,7 +14,7 @@ ghost use Rattle.kl1_script.specs.Replays.{Answered, BreaksOff, Ends, StopsBefor
 
 use crate::entries::answer_entries;
 use crate::finishing::finish_fault;
-use crate::names::{Named, names_in};
+use crate::journal_names::{Named, names_in};
 use crate::replayed::Replayed;
 use kl1_atoms::{AtomSource, AtomTable, SharedAtoms};
 use kl1_codes::{CodeSource, CodeTable, SharedCodes};

@@ -2,7 +2,7 @@ use Rattle.std.proofs.Common.{◌+◌, ◌-◌, ◌≤◌, [], length}
 use Rattle.kl1_history.specs.JournalText.{lines_of}
 use Rattle.kl1_user.specs.Accounts.{IsNameList}
 use Rattle.kl1_script.specs.Names.{GoesOn}
-use Rattle.kl1_script.proofs.names.names_in.Given as goal
+use Rattle.kl1_script.proofs.journal_names.names_in.Given as goal
 
 -- the lines of the names so far are read, and the others are left
 abbrev pub invariant-loop-names : goal.invariant-loop-names

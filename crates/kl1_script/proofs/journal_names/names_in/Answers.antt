@@ -3,7 +3,7 @@ use Rattle.std.proofs.lemmas.Grind.{common_steps}
 use Rattle.kl1_history.specs.JournalText.{lines_of, is_new_name}
 use Rattle.kl1_script.proofs.LinesOfNames.{goes_more, ends_short, ends_nameless, ends_old}
 use Rattle.kl1_script.proofs.NewNames.{names_more}
-use Rattle.kl1_script.proofs.names.names_in.Goals as goal
+use Rattle.kl1_script.proofs.journal_names.names_in.Goals as goal
 
 pub returns-in_default : goal.returns-in_default
 returns-in_default c =
