@@ -28,6 +28,7 @@ impl<N> Goal<N> {
         match self.task {
             Task::Monitor => true,
             Task::Reduces(_) => false,
+            Task::Substitutes(_) => false,
         }
     }
 

@@ -137,6 +137,7 @@ fails_as f h modules t c n p places text (Some (move.Unifies a b)) e z r = absur
 fails_as f h modules t c n p places text (Some (move.Names a)) e z r = absurd r
 fails_as f h modules t c n p places text (Some (move.Opens o)) e z r = absurd r
 fails_as f h modules t c n p places text (Some move.Goes) e z r = absurd r
+fails_as f h modules t c n p places text (Some move.GivesWay) e z r = absurd r
 
 pub commits_as : {N : Type 0} (f : N → List ℕ) (h : Held N) (modules : List Module) (t : Term) (c : Call N) (n : ℕ) (p : Predicate N) (places : List (Place N)) (text : List ℕ) (found : Option (Move N)) → IsCall f h t c → 0 < n → CommitsAs f h c p (clauses_of modules (call_at f h c)) n places found → MovesAs f h modules t n p places text found
 commits_as f h modules t c n p places text None e lt r = commits_by modules t (call_at f h c) n None e.is lt r
@@ -146,6 +147,7 @@ commits_as f h modules t c n p places text (Some (move.Unifies a b)) e lt r = ab
 commits_as f h modules t c n p places text (Some (move.Names a)) e lt r = absurd r
 commits_as f h modules t c n p places text (Some (move.Opens o)) e lt r = absurd r
 commits_as f h modules t c n p places text (Some move.Goes) e lt r = absurd r
+commits_as f h modules t c n p places text (Some move.GivesWay) e lt r = absurd r
 
 -- what comes of a cell that becomes a number
 becomes_as : {N : Type 0} (f : N → List ℕ) (h : Held N) (modules : List Module) (t : Term) (n : ℕ) (p : Predicate N) (places : List (Place N)) (text : List ℕ) (a : Cell N) (x : Number) → move_by modules t n ≡ Some (model_moves.becomes (term_of f h a) x) → MovesAs f h modules t n p places text (Some (assigning.becomes a x))

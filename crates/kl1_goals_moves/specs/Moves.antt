@@ -5,7 +5,7 @@ use Rattle.kl1_model.specs.Text.{is_text, text_of}
 use Rattle.kl1_model.specs.Term.{Term}
 use Rattle.kl1_model.specs.Module.{Clause, Module}
 use Rattle.kl1_model.specs.Match.{clauses_of, Candidate, candidates_from}
-use Rattle.kl1_model.specs.Reduction.{commits, raises, unifies, names, opens, goes}
+use Rattle.kl1_model.specs.Reduction.{commits, raises, unifies, names, opens, goes, gives_way}
 use Rattle.kl1_model.specs.code.Waits.{move_by, least_clause}
 use Rattle.kl1_store.specs.Held.{Held, IsIn, arguments_of}
 use Rattle.kl1_store.specs.Meaning.{term_of}
@@ -50,6 +50,7 @@ MoveIn h p places text (Some (move.Unifies a b)) = IsIn h a × IsIn h b
 MoveIn h p places text (Some (move.Names a)) = IsTrue (is_text text) × IsIn h a
 MoveIn h p places text (Some (move.Opens s)) = (s < length h.structures) × (length (arguments_of h s) ≡ 6)
 MoveIn h p places text (Some move.Goes) = Unit {0}
+MoveIn h p places text (Some move.GivesWay) = Unit {0}
 
 -- the move of a call that fails, or nothing
 abbrev pub FailsAs : {N : Type 0} → (N → List ℕ) → Held N → Call N → List Clause → Option (Move N) → Type 0
@@ -60,6 +61,7 @@ FailsAs f h c cs (Some (move.Unifies a b)) = ⊥
 FailsAs f h c cs (Some (move.Names a)) = ⊥
 FailsAs f h c cs (Some (move.Opens s)) = ⊥
 FailsAs f h c cs (Some move.Goes) = ⊥
+FailsAs f h c cs (Some move.GivesWay) = ⊥
 
 -- the candidate numbered `number` among the clauses of a call
 abbrev pub candidate_at : {N : Type 0} → (N → List ℕ) → Held N → Call N → List Clause → ℕ → Option Candidate
@@ -87,6 +89,7 @@ CommitsAs f h c p cs number places (Some (move.Unifies a b)) = ⊥
 CommitsAs f h c p cs number places (Some (move.Names a)) = ⊥
 CommitsAs f h c p cs number places (Some (move.Opens s)) = ⊥
 CommitsAs f h c p cs number places (Some move.Goes) = ⊥
+CommitsAs f h c p cs number places (Some move.GivesWay) = ⊥
 
 -- the move is a candidate, whose clause stands at a place
 pub record CommitsTo {N : Type 0} (f : N → List ℕ) (h : Held N) (modules : List Module) (t : Term) (number : ℕ) (p : Predicate N) (place : ℕ) (places : List (Place N)) : Type 0 where
@@ -103,3 +106,4 @@ MovesAs f h modules t number p places text (Some (move.Unifies a b)) = move_by m
 MovesAs f h modules t number p places text (Some (move.Names a)) = move_by modules t number ≡ Some (names text (term_of f h a))
 MovesAs {N = N} f h modules t number p places text (Some (move.Opens s)) = (o : ExecuteArguments N) → IsOrder h s o → move_by modules t number ≡ Some (opens (order_at f h o))
 MovesAs f h modules t number p places text (Some move.Goes) = move_by modules t number ≡ Some goes
+MovesAs f h modules t number p places text (Some move.GivesWay) = move_by modules t number ≡ Some gives_way

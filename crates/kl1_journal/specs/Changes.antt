@@ -30,7 +30,7 @@ IsEntered _ = ⊤
 abbrev pub IsChange : List (List ℕ) → Journal → model.Event → Change → Type 0
 IsChange names j e (change.Entry entry) = (entry ≡ lined_entry e) × IsEntered e
 IsChange names j e change.Sessions = (e ≡ model.login) ⊎ (e ≡ model.logout)
-IsChange names j e (change.Anew new) = (e ≡ model.reset) × (new.journal ≡ new_journal names j.sessions)
+IsChange names j e (change.Anew new) = (e ≡ model.reset) × (new.journal ≡ new_journal j.rules names j.sessions)
 
 -- there is room for the entry of a change
 abbrev pub HasRoom : Rows → Change → Type 0

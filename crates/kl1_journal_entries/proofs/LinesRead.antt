@@ -17,8 +17,9 @@ use Rattle.kl1_model.specs.Event.{Event, is_number}
 use Rattle.kl1_model.specs.Module.{Reading, good, bad, read_goal}
 use Rattle.kl1_model.specs.Opening.{start_line}
 use Rattle.kl1_model.specs.Sending.{may_send}
-use Rattle.kl1_model_history.specs.Journal.{Entry, loads, starts, sends, steps, event_in}
-use Rattle.kl1_model_history.specs.JournalText.{is_hex_digit, hex_bytes, load_in, of_two, start_of, start_in, entry_by, entry_line, if_line, entry_in}
+use Rattle.kl1_model.specs.Answering.{answer_line}
+use Rattle.kl1_model_history.specs.Journal.{Entry, loads, starts, sends, steps, answers, event_in}
+use Rattle.kl1_model_history.specs.JournalText.{is_hex_digit, hex_bytes, load_in, of_two, start_of, start_in, answer_of, answer_in, entry_by, entry_line, if_line, entry_in}
 use Rattle.kl1_model_history.proofs.ReadStrict.{goals_read_are_printable}
 use Rattle.kl1_model_history.proofs.TextEntries.{length_hex}
 use Rattle.kl1_journal_entries.specs.Lined.{is_lined, if_lined, lined_entry}
@@ -105,6 +106,31 @@ start_lined rest e h small few =
     let facts = goals_read_are_printable text t less read in
     ap is_lined (sym is) ∙ start_from a low high t (number_read (before_space rest) a first) (number_read (before_space b) low second) (number_read (before_space c) high third) facts.1 facts.0 (subst (λ (d : Entry). length (entry_line d) ≤ most_line_bytes) (sym is) few)))))
 
+answer_by : {P : Type 0} (n report : ℕ) (r : Reading Term) (e : Entry) → answer_of n report r ≡ Some e → ((t : Term) → r ≡ good t → answers n report t ≡ e → P) → P
+answer_by n report (bad line) e is go = absurd (let e : ⊥ = cc in e)
+answer_by n report (good t) e is go = go t refl (same_Some (answers n report t) e is)
+
+answer_from : (n report : ℕ) (t : Term) → is_number n ≡ true → is_number report ≡ true → is_goal t ≡ true → is_writable t && is_numbered t && nat_lt (highest t) number_limit ≡ true → length (answer_line n report t) ≤ most_line_bytes → is_lined (answers n report t) ≡ true
+answer_from n report t p q goal printable few =
+    let parts = and_parts (is_writable t) (is_numbered t) (and_parts (is_writable t && is_numbered t) (nat_lt (highest t) number_limit) printable).0 in
+    and_from (is_number n && is_number report && is_goal t && is_writable t && is_numbered t) (nat_le (length (answer_line n report t)) most_line_bytes)
+    (and_from (is_number n && is_number report && is_goal t && is_writable t) (is_numbered t)
+    (and_from (is_number n && is_number report && is_goal t) (is_writable t)
+    (and_from (is_number n && is_number report) (is_goal t) (and_from (is_number n) (is_number report) p q) goal) parts.0) parts.1)
+    (le-leb (length (answer_line n report t)) most_line_bytes few)
+
+answer_lined : (rest : List ℕ) (e : Entry) → answer_in rest ≡ Some e → length rest < number_limit → length (entry_line e) ≤ most_line_bytes → is_lined e ≡ true
+answer_lined rest e h small few =
+    let b = behind_space rest in
+    let text = behind_space b in
+    let less : length text < number_limit = omega (arith, small, behind_short rest, behind_short b) in
+    option_and_then_some (λ n. option_and_then (λ report. answer_of n report (read_goal text)) (number_in (before_space b))) (number_in (before_space rest)) e h
+    (λ n first m. option_and_then_some (λ report. answer_of n report (read_goal text)) (number_in (before_space b)) e m
+    (λ report second o. answer_by n report (read_goal text) e o
+    (λ t read is.
+    let facts = goals_read_are_printable text t less read in
+    ap is_lined (sym is) ∙ answer_from n report t (number_read (before_space rest) n first) (number_read (before_space b) report second) facts.1 facts.0 (subst (λ (d : Entry). length (entry_line d) ≤ most_line_bytes) (sym is) few))))
+
 sent_lined : (m : Message) → (n : ℕ) → may_send n m ≡ true → is_lined (sends n m) ≡ true
 sent_lined m n h = h
 
@@ -120,15 +146,18 @@ by_word w rest e h small few =
         | inl p ↦ load_lined rest e p few
         | inr h2 ↦ elim (either (bytes_eq w (codes "start")) _ _ e h2) [
           | inl p ↦ start_lined rest e p small few
-          | inr h3 ↦ elim (either (bytes_eq w (codes "stop")) _ _ e h3) [
-            | inl p ↦ one_lined (λ n. sends n Stop) (λ n x. with_true (is_number n) x) rest e p
-            | inr h4 ↦ elim (either (bytes_eq w (codes "resume")) _ _ e h4) [
-              | inl p ↦ one_lined (λ n. sends n Start) (λ n x. with_true (is_number n) x) rest e p
-              | inr h5 ↦ elim (either (bytes_eq w (codes "abort")) _ _ e h5) [
-                | inl p ↦ one_lined (λ n. sends n Abort) (λ n x. with_true (is_number n) x) rest e p
-                | inr h6 ↦ elim (either (bytes_eq w (codes "allow")) _ _ e h6) [
-                  | inl p ↦ two_lined (λ n k. sends n (Allow k)) (λ a b x y. and_from (is_number a) (is_number b) x y) rest e p
-                  | inr q ↦ absurd (let f : ⊥ = cc in f)
+          | inr h3 ↦ elim (either (bytes_eq w (codes "answer")) _ _ e h3) [
+            | inl p ↦ answer_lined rest e p small few
+            | inr h4 ↦ elim (either (bytes_eq w (codes "stop")) _ _ e h4) [
+              | inl p ↦ one_lined (λ n. sends n Stop) (λ n x. with_true (is_number n) x) rest e p
+              | inr h5 ↦ elim (either (bytes_eq w (codes "resume")) _ _ e h5) [
+                | inl p ↦ one_lined (λ n. sends n Start) (λ n x. with_true (is_number n) x) rest e p
+                | inr h6 ↦ elim (either (bytes_eq w (codes "abort")) _ _ e h6) [
+                  | inl p ↦ one_lined (λ n. sends n Abort) (λ n x. with_true (is_number n) x) rest e p
+                  | inr h7 ↦ elim (either (bytes_eq w (codes "allow")) _ _ e h7) [
+                    | inl p ↦ two_lined (λ n k. sends n (Allow k)) (λ a b x y. and_from (is_number a) (is_number b) x y) rest e p
+                    | inr q ↦ absurd (let f : ⊥ = cc in f)
+                  ]
                 ]
               ]
             ]
@@ -164,6 +193,7 @@ same_entry (loads text) = refl
 same_entry (starts a l h t) = refl
 same_entry (sends n m) = refl
 same_entry (steps g c) = refl
+same_entry (answers n report t) = refl
 
 -- what is known of an entry by its line
 record Known (line : List ℕ) (e : Entry) (p : Option Entry) : Type 0 where

@@ -93,7 +93,7 @@ fn read_names<'a>(
 ) -> Result<Option<Begun<'a>>, AllocError>
     requires sessions { heading.sessions ≤ most_sessions }
     requires names { heading.names ≤ most_names }
-    ensures { IfOk result (λ begun. option_and_then begun_at begun ≡ read_after heading.sessions [] heading.names text.now) }
+    ensures { IfOk result (λ begun. option_and_then begun_at begun ≡ read_after heading.rules heading.sessions [] heading.names text.now) }
 {
     let mut names: Vec<AtomText> = Vec::new(alloc);
     let mut rest = text;
@@ -110,7 +110,7 @@ fn read_names<'a>(
         names.push(name)?;
         rest = after;
     }
-    let journal = Journal::with_names(alloc, names.as_slice(), heading.sessions)?;
+    let journal = Journal::with_names(alloc, heading.rules, names.as_slice(), heading.sessions)?;
     Ok(Some(Begun { journal, rest }))
 }
 

@@ -9,7 +9,7 @@ use Rattle.kl1_model.specs.declared.life.Life.TheVariants.{Terminated, Aborted}
 use Rattle.kl1_model.specs.Term.{Term, variable, integer, atom, structure, occurs}
 use Rattle.kl1_model.specs.Meaning.{nil, cell}
 use Rattle.kl1_model.specs.Module.{is_among}
-use Rattle.kl1_model.specs.State.{Task, monitor, reduces, Goal, Shoen, State, shoen_at, replace_in_task, replace_in_goal, replace_in_shoen, replace_in_state, change_shoen, is_monitor, is_living}
+use Rattle.kl1_model.specs.State.{Task, monitor, reduces, substitutes, Goal, Shoen, State, shoen_at, replace_in_task, replace_in_goal, replace_in_shoen, replace_in_state, change_shoen, is_monitor, is_living}
 use Rattle.kl1_model.specs.Tree.{path, is_on_path}
 use Rattle.kl1_model.specs.Report.{broken_at, reported_at, report_of, report, report_each, closed_at, close_of, close, exhausted_report, terminated_report, aborted_report}
 use Rattle.kl1_model.specs.Ending.{has_goal, has_living_child, lives, ends_now, without_monitor, ended_at, terminate, terminate_each, ending_of, settle, has_reached, newly_exhausted, after_reduction, aborted_below, ended_below, abort}
@@ -72,6 +72,7 @@ replaced_numbers v t (g ∷ gs) = ap (λ (ns : List ℕ). g.number ∷ ns) (repl
 task_kept : (v : ℕ) (t : Term) (task : Task) → is_monitor (replace_in_task v t task) ≡ is_monitor task
 task_kept v t monitor = refl
 task_kept v t (reduces u) = refl
+task_kept v t (substitutes u) = refl
 
 replaced_posts : (v : ℕ) (t : Term) (gs : List Goal) → posts_of (map (replace_in_goal v t) gs) ≡ posts_of gs
 replaced_posts v t [] = refl

@@ -57,10 +57,10 @@ reports_of s from (Some o) = record { state = s; reply = listed (map cut_print (
 abbrev pub module_line : Module → List ℕ
 module_line m = atom_text m.name ++ codes " " ++ decimal (length m.source) ++ codes " " ++ decimal (length m.clauses)
 
--- the answer to a query, which changes nothing
-abbrev pub answer : State → Query → Transition
-answer s (value n) = if is_number n then value_of s (origin_at n s.shoens) else refuse s syntax
-answer s (status n) = if is_number n then status_of s (shoen_at n s.shoens) else refuse s syntax
-answer s (reports n from) = if is_number n && is_number from && nat_le 1 from then reports_of s from (origin_at n s.shoens) else refuse s syntax
-answer s modules = record { state = s; reply = listed (map module_line s.modules) }
-answer s is_quiet = record { state = s; reply = quiet_is (quiet s) }
+-- the reply to a query, which changes nothing
+abbrev pub reply_to : State → Query → Transition
+reply_to s (value n) = if is_number n then value_of s (origin_at n s.shoens) else refuse s syntax
+reply_to s (status n) = if is_number n then status_of s (shoen_at n s.shoens) else refuse s syntax
+reply_to s (reports n from) = if is_number n && is_number from && nat_le 1 from then reports_of s from (origin_at n s.shoens) else refuse s syntax
+reply_to s modules = record { state = s; reply = listed (map module_line s.modules) }
+reply_to s is_quiet = record { state = s; reply = quiet_is (quiet s) }

@@ -19,6 +19,7 @@ pub data Refusal : Type 0 where
   limit_passed : Refusal
   journal_full : Refusal
   sessions_refused : Refusal
+  answer_refused : Refusal
 
 -- what is asked of an account without a change: the goal of a shoen as started, with what is bound now; the state of a shoen; the
 -- reports of a shoen from one on, the first being 1; the modules; and whether no goal can step
@@ -30,8 +31,8 @@ pub data Query : Type 0 where
   is_quiet : Query
 
 -- what may be done to an account: a module loaded from its source; a goal started with an allowance and priorities from low to high;
--- a message sent to a shoen; a goal reduced by a clause's number, or by 0; a query; a session opened, and one closed; and the account
--- made fresh again, with its names and sessions
+-- a message sent to a shoen; a goal reduced by a clause's number, or by 0; a query; a session opened, and one closed; the account made
+-- fresh again, with its names and sessions; and a goal given as the answer to a report of a shoen, the first being 1
 pub data Event : Type 0 where
   load : List ℕ → Event
   start : ℕ → ℕ → ℕ → Term → Event
@@ -41,10 +42,11 @@ pub data Event : Type 0 where
   login : Event
   logout : Event
   reset : Event
+  answer : ℕ → ℕ → Term → Event
 
--- an answer: the name of the module loaded, the number of the shoen opened, a message sent, a reduction done, the steps done by
--- a run, the printed goal, a shoen's state with what it was charged, its allowance and its goals alive, a list of texts, whether no
--- goal can step, a session opened in the account of a name, a session closed, the account made fresh again, or a refusal
+-- a reply: the name of the module loaded, the number of the shoen opened, a message or an answer sent, a reduction done, the steps
+-- done by a run, the printed goal, a shoen's state with what it was charged, its allowance and its goals alive, a list of texts, whether
+-- no goal can step, a session opened in the account of a name, a session closed, the account made fresh again, or a refusal
 pub data Reply : Type 0 where
   loaded : List ℕ → Reply
   opened : ℕ → Reply

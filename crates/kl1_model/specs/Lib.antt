@@ -29,6 +29,7 @@ pub mod Reduction
 pub mod Choice
 pub mod Sending
 pub mod Asking
+pub mod Answering
 pub mod Step
 pub mod Line
 pub mod Record

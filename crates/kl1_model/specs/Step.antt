@@ -3,13 +3,14 @@ use Rattle.std.specs.Prelude.{suc, ◌-◌, nat_le, nat_lt, ◌&&◌, if◌then�
 use Rattle.kl1_model.specs.Limits.{most_modules, most_sessions}
 use Rattle.kl1_model.specs.Module.{Module, Reading, good, bad, read_module}
 use Rattle.kl1_model.specs.Match.{module_of}
-use Rattle.kl1_model.specs.State.{State, fresh_with, goal_at, shoen_at, names_of, names_of_module, with_names}
-use Rattle.kl1_model.specs.Event.{syntax, source, exists, sessions_refused, Event, load, start, control, reduce, read, login, logout, reset, loaded, opened, welcome, bye, was_reset, Transition, refuse, is_number, most_source_bytes, with_entry, recorded, named, limited}
+use Rattle.kl1_model.specs.State.{State, has_substitutes, fresh_with, goal_at, shoen_at, names_of, names_of_module, with_names}
+use Rattle.kl1_model.specs.Event.{syntax, source, exists, sessions_refused, Event, load, start, control, reduce, read, login, logout, reset, answer, loaded, opened, welcome, bye, was_reset, Transition, refuse, is_number, most_source_bytes, with_entry, recorded, named, limited}
 use Rattle.kl1_model.specs.Reduction.{reduce_goal}
 use Rattle.kl1_model.specs.Opening.{may_start, has_room_to_start, start_goal}
 use Rattle.kl1_model.specs.Sending.{may_send, send_to}
 pub use Rattle.kl1_model.specs.Asking.{origin_at}
-use Rattle.kl1_model.specs.Asking.{answer}
+use Rattle.kl1_model.specs.Asking.{reply_to}
+use Rattle.kl1_model.specs.Answering.{may_answer, answer_to}
 
 -- an account with one more module, whose names are used
 abbrev pub with_module : State → Module → State
@@ -41,7 +42,8 @@ step s (start allowance low high t) =
     else refuse s syntax
 step s (control n m) = if may_send n m then send_to s n m (shoen_at n s.shoens) else refuse s syntax
 step s (reduce goal clause) = if is_number goal && is_number clause then reduce_goal s clause (goal_at goal s.goals) else refuse s syntax
-step s (read q) = answer s q
+step s (read q) = reply_to s q
 step s login = log_in s
 step s logout = log_out s
-step s reset = record { state = fresh_with s.own_name s.names s.sessions; reply = was_reset }
+step s reset = record { state = fresh_with s.rules s.own_name s.names s.sessions; reply = was_reset }
+step s (answer n report t) = if has_substitutes s.rules && may_answer n report t then answer_to s report t (shoen_at n s.shoens) else refuse s syntax

@@ -1,5 +1,5 @@
 -- The cut of a stream doesn't depend on where it comes in pieces.
-use Rattle.std.proofs.Common.{◌≡◌, ℕ, zero, suc, ◌+◌, ◌<◌, ◌≤◌, ◌⊎◌, inl, inr, Bool, true, false, List, [], ◌∷◌, ◌++◌, length, take, drop, min, codes, decimal, Option, Some, None, refl, ap, sym, ◌∙◌, arith, append_assoc, length-append, length-take, length-drop}
+use Rattle.std.proofs.Common.{◌≡◌, ℕ, zero, suc, ◌+◌, ◌<◌, ◌≤◌, ◌⊎◌, inl, inr, Bool, true, false, List, [], ◌∷◌, ◌++◌, length, take, drop, codes, decimal, Option, Some, None, refl, ap, sym, ◌∙◌, arith, append_assoc, length-append, length-take, length-drop}
 use Rattle.std.proofs.lemmas.List.{append-nil, take_all, take-take, take-append-le, drop-append-le, drop-take}
 use Rattle.std.proofs.lemmas.Bool.{true≢false, cases_lt, ne_eqb}
 use Rattle.kl1_model.specs.Limits.{most_command_bytes, most_source_bytes}

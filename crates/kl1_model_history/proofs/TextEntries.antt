@@ -19,10 +19,9 @@ use Rattle.kl1_model.specs.Line.{before_space, behind_space, number_in}
 use Rattle.kl1_model.specs.Module.{Reading, good, read_goal}
 use Rattle.kl1_model.specs.Event.{is_number}
 use Rattle.kl1_model.specs.Sending.{is_message, may_send}
-use Rattle.kl1_model.specs.Opening.{start_line}
 use Rattle.kl1_model.specs.laws.ReadLaws.{is_printable}
-use Rattle.kl1_model_history.specs.Journal.{Entry, loads, starts, sends, steps}
-use Rattle.kl1_model_history.specs.JournalText.{hex_digit, is_hex_digit, hex_text, hex_value, hex_bytes, entry_line, of_two, start_of, start_in, entry_by, if_line}
+use Rattle.kl1_model_history.specs.Journal.{Entry, loads, starts, sends, steps, answers}
+use Rattle.kl1_model_history.specs.JournalText.{hex_digit, is_hex_digit, hex_text, hex_value, hex_bytes, entry_line, of_two, start_of, start_in, answer_of, answer_in, entry_by, if_line}
 use Rattle.kl1_model_history.specs.laws.TextLaws.{AreBytes, HasLine, EntriesReadBack, StrictLinesAreEntries}
 use Rattle.kl1_model_history.proofs.ReadBack.{printed_goals_read_back}
 use Rattle.kl1_model_history.proofs.ReadPlain.{prints_are_plain}
@@ -68,19 +67,23 @@ pub record Starts (allowance low high : ℕ) (t : Term) : Type 0 where
   pub printable : is_printable t ≡ true
   pub plain : list_all is_name_byte (print t) ≡ true
 
--- the goal of a start
+-- a goal that reads back
 record Printable (t : Term) : Type 0 where
   back : is_printable t ≡ true
   plain : list_all is_name_byte (print t) ≡ true
 
-printable_here : (allowance low high : ℕ) (t : Term) → is_writable t ≡ true → is_numbered t ≡ true → length (start_line allowance low high t) ≤ most_line_bytes → Printable t
-printable_here allowance low high t writable numbered short =
-    let front = codes "start " ++ decimal allowance ++ codes " " ++ decimal low ++ codes " " ++ decimal high ++ codes " " in
+-- a goal that ends a line that isn't too long
+printable_here : (front : List ℕ) (t : Term) → is_writable t ≡ true → is_numbered t ≡ true → length (front ++ print t) ≤ most_line_bytes → Printable t
+printable_here front t writable numbered short =
     let few : highest t < number_limit = omega (arith, highest_fits t numbered, length-append front (print t)) in
     record {
       back = and_from (is_writable t && is_numbered t) (nat_lt (highest t) number_limit) (and_from (is_writable t) (is_numbered t) writable numbered) (lt-ltb (highest t) number_limit few);
       plain = prints_are_plain t (and_parts (is_narrow t) (nat_le (depth t) most_depth) writable).0 few;
     }
+
+-- what a start's line has before its goal
+abbrev start_front : ℕ → ℕ → ℕ → List ℕ
+start_front allowance low high = codes "start " ++ decimal allowance ++ codes " " ++ decimal low ++ codes " " ++ decimal high ++ codes " "
 
 -- a start that has a line
 pub starts_here : (allowance low high : ℕ) (t : Term) → HasLine (starts allowance low high t) → Starts allowance low high t
@@ -89,8 +92,30 @@ starts_here allowance low high t h = record {
   second = h.1;
   third = h.2;
   goal = h.3;
-  printable = (printable_here allowance low high t h.4 h.5 h.6).back;
-  plain = (printable_here allowance low high t h.4 h.5 h.6).plain;
+  printable = (printable_here (start_front allowance low high) t h.4 h.5 h.6).back;
+  plain = (printable_here (start_front allowance low high) t h.4 h.5 h.6).plain;
+}
+
+-- the facts of an answer
+pub record Answers (n report : ℕ) (t : Term) : Type 0 where
+  pub first : n < number_limit
+  pub second : report < number_limit
+  pub goal : is_goal t ≡ true
+  pub printable : is_printable t ≡ true
+  pub plain : list_all is_name_byte (print t) ≡ true
+
+-- what an answer's line has before its goal
+abbrev answer_front : ℕ → ℕ → List ℕ
+answer_front n report = codes "answer " ++ decimal n ++ codes " " ++ decimal report ++ codes " "
+
+-- an answer that has a line
+pub answers_here : (n report : ℕ) (t : Term) → HasLine (answers n report t) → Answers n report t
+answers_here n report t h = record {
+  first = h.0;
+  second = h.1;
+  goal = h.2;
+  printable = (printable_here (answer_front n report) t h.3 h.4 h.5).back;
+  plain = (printable_here (answer_front n report) t h.3 h.4 h.5).plain;
 }
 
 by_parts : (x y z : Option ℕ) (r : Reading Term) (a l h : ℕ) (t : Term) → x ≡ Some a → y ≡ Some l → z ≡ Some h → r ≡ good t →
@@ -112,6 +137,25 @@ start_back allowance low high t s =
     (ap (λ x. number_in (before_space x)) is_b ∙ ap number_in (before_front (decimal low) c (decimal_no_space low s.second)) ∙ number_back low s.second)
     (ap (λ x. number_in (before_space x)) is_c ∙ ap number_in (before_front (decimal high) last (decimal_no_space high s.third)) ∙ number_back high s.third)
     (ap read_goal is_last ∙ printed_goals_read_back t s.printable s.goal)
+
+by_two : (x y : Option ℕ) (r : Reading Term) (n report : ℕ) (t : Term) → x ≡ Some n → y ≡ Some report → r ≡ good t → option_and_then (λ n. option_and_then (λ report. answer_of n report r) y) x ≡ Some (answers n report t)
+by_two x y r n report t p q e = rw (p, q, e) refl
+
+-- an answer by its numbers and its goal
+answer_back : (n report : ℕ) (t : Term) → Answers n report t → answer_in (decimal n ++ 32 ∷ (decimal report ++ 32 ∷ print t)) ≡ Some (answers n report t)
+answer_back n report t s =
+    let last = print t in
+    let b = decimal report ++ 32 ∷ last in
+    let rest = decimal n ++ 32 ∷ b in
+    let is_b : behind_space rest ≡ b = behind_front (decimal n) b (decimal_no_space n s.first) in
+    let is_last : behind_space (behind_space rest) ≡ last = ap behind_space is_b ∙ behind_front (decimal report) last (decimal_no_space report s.second) in
+    by_two (number_in (before_space rest)) (number_in (before_space (behind_space rest))) (read_goal (behind_space (behind_space rest))) n report t
+    (ap number_in (before_front (decimal n) b (decimal_no_space n s.first)) ∙ number_back n s.first)
+    (ap (λ x. number_in (before_space x)) is_b ∙ ap number_in (before_front (decimal report) last (decimal_no_space report s.second)) ∙ number_back report s.second)
+    (ap read_goal is_last ∙ printed_goals_read_back t s.printable s.goal)
+
+three_parts : (a b p : List ℕ) → a ++ 32 ∷ [] ++ b ++ 32 ∷ [] ++ p ≡ a ++ 32 ∷ (b ++ 32 ∷ p)
+three_parts a b p = simp append_assoc refl
 
 four_parts : (a l h p : List ℕ) → a ++ 32 ∷ [] ++ l ++ 32 ∷ [] ++ h ++ 32 ∷ [] ++ p ≡ a ++ 32 ∷ (l ++ 32 ∷ (h ++ 32 ∷ p))
 four_parts a l h p = simp append_assoc refl
@@ -135,6 +179,7 @@ by_back (sends n Stop) h = ap (option_map (λ k. sends k Stop)) (number_back n (
 by_back (sends n Start) h = ap (option_map (λ k. sends k Start)) (number_back n (sent_number n Start h))
 by_back (sends n Abort) h = ap (option_map (λ k. sends k Abort)) (number_back n (sent_number n Abort h))
 by_back (sends n (Allow k)) h = ap (of_two (λ n k. sends n (Allow k))) (two_parts (decimal n) (decimal k)) ∙ two_back (λ n k. sends n (Allow k)) n k (sent_number n (Allow k) h) (sent_more n k h)
+by_back (answers n report t) h = ap answer_in (three_parts (decimal n) (decimal report) (print t)) ∙ answer_back n report t (answers_here n report t h)
 by_back (steps goal clause) h = ap (of_two steps) (two_parts (decimal goal) (decimal clause)) ∙ two_back steps goal clause h.0 h.1
 
 -- two digits each
@@ -153,6 +198,7 @@ fits (sends n Stop) h = omega (arith, few_digits n (sent_number n Stop h))
 fits (sends n Start) h = omega (arith, few_digits n (sent_number n Start h))
 fits (sends n Abort) h = omega (arith, few_digits n (sent_number n Abort h))
 fits (sends n (Allow k)) h = omega (arith, length_two n k (sent_number n (Allow k) h) (sent_more n k h))
+fits (answers n report t) h = h.5
 fits (steps goal clause) h = omega (arith, length_two goal clause h.0 h.1)
 
 line_same : (e : Entry) → if_line (entry_line e) e ≡ Some e

@@ -12,14 +12,15 @@ use Rattle.kl1_model.specs.Goal.{is_goal}
 use Rattle.kl1_model.specs.Nodes.{goal_nodes}
 use Rattle.kl1_model.specs.Module.{Module, Reading, good, bad, read_module}
 use Rattle.kl1_model.specs.Match.{module_of}
-use Rattle.kl1_model.specs.State.{State, Goal, Shoen, Origin, goal_at, shoen_at, names_of, names_of_module, with_names, is_living}
-use Rattle.kl1_model.specs.Event.{Refusal, syntax, exists, shoen_ended, too_many_names, limit_passed, journal_full, sessions_refused, Event, load, start, control, reduce, read, login, logout, reset, loaded, opened, sent, reduced, welcome, bye, Transition, refuse, is_number, is_range, with_entry, recorded, named, limited}
+use Rattle.kl1_model.specs.State.{State, has_substitutes, Goal, Shoen, Origin, goal_at, shoen_at, names_of, names_of_module, with_names, is_living}
+use Rattle.kl1_model.specs.Event.{Refusal, syntax, exists, shoen_ended, too_many_names, limit_passed, journal_full, sessions_refused, Event, load, start, control, reduce, read, login, logout, reset, answer, loaded, opened, sent, reduced, welcome, bye, Transition, refuse, is_number, is_range, with_entry, recorded, named, limited}
 use Rattle.kl1_model.specs.Opening.{start_line, may_start, has_room_to_start, with_next_variables, started_shoen, start_goal}
 use Rattle.kl1_model.specs.Sending.{may_send, has_room_to_send, sent_on, send_by, send_to}
+use Rattle.kl1_model.specs.Answering.{answer_line, may_answer, has_room_to_answer, unanswered_at, answer_by, answer_in, answer_to}
 use Rattle.kl1_model.specs.Reduction.{Action, action_of, acted, reduced_by, reduce_goal}
 use Rattle.kl1_model.specs.Step.{with_module, load_module, step}
 use Rattle.kl1_model.specs.laws.TreeLaws.{is_refused}
-use Rattle.kl1_model_history.specs.Journal.{Entry, loads, starts, sends, steps, event_in, Journal, with_entry as with_entry_more, with_event}
+use Rattle.kl1_model_history.specs.Journal.{Entry, loads, starts, sends, steps, answers, event_in, Journal, with_entry as with_entry_more, with_event}
 use Rattle.kl1_model_history.specs.laws.TextLaws.{HasLine, AreNames, IsWritten, HasBytes, FreshIsWritten, WrittenStays}
 use Rattle.kl1_model_history.proofs.Besides.{stays_beside}
 use Rattle.kl1_model_history.proofs.Replays.{reading_stays}
@@ -30,7 +31,7 @@ use Rattle.kl1_model_history.proofs.NamesKept.{IsNamed, same_names, open_has, ac
 use Rattle.kl1_model_history.proofs.ModuleNames.{module_names_are_texts}
 
 pub fresh_is_written : FreshIsWritten
-fresh_is_written name = record {
+fresh_is_written rules name = record {
   journal = record { sessions = leb-true 0 most_sessions refl; names = no_names; entries = tt };
   names = no_names;
   sessions = leb-true 0 most_sessions refl;
@@ -112,6 +113,42 @@ send_named : (s : State) (n : ℕ) (m : Message) (o : Option Shoen) → IsNamed 
 send_named s n m None is = is
 send_named s n m (Some h) is = send_by_named s n m h h.origin is
 
+-- the facts of an answer
+may_answer_line : (n report : ℕ) (t : Term) → may_answer n report t ≡ true → HasLine (answers n report t)
+may_answer_line n report t h =
+    let numbers = is_number n && is_number report && nat_le 1 report in
+    let last = nat_le (length (answer_line n report t)) most_line_bytes in
+    let five = and_parts (numbers && is_goal t && is_writable t && is_numbered t) last h in
+    let four = and_parts (numbers && is_goal t && is_writable t) (is_numbered t) five.0 in
+    let three = and_parts (numbers && is_goal t) (is_writable t) four.0 in
+    let two = and_parts numbers (is_goal t) three.0 in
+    let both = and_parts (is_number n && is_number report) (nat_le 1 report) two.0 in
+    let one = and_parts (is_number n) (is_number report) both.0 in
+    (ltb-true n number_limit one.0, ltb-true report number_limit one.1, two.1, three.1, four.1, leb-true (length (answer_line n report t)) most_line_bytes five.1)
+
+answer_by_named : (s : State) (t : Term) (o : Option ℕ) → IsNamed s → AreNames (with_names s.names (names_of t)) → IsNamed (answer_by s t o).state
+answer_by_named s t None h is = h
+answer_by_named s t (Some v) h is = record { few = is.few; new = is.new }
+
+answer_in_named : (s : State) (report : ℕ) (t : Term) (h : Shoen) (o : Option Origin) → is_narrow t ≡ true → IsNamed s → IsNamed (answer_in s report t h o).state
+answer_in_named s report t h None narrow is = is
+answer_in_named s report t h (Some o) narrow is =
+    let names = with_names s.names (names_of t) in
+    let x = answer_by s t (unanswered_at o.reports report) in
+    let y = limited s (has_room_to_answer s t) (recorded s x) in
+    named_if (is_living h.life) shoen_ended s (named s names y) (λ living.
+    named_if (nat_le (length names) most_names) too_many_names s y (λ room.
+    let n : AreNames names = more_named s.names (names_of t) is (names_are_texts t narrow) room in
+    named_if (has_room_to_answer s t) limit_passed s (recorded s x) (λ fits. recorded_named s x (answer_by_named s t (unanswered_at o.reports report) is n) is) is) is) is
+
+answer_named : (s : State) (report : ℕ) (t : Term) (o : Option Shoen) → is_narrow t ≡ true → IsNamed s → IsNamed (answer_to s report t o).state
+answer_named s report t None narrow is = is
+answer_named s report t (Some h) narrow is = answer_in_named s report t h h.origin narrow is
+
+-- the goal of an answer is one that a text can write
+answer_narrow : (c : Bool) (n report : ℕ) (t : Term) → (c && may_answer n report t) ≡ true → is_narrow t ≡ true
+answer_narrow c n report t h = (and_parts (is_narrow t) (nat_le (depth t) most_depth) (may_answer_line n report t (and_parts c (may_answer n report t) h).1).3).0
+
 reduced_named : (s : State) (g : Goal) (o : Option Action) → MayAct o → IsNamed s → IsNamed (reduced_by s g o).state
 reduced_named s g None texts h = h
 reduced_named s g (Some a) texts h = recorded_named s (record { state = acted g a (with_entry s); reply = reduced }) (acted_named g a (with_entry s) texts h) h
@@ -130,6 +167,7 @@ step_named s (read q) h = same_names s (step s (read q)).state (ap (λ (z : Stat
 step_named s login h = named_if (nat_lt s.sessions most_sessions) sessions_refused s (record { state = record s { sessions = suc s.sessions }; reply = welcome s.own_name }) (λ may. record { few = h.few; new = h.new }) h
 step_named s logout h = named_if (nat_lt 0 s.sessions) sessions_refused s (record { state = record s { sessions = s.sessions - 1 }; reply = bye }) (λ may. record { few = h.few; new = h.new }) h
 step_named s reset h = h
+step_named s (answer n report t) h = named_if (has_substitutes s.rules && may_answer n report t) syntax s (answer_to s report t (shoen_at n s.shoens)) (λ may. answer_named s report t (shoen_at n s.shoens) (answer_narrow (has_substitutes s.rules) n report t may) h) h
 
 -- ---- the sessions of an account
 
@@ -152,6 +190,7 @@ step_few s (read q) h = subst (λ n. n ≤ most_sessions) (sym (ap (λ (z : Stat
 step_few s login h = few_or (nat_lt s.sessions most_sessions) s (record { state = record s { sessions = suc s.sessions }; reply = welcome s.own_name }) sessions_refused (λ may. ltb-true s.sessions most_sessions may) h
 step_few s logout h = few_or (nat_lt 0 s.sessions) s (record { state = record s { sessions = s.sessions - 1 }; reply = bye }) sessions_refused (λ may. let few : s.sessions - 1 ≤ most_sessions = omega arith in few) h
 step_few s reset h = h
+step_few s (answer n report t) h = entry_few s (answers n report t) h
 
 -- ---- the journal of an account
 
@@ -180,6 +219,9 @@ accepted_written j s (read q) bytes a named few w = w
 accepted_written j s login bytes a named few w = record { sessions = few; names = w.names; entries = w.entries }
 accepted_written j s logout bytes a named few w = record { sessions = few; names = w.names; entries = w.entries }
 accepted_written j s reset bytes a named few w = record { sessions = few; names = named; entries = tt }
+accepted_written j s (answer n report t) bytes a named few w =
+    let may = and_parts (has_substitutes s.rules) (may_answer n report t) (passed (has_substitutes s.rules && may_answer n report t) s (answer_to s report t (shoen_at n s.shoens)) syntax a) in
+    entry_written j (answers n report t) (may_answer_line n report t may.1) w
 
 noted_written : (c : Bool) (j : Journal) (s : State) (e : Event) → HasBytes e → is_refused (step s e).reply ≡ c → IsNamed (step s e).state → (step s e).state.sessions ≤ most_sessions → IsWritten j → IsWritten (if c then j else with_event j e (step s e).state)
 noted_written true j s e bytes a named few w = w

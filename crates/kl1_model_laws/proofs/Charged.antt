@@ -350,7 +350,7 @@ sent_within s n m t free w =
 
 keeping : Keeping IsWithin
 keeping = record {
-  fresh = λ name names sessions. record { capped = tt; worked = omega arith; entries = omega arith };
+  fresh = λ rules name names sessions. record { capped = tt; worked = omega arith; entries = omega arith };
   seats = λ s n w. record { capped = w.capped; worked = w.worked; entries = w.entries };
   loads = λ s source m is free w. let room = ltb-true s.entries most_entries free in let before = w.worked in record { capped = w.capped; worked = omega (arith, before); entries = omega (arith, room) };
   starts = λ s allowance low high t tree may room free w. start_within s allowance low high t tree free w;
@@ -360,7 +360,7 @@ keeping = record {
 }
 
 pub none_is_charged_more : NoneIsChargedMore
-none_is_charged_more name es n h there =
-    let s = reached name es in
-    let w = holds_reached IsWithin keeping name es in
+none_is_charged_more rules name es n h there =
+    let s = reached rules name es in
+    let w = holds_reached IsWithin keeping rules name es in
     subst (λ (k : ℕ). charged_of s k ≤ h.allowance) (found_number n s.shoens h there) (found_shoen (λ k. charged_of s k.number ≤ k.allowance) n s.shoens h there w.capped)

@@ -4,6 +4,7 @@ use Rattle.std.specs.Prelude.{nat_le, nat_lt, map, filter, count_by, cond, Some}
 use Rattle.std.proofs.lemmas.Bool.{and_parts, eqb-true, leb-true, ltb-true}
 use Rattle.std.proofs.lemmas.List.Sums.{sum_by-cons}
 use Rattle.std.proofs.lemmas.Option.{none-some, same_Some}
+use Rattle.kl1_model.specs.declared.rules.Rules.{Rules}
 use Rattle.kl1_model.specs.Limits.{most_goals, most_variables, most_nodes, most_shoens, most_names}
 use Rattle.kl1_model.specs.Term.{Term, atom, substituted}
 use Rattle.kl1_model.specs.Meaning.{highest}
@@ -220,7 +221,7 @@ fresh_counted = record { few = omega arith; rising = omega arith }
 
 keeping : Keeping (Of AreCounted)
 keeping = record {
-  fresh = λ name names sessions. fresh_counted;
+  fresh = λ rules name names sessions. fresh_counted;
   seats = λ s n a. a;
   loads = λ s source m is free a. a;
   starts = λ s allowance low high t tree may room free a. start_counted s allowance low high t room a;
@@ -229,8 +230,8 @@ keeping = record {
   reading = λ s n g h c tree there found is free a. of_settle AreCounted counted_fewer g.shoen (heard g.shoen c (with_entry s)) (of_heard AreCounted counted_fewer g.shoen c (with_entry s) a);
 }
 
-pub goals_are_counted : (name : List ℕ) (es : List Event) → Of AreCounted (reached name es)
-goals_are_counted name es = holds_reached (Of AreCounted) keeping name es
+pub goals_are_counted : (rules : Rules) (name : List ℕ) (es : List Event) → Of AreCounted (reached rules name es)
+goals_are_counted rules name es = holds_reached (Of AreCounted) keeping rules name es
 
 pub goals_are_few : GoalsAreFew
-goals_are_few name es = let a = goals_are_counted name es in let b = a.few in let c = alive_is (reached name es) in omega (arith, b, c)
+goals_are_few rules name es = let a = goals_are_counted rules name es in let b = a.few in let c = alive_is (reached rules name es) in omega (arith, b, c)

@@ -255,7 +255,7 @@ start_busy s allowance low high t room b =
 
 keeping : Keeping IsBusy
 keeping = record {
-  fresh = λ name names sessions. record { counted = fresh_counted; idle = λ m. refl };
+  fresh = λ rules name names sessions. record { counted = fresh_counted; idle = λ m. refl };
   seats = λ s n b. record { counted = b.counted; idle = b.idle };
   loads = λ s source m is free b. record { counted = b.counted; idle = b.idle };
   starts = λ s allowance low high t tree may room free b. let d = start_busy s allowance low high t room b in record { counted = d.counted; idle = d.idle };
@@ -282,7 +282,7 @@ has_one true false false e f = absurd (false≢true (sym f))
 has_one false false false e f = absurd (false≢true e)
 
 pub living_have_goals : LivingHaveGoals
-living_have_goals name es n living =
-    let s = reached name es in
-    let b = holds_reached IsBusy keeping name es in
+living_have_goals rules name es n living =
+    let s = reached rules name es in
+    let b = holds_reached IsBusy keeping rules name es in
     has_one (lives n s) (has_goal n s) (has_living_child n s) living (b.idle n)

@@ -116,7 +116,7 @@ by_modules s t e a = subst (λ ms. AllByRecursion IsOrdered ms) (sym e) a
 
 keeping : Keeping AreOrdered
 keeping = record {
-  fresh = λ name names sessions. tt;
+  fresh = λ rules name names sessions. tt;
   seats = λ s n a. a;
   loads = λ s source m e free a. one_more s.modules m a (λ name count. sections_are_in_order source name count m e);
   starts = λ s allowance low high t tree may room free a. by_modules s (start_goal s allowance low high t) (alike_start s allowance low high t).modules a;
@@ -134,6 +134,6 @@ found_ordered [] call a = refl
 found_ordered (m ∷ ms) call a = found_case (bytes_eq m.name call.module_name) m (module_of ms call.module_name) call a.0 (found_ordered ms call a.1)
 
 pub candidates_of_calls_are_open : CandidatesOfCallsAreOpen
-candidates_of_calls_are_open name es call =
-    let ms = (reached name es).modules in
-    candidates_are_open 1 (clauses_of ms call) call.arguments (found_ordered ms call (holds_reached AreOrdered keeping name es))
+candidates_of_calls_are_open rules name es call =
+    let ms = (reached rules name es).modules in
+    candidates_are_open 1 (clauses_of ms call) call.arguments (found_ordered ms call (holds_reached AreOrdered keeping rules name es))

@@ -306,7 +306,7 @@ entered s p = let a = p.1 in (p.0, record { goals = a.goals; shoens = a.shoens; 
 
 keeping : Keeping Tails
 keeping = record {
-  fresh = λ name names sessions. (λ v. 0, record { goals = tt; shoens = tt; above = λ v e. refl });
+  fresh = λ rules name names sessions. (λ v. 0, record { goals = tt; shoens = tt; above = λ v e. refl });
   seats = λ s n p. let a = p.1 in (p.0, record { goals = a.goals; shoens = a.shoens; above = a.above });
   loads = λ s source m is free p. let a = p.1 in (p.0, record { goals = a.goals; shoens = a.shoens; above = a.above });
   starts = λ s allowance low high t tree may room free p. entered (start_goal s allowance low high t) (own_start s allowance low high t may p);
@@ -316,16 +316,16 @@ keeping = record {
 }
 
 pub control_tails_are_unbound : ControlTailsAreUnbound
-control_tails_are_unbound name es n h o there e =
-    let s = reached name es in
-    let p = holds_reached Tails keeping name es in
+control_tails_are_unbound rules name es n h o there e =
+    let s = reached rules name es in
+    let p = holds_reached Tails keeping rules name es in
     let a = p.1 in
     ap is_unbound (the_console p.0 s.last_variable n s.shoens h o there e a.shoens).is
 
 pub control_streams_are_messages : ControlStreamsAreMessages
-control_streams_are_messages name es n h o there e =
-    let s = reached name es in
-    let p = holds_reached Tails keeping name es in
+control_streams_are_messages rules name es n h o there e =
+    let s = reached rules name es in
+    let p = holds_reached Tails keeping rules name es in
     let a = p.1 in
     let k = the_console p.0 s.last_variable n s.shoens h o there e a.shoens in
     (k.messages, k.stream ∙ ap (messages_then k.messages) (sym k.is))

@@ -2,6 +2,38 @@
 use Rattle.std.specs.Prelude.{◌≡◌, ℕ, List, [], ◌∷◌, ◌++◌, codes}
 use Rattle.kl1_model_history.specs.Replay.{replay_output}
 
+-- the bytes of answer_in_another_spelling.journal
+abbrev pub answer_in_another_spelling_journal : List ℕ
+answer_in_another_spelling_journal = codes "journal 2 0 0" ++ 10 ∷ [] ++ codes "start 10 0 10 '='(1,2)" ++ 10 ∷ [] ++ codes "reduce 2 0" ++ 10 ∷ [] ++ codes "answer 1 2 X = 1" ++ 10 ∷ []
+
+-- the bytes of answer_in_another_spelling.expected
+abbrev pub answer_in_another_spelling_output : List ℕ
+answer_in_another_spelling_output = codes "+ shoen 1" ++ 10 ∷ [] ++ codes "+ reduced" ++ 10 ∷ [] ++ codes "fault 4" ++ 10 ∷ []
+
+-- the bytes of answer_in_version_1.journal
+abbrev pub answer_in_version_1_journal : List ℕ
+answer_in_version_1_journal = codes "journal 1 0 0" ++ 10 ∷ [] ++ codes "start 10 0 10 '='(_1,f(_1))" ++ 10 ∷ [] ++ codes "reduce 2 0" ++ 10 ∷ [] ++ codes "answer 1 2 true" ++ 10 ∷ [] ++ codes "reduce 3 0" ++ 10 ∷ [] ++ codes "reduce 4 0" ++ 10 ∷ []
+
+-- the bytes of answer_in_version_1.expected
+abbrev pub answer_in_version_1_output : List ℕ
+answer_in_version_1_output = codes "+ shoen 1" ++ 10 ∷ [] ++ codes "+ reduced" ++ 10 ∷ [] ++ codes "fault 4" ++ 10 ∷ []
+
+-- the bytes of answer_to_no_report.journal
+abbrev pub answer_to_no_report_journal : List ℕ
+answer_to_no_report_journal = codes "journal 2 0 0" ++ 10 ∷ [] ++ codes "start 10 0 10 true" ++ 10 ∷ [] ++ codes "answer 1 2 true" ++ 10 ∷ []
+
+-- the bytes of answer_to_no_report.expected
+abbrev pub answer_to_no_report_output : List ℕ
+answer_to_no_report_output = codes "+ shoen 1" ++ 10 ∷ [] ++ codes "fault 3" ++ 10 ∷ []
+
+-- the bytes of answer_to_report_0.journal
+abbrev pub answer_to_report_0_journal : List ℕ
+answer_to_report_0_journal = codes "journal 2 0 0" ++ 10 ∷ [] ++ codes "start 10 0 10 '='(1,2)" ++ 10 ∷ [] ++ codes "reduce 2 0" ++ 10 ∷ [] ++ codes "answer 1 0 true" ++ 10 ∷ []
+
+-- the bytes of answer_to_report_0.expected
+abbrev pub answer_to_report_0_output : List ℕ
+answer_to_report_0_output = codes "+ shoen 1" ++ 10 ∷ [] ++ codes "+ reduced" ++ 10 ∷ [] ++ codes "fault 4" ++ 10 ∷ []
+
 -- the bytes of bad_source.journal
 abbrev pub bad_source_journal : List ℕ
 bad_source_journal = codes "journal 1 0 0" ++ 10 ∷ [] ++ codes "load 3a" ++ 10 ∷ []
@@ -177,6 +209,22 @@ entry_without_a_feed_journal = codes "journal 1 0 0" ++ 10 ∷ [] ++ codes "star
 -- the bytes of entry_without_a_feed.expected
 abbrev pub entry_without_a_feed_output : List ℕ
 entry_without_a_feed_output = codes "+ shoen 1" ++ 10 ∷ [] ++ codes "fault 3" ++ 10 ∷ []
+
+-- the bytes of exception_and_answer.journal
+abbrev pub exception_and_answer_journal : List ℕ
+exception_and_answer_journal = codes "journal 2 0 0" ++ 10 ∷ [] ++ codes "start 10 0 10 '='(_1,f(_1))" ++ 10 ∷ [] ++ codes "reduce 2 0" ++ 10 ∷ [] ++ codes "answer 1 2 true" ++ 10 ∷ [] ++ codes "reduce 3 0" ++ 10 ∷ [] ++ codes "reduce 4 0" ++ 10 ∷ []
+
+-- the bytes of exception_and_answer.expected
+abbrev pub exception_and_answer_output : List ℕ
+exception_and_answer_output = codes "+ shoen 1" ++ 10 ∷ [] ++ codes "+ reduced" ++ 10 ∷ [] ++ codes "+ sent" ++ 10 ∷ [] ++ codes "+ reduced" ++ 10 ∷ [] ++ codes "+ reduced" ++ 10 ∷ [] ++ codes "+ end 5" ++ 10 ∷ []
+
+-- the bytes of exception_in_version_1.journal
+abbrev pub exception_in_version_1_journal : List ℕ
+exception_in_version_1_journal = codes "journal 1 0 0" ++ 10 ∷ [] ++ codes "start 10 0 10 '='(_1,f(_1))" ++ 10 ∷ [] ++ codes "reduce 2 0" ++ 10 ∷ [] ++ codes "abort 1" ++ 10 ∷ []
+
+-- the bytes of exception_in_version_1.expected
+abbrev pub exception_in_version_1_output : List ℕ
+exception_in_version_1_output = codes "+ shoen 1" ++ 10 ∷ [] ++ codes "+ reduced" ++ 10 ∷ [] ++ codes "fault 4" ++ 10 ∷ []
 
 -- the bytes of five_sessions.journal
 abbrev pub five_sessions_journal : List ℕ
@@ -356,7 +404,7 @@ heading_without_a_feed_output = codes "fault 1" ++ 10 ∷ []
 
 -- the bytes of later_version.journal
 abbrev pub later_version_journal : List ℕ
-later_version_journal = codes "journal 2 0 0" ++ 10 ∷ []
+later_version_journal = codes "journal 3 0 0" ++ 10 ∷ []
 
 -- the bytes of later_version.expected
 abbrev pub later_version_output : List ℕ
@@ -610,6 +658,14 @@ start_and_reduction_journal = codes "journal 1 0 0" ++ 10 ∷ [] ++ codes "start
 abbrev pub start_and_reduction_output : List ℕ
 start_and_reduction_output = codes "+ shoen 1" ++ 10 ∷ [] ++ codes "+ reduced" ++ 10 ∷ [] ++ codes "+ end 2" ++ 10 ∷ []
 
+-- the bytes of start_and_reduction_of_version_2.journal
+abbrev pub start_and_reduction_of_version_2_journal : List ℕ
+start_and_reduction_of_version_2_journal = codes "journal 2 0 0" ++ 10 ∷ [] ++ codes "start 10 0 10 '='(_1,1)" ++ 10 ∷ [] ++ codes "reduce 2 0" ++ 10 ∷ []
+
+-- the bytes of start_and_reduction_of_version_2.expected
+abbrev pub start_and_reduction_of_version_2_output : List ℕ
+start_and_reduction_of_version_2_output = codes "+ shoen 1" ++ 10 ∷ [] ++ codes "+ reduced" ++ 10 ∷ [] ++ codes "+ end 2" ++ 10 ∷ []
+
 -- the bytes of start_without_a_goal.journal
 abbrev pub start_without_a_goal_journal : List ℕ
 start_without_a_goal_journal = codes "journal 1 0 0" ++ 10 ∷ [] ++ codes "start 10 0 10" ++ 10 ∷ []
@@ -652,6 +708,10 @@ version_with_a_leading_zero_output = codes "fault 1" ++ 10 ∷ []
 
 -- each example journal has the output that stands beside it
 pub record JournalsHold : Type 0 where
+  pub answer_in_another_spelling : replay_output answer_in_another_spelling_journal ≡ answer_in_another_spelling_output
+  pub answer_in_version_1 : replay_output answer_in_version_1_journal ≡ answer_in_version_1_output
+  pub answer_to_no_report : replay_output answer_to_no_report_journal ≡ answer_to_no_report_output
+  pub answer_to_report_0 : replay_output answer_to_report_0_journal ≡ answer_to_report_0_output
   pub bad_source : replay_output bad_source_journal ≡ bad_source_output
   pub built_in_name : replay_output built_in_name_journal ≡ built_in_name_output
   pub capital_without_quotes : replay_output capital_without_quotes_journal ≡ capital_without_quotes_output
@@ -674,6 +734,8 @@ pub record JournalsHold : Type 0 where
   pub entry_with_a_tab : replay_output entry_with_a_tab_journal ≡ entry_with_a_tab_output
   pub entry_with_two_blanks : replay_output entry_with_two_blanks_journal ≡ entry_with_two_blanks_output
   pub entry_without_a_feed : replay_output entry_without_a_feed_journal ≡ entry_without_a_feed_output
+  pub exception_and_answer : replay_output exception_and_answer_journal ≡ exception_and_answer_output
+  pub exception_in_version_1 : replay_output exception_in_version_1_journal ≡ exception_in_version_1_output
   pub five_sessions : replay_output five_sessions_journal ≡ five_sessions_output
   pub four_sessions : replay_output four_sessions_journal ≡ four_sessions_output
   pub goal_in_another_spelling : replay_output goal_in_another_spelling_journal ≡ goal_in_another_spelling_output
@@ -728,6 +790,7 @@ pub record JournalsHold : Type 0 where
   pub run_is_no_entry : replay_output run_is_no_entry_journal ≡ run_is_no_entry_output
   pub second_name_that_is_missing : replay_output second_name_that_is_missing_journal ≡ second_name_that_is_missing_output
   pub start_and_reduction : replay_output start_and_reduction_journal ≡ start_and_reduction_output
+  pub start_and_reduction_of_version_2 : replay_output start_and_reduction_of_version_2_journal ≡ start_and_reduction_of_version_2_output
   pub start_without_a_goal : replay_output start_without_a_goal_journal ≡ start_without_a_goal_output
   pub step_that_is_refused : replay_output step_that_is_refused_journal ≡ step_that_is_refused_output
   pub too_many_names_told : replay_output too_many_names_told_journal ≡ too_many_names_told_output

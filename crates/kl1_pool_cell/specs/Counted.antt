@@ -1,7 +1,7 @@
 -- What a book tells of a journal and of those before it.
 use Rattle.std.specs.Prelude.{◌≡◌, ℕ, suc, ◌+◌, ◌≤◌, ◌^◌, Bool, true, false, List, [], ◌∷◌, length}
 use Rattle.kl1_model.specs.Event as model
-use Rattle.kl1_model_history.specs.Journal.{Entry, loads, starts, sends, steps, Journal}
+use Rattle.kl1_model_history.specs.Journal.{Entry, loads, starts, sends, steps, answers, Journal}
 use Rattle.kl1_tally.specs.Seats.{Book}
 use Rattle.kl1_pool_cell.specs.declared.past.Past.{Past}
 
@@ -11,6 +11,7 @@ reduces_in [] = 0
 reduces_in (loads text ∷ es) = reduces_in es
 reduces_in (starts allowance low high t ∷ es) = reduces_in es
 reduces_in (sends n m ∷ es) = reduces_in es
+reduces_in (answers n report t ∷ es) = reduces_in es
 reduces_in (steps goal clause ∷ es) = suc (reduces_in es)
 
 -- no journal was ended yet

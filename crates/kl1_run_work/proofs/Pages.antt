@@ -9,7 +9,7 @@ use Rattle.kl1_model.specs.Limits.{most_listed, most_reports, number_limit}
 use Rattle.kl1_model.specs.Print.{cut_print}
 use Rattle.kl1_model.specs.State.{Origin, State}
 use Rattle.kl1_model.specs.Event.{syntax, reports, refuse, is_number}
-use Rattle.kl1_model.specs.Asking.{answer, reports_of, origin_at, elements_of}
+use Rattle.kl1_model.specs.Asking.{reply_to, reports_of, origin_at, elements_of}
 use Rattle.kl1_model_history.specs.Command.{written_line, written_lines}
 use Rattle.kl1_run_work.specs.Answers.{listed_in, is_exception, reports_by, reports_in, all_reports, report_lines, exception_lines}
 
@@ -27,7 +27,7 @@ page_by v false y o s from e f = false_true _ e
 page_by v x false o s from e f = false_true _ f
 
 -- a page lists the reports after those before
-pub page_is : (s : State) (n done : ℕ) → done < 65536 → listed_in (answer s (reports n (done + 1))).reply ≡ take most_listed (drop done (reports_in s n))
+pub page_is : (s : State) (n done : ℕ) → done < 65536 → listed_in (reply_to s (reports n (done + 1))).reply ≡ take most_listed (drop done (reports_in s n))
 unfolding reports_in
 page_is s n done few =
     let one : done + 1 - 1 ≡ done = omega arith in

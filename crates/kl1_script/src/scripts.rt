@@ -21,7 +21,7 @@ use kl1_command_lines::{
     NextRecord, Record, ScriptFault, Sink, Source, finish, next_record, pass_on, read_all,
     split_line,
 };
-use kl1_world::{AccountName, World};
+use kl1_world::{AccountName, Rules, World};
 use std::alloc::Global;
 use std::sync::Wait;
 
@@ -114,7 +114,7 @@ pub fn answer_over<A: AtomSource + Drop, C: CodeSource + Drop, W: Sink>(
     requires seats { AreNewSeats A.is_of A.place A.knows names seats.items }
     ensures { Ends (W.contents sink.old) (W.contents sink.new) (W.failures sink.old) (W.failures sink.new) (written_records accounts.now (records_of text.now)) (λ n. first_written n (Some accounts.now) (records_of text.now).list) result }
 {
-    match World::new(alloc, names, seats, codes, accounts) {
+    match World::new(alloc, names, seats, codes, accounts, Rules::Two) {
         Ok(mut world) => {
             let mut out = Vec::new(alloc);
             answer_each(alloc, accounts, &mut world, text, &mut out, sink)

@@ -21,6 +21,7 @@ use kl1_codes::{CodeSource, CodeTable, SharedCodes};
 use kl1_command_lines::{ScriptFault, Sink, Source, read_all};
 use kl1_journal_entries::{Heading, heading_of, next_line};
 use kl1_text::AtomText;
+use kl1_user::Rules;
 use std::alloc::Global;
 use std::sync::Wait;
 
@@ -78,11 +79,19 @@ fn answer_headed<H: Wait, W: Sink>(
 ) -> Result<(), ScriptFault>
     requires names { heading.names ≤ most_names }
     requires small { length text.now ≤ most_script_bytes }
-    ensures { Ends (W.contents sink.old) (W.contents sink.new) (W.failures sink.old) (W.failures sink.new) (written_names heading.names 2 heading.sessions [] (lines_of text.now).whole (lines_of text.now).rest) (λ n. first_names n heading.names heading.sessions [] (lines_of text.now).whole) result }
+    ensures { Ends (W.contents sink.old) (W.contents sink.new) (W.failures sink.old) (W.failures sink.new) (written_names heading.names 2 heading.rules heading.sessions [] (lines_of text.now).whole (lines_of text.now).rest) (λ n. first_names n heading.names heading.rules heading.sessions [] (lines_of text.now).whole) result }
 {
     match names_in(alloc, heading.names, text) {
         Ok(Named::All { names, rest }) => {
-            answer_shared(rt, alloc, heading.sessions, names.as_slice(), rest, sink)
+            answer_shared(
+                rt,
+                alloc,
+                heading.rules,
+                heading.sessions,
+                names.as_slice(),
+                rest,
+                sink,
+            )
         }
         Ok(Named::Fault { line }) => finish_fault(sink, b"", line),
         Err(_) => Err(ScriptFault::Memory),
@@ -93,6 +102,7 @@ fn answer_headed<H: Wait, W: Sink>(
 fn answer_shared<H: Wait, W: Sink>(
     rt: &H,
     alloc: Global,
+    rules: Rules,
     sessions: u64,
     texts: &[AtomText],
     text: &[u8],
@@ -101,7 +111,7 @@ fn answer_shared<H: Wait, W: Sink>(
     requires list { IsNameList texts.now }
     requires few { length texts.now ≤ most_names }
     requires small { length text.now ≤ most_script_bytes }
-    ensures { Ends (W.contents sink.old) (W.contents sink.new) (W.failures sink.old) (W.failures sink.new) (written_entries (2 + length texts.now) 0 (fresh_with replay_name texts.now sessions) (lines_of text.now).whole (lines_of text.now).rest) (λ n. first_entries n (fresh_with replay_name texts.now sessions) (lines_of text.now).whole) result }
+    ensures { Ends (W.contents sink.old) (W.contents sink.new) (W.failures sink.old) (W.failures sink.new) (written_entries (2 + length texts.now) 0 (fresh_with rules replay_name texts.now sessions) (lines_of text.now).whole (lines_of text.now).rest) (λ n. first_entries n (fresh_with rules replay_name texts.now sessions) (lines_of text.now).whole) result }
 {
     let Ok(codes) = CodeTable::new(alloc) else {
         return Err(ScriptFault::Memory);
@@ -114,6 +124,7 @@ fn answer_shared<H: Wait, W: Sink>(
                 SharedAtoms { table: &table },
                 seat,
                 SharedCodes { table: &codes, rt },
+                rules,
                 sessions,
                 texts,
                 text,
@@ -124,13 +135,15 @@ fn answer_shared<H: Wait, W: Sink>(
     }
 }
 
-/// Writes what is written for the entries whose lines a text has, in a journal of these names and this number of open sessions, over any
+/// Writes what is written for the entries whose lines a text has, in a journal of these rules, these names and this number of open
+/// sessions, over any
 /// table of names and a seat that knows the built-in names alone, and any source of codes.
 pub fn replay_over<A: AtomSource + Drop, C: CodeSource + Drop, W: Sink>(
     alloc: Global,
     names: A,
     seat: A::Seat,
     codes: C,
+    rules: Rules,
     sessions: u64,
     texts: &[AtomText],
     text: &[u8],
@@ -141,10 +154,10 @@ pub fn replay_over<A: AtomSource + Drop, C: CodeSource + Drop, W: Sink>(
     requires list { IsNameList texts.now }
     requires few { length texts.now ≤ most_names }
     requires small { length text.now ≤ most_script_bytes }
-    ensures { Ends (W.contents sink.old) (W.contents sink.new) (W.failures sink.old) (W.failures sink.new) (written_entries (2 + length texts.now) 0 (fresh_with replay_name texts.now sessions) (lines_of text.now).whole (lines_of text.now).rest) (λ n. first_entries n (fresh_with replay_name texts.now sessions) (lines_of text.now).whole) result }
+    ensures { Ends (W.contents sink.old) (W.contents sink.new) (W.failures sink.old) (W.failures sink.new) (written_entries (2 + length texts.now) 0 (fresh_with rules replay_name texts.now sessions) (lines_of text.now).whole (lines_of text.now).rest) (λ n. first_entries n (fresh_with rules replay_name texts.now sessions) (lines_of text.now).whole) result }
 {
     let first = texts.len() as u64 + 2;
-    match Replayed::new(alloc, sessions, texts, names, seat, codes) {
+    match Replayed::new(alloc, rules, sessions, texts, names, seat, codes) {
         Ok(mut replayed) => {
             let mut out = Vec::new(alloc);
             answer_entries(alloc, &mut replayed, first, text, &mut out, sink)

@@ -14,6 +14,7 @@ ghost use Rattle.kl1_store.specs.Tops.{firsts, others};
 
 mod build_one;
 mod constants;
+mod renaming;
 
 use crate::cell::Cell;
 use crate::cells::Cells;

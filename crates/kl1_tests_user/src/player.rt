@@ -8,7 +8,7 @@ use kl1_codes::PlainCodes;
 use kl1_command::Host;
 use kl1_model::limits::MOST_ACCOUNTS;
 use kl1_user_events::{ClauseNo, Event, GoalNo, Listed, Reply};
-use kl1_world::{AccountName, World};
+use kl1_world::{AccountName, Rules, World};
 use std::alloc::{AllocError, Global};
 use std::marker::Model;
 
@@ -41,7 +41,7 @@ fn are_of(count: usize, events: &[(usize, Event)]) -> bool
 }
 
 impl Player {
-    /// Accounts of these names, in which nothing has happened; an `Err` also if there are none or too many.
+    /// Accounts of these names, which keep to the first rules, in which nothing has happened; an `Err` also if there are none or too many.
     pub fn new(alloc: Global, accounts: &[AccountName]) -> Result<Self, AllocError> {
         let count = accounts.len();
         if count == 0 || count > MOST_ACCOUNTS {
@@ -49,7 +49,7 @@ impl Player {
         }
         let (names, seats) = PlainTable::new(alloc, count)?;
         let codes = PlainCodes::new(alloc);
-        let world = World::new(alloc, names, seats, codes, accounts)?;
+        let world = World::new(alloc, names, seats, codes, accounts, Rules::One)?;
         Ok(Player { world, count })
     }
 

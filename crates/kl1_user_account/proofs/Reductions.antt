@@ -172,6 +172,7 @@ is_new h p places text (move.Names x) known i = by_case (number_by known text) (
     by_case (Some n) b e f = tt
 is_new h p places text (move.Opens s) known i = tt
 is_new h p places text move.Goes known i = tt
+is_new h p places text move.GivesWay known i = tt
 
 -- ---- reductions that are drafted
 

@@ -15,7 +15,7 @@ use Rattle.kl1_store.specs.Sound.{Grown}
 use Rattle.kl1_store.proofs.Grows.{Grown-trans}
 use Rattle.kl1_clause.specs.declared.instruction.Instruction.{Instruction}
 use Rattle.kl1_goals.specs.declared.task.Task.{Task}
-use Rattle.kl1_goals.specs.declared.task.Task.TheVariants.{Monitor, Reduces}
+use Rattle.kl1_goals.specs.declared.task.Task.TheVariants.{Monitor, Reduces, Substitutes}
 use Rattle.kl1_goals.specs.declared.goal.Goal.{Goal}
 use Rattle.kl1_goals.specs.Lists.{is_monitor, is_monitor_task}
 use Rattle.kl1_shoen_paths.specs.declared.shoen.Shoen.{Shoen}
@@ -125,6 +125,7 @@ started_named a b mid texts row numbers count cells awaited o allowance low high
 monitor_read : (t : Means) (k : Task CellName) → model.is_monitor (task_with t k) ≡ is_monitor_task k
 monitor_read t Monitor = refl
 monitor_read t (Reduces q) = refl
+monitor_read t (Substitutes x) = refl
 
 -- how many goals are alive
 pub alive_read : (t : Means) (gs : List (Goal CellName)) → count_by (λ (g : model.Goal). not (model.is_monitor g.task)) (map (goal_with t) gs) ≡ count_by (λ (g : Goal CellName). not (is_monitor g)) gs

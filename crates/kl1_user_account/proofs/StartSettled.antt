@@ -28,7 +28,7 @@ use Rattle.kl1_clause.specs.Instructions.{IsRowOf}
 use Rattle.kl1_clause.specs.NameList.{with_texts}
 use Rattle.kl1_match.specs.Waiting.{AreSame}
 use Rattle.kl1_goals.specs.declared.task.Task.{Task}
-use Rattle.kl1_goals.specs.declared.task.Task.TheVariants.{Monitor, Reduces}
+use Rattle.kl1_goals.specs.declared.task.Task.TheVariants.{Monitor, Reduces, Substitutes}
 use Rattle.kl1_goals.specs.declared.goal.Goal.{Goal}
 use Rattle.kl1_goals.specs.Lists.{is_monitor}
 use Rattle.kl1_shoen_paths.specs.declared.shoen.Shoen.{Shoen}
@@ -91,6 +91,7 @@ settled_old f hooks more h k ms ss x g agree i inside ne up s =
     by_task : (t : Task CellName) → IsTaskIn h t → task_with (meaning f h) t ≡ task_with (meaning f k) t
     by_task Monitor j = refl
     by_task (Reduces q) j = ap model.reduces (aims_same h (meaning f h) (meaning f k) agree q j)
+    by_task (Substitutes x) j = ap model.substitutes (agree x j)
 
     by_front : (y : Option (Cell CellName)) → control_at ss g.shoen ≡ y → front_with (meaning f h) y ≡ front_with (meaning f k) y
     by_front None e = refl

@@ -10,3 +10,4 @@ pub mod Asked
 pub mod Finishing
 pub mod Sending
 pub mod Beginning
+pub mod Answering

@@ -1,5 +1,6 @@
 -- Reductions: which are refused, and what an account is after a draft is put in place.
 use Rattle.std.specs.Prelude.{◌≡◌, ℕ, suc, ◌+◌, ◌<◌, ◌≤◌, [], ◌&&◌, nat_lt, if◌then◌else◌, Bool, true, false, List, length, find, Option, Some, None}
+use Rattle.kl1_model.specs.declared.rules.Rules.{Rules}
 use Rattle.kl1_model.specs.Limits.{most_entries}
 use Rattle.kl1_model.specs.Ending.{settle}
 use Rattle.kl1_model.specs.Reduction as model
@@ -116,10 +117,11 @@ put_in a h t d = record a {
   entries = suc a.entries;
 }
 
--- an account of this name, with this number of open sessions and these parts
-abbrev pub account_at : (List ℕ × ℕ) → Held CellName → List (Goal CellName) → Tree CellName → List Numbered → List Known → ℕ → ℕ → ℕ → ℕ → ℕ → Account
-account_at own h goals t ms known last variables nodes reports entries = record {
+-- an account of this name, with this number of open sessions, with these rules and parts
+abbrev pub account_at : (List ℕ × ℕ) → Rules → Held CellName → List (Goal CellName) → Tree CellName → List Numbered → List Known → ℕ → ℕ → ℕ → ℕ → ℕ → Account
+account_at own rules h goals t ms known last variables nodes reports entries = record {
   own_name = own.0;
+  rules = rules;
   held = h;
   goals = goals;
   shoens = t.shoens;

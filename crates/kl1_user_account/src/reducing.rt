@@ -11,7 +11,7 @@ ghost use Rattle.kl1_model.specs.Term.{Term};
 ghost use Rattle.kl1_text.specs.declared.cell_name.CellName.{CellName};
 ghost use Rattle.kl1_store.specs.Held.{Held};
 ghost use Rattle.kl1_store.specs.Hooks.{HasGrown};
-ghost use Rattle.kl1_goals.specs.declared.task.Task.TheVariants.{Monitor, Reduces};
+ghost use Rattle.kl1_goals.specs.declared.task.Task.TheVariants.{Monitor, Reduces, Substitutes};
 ghost use Rattle.kl1_user_effects.specs.Fitting.{Reading};
 ghost use Rattle.kl1_user_effects.specs.Account.{aim};
 ghost use Rattle.kl1_user_effects.specs.Kept.{AreShoensIn};
@@ -29,10 +29,10 @@ use kl1_clause::Predicate;
 use kl1_codes::CodeSource;
 use kl1_codes_modules::CodedModules;
 use kl1_goals::{Goal, GoalTable, Task};
-use kl1_goals_moves::{Kind, Move, Trial, kind_of_qualified, move_of};
+use kl1_goals_moves::{Kind, Move, Trial, kind_of_qualified, move_of, substitute_move};
 use kl1_model::limits::MOST_ENTRIES;
 use kl1_shoen::ShoenTree;
-use kl1_store::{Qualified, Store};
+use kl1_store::{Cell, Qualified, Store};
 use kl1_stream::{Control, read_control};
 use kl1_text::CellName;
 use kl1_user_effects::{AccountNames, Draft, Walk};
@@ -154,9 +154,9 @@ fn draft_reading<C: CodeSource>(
 ) -> Result<Option<Refusal>, AllocError>
     requires steppable { IsSteppable goals.old.goals goal.number clause goal }
     requires monitor { goal.task ≡ Monitor }
-    requires begun { IsBegun 0 draft.old.last_goal draft.old.variables draft.old.nodes draft.old.reports draft.old }
-    requires kept { (own : List ℕ × ℕ) → IsKept (account_at own store.old.held goals.old.goals shoens.old modules.now.loaded names.now.names draft.old.last_goal draft.old.variables draft.old.nodes draft.old.reports entries) store.old.hooks goals.old.shoens }
-    ensures ok { IfOk result (λ refused. (own : List ℕ × ℕ) → ReducesAs (account_at own store.old.held goals.old.goals shoens.old modules.now.loaded names.now.names draft.old.last_goal draft.old.variables draft.old.nodes draft.old.reports entries) goal.number clause store.old store.new shoens.old shoens.new goals.new draft.new refused) }
+    requires begun { IsBegun 0 draft.old.rules draft.old.last_goal draft.old.variables draft.old.nodes draft.old.reports draft.old }
+    requires kept { (own : List ℕ × ℕ) → IsKept (account_at own draft.old.rules store.old.held goals.old.goals shoens.old modules.now.loaded names.now.names draft.old.last_goal draft.old.variables draft.old.nodes draft.old.reports entries) store.old.hooks goals.old.shoens }
+    ensures ok { IfOk result (λ refused. (own : List ℕ × ℕ) → ReducesAs (account_at own draft.old.rules store.old.held goals.old.goals shoens.old modules.now.loaded names.now.names draft.old.last_goal draft.old.variables draft.old.nodes draft.old.reports entries) goal.number clause store.old store.new shoens.old shoens.new goals.new draft.new refused) }
     ensures back { CanGoBack shoens.old shoens.new }
     ensures grown { HasGrown store.old store.new }
     ensures goals { goals.new.goals ≡ goals.old.goals }
@@ -192,6 +192,97 @@ fn draft_reading<C: CodeSource>(
     Ok(None)
 }
 
+/// Drafts a move of a goal, which may step, and which a draft removes, for a cell. The predicate of goals of its kind is known. The draft
+/// has begun with what the account has.
+#[inline(always)]
+fn draft_made<C: CodeSource>(
+    store: &mut Store<CellName>,
+    goals: &mut GoalTable<CellName>,
+    shoens: &mut ShoenTree<CellName>,
+    modules: &CodedModules<'_, C>,
+    names: &mut AccountNames,
+    trial: &mut Trial<CellName>,
+    draft: &mut Draft,
+    walk: &mut Walk,
+    goal: Goal<CellName>,
+    cell: Qualified<CellName>,
+    kind: Kind<CellName>,
+    predicate: Predicate<'_, CellName>,
+    made: Move<CellName>,
+) -> Result<(), AllocError> {
+    // Only for the proof: the goals are in order of number.
+    let _ordered = goals.shoens();
+    // Only for the proof: reductions were done in shoens that are there.
+    let _worked = shoens.len();
+    let mark = store.mark();
+    draft.removed = goal.number;
+    let alive = goals.alive() - 1;
+    do_or_spell(
+        store, goals, shoens, draft, walk, names, alive, predicate, made, trial, goal, cell,
+    )?;
+    finish(
+        store, goals, shoens, modules, &kind, &predicate, trial, draft, walk, mark, goal.shoen,
+    )
+}
+
+/// Drafts what a substitute does, which may step, for what a cell is, by clause `clause`, for an account with `entries` entries in
+/// its journal, or says why it is refused. The draft has begun with what the account has.
+fn draft_substitute<C: CodeSource>(
+    store: &mut Store<CellName>,
+    goals: &mut GoalTable<CellName>,
+    shoens: &mut ShoenTree<CellName>,
+    modules: &CodedModules<'_, C>,
+    names: &mut AccountNames,
+    trial: &mut Trial<CellName>,
+    draft: &mut Draft,
+    walk: &mut Walk,
+    entries: u64,
+    goal: Goal<CellName>,
+    term: Cell<CellName>,
+    clause: u64,
+) -> Result<Option<Refusal>, AllocError>
+    requires steppable { IsSteppable goals.old.goals goal.number clause goal }
+    requires substitutes { goal.task ≡ Substitutes term }
+    requires level { goal.priority ≤ monitor_priority }
+    requires begun { IsBegun 0 draft.old.rules draft.old.last_goal draft.old.variables draft.old.nodes draft.old.reports draft.old }
+    requires kept { (own : List ℕ × ℕ) → IsKept (account_at own draft.old.rules store.old.held goals.old.goals shoens.old modules.now.loaded names.old.names draft.old.last_goal draft.old.variables draft.old.nodes draft.old.reports entries) store.old.hooks goals.old.shoens }
+    ensures ok { IfOk result (λ refused. (own : List ℕ × ℕ) → ReducesAs (account_at own draft.old.rules store.old.held goals.old.goals shoens.old modules.now.loaded names.old.names draft.old.last_goal draft.old.variables draft.old.nodes draft.old.reports entries) goal.number clause store.old store.new shoens.old shoens.new goals.new draft.new refused) }
+    ensures back { CanGoBack shoens.old shoens.new }
+    ensures grown { HasGrown store.old store.new }
+    ensures goals { goals.new.goals ≡ goals.old.goals }
+    ensures shoens { goals.new.shoens ≡ goals.old.shoens }
+    ensures names { names.new.names ≡ names.old.names }
+    ensures room { IfOk result (λ refused. refused ≡ None → HasRoomFor names.new.room draft.new.name) }
+{
+    let Some(made) = substitute_move(store, term, clause) else {
+        return Ok(Some(Refusal::Step));
+    };
+    if MOST_ENTRIES <= entries {
+        return Ok(Some(Refusal::Journal));
+    }
+    let cell = Qualified {
+        module_name: None,
+        cell: term,
+    };
+    let predicate = predicate_of(modules, Kind::Nothing);
+    draft_made(
+        store,
+        goals,
+        shoens,
+        modules,
+        names,
+        trial,
+        draft,
+        walk,
+        goal,
+        cell,
+        Kind::Nothing,
+        predicate,
+        made,
+    )?;
+    Ok(None)
+}
+
 /// Drafts the move that a goal for a cell does, which may step, by clause `clause`, for an account with `entries` entries in its
 /// journal, or says why it is refused. The draft has begun with what the account has.
 #[inline(always)]
@@ -212,9 +303,9 @@ fn draft_move<C: CodeSource>(
     requires steppable { IsSteppable goals.old.goals goal.number clause goal }
     requires reduces { goal.task ≡ Reduces cell }
     requires level { goal.priority ≤ monitor_priority }
-    requires begun { IsBegun 0 draft.old.last_goal draft.old.variables draft.old.nodes draft.old.reports draft.old }
-    requires kept { (own : List ℕ × ℕ) → IsKept (account_at own store.old.held goals.old.goals shoens.old modules.now.loaded names.old.names draft.old.last_goal draft.old.variables draft.old.nodes draft.old.reports entries) store.old.hooks goals.old.shoens }
-    ensures ok { IfOk result (λ refused. (own : List ℕ × ℕ) → ReducesAs (account_at own store.old.held goals.old.goals shoens.old modules.now.loaded names.old.names draft.old.last_goal draft.old.variables draft.old.nodes draft.old.reports entries) goal.number clause store.old store.new shoens.old shoens.new goals.new draft.new refused) }
+    requires begun { IsBegun 0 draft.old.rules draft.old.last_goal draft.old.variables draft.old.nodes draft.old.reports draft.old }
+    requires kept { (own : List ℕ × ℕ) → IsKept (account_at own draft.old.rules store.old.held goals.old.goals shoens.old modules.now.loaded names.old.names draft.old.last_goal draft.old.variables draft.old.nodes draft.old.reports entries) store.old.hooks goals.old.shoens }
+    ensures ok { IfOk result (λ refused. (own : List ℕ × ℕ) → ReducesAs (account_at own draft.old.rules store.old.held goals.old.goals shoens.old modules.now.loaded names.old.names draft.old.last_goal draft.old.variables draft.old.nodes draft.old.reports entries) goal.number clause store.old store.new shoens.old shoens.new goals.new draft.new refused) }
     ensures back { CanGoBack shoens.old shoens.new }
     ensures grown { HasGrown store.old store.new }
     ensures goals { goals.new.goals ≡ goals.old.goals }
@@ -230,18 +321,8 @@ fn draft_move<C: CodeSource>(
         Err(refusal) => return Ok(Some(refusal)),
         Ok(made) => made,
     };
-    // Only for the proof: the goals are in order of number.
-    let _ordered = goals.shoens();
-    // Only for the proof: reductions were done in shoens that are there.
-    let _worked = shoens.len();
-    let mark = store.mark();
-    draft.removed = goal.number;
-    let alive = goals.alive() - 1;
-    do_or_spell(
-        store, goals, shoens, draft, walk, names, alive, predicate, made, trial, goal, cell,
-    )?;
-    finish(
-        store, goals, shoens, modules, &kind, &predicate, trial, draft, walk, mark, goal.shoen,
+    draft_made(
+        store, goals, shoens, modules, names, trial, draft, walk, goal, cell, kind, predicate, made,
     )?;
     Ok(None)
 }
@@ -262,9 +343,9 @@ fn draft_reduction<C: CodeSource>(
     number: u64,
     clause: u64,
 ) -> Result<Option<Refusal>, AllocError>
-    requires begun { IsBegun 0 draft.old.last_goal draft.old.variables draft.old.nodes draft.old.reports draft.old }
-    requires kept { (own : List ℕ × ℕ) → IsKept (account_at own store.old.held goals.old.goals shoens.old modules.now.loaded names.old.names draft.old.last_goal draft.old.variables draft.old.nodes draft.old.reports entries) store.old.hooks goals.old.shoens }
-    ensures ok { IfOk result (λ refused. (own : List ℕ × ℕ) → ReducesAs (account_at own store.old.held goals.old.goals shoens.old modules.now.loaded names.old.names draft.old.last_goal draft.old.variables draft.old.nodes draft.old.reports entries) number clause store.old store.new shoens.old shoens.new goals.new draft.new refused) }
+    requires begun { IsBegun 0 draft.old.rules draft.old.last_goal draft.old.variables draft.old.nodes draft.old.reports draft.old }
+    requires kept { (own : List ℕ × ℕ) → IsKept (account_at own draft.old.rules store.old.held goals.old.goals shoens.old modules.now.loaded names.old.names draft.old.last_goal draft.old.variables draft.old.nodes draft.old.reports entries) store.old.hooks goals.old.shoens }
+    ensures ok { IfOk result (λ refused. (own : List ℕ × ℕ) → ReducesAs (account_at own draft.old.rules store.old.held goals.old.goals shoens.old modules.now.loaded names.old.names draft.old.last_goal draft.old.variables draft.old.nodes draft.old.reports entries) number clause store.old store.new shoens.old shoens.new goals.new draft.new refused) }
     ensures back { CanGoBack shoens.old shoens.new }
     ensures grown { HasGrown store.old store.new }
     ensures goals { goals.new.goals ≡ goals.old.goals }
@@ -282,6 +363,9 @@ fn draft_reduction<C: CodeSource>(
         ),
         Task::Reduces(cell) => draft_move(
             store, goals, shoens, modules, names, trial, draft, walk, entries, goal, cell, clause,
+        ),
+        Task::Substitutes(term) => draft_substitute(
+            store, goals, shoens, modules, names, trial, draft, walk, entries, goal, term, clause,
         ),
     }
 }
@@ -313,9 +397,9 @@ pub(crate) fn draft_named<C: CodeSource>(
     number: u64,
     clause: u64,
 ) -> Result<Option<Refusal>, AllocError>
-    requires begun { IsBegun 0 draft.old.last_goal draft.old.variables draft.old.nodes draft.old.reports draft.old }
-    requires kept { (own : List ℕ × ℕ) → IsKept (account_at own store.old.held goals.old.goals shoens.old modules.now.loaded names.old.names draft.old.last_goal draft.old.variables draft.old.nodes draft.old.reports entries) store.old.hooks goals.old.shoens }
-    ensures ok { IfOk result (λ refused. (own : List ℕ × ℕ) → ReducesAs (account_at own store.old.held goals.old.goals shoens.old modules.now.loaded names.old.names draft.old.last_goal draft.old.variables draft.old.nodes draft.old.reports entries) number clause store.old store.new shoens.old shoens.new goals.new draft.new refused) }
+    requires begun { IsBegun 0 draft.old.rules draft.old.last_goal draft.old.variables draft.old.nodes draft.old.reports draft.old }
+    requires kept { (own : List ℕ × ℕ) → IsKept (account_at own draft.old.rules store.old.held goals.old.goals shoens.old modules.now.loaded names.old.names draft.old.last_goal draft.old.variables draft.old.nodes draft.old.reports entries) store.old.hooks goals.old.shoens }
+    ensures ok { IfOk result (λ refused. (own : List ℕ × ℕ) → ReducesAs (account_at own draft.old.rules store.old.held goals.old.goals shoens.old modules.now.loaded names.old.names draft.old.last_goal draft.old.variables draft.old.nodes draft.old.reports entries) number clause store.old store.new shoens.old shoens.new goals.new draft.new refused) }
     ensures back { CanGoBack shoens.old shoens.new }
     ensures grown { HasGrown store.old store.new }
     ensures goals { goals.new.goals ≡ goals.old.goals }

@@ -19,7 +19,7 @@ use crate::limits::is_number;
 use crate::looking::{predicate_of, wake_told};
 use kl1_codes::CodeSource;
 use kl1_codes_modules::CodedModules;
-use kl1_goals::GoalTable;
+use kl1_goals::{GoalTable, Rules};
 use kl1_goals_moves::{Kind, Trial};
 use kl1_model::Message;
 use kl1_model::limits::{MOST_ENTRIES, MOST_NODES, MOST_VARIABLES};
@@ -126,7 +126,7 @@ fn put_message(
 }
 
 /// Looks at the goals and monitors that hang on what was bound since a mark. If memory is refused, more may hang.
-fn wake_bound<C: CodeSource>(
+pub(crate) fn wake_bound<C: CodeSource>(
     store: &mut Store<CellName>,
     goals: &GoalTable<CellName>,
     shoens: &ShoenTree<CellName>,
@@ -168,6 +168,7 @@ pub(crate) fn draft_message<C: CodeSource>(
     modules: &CodedModules<'_, C>,
     trial: &mut Trial<CellName>,
     draft: &mut Draft,
+    rules: Rules,
     last_goal: u64,
     variables: u64,
     nodes: u64,
@@ -190,7 +191,7 @@ pub(crate) fn draft_message<C: CodeSource>(
         Ok(origin) => origin,
         Err(refusal) => return Ok(Some(refusal)),
     };
-    begin_draft(draft, 0, last_goal, variables, nodes, reports);
+    begin_draft(draft, rules, 0, last_goal, variables, nodes, reports);
     put_message(store, shoens, draft, number, origin.control, message)?;
     wake_bound(store, goals, shoens, modules, trial, draft, mark)?;
     Ok(None)

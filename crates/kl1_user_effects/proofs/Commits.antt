@@ -21,7 +21,7 @@ use Rattle.kl1_store.specs.Held.{Held}
 use Rattle.kl1_store.specs.InModules.{qualified_list, AreQualifiedIn}
 use Rattle.kl1_store.specs.Sound.{Grown}
 use Rattle.kl1_goals.specs.declared.task.Task.{Task}
-use Rattle.kl1_goals.specs.declared.task.Task.TheVariants.{Monitor, Reduces}
+use Rattle.kl1_goals.specs.declared.task.Task.TheVariants.{Monitor, Reduces, Substitutes}
 use Rattle.kl1_goals.specs.declared.goal.Goal.{Goal}
 use Rattle.kl1_goals.specs.Lists.{is_other, is_monitor, is_monitor_task}
 use Rattle.kl1_shoen_paths.specs.declared.shoen.Shoen.{Shoen}
@@ -155,6 +155,7 @@ commit_turns ms h k w goal o ps fresh nodes cells candidate i g there own inside
 tasks_count : (t : Means) (k : Task CellName) → not (model.is_monitor (task_with t k)) ≡ not (is_monitor_task k)
 tasks_count t Monitor = refl
 tasks_count t (Reduces x) = refl
+tasks_count t (Substitutes x) = refl
 
 pub alive_read : (t : Means) (gs : List (Goal CellName)) → count_by (λ (g : model.Goal). not (model.is_monitor g.task)) (map (goal_with t) gs) ≡ count_by (λ g. not (is_monitor g)) gs
 alive_read t [] = refl

@@ -5,7 +5,7 @@ use Rattle.kl1_model.specs.Limits.{monitor_priority}
 use Rattle.kl1_text.specs.declared.cell_name.CellName.{CellName}
 use Rattle.kl1_store.specs.Held.{Held, IsIn}
 use Rattle.kl1_goals.specs.declared.task.Task.{Task}
-use Rattle.kl1_goals.specs.declared.task.Task.TheVariants.{Monitor, Reduces}
+use Rattle.kl1_goals.specs.declared.task.Task.TheVariants.{Monitor, Reduces, Substitutes}
 use Rattle.kl1_goals.specs.declared.goal.Goal.{Goal}
 use Rattle.kl1_shoen_paths.specs.declared.shoen.Origin.{Origin}
 use Rattle.kl1_shoen_paths.specs.declared.shoen.Shoen.{Shoen}
@@ -14,6 +14,7 @@ use Rattle.kl1_shoen_paths.specs.declared.shoen.Shoen.{Shoen}
 abbrev pub IsTaskIn : Held CellName → Task CellName → Type 0
 IsTaskIn h Monitor = Unit {0}
 IsTaskIn h (Reduces q) = IsIn h q.cell
+IsTaskIn h (Substitutes x) = IsIn h x
 
 -- the cells of goals are of the store
 abbrev pub AreGoalsIn : Held CellName → List (Goal CellName) → Type 0

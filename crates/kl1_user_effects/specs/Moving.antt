@@ -50,6 +50,7 @@ ReadsMove (move.Unifies a b) ms h known text = Unit {0}
 ReadsMove (move.Names a) ms h known text = ReadsName ms h known text a
 ReadsMove (move.Opens s) ms h known text = Unit {0}
 ReadsMove move.Goes ms h known text = Unit {0}
+ReadsMove move.GivesWay ms h known text = Unit {0}
 
 -- the name that is drafted by a move, if this text stands for a name
 abbrev pub name_for : Move CellName → List Known → List ℕ → Option (List ℕ)
@@ -59,6 +60,7 @@ name_for (move.Unifies a b) known text = None
 name_for (move.Names a) known text = name_of (number_by known text) (keeps_names known text) text
 name_for (move.Opens s) known text = None
 name_for move.Goes known text = None
+name_for move.GivesWay known text = None
 
 -- a goal of an account with these goals and names, which is this cell and has been removed, has done this move by some
 -- clause, if this text stands for a name

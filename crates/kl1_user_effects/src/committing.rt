@@ -139,7 +139,7 @@ pub fn commit(
 {
     let needs = needs_of(predicate, place);
     if !has_room(draft, alive, needs) {
-        return raise(store, shoens, draft, goal.shoen, BuiltIn::Exhaustion, cell);
+        return raise(store, shoens, draft, goal, BuiltIn::Exhaustion, cell);
     }
     // Only for the proof: the shoens are numbered in order.
     let _numbered = shoens.len();

@@ -18,9 +18,9 @@ use crate::committing::commit;
 use crate::draft::Draft;
 use crate::names::AccountNames;
 use crate::naming::name_term;
-use crate::reporting::{raise, unify};
+use crate::reporting::{raise, replace_goal, unify};
 use kl1_clause::Predicate;
-use kl1_goals::{Goal, GoalTable};
+use kl1_goals::{Goal, GoalTable, Task};
 use kl1_goals_moves::{Move, Trial, order_at};
 use kl1_shoen::ShoenTree;
 use kl1_store::{Qualified, Store};
@@ -72,11 +72,11 @@ pub fn do_move(
         Move::Commits(place) => commit(
             store, goals, shoens, draft, alive, predicate, place, trial, goal, cell,
         ),
-        Move::Raises(kind) => raise(store, shoens, draft, goal.shoen, kind, cell),
-        Move::Unifies(left, right) => { unify(store, shoens, draft, goal.shoen, cell, left, right) }
+        Move::Raises(kind) => raise(store, shoens, draft, goal, kind, cell),
+        Move::Unifies(left, right) => unify(store, shoens, draft, goal, cell, left, right),
         Move::Names(target) => {
             let text = AtomText::of(trial.text.as_slice());
-            name_term(store, shoens, draft, names, goal.shoen, text, target, cell)
+            name_term(store, shoens, draft, names, goal, text, target, cell)
         }
         Move::Opens(structure) => {
             // Only for the proof: which order the structure is.
@@ -84,5 +84,6 @@ pub fn do_move(
             open_child(store, shoens, draft, structure, goal, cell)
         }
         Move::Goes => Ok(()),
+        Move::GivesWay => replace_goal(draft, goal, Task::Reduces(cell)),
     }
 }

@@ -113,6 +113,7 @@ reads_move (move.Unifies a b) ms h known text k s r = tt
 reads_move (move.Names a) ms h known text k s r = λ f knows. reads_known f h known text a k (number_by known text) refl knows.reads s (r f knows)
 reads_move (move.Opens s) ms h known text k u r = tt
 reads_move move.Goes ms h known text k s r = tt
+reads_move move.GivesWay ms h known text k s r = tt
 
 -- a move by which no variable becomes a name does what it does without names that are new
 pub does_acts : (p : Predicate CellName) (made : Move CellName) (places : List (Place CellName)) (text : List ℕ) (goal : Goal CellName) (x : Qualified CellName) (goals : List (Goal CellName)) (known : List Known) (h k : Held CellName) (t u : Tree CellName) (d e : Draft) →
@@ -198,6 +199,7 @@ does_spelled p (move.Unifies a b) places text v goal x goals known h k t u d e b
 does_spelled p (move.Names a) places text v goal x goals known h k t u d e by unnamed s = does_names p places text a v goal x goals known h k t u d e by unnamed s
 does_spelled p (move.Opens o) places text v goal x goals known h k t u d e by unnamed s = absurd by
 does_spelled p move.Goes places text v goal x goals known h k t u d e by unnamed s = absurd by
+does_spelled p move.GivesWay places text v goal x goals known h k t u d e by unnamed s = absurd by
 
 -- a text that a variable becomes is new to the account
 pub spelled_new : (made : Move CellName) (h : Held CellName) (known : List Known) (text : List ℕ) (v : ℕ) → SpellsBy made h known text v → number_by known text ≡ None
@@ -207,6 +209,7 @@ spelled_new (move.Unifies a b) h known text v by = absurd by
 spelled_new (move.Names a) h known text v by = by.new
 spelled_new (move.Opens s) h known text v by = absurd by
 spelled_new move.Goes h known text v by = absurd by
+spelled_new move.GivesWay h known text v by = absurd by
 
 -- a move by which a variable becomes a name has a text
 pub spelled_text : (made : Move CellName) (h : Held CellName) (known : List Known) (text : List ℕ) (v : ℕ) → SpellsBy made h known text v → IsTrue (is_text text)
@@ -216,6 +219,7 @@ spelled_text (move.Unifies a b) h known text v by = absurd by
 spelled_text (move.Names a) h known text v by = by.is_text
 spelled_text (move.Opens s) h known text v by = absurd by
 spelled_text move.Goes h known text v by = absurd by
+spelled_text move.GivesWay h known text v by = absurd by
 
 -- the account may use it
 pub spelled_keeps : (made : Move CellName) (h : Held CellName) (known : List Known) (text : List ℕ) (v : ℕ) → SpellsBy made h known text v → keeps_names known text ≡ true
@@ -225,6 +229,7 @@ spelled_keeps (move.Unifies a b) h known text v by = absurd by
 spelled_keeps (move.Names a) h known text v by = by.keeps
 spelled_keeps (move.Opens s) h known text v by = absurd by
 spelled_keeps move.Goes h known text v by = absurd by
+spelled_keeps move.GivesWay h known text v by = absurd by
 
 -- if there is room for one name there is room for what is drafted
 pub room_for : (room : ℕ) (name : Option (List ℕ)) → 0 < room → HasRoomFor room name

@@ -80,6 +80,7 @@ NamesIn (move.Unifies a b) h text = Unit {0}
 NamesIn (move.Names a) h text = IsTrue (is_text text) × IsIn h a
 NamesIn (move.Opens s) h text = Unit {0}
 NamesIn move.Goes h text = Unit {0}
+NamesIn move.GivesWay h text = Unit {0}
 
 -- by a move a variable becomes a name that is new
 abbrev pub SpellsBy : Move CellName → Held CellName → List Known → List ℕ → ℕ → Type 0
@@ -89,6 +90,7 @@ SpellsBy (move.Unifies a b) h known text v = ⊥
 SpellsBy (move.Names a) h known text v = IsSpelling h known text a v
 SpellsBy (move.Opens s) h known text v = ⊥
 SpellsBy move.Goes h known text v = ⊥
+SpellsBy move.GivesWay h known text v = ⊥
 
 -- by a move none does
 abbrev pub SpellsNone : Move CellName → Held CellName → List Known → List ℕ → Type 0
@@ -98,6 +100,7 @@ SpellsNone (move.Unifies a b) h known text = Unit {0}
 SpellsNone (move.Names a) h known text = IsNoSpelling h known text a
 SpellsNone (move.Opens s) h known text = Unit {0}
 SpellsNone move.Goes h known text = Unit {0}
+SpellsNone move.GivesWay h known text = Unit {0}
 
 -- a state that uses a text as a name
 abbrev pub with_text : List ℕ → State → State
@@ -170,6 +173,7 @@ ReadsAll (move.Unifies a b) ms h known text k = Unit {0}
 ReadsAll (move.Names a) ms h known text k = (f : Reading) → Knows ms f → ReadsText f h known text a k (number_by known text)
 ReadsAll (move.Opens s) ms h known text k = Unit {0}
 ReadsAll move.Goes ms h known text k = Unit {0}
+ReadsAll move.GivesWay ms h known text k = Unit {0}
 
 -- a goal of an account with these goals and names, which is this cell and has been removed, has made this move by some
 -- clause, if this text stands for a name: its shoen was charged before, and reports of exhaustion and terminations have come after;

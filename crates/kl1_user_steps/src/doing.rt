@@ -37,6 +37,7 @@ fn make_room(names: &mut AccountNames, made: Move<CellName>) -> Result<(), Alloc
         Move::Unifies(_left, _right) => Ok(()),
         Move::Opens(_structure) => Ok(()),
         Move::Goes => Ok(()),
+        Move::GivesWay => Ok(()),
     }
 }
 

@@ -1,0 +1,61 @@
+// Answers from the console that are drafted.
+
+ghost use Rattle.std.specs.Prelude.{◌≡◌, ◌<◌, ◌≤◌, [], length, OnOk, vec_capacity};
+ghost use Rattle.kl1_store.specs.Hooks.{HasGrown};
+ghost use Rattle.kl1_match.specs.Waiting.{IsUnbound};
+ghost use Rattle.kl1_user_effects.specs.Kept.{AreGoalsIn, AreShoensIn};
+
+use crate::sending::wake_bound;
+use kl1_clause::GoalCode;
+use kl1_codes::CodeSource;
+use kl1_codes_modules::CodedModules;
+use kl1_goals::GoalTable;
+use kl1_goals_moves::Trial;
+use kl1_match::{Scratch, put_goal, put_goal_variables, reserve_goal};
+use kl1_shoen::ShoenTree;
+use kl1_store::{Cell, Store};
+use kl1_text::CellName;
+use kl1_user_effects::{AccountNames, Draft, draft_row};
+use std::alloc::AllocError;
+
+/// Drafts an answer, whose goal has `count` variables, in place of a variable: spare numbers stand for the names that are new, and the
+/// goals that hang on the variable are looked at. There is room for the names and their numbers then. If memory is refused, the store
+/// may have grown.
+pub(crate) fn draft_answer<C: CodeSource>(
+    store: &mut Store<CellName>,
+    goals: &GoalTable<CellName>,
+    shoens: &ShoenTree<CellName>,
+    modules: &CodedModules<'_, C>,
+    names: &mut AccountNames,
+    spares: &mut Vec<CellName>,
+    numbers: &mut Vec<CellName>,
+    scratch: &mut Scratch<CellName>,
+    trial: &mut Trial<CellName>,
+    draft: &mut Draft,
+    code: &GoalCode,
+    count: u64,
+    variable: u32,
+) -> Result<(), AllocError>
+    requires some { 0 < store.old.held.variables }
+    requires goals { AreGoalsIn store.old.held goals.now.goals }
+    requires shoens { AreShoensIn store.old.held shoens.now.shoens }
+    requires unbound { IsUnbound store.old.held variable }
+    requires spares { spares.old.items ≡ [] }
+    requires empty { numbers.old.items ≡ [] }
+    ensures empty { OnOk result (numbers.new.items ≡ []) }
+    ensures room { OnOk result (length spares.new.items ≤ vec_capacity numbers.new) }
+    ensures names_room { OnOk result (length spares.new.items ≤ names.new.room) }
+    ensures names { names.new.names ≡ names.old.names }
+    ensures grown { HasGrown store.old store.new }
+{
+    let texts = code.names();
+    names.reserve(texts.len())?;
+    numbers.reserve(texts.len())?;
+    draft_row(names, texts, spares)?;
+    let mark = store.mark();
+    put_goal_variables(store, count, scratch)?;
+    reserve_goal(store, code.row(), scratch)?;
+    let cell = put_goal(store, spares.as_slice(), code.row(), scratch);
+    store.unify_cells(Cell::Variable(variable), cell)?;
+    wake_bound(store, goals, shoens, modules, trial, draft, mark)
+}
